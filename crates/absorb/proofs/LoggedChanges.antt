@@ -8,7 +8,8 @@ use Rattle.sfs_tree.specs.Logged.{is_addition}
 use Rattle.absorb.specs.Net.{with_act, rows_with_changes}
 use Rattle.absorb.specs.Laws.{LogsAreChanges}
 
-one_change : (act : Act) (rows : FinMap name_cmp ℕ) (name : List ℕ) (child : ℕ) → with_act act rows name child ≡ cond (is_addition act) (insert rows name child) (remove rows name)
+one_change : (act : Act) (rows : FinMap name_cmp ℕ) (name : List ℕ) (child : ℕ)
+    → with_act act rows name child ≡ cond (is_addition act) (insert rows name child) (remove rows name)
 one_change Add rows name child = refl
 one_change Remove rows name child = refl
 

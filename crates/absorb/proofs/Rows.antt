@@ -48,9 +48,11 @@ pub not_same : (a b : Option NodeId) → option_eq same_node a b ≡ false → a
 not_same a b e is = let both = sym e ∙ ap (option_eq same_node a) (sym is) ∙ same_itself a in absurd (cc)
 
 -- what holds with a name's row and without it, as its children differ or not, holds of what the name adds
-pub by_children : (P : List NetRow → Type 0) (name : List ℕ) (before after : Option NodeId) (rest : List NetRow) → (before ≡ after → P rest) → (before ≢ after → P (record { name = name; before = before; after = after } ∷ rest)) → P (cons_option (net_row name before after) rest)
+pub by_children : (P : List NetRow → Type 0) (name : List ℕ) (before after : Option NodeId) (rest : List NetRow) → (before ≡ after → P rest)
+    → (before ≢ after → P (record { name = name; before = before; after = after } ∷ rest)) → P (cons_option (net_row name before after) rest)
 by_children P name before after rest f g =
-    elim (option_eq same_node before after) as (λ b. option_eq same_node before after ≡ b → P (cons_option (if b then None else Some (record { name = name; before = before; after = after })) rest)) [
+    elim (option_eq same_node before after) as (λ b. option_eq same_node before after ≡ b
+    → P (cons_option (if b then None else Some (record { name = name; before = before; after = after })) rest)) [
       | true ↦ λ e. f (same_child before after e)
       | false ↦ λ e. g (not_same before after e)
     ] refl
@@ -65,7 +67,8 @@ first_found : (e : List ℕ × Change) (es : List (List ℕ × Change)) → finm
 first_found e es = ap (λ r. cond (is_eq r) (Some e.1) (finmap.find name_cmp e.0 es)) (tied_itself nat_list_cmp_total e.0)
 
 -- what is found behind the first of an ascending list is found in all of it
-later_found : (e : List ℕ × Change) (es : List (List ℕ × Change)) (name : List ℕ) (change : Change) → T (is_sorted name_cmp (e ∷ es)) → finmap.find name_cmp name es ≡ Some change → finmap.find name_cmp name (e ∷ es) ≡ Some change
+later_found : (e : List ℕ × Change) (es : List (List ℕ × Change)) (name : List ℕ) (change : Change) → T (is_sorted name_cmp (e ∷ es))
+    → finmap.find name_cmp name es ≡ Some change → finmap.find name_cmp name (e ∷ es) ≡ Some change
 later_found e es name change s is =
     elim (eq_by_cmp name_cmp name e.0) as (λ b. eq_by_cmp name_cmp name e.0 ≡ b → cond b (Some e.1) (finmap.find name_cmp name es) ≡ Some change) [
       | true ↦ λ t.
@@ -90,18 +93,21 @@ module _ (earlier later : FinMap name_cmp ℕ) where
   each_row (e ∷ es) h =
       let rest = each_row es (told_rest later e es h) in
       let found = first_found e es in
-      by_children (All (IsNetRow earlier later)) e.1.name (node_id_of (get earlier e.1.name)) (child_after e.1.act e.1.child) (rows_by es) (λ _. rest) (λ differ.
+      by_children (All (IsNetRow earlier later)) e.1.name (node_id_of (get earlier e.1.name)) (child_after e.1.act e.1.child) (rows_by es) (λ _. rest)
+      (λ differ.
       All-cons (IsNetRow earlier later) _ _ (record {
         before = number-of_node (get earlier e.1.name);
         after = sym (h.leaves e.0 e.1 found) ∙ ap (get later) (sym (h.named e.0 e.1 found));
         differs = differ;
       }) rest)
 
-  names_behind : (name : List ℕ) (last : List (List ℕ × Change)) → T (below_all name_cmp name last) → IsTold later last → AllByRecursion (λ other. name_cmp name other ≡ Less) (map net_name (rows_by last))
+  names_behind : (name : List ℕ) (last : List (List ℕ × Change)) → T (below_all name_cmp name last) → IsTold later last
+      → AllByRecursion (λ other. name_cmp name other ≡ Less) (map net_name (rows_by last))
   names_behind name [] below h = tt
   names_behind name (e ∷ es) below h =
       let rest = names_behind name es (both_second _ _ below) (told_rest later e es h) in
-      by_children (λ rows. AllByRecursion (λ other. name_cmp name other ≡ Less) (map net_name rows)) e.1.name (node_id_of (get earlier e.1.name)) (child_after e.1.act e.1.child) (rows_by es) (λ _. rest) (λ _.
+      by_children (λ rows. AllByRecursion (λ other. name_cmp name other ≡ Less) (map net_name rows)) e.1.name (node_id_of (get earlier e.1.name))
+      (child_after e.1.act e.1.child) (rows_by es) (λ _. rest) (λ _.
       (ap (name_cmp name) (h.named e.0 e.1 (first_found e es)) ∙ is_less _ (both_first _ _ below), rest))
 
   names_ascend : (last : List (List ℕ × Change)) → IsTold later last → IsStrictlySortedBy name_cmp (map net_name (rows_by last))
@@ -110,17 +116,20 @@ module _ (earlier later : FinMap name_cmp ℕ) where
   names_ascend (e ∷ es) h =
       let rest = names_ascend es (told_rest later e es h) in
       let below = subst (λ name. T (below_all name_cmp name es)) (sym (h.named e.0 e.1 (first_found e es))) (both_first _ _ h.sorted) in
-      by_children (λ rows. IsStrictlySortedBy name_cmp (map net_name rows)) e.1.name (node_id_of (get earlier e.1.name)) (child_after e.1.act e.1.child) (rows_by es) (λ _. rest) (λ _.
+      by_children (λ rows. IsStrictlySortedBy name_cmp (map net_name rows)) e.1.name (node_id_of (get earlier e.1.name)) (child_after e.1.act e.1.child)
+      (rows_by es) (λ _. rest) (λ _.
       (names_behind e.1.name es below (told_rest later e es h), rest))
 
   first_in : (name : List ℕ) (names : List (List ℕ)) → Contains (name ∷ names) name
   first_in name names = (0, omega arith, refl)
 
   -- a change that leaves its name another child has its row
-  has_row : (name : List ℕ) (change : Change) (last : List (List ℕ × Change)) → IsTold later last → finmap.find name_cmp name last ≡ Some change → get earlier name ≢ get later name → Contains (map net_name (rows_by last)) name
+  has_row : (name : List ℕ) (change : Change) (last : List (List ℕ × Change)) → IsTold later last → finmap.find name_cmp name last ≡ Some change
+      → get earlier name ≢ get later name → Contains (map net_name (rows_by last)) name
   has_row name change [] h is differ = absurd (cc)
   has_row name change (e ∷ es) h is differ =
-      elim (eq_by_cmp name_cmp name e.0) as (λ b. eq_by_cmp name_cmp name e.0 ≡ b → cond b (Some e.1) (finmap.find name_cmp name es) ≡ Some change → Contains (map net_name (rows_by (e ∷ es))) name) [
+      elim (eq_by_cmp name_cmp name e.0) as (λ b. eq_by_cmp name_cmp name e.0 ≡ b → cond b (Some e.1) (finmap.find name_cmp name es) ≡ Some change
+      → Contains (map net_name (rows_by (e ∷ es))) name) [
         | true ↦ λ t _. here (name_cmp-IsAntisymmetric name e.0 (is_equal _ t) ∙ sym (h.named e.0 e.1 (first_found e es)))
         | false ↦ λ _ rest. behind (has_row name change es (told_rest later e es h) rest differ)
       ] refl is
@@ -128,13 +137,19 @@ module _ (earlier later : FinMap name_cmp ℕ) where
       here : name ≡ e.1.name → Contains (map net_name (rows_by (e ∷ es))) name
       here same =
           let found = first_found e es in
-          by_children (λ rows. Contains (map net_name rows) name) e.1.name (node_id_of (get earlier e.1.name)) (child_after e.1.act e.1.child) (rows_by es) (λ one.
-          absurd (differ (ap (get earlier) same ∙ sym (number-of_node _) ∙ ap number_of one ∙ sym (h.leaves e.0 e.1 found) ∙ ap (get later) (sym (h.named e.0 e.1 found)) ∙ ap (get later) (sym same)))) (λ _.
+          by_children (λ rows. Contains (map net_name rows) name) e.1.name (node_id_of (get earlier e.1.name)) (child_after e.1.act e.1.child) (rows_by es)
+          (λ one.
+          absurd
+          (differ
+          (ap (get earlier) same ∙ sym (number-of_node _) ∙ ap number_of one ∙ sym (h.leaves e.0 e.1 found)
+          ∙ ap (get later) (sym (h.named e.0 e.1 found)) ∙ ap (get later) (sym same))))
+          (λ _.
           subst (λ n. Contains (e.1.name ∷ map net_name (rows_by es)) n) (sym same) (first_in e.1.name _))
 
       behind : Contains (map net_name (rows_by es)) name → Contains (map net_name (rows_by (e ∷ es))) name
       behind has =
-          by_children (λ rows. Contains (map net_name rows) name) e.1.name (node_id_of (get earlier e.1.name)) (child_after e.1.act e.1.child) (rows_by es) (λ _. has) (λ _.
+          by_children (λ rows. Contains (map net_name rows) name) e.1.name (node_id_of (get earlier e.1.name)) (child_after e.1.act e.1.child) (rows_by es)
+          (λ _. has) (λ _.
           Contains-append_right (e.1.name ∷ []) (map net_name (rows_by es)) name has)
 
 -- a change that is found by a test passes it
@@ -151,7 +166,8 @@ last_has_name name changes change is =
     sym (name_cmp-IsAntisymmetric name change.name (is_equal _ (is_eq-slice_cmp name change.name ∙ found_passes (λ c. bytes_eq name c.name) _ change is)))
 
 -- what a change that is found in the last ones leaves
-told : (earlier : FinMap name_cmp ℕ) (changes : List Change) (last : List (List ℕ × Change)) → AreLast changes last → IsTold (rows_with_changes earlier changes) last
+told : (earlier : FinMap name_cmp ℕ) (changes : List Change) (last : List (List ℕ × Change)) → AreLast changes last
+    → IsTold (rows_with_changes earlier changes) last
 told earlier changes last h = record {
   sorted = is_true _ h.ascending;
   named = λ name change is. last_has_name name changes change (sym (h.found name) ∙ is);
@@ -159,23 +175,28 @@ told earlier changes last h = record {
 }
 
 -- the rows that the last changes make are the net of the rows before all changes and after them
-IsNet-from_last : (earlier : FinMap name_cmp ℕ) (changes : List Change) (last : List (List ℕ × Change)) → AreLast changes last → IsNet earlier (rows_with_changes earlier changes) (filter_map (λ e. net_row_by earlier e.1) last)
+IsNet-from_last : (earlier : FinMap name_cmp ℕ) (changes : List Change) (last : List (List ℕ × Change)) → AreLast changes last
+    → IsNet earlier (rows_with_changes earlier changes) (filter_map (λ e. net_row_by earlier e.1) last)
 IsNet-from_last earlier changes last h = record {
   ascending = names_ascend earlier (rows_with_changes earlier changes) last (told earlier changes last h);
   each = each_row earlier (rows_with_changes earlier changes) last (told earlier changes last h);
   complete = λ name differ. by_last name differ (finmap.find name_cmp name last) refl;
 }
   where
-    by_last : (name : List ℕ) → get earlier name ≢ get (rows_with_changes earlier changes) name → (o : Option Change) → finmap.find name_cmp name last ≡ o → Contains (map net_name (filter_map (λ e. net_row_by earlier e.1) last)) name
+    by_last : (name : List ℕ) → get earlier name ≢ get (rows_with_changes earlier changes) name → (o : Option Change) → finmap.find name_cmp name last ≡ o
+        → Contains (map net_name (filter_map (λ e. net_row_by earlier e.1) last)) name
     by_last name differ (Some change) is = has_row earlier (rows_with_changes earlier changes) name change last (told earlier changes last h) is differ
     by_last name differ None is = absurd (differ (sym (get-rows_after earlier changes name ∙ ap (λ o. left_by o (get earlier name)) (sym (h.found name) ∙ is))))
 
 -- what changes that are lent make
-rows-lent : (earlier : FinMap name_cmp ℕ) (entries : List (Bor (List ℕ) × Bor Change)) → filter_map (lent_row earlier) entries ≡ filter_map (λ e. net_row_by earlier e.1) (lent entries)
+rows-lent : (earlier : FinMap name_cmp ℕ) (entries : List (Bor (List ℕ) × Bor Change))
+    → filter_map (lent_row earlier) entries ≡ filter_map (λ e. net_row_by earlier e.1) (lent entries)
 rows-lent earlier [] = refl
 rows-lent earlier (e ∷ es) = ap (cons_option (net_row_by earlier e.1.now)) (rows-lent earlier es)
 
 -- the same of last changes that are lent
-pub IsNet-from_lent : (earlier : FinMap name_cmp ℕ) (changes given : List Change) (entries : List (Bor (List ℕ) × Bor Change)) (net : List NetRow) → given ≡ changes → net ≡ filter_map (lent_row earlier) entries → AreLast given (lent entries) → IsNet earlier (rows_with_changes earlier changes) net
+pub IsNet-from_lent : (earlier : FinMap name_cmp ℕ) (changes given : List Change) (entries : List (Bor (List ℕ) × Bor Change)) (net : List NetRow)
+    → given ≡ changes → net ≡ filter_map (lent_row earlier) entries → AreLast given (lent entries) → IsNet earlier (rows_with_changes earlier changes) net
 IsNet-from_lent earlier changes given entries net same is h =
-    subst (IsNet earlier (rows_with_changes earlier changes)) (sym (is ∙ rows-lent earlier entries)) (IsNet-from_last earlier changes (lent entries) (subst (λ cs. AreLast cs (lent entries)) same h))
+    subst (IsNet earlier (rows_with_changes earlier changes)) (sym (is ∙ rows-lent earlier entries))
+    (IsNet-from_last earlier changes (lent entries) (subst (λ cs. AreLast cs (lent entries)) same h))

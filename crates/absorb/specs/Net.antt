@@ -34,7 +34,8 @@ pub record IsNetRow (earlier later : FinMap name_cmp ℕ) (row : NetRow) : Type 
   pub after : number_of row.after ≡ get later row.name
   pub differs : row.before ≢ row.after
 
--- The net of a directory's earlier and later rows: the names whose child differs or is there in one of them only, ascending by their bytes, each with both children.
+-- The net of a directory's earlier and later rows: the names whose child differs or is there in one of them only, ascending by their bytes,
+-- each with both children.
 pub record IsNet (earlier later : FinMap name_cmp ℕ) (net : List NetRow) : Type 0 where
   pub ascending : IsStrictlySortedBy name_cmp (map net_name net)
   pub each : All (IsNetRow earlier later) net

@@ -17,7 +17,8 @@ pub ascends_behind : (one : ChangedBlock) (rest : List ChangedBlock) → AscendB
 ascends_behind one rest up = λ i j d less within. up (suc i) (suc j) d (omega arith) (omega arith)
 
 -- and the first is below all of them
-pub first_is_least : (one : ChangedBlock) (rest : List ChangedBlock) → AscendByBlock (one ∷ rest) → (k : ℕ) (d : ChangedBlock) → k < length rest → one.block < (get_or rest k d).block
+pub first_is_least : (one : ChangedBlock) (rest : List ChangedBlock) → AscendByBlock (one ∷ rest) → (k : ℕ) (d : ChangedBlock) → k < length rest
+    → one.block < (get_or rest k d).block
 first_is_least one rest up k d within = up 0 (suc k) d (omega arith) (omega arith)
 
 -- of each listed block its own is found
@@ -27,10 +28,12 @@ change_at [] up i d within = absurd (omega arith)
 change_at (one ∷ rest) up zero d within = cond-true (nat_eq one.block one.block) _ _ (same_number one.block)
 change_at (one ∷ rest) up (suc i) d within =
     let least = first_is_least one rest up i d (omega arith) in
-    cond-false (nat_eq one.block (get_or rest i d).block) _ _ (not_same one.block (get_or rest i d).block (omega arith)) ∙ change_at rest (ascends_behind one rest up) i d (omega arith)
+    cond-false (nat_eq one.block (get_or rest i d).block) _ _ (not_same one.block (get_or rest i d).block (omega arith))
+    ∙ change_at rest (ascends_behind one rest up) i d (omega arith)
 
 -- and of no other block anything
-pub no_change : (changed : List ChangedBlock) (n : ℕ) → ((k : ℕ) (d : ChangedBlock) → k < length changed → (get_or changed k d).block ≢ n) → change_of changed n ≡ None
+pub no_change : (changed : List ChangedBlock) (n : ℕ) → ((k : ℕ) (d : ChangedBlock) → k < length changed → (get_or changed k d).block ≢ n)
+    → change_of changed n ≡ None
 no_change [] n none = refl
 no_change (one ∷ rest) n none =
     cond-false (nat_eq one.block n) _ _ (not_same one.block n (none 0 one (omega arith))) ∙ no_change rest n (λ k d within. none (suc k) d (omega arith))

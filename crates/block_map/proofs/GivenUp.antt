@@ -43,13 +43,15 @@ pub is_there : (x : ℕ) → x ≢ 0 → Contains (there x) x
 is_there x some = subst (λ xs. Contains xs x) (sym (cond-false (nat_eq x 0) [] (x ∷ []) (ne_eqb x 0 some))) (0, omega arith, refl)
 
 -- what is in one of several lists is in them all together
-pub in_all : {X : Type 0} (f : X → List ℕ) (xs : List X) (i : ℕ) (d : X) (block : ℕ) → i < length xs → Contains (f (get_or xs i d)) block → Contains (flat_map f xs) block
+pub in_all : {X : Type 0} (f : X → List ℕ) (xs : List X) (i : ℕ) (d : X) (block : ℕ) → i < length xs → Contains (f (get_or xs i d)) block
+    → Contains (flat_map f xs) block
 in_all f [] i d block within has = absurd (omega arith)
 in_all f (x ∷ xs) zero d block within has = Contains-append_left (f x) (flat_map f xs) block has
 in_all f (x ∷ xs) (suc i) d block within has = Contains-append_right (f x) (flat_map f xs) block (in_all f xs i d block (omega arith) has)
 
 -- and the other way round
-pub in_one : {X : Type 0} (f : X → List ℕ) (xs : List X) (block : ℕ) → Contains (flat_map f xs) block → (i : ℕ) × (i < length xs) × ((d : X) → Contains (f (get_or xs i d)) block)
+pub in_one : {X : Type 0} (f : X → List ℕ) (xs : List X) (block : ℕ) → Contains (flat_map f xs) block
+    → (i : ℕ) × (i < length xs) × ((d : X) → Contains (f (get_or xs i d)) block)
 in_one f [] block (k, lt, e) = absurd (omega arith)
 in_one f (x ∷ xs) block has = elim (Contains-append_cases (f x) (flat_map f xs) block has) [
   | inl here ↦ (0, omega arith, λ d. here)
@@ -74,7 +76,8 @@ module _ (inode : Inode) (tables : List Table) (changed : List ChangedBlock) (up
   all_left = flat_map of_data changed ++ flat_map (of_table rewrite inode) (range_with_len 0 16)
 
   -- one more rewritten block gives up what it has
-  pub data_more : (i : ℕ) (d : ChangedBlock) (freed new : List ℕ) (left : ℕ) → i < length changed → freed ≡ flat_map of_data (take i changed) → left ≡ data_left (pointer_kept inode tables) (get_or changed i d)
+  pub data_more : (i : ℕ) (d : ChangedBlock) (freed new : List ℕ) (left : ℕ) → i < length changed → freed ≡ flat_map of_data (take i changed)
+      → left ≡ data_left (pointer_kept inode tables) (get_or changed i d)
       → new ≡ freed ++ there left → new ≡ flat_map of_data (take (i + 1) changed)
   data_more i d freed new left within before is after =
       after ∙ (λ j. before j ++ there (is j)) ∙ ap (λ rest. flat_map of_data (take i changed) ++ rest) (sym (append-nil (of_data (get_or changed i d))))
@@ -82,11 +85,15 @@ module _ (inode : Inode) (tables : List Table) (changed : List ChangedBlock) (up
 
   -- and one more indirect block
   pub table_more : (k : ℕ) (freed new : List ℕ) (left : ℕ) → freed ≡ flat_map of_data changed ++ flat_map (of_table rewrite inode) (range_with_len 0 k)
-      → left ≡ table_left (table_fate rewrite k) (slice_index inode.indirect k) → new ≡ freed ++ there left → new ≡ flat_map of_data changed ++ flat_map (of_table rewrite inode) (range_with_len 0 (k + 1))
+      → left ≡ table_left (table_fate rewrite k) (slice_index inode.indirect k) → new ≡ freed ++ there left
+      → new ≡ flat_map of_data changed ++ flat_map (of_table rewrite inode) (range_with_len 0 (k + 1))
   table_more k freed new left before is after =
-      after ∙ (λ j. before j ++ there (is j)) ∙ append_assoc (flat_map of_data changed) (flat_map (of_table rewrite inode) (range_with_len 0 k)) (of_table rewrite inode k)
-      ∙ ap (λ rest. flat_map of_data changed ++ rest) (ap (λ rest. flat_map (of_table rewrite inode) (range_with_len 0 k) ++ rest) (sym (append-nil (of_table rewrite inode k)))
-      ∙ sym (flat_map-append (of_table rewrite inode) (range_with_len 0 k) (k ∷ [])) ∙ ap (flat_map (of_table rewrite inode)) (sym (range_more 0 k ∙ ap (λ m. range_with_len 0 k ++ m ∷ []) (zero_plus k))))
+      after ∙ (λ j. before j ++ there (is j))
+      ∙ append_assoc (flat_map of_data changed) (flat_map (of_table rewrite inode) (range_with_len 0 k)) (of_table rewrite inode k)
+      ∙ ap (λ rest. flat_map of_data changed ++ rest)
+      (ap (λ rest. flat_map (of_table rewrite inode) (range_with_len 0 k) ++ rest) (sym (append-nil (of_table rewrite inode k)))
+      ∙ sym (flat_map-append (of_table rewrite inode) (range_with_len 0 k) (k ∷ []))
+      ∙ ap (flat_map (of_table rewrite inode)) (sym (range_more 0 k ∙ ap (λ m. range_with_len 0 k ++ m ∷ []) (zero_plus k))))
 
   left_by_tests : (rewritten some : Bool) (block : ℕ) → table_left (cond rewritten (cond some IsWritten Goes) Stays) block ≡ cond rewritten block 0
   left_by_tests true true block = refl
@@ -106,7 +113,13 @@ module _ (inode : Inode) (tables : List Table) (changed : List ChangedBlock) (up
               one.block,
               record {
                 within = omega arith;
-                given_up = (λ i. (cond-true (nat_lt one.block FILE_BLOCKS) (is_some (change_of changed one.block)) (rewrites_table rewrite (one.block - FILE_BLOCKS)) (lt-ltb one.block FILE_BLOCKS below) ∙ ap is_some (change_at changed up found.0 ONE found.1)) i && not (ne_eqb (pointer_kept inode tables one.block) 0 some i));
+                given_up =
+                    (λ i.
+                    (cond-true (nat_lt one.block FILE_BLOCKS) (is_some (change_of changed one.block)) (rewrites_table rewrite (one.block - FILE_BLOCKS))
+                    (lt-ltb one.block FILE_BLOCKS below)
+                    ∙ ap is_some (change_at changed up found.0 ONE found.1))
+                    i
+                    && not (ne_eqb (pointer_kept inode tables one.block) 0 some i));
                 stands = sym is ∙ left.1;
               },
             )
@@ -118,11 +131,13 @@ module _ (inode : Inode) (tables : List Table) (changed : List ChangedBlock) (up
   from_tables block has =
       let found = in_one (of_table rewrite inode) (range_with_len 0 16) block has in
       let k : ℕ = get_or (range_with_len 0 16) found.0 0 in
-      let within : k < 16 = omega (arith, get_or-range_with_len 0 16 found.0 0 (omega (arith, found.1, length-range_with_len 0 16)), found.1, length-range_with_len 0 16) in
+      let within : k < 16 =
+      omega (arith, get_or-range_with_len 0 16 found.0 0 (omega (arith, found.1, length-range_with_len 0 16)), found.1, length-range_with_len 0 16) in
       let left = in_there (table_left (table_fate rewrite k) (slice_index inode.indirect k)) block (found.2 0) in
       at_table k block within left.0 left.1
     where
-      at_table : (k block : ℕ) → k < 16 → table_left (table_fate rewrite k) (slice_index inode.indirect k) ≢ 0 → table_left (table_fate rewrite k) (slice_index inode.indirect k) ≡ block
+      at_table : (k block : ℕ) → k < 16 → table_left (table_fate rewrite k) (slice_index inode.indirect k) ≢ 0
+          → table_left (table_fate rewrite k) (slice_index inode.indirect k) ≡ block
           → (place : ℕ) × IsGivenUp rewrite block place
       at_table k block within some is =
           let own = own_place inode tables k in
@@ -141,7 +156,10 @@ module _ (inode : Inode) (tables : List Table) (changed : List ChangedBlock) (up
             | inr stays ↦ absurd (some (tests ∙ cond-false (rewrites_table rewrite k) (slice_index inode.indirect k) 0 stays))
           ]
         where
-          behind : (k : ℕ) → cond (nat_lt (FILE_BLOCKS + k) FILE_BLOCKS) (is_some (change_of changed (FILE_BLOCKS + k))) (rewrites_table rewrite (FILE_BLOCKS + k - FILE_BLOCKS)) ≡ rewrites_table rewrite k
+          behind : (k : ℕ)
+              → cond (nat_lt (FILE_BLOCKS + k) FILE_BLOCKS) (is_some (change_of changed (FILE_BLOCKS + k)))
+              (rewrites_table rewrite (FILE_BLOCKS + k - FILE_BLOCKS))
+              ≡ rewrites_table rewrite k
           behind k =
               let back : FILE_BLOCKS + k - FILE_BLOCKS ≡ k = omega arith in
               cond-false (nat_lt (FILE_BLOCKS + k) FILE_BLOCKS) _ _ (le-ltb (FILE_BLOCKS + k) FILE_BLOCKS (omega arith)) ∙ ap (rewrites_table rewrite) back
@@ -149,39 +167,61 @@ module _ (inode : Inode) (tables : List Table) (changed : List ChangedBlock) (up
   -- a block that is given up is left
   given_is_left : (block place : ℕ) → IsGivenUp rewrite block place → Contains all_left block
   given_is_left block place is = elim (cases_lt place FILE_BLOCKS) [
-    | inl below ↦ Contains-append_left (flat_map of_data changed) _ block (at_block below (change_of changed place) refl (sym (cond-true (nat_lt place FILE_BLOCKS) _ _ (lt-ltb place FILE_BLOCKS below)) ∙ rewritten))
-    | inr above ↦ Contains-append_right (flat_map of_data changed) _ block (at_table (place - FILE_BLOCKS) (omega (arith, is.within)) (omega arith) (sym (cond-false (nat_lt place FILE_BLOCKS) _ _ (le-ltb place FILE_BLOCKS above)) ∙ rewritten))
+    | inl below ↦
+        Contains-append_left (flat_map of_data changed) _ block
+        (at_block below (change_of changed place) refl (sym (cond-true (nat_lt place FILE_BLOCKS) _ _ (lt-ltb place FILE_BLOCKS below)) ∙ rewritten))
+    | inr above ↦
+        Contains-append_right (flat_map of_data changed) _ block
+        (at_table (place - FILE_BLOCKS) (omega (arith, is.within)) (omega arith)
+        (sym (cond-false (nat_lt place FILE_BLOCKS) _ _ (le-ltb place FILE_BLOCKS above)) ∙ rewritten))
   ]
     where
       rewritten : cond (nat_lt place FILE_BLOCKS) (is_some (change_of changed place)) (rewrites_table rewrite (place - FILE_BLOCKS)) ≡ true
       rewritten = and_first (cond (nat_lt place FILE_BLOCKS) (is_some (change_of changed place)) (rewrites_table rewrite (place - FILE_BLOCKS))) _ is.given_up
 
       some : block ≢ 0
-      some e = eqb-false (pointer_kept inode tables place) 0 (not_true _ (and_second (cond (nat_lt place FILE_BLOCKS) (is_some (change_of changed place)) (rewrites_table rewrite (place - FILE_BLOCKS))) _ is.given_up)) (is.stands ∙ e)
+      some e =
+          eqb-false (pointer_kept inode tables place) 0
+          (not_true _
+          (and_second
+          (cond (nat_lt place FILE_BLOCKS) (is_some (change_of changed place)) (rewrites_table rewrite (place - FILE_BLOCKS))) _ is.given_up))
+          (is.stands ∙ e)
 
-      at_block : place < FILE_BLOCKS → (said : Option ChangedBlock) → change_of changed place ≡ said → is_some (change_of changed place) ≡ true → Contains (flat_map of_data changed) block
+      at_block : place < FILE_BLOCKS → (said : Option ChangedBlock) → change_of changed place ≡ said → is_some (change_of changed place) ≡ true
+          → Contains (flat_map of_data changed) block
       at_block below None e t = absurd (false_not_true (sym (ap is_some e) ∙ t))
       at_block below (Some one) e t =
           let found = change_stands changed place one e in
           let left : data_left (pointer_kept inode tables) one ≡ block =
-          ap (λ b. cond (nat_lt b FILE_BLOCKS) (pointer_kept inode tables b) 0) found.2 ∙ cond-true (nat_lt place FILE_BLOCKS) (pointer_kept inode tables place) 0 (lt-ltb place FILE_BLOCKS below) ∙ is.stands in
-          in_all of_data changed found.0 one block found.1 (subst (λ o. Contains (of_data o) block) (sym (found.3 one)) (subst (λ b. Contains (there b) block) (sym left) (is_there block some)))
+          ap (λ b. cond (nat_lt b FILE_BLOCKS) (pointer_kept inode tables b) 0) found.2
+          ∙ cond-true (nat_lt place FILE_BLOCKS) (pointer_kept inode tables place) 0 (lt-ltb place FILE_BLOCKS below) ∙ is.stands in
+          in_all of_data changed found.0 one block found.1
+          (subst (λ o. Contains (of_data o) block) (sym (found.3 one)) (subst (λ b. Contains (there b) block) (sym left) (is_there block some)))
 
-      at_table : (k : ℕ) → k < 16 → place ≡ FILE_BLOCKS + k → rewrites_table rewrite k ≡ true → Contains (flat_map (of_table rewrite inode) (range_with_len 0 16)) block
+      at_table : (k : ℕ) → k < 16 → place ≡ FILE_BLOCKS + k → rewrites_table rewrite k ≡ true
+          → Contains (flat_map (of_table rewrite inode) (range_with_len 0 16)) block
       at_table k within here t =
           let left : table_left (table_fate rewrite k) (slice_index inode.indirect k) ≡ block =
-          left_by_tests (rewrites_table rewrite k) (table_has_pointer rewrite k) (slice_index inode.indirect k) ∙ cond-true (rewrites_table rewrite k) (slice_index inode.indirect k) 0 t
+          left_by_tests (rewrites_table rewrite k) (table_has_pointer rewrite k) (slice_index inode.indirect k)
+          ∙ cond-true (rewrites_table rewrite k) (slice_index inode.indirect k) 0 t
           ∙ sym (own_place inode tables k) ∙ ap (pointer_kept inode tables) (sym here) ∙ is.stands in
           let listed : get_or (range_with_len 0 16) k 0 ≡ k = get_or-range_with_len 0 16 k 0 within ∙ zero_plus k in
-          in_all (of_table rewrite inode) (range_with_len 0 16) k 0 block (omega (arith, length-range_with_len 0 16)) (subst (λ j. Contains (of_table rewrite inode j) block) (sym listed) (subst (λ b. Contains (there b) block) (sym left) (is_there block some)))
+          in_all (of_table rewrite inode) (range_with_len 0 16) k 0 block (omega (arith, length-range_with_len 0 16))
+          (subst (λ j. Contains (of_table rewrite inode j) block) (sym listed) (subst (λ b. Contains (there b) block) (sym left) (is_there block some)))
 
   -- sorted, and each once, they are the freed blocks
-  pub are_freed : (left sorted freed : List ℕ) → left ≡ all_left → IsPermutation left sorted → IsSorted nat_cmp sorted → freed ≡ dedup eqb sorted → AreFreed rewrite freed
+  pub are_freed : (left sorted freed : List ℕ) → left ≡ all_left → IsPermutation left sorted → IsSorted nat_cmp sorted → freed ≡ dedup eqb sorted
+      → AreFreed rewrite freed
   are_freed left sorted freed are same order once = record {
     ascending = subst IsStrictlyIncreasing (sym once) (IsStrictlyIncreasing-dedup sorted order);
     each = λ block. (
-      (λ has. from_left block (subst (λ xs. Contains xs block) are (Contains-permutation sorted left block (IsPermutation-sym left sorted same) (Contains-from_dedup eqb sorted block (subst (λ xs. Contains xs block) once has))))),
-      λ (place, is). subst (λ xs. Contains xs block) (sym once) (Contains-dedup_nat sorted block (Contains-permutation left sorted block same (subst (λ xs. Contains xs block) (sym are) (given_is_left block place is)))),
+      (λ has. from_left block
+          (subst (λ xs. Contains xs block) are
+          (Contains-permutation sorted left block (IsPermutation-sym left sorted same)
+          (Contains-from_dedup eqb sorted block (subst (λ xs. Contains xs block) once has))))),
+      λ (place, is). subst (λ xs. Contains xs block) (sym once)
+          (Contains-dedup_nat sorted block
+          (Contains-permutation left sorted block same (subst (λ xs. Contains xs block) (sym are) (given_is_left block place is)))),
     );
   }
     where

@@ -116,7 +116,8 @@ kept_place part holes place =
 gathered_holes : (store : ℕ → List ℕ) (part : Part) → IsGathered store part → HaveHoles (inode_in part) part.tables
 gathered_holes store part is =
     let here : HaveHoles (inode_in (part_of store part.raw)) (part_of store part.raw).tables =
-    λ k small hole. table_is_read store part.raw k small ∙ hole_is_read store (pointer_at (part_of store part.raw) (FILE_BLOCKS + k)) (pointer_of_table (part_of store part.raw) k ∙ hole) in
+    λ k small hole. table_is_read store part.raw k small
+    ∙ hole_is_read store (pointer_at (part_of store part.raw) (FILE_BLOCKS + k)) (pointer_of_table (part_of store part.raw) k ∙ hole) in
     subst (λ (p : Part). HaveHoles (inode_in p) p.tables) is here
 
 pub kept_pointer : (store : ℕ → List ℕ) (part : Part) → IsGathered store part → (place : ℕ) → place < PLACES →

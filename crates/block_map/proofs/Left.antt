@@ -30,14 +30,16 @@ all_fail_in_table p k m none ge lt = all_fail p (first_block k) 1024 m none ge l
 
 module _ (rewrite : Rewrite) (fresh : List ℕ) where
   -- a block's pointer afterwards, by what is rewritten
-  at_block : (n : ℕ) → n < FILE_BLOCKS → pointer_remapped rewrite fresh n ≡ cond (rewrite.is_rewritten n) (cond (rewrite.is_zero n) 0 (fresh_for rewrite fresh n)) (rewrite.pointers n)
+  at_block : (n : ℕ) → n < FILE_BLOCKS
+      → pointer_remapped rewrite fresh n ≡ cond (rewrite.is_rewritten n) (cond (rewrite.is_zero n) 0 (fresh_for rewrite fresh n)) (rewrite.pointers n)
   at_block n below = cond-true (nat_lt n FILE_BLOCKS) _ _ (lt-ltb n FILE_BLOCKS below)
 
   -- where no pointer changes it is as before
   unchanged : (n : ℕ) → n < FILE_BLOCKS → changes_pointer rewrite n ≡ false → pointer_remapped rewrite fresh n ≡ rewrite.pointers n
   unchanged n below stays = at_block n below ∙ by_tests (rewrite.is_rewritten n) (rewrite.is_zero n) (rewrite.pointers n) (fresh_for rewrite fresh n) stays
     where
-      by_tests : (rewritten empty : Bool) (block free : ℕ) → (rewritten && (not empty || not (nat_eq block 0))) ≡ false → cond rewritten (cond empty 0 free) block ≡ block
+      by_tests : (rewritten empty : Bool) (block free : ℕ) → (rewritten && (not empty || not (nat_eq block 0))) ≡ false
+          → cond rewritten (cond empty 0 free) block ≡ block
       by_tests true true block free e = sym (eqb-true block 0 (not_false (nat_eq block 0) e))
       by_tests true false block free e = absurd (not_both_of true refl e)
       by_tests false empty block free e = refl
@@ -46,7 +48,8 @@ module _ (rewrite : Rewrite) (fresh : List ℕ) where
   empty : (n : ℕ) → n < FILE_BLOCKS → has_pointer rewrite n ≡ false → pointer_remapped rewrite fresh n ≡ 0
   empty n below none = at_block n below ∙ by_tests (rewrite.is_rewritten n) (rewrite.is_zero n) (rewrite.pointers n) (fresh_for rewrite fresh n) none
     where
-      by_tests : (rewritten empty : Bool) (block free : ℕ) → cond rewritten (not empty) (not (nat_eq block 0)) ≡ false → cond rewritten (cond empty 0 free) block ≡ 0
+      by_tests : (rewritten empty : Bool) (block free : ℕ) → cond rewritten (not empty) (not (nat_eq block 0)) ≡ false
+          → cond rewritten (cond empty 0 free) block ≡ 0
       by_tests true empty block free e = cond-true empty 0 free (not_false empty e)
       by_tests false empty block free e = eqb-true block 0 (not_false (nat_eq block 0) e)
 
@@ -54,12 +57,14 @@ pub remapped_pointers_stand : RemappedPointersStand
 remapped_pointers_stand inode tables changed fresh place within = elim (cases_lt place FILE_BLOCKS) [
   | inr behind ↦
       let back : FILE_BLOCKS + (place - FILE_BLOCKS) ≡ place = omega arith in
-      cond-false (nat_lt place FILE_BLOCKS) _ _ (le-ltb place FILE_BLOCKS behind) ∙ get_or-tabulate 16 _ (place - FILE_BLOCKS) 0 (omega arith) ∙ ap (pointer_remapped rewrite fresh) back
+      cond-false (nat_lt place FILE_BLOCKS) _ _ (le-ltb place FILE_BLOCKS behind) ∙ get_or-tabulate 16 _ (place - FILE_BLOCKS) 0 (omega arith)
+      ∙ ap (pointer_remapped rewrite fresh) back
   | inl below ↦ cond-true (nat_lt place FILE_BLOCKS) _ _ (lt-ltb place FILE_BLOCKS below) ∙ elim (cases_lt place 108) [
     | inl direct ↦ cond-true (nat_lt place 108) _ _ (lt-ltb place 108 direct) ∙ get_or-tabulate 108 (pointer_remapped rewrite fresh) place 0 direct
     | inr indirect ↦
         cond-false (nat_lt place 108) _ _ (le-ltb place 108 indirect)
-        ∙ ap (λ o. option_map_or (λ table. slice_index table.pointers (entry_of place)) o 0) (found_at (table_remapped rewrite fresh tables) (remapped_at_place rewrite fresh tables) (table_of place) 0 16 (omega arith) (omega arith))
+        ∙ ap (λ o. option_map_or (λ table. slice_index table.pointers (entry_of place)) o 0)
+        (found_at (table_remapped rewrite fresh tables) (remapped_at_place rewrite fresh tables) (table_of place) 0 16 (omega arith) (omega arith))
         ∙ in_table place below indirect
   ]
 ]
@@ -67,7 +72,9 @@ remapped_pointers_stand inode tables changed fresh place within = elim (cases_lt
     rewrite : Rewrite
     rewrite = rewrite_of inode tables changed
 
-    in_table : (place : ℕ) → place < FILE_BLOCKS → 108 ≤ place → option_map_or (λ table. slice_index table.pointers (entry_of place)) (table_remapped rewrite fresh tables (table_of place)) 0 ≡ pointer_remapped rewrite fresh place
+    in_table : (place : ℕ) → place < FILE_BLOCKS → 108 ≤ place
+        → option_map_or (λ table. slice_index table.pointers (entry_of place)) (table_remapped rewrite fresh tables (table_of place)) 0
+        ≡ pointer_remapped rewrite fresh place
     in_table place below indirect = by_tests (rewrites_table rewrite k) (table_has_pointer rewrite k) refl refl
       where
         k : ℕ
@@ -86,8 +93,12 @@ remapped_pointers_stand inode tables changed fresh place within = elim (cases_lt
         pointer_in table = slice_index table.pointers (entry_of place)
 
         by_tests : (rewritten some : Bool) → rewrites_table rewrite (table_of place) ≡ rewritten → table_has_pointer rewrite (table_of place) ≡ some
-            → option_map_or (λ table. slice_index table.pointers (entry_of place)) (table_by_fate (cond rewritten (cond some IsWritten Goes) Stays) rewrite fresh tables (table_of place)) 0 ≡ pointer_remapped rewrite fresh place
-        by_tests true true r p = get_or-tabulate 1024 (λ entry. pointer_remapped rewrite fresh (first_block (table_of place) + entry)) (entry_of place) 0 (omega arith) ∙ ap (pointer_remapped rewrite fresh) whole
+            → option_map_or (λ table. slice_index table.pointers (entry_of place))
+            (table_by_fate (cond rewritten (cond some IsWritten Goes) Stays) rewrite fresh tables (table_of place)) 0
+            ≡ pointer_remapped rewrite fresh place
+        by_tests true true r p =
+            get_or-tabulate 1024 (λ entry. pointer_remapped rewrite fresh (first_block (table_of place) + entry)) (entry_of place) 0 (omega arith)
+            ∙ ap (pointer_remapped rewrite fresh) whole
         by_tests true false r p = sym (empty rewrite fresh place below (all_fail_in_table (has_pointer rewrite) (table_of place) place p low high))
         by_tests false some r p =
             sym (cond-true (nat_lt place FILE_BLOCKS) _ _ (lt-ltb place FILE_BLOCKS below) ∙ cond-false (nat_lt place 108) _ _ (le-ltb place 108 indirect))
@@ -100,9 +111,11 @@ rewrites rewrite place = cond (nat_lt place FILE_BLOCKS) (rewrite.is_rewritten p
 module _ (rewrite : Rewrite) (fresh : List ℕ) where
   -- what a rewritten place has: nothing, or a fresh block that it takes
   abbrev HasFresh : ℕ → Type 0
-  HasFresh place = (pointer_remapped rewrite fresh place ≡ 0) ⊎ ((takes_place rewrite place ≡ true) × (pointer_remapped rewrite fresh place ≡ fresh_for rewrite fresh place))
+  HasFresh place =
+      (pointer_remapped rewrite fresh place ≡ 0) ⊎ ((takes_place rewrite place ≡ true) × (pointer_remapped rewrite fresh place ≡ fresh_for rewrite fresh place))
 
-  after_block : (place after block free : ℕ) (rewritten empty takes : Bool) → after ≡ cond rewritten (cond empty 0 free) block → takes ≡ (rewritten && not empty)
+  after_block : (place after block free : ℕ) (rewritten empty takes : Bool) → after ≡ cond rewritten (cond empty 0 free) block
+      → takes ≡ (rewritten && not empty)
       → ((rewritten ≡ false) × (after ≡ block)) ⊎ ((rewritten ≡ true) × ((after ≡ 0) ⊎ ((takes ≡ true) × (after ≡ free))))
   after_block place after block free true true takes is t = inr (refl, inl is)
   after_block place after block free true false takes is t = inr (refl, inr (t, is))
@@ -114,19 +127,27 @@ module _ (rewrite : Rewrite) (fresh : List ℕ) where
   after_table place after block free true false takes is t = inr (refl, inl is)
   after_table place after block free false some takes is t = inl (refl, is)
 
-  afterwards : (place : ℕ) → ((rewrites rewrite place ≡ false) × (pointer_remapped rewrite fresh place ≡ rewrite.pointers place)) ⊎ ((rewrites rewrite place ≡ true) × HasFresh place)
+  afterwards : (place : ℕ)
+      → ((rewrites rewrite place ≡ false) × (pointer_remapped rewrite fresh place ≡ rewrite.pointers place))
+      ⊎ ((rewrites rewrite place ≡ true) × HasFresh place)
   afterwards place = elim (cases_lt place FILE_BLOCKS) [
     | inl below ↦
         let t = lt-ltb place FILE_BLOCKS below in
-        subst (λ (b : Bool). ((cond b (rewrite.is_rewritten place) (rewrites_table rewrite (place - FILE_BLOCKS)) ≡ false) × (pointer_remapped rewrite fresh place ≡ rewrite.pointers place))
+        subst (λ (b : Bool).
+        ((cond b (rewrite.is_rewritten place) (rewrites_table rewrite (place - FILE_BLOCKS)) ≡ false)
+        × (pointer_remapped rewrite fresh place ≡ rewrite.pointers place))
         ⊎ ((cond b (rewrite.is_rewritten place) (rewrites_table rewrite (place - FILE_BLOCKS)) ≡ true) × HasFresh place)) (sym t)
-        (after_block place _ (rewrite.pointers place) (fresh_for rewrite fresh place) (rewrite.is_rewritten place) (rewrite.is_zero place) (takes_place rewrite place)
+        (after_block place _ (rewrite.pointers place) (fresh_for rewrite fresh place) (rewrite.is_rewritten place) (rewrite.is_zero place)
+        (takes_place rewrite place)
         (cond-true (nat_lt place FILE_BLOCKS) _ _ t) (cond-true (nat_lt place FILE_BLOCKS) _ _ t))
     | inr above ↦
         let t = le-ltb place FILE_BLOCKS above in
-        subst (λ (b : Bool). ((cond b (rewrite.is_rewritten place) (rewrites_table rewrite (place - FILE_BLOCKS)) ≡ false) × (pointer_remapped rewrite fresh place ≡ rewrite.pointers place))
+        subst (λ (b : Bool).
+        ((cond b (rewrite.is_rewritten place) (rewrites_table rewrite (place - FILE_BLOCKS)) ≡ false)
+        × (pointer_remapped rewrite fresh place ≡ rewrite.pointers place))
         ⊎ ((cond b (rewrite.is_rewritten place) (rewrites_table rewrite (place - FILE_BLOCKS)) ≡ true) × HasFresh place)) (sym t)
-        (after_table place _ (rewrite.pointers place) (fresh_for rewrite fresh place) (rewrites_table rewrite (place - FILE_BLOCKS)) (table_has_pointer rewrite (place - FILE_BLOCKS)) (takes_place rewrite place)
+        (after_table place _ (rewrite.pointers place) (fresh_for rewrite fresh place) (rewrites_table rewrite (place - FILE_BLOCKS))
+        (table_has_pointer rewrite (place - FILE_BLOCKS)) (takes_place rewrite place)
         (cond-false (nat_lt place FILE_BLOCKS) _ _ t) (cond-false (nat_lt place FILE_BLOCKS) _ _ t))
   ]
 
@@ -136,7 +157,8 @@ module _ (rewrite : Rewrite) (fresh : List ℕ) where
     in_fresh place within t = let below = (ranks_serve (takes_place rewrite)).below place PLACES t within in omega (arith, serve.enough)
 
     -- a block that stood at a rewritten place is held no more
-    no_more : (block place other : ℕ) → block ≢ 0 → place < PLACES → other < PLACES → rewrite.pointers place ≡ block → rewrites rewrite place ≡ true → pointer_remapped rewrite fresh other ≡ block → ⊥
+    no_more : (block place other : ℕ) → block ≢ 0 → place < PLACES → other < PLACES → rewrite.pointers place ≡ block → rewrites rewrite place ≡ true
+        → pointer_remapped rewrite fresh other ≡ block → ⊥
     no_more block place other some within inside stands r held = elim (afterwards other) [
       | inl same ↦
           let one = serve.apart place other within inside (λ e. some (sym stands ∙ e)) (stands ∙ sym held ∙ same.1) in
@@ -148,7 +170,8 @@ module _ (rewrite : Rewrite) (fresh : List ℕ) where
     ]
 
     -- and one that is held no more stood at a rewritten place
-    was_rewritten : (block place : ℕ) → block ≢ 0 → place < PLACES → rewrite.pointers place ≡ block → (IsHeld (pointer_remapped rewrite fresh) block → ⊥) → rewrites rewrite place ≡ true
+    was_rewritten : (block place : ℕ) → block ≢ 0 → place < PLACES → rewrite.pointers place ≡ block → (IsHeld (pointer_remapped rewrite fresh) block → ⊥)
+        → rewrites rewrite place ≡ true
     was_rewritten block place some within stands lost = elim (afterwards place) [
       | inl same ↦ absurd (lost (record { some = some; place = place; within = within; stands = same.1 ∙ stands }))
       | inr written ↦ written.0
@@ -172,7 +195,9 @@ freed_blocks_are_left rewrite fresh freed serve are block = (
     held_no_more : ((place : ℕ) × IsGivenUp rewrite block place) → IsHeld rewrite.pointers block × (IsHeld (pointer_remapped rewrite fresh) block → ⊥)
     held_no_more (place, is) =
         let rewritten = and_first (rewrites rewrite place) (not (nat_eq (rewrite.pointers place) 0)) is.given_up in
-        let some : block ≢ 0 = λ e. eqb-false (rewrite.pointers place) 0 (not_true _ (and_second (rewrites rewrite place) (not (nat_eq (rewrite.pointers place) 0)) is.given_up)) (is.stands ∙ e) in (
+        let some : block ≢ 0 =
+        λ e. eqb-false (rewrite.pointers place) 0 (not_true _ (and_second (rewrites rewrite place) (not (nat_eq (rewrite.pointers place) 0)) is.given_up))
+        (is.stands ∙ e) in (
           record { some = some; place = place; within = is.within; stands = is.stands },
           λ held. no_more rewrite fresh serve block place held.place some is.within held.within is.stands rewritten held.stands,
         )

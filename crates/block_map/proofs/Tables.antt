@@ -23,7 +23,8 @@ use Rattle.block_map.proofs.Changes.{change_at, change_stands}
 pub none_in_range : (p : ℕ → Bool) (a n : ℕ) → ((m : ℕ) → a ≤ m → m < a + n → p m ≡ false) → list_any p (range_with_len a n) ≡ false
 none_in_range p a zero none = refl
 none_in_range p a (suc n) none =
-    (λ i. none a (omega arith) (omega arith) i || list_any p (range_with_len (a + 1) n)) ∙ none_in_range p (a + 1) n (λ m ge lt. none m (omega arith) (omega arith))
+    (λ i. none a (omega arith) (omega arith) i || list_any p (range_with_len (a + 1) n))
+    ∙ none_in_range p (a + 1) n (λ m ge lt. none m (omega arith) (omega arith))
 
 -- and one does where it does
 pub some_in_range : (p : ℕ → Bool) (a n m : ℕ) → a ≤ m → m < a + n → p m ≡ true → list_any p (range_with_len a n) ≡ true
@@ -41,17 +42,23 @@ module _ (inode : Inode) (tables : List Table) (changed : List ChangedBlock) (up
   touches = touches_table (pointer_kept inode tables) k
 
   -- one rewritten block that changes a pointer settles it
-  pub touched : (i : ℕ) (d : ChangedBlock) → i < length changed → touches (get_or changed i d) ≡ true → true ≡ list_any (changes_pointer rewrite) (table_blocks k)
+  pub touched : (i : ℕ) (d : ChangedBlock) → i < length changed → touches (get_or changed i d) ≡ true
+      → true ≡ list_any (changes_pointer rewrite) (table_blocks k)
   unfolding table_blocks
   touched i d within t =
       let one = get_or changed i d in
-      let inside : first_block k ≤ one.block × (one.block < first_block k + 1024) = let at = first (nat_le (first_block k) one.block && nat_lt one.block (first_block k + 1024)) _ t in (leb-true (first_block k) one.block (first _ _ at), ltb-true one.block (first_block k + 1024) (second (nat_le (first_block k) one.block) _ at)) in
+      let inside : first_block k ≤ one.block × (one.block < first_block k + 1024) =
+      let at = first (nat_le (first_block k) one.block && nat_lt one.block (first_block k + 1024)) _ t in
+      (leb-true (first_block k) one.block (first _ _ at), ltb-true one.block (first_block k + 1024) (second (nat_le (first_block k) one.block) _ at)) in
       let changes : changes_pointer rewrite one.block ≡ true =
-      ap (λ o. is_some o && (not (option_map_or (λ one. one.is_zero) o false) || not (nat_eq (pointer_kept inode tables one.block) 0))) (change_at changed up i d within) ∙ second (nat_le (first_block k) one.block && nat_lt one.block (first_block k + 1024)) _ t in
+      ap (λ o. is_some o && (not (option_map_or (λ one. one.is_zero) o false) || not (nat_eq (pointer_kept inode tables one.block) 0)))
+      (change_at changed up i d within)
+      ∙ second (nat_le (first_block k) one.block && nat_lt one.block (first_block k + 1024)) _ t in
       sym (some_in_range (changes_pointer rewrite) (first_block k) 1024 one.block inside.0 inside.1 changes)
 
   -- and where none does no pointer changes
-  pub untouched : ((i : ℕ) (d : ChangedBlock) → i < length changed → touches (get_or changed i d) ≡ false) → false ≡ list_any (changes_pointer rewrite) (table_blocks k)
+  pub untouched : ((i : ℕ) (d : ChangedBlock) → i < length changed → touches (get_or changed i d) ≡ false)
+      → false ≡ list_any (changes_pointer rewrite) (table_blocks k)
   unfolding table_blocks
   untouched none = sym (none_in_range (changes_pointer rewrite) (first_block k) 1024 stays)
     where
@@ -62,20 +69,27 @@ module _ (inode : Inode) (tables : List Table) (changed : List ChangedBlock) (up
           let found = change_stands changed m one e in
           let at : touches one ≡ false = ap touches (sym (found.3 one)) ∙ none found.0 one found.1 in
           let here : (nat_le (first_block k) m && nat_lt m (first_block k + 1024)) ≡ true = grind (arith, nat_tests) in
-          let moved : ((nat_le (first_block k) m && nat_lt m (first_block k + 1024)) && (not one.is_zero || not (nat_eq (pointer_kept inode tables m) 0))) ≡ false
-          = subst (λ (b : ℕ). ((nat_le (first_block k) b && nat_lt b (first_block k + 1024)) && (not one.is_zero || not (nat_eq (pointer_kept inode tables b) 0))) ≡ false) found.2 at in
+          let moved : ((nat_le (first_block k) m && nat_lt m (first_block k + 1024)) && (not one.is_zero || not (nat_eq (pointer_kept inode tables m) 0)))
+          ≡ false
+          =
+          subst (λ (b : ℕ).
+          ((nat_le (first_block k) b && nat_lt b (first_block k + 1024)) && (not one.is_zero || not (nat_eq (pointer_kept inode tables b) 0)))
+          ≡ false)
+          found.2 at in
           sym (ap (λ t. t && (not one.is_zero || not (nat_eq (pointer_kept inode tables m) 0))) here) ∙ moved
 
       stays : (m : ℕ) → first_block k ≤ m → m < first_block k + 1024 → changes_pointer rewrite m ≡ false
       stays m ge lt = by_said m ge lt (change_of changed m) refl
 
 -- an indirect block has a pointer where an entry has one
-pub pointer_found : (rewrite : Rewrite) (k entry : ℕ) → entry < 1024 → has_pointer rewrite (first_block k + entry) ≡ true → true ≡ list_any (has_pointer rewrite) (table_blocks k)
+pub pointer_found : (rewrite : Rewrite) (k entry : ℕ) → entry < 1024 → has_pointer rewrite (first_block k + entry) ≡ true
+    → true ≡ list_any (has_pointer rewrite) (table_blocks k)
 unfolding table_blocks
 pointer_found rewrite k entry within t = sym (some_in_range (has_pointer rewrite) (first_block k) 1024 (first_block k + entry) (omega arith) (omega arith) t)
 
 -- and none where no entry has
-pub no_pointer_found : (rewrite : Rewrite) (k : ℕ) → ((entry : ℕ) → entry < 1024 → has_pointer rewrite (first_block k + entry) ≡ false) → false ≡ list_any (has_pointer rewrite) (table_blocks k)
+pub no_pointer_found : (rewrite : Rewrite) (k : ℕ) → ((entry : ℕ) → entry < 1024 → has_pointer rewrite (first_block k + entry) ≡ false)
+    → false ≡ list_any (has_pointer rewrite) (table_blocks k)
 unfolding table_blocks
 no_pointer_found rewrite k none = sym (none_in_range (has_pointer rewrite) (first_block k) 1024 (λ m ge lt.
     let back : first_block k + (m - first_block k) ≡ m = omega arith in

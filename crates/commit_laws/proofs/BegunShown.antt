@@ -55,7 +55,8 @@ use Rattle.commit_laws.proofs.NumbersGiven.{kept_in, given_numbers_are_those}
 use Rattle.commit_laws.proofs.SeatsOfPlan.{there_is_in, in_kept, after_had, seat_comes, number_at}
 use Rattle.commit_laws.proofs.Shown.{found_is_in, length_in_blocks}
 
-module _ (num : Numbering) (concerned : List ℕ) (old new : TreeState) (image : SeenInodes) (plan : CommitPlan) (grant : GrantedNumbers) (full : IsFullPlan num concerned old new image plan grant) where
+module _ (num : Numbering) (concerned : List ℕ) (old new : TreeState) (image : SeenInodes) (plan : CommitPlan) (grant : GrantedNumbers)
+    (full : IsFullPlan num concerned old new image plan grant) where
   abbrev is : IsCommitPlan num concerned old new image plan grant
   is = full.sound.whole
 
@@ -73,15 +74,26 @@ module _ (num : Numbering) (concerned : List ℕ) (old new : TreeState) (image :
 
   -- a node without a number has no links but those that it begins with
   first_links_are : (node : ℕ) → num node ≡ None → (kind : Kind) → kind ≡ kind_of old node → first_links kind ≡ links_of old node
-  first_links_are node none File same = sym (ap (λ b. cond b (2 + count_by (holds_directory old node) (entries old.rows)) (count_of old.rows node)) (directory_by_kind old node ∙ ap is_directory_kind (sym same)) ∙ unnamed)
+  first_links_are node none File same =
+      sym
+      (ap (λ b. cond b (2 + count_by (holds_directory old node) (entries old.rows)) (count_of old.rows node))
+      (directory_by_kind old node ∙ ap is_directory_kind (sym same))
+      ∙ unnamed)
     where
       unnamed : count_of old.rows node ≡ 0
-      unnamed = count_none (names_it node) old.rows (λ k y row. not_same y node (λ here. let has = is.stands.named k.0 k.1 node (row ∙ ap Some here) in none_some (sym none ∙ has.1)))
-  first_links_are node none Directory same = sym (ap (λ b. cond b (2 + count_by (holds_directory old node) (entries old.rows)) (count_of old.rows node)) (directory_by_kind old node ∙ ap is_directory_kind (sym same)) ∙ ap (λ n. 2 + n) empty)
+      unnamed =
+          count_none (names_it node) old.rows
+          (λ k y row. not_same y node (λ here. let has = is.stands.named k.0 k.1 node (row ∙ ap Some here) in none_some (sym none ∙ has.1)))
+  first_links_are node none Directory same =
+      sym
+      (ap (λ b. cond b (2 + count_by (holds_directory old node) (entries old.rows)) (count_of old.rows node))
+      (directory_by_kind old node ∙ ap is_directory_kind (sym same))
+      ∙ ap (λ n. 2 + n) empty)
     where
       empty : count_by (holds_directory old node) (entries old.rows) ≡ 0
       empty = count_none (holds_directory old node) old.rows (λ k y row. ap (λ b. b && is_directory old y) (not_same k.0 node (λ here.
-          let has = holder_number num old image full.sound.sound is.stands node k.1 y (subst (λ d. row_of old d k.1 ≡ Some y) here row) in none_some (sym none ∙ has.1))))
+          let has = holder_number num old image full.sound.sound is.stands node k.1 y (subst (λ d. row_of old d k.1 ≡ Some y) here row) in
+          none_some (sym none ∙ has.1))))
 
   old_had : (entry : OldEntry) → Contains plan.old entry → num entry.node.0 ≡ Some entry.old.number
   old_had entry there = is.from.numbered.old_numbers entry there
@@ -130,8 +142,14 @@ module _ (num : Numbering) (concerned : List ℕ) (old new : TreeState) (image :
 
   old_plain : (entry : OldEntry) → Contains plan.old entry → IsPlain (begun_old entry)
   old_plain entry there = record {
-    size = λ file. shown.size ∙ own.size ∙ ap (λ k. cond (nat_eq k 2) (4096 * (length (image.seen entry.old.number).slots / 15)) (length (image.seen entry.old.number).bytes)) (seen_file file) ∙ ap length own.bytes;
-    slots = λ file. ap (λ (o : Option ℕ). (option_map_or image.seen o blank).slots) (old_had entry there) ∙ sym shown.slots ∙ ap slots_joined (shown.plain (seen_file file));
+    size =
+        λ file. shown.size ∙ own.size
+        ∙ ap (λ k. cond (nat_eq k 2) (4096 * (length (image.seen entry.old.number).slots / 15)) (length (image.seen entry.old.number).bytes))
+        (seen_file file)
+        ∙ ap length own.bytes;
+    slots =
+        λ file. ap (λ (o : Option ℕ). (option_map_or image.seen o blank).slots) (old_had entry there) ∙ sym shown.slots
+        ∙ ap slots_joined (shown.plain (seen_file file));
   }
     where
       shown : KeepsSeen entry.old.kept (image.seen entry.old.number)
@@ -154,12 +172,17 @@ module _ (num : Numbering) (concerned : List ℕ) (old new : TreeState) (image :
   children_numbered directory node child = elim (child_known num concerned old new image plan grant is directory node child) [
     | inl (entry, there, same) ↦ elim (cases_Bool (node_leaves plan.leave entry.node.0)) [
       | inr stays ↦
-          ap (numbers_with change grant.inodes) (sym same) ∙ those.stays entry (in_kept (λ e. not (leaves plan.leave e)) plan.old entry there (ap not stays)) ∙ ap commit.after same
+          ap (numbers_with change grant.inodes) (sym same) ∙ those.stays entry (in_kept (λ e. not (leaves plan.leave e)) plan.old entry there (ap not stays))
+          ∙ ap commit.after same
       | inl gone ↦
           unnumbered change.changes (staying plan.old plan.leave) plan.enter grant.inodes node
-          (λ other stay here. let kept = kept_in (λ e. not (leaves plan.leave e)) plan.old other stay in true_not_false (sym (ap (node_leaves plan.leave) (here ∙ sym same) ∙ gone) ∙ not_true (node_leaves plan.leave other.node.0) kept.1))
+          (λ other stay here. let kept = kept_in (λ e. not (leaves plan.leave e)) plan.old other stay in
+          true_not_false (sym (ap (node_leaves plan.leave) (here ∙ sym same) ∙ gone) ∙ not_true (node_leaves plan.leave other.node.0) kept.1))
           (λ one enter here. none_some (sym (is.from.numbered.enter_none one enter) ∙ ap num (here ∙ sym same) ∙ is.from.numbered.old_numbers entry there))
-          ∙ sym (ap commit.after (sym same) ∙ after_had num concerned old new image plan grant is entry.node.0 entry.old.number (is.from.numbered.old_numbers entry there) ∙ ap (λ b. cond b None (Some entry.old.number)) gone)
+          ∙ sym
+          (ap commit.after (sym same)
+          ∙ after_had num concerned old new image plan grant is entry.node.0 entry.old.number (is.from.numbered.old_numbers entry there)
+          ∙ ap (λ b. cond b None (Some entry.old.number)) gone)
     ]
     | inr (one, there, same) ↦ ap (numbers_with change grant.inodes) (sym same) ∙ those.enters one there ∙ ap commit.after same
   ]
@@ -176,13 +199,17 @@ module _ (num : Numbering) (concerned : List ℕ) (old new : TreeState) (image :
       by (Some one) e =
           let here = eqb-true (net_node one) begun.node (found_passes (λ item. nat_eq (net_node item) begun.node) plan.nets one e) in
           let holds = is.to.holders one (found_is_in (λ item. nat_eq (net_node item) begun.node) plan.nets one e) in
-          absurd (true_not_false (sym holds ∙ ap (is_directory new) here ∙ directory_by_kind new begun.node ∙ ap is_directory_kind (is.to.between.kinds begun.node ∙ sym kind ∙ file)))
+          absurd
+          (true_not_false
+          (sym holds ∙ ap (is_directory new) here ∙ directory_by_kind new begun.node
+          ∙ ap is_directory_kind (is.to.between.kinds begun.node ∙ sym kind ∙ file)))
 
   -- the size that a file gets
   size_is : (begun : Begun) → IsPlain begun → begun.kind ≡ File → size_given change.changes begun ≡ length (bytes_of new begun.node)
   size_is begun plain file = by (item_with file_node begun.node plan.files) refl
     where
-      by : (o : Option FileChange) → item_with file_node begun.node plan.files ≡ o → option_map_or (λ (one : FileChange). one.size) o begun.base.size ≡ length (bytes_of new begun.node)
+      by : (o : Option FileChange) → item_with file_node begun.node plan.files ≡ o
+          → option_map_or (λ (one : FileChange). one.size) o begun.base.size ≡ length (bytes_of new begun.node)
       by None e = plain.size file ∙ ap length (sym (full.sizes.others begun.node e))
       by (Some one) e =
           let here = eqb-true (file_node one) begun.node (found_passes (λ item. nat_eq (file_node item) begun.node) plan.files one e) in
@@ -200,8 +227,10 @@ module _ (num : Numbering) (concerned : List ℕ) (old new : TreeState) (image :
   }
 
   -- a directory keeps within its blocks, and a file has none
-  blocks_fit : (begun : Begun) (i : ℕ) → commit.after begun.node ≡ Some i → is_among concerned begun.node ≡ true → begun.kind ≡ kind_of old begun.node → IsPlain begun
-      → (kind : Kind) → begun.kind ≡ kind → blocks_up_to_last (slots_after commit.after new (net_of_node plan.nets begun.node) (seen_before commit image begun.node).slots) ≤ DIRECTORY_BLOCKS
+  blocks_fit : (begun : Begun) (i : ℕ) → commit.after begun.node ≡ Some i → is_among concerned begun.node ≡ true → begun.kind ≡ kind_of old begun.node
+      → IsPlain begun
+      → (kind : Kind) → begun.kind ≡ kind
+      → blocks_up_to_last (slots_after commit.after new (net_of_node plan.nets begun.node) (seen_before commit image begun.node).slots) ≤ DIRECTORY_BLOCKS
   blocks_fit begun i has among kind plain File file =
       let none : blocks_up_to_last (slots_after commit.after new (net_of_node plan.nets begun.node) (seen_before commit image begun.node).slots) ≡ 0 =
       λ j. blocks_up_to_last (slots_after commit.after new (no_net begun kind file j) (plain.slots file j)) in
@@ -209,12 +238,20 @@ module _ (num : Numbering) (concerned : List ℕ) (old new : TreeState) (image :
   blocks_fit begun i has among kind plain Directory directory =
       let next : SeenInodes = image_planned num concerned new image plan grant in
       let seen = built_seen commit old new image (rewrites_of_change commit change image) concerned is.stands from begun.node i has among in
-      let fits = commits_keep_directories_fit commit old new image next step full.room.directories i (number_within commit old image is.stands made.is.numbers begun.node i has, ap (λ (s : Seen). s.kind) seen ∙ ap kind_byte (is.to.between.kinds begun.node ∙ sym kind ∙ directory)) in
-      let slots = ap (λ (s : Seen). length s.slots) seen ∙ length_in_blocks (slots_after commit.after new (net_of_node plan.nets begun.node) (seen_before commit image begun.node).slots) in
+      let fits =
+      commits_keep_directories_fit commit old new image next step full.room.directories i (
+        number_within commit old image is.stands made.is.numbers begun.node i has,
+        ap (λ (s : Seen). s.kind) seen
+            ∙ ap kind_byte (is.to.between.kinds begun.node ∙ sym kind ∙ directory),
+      ) in
+      let slots =
+      ap (λ (s : Seen). length s.slots) seen
+      ∙ length_in_blocks (slots_after commit.after new (net_of_node plan.nets begun.node) (seen_before commit image begun.node).slots) in
       omega (arith, fits, slots)
 
   -- so the plan leads a node to the new tree
-  leads_to : (begun : Begun) (i : ℕ) → commit.after begun.node ≡ Some i → is_among concerned begun.node ≡ true → begun.kind ≡ kind_of old begun.node → IsPlain begun
+  leads_to : (begun : Begun) (i : ℕ) → commit.after begun.node ≡ Some i → is_among concerned begun.node ≡ true → begun.kind ≡ kind_of old begun.node
+      → IsPlain begun
       → LeadNode old new commit.after (seen_before commit image begun.node) change.changes begun
   leads_to begun i has among kind plain = record {
     nets = made.leads;
@@ -242,7 +279,8 @@ module _ (num : Numbering) (concerned : List ℕ) (old new : TreeState) (image :
     | inr (one, enter, same) ↦ whole (begun_entering one) same (is.from.entering one enter) (entering_begins one enter) (entering_plain one enter)
   ]
     where
-      whole : (begun : Begun) → seated change.changes begun ≡ seat → is_among concerned begun.node ≡ true → BeginsWith old (seen_before commit image begun.node) begun → IsPlain begun → IsSeatOf m seat
+      whole : (begun : Begun) → seated change.changes begun ≡ seat → is_among concerned begun.node ≡ true
+          → BeginsWith old (seen_before commit image begun.node) begun → IsPlain begun → IsSeatOf m seat
       whole begun same among begins plain =
           let number = number_at num concerned old new image plan grant is m seat at in
           let node : seat.node ≡ begun.node = ap (λ (s : Seated). s.node) (sym same) ∙ planned_node change.changes begun begun.kind in

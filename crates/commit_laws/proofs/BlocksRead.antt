@@ -49,8 +49,10 @@ pub record IsOneNode (one : Built) (seat : Seated) (begun : Begun) : Type 0 wher
   pub seat_is : seat.node ≡ begun.node
   pub built_is : one.node ≡ begun.node
 
-module _ (num : Numbering) (concerned : List ℕ) (old new : TreeState) (image : SeenInodes) (plan : CommitPlan) (grant : GrantedNumbers) (store : ℕ → List ℕ) (parts : ℕ → Part)
-    (is : IsPlanOverParts num concerned old new image plan grant store parts) (one : Built) (there_one : Contains (nodes_with_grant (change_planned plan) grant) one)
+module _ (num : Numbering) (concerned : List ℕ) (old new : TreeState) (image : SeenInodes) (plan : CommitPlan) (grant : GrantedNumbers) (store : ℕ → List ℕ)
+    (parts : ℕ → Part)
+    (is : IsPlanOverParts num concerned old new image plan grant store parts) (one : Built)
+    (there_one : Contains (nodes_with_grant (change_planned plan) grant) one)
     (node : IsBuiltNode num concerned old new image plan grant is.full one) where
   abbrev whole : IsCommitPlan num concerned old new image plan grant
   whole = is.full.sound.whole
@@ -96,29 +98,41 @@ module _ (num : Numbering) (concerned : List ℕ) (old new : TreeState) (image :
   -- the content of a block is read where its pointer points
   pub content_is : (n : ℕ) → n < FILE_BLOCKS → slice_index_or after.blocks n [] ≡ read_block (store_planned store plan grant) ((next.seen i).blocks n)
   content_is n low =
-      sym (cond-true (nat_lt n FILE_BLOCKS) _ _ (lt-ltb n FILE_BLOCKS low)) ∙ gathered_is_read (store_planned store plan grant) after n (gathered_itself (store_planned store plan grant) (inode_bytes one.meta)) (omega arith)
-      ∙ ap (read_block (store_planned store plan grant)) (pointer_after_is num concerned old new image plan grant store parts is one there_one node n (omega arith))
+      sym (cond-true (nat_lt n FILE_BLOCKS) _ _ (lt-ltb n FILE_BLOCKS low))
+      ∙ gathered_is_read (store_planned store plan grant) after n (gathered_itself (store_planned store plan grant) (inode_bytes one.meta)) (omega arith)
+      ∙ ap (read_block (store_planned store plan grant))
+      (pointer_after_is num concerned old new image plan grant store parts is one there_one node n (omega arith))
 
   pub block_is : (n : ℕ) → n < FILE_BLOCKS → (o : Option ChangedBlock) → change_of node.seat.changed n ≡ o
-      → (next.seen i).blocks n ≡ cond (is_some o) (cond (option_map_or (λ (c : ChangedBlock). c.is_zero) o false) 0 (fresh_for (rewrite_in node.seat) own n)) ((rewrite_in node.seat).pointers n)
+      → (next.seen i).blocks n
+      ≡ cond (is_some o) (cond (option_map_or (λ (c : ChangedBlock). c.is_zero) o false) 0 (fresh_for (rewrite_in node.seat) own n))
+      ((rewrite_in node.seat).pointers n)
   block_is n low o e =
       sym (pointer_is num concerned old new image plan grant store parts is one there_one node n (omega arith))
-      ∙ (λ j. pointer_kept (meta_is num concerned old new image plan grant store parts is one there_one node j) (tables_are num concerned old new image plan grant store parts is one there_one node j) n)
+      ∙ (λ j. pointer_kept (meta_is num concerned old new image plan grant store parts is one there_one node j)
+      (tables_are num concerned old new image plan grant store parts is one there_one node j) n)
       ∙ remapped_pointers_stand node.seat.meta node.seat.tables node.seat.changed own n (omega arith)
       ∙ cond-true (nat_lt n FILE_BLOCKS) _ _ (lt-ltb n FILE_BLOCKS low)
-      ∙ ap (λ (o : Option ChangedBlock). cond (is_some o) (cond (option_map_or (λ (c : ChangedBlock). c.is_zero) o false) 0 (fresh_for (rewrite_in node.seat) own n)) ((rewrite_in node.seat).pointers n)) e
+      ∙ ap (λ (o : Option ChangedBlock). cond (is_some o)
+      (cond (option_map_or (λ (c : ChangedBlock). c.is_zero) o false) 0 (fresh_for (rewrite_in node.seat) own n)) ((rewrite_in node.seat).pointers n))
+      e
 
   -- a block that was there is read as before
-  pub old_read : (j n : ℕ) → j < image.count → n < FILE_BLOCKS → read_block (store_planned store plan grant) (pointer_at (parts j) n) ≡ slice_index_or (parts j).blocks n []
+  pub old_read : (j n : ℕ) → j < image.count → n < FILE_BLOCKS
+      → read_block (store_planned store plan grant) (pointer_at (parts j) n) ≡ slice_index_or (parts j).blocks n []
   old_read j n low_j low =
       by (cases_Bool (nat_eq (pointer_at (parts j) n) 0))
       ∙ sym (gathered_is_read store (parts j) n (is.standing.gathered j low_j) (omega arith)) ∙ cond-true (nat_lt n FILE_BLOCKS) _ _ (lt-ltb n FILE_BLOCKS low)
     where
-      by : (nat_eq (pointer_at (parts j) n) 0 ≡ true) ⊎ (nat_eq (pointer_at (parts j) n) 0 ≡ false) → read_block (store_planned store plan grant) (pointer_at (parts j) n) ≡ read_block store (pointer_at (parts j) n)
-      by (inl none) = hole_is_read (store_planned store plan grant) (pointer_at (parts j) n) (eqb-true _ 0 none) ∙ sym (hole_is_read store (pointer_at (parts j) n) (eqb-true _ 0 none))
+      by : (nat_eq (pointer_at (parts j) n) 0 ≡ true) ⊎ (nat_eq (pointer_at (parts j) n) 0 ≡ false)
+          → read_block (store_planned store plan grant) (pointer_at (parts j) n) ≡ read_block store (pointer_at (parts j) n)
+      by (inl none) =
+          hole_is_read (store_planned store plan grant) (pointer_at (parts j) n) (eqb-true _ 0 none)
+          ∙ sym (hole_is_read store (pointer_at (parts j) n) (eqb-true _ 0 none))
       by (inr some) =
           block_behind (store_planned store plan grant) (pointer_at (parts j) n) (eqb-false _ 0 some)
-          ∙ over_old num concerned old new image plan grant store parts is one there_one node (pointer_at (parts j) n) (held_is_old num concerned old new image plan grant store parts is j n low_j (omega arith))
+          ∙ over_old num concerned old new image plan grant store parts is one there_one node (pointer_at (parts j) n)
+          (held_is_old num concerned old new image plan grant store parts is j n low_j (omega arith))
           ∙ sym (block_behind store (pointer_at (parts j) n) (eqb-false _ 0 some))
 
   up : AscendByBlock node.seat.changed
@@ -136,23 +150,32 @@ module _ (num : Numbering) (concerned : List ℕ) (old new : TreeState) (image :
     in_changed = found_is_in (λ (one : ChangedBlock). nat_eq one.block n) node.seat.changed c said
 
     pub zero_read : c.is_zero ≡ true → read_block (store_planned store plan grant) ((next.seen i).blocks n) ≡ zeros 4096
-    zero_read empty = hole_is_read (store_planned store plan grant) _ (block_is n low (Some c) said ∙ ap (λ b. cond b 0 (fresh_for (rewrite_in node.seat) own n)) empty)
+    zero_read empty =
+        hole_is_read (store_planned store plan grant) _ (block_is n low (Some c) said ∙ ap (λ b. cond b 0 (fresh_for (rewrite_in node.seat) own n)) empty)
 
     abbrev tx : TxBlock
     tx = written_data (numbers_with change grant.inodes) net number own node.seat pages up cut.enough cut.some c
 
-    pub data_read : c.is_zero ≡ false → read_block (store_planned store plan grant) ((next.seen i).blocks n) ≡ content_of (built (numbers_with change grant.inodes) net number own node.seat) pages n
+    pub data_read : c.is_zero ≡ false
+        → read_block (store_planned store plan grant) ((next.seen i).blocks n)
+        ≡ content_of (built (numbers_with change grant.inodes) net number own node.seat) pages n
     data_read full =
         let made_of : Built = built (numbers_with change grant.inodes) net number own node.seat in
         let place = in_is_there node.seat.changed c in_changed in
-        let given = data_given (numbers_with change grant.inodes) net number own node.seat pages up cut.enough cut.some place.0 c place.1 full (subst (λ m. m < FILE_BLOCKS) (sym at_n) low) in
+        let given =
+        data_given (numbers_with change grant.inodes) net number own node.seat pages up cut.enough cut.some place.0 c place.1 full
+        (subst (λ m. m < FILE_BLOCKS) (sym at_n) low) in
         let in_node : Contains (fresh_of_node plan.files made_of) tx =
-        Contains-append_left (filter_map (data_written made_of pages) node.seat.changed) (filter_map (table_of_place made_of) (range_with_len 0 16)) tx (given_is_in (data_written made_of pages) node.seat.changed c tx in_changed given.1) in
+        Contains-append_left (filter_map (data_written made_of pages) node.seat.changed) (filter_map (table_of_place made_of) (range_with_len 0 16)) tx
+        (given_is_in (data_written made_of pages) node.seat.changed c tx in_changed given.1) in
         let in_fresh : Contains fresh (block_of tx) =
-        in_mapped block_of (fresh_of_commit change grant) tx (in_flat (fresh_of_node plan.files) (nodes_with_grant change grant) one tx there_one (subst (λ (b : Built). Contains (fresh_of_node plan.files b) tx) (sym node.is) in_node)) in
+        in_mapped block_of (fresh_of_commit change grant) tx
+        (in_flat (fresh_of_node plan.files) (nodes_with_grant change grant) one tx there_one
+        (subst (λ (b : Built). Contains (fresh_of_node plan.files b) tx) (sym node.is) in_node)) in
         let pointer : (next.seen i).blocks n ≡ tx.block =
         sym (pointer_is num concerned old new image plan grant store parts is one there_one node n (omega arith))
-        ∙ (λ j. pointer_kept (meta_is num concerned old new image plan grant store parts is one there_one node j) (tables_are num concerned old new image plan grant store parts is one there_one node j) (sym at_n j)) in
+        ∙ (λ j. pointer_kept (meta_is num concerned old new image plan grant store parts is one there_one node j)
+        (tables_are num concerned old new image plan grant store parts is one there_one node j) (sym at_n j)) in
         ap (read_block (store_planned store plan grant)) pointer ∙ block_behind (store_planned store plan grant) tx.block given.0
         ∙ over_fresh num concerned old new image plan grant store parts is one there_one node (block_of tx) tx.block
         (found_once (λ (other : FreshBlock). other.block) fresh (each_once num concerned old new image plan grant store parts is) (block_of tx) in_fresh)

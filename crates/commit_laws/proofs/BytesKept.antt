@@ -85,7 +85,8 @@ no_rows_behind slots n behind = ap (list_all is_none) empty
     empty = same_lists (slots_in_block n slots) (replicate 15 None) (length_in_block n slots)
         (λ k d inside.
         let low : k < 15 = subst (λ l. k < l) (length_in_block n slots) inside in
-        get_or_default (slots_in_block n slots) k d None inside ∙ get_in_block n slots k low ∙ (blocks_end_with_row slots).rest (15 * n + k) (omega arith) ∙ sym (get_or-replicate 15 k None d low))
+        get_or_default (slots_in_block n slots) k d None inside ∙ get_in_block n slots k low ∙ (blocks_end_with_row slots).rest (15 * n + k) (omega arith)
+        ∙ sym (get_or-replicate 15 k None d low))
 
 -- behind a file's end no byte is left
 no_bytes_behind : (bytes : List ℕ) (n : ℕ) → length bytes ≤ 4096 * n → is_none (nonzero_in (4096 * n) 4096 bytes) ≡ true
@@ -95,7 +96,13 @@ no_bytes_behind bytes n behind = ap (λ those. is_none (option_map (λ k. 4096 *
 free_is_good : (layout : Layout) (store : ℕ → List ℕ) → IsGoodPart layout (part_of store (inode_bytes free_inode))
 free_is_good layout store = record {
   record_good = ap is_some (ap inode_fault (raw_of store (inode_bytes free_inode)) ∙ inode_fault-inode_bytes free_inode free_fits);
-  size = (sizes_say free).1 (record { file = λ kind. absurd (no_kind 1 kind (λ e. omega arith)); whole = λ kind. absurd (no_kind 2 kind (λ e. omega arith)); few = λ kind. absurd (no_kind 2 kind (λ e. omega arith)) });
+  size =
+      (sizes_say free).1
+      (record {
+        file = λ kind. absurd (no_kind 1 kind (λ e. omega arith));
+        whole = λ kind. absurd (no_kind 2 kind (λ e. omega arith));
+        few = λ kind. absurd (no_kind 2 kind (λ e. omega arith));
+      });
   pointers = rule_from_good layout free (λ p low there. absurd (there (free_has_none store p)));
   tail = (tails_say free).1 (λ kind. absurd (no_kind 1 kind (λ e. omega arith)));
   slots = (slots_say free).1 (λ kind. absurd (no_kind 2 kind (λ e. omega arith)));
@@ -110,7 +117,8 @@ free_is_good layout store = record {
     no_kind : (k : ℕ) → nat_eq (inode_in free).kind k ≡ true → k ≢ 0 → ⊥
     no_kind k same some = some (sym (eqb-true (inode_in free).kind k same) ∙ kind_free)
 
-module _ (num : Numbering) (concerned : List ℕ) (old new : TreeState) (image : SeenInodes) (plan : CommitPlan) (grant : GrantedNumbers) (store : ℕ → List ℕ) (parts : ℕ → Part) (layout : Layout)
+module _ (num : Numbering) (concerned : List ℕ) (old new : TreeState) (image : SeenInodes) (plan : CommitPlan) (grant : GrantedNumbers) (store : ℕ → List ℕ)
+    (parts : ℕ → Part) (layout : Layout)
     (is : IsPlanOverParts num concerned old new image plan grant store parts) (clean : IsCleanPlan num concerned old new image plan grant layout parts) where
   abbrev whole : IsCommitPlan num concerned old new image plan grant
   whole = is.full.sound.whole
@@ -145,13 +153,20 @@ module _ (num : Numbering) (concerned : List ℕ) (old new : TreeState) (image :
 
     -- what is rewritten of the node, by its kind
     defined_as : (b : Bool) → is_directory new node.of.begun.node ≡ b
-        → defined ≡ cond b (directory_rewrite seen (slots_after commit.after new (commit.nets own) seen.slots)) (file_rewrite (has_page plan.files own) seen (bytes_of new own))
+        → defined
+        ≡ cond b (directory_rewrite seen (slots_after commit.after new (commit.nets own) seen.slots))
+        (file_rewrite (has_page plan.files own) seen (bytes_of new own))
     defined_as b e =
         ap (rewrite_defined commit new image plan.files) same_node
-        ∙ ap (λ b. cond b (directory_rewrite seen (slots_after commit.after new (commit.nets own) seen.slots)) (file_rewrite (has_page plan.files own) seen (bytes_of new own))) e
+        ∙ ap (λ b. cond b (directory_rewrite seen (slots_after commit.after new (commit.nets own) seen.slots))
+        (file_rewrite (has_page plan.files own) seen (bytes_of new own)))
+        e
 
     says : SayTheSame (rewrite_in node.seat) defined
-    says = plans_rewrite_as_defined num concerned old new image plan grant (record { full = is.full; pages = clean.contents.files.pages; behind = clean.contents.directories.behind }) node.seat (there_is_in (change_planned plan).seats node.m node.seat node.at)
+    says =
+        plans_rewrite_as_defined num concerned old new image plan grant
+        (record { full = is.full; pages = clean.contents.files.pages; behind = clean.contents.directories.behind }) node.seat
+        (there_is_in (change_planned plan).seats node.m node.seat node.at)
 
     -- behind its end nothing is left of it
     leaves_none : LeavesNone defined defined.blocks
@@ -166,15 +181,17 @@ module _ (num : Numbering) (concerned : List ℕ) (old new : TreeState) (image :
           none = λ n behind low unwritten. ((blocks_are_kept_or_rewritten seen slots n).0 unwritten).gone behind;
         }
 
-        no_pointer : (n : ℕ) → length (bytes_of new own) ≤ 4096 * n → n < FILE_BLOCKS → has_page plan.files own n ≡ false → kind_of old own ≡ File → seen.blocks n ≡ 0
+        no_pointer : (n : ℕ) → length (bytes_of new own) ≤ 4096 * n → n < FILE_BLOCKS → has_page plan.files own n ≡ false → kind_of old own ≡ File
+            → seen.blocks n ≡ 0
         no_pointer n behind low none file = by_number (num own) refl
           where
             by_number : (o : Option ℕ) → num own ≡ o → seen.blocks n ≡ 0
             by_number None e = ap (λ (o : Option ℕ). (option_map_or image.seen o blank).blocks n) e
-            by_number (Some j) e = ap (λ (o : Option ℕ). (option_map_or image.seen o blank).blocks n) e ∙ elim (cases_Bool (nat_eq ((image.seen j).blocks n) 0)) [
-              | inl zero ↦ eqb-true ((image.seen j).blocks n) 0 zero
-              | inr some ↦ absurd (pointed (eqb-false ((image.seen j).blocks n) 0 some))
-            ]
+            by_number (Some j) e =
+                ap (λ (o : Option ℕ). (option_map_or image.seen o blank).blocks n) e ∙ elim (cases_Bool (nat_eq ((image.seen j).blocks n) 0)) [
+                  | inl zero ↦ eqb-true ((image.seen j).blocks n) 0 zero
+                  | inr some ↦ absurd (pointed (eqb-false ((image.seen j).blocks n) 0 some))
+                ]
               where
                 low_j : j < image.count
                 low_j = whole.stands.within own j e
@@ -191,11 +208,14 @@ module _ (num : Numbering) (concerned : List ℕ) (old new : TreeState) (image :
                 size_j : (inode_in (parts j)).size ≡ length (bytes_of old own)
                 size_j =
                     sym (ap (λ (s : Seen). s.size) seen_j) ∙ shows_j.size
-                    ∙ ap (λ k. cond (nat_eq k 2) (4096 * (length (image.seen j).slots / 15)) (length (image.seen j).bytes)) (shows_j.kind ∙ ap kind_byte file) ∙ ap length shows_j.bytes
+                    ∙ ap (λ k. cond (nat_eq k 2) (4096 * (length (image.seen j).slots / 15)) (length (image.seen j).bytes)) (shows_j.kind ∙ ap kind_byte file)
+                    ∙ ap length shows_j.bytes
 
                 pointed : (image.seen j).blocks n ≢ 0 → ⊥
                 pointed some =
-                    let well = good_from_rule layout (parts j) n (good_before j low_j).pointers used (omega arith) (λ none. some (ap (λ (s : Seen). s.blocks n) seen_j ∙ none)) in
+                    let well =
+                    good_from_rule layout (parts j) n (good_before j low_j).pointers used (omega arith)
+                    (λ none. some (ap (λ (s : Seen). s.blocks n) seen_j ∙ none)) in
                     let covered = well.covers in
                     let first = blocks_cover n low in
                     true_not_false (sym (clean.ends own n node.of.among (omega (arith, covered, first, size_j)) behind) ∙ none)
@@ -211,16 +231,26 @@ module _ (num : Numbering) (concerned : List ℕ) (old new : TreeState) (image :
         by false e = subst (λ (r : Rewrite). LeavesNone r r.blocks) (sym (defined_as false e)) (of_file (sym (whole.follows.kinds own) ∙ file_kind new own e))
 
     -- the pointers afterwards are those of what is rewritten
-    pointer_defined : (place : ℕ) → place < PLACES → pointer_at after place ≡ pointer_after defined (fresh_for (rewrite_in node.seat) (fresh_cut (change_planned plan).seats grant.blocks node.m node.seat)) place
+    pointer_defined : (place : ℕ) → place < PLACES
+        → pointer_at after place
+        ≡ pointer_after defined (fresh_for (rewrite_in node.seat) (fresh_cut (change_planned plan).seats grant.blocks node.m node.seat)) place
     pointer_defined place low =
-        pointer_after_is num concerned old new image plan grant store parts is one there node place low ∙ sym (pointer_is num concerned old new image plan grant store parts is one there node place low)
-        ∙ (λ j. pointer_kept (meta_is num concerned old new image plan grant store parts is one there node j) (tables_are num concerned old new image plan grant store parts is one there node j) place)
-        ∙ remapped_pointers_stand node.seat.meta node.seat.tables node.seat.changed (fresh_cut (change_planned plan).seats grant.blocks node.m node.seat) place low
-        ∙ (take_same (rewrite_in node.seat) defined says).after (fresh_for (rewrite_in node.seat) (fresh_cut (change_planned plan).seats grant.blocks node.m node.seat)) place low
+        pointer_after_is num concerned old new image plan grant store parts is one there node place low
+        ∙ sym (pointer_is num concerned old new image plan grant store parts is one there node place low)
+        ∙ (λ j. pointer_kept (meta_is num concerned old new image plan grant store parts is one there node j)
+        (tables_are num concerned old new image plan grant store parts is one there node j) place)
+        ∙ remapped_pointers_stand node.seat.meta node.seat.tables node.seat.changed
+        (fresh_cut (change_planned plan).seats grant.blocks node.m node.seat) place low
+        ∙ (take_same (rewrite_in node.seat) defined says).after
+        (fresh_for (rewrite_in node.seat) (fresh_cut (change_planned plan).seats grant.blocks node.m node.seat)) place low
 
     end_is : defined.blocks ≡ ((inode_in after).size + 4095) / 4096
     end_is =
-        sym says.blocks ∙ sym (ap (λ (m : Inode). (m.size + 4095) / 4096) ((part_is_made num concerned old new image plan grant store parts is one there node).inode ∙ meta_is num concerned old new image plan grant store parts is one there node))
+        sym says.blocks
+        ∙ sym
+        (ap (λ (m : Inode). (m.size + 4095) / 4096)
+        ((part_is_made num concerned old new image plan grant store parts is one there node).inode
+        ∙ meta_is num concerned old new image plan grant store parts is one there node))
 
     -- so each pointer covers a byte below the size
     covered : (place : ℕ) → place < PLACES → pointer_at after place ≢ 0 → first_covered place < (inode_in after).size
@@ -237,9 +267,11 @@ module _ (num : Numbering) (concerned : List ℕ) (old new : TreeState) (image :
             let first = blocks_cover place block in
             none_after defined leaves_none fresh place (omega (arith, behind, first, end_is)) block
         none_there behind (inr table) =
-            let first : first_covered place ≡ 4096 * (108 + 1024 * (place - FILE_BLOCKS)) = cond-false (nat_lt place FILE_BLOCKS) _ _ (le-ltb place FILE_BLOCKS table) in
+            let first : first_covered place ≡ 4096 * (108 + 1024 * (place - FILE_BLOCKS)) =
+            cond-false (nat_lt place FILE_BLOCKS) _ _ (le-ltb place FILE_BLOCKS table) in
             let back : FILE_BLOCKS + (place - FILE_BLOCKS) ≡ place = omega arith in
-            ap (pointer_after defined fresh) (sym back) ∙ no_table_after defined leaves_none fresh (place - FILE_BLOCKS) (omega arith) (omega (arith, behind, first, end_is))
+            ap (pointer_after defined fresh) (sym back)
+            ∙ no_table_after defined leaves_none fresh (place - FILE_BLOCKS) (omega arith) (omega (arith, behind, first, end_is))
 
     built_points : (p : ℕ) → p < PLACES → pointer_at after p ≢ 0 → PointsWell layout after p
     built_points p low some =
@@ -250,12 +282,17 @@ module _ (num : Numbering) (concerned : List ℕ) (old new : TreeState) (image :
     built_is_good = by (kind_of new one.node) refl
       where
         record_is : breaks_record after ≡ false
-        record_is = ap is_some (ap inode_fault (raw_of (store_planned store plan grant) (inode_bytes one.meta)) ∙ inode_fault-inode_bytes one.meta (meta_fits num concerned old new image plan grant store parts is one there node))
+        record_is =
+            ap is_some
+            (ap inode_fault (raw_of (store_planned store plan grant) (inode_bytes one.meta))
+            ∙ inode_fault-inode_bytes one.meta (meta_fits num concerned old new image plan grant store parts is one there node))
 
         kind_after : (inode_in after).kind ≡ kind_byte (kind_of new one.node)
         kind_after =
-            ap (λ (m : Inode). m.kind) (part_is_made num concerned old new image plan grant store parts is one there node).inode ∙ node.shows.kind ∙ ap (λ n. (next.seen n).kind) node.inode
-            ∙ (shows_node num concerned old new image plan grant store parts is one there node).kind ∙ ap (λ x. kind_byte (kind_of new x)) (sym (one_node num concerned old new image plan grant store parts is one there node).built_is)
+            ap (λ (m : Inode). m.kind) (part_is_made num concerned old new image plan grant store parts is one there node).inode ∙ node.shows.kind
+            ∙ ap (λ n. (next.seen n).kind) node.inode
+            ∙ (shows_node num concerned old new image plan grant store parts is one there node).kind
+            ∙ ap (λ x. kind_byte (kind_of new x)) (sym (one_node num concerned old new image plan grant store parts is one there node).built_is)
 
         by : (kind : Kind) → kind_of new one.node ≡ kind → IsGoodPart layout after
         by File e = record {
@@ -270,12 +307,15 @@ module _ (num : Numbering) (concerned : List ℕ) (old new : TreeState) (image :
           size = (sizes_say after).1 (size_fits_after num concerned old new image plan grant store parts is clean.contents.directories one there node e);
           pointers = rule_from_good layout after built_points;
           tail = (tails_say after).1 (λ kind. absurd (let a = eqb-true (inode_in after).kind 1 kind in let b = kind_after ∙ ap kind_byte e in omega arith));
-          slots = no_fault_after num concerned old new image plan grant store parts is clean.contents.directories one there node e (λ j low. (good_before j low).slots);
+          slots =
+              no_fault_after num concerned old new image plan grant store parts is clean.contents.directories one there node e
+              (λ j low. (good_before j low).slots);
         }
 
   leave_good : HaveGoodBytes layout (part_next store parts plan grant)
   leave_good = all_good layout (part_next store parts plan grant) (λ i low.
-      by_part num concerned old new image plan grant store parts is (λ _ part. IsGoodPart layout part) built_is_good (λ _. free_is_good layout store) good_before i (subst (λ n. i < n) (sym clean.good.count) low))
+      by_part num concerned old new image plan grant store parts is (λ _ part. IsGoodPart layout part) built_is_good
+      (λ _. free_is_good layout store) good_before i (subst (λ n. i < n) (sym clean.good.count) low))
 
 pub plans_leave_good_bytes : PlansLeaveGoodBytes
 plans_leave_good_bytes = leave_good
@@ -290,11 +330,13 @@ slots_counted part directory =
 pub good_parts_fit : GoodPartsFit
 good_parts_fit store layout image parts standing good i directory =
     let seen_i : image.seen i ≡ seen_of (parts i) = standing.shown i directory.0 in
-    let is_one : is_directory_part (parts i) ≡ true = eq-eqb (inode_in (parts i)).kind (kind_byte Directory) (sym (ap (λ (s : Seen). s.kind) seen_i) ∙ directory.1) in
+    let is_one : is_directory_part (parts i) ≡ true =
+    eq-eqb (inode_in (parts i)).kind (kind_byte Directory) (sym (ap (λ (s : Seen). s.kind) seen_i) ∙ directory.1) in
     let fits = (sizes_say (parts i)).0 (good_part layout parts good.good i (subst (λ n. i < n) good.count directory.0)).size in
     let few = fits.few is_one in
     let taken = length-take ((inode_in (parts i)).size / 4096) (parts i).blocks in
-    let count : length (image.seen i).slots ≡ 15 * length (directory_blocks (parts i)) = ap (λ (s : Seen). length s.slots) seen_i ∙ slots_counted (parts i) is_one in
+    let count : length (image.seen i).slots ≡ 15 * length (directory_blocks (parts i)) =
+    ap (λ (s : Seen). length s.slots) seen_i ∙ slots_counted (parts i) is_one in
     omega (arith, few, taken, count)
 
 pub good_parts_have_none_behind : GoodPartsHaveNoneBehind
@@ -338,7 +380,8 @@ good_parts_have_none_behind store layout image parts standing good i n directory
         let taken = length-take ((inode_in (parts i)).size / 4096) (parts i).blocks in
         omega (arith, covered, first, whole, few, taken, short, slots_count, blocks_count)
 
-module _ (num : Numbering) (concerned : List ℕ) (old new : TreeState) (image : SeenInodes) (plan : CommitPlan) (grant : GrantedNumbers) (store : ℕ → List ℕ) (parts : ℕ → Part)
+module _ (num : Numbering) (concerned : List ℕ) (old new : TreeState) (image : SeenInodes) (plan : CommitPlan) (grant : GrantedNumbers) (store : ℕ → List ℕ)
+    (parts : ℕ → Part)
     (is : IsPlanOverParts num concerned old new image plan grant store parts) (contents : HasContents num concerned old new image plan grant parts) where
   abbrev nodes : List Built
   nodes = nodes_with_grant (change_planned plan) grant
@@ -353,7 +396,8 @@ module _ (num : Numbering) (concerned : List ℕ) (old new : TreeState) (image :
       by File e = sym (file_is_made num concerned old new image plan grant store parts is contents.files one there node e).kept
       by Directory e = sym (directory_is_made num concerned old new image plan grant store parts is contents.directories one there node e).kept
 
-  keep_parts : (entry : OldEntry) → Contains (after_commit (change_planned plan) grant) entry → entry.old.kept ≡ kept_of (part_next store parts plan grant entry.old.number)
+  keep_parts : (entry : OldEntry) → Contains (after_commit (change_planned plan) grant) entry
+      → entry.old.kept ≡ kept_of (part_next store parts plan grant entry.old.number)
   keep_parts entry there =
       let one = mapped_is_in entry_after nodes entry (ascending_is_in entry_node _ entry there) in
       let found = found_once (λ (b : Built). b.number) nodes (inodes_once num concerned old new image plan grant is.full.sound.whole) one.0 one.1 in

@@ -30,11 +30,13 @@ found_at : (numbers : List ℕ) (i k : ℕ) → place_among numbers i ≡ Some k
 found_at [] i k e = absurd (none_some e)
 found_at (j ∷ numbers) i k e = by (cases_Bool (nat_eq j i)) (place_among numbers i) refl (λ p. found_at numbers i p)
   where
-    further : (o : Option ℕ) → place_among numbers i ≡ o → option_map suc o ≡ Some k → ((p : ℕ) → place_among numbers i ≡ Some p → slice_get numbers p ≡ Some i) → slice_get (j ∷ numbers) k ≡ Some i
+    further : (o : Option ℕ) → place_among numbers i ≡ o → option_map suc o ≡ Some k → ((p : ℕ) → place_among numbers i ≡ Some p → slice_get numbers p ≡ Some i)
+        → slice_get (j ∷ numbers) k ≡ Some i
     further None is same later = absurd (none_some same)
     further (Some p) is same later = ap (slice_get (j ∷ numbers)) (sym (some_same same)) ∙ later p is
 
-    by : (nat_eq j i ≡ true) ⊎ (nat_eq j i ≡ false) → (o : Option ℕ) → place_among numbers i ≡ o → ((p : ℕ) → place_among numbers i ≡ Some p → slice_get numbers p ≡ Some i) → slice_get (j ∷ numbers) k ≡ Some i
+    by : (nat_eq j i ≡ true) ⊎ (nat_eq j i ≡ false) → (o : Option ℕ) → place_among numbers i ≡ o
+        → ((p : ℕ) → place_among numbers i ≡ Some p → slice_get numbers p ≡ Some i) → slice_get (j ∷ numbers) k ≡ Some i
     by (inl t) o is later = ap (slice_get (j ∷ numbers)) (sym (some_same (sym (cond-true (nat_eq j i) (Some 0) _ t) ∙ e))) ∙ ap Some (eqb-true j i t)
     by (inr f) o is later = further o is (ap (option_map suc) (sym is) ∙ sym (cond-false (nat_eq j i) (Some 0) _ f) ∙ e) later
 
@@ -72,11 +74,13 @@ some_there (x ∷ xs) zero within = (x, refl)
 some_there (x ∷ xs) (suc m) within = some_there xs m (omega arith)
 
 -- as many nodes are built as there are seats
-pub length_built : (changes : CommitChanges) (numbers : ℕ → Option ℕ) (seats : List Seated) (fresh : List ℕ) → length (nodes_built changes numbers seats fresh) ≡ length seats
+pub length_built : (changes : CommitChanges) (numbers : ℕ → Option ℕ) (seats : List Seated) (fresh : List ℕ)
+    → length (nodes_built changes numbers seats fresh) ≡ length seats
 length_built changes numbers [] fresh = refl
 length_built changes numbers (seat ∷ seats) fresh = ap suc (length_built changes numbers seats (drop (blocks_taken seat) fresh))
 
-module _ (commit : Commit) (change : Planned) (grant : GrantedNumbers) (old new : TreeState) (image : SeenInodes) (concerned : List ℕ) (is : IsCommitOf commit change grant old new image concerned) where
+module _ (commit : Commit) (change : Planned) (grant : GrantedNumbers) (old new : TreeState) (image : SeenInodes) (concerned : List ℕ)
+    (is : IsCommitOf commit change grant old new image concerned) where
   abbrev inodes : List ℕ
   inodes = inodes_built change grant
 
@@ -86,7 +90,9 @@ module _ (commit : Commit) (change : Planned) (grant : GrantedNumbers) (old new 
   -- an inode of a built node is listed with what is rewritten of it
   listed_at : (i m : ℕ) → slice_get inodes m ≡ Some i → (rewrite : Rewrite) × IsListed inodes rewrites i m rewrite
   listed_at i m there =
-      let long = length-map (nodes_with_grant change grant) (λ (one : Built). one.number) ∙ length_built change.changes (numbers_with change grant.inodes) change.seats grant.blocks in
+      let long =
+      length-map (nodes_with_grant change grant) (λ (one : Built). one.number)
+      ∙ length_built change.changes (numbers_with change grant.inodes) change.seats grant.blocks in
       let within = slice_get_within inodes m i there in
       elim (slice_get_cases rewrites m).1 [
         | inl found ↦ (found.0, record { inode = there; rewritten = found.2 })
@@ -95,7 +101,8 @@ module _ (commit : Commit) (change : Planned) (grant : GrantedNumbers) (old new 
 
   takes_at : (i m place : ℕ) (rewrite : Rewrite) → IsListed inodes rewrites i m rewrite → place < PLACES → commit.takes i place ≡ takes_place rewrite place
   takes_at i m place rewrite listed within =
-      is.takes i place ∙ ap (λ b. b && option_map_or (λ m. takes_in_row rewrites (place_in_row m place)) (place_among inodes i) false) (lt-ltb place PLACES within)
+      is.takes i place
+      ∙ ap (λ b. b && option_map_or (λ m. takes_in_row rewrites (place_in_row m place)) (place_among inodes i) false) (lt-ltb place PLACES within)
       ∙ ap (λ (o : Option ℕ). option_map_or (λ m. takes_in_row rewrites (place_in_row m place)) o false) (place_found inodes is.inodes_once i m listed.inode)
       ∙ place_takes rewrites m place rewrite listed.rewritten within
 
@@ -108,7 +115,8 @@ module _ (commit : Commit) (change : Planned) (grant : GrantedNumbers) (old new 
       by : (o : Option ℕ) → place_among inodes i ≡ o → option_map_or (λ m. takes_in_row rewrites (place_in_row m place)) o false ≡ true
           → (m : ℕ) × (rewrite : Rewrite) × IsListed inodes rewrites i m rewrite × (place < PLACES)
       by None e f = absurd (false_not_true f)
-      by (Some m) e f = let found = listed_at i m (found_at inodes i m e) in (m, found.0, found.1, ltb-true place PLACES (and_first (nat_lt place PLACES) _ test))
+      by (Some m) e f = let found = listed_at i m (found_at inodes i m e) in
+          (m, found.0, found.1, ltb-true place PLACES (and_first (nat_lt place PLACES) _ test))
 
   -- what a listed inode's blocks become
   abbrev rewrite_at : ℕ → Rewrite
@@ -119,7 +127,8 @@ module _ (commit : Commit) (change : Planned) (grant : GrantedNumbers) (old new 
 
   rewrite_found : (i m : ℕ) (rewrite : Rewrite) → IsListed inodes rewrites i m rewrite → rewrite_at i ≡ rewrite
   rewrite_found i m rewrite listed =
-      ap (λ (o : Option ℕ). option_map_or (λ m. unwrap_or (slice_get rewrites m) (rewrite_still (λ _. 0))) o (rewrite_still (λ _. 0))) (place_found inodes is.inodes_once i m listed.inode)
+      ap (λ (o : Option ℕ). option_map_or (λ m. unwrap_or (slice_get rewrites m) (rewrite_still (λ _. 0))) o (rewrite_still (λ _. 0)))
+      (place_found inodes is.inodes_once i m listed.inode)
       ∙ ap (λ (o : Option Rewrite). unwrap_or o (rewrite_still (λ _. 0))) listed.rewritten
 
   pub by_rank : TakesByRank commit image blocks_next inodes rewrites grant.blocks
@@ -128,19 +137,26 @@ module _ (commit : Commit) (change : Planned) (grant : GrantedNumbers) (old new 
     once = is.inodes_once;
     takes = takes_at;
     only = takes_only;
-    fresh = λ i m place there. is.fresh i place ∙ ap (λ (o : Option ℕ). option_map_or (λ m. granted_block rewrites grant.blocks (place_in_row m place)) o 0) (place_found inodes is.inodes_once i m there);
+    fresh =
+        λ i m place there. is.fresh i place
+        ∙ ap (λ (o : Option ℕ). option_map_or (λ m. granted_block rewrites grant.blocks (place_in_row m place)) o 0)
+        (place_found inodes is.inodes_once i m there);
     before = λ node i m place rewrite has listed within.
         let seat = map_there rewrite_in change.seats m rewrite listed.rewritten in
         let own = map_there (λ (s : Seated). s.node) change.seats m node (is.own node i m has listed.inode) in
         let same : seat.0 ≡ own.0 = some_same (sym seat.1 ∙ own.1) in
-        ap (λ (r : Rewrite). r.pointers place) (sym seat.2) ∙ is.pointers m place seat.0 seat.1 within ∙ ap (λ n. (seen_before commit image n).blocks place) (ap (λ (s : Seated). s.node) same ∙ own.2);
+        ap (λ (r : Rewrite). r.pointers place) (sym seat.2) ∙ is.pointers m place seat.0 seat.1 within
+        ∙ ap (λ n. (seen_before commit image n).blocks place) (ap (λ (s : Seated). s.node) same ∙ own.2);
     after = λ i m place rewrite listed within. ap (λ (r : Rewrite). pointer_after r (commit.fresh i) place) (rewrite_found i m rewrite listed);
   }
 
   -- what is rewritten of a node that is built
-  pub rewrite_of_node : (node m : ℕ) (rewrite : Rewrite) → slice_get (seated_nodes change) m ≡ Some node → slice_get rewrites m ≡ Some rewrite → rewrites_of_change commit change image node ≡ rewrite
+  pub rewrite_of_node : (node m : ℕ) (rewrite : Rewrite) → slice_get (seated_nodes change) m ≡ Some node → slice_get rewrites m ≡ Some rewrite
+      → rewrites_of_change commit change image node ≡ rewrite
   rewrite_of_node node m rewrite there at =
-      ap (λ (o : Option ℕ). option_map_or (λ m. unwrap_or (slice_get rewrites m) (rewrite_still (seen_before commit image node).blocks)) o (rewrite_still (seen_before commit image node).blocks)) (place_found (seated_nodes change) is.nodes_once node m there)
+      ap (λ (o : Option ℕ). option_map_or (λ m. unwrap_or (slice_get rewrites m) (rewrite_still (seen_before commit image node).blocks)) o
+      (rewrite_still (seen_before commit image node).blocks))
+      (place_found (seated_nodes change) is.nodes_once node m there)
       ∙ ap (λ (o : Option Rewrite). unwrap_or o (rewrite_still (seen_before commit image node).blocks)) at
 
   pointers_are : (node place : ℕ) → place < PLACES → (rewrites_of_change commit change image node).pointers place ≡ (seen_before commit image node).blocks place
@@ -149,7 +165,8 @@ module _ (commit : Commit) (change : Planned) (grant : GrantedNumbers) (old new 
       still : Rewrite
       still = rewrite_still (seen_before commit image node).blocks
 
-      by : (o : Option ℕ) → place_among (seated_nodes change) node ≡ o → (option_map_or (λ m. unwrap_or (slice_get rewrites m) still) o still).pointers place ≡ (seen_before commit image node).blocks place
+      by : (o : Option ℕ) → place_among (seated_nodes change) node ≡ o
+          → (option_map_or (λ m. unwrap_or (slice_get rewrites m) still) o still).pointers place ≡ (seen_before commit image node).blocks place
       by None e = refl
       by (Some m) e =
           let seat = map_there (λ (s : Seated). s.node) change.seats m node (found_at (seated_nodes change) node m e) in
@@ -157,7 +174,8 @@ module _ (commit : Commit) (change : Planned) (grant : GrantedNumbers) (old new 
           ∙ is.pointers m place seat.0 seat.1 within ∙ ap (λ n. (seen_before commit image n).blocks place) seat.2
 
   -- and so the image is made from the change
-  pub made_from : LeadTo old new change.changes.directories change.changes.nets → GrantServes image rewrites grant.blocks → IsMadeFrom commit old new image (rewrites_of_change commit change image) concerned
+  pub made_from : LeadTo old new change.changes.directories change.changes.nets → GrantServes image rewrites grant.blocks
+      → IsMadeFrom commit old new image (rewrites_of_change commit change image) concerned
   made_from leads serves =
       let blocks : TakesBlocks commit image blocks_next = ranks_take_free_blocks commit image blocks_next inodes rewrites grant.blocks serves by_rank in
       record {
@@ -168,7 +186,8 @@ module _ (commit : Commit) (change : Planned) (grant : GrantedNumbers) (old new 
         takes = λ node i place has concerns within.
             let at = is.seated node i has concerns in
             let found = listed_at i at.0 at.1.inode_there in
-            takes_at i at.0 place found.0 found.1 within ∙ ap (λ (r : Rewrite). takes_place r place) (sym (rewrite_of_node node at.0 found.0 at.1.node_there found.1.rewritten));
+            takes_at i at.0 place found.0 found.1 within
+            ∙ ap (λ (r : Rewrite). takes_place r place) (sym (rewrite_of_node node at.0 found.0 at.1.node_there found.1.rewritten));
         pointers = λ node place concerns within. pointers_are node place within;
         unheld = blocks.unheld;
         once = blocks.once;
@@ -176,4 +195,5 @@ module _ (commit : Commit) (change : Planned) (grant : GrantedNumbers) (old new 
 
 pub changes_make_commits : ChangesMakeCommits
 changes_make_commits commit change grant old new image concerned stands is leads serves =
-    made_images_are_commits commit old new image (rewrites_of_change commit change image) concerned stands (made_from commit change grant old new image concerned is leads serves)
+    made_images_are_commits commit old new image (rewrites_of_change commit change image) concerned stands
+    (made_from commit change grant old new image concerned is leads serves)

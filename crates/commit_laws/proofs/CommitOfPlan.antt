@@ -31,7 +31,8 @@ use Rattle.commit_laws.proofs.SeatsOfPlan.{there_is_in, numbers, after_once, aft
 use Rattle.commit_laws.proofs.Whole.{changes_leave_trees}
 
 -- what is rewritten of a node begins with the pointers that it has
-pub begun_pointers : (changes : CommitChanges) (begun : Begun) (kind : Kind) (place : ℕ) → (rewrite_in (seated_as kind changes begun)).pointers place ≡ pointer_kept begun.base begun.tables place
+pub begun_pointers : (changes : CommitChanges) (begun : Begun) (kind : Kind) (place : ℕ)
+    → (rewrite_in (seated_as kind changes begun)).pointers place ≡ pointer_kept begun.base begun.tables place
 begun_pointers changes begun File place = refl
 begun_pointers changes begun Directory place = refl
 
@@ -44,7 +45,8 @@ no_pointers one place = by (nat_lt place FILE_BLOCKS) (nat_lt place 108) (zeros_
     by true false a b = refl
     by false direct a b = b
 
-module _ (num : Numbering) (concerned : List ℕ) (old new : TreeState) (image : SeenInodes) (plan : CommitPlan) (grant : GrantedNumbers) (is : IsCommitPlan num concerned old new image plan grant) where
+module _ (num : Numbering) (concerned : List ℕ) (old new : TreeState) (image : SeenInodes) (plan : CommitPlan) (grant : GrantedNumbers)
+    (is : IsCommitPlan num concerned old new image plan grant) where
   abbrev change : Planned
   change = change_planned plan
 
@@ -70,7 +72,8 @@ module _ (num : Numbering) (concerned : List ℕ) (old new : TreeState) (image :
               absurd (true_not_false (sym (is.from.entering one.0 one.1) ∙ ap (is_among concerned) one.2 ∙ aside))
 
   -- a node is rewritten from what its inode shows before
-  pointers_are : (seat : Seated) → Contains change.seats seat → (place : ℕ) → place < PLACES → (rewrite_in seat).pointers place ≡ (seen_before commit image seat.node).blocks place
+  pointers_are : (seat : Seated) → Contains change.seats seat → (place : ℕ) → place < PLACES
+      → (rewrite_in seat).pointers place ≡ (seen_before commit image seat.node).blocks place
   pointers_are seat there place within = elim (seat_comes num concerned old new image plan grant is seat there) [
     | inl (entry, stay, same) ↦
         let kept = kept_in _ plan.old entry stay in
@@ -121,4 +124,6 @@ plans_make_commits num concerned old new image plan grant is = record {
 pub plans_leave_trees : PlansLeaveTrees
 plans_leave_trees num concerned old new image plan grant making is =
     let made = plans_make_commits num concerned old new image plan grant is.whole in
-    changes_leave_trees (commit_of num concerned plan grant) (change_planned plan) grant old new image concerned making is.whole.stands is.sound made.is made.leads is.whole.serves.blocks is.next_sound is.whole.follows is.storable
+    changes_leave_trees (commit_of num concerned plan grant)
+    (change_planned plan) grant old new image concerned making is.whole.stands is.sound made.is made.leads is.whole.serves.blocks is.next_sound
+    is.whole.follows is.storable

@@ -30,7 +30,8 @@ module _ (tree : TreeState) (directories : List ℕ) (node : ℕ) where
   times numbers = times_in numbers node
 
   -- a row counts for the node for which the nets count it
-  linking_is : (d : ℕ) (name : List ℕ) (x : ℕ) → is_directory tree d ≡ true → is_among directories x ≡ is_directory tree x → linking tree node ((d, name), x) ≡ nat_eq (linked directories d x) node
+  linking_is : (d : ℕ) (name : List ℕ) (x : ℕ) → is_directory tree d ≡ true → is_among directories x ≡ is_directory tree x
+      → linking tree node ((d, name), x) ≡ nat_eq (linked directories d x) node
   linking_is d name x holder known = by (is_directory tree node) (is_directory tree x) refl refl ∙ ap (λ b. nat_eq (cond b d x) node) (sym known)
     where
       apart : (a : ℕ) → is_directory tree a ≡ true → is_directory tree node ≡ false → nat_eq a node ≡ false
@@ -39,17 +40,20 @@ module _ (tree : TreeState) (directories : List ℕ) (node : ℕ) where
       other : (a : ℕ) → is_directory tree a ≡ false → is_directory tree node ≡ true → nat_eq a node ≡ false
       other a is_not is = not_same a node (λ e. true_not_false (sym is ∙ ap (is_directory tree) (sym e) ∙ is_not))
 
-      by : (of_node of_x : Bool) → is_directory tree node ≡ of_node → is_directory tree x ≡ of_x → cond of_node (holds_directory tree node) (names_it node) ((d, name), x) ≡ nat_eq (cond of_x d x) node
+      by : (of_node of_x : Bool) → is_directory tree node ≡ of_node → is_directory tree x ≡ of_x
+          → cond of_node (holds_directory tree node) (names_it node) ((d, name), x) ≡ nat_eq (cond of_x d x) node
       by true true n c = ap (λ b. nat_eq d node && b) c ∙ and_true (nat_eq d node)
       by true false n c = ap (λ b. nat_eq d node && b) c ∙ and_false (nat_eq d node) ∙ sym (other x c n)
       by false true n c = apart x c n ∙ sym (apart d holder n)
       by false false n c = refl
 
-  of_child : (d : ℕ) (name : List ℕ) (o : Option NodeId) → is_directory tree d ≡ true → ((x : ℕ) → number_of o ≡ Some x → is_among directories x ≡ is_directory tree x)
+  of_child : (d : ℕ) (name : List ℕ) (o : Option NodeId) → is_directory tree d ≡ true
+      → ((x : ℕ) → number_of o ≡ Some x → is_among directories x ≡ is_directory tree x)
       → counted_row (linking tree node) (d, name) (number_of o) ≡ times (option_to_list (linked_by directories d o))
   of_child d name None holder known = refl
   of_child d name (Some child) holder known =
-      ap one_if (linking_is d name child.0 holder (known child.0 refl)) ∙ from_plus_zero _ ∙ sym (count-cons (λ other. nat_eq other node) (linked directories d child.0) [])
+      ap one_if (linking_is d name child.0 holder (known child.0 refl)) ∙ from_plus_zero _
+      ∙ sym (count-cons (λ other. nat_eq other node) (linked directories d child.0) [])
 
   times_option : (o : Option ℕ) (numbers : List ℕ) → times (cons_option o numbers) ≡ times (option_to_list o) + times numbers
   times_option None numbers = from_zero_plus _
@@ -81,11 +85,13 @@ module _ (tree : TreeState) (directories : List ℕ) (node : ℕ) where
     rows_sum d [] holder known = refl
     rows_sum d (row ∷ rows) holder known =
         sum_by-cons counts (d, row) (map (λ row. (d, row)) rows)
-        ∙ (λ i. of_child d row.name (pick row) holder (known row (first_in row rows)) i + rows_sum d rows holder (λ other one. known other (further_in row other rows one)) i)
+        ∙ (λ i. of_child d row.name (pick row) holder (known row (first_in row rows)) i
+        + rows_sum d rows holder (λ other one. known other (further_in row other rows one)) i)
         ∙ sym (times_option (linked_by directories d (pick row)) (named d rows))
 
     -- and of all nets
-    nets_sum : (nets : List DirectoryNet) → ((one : DirectoryNet) → Contains nets one → is_directory tree one.node.0 ≡ true) → ((one : DirectoryNet) → Contains nets one → Known one.net.items)
+    nets_sum : (nets : List DirectoryNet) → ((one : DirectoryNet) → Contains nets one → is_directory tree one.node.0 ≡ true)
+        → ((one : DirectoryNet) → Contains nets one → Known one.net.items)
         → sum_by counts (flat_map (λ one. map (λ row. (one.node.0, row)) one.net.items) nets) ≡ times (flat_map (λ one. named one.node.0 one.net.items) nets)
     nets_sum [] holders known = refl
     nets_sum (one ∷ nets) holders known =
@@ -110,9 +116,16 @@ pub nets_count_links : NetsCountLinks
 nets_count_links old new directories nets node leads low =
     let balance = nets_give_links old new (net_of_node nets) (map net_node nets) node leads.between in
     let changes = changes_of_nets nets nets (own_net nets leads.ascend) in
-    let coming = ap (gained (linking new node)) changes ∙ nets_sum new directories node (λ row. row.after) nets leads.kinds.holders (λ one is row there x e. leads.kinds.children one is x (record { row = row; one = there; names = inr e })) in
-    let going = ap (lost (linking new node)) changes ∙ nets_sum new directories node (λ row. row.before) nets leads.kinds.holders (λ one is row there x e. leads.kinds.children one is x (record { row = row; one = there; names = inl e })) in
-    exact (links_of new node) (links_of old node) _ _ (times_in (rows_coming directories nets) node) (times_in (rows_going directories nets) node) balance coming going low
+    let coming =
+    ap (gained (linking new node)) changes
+    ∙ nets_sum new directories node (λ row. row.after) nets leads.kinds.holders
+    (λ one is row there x e. leads.kinds.children one is x (record { row = row; one = there; names = inr e })) in
+    let going =
+    ap (lost (linking new node)) changes
+    ∙ nets_sum new directories node (λ row. row.before) nets leads.kinds.holders
+    (λ one is row there x e. leads.kinds.children one is x (record { row = row; one = there; names = inl e })) in
+    exact (links_of new node) (links_of old node) _ _ (times_in (rows_coming directories nets) node)
+    (times_in (rows_going directories nets) node) balance coming going low
   where
     exact : (new old gain loss coming going : ℕ) → new + loss ≡ old + gain → gain ≡ coming → loss ≡ going → new < 2 ^ 32 → links_with old coming going ≡ new
     exact new old gain loss coming going e c g low = let left : old + coming - going ≡ new = omega arith in ap (λ n. min n (2 ^ 32 - 1)) left ∙ below new low

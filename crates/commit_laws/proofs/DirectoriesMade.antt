@@ -66,8 +66,10 @@ last_within (block ∷ blocks) = by (has_no_row block && nat_eq (blocks_to_last_
     by true low = omega arith
     by false low = omega arith
 
-module _ (num : Numbering) (concerned : List ℕ) (old new : TreeState) (image : SeenInodes) (plan : CommitPlan) (grant : GrantedNumbers) (store : ℕ → List ℕ) (parts : ℕ → Part)
-    (is : IsPlanOverParts num concerned old new image plan grant store parts) (contents : HasSlotContents new image plan grant) (one : Built) (there_one : Contains (nodes_with_grant (change_planned plan) grant) one)
+module _ (num : Numbering) (concerned : List ℕ) (old new : TreeState) (image : SeenInodes) (plan : CommitPlan) (grant : GrantedNumbers) (store : ℕ → List ℕ)
+    (parts : ℕ → Part)
+    (is : IsPlanOverParts num concerned old new image plan grant store parts) (contents : HasSlotContents new image plan grant) (one : Built)
+    (there_one : Contains (nodes_with_grant (change_planned plan) grant) one)
     (node : IsBuiltNode num concerned old new image plan grant is.full one) (directory : kind_of new one.node ≡ Directory) where
   abbrev whole : IsCommitPlan num concerned old new image plan grant
   whole = is.full.sound.whole
@@ -123,15 +125,20 @@ module _ (num : Numbering) (concerned : List ℕ) (old new : TreeState) (image :
 
   -- the slots that are built
   slots_are : one.slots ≡ map (block_numbered (numbers_with change grant.inodes) net) (take (blocks_to_last_row blocks) blocks)
-  slots_are = ap (λ (b : Built). b.slots) node.is ∙ (λ j. map (block_numbered (numbers_with change grant.inodes) (net_of_node plan.nets (same_node.seat_is j))) (seat_is_directory j).slots)
+  slots_are =
+      ap (λ (b : Built). b.slots) node.is
+      ∙ (λ j. map (block_numbered (numbers_with change grant.inodes) (net_of_node plan.nets (same_node.seat_is j))) (seat_is_directory j).slots)
 
   long_slots : length one.slots ≡ blocks_to_last_row blocks
-  long_slots = ap length slots_are ∙ length-map (take (blocks_to_last_row blocks) blocks) (block_numbered (numbers_with change grant.inodes) net) ∙ length-take-le (blocks_to_last_row blocks) blocks (last_within blocks)
+  long_slots =
+      ap length slots_are ∙ length-map (take (blocks_to_last_row blocks) blocks) (block_numbered (numbers_with change grant.inodes) net)
+      ∙ length-take-le (blocks_to_last_row blocks) blocks (last_within blocks)
 
   block_at : (n : ℕ) (d : Slots) → n < blocks_to_last_row blocks → get_or one.slots n d ≡ slots_in_block n slots
   block_at n d low =
       ap (λ those. get_or those n d) slots_are
-      ∙ get_or-map (block_numbered (numbers_with change grant.inodes) net) (take (blocks_to_last_row blocks) blocks) n empty_block d (omega (arith, low, length-take-le (blocks_to_last_row blocks) blocks (last_within blocks)))
+      ∙ get_or-map (block_numbered (numbers_with change grant.inodes) net) (take (blocks_to_last_row blocks) blocks) n empty_block d
+      (omega (arith, low, length-take-le (blocks_to_last_row blocks) blocks (last_within blocks)))
       ∙ ap (block_numbered (numbers_with change grant.inodes) net) (get_or-take (blocks_to_last_row blocks) blocks n empty_block low)
       ∙ sym (new_block num concerned old new image plan grant written node.m node.seat node.of n)
 
@@ -145,7 +152,8 @@ module _ (num : Numbering) (concerned : List ℕ) (old new : TreeState) (image :
   -- What is read of a block that is not rewritten: nothing stands there, or a block that the directory had.
   data ReadsAsBefore (n : ℕ) : Type 0 where
     nothing : (next.seen i).blocks n ≡ 0 → slots_in_block n slots ≡ empty_block → ReadsAsBefore n
-    stood : (j : ℕ) → j < image.count → is_directory_part (parts j) ≡ true → n < length (directory_blocks (parts j)) → reads n ≡ get_or (directory_blocks (parts j)) n []
+    stood : (j : ℕ) → j < image.count → is_directory_part (parts j) ≡ true → n < length (directory_blocks (parts j))
+        → reads n ≡ get_or (directory_blocks (parts j)) n []
         → slots_in_block n slots ≡ slots_of (get_or (directory_blocks (parts j)) n []) → ReadsAsBefore n
 
   read_before : (n : ℕ) → n < FILE_BLOCKS → rewrites_slots seen slots n ≡ false → ReadsAsBefore n
@@ -169,7 +177,8 @@ module _ (num : Numbering) (concerned : List ℕ) (old new : TreeState) (image :
           (slots_same ∙ ap (λ (o : Option ℕ). slots_in_block n (option_map_or image.seen o blank).slots) e ∙ none_in_block)
         where
           none_in_block : slots_in_block n [] ≡ empty_block
-          none_in_block = in_block_joined [] (long_blocks [] (λ block there. absurd (let low = there.1 in omega arith))) n ∙ get_or_past [] n empty_block (omega arith)
+          none_in_block =
+              in_block_joined [] (long_blocks [] (λ block there. absurd (let low = there.1 in omega arith))) n ∙ get_or_past [] n empty_block (omega arith)
       by (Some j) e = of_old (cases_lt n (length those))
         where
           low_j : j < image.count
@@ -179,13 +188,16 @@ module _ (num : Numbering) (concerned : List ℕ) (old new : TreeState) (image :
           seen_j = ap (λ (o : Option ℕ). option_map_or image.seen o blank) e ∙ is.standing.shown j low_j
 
           kind_j : is_directory_part (parts j) ≡ true
-          kind_j = eq-eqb (inode_in (parts j)).kind (kind_byte Directory) (sym (ap (λ (s : Seen). s.kind) (is.standing.shown j low_j)) ∙ (whole.stands.each begun.node j e).kind ∙ ap kind_byte kind_old)
+          kind_j =
+              eq-eqb (inode_in (parts j)).kind (kind_byte Directory)
+              (sym (ap (λ (s : Seen). s.kind) (is.standing.shown j low_j)) ∙ (whole.stands.each begun.node j e).kind ∙ ap kind_byte kind_old)
 
           those : List (List ℕ)
           those = directory_blocks (parts j)
 
           seen_slots : seen.slots ≡ slots_joined (map slots_of those)
-          seen_slots = ap (λ (s : Seen). s.slots) seen_j ∙ cond-true (is_directory_part (parts j)) (flat_map slots_of those) [] kind_j ∙ sym (joined_slots those)
+          seen_slots =
+              ap (λ (s : Seen). s.slots) seen_j ∙ cond-true (is_directory_part (parts j)) (flat_map slots_of those) [] kind_j ∙ sym (joined_slots those)
 
           in_block : slots_in_block n seen.slots ≡ get_or (map slots_of those) n empty_block
           in_block = ap (slots_in_block n) seen_slots ∙ in_block_joined (map slots_of those) (long_blocks (map slots_of those) (slot_blocks those)) n
@@ -199,7 +211,8 @@ module _ (num : Numbering) (concerned : List ℕ) (old new : TreeState) (image :
               taken : n < length those → get_or those n [] ≡ slice_index_or (parts j).blocks n []
               taken there = by_size (cases_lt n ((inode_in (parts j)).size / 4096))
                 where
-                  by_size : (n < (inode_in (parts j)).size / 4096) ⊎ ((inode_in (parts j)).size / 4096 ≤ n) → get_or those n [] ≡ slice_index_or (parts j).blocks n []
+                  by_size : (n < (inode_in (parts j)).size / 4096) ⊎ ((inode_in (parts j)).size / 4096 ≤ n)
+                      → get_or those n [] ≡ slice_index_or (parts j).blocks n []
                   by_size (inl below) = get_or-take ((inode_in (parts j)).size / 4096) (parts j).blocks n [] below
                   by_size (inr past) = absurd (let few = length-take ((inode_in (parts j)).size / 4096) (parts j).blocks in omega (arith, there, past, few))
           of_old (inr past) = nothing
@@ -231,17 +244,22 @@ module _ (num : Numbering) (concerned : List ℕ) (old new : TreeState) (image :
           zero_is : c.is_zero ≡ list_all is_none (slots_in_block n slots)
           zero_is = ap (λ (o : Option ChangedBlock). option_map_or (λ (one : ChangedBlock). one.is_zero) o false) (sym e) ∙ says.zero n below rewritten
 
-          kind_built : (built (numbers_with change grant.inodes) (net_of_node plan.nets node.seat.node) (unwrap_or ((numbers_with change grant.inodes) node.seat.node) 0) (fresh_cut change.seats grant.blocks node.m node.seat) node.seat).meta.kind ≡ 2
+          kind_built : (built (numbers_with change grant.inodes) (net_of_node plan.nets node.seat.node)
+              (unwrap_or ((numbers_with change grant.inodes) node.seat.node) 0) (fresh_cut change.seats grant.blocks node.m node.seat) node.seat).meta.kind
+              ≡ 2
           kind_built = ap (λ (s : Seated). s.meta.kind) seat_is_directory
 
-          slots_built : (built (numbers_with change grant.inodes) (net_of_node plan.nets node.seat.node) (unwrap_or ((numbers_with change grant.inodes) node.seat.node) 0) (fresh_cut change.seats grant.blocks node.m node.seat) node.seat).slots ≡ one.slots
+          slots_built : (built (numbers_with change grant.inodes) (net_of_node plan.nets node.seat.node)
+              (unwrap_or ((numbers_with change grant.inodes) node.seat.node) 0) (fresh_cut change.seats grant.blocks node.m node.seat) node.seat).slots
+              ≡ one.slots
           slots_built = ap (λ (b : Built). b.slots) (sym node.is)
 
           there : slice_get one.slots n ≡ Some (slots_in_block n slots)
           there = slice_get-get_or one.slots n empty_block (omega (arith, low, long_slots)) ∙ ap Some (block_at n empty_block low)
 
           by_zero : (c.is_zero ≡ true) ⊎ (c.is_zero ≡ false) → ReadsAsNew n
-          by_zero (inl empty) = emptied (zero_read num concerned old new image plan grant store parts is one there_one node n below c e empty) (sym zero_is ∙ empty)
+          by_zero (inl empty) =
+              emptied (zero_read num concerned old new image plan grant store parts is one there_one node n below c e empty) (sym zero_is ∙ empty)
           by_zero (inr full) = filled
               (data_read num concerned old new image plan grant store parts is one there_one node n below c e full
               ∙ cond-true (nat_eq _ 2) _ _ (ap (λ k. nat_eq k 2) kind_built)
@@ -250,7 +268,8 @@ module _ (num : Numbering) (concerned : List ℕ) (old new : TreeState) (image :
 
   -- a block that is not rewritten has its slots as before, and one that is has the new ones
   kept_block : (n : ℕ) → ReadsAsBefore n → slots_of (reads n) ≡ slots_in_block n slots
-  kept_block n (nothing none same) = ap slots_of (hole_is_read (store_planned store plan grant) _ none) ∙ empty_blocks_are_holes n slots (ap (list_all is_none) same)
+  kept_block n (nothing none same) =
+      ap slots_of (hole_is_read (store_planned store plan grant) _ none) ∙ empty_blocks_are_holes n slots (ap (list_all is_none) same)
   kept_block n (stood j low kind there read same) = ap slots_of read ∙ sym same
 
   new_slots : (n : ℕ) → ReadsAsNew n → slots_of (reads n) ≡ slots_in_block n slots
@@ -270,7 +289,8 @@ module _ (num : Numbering) (concerned : List ℕ) (old new : TreeState) (image :
 
   size_same : (inode_in after).size / 4096 ≡ blocks_to_last_row blocks
   size_same =
-      ap (λ (m : Inode). m.size / 4096) made_part.inode ∙ ap (λ (b : Built). b.meta.size / 4096) node.is ∙ ap (λ (s : Seated). s.meta.size / 4096) seat_is_directory
+      ap (λ (m : Inode). m.size / 4096) made_part.inode ∙ ap (λ (b : Built). b.meta.size / 4096) node.is
+      ∙ ap (λ (s : Seated). s.meta.size / 4096) seat_is_directory
       ∙ whole_size (blocks_to_last_row blocks) few
     where
       whole_size : (b : ℕ) → b ≤ DIRECTORY_BLOCKS → size_of_blocks b / 4096 ≡ b
@@ -285,10 +305,12 @@ module _ (num : Numbering) (concerned : List ℕ) (old new : TreeState) (image :
   long_after : length (directory_blocks after) ≡ blocks_to_last_row blocks
   long_after =
       ap (λ n. length (take n after.blocks)) size_same
-      ∙ length-take-le (blocks_to_last_row blocks) after.blocks (let most = few in let all = (part_is_made num concerned old new image plan grant store parts is one there_one node).made.blocks in omega arith)
+      ∙ length-take-le (blocks_to_last_row blocks) after.blocks
+      (let most = few in let all = (part_is_made num concerned old new image plan grant store parts is one there_one node).made.blocks in omega arith)
 
   kept_slots_are : map slots_of (directory_blocks after) ≡ one.slots
-  kept_slots_are = ext_get_or empty_block (map slots_of (directory_blocks after)) one.slots (length-map (directory_blocks after) slots_of ∙ long_after ∙ sym long_slots)
+  kept_slots_are =
+      ext_get_or empty_block (map slots_of (directory_blocks after)) one.slots (length-map (directory_blocks after) slots_of ∙ long_after ∙ sym long_slots)
       (λ n inside.
       let low : n < blocks_to_last_row blocks = omega (arith, inside, length-map (directory_blocks after) slots_of, long_after) in
       get_or-map slots_of (directory_blocks after) n [] empty_block (omega (arith, low, long_after))
@@ -307,7 +329,9 @@ module _ (num : Numbering) (concerned : List ℕ) (old new : TreeState) (image :
   pub no_fault_after : ((j : ℕ) → j < image.count → breaks_slots (parts j) ≡ false) → breaks_slots after ≡ false
   no_fault_after sound = (slots_say after).1 (λ kind n d inside.
       let low : n < blocks_to_last_row blocks = omega (arith, inside, long_after) in
-      ap slots_fault (ap (λ m. get_or (take m after.blocks) n d) size_same ∙ get_or-take (blocks_to_last_row blocks) after.blocks n d low ∙ get_or_default after.blocks n d [] (let most = few in let all = made_part.made.blocks in omega arith)
+      ap slots_fault
+      (ap (λ m. get_or (take m after.blocks) n d) size_same ∙ get_or-take (blocks_to_last_row blocks) after.blocks n d low
+      ∙ get_or_default after.blocks n d [] (let most = few in let all = made_part.made.blocks in omega arith)
       ∙ content_is num concerned old new image plan grant store parts is one there_one node n (let most = few in omega arith))
       ∙ elim (cases_Bool (rewrites_slots seen slots n)) [
         | inl t ↦ fault_new n (read_new n low t)
@@ -344,9 +368,15 @@ module _ (num : Numbering) (concerned : List ℕ) (old new : TreeState) (image :
       kind = ap (λ (m : Inode). m.kind) made_part.inode ∙ node.shows.kind;
       links = ap (λ (m : Inode). m.links) made_part.inode ∙ node.shows.links;
       size = ap (λ (m : Inode). m.size) made_part.inode ∙ node.shows.size;
-      slots = cond-true (is_directory_part after) (flat_map slots_of (directory_blocks after)) [] is_directory_after ∙ sym (joined_slots (directory_blocks after)) ∙ ap slots_joined kept_slots_are ∙ node.shows.slots;
-      bytes = ap (λ k. cond (nat_eq k 1) (tabulate (inode_in after).size (file_byte after)) []) kind_after ∙ sym (ap (λ n. (next.seen n).bytes) node.inode ∙ shows.bytes ∙ plain);
-      blocks = λ place low. pointer_after_is num concerned old new image plan grant store parts is one there_one node place low ∙ ap (λ n. (next.seen n).blocks place) (sym node.inode);
+      slots =
+          cond-true (is_directory_part after) (flat_map slots_of (directory_blocks after)) [] is_directory_after ∙ sym (joined_slots (directory_blocks after))
+          ∙ ap slots_joined kept_slots_are ∙ node.shows.slots;
+      bytes =
+          ap (λ k. cond (nat_eq k 1) (tabulate (inode_in after).size (file_byte after)) []) kind_after
+          ∙ sym (ap (λ n. (next.seen n).bytes) node.inode ∙ shows.bytes ∙ plain);
+      blocks =
+          λ place low. pointer_after_is num concerned old new image plan grant store parts is one there_one node place low
+          ∙ ap (λ n. (next.seen n).blocks place) (sym node.inode);
     };
   }
     where
@@ -354,8 +384,11 @@ module _ (num : Numbering) (concerned : List ℕ) (old new : TreeState) (image :
       shows = shows_node num concerned old new image plan grant store parts is one there_one node
 
       plain : bytes_of new begun.node ≡ []
-      plain = is.full.sound.storable.limits.plain begun.node (directory_by_kind new begun.node ∙ ap is_directory_kind (ap (kind_of new) (sym same_node.built_is) ∙ directory))
+      plain =
+          is.full.sound.storable.limits.plain begun.node
+          (directory_by_kind new begun.node ∙ ap is_directory_kind (ap (kind_of new) (sym same_node.built_is) ∙ directory))
 
 pub plans_make_directories : PlansMakeDirectories
 plans_make_directories num concerned old new image plan grant store parts is contents one there directory =
-    directory_is_made num concerned old new image plan grant store parts is contents one there (node_built num concerned old new image plan grant is.full one there) directory
+    directory_is_made num concerned old new image plan grant store parts is contents one there
+    (node_built num concerned old new image plan grant is.full one there) directory

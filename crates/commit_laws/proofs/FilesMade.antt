@@ -63,14 +63,17 @@ zeros_past (byte ∷ bytes) m (suc k) = zeros_past bytes m k
 
 -- each byte of a block is that of the file
 pub byte_in_block : (n r : ℕ) (bytes : List ℕ) → r < 4096 → slice_index (bytes_in_block n bytes) r ≡ slice_index bytes (4096 * n + r)
-byte_in_block n r bytes low = get_or-take 4096 (drop (4096 * n) bytes ++ zeros 4096) r 0 low ∙ zeros_past (drop (4096 * n) bytes) 4096 r ∙ get_or-drop (4096 * n) bytes r 0
+byte_in_block n r bytes low =
+    get_or-take 4096 (drop (4096 * n) bytes ++ zeros 4096) r 0 low ∙ zeros_past (drop (4096 * n) bytes) 4096 r ∙ get_or-drop (4096 * n) bytes r 0
 
 pub length_block : (n : ℕ) (bytes : List ℕ) → length (bytes_in_block n bytes) ≡ 4096
-length_block n bytes = length-take-le 4096 (drop (4096 * n) bytes ++ zeros 4096) (omega (arith, length-append (drop (4096 * n) bytes) (zeros 4096), length-zeros 4096))
+length_block n bytes =
+    length-take-le 4096 (drop (4096 * n) bytes ++ zeros 4096) (omega (arith, length-append (drop (4096 * n) bytes) (zeros 4096), length-zeros 4096))
 
 -- a block without a byte that is not 0 is one of zeros
 zero_block : (block : List ℕ) → length block ≡ 4096 → is_none (nonzero_in 0 4096 block) ≡ true → zeros 4096 ≡ block
-zero_block block long none = sym (part_from_none 0 4096 block (omega arith) (by (nonzero_in 0 4096 block) none)) ∙ ap (take 4096) (drop_zero block) ∙ take_all 4096 block (omega arith)
+zero_block block long none =
+    sym (part_from_none 0 4096 block (omega arith) (by (nonzero_in 0 4096 block) none)) ∙ ap (take 4096) (drop_zero block) ∙ take_all 4096 block (omega arith)
   where
     by : (o : Option ℕ) → is_none o ≡ true → o ≡ None
     by None t = refl
@@ -80,8 +83,10 @@ zero_block block long none = sym (part_from_none 0 4096 block (omega arith) (by 
 no_bytes : (n : ℕ) → zeros 4096 ≡ bytes_in_block n []
 no_bytes n = sym (ap (λ those. take 4096 (those ++ zeros 4096)) (drop_none (4096 * n)) ∙ take_all 4096 (zeros 4096) (omega (arith, length-zeros 4096)))
 
-module _ (num : Numbering) (concerned : List ℕ) (old new : TreeState) (image : SeenInodes) (plan : CommitPlan) (grant : GrantedNumbers) (store : ℕ → List ℕ) (parts : ℕ → Part)
-    (is : IsPlanOverParts num concerned old new image plan grant store parts) (blocks : HasFileBlocks num concerned old new plan parts) (one : Built) (there_one : Contains (nodes_with_grant (change_planned plan) grant) one)
+module _ (num : Numbering) (concerned : List ℕ) (old new : TreeState) (image : SeenInodes) (plan : CommitPlan) (grant : GrantedNumbers) (store : ℕ → List ℕ)
+    (parts : ℕ → Part)
+    (is : IsPlanOverParts num concerned old new image plan grant store parts) (blocks : HasFileBlocks num concerned old new plan parts) (one : Built)
+    (there_one : Contains (nodes_with_grant (change_planned plan) grant) one)
     (node : IsBuiltNode num concerned old new image plan grant is.full one) (file : kind_of new one.node ≡ File) where
   abbrev whole : IsCommitPlan num concerned old new image plan grant
   whole = is.full.sound.whole
@@ -139,31 +144,44 @@ module _ (num : Numbering) (concerned : List ℕ) (old new : TreeState) (image :
   no_bytes_before none = elim (seat_comes num concerned old new image plan grant whole node.seat (there_is_in change.seats node.m node.seat node.at)) [
     | inl (entry, stay, same) ↦
         let there = (kept_in _ plan.old entry stay).0 in
-        let here : begun.node ≡ entry.node.0 = sym same_node.seat_is ∙ ap (λ (s : Seated). s.node) (sym same) ∙ planned_node change.changes (begun_old entry) (begun_old entry).kind in
+        let here : begun.node ≡ entry.node.0 =
+        sym same_node.seat_is ∙ ap (λ (s : Seated). s.node) (sym same) ∙ planned_node change.changes (begun_old entry) (begun_old entry).kind in
         absurd (none_some (sym none ∙ ap num here ∙ whole.from.numbered.old_numbers entry there))
     | inr (enter, there, same) ↦
-        let here : begun.node ≡ enter.node.0 = sym same_node.seat_is ∙ ap (λ (s : Seated). s.node) (sym same) ∙ planned_node change.changes (begun_entering enter) (begun_entering enter).kind in
+        let here : begun.node ≡ enter.node.0 =
+        sym same_node.seat_is ∙ ap (λ (s : Seated). s.node) (sym same) ∙ planned_node change.changes (begun_entering enter) (begun_entering enter).kind in
         ap (bytes_of old) here ∙ is.full.sizes.entering enter there
   ]
 
-  untouched_block : (n : ℕ) → n < FILE_BLOCKS → item_with page_block n (pages_of_node plan.files begun.node) ≡ None → slice_index_or after.blocks n [] ≡ bytes_in_block n (bytes_of new begun.node)
-  untouched_block n low none = content_is num concerned old new image plan grant store parts is one there_one node n low ∙ ap (read_block (store_planned store plan grant)) stays ∙ by (num begun.node) refl ∙ sym (blocks.untouched begun.node n node.of.among (ap is_some none))
+  untouched_block : (n : ℕ) → n < FILE_BLOCKS → item_with page_block n (pages_of_node plan.files begun.node) ≡ None
+      → slice_index_or after.blocks n [] ≡ bytes_in_block n (bytes_of new begun.node)
+  untouched_block n low none =
+      content_is num concerned old new image plan grant store parts is one there_one node n low ∙ ap (read_block (store_planned store plan grant)) stays
+      ∙ by (num begun.node) refl ∙ sym (blocks.untouched begun.node n node.of.among (ap is_some none))
     where
       stays : (next.seen i).blocks n ≡ (seen_before commit image begun.node).blocks n
       stays =
           block_is num concerned old new image plan grant store parts is one there_one node n low None (changed_is n ∙ ap (option_map page_said) none)
-          ∙ (made num concerned old new image plan grant is.full).is.pointers node.m n node.seat node.at (omega arith) ∙ ap (λ x. (seen_before commit image x).blocks n) same_node.seat_is
+          ∙ (made num concerned old new image plan grant is.full).is.pointers node.m n node.seat node.at (omega arith)
+          ∙ ap (λ x. (seen_before commit image x).blocks n) same_node.seat_is
 
-      by : (o : Option ℕ) → num begun.node ≡ o → read_block (store_planned store plan grant) ((seen_before commit image begun.node).blocks n) ≡ bytes_in_block n (bytes_of old begun.node)
+      by : (o : Option ℕ) → num begun.node ≡ o
+          → read_block (store_planned store plan grant) ((seen_before commit image begun.node).blocks n) ≡ bytes_in_block n (bytes_of old begun.node)
       by None e =
-          hole_is_read (store_planned store plan grant) _ (ap (λ (o : Option ℕ). (option_map_or image.seen o blank).blocks n) e) ∙ no_bytes n ∙ ap (bytes_in_block n) (sym (no_bytes_before e))
+          hole_is_read (store_planned store plan grant) _ (ap (λ (o : Option ℕ). (option_map_or image.seen o blank).blocks n) e) ∙ no_bytes n
+          ∙ ap (bytes_in_block n) (sym (no_bytes_before e))
       by (Some j) e =
           let low_j = whole.stands.within begun.node j e in
-          ap (read_block (store_planned store plan grant)) (ap (λ (o : Option ℕ). (option_map_or image.seen o blank).blocks n) e ∙ ap (λ (s : Seen). s.blocks n) (is.standing.shown j low_j))
-          ∙ old_read num concerned old new image plan grant store parts is one there_one node j n low_j low ∙ blocks.before begun.node j node.of.among e kind_old n low
+          ap (read_block (store_planned store plan grant))
+          (ap (λ (o : Option ℕ). (option_map_or image.seen o blank).blocks n) e ∙ ap (λ (s : Seen). s.blocks n) (is.standing.shown j low_j))
+          ∙ old_read num concerned old new image plan grant store parts is one there_one node j n low_j low
+          ∙ blocks.before begun.node j node.of.among e kind_old n low
 
-  touched_block : (n : ℕ) → n < FILE_BLOCKS → (page : Page) → item_with page_block n (pages_of_node plan.files begun.node) ≡ Some page → slice_index_or after.blocks n [] ≡ bytes_in_block n (bytes_of new begun.node)
-  touched_block n low page is_page = content_is num concerned old new image plan grant store parts is one there_one node n low ∙ by (cases_Bool (page_said page).is_zero) ∙ page_bytes new plan blocks.pages begun.node n page is_page
+  touched_block : (n : ℕ) → n < FILE_BLOCKS → (page : Page) → item_with page_block n (pages_of_node plan.files begun.node) ≡ Some page
+      → slice_index_or after.blocks n [] ≡ bytes_in_block n (bytes_of new begun.node)
+  touched_block n low page is_page =
+      content_is num concerned old new image plan grant store parts is one there_one node n low ∙ by (cases_Bool (page_said page).is_zero)
+      ∙ page_bytes new plan blocks.pages begun.node n page is_page
     where
       said : change_of node.seat.changed n ≡ Some (page_said page)
       said = changed_is n ∙ ap (option_map page_said) is_page
@@ -171,8 +189,11 @@ module _ (num : Numbering) (concerned : List ℕ) (old new : TreeState) (image :
       long : length page.bytes ≡ 4096
       long = ap length (page_bytes new plan blocks.pages begun.node n page is_page) ∙ length_block n (bytes_of new begun.node)
 
-      by : ((page_said page).is_zero ≡ true) ⊎ ((page_said page).is_zero ≡ false) → read_block (store_planned store plan grant) ((next.seen i).blocks n) ≡ page.bytes
-      by (inl empty) = zero_read num concerned old new image plan grant store parts is one there_one node n low (page_said page) said empty ∙ zero_block page.bytes long empty
+      by : ((page_said page).is_zero ≡ true) ⊎ ((page_said page).is_zero ≡ false)
+          → read_block (store_planned store plan grant) ((next.seen i).blocks n) ≡ page.bytes
+      by (inl empty) =
+          zero_read num concerned old new image plan grant store parts is one there_one node n low (page_said page) said empty
+          ∙ zero_block page.bytes long empty
       by (inr full) = data_read num concerned old new image plan grant store parts is one there_one node n low (page_said page) said full ∙ content
         where
           kind_file : (built (numbers_with change grant.inodes) net number own node.seat).meta.kind ≡ 1
@@ -181,12 +202,14 @@ module _ (num : Numbering) (concerned : List ℕ) (old new : TreeState) (image :
           content : content_of (built (numbers_with change grant.inodes) net number own node.seat) pages n ≡ page.bytes
           content =
               cond-false (nat_eq (built (numbers_with change grant.inodes) net number own node.seat).meta.kind 2) _ _ (ap (λ k. nat_eq k 2) kind_file)
-              ∙ ap (λ (o : Option Page). option_map_or (λ p. p.bytes) o zero_bytes) (ap (λ x. item_with page_block n (pages_of_node plan.files x)) same_node.seat_is ∙ is_page)
+              ∙ ap (λ (o : Option Page). option_map_or (λ p. p.bytes) o zero_bytes)
+              (ap (λ x. item_with page_block n (pages_of_node plan.files x)) same_node.seat_is ∙ is_page)
 
   pub file_blocks : HasBytesInBlocks after (bytes_of new begun.node)
   file_blocks n low = by (item_with page_block n (pages_of_node plan.files begun.node)) refl
     where
-      by : (o : Option Page) → item_with page_block n (pages_of_node plan.files begun.node) ≡ o → slice_index_or after.blocks n [] ≡ bytes_in_block n (bytes_of new begun.node)
+      by : (o : Option Page) → item_with page_block n (pages_of_node plan.files begun.node) ≡ o
+          → slice_index_or after.blocks n [] ≡ bytes_in_block n (bytes_of new begun.node)
       by None e = untouched_block n low e
       by (Some page) e = touched_block n low page e
 
@@ -200,7 +223,9 @@ module _ (num : Numbering) (concerned : List ℕ) (old new : TreeState) (image :
   made_part = part_is_made num concerned old new image plan grant store parts is one there_one node
 
   kind_next : (next.seen i).kind ≡ kind_byte File
-  kind_next = (shows_node num concerned old new image plan grant store parts is one there_one node).kind ∙ ap kind_byte (ap (kind_of new) (sym same_node.built_is) ∙ file)
+  kind_next =
+      (shows_node num concerned old new image plan grant store parts is one there_one node).kind
+      ∙ ap kind_byte (ap (kind_of new) (sym same_node.built_is) ∙ file)
 
   kind_after : (inode_in after).kind ≡ kind_byte File
   kind_after = ap (λ (m : Inode). m.kind) made_part.inode ∙ node.shows.kind ∙ ap (λ (s : Seen). s.kind) next_is ∙ kind_next
@@ -244,7 +269,9 @@ module _ (num : Numbering) (concerned : List ℕ) (old new : TreeState) (image :
       slots = ap (λ k. cond (nat_eq k 2) (flat_map slots_of (directory_blocks after)) []) kind_after ∙ sym (ap slots_joined no_slots) ∙ node.shows.slots;
       bytes = byte_blocks_show after (bytes_of new begun.node) (record { kind = kind_after; size = size_after; each = each_byte })
           ∙ sym (ap (λ (s : Seen). s.bytes) next_is ∙ (shows_node num concerned old new image plan grant store parts is one there_one node).bytes);
-      blocks = λ place low. pointer_after_is num concerned old new image plan grant store parts is one there_one node place low ∙ ap (λ (s : Seen). s.blocks place) (sym next_is);
+      blocks =
+          λ place low. pointer_after_is num concerned old new image plan grant store parts is one there_one node place low
+          ∙ ap (λ (s : Seen). s.blocks place) (sym next_is);
     };
   }
     where
@@ -260,4 +287,5 @@ module _ (num : Numbering) (concerned : List ℕ) (old new : TreeState) (image :
 
 pub plans_make_files : PlansMakeFiles
 plans_make_files num concerned old new image plan grant store parts is blocks one there file =
-    file_is_made num concerned old new image plan grant store parts is blocks one there (node_built num concerned old new image plan grant is.full one there) file
+    file_is_made num concerned old new image plan grant store parts is blocks one there
+    (node_built num concerned old new image plan grant is.full one there) file

@@ -53,7 +53,8 @@ all_good layout parts each (suc (suc (suc (suc (suc (suc (suc (suc rule)))))))) 
 pub zeros_have_no_fault : slots_fault (zeros 4096) ≡ None
 unfolding slots_fault
 zeros_have_no_fault =
-    ap (λ (o : Option ℕ). option_or o (nonzero_in 3960 136 (zeros 4096))) (first_of-from 15 (fault_in (zeros 4096)) (λ k low. ap (option_map (λ at. 264 * k + at)) (ap slot_fault (inside (264 * k) 264 (omega arith)) ∙ none)))
+    ap (λ (o : Option ℕ). option_or o (nonzero_in 3960 136 (zeros 4096)))
+    (first_of-from 15 (fault_in (zeros 4096)) (λ k low. ap (option_map (λ at. 264 * k + at)) (ap slot_fault (inside (264 * k) 264 (omega arith)) ∙ none)))
     ∙ nonzero_in-zeros 3960 136 (zeros 4096) rest
   where
     whole : part 0 4096 (zeros 4096) ≡ zeros 4096
@@ -103,7 +104,8 @@ module _ (rewrite : Rewrite) (leaves : LeavesNone rewrite rewrite.blocks) (fresh
       empty : table_has_pointer rewrite t ≡ false
       empty = none_in_range (has_pointer rewrite) (first_block t) 1024 (λ n at within. none_has n (omega arith) (omega arith))
 
-      by : (b : Bool) → rewrites_table rewrite t ≡ b → cond b (cond (table_has_pointer rewrite t) (fresh (FILE_BLOCKS + t)) 0) (rewrite.pointers (FILE_BLOCKS + t)) ≡ 0
+      by : (b : Bool) → rewrites_table rewrite t ≡ b
+          → cond b (cond (table_has_pointer rewrite t) (fresh (FILE_BLOCKS + t)) 0) (rewrite.pointers (FILE_BLOCKS + t)) ≡ 0
       by true e = ap (λ c. cond c (fresh (FILE_BLOCKS + t)) 0) empty
       by false e = elim (cases_Bool (nat_eq (rewrite.pointers (FILE_BLOCKS + t)) 0)) [
         | inl none ↦ eqb-true (rewrite.pointers (FILE_BLOCKS + t)) 0 none
@@ -112,4 +114,5 @@ module _ (rewrite : Rewrite) (leaves : LeavesNone rewrite rewrite.blocks) (fresh
         where
           there : nat_eq (rewrite.pointers (FILE_BLOCKS + t)) 0 ≡ false → rewrites_table rewrite t ≡ true
           there some =
-              (λ i. list_any (changes_pointer rewrite) (table_blocks t) || (not (some i) && le-leb rewrite.blocks (first_block t) behind i)) ∙ or_true (list_any (changes_pointer rewrite) (table_blocks t))
+              (λ i. list_any (changes_pointer rewrite) (table_blocks t) || (not (some i) && le-leb rewrite.blocks (first_block t) behind i))
+              ∙ or_true (list_any (changes_pointer rewrite) (table_blocks t))

@@ -57,13 +57,15 @@ module _ (said : ℕ → Option ChangedBlock) (own : (n : ℕ) (one : ChangedBlo
       by : (o : Option ChangedBlock) → said a ≡ o → All (λ (one : ChangedBlock). b < one.block) (filter_map said (range_with_len (a + 1) n))
           → All (λ (one : ChangedBlock). b < one.block) (cons_option o (filter_map said (range_with_len (a + 1) n)))
       by None e rest = rest
-      by (Some one) e rest = All-cons (λ (one : ChangedBlock). b < one.block) one (filter_map said (range_with_len (a + 1) n)) (let at = own a one e in omega arith) rest
+      by (Some one) e rest =
+          All-cons (λ (one : ChangedBlock). b < one.block) one (filter_map said (range_with_len (a + 1) n)) (let at = own a one e in omega arith) rest
 
   said_ascends : (a n : ℕ) → AscendByBlock (filter_map said (range_with_len a n))
   said_ascends a zero = λ i j d lt within. absurd (omega arith)
   said_ascends a (suc n) = by (said a) refl (said_ascends (a + 1) n)
     where
-      by : (o : Option ChangedBlock) → said a ≡ o → AscendByBlock (filter_map said (range_with_len (a + 1) n)) → AscendByBlock (cons_option o (filter_map said (range_with_len (a + 1) n)))
+      by : (o : Option ChangedBlock) → said a ≡ o → AscendByBlock (filter_map said (range_with_len (a + 1) n))
+          → AscendByBlock (cons_option o (filter_map said (range_with_len (a + 1) n)))
       by None e rest = rest
       by (Some one) e rest =
           AllPairs-cons (λ first later. first.block < later.block) one (filter_map said (range_with_len (a + 1) n))
@@ -90,7 +92,8 @@ found_once key xs once x there = by (find (λ y. nat_eq (key y) (key x)) xs) ref
 
     none_found : {Y : Type 0} (test : Y → Bool) (ys : List Y) (y : Y) → Contains ys y → test y ≡ true → find test ys ≡ None → ⊥
     none_found test [] y (k, within, is) passes none = absurd (omega arith)
-    none_found test (first ∷ ys) y (zero, within, is) passes none = none_some (sym none ∙ cond-true (test first) (Some first) (find test ys) (ap test is ∙ passes))
+    none_found test (first ∷ ys) y (zero, within, is) passes none =
+        none_some (sym none ∙ cond-true (test first) (Some first) (find test ys) (ap test is ∙ passes))
     none_found test (first ∷ ys) y (suc k, within, is) passes none = step (test first) none (λ rest. none_found test ys y (k, omega arith, is) passes rest)
       where
         step : (b : Bool) → cond b (Some first) (find test ys) ≡ None → (find test ys ≡ None → ⊥) → ⊥
@@ -107,7 +110,8 @@ found_once key xs once x there = by (find (λ y. nat_eq (key y) (key x)) xs) ref
         let places = once there_y.0 at.0 (key x) first second in
         sym there_y.1 ∙ ap (slice_get xs) places ∙ at.1
 
-module _ (num : Numbering) (concerned : List ℕ) (old new : TreeState) (image : SeenInodes) (plan : CommitPlan) (grant : GrantedNumbers) (store : ℕ → List ℕ) (parts : ℕ → Part)
+module _ (num : Numbering) (concerned : List ℕ) (old new : TreeState) (image : SeenInodes) (plan : CommitPlan) (grant : GrantedNumbers) (store : ℕ → List ℕ)
+    (parts : ℕ → Part)
     (is : IsPlanOverParts num concerned old new image plan grant store parts) where
   abbrev change : Planned
   change = change_planned plan
@@ -122,7 +126,8 @@ module _ (num : Numbering) (concerned : List ℕ) (old new : TreeState) (image :
       let of = seat_is num concerned old new image plan grant is.full at.0 seat at.1 in
       subst (λ (s : Seated). AscendByBlock s.changed) of.begins (by_kind of.begun of.begun.kind)
     where
-      of_file : (begun : Begun) (o : Option FileChange) → item_with file_node begun.node plan.files ≡ o → AscendByBlock (option_map_or (λ (one : FileChange). file_changed one.pages.items) o [])
+      of_file : (begun : Begun) (o : Option FileChange) → item_with file_node begun.node plan.files ≡ o
+          → AscendByBlock (option_map_or (λ (one : FileChange). file_changed one.pages.items) o [])
       of_file begun None e = λ i j d lt within. absurd (omega arith)
       of_file begun (Some one) e = pages_ascend one.pages.items (is.over.pages one (found_is_in (λ item. nat_eq (file_node item) begun.node) plan.files one e))
 
@@ -132,7 +137,8 @@ module _ (num : Numbering) (concerned : List ℕ) (old new : TreeState) (image :
           let net = net_of_node plan.nets begun.node in
           let blocks = slot_blocks_after change.changes.directories net begun.slots in
           let touched = directory_touched change.changes.directories net begun.slots in
-          said_ascends (block_said (pointer_kept begun.base begun.tables) blocks touched) (said_at (pointer_kept begun.base begun.tables) blocks touched) 0 (min (length blocks) FILE_BLOCKS)
+          said_ascends (block_said (pointer_kept begun.base begun.tables) blocks touched) (said_at (pointer_kept begun.base begun.tables) blocks touched) 0
+          (min (length blocks) FILE_BLOCKS)
 
   pub grant_for : IsGrantFor change.seats grant.blocks
   grant_for = record { enough = is.full.sound.whole.serves.blocks.enough ∙ needs_are_those change.seats; some = is.over.some }
@@ -169,21 +175,27 @@ module _ (num : Numbering) (concerned : List ℕ) (old new : TreeState) (image :
       by None e = refl
       by (Some one) e =
           let at = in_is_there fresh one (found_is_in (λ (one : FreshBlock). nat_eq one.block (pointer_at (parts i) place)) fresh one e) in
-          let same : one.block ≡ pointer_at (parts i) place = eqb-true one.block (pointer_at (parts i) place) (found_passes (λ (one : FreshBlock). nat_eq one.block (pointer_at (parts i) place)) fresh one e) in
-          let there : slice_get (map (λ (one : FreshBlock). one.block) fresh) at.0 ≡ Some one.block = slice_get-map (λ (one : FreshBlock). one.block) fresh at.0 ∙ ap (option_map (λ (one : FreshBlock). one.block)) at.1 in
+          let same : one.block ≡ pointer_at (parts i) place =
+          eqb-true one.block (pointer_at (parts i) place)
+          (found_passes (λ (one : FreshBlock). nat_eq one.block (pointer_at (parts i) place)) fresh one e) in
+          let there : slice_get (map (λ (one : FreshBlock). one.block) fresh) at.0 ≡ Some one.block =
+          slice_get-map (λ (one : FreshBlock). one.block) fresh at.0 ∙ ap (option_map (λ (one : FreshBlock). one.block)) at.1 in
           let in_fresh = slice_get_within fresh at.0 one at.1 in
           absurd (is.full.sound.whole.serves.blocks.free at.0 i place (subst (λ n. at.0 < n) long_fresh in_fresh) within low
           (ap (λ (s : Seen). s.blocks place) (is.standing.shown i within) ∙ sym same
-          ∙ sym (get_or_from_slice_get (map (λ (one : FreshBlock). one.block) fresh) at.0 one.block 0 there) ∙ ap (λ those. slice_index those at.0) fresh_numbers))
+          ∙ sym (get_or_from_slice_get (map (λ (one : FreshBlock). one.block) fresh) at.0 one.block 0 there)
+          ∙ ap (λ those. slice_index those at.0) fresh_numbers))
 
 pub plans_write_apart : PlansWriteApart
 plans_write_apart num concerned old new image plan grant store parts is = record {
   own = λ j k in_j in_k same.
       is.full.sound.whole.serves.blocks.once j k (omega (arith, in_j, long)) (omega (arith, in_k, long))
-      (sym (number_of_block num concerned old new image plan grant store parts is j in_j) ∙ same ∙ number_of_block num concerned old new image plan grant store parts is k in_k);
+      (sym (number_of_block num concerned old new image plan grant store parts is j in_j) ∙ same
+      ∙ number_of_block num concerned old new image plan grant store parts is k in_k);
   free = λ i place k within low in_k same.
       is.full.sound.whole.serves.blocks.free k i place (omega (arith, in_k, long)) within low
-      (ap (λ (s : Seen). s.blocks place) (is.standing.shown i within) ∙ sym same ∙ number_of_block num concerned old new image plan grant store parts is k in_k);
+      (ap (λ (s : Seen). s.blocks place) (is.standing.shown i within) ∙ sym same
+      ∙ number_of_block num concerned old new image plan grant store parts is k in_k);
 }
   where
     long : length (blocks_planned plan grant) ≡ length grant.blocks

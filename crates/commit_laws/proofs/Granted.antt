@@ -69,7 +69,10 @@ given_by f (x ∷ xs) y has = given_first f x xs y (f x) refl has (λ rest. give
 -- a block that is rewritten is said to be
 is_said : (changed : List ChangedBlock) (one : ChangedBlock) → Contains changed one → is_some (change_of changed one.block) ≡ true
 is_said [] one (k, within, is) = absurd (omega arith)
-is_said (first ∷ changed) one (zero, within, is) = ap is_some (cond-true (nat_eq first.block one.block) (Some first) (change_of changed one.block) (ap (λ (c : ChangedBlock). nat_eq c.block one.block) is ∙ same_number one.block))
+is_said (first ∷ changed) one (zero, within, is) =
+    ap is_some
+    (cond-true (nat_eq first.block one.block) (Some first) (change_of changed one.block)
+    (ap (λ (c : ChangedBlock). nat_eq c.block one.block) is ∙ same_number one.block))
 is_said (first ∷ changed) one (suc k, within, is) = by (nat_eq first.block one.block) (is_said changed one (k, omega arith, is))
   where
     by : (b : Bool) → is_some (change_of changed one.block) ≡ true → is_some (cond b (Some first) (change_of changed one.block)) ≡ true
@@ -96,11 +99,13 @@ module _ (numbers : ℕ → Option ℕ) (net : List NetRow) (number : ℕ) (fres
   stands : (place : ℕ) → place < PLACES → pointer_built one_built place ≡ pointer_after rewrite (fresh_for rewrite fresh) place
   stands place within = remapped_pointers_stand seat.meta seat.tables seat.changed fresh place within
 
-  fresh_there : (place : ℕ) → pointer_built one_built place ≡ fresh_for rewrite fresh place → pointer_built one_built place ≢ 0 → Contains fresh (pointer_built one_built place)
+  fresh_there : (place : ℕ) → pointer_built one_built place ≡ fresh_for rewrite fresh place → pointer_built one_built place ≢ 0
+      → Contains fresh (pointer_built one_built place)
   fresh_there place is some = subst (λ b. Contains fresh b) (sym is) (is_in fresh _ (λ e. some (is ∙ e)))
 
   -- a block of data that is written
-  data_granted : (one : ChangedBlock) → Contains seat.changed one → (written : TxBlock) → data_written one_built pages one ≡ Some written → Contains fresh written.block
+  data_granted : (one : ChangedBlock) → Contains seat.changed one → (written : TxBlock) → data_written one_built pages one ≡ Some written
+      → Contains fresh written.block
   data_granted one there written e = by (one.is_zero || (nat_le FILE_BLOCKS one.block || nat_eq (pointer_built one_built one.block) 0)) refl e
     where
       granted : nat_le FILE_BLOCKS one.block ≡ false → nat_eq (pointer_built one_built one.block) 0 ≡ false → Contains fresh (pointer_built one_built one.block)
@@ -110,22 +115,28 @@ module _ (numbers : ℕ → Option ℕ) (net : List NetRow) (number : ℕ) (fres
           let not_hole = eqb-false (pointer_built one_built one.block) 0 some in
           let at : pointer_built one_built one.block ≡ cond (rewrite.is_zero one.block) 0 (fresh_for rewrite fresh one.block) =
           stands one.block (omega arith) ∙ cond-true (nat_lt one.block FILE_BLOCKS) _ _ (lt-ltb one.block FILE_BLOCKS below)
-          ∙ cond-true (rewrite.is_rewritten one.block) (cond (rewrite.is_zero one.block) 0 (fresh_for rewrite fresh one.block)) (rewrite.pointers one.block) (is_said seat.changed one there) in
+          ∙ cond-true (rewrite.is_rewritten one.block) (cond (rewrite.is_zero one.block) 0 (fresh_for rewrite fresh one.block)) (rewrite.pointers one.block)
+          (is_said seat.changed one there) in
           elim (cases_Bool (rewrite.is_zero one.block)) [
             | inl t ↦ absurd (not_hole (at ∙ cond-true (rewrite.is_zero one.block) 0 _ t))
             | inr f ↦ fresh_there one.block (at ∙ cond-false (rewrite.is_zero one.block) 0 (fresh_for rewrite fresh one.block) f) not_hole
           ]
 
-      by : (b : Bool) → (one.is_zero || (nat_le FILE_BLOCKS one.block || nat_eq (pointer_built one_built one.block) 0)) ≡ b → data_written one_built pages one ≡ Some written → Contains fresh written.block
+      by : (b : Bool) → (one.is_zero || (nat_le FILE_BLOCKS one.block || nat_eq (pointer_built one_built one.block) 0)) ≡ b
+          → data_written one_built pages one ≡ Some written → Contains fresh written.block
       by true t e = absurd (none_some (sym (cond-true _ None _ t) ∙ e))
       by false f e =
           let rest = or_second one.is_zero _ f in
-          subst (λ (w : TxBlock). Contains fresh w.block) (some_same (sym (cond-false _ None _ f) ∙ e)) (granted (or_first (nat_le FILE_BLOCKS one.block) _ rest) (or_second (nat_le FILE_BLOCKS one.block) _ rest))
+          subst (λ (w : TxBlock). Contains fresh w.block) (some_same (sym (cond-false _ None _ f) ∙ e))
+          (granted (or_first (nat_le FILE_BLOCKS one.block) _ rest) (or_second (nat_le FILE_BLOCKS one.block) _ rest))
 
   -- an indirect block that is written
   table_granted : (k : ℕ) → k < 16 → (written : TxBlock) → table_of_place one_built k ≡ Some written → Contains fresh written.block
   table_granted k within written e =
-      by (table_fate rewrite k) refl (ap (λ fate. indirect_block_written fate (slice_index one_built.meta.indirect k) (find (λ t. nat_eq t.place k) one_built.tables)) (sym (get_or-tabulate 16 (table_fate rewrite) k Stays within)) ∙ e)
+      by (table_fate rewrite k) refl
+      (ap (λ fate. indirect_block_written fate (slice_index one_built.meta.indirect k) (find (λ t. nat_eq t.place k) one_built.tables))
+      (sym (get_or-tabulate 16 (table_fate rewrite) k Stays within))
+      ∙ e)
     where
       own : slice_index one_built.meta.indirect k ≡ pointer_built one_built (FILE_BLOCKS + k)
       own = sym (own_place one_built.meta one_built.tables k)
@@ -134,9 +145,12 @@ module _ (numbers : ℕ → Option ℕ) (net : List NetRow) (number : ℕ) (fres
       is_fresh fate =
           let back : FILE_BLOCKS + k - FILE_BLOCKS ≡ k = omega arith in
           stands (FILE_BLOCKS + k) (omega arith) ∙ cond-false (nat_lt (FILE_BLOCKS + k) FILE_BLOCKS) _ _ (le-ltb (FILE_BLOCKS + k) FILE_BLOCKS (omega arith))
-          ∙ fresh_if_written (rewrites_table rewrite (FILE_BLOCKS + k - FILE_BLOCKS)) (table_has_pointer rewrite (FILE_BLOCKS + k - FILE_BLOCKS)) (ap (table_fate rewrite) back ∙ fate) (fresh_for rewrite fresh (FILE_BLOCKS + k)) (rewrite.pointers (FILE_BLOCKS + k))
+          ∙ fresh_if_written (rewrites_table rewrite (FILE_BLOCKS + k - FILE_BLOCKS)) (table_has_pointer rewrite (FILE_BLOCKS + k - FILE_BLOCKS))
+          (ap (table_fate rewrite) back ∙ fate) (fresh_for rewrite fresh (FILE_BLOCKS + k)) (rewrite.pointers (FILE_BLOCKS + k))
 
-      by : (fate : TableFate) → table_fate rewrite k ≡ fate → indirect_block_written fate (slice_index one_built.meta.indirect k) (find (λ t. nat_eq t.place k) one_built.tables) ≡ Some written → Contains fresh written.block
+      by : (fate : TableFate) → table_fate rewrite k ≡ fate
+          → indirect_block_written fate (slice_index one_built.meta.indirect k) (find (λ t. nat_eq t.place k) one_built.tables) ≡ Some written
+          → Contains fresh written.block
       by Stays is e = absurd (none_some e)
       by Goes is e = absurd (none_some e)
       by IsWritten is e = elim (cases_Bool (nat_eq (slice_index one_built.meta.indirect k) 0)) [
@@ -149,10 +163,13 @@ module _ (numbers : ℕ → Option ℕ) (net : List NetRow) (number : ℕ) (fres
 
   -- all fresh blocks of a node
   node_granted : (written : TxBlock) → Contains (fresh_written one_built pages) written → Contains fresh written.block
-  node_granted written has = elim (Contains-append_cases (filter_map (data_written one_built pages) seat.changed) (filter_map (table_of_place one_built) (range_with_len 0 TABLES)) written has) [
-    | inl data_ ↦ let one = given_by (data_written one_built pages) seat.changed written data_ in data_granted one.0 one.1 written one.2
-    | inr table ↦ let one = given_by (table_of_place one_built) (range_with_len 0 TABLES) written table in table_granted one.0 (in_range one.0 one.1) written one.2
-  ]
+  node_granted written has =
+      elim (Contains-append_cases (filter_map (data_written one_built pages) seat.changed)
+      (filter_map (table_of_place one_built) (range_with_len 0 TABLES)) written has) [
+        | inl data_ ↦ let one = given_by (data_written one_built pages) seat.changed written data_ in data_granted one.0 one.1 written one.2
+        | inr table ↦ let one = given_by (table_of_place one_built) (range_with_len 0 TABLES) written table in
+            table_granted one.0 (in_range one.0 one.1) written one.2
+      ]
     where
       in_range : (k : ℕ) → Contains (range_with_len 0 16) k → k < 16
       in_range k (i, within, is) = let low = length-range_with_len 0 16 in let at = get_or-range_with_len 0 16 i k (omega arith) in omega (arith, is, at)
@@ -161,8 +178,12 @@ all_granted : (changes : CommitChanges) (numbers : ℕ → Option ℕ) (files : 
     → Contains (flat_map (fresh_of_node files) (nodes_built changes numbers seats fresh)) written → Contains fresh written.block
 all_granted changes numbers files [] fresh written (k, within, is) = absurd (omega arith)
 all_granted changes numbers files (seat ∷ seats) fresh written has =
-    elim (Contains-append_cases (fresh_of_node files (first_built)) (flat_map (fresh_of_node files) (nodes_built changes numbers seats (drop (blocks_taken seat) fresh))) written has) [
-      | inl own ↦ in_taken (blocks_taken seat) fresh written.block (node_granted numbers (net_of_node changes.nets seat.node) (unwrap_or (numbers seat.node) 0) (take (blocks_taken seat) fresh) seat (pages_of_node files seat.node) written own)
+    elim (Contains-append_cases (fresh_of_node files (first_built))
+    (flat_map (fresh_of_node files) (nodes_built changes numbers seats (drop (blocks_taken seat) fresh))) written has) [
+      | inl own ↦
+          in_taken (blocks_taken seat) fresh written.block
+          (node_granted numbers (net_of_node changes.nets seat.node) (unwrap_or (numbers seat.node) 0) (take (blocks_taken seat) fresh) seat
+          (pages_of_node files seat.node) written own)
       | inr later ↦ in_dropped (blocks_taken seat) fresh written.block (all_granted changes numbers files seats (drop (blocks_taken seat) fresh) written later)
     ]
   where

@@ -50,7 +50,9 @@ pub filled_is : (slots : Slots) (rows : List Row) → filled slots rows ≡ fill
 filled_is [] [] = refl
 filled_is [] (row ∷ rows) = refl
 filled_is (slot ∷ slots) [] =
-    sym (ap (λ front. front ++ map Some (rows_left (slot ∷ slots) [])) (fill_none (slot ∷ slots)) ∙ ap (λ rows. (slot ∷ slots) ++ map Some rows) (drop_none (count_by is_none (slot ∷ slots))) ∙ append-nil (slot ∷ slots))
+    sym
+    (ap (λ front. front ++ map Some (rows_left (slot ∷ slots) [])) (fill_none (slot ∷ slots))
+    ∙ ap (λ rows. (slot ∷ slots) ++ map Some rows) (drop_none (count_by is_none (slot ∷ slots))) ∙ append-nil (slot ∷ slots))
 filled_is (None ∷ slots) (row ∷ rows) =
     ap (λ rest. Some row ∷ rest) (filled_is slots rows ∙ (λ i. fill_front slots (sym (drop_zero rows) i) ++ map Some (sym left i)))
   where
@@ -60,7 +62,9 @@ filled_is (None ∷ slots) (row ∷ rows) =
         next : (n : ℕ) → 1 + n ≡ suc n
         next n = omega arith
 filled_is (Some held ∷ slots) (row ∷ rows) =
-    ap (λ rest. Some held ∷ rest) (filled_is slots (row ∷ rows) ∙ ap (λ n. fill_front slots (row ∷ rows) ++ map Some (drop n (row ∷ rows))) (sym (count-cons is_none (Some held) slots ∙ zero_plus _)))
+    ap (λ rest. Some held ∷ rest)
+    (filled_is slots (row ∷ rows)
+    ∙ ap (λ n. fill_front slots (row ∷ rows) ++ map Some (drop n (row ∷ rows))) (sym (count-cons is_none (Some held) slots ∙ zero_plus _)))
 
 -- rows that are each changed
 module _ (f : Row → Row) where
@@ -89,7 +93,8 @@ module _ (f : Row → Row) where
   pub in_blocks_mapped : (slots : Slots) → map (option_map f) (in_blocks slots) ≡ in_blocks (map (option_map f) slots)
   in_blocks_mapped slots =
       let n : ℕ = 15 * ((rows_end slots + 14) / 15) in
-      taken_mapped n (slots ++ replicate n None) ∙ ap (take n) (map-append (option_map f) slots (replicate n None) ∙ ap (λ rest. map (option_map f) slots ++ rest) (empty_mapped n))
+      taken_mapped n (slots ++ replicate n None)
+      ∙ ap (take n) (map-append (option_map f) slots (replicate n None) ∙ ap (λ rest. map (option_map f) slots ++ rest) (empty_mapped n))
       ∙ ap (λ e. take (15 * ((e + 14) / 15)) (map (option_map f) slots ++ replicate (15 * ((e + 14) / 15)) None)) (sym (rows_end_mapped slots))
 
 pub joined_mapped : (f : Option Row → Option Row) (blocks : List Slots) → slots_joined (map (map f) blocks) ≡ map f (slots_joined blocks)
@@ -123,7 +128,8 @@ fill_empties (suc m) (row ∷ rows) within =
     let rest = fill_empties m rows (omega arith) in
     (rest.0, ap (λ slots. Some row ∷ slots) (ap (fill_front (replicate m None)) (drop_zero rows) ∙ rest.1))
 
-pub added_blocks : (rows : List Row) → (j : ℕ) × (slots_joined (map (block_added rows) (range_with_len 0 (blocks_for rows))) ≡ map Some rows ++ replicate j None)
+pub added_blocks : (rows : List Row)
+    → (j : ℕ) × (slots_joined (map (block_added rows) (range_with_len 0 (blocks_for rows))) ≡ map Some rows ++ replicate j None)
 added_blocks rows =
     let padding = fill_empties (15 * blocks_for rows) rows (enough (length rows)) in
     (padding.0, joined_added rows (blocks_for rows) ∙ padding.1)
@@ -192,7 +198,8 @@ end_is (block ∷ blocks) long = elim (cases_Bool (nat_eq (rows_end (slots_joine
   | inl t ↦
       let none = eqb-true (rows_end (slots_joined blocks)) 0 t in
       let rest : blocks_to_last_row blocks ≡ 0 = end_is blocks long.1 ∙ ap (λ n. (n + 14) / 15) none in
-      (λ i. cond (no_row_is block i && nat_eq (rest i) 0) 0 (suc (rest i))) ∙ first (rows_end block) (omega (arith, rows_end_within block, long.0)) ∙ ap (λ n. (n + 14) / 15) (sym (end_in_first block (slots_joined blocks) none))
+      (λ i. cond (no_row_is block i && nat_eq (rest i) 0) 0 (suc (rest i))) ∙ first (rows_end block) (omega (arith, rows_end_within block, long.0))
+      ∙ ap (λ n. (n + 14) / 15) (sym (end_in_first block (slots_joined blocks) none))
   | inr f ↦
       let some = eqb-false (rows_end (slots_joined blocks)) 0 f in
       let rest = end_is blocks long.1 in
@@ -223,7 +230,8 @@ joined_taken [] long (suc n) = none (15 * suc n)
     none (suc m) = refl
 joined_taken (block ∷ blocks) long zero = sym (take_none (block ++ slots_joined blocks))
 joined_taken (block ∷ blocks) long (suc n) =
-    ap (λ rest. block ++ rest) (joined_taken blocks long.1 n) ∙ sym (take-append-add block (slots_joined blocks) (15 * n)) ∙ ap (λ m. take m (block ++ slots_joined blocks)) (let whole = long.0 in omega arith)
+    ap (λ rest. block ++ rest) (joined_taken blocks long.1 n) ∙ sym (take-append-add block (slots_joined blocks) (15 * n))
+    ∙ ap (λ m. take m (block ++ slots_joined blocks)) (let whole = long.0 in omega arith)
 
 pub joined_kept : (blocks : List Slots) → AreLong blocks → slots_joined (take (blocks_to_last_row blocks) blocks) ≡ in_blocks (slots_joined blocks)
 joined_kept blocks long =
@@ -231,4 +239,5 @@ joined_kept blocks long =
     let n : ℕ = (rows_end slots + 14) / 15 in
     let low = rows_end_within slots in
     let whole = length_joined blocks long in
-    ap (λ k. slots_joined (take k blocks)) (end_is blocks long) ∙ joined_taken blocks long n ∙ sym (take-append-le (15 * n) slots (replicate (15 * n) None) (omega arith))
+    ap (λ k. slots_joined (take k blocks)) (end_is blocks long) ∙ joined_taken blocks long n
+    ∙ sym (take-append-le (15 * n) slots (replicate (15 * n) None) (omega arith))

@@ -25,10 +25,12 @@ kept_parts_show store part gathered = record {
   kind = refl;
   links = refl;
   size = refl;
-  slots = elim (is_directory_part part) as (λ b. slots_joined (cond b (map slots_of (directory_blocks part)) []) ≡ cond b (Rattle.std.specs.List.flat_map slots_of (directory_blocks part)) []) [
-    | true ↦ joined_slots (directory_blocks part)
-    | false ↦ refl
-  ];
+  slots =
+      elim (is_directory_part part) as (λ b. slots_joined (cond b (map slots_of (directory_blocks part)) [])
+      ≡ cond b (Rattle.std.specs.List.flat_map slots_of (directory_blocks part)) []) [
+        | true ↦ joined_slots (directory_blocks part)
+        | false ↦ refl
+      ];
   blocks = elim (is_directory_part part) as (λ b. AreSlotBlocks (cond b (map slots_of (directory_blocks part)) [])) [
     | true ↦ slot_blocks (directory_blocks part)
     | false ↦ λ block there. absurd (let within = there.1 in omega arith)

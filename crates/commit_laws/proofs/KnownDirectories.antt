@@ -82,19 +82,21 @@ module _ (tree : TreeState) (old : List OldEntry) (enter : List Enter)
       by false e = absurd (none_some e)
 
   among_is_directory : (node : ℕ) → is_among directories node ≡ true → is_directory tree node ≡ true
-  among_is_directory node t = elim (Contains-append_cases (filter_map directory_old old) (filter_map directory_entering enter) node (among_is_in directories node t)) [
-    | inl there ↦
-        let entry = given_by directory_old old node there in
-        let own = given_old entry.0 node entry.2 in
-        ap (is_directory tree) (sym own.1) ∙ sym (olds entry.0 entry.1) ∙ own.0
-    | inr there ↦
-        let one = given_by directory_entering enter node there in
-        let own = given_entering one.0 node one.2 in
-        ap (is_directory tree) (sym own.1) ∙ sym (enters one.0 one.1) ∙ own.0
-  ]
+  among_is_directory node t =
+      elim (Contains-append_cases (filter_map directory_old old) (filter_map directory_entering enter) node (among_is_in directories node t)) [
+        | inl there ↦
+            let entry = given_by directory_old old node there in
+            let own = given_old entry.0 node entry.2 in
+            ap (is_directory tree) (sym own.1) ∙ sym (olds entry.0 entry.1) ∙ own.0
+        | inr there ↦
+            let one = given_by directory_entering enter node there in
+            let own = given_entering one.0 node one.2 in
+            ap (is_directory tree) (sym own.1) ∙ sym (enters one.0 one.1) ∙ own.0
+      ]
 
   -- and so it is of an entry and of one that enters
-  directory_is_among : (node : ℕ) → ((entry : OldEntry) × Contains old entry × (entry.node.0 ≡ node)) ⊎ ((one : Enter) × Contains enter one × (one.node.0 ≡ node))
+  directory_is_among : (node : ℕ)
+      → ((entry : OldEntry) × Contains old entry × (entry.node.0 ≡ node)) ⊎ ((one : Enter) × Contains enter one × (one.node.0 ≡ node))
       → is_directory tree node ≡ true → is_among directories node ≡ true
   directory_is_among node (inl (entry, there, same)) t =
       let kind = olds entry there ∙ ap (is_directory tree) same ∙ t in
@@ -115,10 +117,12 @@ module _ (tree : TreeState) (old : List OldEntry) (enter : List Enter)
     ]
   ]
 
-module _ (num : Numbering) (concerned : List ℕ) (old new : TreeState) (image : SeenInodes) (plan : CommitPlan) (grant : GrantedNumbers) (is : IsCommitPlan num concerned old new image plan grant) where
+module _ (num : Numbering) (concerned : List ℕ) (old new : TreeState) (image : SeenInodes) (plan : CommitPlan) (grant : GrantedNumbers)
+    (is : IsCommitPlan num concerned old new image plan grant) where
   -- the net of a directory of the list is its own
   pub own_net : (one : DirectoryNet) → Contains plan.nets one → net_of_node plan.nets one.node.0 ≡ one.net.items
-  own_net one there = ap (λ (o : Option DirectoryNet). option_map_or (λ (n : DirectoryNet). n.net.items) o []) (own_item net_node plan.nets is.to.ascend one there)
+  own_net one there =
+      ap (λ (o : Option DirectoryNet). option_map_or (λ (n : DirectoryNet). n.net.items) o []) (own_item net_node plan.nets is.to.ascend one there)
 
   -- a row of a net, in the two trees
   pub record NetRowOf (directory : ℕ) (row : NetRow) : Type 0 where
@@ -128,7 +132,10 @@ module _ (num : Numbering) (concerned : List ℕ) (old new : TreeState) (image :
 
   pub net_row : (directory : ℕ) (row : NetRow) → Contains (net_of_node plan.nets directory) row → NetRowOf directory row
   net_row directory row there =
-      let own = All-contains (IsNetRow (names_of directory old.rows) (names_of directory new.rows)) (net_of_node plan.nets directory) row (is.to.between.each directory).each there in record {
+      let own =
+      All-contains (IsNetRow (names_of directory old.rows) (names_of directory new.rows)) (net_of_node plan.nets directory) row
+      (is.to.between.each directory).each there in
+      record {
         before = own.before ∙ get-names_where directory (λ _. true) old.rows row.name;
         after = own.after ∙ get-names_where directory (λ _. true) new.rows row.name;
         differs = own.differs;
@@ -182,6 +189,7 @@ module _ (num : Numbering) (concerned : List ℕ) (old new : TreeState) (image :
   pub directories_known : KnowsDirectories (directories_concerned plan.old plan.enter) new plan.nets
   directories_known = record {
     children = λ one there node child.
-        known_where new plan.old plan.enter olds_known enters_known node (child_known one.node.0 node (subst (λ net. IsNetChild net node) (sym (own_net one there)) child));
+        known_where new plan.old plan.enter olds_known enters_known node
+        (child_known one.node.0 node (subst (λ net. IsNetChild net node) (sym (own_net one there)) child));
     holders = is.to.holders;
   }

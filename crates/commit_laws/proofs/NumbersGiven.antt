@@ -16,7 +16,8 @@ pub kept_in : {X : Type 0} (p : X → Bool) (xs : List X) (x : X) → Contains (
 kept_in p [] x (k, within, is) = absurd (omega arith)
 kept_in p (y ∷ ys) x has = by (p y) refl has (λ rest. kept_in p ys x rest)
   where
-    by : (b : Bool) → p y ≡ b → Contains (cond b (y ∷ filter p ys) (filter p ys)) x → (Contains (filter p ys) x → Contains ys x × (p x ≡ true)) → Contains (y ∷ ys) x × (p x ≡ true)
+    by : (b : Bool) → p y ≡ b → Contains (cond b (y ∷ filter p ys) (filter p ys)) x → (Contains (filter p ys) x → Contains ys x × (p x ≡ true))
+        → Contains (y ∷ ys) x × (p x ≡ true)
     by false t has later = let rest = later has in (further_in y x ys rest.0, rest.1)
     by true t (zero, within, is) later = (subst (λ z. Contains (y ∷ ys) z) is (first_in y ys), ap p (sym is) ∙ t)
     by true t (suc k, within, is) later = let rest = later (k, omega arith, is) in (further_in y x ys rest.0, rest.1)
@@ -26,7 +27,8 @@ given_numbers_are_those num old nets files enter leave inodes are = record {
   stays = λ entry stays.
       let kept = kept_in (λ e. not (leaves leave e)) old entry stays in
       let own = are.old_numbers entry kept.0 in
-      stays_numbered changes (staying old leave) enter inodes (AllPairs-filter (λ first later. entry_node first < entry_node later) (λ e. not (leaves leave e)) old are.old_ascend) entry stays
+      stays_numbered changes (staying old leave) enter inodes
+      (AllPairs-filter (λ first later. entry_node first < entry_node later) (λ e. not (leaves leave e)) old are.old_ascend) entry stays
       (λ one is same. some_not_none (sym own ∙ ap num (sym same) ∙ are.enter_none one is))
       ∙ sym (ap (λ (o : Option ℕ). cond (is_some o) (cond (node_leaves leave entry.node.0) None o) (grant_for (map enter_node enter) inodes entry.node.0)) own
       ∙ ap (λ b. cond b None (Some entry.old.number)) (not_true (node_leaves leave entry.node.0) kept.1));

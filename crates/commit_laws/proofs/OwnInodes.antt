@@ -26,7 +26,8 @@ use Rattle.commit_laws.specs.Granted.IsOwnInode.{granted, kept, lost}
 use Rattle.commit_laws.proofs.Granted.{given_by}
 
 -- of an item that is put before, over or behind another
-by_order : {X : Type 0} (key : X → ℕ) (item other : X) (others : List X) (y : X) (o : Ordering) → Contains (match_ordering o (item ∷ other ∷ others) (item ∷ others) (other ∷ put_over key item others)) y
+by_order : {X : Type 0} (key : X → ℕ) (item other : X) (others : List X) (y : X) (o : Ordering)
+    → Contains (match_ordering o (item ∷ other ∷ others) (item ∷ others) (other ∷ put_over key item others)) y
     → (Contains (put_over key item others) y → Contains (item ∷ others) y) → Contains (item ∷ other ∷ others) y
 by_order key item other others y Less has later = has
 by_order key item other others y Equal (zero, within, is) later = (0, omega arith, is)
@@ -44,7 +45,8 @@ in_put key item [] y has = has
 in_put key item (other ∷ others) y has = by_order key item other others y (nat_cmp (key item) (key other)) has (λ rest. in_put key item others y rest)
 
 -- and what is in an ascending list was in the list
-in_ascending : {X : Type 0} (key : X → ℕ) (items found : List X) (y : X) → Contains (fold (λ others item. put_over key item others) found items) y → Contains items y ⊎ Contains found y
+in_ascending : {X : Type 0} (key : X → ℕ) (items found : List X) (y : X) → Contains (fold (λ others item. put_over key item others) found items) y
+    → Contains items y ⊎ Contains found y
 in_ascending key [] found y has = inr has
 in_ascending key (item ∷ items) found y has = elim (in_ascending key items (put_over key item found) y has) [
   | inl later ↦ inl (further_in item y items later)
@@ -66,14 +68,16 @@ put_has : {X : Type 0} (key : X → ℕ) (item : X) (items : List X) → Contain
 put_has key item [] = first_in item []
 put_has key item (other ∷ others) = by (nat_cmp (key item) (key other)) (put_has key item others)
   where
-    by : (o : Ordering) → Contains (put_over key item others) item → Contains (match_ordering o (item ∷ other ∷ others) (item ∷ others) (other ∷ put_over key item others)) item
+    by : (o : Ordering) → Contains (put_over key item others) item
+        → Contains (match_ordering o (item ∷ other ∷ others) (item ∷ others) (other ∷ put_over key item others)) item
     by Less rest = first_in item (other ∷ others)
     by Equal rest = first_in item others
     by Greater rest = further_in other item (put_over key item others) rest
 
 put_keeps : {X : Type 0} (key : X → ℕ) (item : X) (items : List X) (y : X) → key item ≢ key y → Contains items y → Contains (put_over key item items) y
 put_keeps key item [] y apart (k, within, is) = absurd (omega arith)
-put_keeps key item (other ∷ others) y apart has = by (nat_cmp (key item) (key other)) (nat_cmp-IsAntisymmetric (key item) (key other)) has (put_keeps key item others y apart)
+put_keeps key item (other ∷ others) y apart has =
+    by (nat_cmp (key item) (key other)) (nat_cmp-IsAntisymmetric (key item) (key other)) has (put_keeps key item others y apart)
   where
     by : (o : Ordering) → (o ≡ Equal → key item ≡ key other) → Contains (other ∷ others) y → (Contains others y → Contains (put_over key item others) y)
         → Contains (match_ordering o (item ∷ other ∷ others) (item ∷ others) (other ∷ put_over key item others)) y
@@ -84,7 +88,8 @@ put_keeps key item (other ∷ others) y apart has = by (nat_cmp (key item) (key 
     by Greater same (suc k, within, is) rest = further_in other y (put_over key item others) (rest (k, omega arith, is))
 
 -- so an item is in the ascending list where no other one of the list has its number
-in_fold : {X : Type 0} (key : X → ℕ) (items found : List X) (y : X) → ((x : X) → Contains items x → key x ≡ key y → x ≡ y) → Contains items y ⊎ Contains found y → Contains (fold (λ others item. put_over key item others) found items) y
+in_fold : {X : Type 0} (key : X → ℕ) (items found : List X) (y : X) → ((x : X) → Contains items x → key x ≡ key y → x ≡ y) → Contains items y ⊎ Contains found y
+    → Contains (fold (λ others item. put_over key item others) found items) y
 in_fold key [] found y once (inl (k, within, is)) = absurd (omega arith)
 in_fold key [] found y once (inr has) = has
 in_fold key (item ∷ items) found y once has = in_fold key items (put_over key item found) y (λ x there. once x (further_in item x items there)) (by has)
@@ -100,17 +105,20 @@ in_fold key (item ∷ items) found y once has = in_fold key items (put_over key 
       | inr f ↦ inr (put_keeps key item found y (eqb-false (key item) (key y) f) has)
     ]
 
-pub in_ascending_list : {X : Type 0} (key : X → ℕ) (items : List X) (y : X) → ((x : X) → Contains items x → key x ≡ key y → x ≡ y) → Contains items y → Contains (ascending_by key items) y
+pub in_ascending_list : {X : Type 0} (key : X → ℕ) (items : List X) (y : X) → ((x : X) → Contains items x → key x ≡ key y → x ≡ y) → Contains items y
+    → Contains (ascending_by key items) y
 in_ascending_list key items y once has = in_fold key items [] y once (inl has)
 
 -- an item with the number of each item of the list is there
-number_in_fold : {X : Type 0} (key : X → ℕ) (items found : List X) (n : ℕ) → ((y : X) × Contains items y × (key y ≡ n)) ⊎ ((y : X) × Contains found y × (key y ≡ n))
+number_in_fold : {X : Type 0} (key : X → ℕ) (items found : List X) (n : ℕ)
+    → ((y : X) × Contains items y × (key y ≡ n)) ⊎ ((y : X) × Contains found y × (key y ≡ n))
     → (x : X) × Contains (fold (λ others item. put_over key item others) found items) x × (key x ≡ n)
 number_in_fold key [] found n (inl (y, (k, within, is), same)) = absurd (omega arith)
 number_in_fold key [] found n (inr has) = has
 number_in_fold key (item ∷ items) found n has = number_in_fold key items (put_over key item found) n (by has)
   where
-    by : ((y : _) × Contains (item ∷ items) y × (key y ≡ n)) ⊎ ((y : _) × Contains found y × (key y ≡ n)) → ((y : _) × Contains items y × (key y ≡ n)) ⊎ ((y : _) × Contains (put_over key item found) y × (key y ≡ n))
+    by : ((y : _) × Contains (item ∷ items) y × (key y ≡ n)) ⊎ ((y : _) × Contains found y × (key y ≡ n))
+        → ((y : _) × Contains items y × (key y ≡ n)) ⊎ ((y : _) × Contains (put_over key item found) y × (key y ≡ n))
     by (inl (y, (zero, within, is), same)) = inr (item, put_has key item found, ap key is ∙ same)
     by (inl (y, (suc k, within, is), same)) = inl (y, (k, omega arith, is), same)
     by (inr (y, has, same)) = elim (cases_Bool (nat_eq (key item) n)) [
@@ -118,11 +126,13 @@ number_in_fold key (item ∷ items) found n has = number_in_fold key items (put_
       | inr f ↦ inr (y, put_keeps key item found y (λ e. eqb-false (key item) n f (e ∙ same)) has, same)
     ]
 
-pub number_in_ascending : {X : Type 0} (key : X → ℕ) (items : List X) (y : X) → Contains items y → (x : X) × Contains (ascending_by key items) x × (key x ≡ key y)
+pub number_in_ascending : {X : Type 0} (key : X → ℕ) (items : List X) (y : X) → Contains items y
+    → (x : X) × Contains (ascending_by key items) x × (key x ≡ key y)
 number_in_ascending key items y has = number_in_fold key items [] (key y) (inl (y, has, refl))
 
 -- a node that is built is that of a seat
-seat_of_built : (changes : CommitChanges) (numbers : ℕ → Option ℕ) (seats : List Seated) (fresh : List ℕ) (one : Built) → Contains (nodes_built changes numbers seats fresh) one
+seat_of_built : (changes : CommitChanges) (numbers : ℕ → Option ℕ) (seats : List Seated) (fresh : List ℕ) (one : Built)
+    → Contains (nodes_built changes numbers seats fresh) one
     → (seat : Seated) × Contains seats seat × (one.number ≡ unwrap_or (numbers seat.node) 0)
 seat_of_built changes numbers [] fresh one (k, within, is) = absurd (omega arith)
 seat_of_built changes numbers (seat ∷ seats) fresh one (zero, within, is) = (seat, first_in seat seats, ap (λ (b : Built). b.number) (sym is))
@@ -154,7 +164,9 @@ module _ (change : Planned) (grant : GrantedNumbers) (enough : count_by enters c
       let number = number_known (IsOwnInode change grant) seat.0.node change.seats grant.inodes enough own_or_granted None (inr (seat.0, seat.1, refl)) in
       subst (λ n. IsOwnInode change grant n) (sym (seat.2 ∙ ap (λ o. unwrap_or o 0) number.1)) number.2
 
-  record_own : (one : TxRecord) → Contains (filter_map written_of_built (nodes_with_grant change grant)) one ⊎ Contains (filter_map written_of_gone change.gone) one → IsOwnInode change grant one.inode
+  record_own : (one : TxRecord)
+      → Contains (filter_map written_of_built (nodes_with_grant change grant)) one ⊎ Contains (filter_map written_of_gone change.gone) one
+      → IsOwnInode change grant one.inode
   record_own one (inl there) =
       let node = given_by written_of_built (nodes_with_grant change grant) one there in
       subst (λ n. IsOwnInode change grant n) (written_number (record_of_built node.0) one node.2) (built_own node.0 node.1)
@@ -165,7 +177,8 @@ module _ (change : Planned) (grant : GrantedNumbers) (enough : count_by enters c
 pub inodes_are_granted_or_old : InodesAreGrantedOrOld
 inodes_are_granted_or_old change grant enough = record {
   records = λ one there. record_own change grant enough one
-      (Contains-append_cases (filter_map written_of_built (nodes_with_grant change grant)) (filter_map written_of_gone change.gone) one (ascending_is_in record_inode _ one there));
+      (Contains-append_cases (filter_map written_of_built (nodes_with_grant change grant)) (filter_map written_of_gone change.gone) one
+      (ascending_is_in record_inode _ one there));
   after = λ entry there.
       let node = mapped_is_in entry_after (nodes_with_grant change grant) entry (ascending_is_in entry_node _ entry there) in
       subst (λ n. IsOwnInode change grant n) (ap (λ (e : OldEntry). e.old.number) node.2) (built_own change grant enough node.0 node.1);

@@ -69,9 +69,11 @@ use Rattle.commit_laws.proofs.SeatsOfPlan.{there_is_in, in_mapped, after_had, se
 use Rattle.commit_laws.proofs.Shown.{found_is_in}
 
 -- what two functions give of a range is the same where they agree there
-given_alike : {X : Type 0} (f g : ℕ → Option X) (a n : ℕ) → ((k : ℕ) → a ≤ k → k < a + n → f k ≡ g k) → filter_map f (range_with_len a n) ≡ filter_map g (range_with_len a n)
+given_alike : {X : Type 0} (f g : ℕ → Option X) (a n : ℕ) → ((k : ℕ) → a ≤ k → k < a + n → f k ≡ g k)
+    → filter_map f (range_with_len a n) ≡ filter_map g (range_with_len a n)
 given_alike f g a zero same = refl
-given_alike f g a (suc n) same = λ i. cons_option (same a (omega arith) (omega arith) i) (given_alike f g (a + 1) n (λ k low high. same k (omega arith) (omega arith)) i)
+given_alike f g a (suc n) same =
+    λ i. cons_option (same a (omega arith) (omega arith) i) (given_alike f g (a + 1) n (λ k low high. same k (omega arith) (omega arith)) i)
 
 -- a record is read as its bytes say
 pub read_inode : (store : ℕ → List ℕ) (inode : Inode) → IsInode inode → inode_in (part_of store (inode_bytes inode)) ≡ inode
@@ -93,7 +95,9 @@ table_back : (k : ℕ) → FILE_BLOCKS + k - FILE_BLOCKS ≡ k
 table_back k = omega arith
 
 -- an indirect block as it is kept
-table_is : (q : ℕ) (k : ℕ) (block : List ℕ) → q ≢ 0 → ◌≡◌ {A = Option Table} (cond (nat_eq q 0) None (Some (record { place = k; pointers = pointers_of block }))) (Some (record { place = k; pointers = pointers_of block }))
+table_is : (q : ℕ) (k : ℕ) (block : List ℕ) → q ≢ 0
+    → ◌≡◌ {A = Option Table} (cond (nat_eq q 0) None (Some (record { place = k; pointers = pointers_of block })))
+    (Some (record { place = k; pointers = pointers_of block }))
 table_is q k block some = cond-false (nat_eq q 0) None _ (not_same q 0 some)
 
 -- what one of some items gives is in what all give
@@ -102,8 +106,10 @@ in_flat f [] x y (k, within, is) has = absurd (omega arith)
 in_flat f (z ∷ xs) x y (zero, within, is) has = Contains-append_left (f z) (flat_map f xs) y (subst (λ w. Contains (f w) y) (sym is) has)
 in_flat f (z ∷ xs) x y (suc k, within, is) has = Contains-append_right (f z) (flat_map f xs) y (in_flat f xs x y (k, omega arith, is) has)
 
-module _ (num : Numbering) (concerned : List ℕ) (old new : TreeState) (image : SeenInodes) (plan : CommitPlan) (grant : GrantedNumbers) (store : ℕ → List ℕ) (parts : ℕ → Part)
-    (is : IsPlanOverParts num concerned old new image plan grant store parts) (one : Built) (there_one : Contains (nodes_with_grant (change_planned plan) grant) one) (node : IsBuiltNode num concerned old new image plan grant is.full one) where
+module _ (num : Numbering) (concerned : List ℕ) (old new : TreeState) (image : SeenInodes) (plan : CommitPlan) (grant : GrantedNumbers) (store : ℕ → List ℕ)
+    (parts : ℕ → Part)
+    (is : IsPlanOverParts num concerned old new image plan grant store parts) (one : Built)
+    (there_one : Contains (nodes_with_grant (change_planned plan) grant) one) (node : IsBuiltNode num concerned old new image plan grant is.full one) where
   abbrev whole : IsCommitPlan num concerned old new image plan grant
   whole = is.full.sound.whole
 
@@ -139,30 +145,42 @@ module _ (num : Numbering) (concerned : List ℕ) (old new : TreeState) (image :
   seen_old j had = by (node_leaves plan.leave node.of.begun.node) refl
     where
       by : (b : Bool) → node_leaves plan.leave node.of.begun.node ≡ b → j ≡ i
-      by true e = absurd (none_some (sym (after_had num concerned old new image plan grant whole node.of.begun.node j had ∙ ap (λ b. cond b None (Some j)) e) ∙ node.of.number))
-      by false e = some_same (sym (after_had num concerned old new image plan grant whole node.of.begun.node j had ∙ ap (λ b. cond b None (Some j)) e) ∙ node.of.number)
+      by true e =
+          absurd
+          (none_some
+          (sym (after_had num concerned old new image plan grant whole node.of.begun.node j had ∙ ap (λ b. cond b None (Some j)) e) ∙ node.of.number))
+      by false e =
+          some_same (sym (after_had num concerned old new image plan grant whole node.of.begun.node j had ∙ ap (λ b. cond b None (Some j)) e) ∙ node.of.number)
 
-  old_pointer : (place : ℕ) → place < PLACES → (seen_before commit image node.of.begun.node).blocks place ≢ 0 → (seen_before commit image node.of.begun.node).blocks place ≡ pointer_at (parts i) place
+  old_pointer : (place : ℕ) → place < PLACES → (seen_before commit image node.of.begun.node).blocks place ≢ 0
+      → (seen_before commit image node.of.begun.node).blocks place ≡ pointer_at (parts i) place
   old_pointer place low some = by (num node.of.begun.node) refl
     where
       by : (o : Option ℕ) → num node.of.begun.node ≡ o → (seen_before commit image node.of.begun.node).blocks place ≡ pointer_at (parts i) place
       by None e = absurd (some (ap (λ (o : Option ℕ). (option_map_or image.seen o blank).blocks place) e))
-      by (Some j) e = ap (λ (o : Option ℕ). (option_map_or image.seen o blank).blocks place) (e ∙ ap Some (seen_old j e)) ∙ ap (λ (s : Seen). s.blocks place) (is.standing.shown i within)
+      by (Some j) e =
+          ap (λ (o : Option ℕ). (option_map_or image.seen o blank).blocks place) (e ∙ ap Some (seen_old j e))
+          ∙ ap (λ (s : Seen). s.blocks place) (is.standing.shown i within)
 
   -- a block afterwards is one of the grant, or stood at its place
-  pub granted_or_old : (place : ℕ) → place < PLACES → (next.seen i).blocks place ≢ 0 → Contains grant.blocks ((next.seen i).blocks place) ⊎ ((next.seen i).blocks place ≡ pointer_at (parts i) place)
-  granted_or_old place low some = by ((step num concerned old new image plan grant is.full).commits.blocks.has node.of.begun.node i place low node.of.number node.of.among)
+  pub granted_or_old : (place : ℕ) → place < PLACES → (next.seen i).blocks place ≢ 0
+      → Contains grant.blocks ((next.seen i).blocks place) ⊎ ((next.seen i).blocks place ≡ pointer_at (parts i) place)
+  granted_or_old place low some =
+      by ((step num concerned old new image plan grant is.full).commits.blocks.has node.of.begun.node i place low node.of.number node.of.among)
     where
       granted_one : (o : Option ℕ) → place_among (inodes_built change grant) i ≡ o → commit.fresh i place ≢ 0 → Contains grant.blocks (commit.fresh i place)
-      granted_one None e there = absurd (there (ap (λ (o : Option ℕ). option_map_or (λ m. granted_block (rewrites_seated change) grant.blocks (place_in_row m place)) o 0) e))
+      granted_one None e there =
+          absurd (there (ap (λ (o : Option ℕ). option_map_or (λ m. granted_block (rewrites_seated change) grant.blocks (place_in_row m place)) o 0) e))
       granted_one (Some m) e there =
           let same = ap (λ (o : Option ℕ). option_map_or (λ m. granted_block (rewrites_seated change) grant.blocks (place_in_row m place)) o 0) e in
           subst (λ p. Contains grant.blocks p) (sym same) (is_in grant.blocks _ (λ none. there (same ∙ none)))
 
-      by : HasBlock commit i place (seen_before commit image node.of.begun.node) (next.seen i) → Contains grant.blocks ((next.seen i).blocks place) ⊎ ((next.seen i).blocks place ≡ pointer_at (parts i) place)
+      by : HasBlock commit i place (seen_before commit image node.of.begun.node) (next.seen i)
+          → Contains grant.blocks ((next.seen i).blocks place) ⊎ ((next.seen i).blocks place ≡ pointer_at (parts i) place)
       by (made_hole none) = absurd (some none)
       by (made_kept same) = inr (same ∙ old_pointer place low (λ none. some (same ∙ none)))
-      by (made_fresh takes same) = inl (subst (λ p. Contains grant.blocks p) (sym same) (granted_one (place_among (inodes_built change grant) i) refl (λ none. some (same ∙ none))))
+      by (made_fresh takes same) =
+          inl (subst (λ p. Contains grant.blocks p) (sym same) (granted_one (place_among (inodes_built change grant) i) refl (λ none. some (same ∙ none))))
 
   -- so it fits a record
   small : (place : ℕ) → place < PLACES → (next.seen i).blocks place < 2 ^ 32
@@ -187,7 +205,9 @@ module _ (num : Numbering) (concerned : List ℕ) (old new : TreeState) (image :
   indirect_is k low = sym (own_place one.meta one.tables k) ∙ pointer_is (FILE_BLOCKS + k) (omega arith)
 
   direct_is : (k : ℕ) → k < 108 → slice_index one.meta.direct k ≡ (next.seen i).blocks k
-  direct_is k low = sym (cond-true (nat_lt k FILE_BLOCKS) _ _ (lt-ltb k FILE_BLOCKS (omega arith)) ∙ cond-true (nat_lt k 108) _ _ (lt-ltb k 108 low)) ∙ pointer_is k (omega arith)
+  direct_is k low =
+      sym (cond-true (nat_lt k FILE_BLOCKS) _ _ (lt-ltb k FILE_BLOCKS (omega arith)) ∙ cond-true (nat_lt k 108) _ _ (lt-ltb k 108 low))
+      ∙ pointer_is k (omega arith)
 
   pub shows_node : ShowsNode commit.after new node.of.begun.node (next.seen i)
   shows_node = (stands_after commit old new image next (step num concerned old new image plan grant is.full)).each node.of.begun.node i node.of.number
@@ -197,7 +217,9 @@ module _ (num : Numbering) (concerned : List ℕ) (old new : TreeState) (image :
     where
       by : (b : Bool) → shows_directory (next.seen i) ≡ b → cond b (4096 * (length (next.seen i).slots / 15)) (length (next.seen i).bytes) < 2 ^ 64
       by true e =
-          let fits = commits_keep_directories_fit commit old new image next (step num concerned old new image plan grant is.full) is.full.room.directories i (within, eqb-true (next.seen i).kind (kind_byte Directory) e) in
+          let fits =
+          commits_keep_directories_fit commit old new image next (step num concerned old new image plan grant is.full) is.full.room.directories i
+          (within, eqb-true (next.seen i).kind (kind_byte Directory) e) in
           omega arith
       by false e = subst (λ (bytes : List ℕ). length bytes < 2 ^ 64) (sym shows_node.bytes) (is.over.sizes node.of.begun.node)
 
@@ -205,17 +227,24 @@ module _ (num : Numbering) (concerned : List ℕ) (old new : TreeState) (image :
   pub meta_fits : IsInode one.meta
   meta_fits = record {
     kind = let same = kind_same in kind_low (kind_of new node.of.begun.node) same;
-    links = subst (λ n. n < 2 ^ 32) (sym (node.shows.links ∙ ap (λ n. (next.seen n).links) node.inode ∙ shows_node.links)) (is.full.room.links node.of.begun.node);
+    links =
+        subst (λ n. n < 2 ^ 32) (sym (node.shows.links ∙ ap (λ n. (next.seen n).links) node.inode ∙ shows_node.links)) (is.full.room.links node.of.begun.node);
     size = subst (λ n. n < 2 ^ 64) (sym (node.shows.size ∙ ap (λ n. (next.seen n).size) node.inode)) size_fits;
     direct_count = ap (λ (m : Inode). length m.direct) meta_is ∙ length-tabulate 108 _;
     direct = λ k. elim (cases_lt k 108) [
       | inl low ↦ subst (λ p. p < 2 ^ 32) (sym (direct_is k low)) (small k (omega arith))
-      | inr high ↦ subst (λ p. p < 2 ^ 32) (sym (get_or_past one.meta.direct k 0 (let long = ap (λ (m : Inode). length m.direct) meta_is ∙ length-tabulate 108 _ in omega arith))) (omega arith)
+      | inr high ↦
+          subst (λ p. p < 2 ^ 32)
+          (sym (get_or_past one.meta.direct k 0 (let long = ap (λ (m : Inode). length m.direct) meta_is ∙ length-tabulate 108 _ in omega arith)))
+          (omega arith)
     ];
     indirect_count = ap (λ (m : Inode). length m.indirect) meta_is ∙ length-tabulate 16 _;
     indirect = λ k. elim (cases_lt k 16) [
       | inl low ↦ subst (λ p. p < 2 ^ 32) (sym (indirect_is k low)) (small (FILE_BLOCKS + k) (omega arith))
-      | inr high ↦ subst (λ p. p < 2 ^ 32) (sym (get_or_past one.meta.indirect k 0 (let long = ap (λ (m : Inode). length m.indirect) meta_is ∙ length-tabulate 16 _ in omega arith))) (omega arith)
+      | inr high ↦
+          subst (λ p. p < 2 ^ 32)
+          (sym (get_or_past one.meta.indirect k 0 (let long = ap (λ (m : Inode). length m.indirect) meta_is ∙ length-tabulate 16 _ in omega arith)))
+          (omega arith)
     ];
     free = λ none. absurd (not_used (kind_of new node.of.begun.node) (sym kind_same ∙ none));
   }
@@ -239,13 +268,19 @@ module _ (num : Numbering) (concerned : List ℕ) (old new : TreeState) (image :
 
   -- the indirect block at a place, as it is read
   table_read : (k : ℕ) → k < 16 → slice_index_or after.tables k [] ≡ read_block (store_planned store plan grant) (slice_index one.meta.indirect k)
-  table_read k low = table_is_read (store_planned store plan grant) (inode_bytes one.meta) k low ∙ ap (read_block (store_planned store plan grant)) (pointer_of_table after k ∙ ap (λ (m : Inode). slice_index m.indirect k) inode_is)
+  table_read k low =
+      table_is_read (store_planned store plan grant) (inode_bytes one.meta) k low
+      ∙ ap (read_block (store_planned store plan grant)) (pointer_of_table after k ∙ ap (λ (m : Inode). slice_index m.indirect k) inode_is)
 
-  kept_is : (k : ℕ) → k < 16 → table_kept (inode_in after) after.tables k ≡ cond (nat_eq (slice_index one.meta.indirect k) 0) None (Some (record { place = k; pointers = pointers_of (read_block (store_planned store plan grant) (slice_index one.meta.indirect k)) }))
+  kept_is : (k : ℕ) → k < 16
+      → table_kept (inode_in after) after.tables k
+      ≡ cond (nat_eq (slice_index one.meta.indirect k) 0) None
+      (Some (record { place = k; pointers = pointers_of (read_block (store_planned store plan grant) (slice_index one.meta.indirect k)) }))
   kept_is k low = λ j. cond (nat_eq (slice_index (inode_is j).indirect k) 0) None (Some (record { place = k; pointers = pointers_of (table_read k low j) }))
 
   -- the pointer of an indirect block by its fate
-  by_fate : (k : ℕ) → k < 16 → (fate : TableFate) → table_fate (rewrite_in seat) k ≡ fate → table_kept (inode_in after) after.tables k ≡ table_by_fate fate (rewrite_in seat) own seat.tables k
+  by_fate : (k : ℕ) → k < 16 → (fate : TableFate) → table_fate (rewrite_in seat) k ≡ fate
+      → table_kept (inode_in after) after.tables k ≡ table_by_fate fate (rewrite_in seat) own seat.tables k
   by_fate k low Goes fate = kept_is k low ∙ cond-true (nat_eq (slice_index one.meta.indirect k) 0) None _ (eq-eqb (slice_index one.meta.indirect k) 0 none)
     where
       by : (table some : Bool) → cond table (cond some IsWritten Goes) Stays ≡ Goes → (a stays : ℕ) → cond table (cond some a 0) stays ≡ 0
@@ -258,7 +293,8 @@ module _ (num : Numbering) (concerned : List ℕ) (old new : TreeState) (image :
           sym (own_place one.meta one.tables k) ∙ (λ j. pointer_kept (meta_is j) (tables_are j) (FILE_BLOCKS + k))
           ∙ remapped_pointers_stand seat.meta seat.tables seat.changed own (FILE_BLOCKS + k) (omega arith)
           ∙ cond-false (nat_lt (FILE_BLOCKS + k) FILE_BLOCKS) _ _ (le-ltb (FILE_BLOCKS + k) FILE_BLOCKS (omega arith))
-          ∙ by (rewrites_table (rewrite_in seat) (FILE_BLOCKS + k - FILE_BLOCKS)) (table_has_pointer (rewrite_in seat) (FILE_BLOCKS + k - FILE_BLOCKS)) (ap (table_fate (rewrite_in seat)) (table_back k) ∙ fate) _ _
+          ∙ by (rewrites_table (rewrite_in seat) (FILE_BLOCKS + k - FILE_BLOCKS)) (table_has_pointer (rewrite_in seat) (FILE_BLOCKS + k - FILE_BLOCKS))
+          (ap (table_fate (rewrite_in seat)) (table_back k) ∙ fate) _ _
   by_fate k low Stays fate = elim (seat_comes num concerned old new image plan grant whole seat (there_is_in change.seats node.m seat node.at)) [
     | inl (entry, stay, same) ↦ of_old entry stay same
     | inr (one_entering, enter, same) ↦ of_entering one_entering enter same
@@ -274,7 +310,8 @@ module _ (num : Numbering) (concerned : List ℕ) (old new : TreeState) (image :
           sym (own_place one.meta one.tables k) ∙ (λ j. pointer_kept (meta_is j) (tables_are j) (FILE_BLOCKS + k))
           ∙ remapped_pointers_stand seat.meta seat.tables seat.changed own (FILE_BLOCKS + k) (omega arith)
           ∙ cond-false (nat_lt (FILE_BLOCKS + k) FILE_BLOCKS) _ _ (le-ltb (FILE_BLOCKS + k) FILE_BLOCKS (omega arith))
-          ∙ by (rewrites_table (rewrite_in seat) (FILE_BLOCKS + k - FILE_BLOCKS)) (table_has_pointer (rewrite_in seat) (FILE_BLOCKS + k - FILE_BLOCKS)) (ap (table_fate (rewrite_in seat)) (table_back k) ∙ fate) _ _
+          ∙ by (rewrites_table (rewrite_in seat) (FILE_BLOCKS + k - FILE_BLOCKS)) (table_has_pointer (rewrite_in seat) (FILE_BLOCKS + k - FILE_BLOCKS))
+          (ap (table_fate (rewrite_in seat)) (table_back k) ∙ fate) _ _
           ∙ own_place seat.meta seat.tables k
 
       seat_indirect : (begun : Begun) (kind : Kind) → (seated_as kind change.changes begun).meta.indirect ≡ begun.base.indirect
@@ -285,17 +322,22 @@ module _ (num : Numbering) (concerned : List ℕ) (old new : TreeState) (image :
       seat_tables begun File = refl
       seat_tables begun Directory = refl
 
-      of_entering : (enter : Enter) → Contains plan.enter enter → seated_entering change.changes enter ≡ seat → table_kept (inode_in after) after.tables k ≡ find (is_at k) seat.tables
+      of_entering : (enter : Enter) → Contains plan.enter enter → seated_entering change.changes enter ≡ seat
+          → table_kept (inode_in after) after.tables k ≡ find (is_at k) seat.tables
       of_entering enter there same =
           let none : slice_index one.meta.indirect k ≡ 0 =
-          stays_is ∙ ap (λ (s : Seated). slice_index s.meta.indirect k) (sym same) ∙ ap (λ those. slice_index those k) (seat_indirect (begun_entering enter) (begun_entering enter).kind) ∙ zeros_read 16 k in
+          stays_is ∙ ap (λ (s : Seated). slice_index s.meta.indirect k) (sym same)
+          ∙ ap (λ those. slice_index those k) (seat_indirect (begun_entering enter) (begun_entering enter).kind) ∙ zeros_read 16 k in
           kept_is k low ∙ cond-true (nat_eq (slice_index one.meta.indirect k) 0) None _ (eq-eqb (slice_index one.meta.indirect k) 0 none)
           ∙ sym (ap (λ (s : Seated). find (is_at k) s.tables) (sym same) ∙ ap (find (is_at k)) (seat_tables (begun_entering enter) (begun_entering enter).kind))
 
-      of_old : (entry : OldEntry) → Contains (staying plan.old plan.leave) entry → seated_old change.changes entry ≡ seat → table_kept (inode_in after) after.tables k ≡ find (is_at k) seat.tables
+      of_old : (entry : OldEntry) → Contains (staying plan.old plan.leave) entry → seated_old change.changes entry ≡ seat
+          → table_kept (inode_in after) after.tables k ≡ find (is_at k) seat.tables
       of_old entry stay same =
           kept_is k low ∙ by_pointer (cases_Bool (nat_eq q 0))
-          ∙ sym (ap (λ (s : Seated). find (is_at k) s.tables) (sym same) ∙ ap (find (is_at k)) (seat_tables (begun_old entry) (begun_old entry).kind ∙ ap (λ (kept : Kept). kept.tables) kept_same)
+          ∙ sym
+          (ap (λ (s : Seated). find (is_at k) s.tables) (sym same)
+          ∙ ap (find (is_at k)) (seat_tables (begun_old entry) (begun_old entry).kind ∙ ap (λ (kept : Kept). kept.tables) kept_same)
           ∙ table_found (inode_in (parts entry.old.number)) (parts entry.old.number).tables k low)
         where
           there : Contains plan.old entry
@@ -311,7 +353,9 @@ module _ (num : Numbering) (concerned : List ℕ) (old new : TreeState) (image :
           q = slice_index one.meta.indirect k
 
           q_is : q ≡ slice_index (inode_in (parts entry.old.number)).indirect k
-          q_is = stays_is ∙ ap (λ (s : Seated). slice_index s.meta.indirect k) (sym same) ∙ ap (λ those. slice_index those k) (seat_indirect (begun_old entry) (begun_old entry).kind)
+          q_is =
+              stays_is ∙ ap (λ (s : Seated). slice_index s.meta.indirect k) (sym same)
+              ∙ ap (λ those. slice_index those k) (seat_indirect (begun_old entry) (begun_old entry).kind)
               ∙ ap (λ (kept : Kept). slice_index kept.inode.indirect k) kept_same
 
           q_at : q ≡ pointer_at (parts entry.old.number) (FILE_BLOCKS + k)
@@ -321,19 +365,27 @@ module _ (num : Numbering) (concerned : List ℕ) (old new : TreeState) (image :
           block_same some =
               let gathered = is.standing.gathered entry.old.number number_in in
               block_behind (store_planned store plan grant) q some
-              ∙ over_old q (ap (λ p. find (λ (other : FreshBlock). nat_eq other.block p) fresh) q_at ∙ held_is_old num concerned old new image plan grant store parts is entry.old.number (FILE_BLOCKS + k) number_in (omega arith))
+              ∙ over_old q
+              (ap (λ p. find (λ (other : FreshBlock). nat_eq other.block p) fresh) q_at
+              ∙ held_is_old num concerned old new image plan grant store parts is entry.old.number (FILE_BLOCKS + k) number_in (omega arith))
               ∙ sym (block_behind store q some) ∙ ap (read_block store) q_at
               ∙ sym (gathered_is_read store (parts entry.old.number) (FILE_BLOCKS + k) gathered (omega arith))
               ∙ cond-false (nat_lt (FILE_BLOCKS + k) FILE_BLOCKS) _ _ (le-ltb (FILE_BLOCKS + k) FILE_BLOCKS (omega arith))
               ∙ ap (λ n. slice_index_or (parts entry.old.number).tables n []) (table_back k)
 
           by_pointer : (nat_eq q 0 ≡ true) ⊎ (nat_eq q 0 ≡ false)
-              → cond (nat_eq q 0) None (Some (record { place = k; pointers = pointers_of (read_block (store_planned store plan grant) q) })) ≡ table_kept (inode_in (parts entry.old.number)) (parts entry.old.number).tables k
-          by_pointer (inl none) = cond-true (nat_eq q 0) None _ none ∙ sym (cond-true (nat_eq (slice_index (inode_in (parts entry.old.number)).indirect k) 0) None _ (ap (λ n. nat_eq n 0) (sym q_is) ∙ none))
+              → cond (nat_eq q 0) None (Some (record { place = k; pointers = pointers_of (read_block (store_planned store plan grant) q) }))
+              ≡ table_kept (inode_in (parts entry.old.number)) (parts entry.old.number).tables k
+          by_pointer (inl none) =
+              cond-true (nat_eq q 0) None _ none
+              ∙ sym (cond-true (nat_eq (slice_index (inode_in (parts entry.old.number)).indirect k) 0) None _ (ap (λ n. nat_eq n 0) (sym q_is) ∙ none))
           by_pointer (inr some) = λ j. cond (nat_eq (q_is j) 0) None (Some (record { place = k; pointers = pointers_of (block_same (eqb-false q 0 some) j) }))
   by_fate k low IsWritten fate =
       kept_is k low ∙ table_is (slice_index one.meta.indirect k) k (read_block (store_planned store plan grant) (slice_index one.meta.indirect k)) there
-      ∙ ap (λ block. Some (record { place = k; pointers = pointers_of block })) (block_behind (store_planned store plan grant) (slice_index one.meta.indirect k) there ∙ over_fresh (block_of (written_table (numbers_with change grant.inodes) net number own seat pages up cut.enough cut.some k)) (slice_index one.meta.indirect k) found)
+      ∙ ap (λ block. Some (record { place = k; pointers = pointers_of block }))
+      (block_behind (store_planned store plan grant) (slice_index one.meta.indirect k) there
+      ∙ over_fresh (block_of (written_table (numbers_with change grant.inodes) net number own seat pages up cut.enough cut.some k))
+      (slice_index one.meta.indirect k) found)
       ∙ ap (λ (o : Option Table). Some (record { place = k; pointers = pointers_of (option_map_or (λ t. pointers_bytes t.pointers) o zero_bytes) })) table_there
       ∙ ap (λ those. Some (record { place = k; pointers = those })) (pointers_of-pointers_bytes (table_written (rewrite_in seat) own k).pointers pointers_fit)
     where
@@ -352,8 +404,12 @@ module _ (num : Numbering) (concerned : List ℕ) (old new : TreeState) (image :
       cut : IsCutFor seat own
       cut = cut_of change.seats grant.blocks node.m seat node.at (grant_for num concerned old new image plan grant store parts is)
 
-      given : (slice_index one.meta.indirect k ≢ 0) × (table_of_place one k ≡ Some (written_table (numbers_with change grant.inodes) net number own seat pages up cut.enough cut.some k))
-      given = subst (λ (b : Built). (slice_index b.meta.indirect k ≢ 0) × (table_of_place b k ≡ Some (written_table (numbers_with change grant.inodes) net number own seat pages up cut.enough cut.some k))) (sym node.is)
+      given : (slice_index one.meta.indirect k ≢ 0)
+          × (table_of_place one k ≡ Some (written_table (numbers_with change grant.inodes) net number own seat pages up cut.enough cut.some k))
+      given =
+          subst (λ (b : Built). (slice_index b.meta.indirect k ≢ 0)
+          × (table_of_place b k ≡ Some (written_table (numbers_with change grant.inodes) net number own seat pages up cut.enough cut.some k)))
+          (sym node.is)
           (table_given (numbers_with change grant.inodes) net number own seat pages up cut.enough cut.some k low fate)
 
       there : slice_index one.meta.indirect k ≢ 0
@@ -363,30 +419,49 @@ module _ (num : Numbering) (concerned : List ℕ) (old new : TreeState) (image :
       meta_at = ap (λ (m : Inode). slice_index m.indirect k) meta_is
 
       in_node : Contains (fresh_of_node plan.files one) (written_table (numbers_with change grant.inodes) net number own seat pages up cut.enough cut.some k)
-      in_node = Contains-append_right (filter_map (data_written one (pages_of_node plan.files one.node)) one.changed) (filter_map (table_of_place one) (range_with_len 0 16)) (written_table (numbers_with change grant.inodes) net number own seat pages up cut.enough cut.some k)
-          (given_is_in (table_of_place one) (range_with_len 0 16) k (written_table (numbers_with change grant.inodes) net number own seat pages up cut.enough cut.some k) (k, omega (arith, length-range_with_len 0 16), get_or-range_with_len 0 16 k k low ∙ zero_plus k) given.1)
+      in_node =
+          Contains-append_right (filter_map (data_written one (pages_of_node plan.files one.node)) one.changed)
+          (filter_map (table_of_place one) (range_with_len 0 16))
+          (written_table (numbers_with change grant.inodes) net number own seat pages up cut.enough cut.some k)
+          (given_is_in (table_of_place one) (range_with_len 0 16) k
+          (written_table (numbers_with change grant.inodes) net number own seat pages up cut.enough cut.some k)
+          (k, omega (arith, length-range_with_len 0 16), get_or-range_with_len 0 16 k k low ∙ zero_plus k) given.1)
 
       in_fresh : Contains fresh (block_of (written_table (numbers_with change grant.inodes) net number own seat pages up cut.enough cut.some k))
-      in_fresh = in_mapped block_of (fresh_of_commit change grant) (written_table (numbers_with change grant.inodes) net number own seat pages up cut.enough cut.some k)
-          (in_flat (fresh_of_node plan.files) (nodes_with_grant change grant) one (written_table (numbers_with change grant.inodes) net number own seat pages up cut.enough cut.some k) there_one in_node)
+      in_fresh =
+          in_mapped block_of (fresh_of_commit change grant)
+          (written_table (numbers_with change grant.inodes) net number own seat pages up cut.enough cut.some k)
+          (in_flat (fresh_of_node plan.files) (nodes_with_grant change grant) one
+          (written_table (numbers_with change grant.inodes) net number own seat pages up cut.enough cut.some k) there_one in_node)
 
-      found : find (λ (other : FreshBlock). nat_eq other.block (slice_index one.meta.indirect k)) fresh ≡ Some (block_of (written_table (numbers_with change grant.inodes) net number own seat pages up cut.enough cut.some k))
+      found : find (λ (other : FreshBlock). nat_eq other.block (slice_index one.meta.indirect k)) fresh
+          ≡ Some (block_of (written_table (numbers_with change grant.inodes) net number own seat pages up cut.enough cut.some k))
       found = ap (λ p. find (λ (other : FreshBlock). nat_eq other.block p) fresh) meta_at
-          ∙ found_once (λ (other : FreshBlock). other.block) fresh (each_once num concerned old new image plan grant store parts is) (block_of (written_table (numbers_with change grant.inodes) net number own seat pages up cut.enough cut.some k)) in_fresh
+          ∙ found_once (λ (other : FreshBlock). other.block) fresh (each_once num concerned old new image plan grant store parts is)
+          (block_of (written_table (numbers_with change grant.inodes) net number own seat pages up cut.enough cut.some k)) in_fresh
 
-      table_there : find (λ (t : Table). nat_eq t.place k) (built (numbers_with change grant.inodes) net number own seat).tables ≡ Some (table_written (rewrite_in seat) own k)
-      table_there = found_at (table_remapped (rewrite_in seat) own seat.tables) (remapped_at_place (rewrite_in seat) own seat.tables) k 0 16 (omega arith) (omega arith) ∙ ap (λ f. table_by_fate f (rewrite_in seat) own seat.tables k) fate
+      table_there : find (λ (t : Table). nat_eq t.place k) (built (numbers_with change grant.inodes) net number own seat).tables
+          ≡ Some (table_written (rewrite_in seat) own k)
+      table_there =
+          found_at (table_remapped (rewrite_in seat) own seat.tables) (remapped_at_place (rewrite_in seat) own seat.tables) k 0 16 (omega arith) (omega arith)
+          ∙ ap (λ f. table_by_fate f (rewrite_in seat) own seat.tables k) fate
 
       pointers_fit : ArePointers (table_written (rewrite_in seat) own k).pointers
       pointers_fit = record {
         count = length-tabulate 1024 _;
         numbers = λ entry. elim (cases_lt entry 1024) [
           | inl below ↦ subst (λ p. p < 2 ^ 32) (sym (entry_is entry below)) (small (first_block k + entry) (omega arith))
-          | inr behind ↦ subst (λ p. p < 2 ^ 32) (sym (get_or_past (table_written (rewrite_in seat) own k).pointers entry 0 (let long : length (table_written (rewrite_in seat) own k).pointers ≡ 1024 = length-tabulate 1024 _ in omega arith))) (omega arith)
+          | inr behind ↦
+              subst (λ p. p < 2 ^ 32)
+              (sym
+              (get_or_past (table_written (rewrite_in seat) own k).pointers entry 0
+              (let long : length (table_written (rewrite_in seat) own k).pointers ≡ 1024 = length-tabulate 1024 _ in omega arith)))
+              (omega arith)
         ];
       }
         where
-          entry_is : (entry : ℕ) → entry < 1024 → slice_index (table_written (rewrite_in seat) own k).pointers entry ≡ (next.seen i).blocks (first_block k + entry)
+          entry_is : (entry : ℕ) → entry < 1024
+              → slice_index (table_written (rewrite_in seat) own k).pointers entry ≡ (next.seen i).blocks (first_block k + entry)
           entry_is entry below =
               get_or-tabulate 1024 (λ e. pointer_remapped (rewrite_in seat) own (first_block k + e)) entry 0 below
               ∙ sym (remapped_pointers_stand seat.meta seat.tables seat.changed own (first_block k + entry) (omega arith))
@@ -394,7 +469,10 @@ module _ (num : Numbering) (concerned : List ℕ) (old new : TreeState) (image :
 
   tables_kept_are : kept_tables after ≡ one.tables
   unfolding tables_kept
-  tables_kept_are = given_alike (table_kept (inode_in after) after.tables) (table_remapped (rewrite_in seat) own seat.tables) 0 16 (λ k at low. by_fate k low (table_fate (rewrite_in seat) k) refl) ∙ sym tables_are
+  tables_kept_are =
+      given_alike (table_kept (inode_in after) after.tables) (table_remapped (rewrite_in seat) own seat.tables) 0 16
+      (λ k at low. by_fate k low (table_fate (rewrite_in seat) k) refl)
+      ∙ sym tables_are
 
   -- the pointers of the new part
   pub pointer_after_is : (place : ℕ) → place < PLACES → pointer_at after place ≡ (next.seen i).blocks place
@@ -404,37 +482,45 @@ module _ (num : Numbering) (concerned : List ℕ) (old new : TreeState) (image :
 
   comes : (place : ℕ) → place < PLACES → ComesFrom fresh (parts i) (pointer_at after place) (content_at after place)
   comes place low =
-      subst (λ content. ComesFrom fresh (parts i) (pointer_at after place) content) (sym (gathered_is_read (store_planned store plan grant) after place (gathered_itself (store_planned store plan grant) (inode_bytes one.meta)) low))
+      subst (λ content. ComesFrom fresh (parts i) (pointer_at after place) content)
+      (sym (gathered_is_read (store_planned store plan grant) after place (gathered_itself (store_planned store plan grant) (inode_bytes one.meta)) low))
       (by_pointer (pointer_at after place) refl (cases_Bool (nat_eq (pointer_at after place) 0)))
     where
-      by_found : (p : ℕ) → pointer_at after place ≡ p → p ≢ 0 → (o : Option FreshBlock) → find (λ (other : FreshBlock). nat_eq other.block p) fresh ≡ o → ComesFrom fresh (parts i) p ((store_planned store plan grant) p)
+      by_found : (p : ℕ) → pointer_at after place ≡ p → p ≢ 0 → (o : Option FreshBlock) → find (λ (other : FreshBlock). nat_eq other.block p) fresh ≡ o
+          → ComesFrom fresh (parts i) p ((store_planned store plan grant) p)
       by_found p at some (Some b) e =
           let same = eqb-true b.block p (found_passes (λ (other : FreshBlock). nat_eq other.block p) fresh b e) in
           let there = found_is_in (λ (other : FreshBlock). nat_eq other.block p) fresh b e in
-          subst (λ content. ComesFrom fresh (parts i) p content) (sym (over_fresh b p e)) (subst (λ n. ComesFrom fresh (parts i) n b.bytes) same (written b there (λ none. some (sym same ∙ none))))
+          subst (λ content. ComesFrom fresh (parts i) p content) (sym (over_fresh b p e))
+          (subst (λ n. ComesFrom fresh (parts i) n b.bytes) same (written b there (λ none. some (sym same ∙ none))))
       by_found p at some None e = elim (granted_or_old place low (λ none. some (sym at ∙ pointer_after_is place low ∙ none))) [
         | inl in_grant ↦ absurd (not_found p (subst (λ n. Contains grant.blocks n) (sym (pointer_after_is place low) ∙ at) in_grant) e)
         | inr same ↦
             let old_at : pointer_at (parts i) place ≡ p = sym same ∙ sym (pointer_after_is place low) ∙ at in
             subst (λ content. ComesFrom fresh (parts i) p content)
-            (gathered_is_read store (parts i) place (is.standing.gathered i within) low ∙ ap (read_block store) old_at ∙ block_behind store p some ∙ sym (over_old p e))
+            (gathered_is_read store (parts i) place (is.standing.gathered i within) low ∙ ap (read_block store) old_at ∙ block_behind store p some
+            ∙ sym (over_old p e))
             (subst (λ n. ComesFrom fresh (parts i) n (content_at (parts i) place)) old_at (stands place low (λ none. some (sym old_at ∙ none))))
       ]
         where
           not_found : (p : ℕ) → Contains grant.blocks p → find (λ (other : FreshBlock). nat_eq other.block p) fresh ≡ None → ⊥
           not_found p in_grant none =
-              let in_numbers : Contains (map (λ (other : FreshBlock). other.block) fresh) p = subst (λ those. Contains those p) (sym (fresh_numbers num concerned old new image plan grant store parts is)) in_grant in
+              let in_numbers : Contains (map (λ (other : FreshBlock). other.block) fresh) p =
+              subst (λ those. Contains those p) (sym (fresh_numbers num concerned old new image plan grant store parts is)) in_grant in
               let b = mapped_is_in (λ (other : FreshBlock). other.block) fresh p in_numbers in
               none_some (sym none ∙ ap (λ n. find (λ (other : FreshBlock). nat_eq other.block n) fresh) (sym b.2)
               ∙ found_once (λ (other : FreshBlock). other.block) fresh (each_once num concerned old new image plan grant store parts is) b.0 b.1)
 
-      by_pointer : (p : ℕ) → pointer_at after place ≡ p → (nat_eq p 0 ≡ true) ⊎ (nat_eq p 0 ≡ false) → ComesFrom fresh (parts i) (pointer_at after place) (read_block (store_planned store plan grant) (pointer_at after place))
+      by_pointer : (p : ℕ) → pointer_at after place ≡ p → (nat_eq p 0 ≡ true) ⊎ (nat_eq p 0 ≡ false)
+          → ComesFrom fresh (parts i) (pointer_at after place) (read_block (store_planned store plan grant) (pointer_at after place))
       by_pointer p at (inl none) =
           let zero_is : 0 ≡ pointer_at after place = sym (at ∙ eqb-true p 0 none) in
-          subst (λ n. ComesFrom fresh (parts i) n (read_block (store_planned store plan grant) n)) zero_is (subst (λ content. ComesFrom fresh (parts i) 0 content) (sym (hole_is_read (store_planned store plan grant) 0 refl)) hole)
+          subst (λ n. ComesFrom fresh (parts i) n (read_block (store_planned store plan grant) n)) zero_is
+          (subst (λ content. ComesFrom fresh (parts i) 0 content) (sym (hole_is_read (store_planned store plan grant) 0 refl)) hole)
       by_pointer p at (inr some) =
           subst (λ n. ComesFrom fresh (parts i) n (read_block (store_planned store plan grant) n)) (sym at)
-          (subst (λ content. ComesFrom fresh (parts i) p content) (sym (block_behind (store_planned store plan grant) p (eqb-false p 0 some))) (by_found p at (eqb-false p 0 some) (find (λ (other : FreshBlock). nat_eq other.block p) fresh) refl))
+          (subst (λ content. ComesFrom fresh (parts i) p content) (sym (block_behind (store_planned store plan grant) p (eqb-false p 0 some)))
+          (by_found p at (eqb-false p 0 some) (find (λ (other : FreshBlock). nat_eq other.block p) fresh) refl))
 
   pub part_is_made : IsPartMade fresh (parts one.number) after one
   part_is_made = record {

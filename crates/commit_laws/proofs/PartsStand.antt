@@ -100,11 +100,17 @@ free_shows store =
       links = ap (λ (m : Inode). m.links) inode;
       size = ap (λ (m : Inode). m.size) inode;
       slots = ap (λ (m : Inode). cond (nat_eq m.kind 2) (flat_map slots_of (directory_blocks (part_of store (inode_bytes free_inode)))) []) inode;
-      bytes = ap (λ (m : Inode). cond (nat_eq m.kind 1) (tabulate (inode_in (part_of store (inode_bytes free_inode))).size (file_byte (part_of store (inode_bytes free_inode)))) []) inode;
-      blocks = λ place _. holes_have_none store (inode_bytes free_inode) (ap (λ (m : Inode). m.direct) (inode_of-inode_bytes free_inode free_fits)) (ap (λ (m : Inode). m.indirect) (inode_of-inode_bytes free_inode free_fits)) place;
+      bytes =
+          ap (λ (m : Inode). cond (nat_eq m.kind 1)
+          (tabulate (inode_in (part_of store (inode_bytes free_inode))).size (file_byte (part_of store (inode_bytes free_inode)))) [])
+          inode;
+      blocks =
+          λ place _. holes_have_none store (inode_bytes free_inode) (ap (λ (m : Inode). m.direct) (inode_of-inode_bytes free_inode free_fits))
+          (ap (λ (m : Inode). m.indirect) (inode_of-inode_bytes free_inode free_fits)) place;
     }
 
-module _ (num : Numbering) (concerned : List ℕ) (old new : TreeState) (image : SeenInodes) (plan : CommitPlan) (grant : GrantedNumbers) (store : ℕ → List ℕ) (parts : ℕ → Part)
+module _ (num : Numbering) (concerned : List ℕ) (old new : TreeState) (image : SeenInodes) (plan : CommitPlan) (grant : GrantedNumbers) (store : ℕ → List ℕ)
+    (parts : ℕ → Part)
     (is : IsPlanOverParts num concerned old new image plan grant store parts) (contents : HasContents num concerned old new image plan grant parts) where
   abbrev whole : IsCommitPlan num concerned old new image plan grant
   whole = is.full.sound.whole
@@ -140,10 +146,13 @@ module _ (num : Numbering) (concerned : List ℕ) (old new : TreeState) (image :
       not_found : (ones : List Built) (one : Built) → Contains ones one → one.number ≡ i → find (λ (one : Built). nat_eq one.number i) ones ≡ None → ⊥
       not_found [] one (k, low, e) same none = absurd (omega arith)
       not_found (first ∷ ones) one (zero, low, e) same none =
-          none_some (sym none ∙ cond-true (nat_eq first.number i) (Some first) _ (ap (λ (b : Built). nat_eq b.number i) e ∙ ap (λ n. nat_eq n i) same ∙ same_number i))
+          none_some
+          (sym none
+          ∙ cond-true (nat_eq first.number i) (Some first) _ (ap (λ (b : Built). nat_eq b.number i) e ∙ ap (λ n. nat_eq n i) same ∙ same_number i))
       not_found (first ∷ ones) one (suc k, low, e) same none = further (nat_eq first.number i) none (λ rest. not_found ones one (k, omega arith, e) same rest)
         where
-          further : (b : Bool) → cond b (Some first) (find (λ (one : Built). nat_eq one.number i) ones) ≡ None → (find (λ (one : Built). nat_eq one.number i) ones ≡ None → ⊥) → ⊥
+          further : (b : Bool) → cond b (Some first) (find (λ (one : Built). nat_eq one.number i) ones) ≡ None
+              → (find (λ (one : Built). nat_eq one.number i) ones ≡ None → ⊥) → ⊥
           further true e later = none_some (sym e)
           further false e later = later e
 
@@ -152,19 +161,26 @@ module _ (num : Numbering) (concerned : List ℕ) (old new : TreeState) (image :
     where
       by : (o : Option ℕ) → find (has_number commit.after i) concerned ≡ o → o ≡ None
       by None e = refl
-      by (Some x) e = let found = found_listed (has_number commit.after i) concerned x e in absurd (number_built i x (number_is commit.after i x found.passes) found.listed none)
+      by (Some x) e = let found = found_listed (has_number commit.after i) concerned x e in
+          absurd (number_built i x (number_is commit.after i x found.passes) found.listed none)
 
   -- of an inode that is not built
-  not_built : (i : ℕ) → find (λ (one : Built). nat_eq one.number i) nodes ≡ None → next.seen i ≡ cond (list_any (has_number num i) concerned) blank (image.seen i)
-  not_built i none = ap (λ (o : Option ℕ). option_map_or (seen_built commit new image (rewrites_of_change commit change image) i) o (cond (list_any (has_number num i) concerned) blank (image.seen i))) (none_has i none)
+  not_built : (i : ℕ) → find (λ (one : Built). nat_eq one.number i) nodes ≡ None
+      → next.seen i ≡ cond (list_any (has_number num i) concerned) blank (image.seen i)
+  not_built i none =
+      ap (λ (o : Option ℕ). option_map_or (seen_built commit new image (rewrites_of_change commit change image) i) o
+      (cond (list_any (has_number num i) concerned) blank (image.seen i)))
+      (none_has i none)
 
   gone_has : (i : ℕ) → is_among (map entry_number change.gone) i ≡ true → list_any (has_number num i) concerned ≡ true
   gone_has i gone =
       let entry = mapped_is_in entry_number change.gone i (among_is_in (map entry_number change.gone) i gone) in
       let there = (kept_in (leaves plan.leave) plan.old entry.0 entry.1).0 in
-      listed_found (has_number num i) concerned entry.0.node.0 (whole.from.own entry.0 there) (is_number num i entry.0.node.0 (whole.from.numbered.old_numbers entry.0 there ∙ ap Some entry.2))
+      listed_found (has_number num i) concerned entry.0.node.0 (whole.from.own entry.0 there)
+      (is_number num i entry.0.node.0 (whole.from.numbered.old_numbers entry.0 there ∙ ap Some entry.2))
 
-  stays_has : (i : ℕ) → find (λ (one : Built). nat_eq one.number i) nodes ≡ None → is_among (map entry_number change.gone) i ≡ false → list_any (has_number num i) concerned ≡ false
+  stays_has : (i : ℕ) → find (λ (one : Built). nat_eq one.number i) nodes ≡ None → is_among (map entry_number change.gone) i ≡ false
+      → list_any (has_number num i) concerned ≡ false
   stays_has i none stays = by (list_any (has_number num i) concerned) refl
     where
       by : (b : Bool) → list_any (has_number num i) concerned ≡ b → b ≡ false
@@ -176,12 +192,18 @@ module _ (num : Numbering) (concerned : List ℕ) (old new : TreeState) (image :
           let number : entry.0.old.number ≡ i = some_same (sym (whole.from.numbered.old_numbers entry.0 entry.1) ∙ ap num entry.2 ∙ had) in
           absurd (by_leave found.0 found.1.listed had entry.0 entry.1 entry.2 number)
         where
-          by_leave : (y : ℕ) → is_among concerned y ≡ true → num y ≡ Some i → (entry : OldEntry) → Contains plan.old entry → entry.node.0 ≡ y → entry.old.number ≡ i → ⊥
+          by_leave : (y : ℕ) → is_among concerned y ≡ true → num y ≡ Some i → (entry : OldEntry) → Contains plan.old entry → entry.node.0 ≡ y
+              → entry.old.number ≡ i → ⊥
           by_leave y among had entry there same number = elim (cases_Bool (node_leaves plan.leave y)) [
             | inl leaves_it ↦
                 let in_gone : Contains change.gone entry = in_kept (leaves plan.leave) plan.old entry there (ap (node_leaves plan.leave) same ∙ leaves_it) in
-                true_not_false (sym (in_is_among (map entry_number change.gone) i (subst (λ n. Contains (map entry_number change.gone) n) number (in_mapped entry_number change.gone entry in_gone))) ∙ stays)
-            | inr stays_it ↦ number_built i y (after_had num concerned old new image plan grant whole y i had ∙ ap (λ b. cond b None (Some i)) stays_it) among none
+                true_not_false
+                (sym
+                (in_is_among (map entry_number change.gone) i
+                (subst (λ n. Contains (map entry_number change.gone) n) number (in_mapped entry_number change.gone entry in_gone)))
+                ∙ stays)
+            | inr stays_it ↦
+                number_built i y (after_had num concerned old new image plan grant whole y i had ∙ ap (λ b. cond b None (Some i)) stays_it) among none
           ]
 
   part_shows : (i : ℕ) → i < image.count → ShowTheSame (seen_of (part_next store parts plan grant i)) (next.seen i)
@@ -193,21 +215,31 @@ module _ (num : Numbering) (concerned : List ℕ) (old new : TreeState) (image :
       rest : Bool → Part
       rest b = cond b (part_of store (inode_bytes free_inode)) (parts i)
 
-      by_gone : find (λ (one : Built). nat_eq one.number i) nodes ≡ None → (b : Bool) → is_among (map entry_number change.gone) i ≡ b → ShowTheSame (seen_of (rest b)) (next.seen i)
-      by_gone none true e = subst (ShowTheSame (seen_of (part_of store (inode_bytes free_inode)))) (sym (not_built i none ∙ ap (λ b. cond b blank (image.seen i)) (gone_has i e))) (free_shows store)
-      by_gone none false e = itself (seen_of (parts i)) (next.seen i) (sym (is.standing.shown i low) ∙ sym (not_built i none ∙ ap (λ b. cond b blank (image.seen i)) (stays_has i none e)))
+      by_gone : find (λ (one : Built). nat_eq one.number i) nodes ≡ None → (b : Bool) → is_among (map entry_number change.gone) i ≡ b
+          → ShowTheSame (seen_of (rest b)) (next.seen i)
+      by_gone none true e =
+          subst (ShowTheSame (seen_of (part_of store (inode_bytes free_inode)))) (sym (not_built i none ∙ ap (λ b. cond b blank (image.seen i)) (gone_has i e)))
+          (free_shows store)
+      by_gone none false e =
+          itself (seen_of (parts i)) (next.seen i)
+          (sym (is.standing.shown i low) ∙ sym (not_built i none ∙ ap (λ b. cond b blank (image.seen i)) (stays_has i none e)))
 
       by : (o : Option Built) → find (λ (one : Built). nat_eq one.number i) nodes ≡ o → ShowTheSame (seen_of (part_next store parts plan grant i)) (next.seen i)
       by (Some one) e =
           let number = eqb-true one.number i (found_passes (λ (one : Built). nat_eq one.number i) nodes one e) in
-          subst (λ (p : Part). ShowTheSame (seen_of p) (next.seen i)) (sym (ap (λ (o : Option Built). option_map_or (part_made store plan grant) o (rest (is_among (map entry_number change.gone) i))) e))
-          (subst (λ n. ShowTheSame (seen_of (part_made store plan grant one)) (next.seen n)) number (built_shows one (found_is_in (λ (one : Built). nat_eq one.number i) nodes one e)))
+          subst (λ (p : Part). ShowTheSame (seen_of p) (next.seen i))
+          (sym (ap (λ (o : Option Built). option_map_or (part_made store plan grant) o (rest (is_among (map entry_number change.gone) i))) e))
+          (subst (λ n. ShowTheSame (seen_of (part_made store plan grant one)) (next.seen n)) number
+          (built_shows one (found_is_in (λ (one : Built). nat_eq one.number i) nodes one e)))
       by None e =
-          subst (λ (p : Part). ShowTheSame (seen_of p) (next.seen i)) (sym (ap (λ (o : Option Built). option_map_or (part_made store plan grant) o (rest (is_among (map entry_number change.gone) i))) e))
+          subst (λ (p : Part). ShowTheSame (seen_of p) (next.seen i))
+          (sym (ap (λ (o : Option Built). option_map_or (part_made store plan grant) o (rest (is_among (map entry_number change.gone) i))) e))
           (by_gone e (is_among (map entry_number change.gone) i) refl)
 
   pub parts_stand : StandsForTree commit.after new (inodes_next store parts image plan grant)
-  parts_stand = alike_images_stand commit.after new (inodes_next store parts image plan grant) next (record { count = refl; each = part_shows }) (stands_after commit old new image next (step num concerned old new image plan grant is.full))
+  parts_stand =
+      alike_images_stand commit.after new (inodes_next store parts image plan grant) next (record { count = refl; each = part_shows })
+      (stands_after commit old new image next (step num concerned old new image plan grant is.full))
 
 pub plans_leave_parts : PlansLeaveParts
 plans_leave_parts = parts_stand

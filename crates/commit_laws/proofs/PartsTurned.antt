@@ -48,7 +48,9 @@ use Rattle.commit_laws.proofs.Shown.{found_is_in}
 
 -- a free part has no pointer
 pub free_has_none : (store : ℕ → List ℕ) (place : ℕ) → pointer_at (part_of store (inode_bytes free_inode)) place ≡ 0
-free_has_none store place = holes_have_none store (inode_bytes free_inode) (ap (λ (m : Inode). m.direct) (inode_of-inode_bytes free_inode free_fits)) (ap (λ (m : Inode). m.indirect) (inode_of-inode_bytes free_inode free_fits)) place
+free_has_none store place =
+    holes_have_none store (inode_bytes free_inode) (ap (λ (m : Inode). m.direct) (inode_of-inode_bytes free_inode free_fits))
+    (ap (λ (m : Inode). m.indirect) (inode_of-inode_bytes free_inode free_fits)) place
 
 -- and so it is made of nothing
 free_is_made : (fresh : List FreshBlock) (before : Part) (store : ℕ → List ℕ) → IsMadeOf fresh before (part_of store (inode_bytes free_inode))
@@ -59,10 +61,14 @@ free_is_made fresh before store = record {
       let none = free_has_none store place in
       subst (λ p. ComesFrom fresh before p (content_at (part_of store (inode_bytes free_inode)) place)) (sym none)
       (subst (λ content. ComesFrom fresh before 0 content)
-      (sym (gathered_is_read store (part_of store (inode_bytes free_inode)) place (gathered_itself store (inode_bytes free_inode)) low ∙ hole_is_read store _ none)) hole);
+      (sym
+      (gathered_is_read store (part_of store (inode_bytes free_inode)) place (gathered_itself store (inode_bytes free_inode)) low
+      ∙ hole_is_read store _ none))
+      hole);
 }
 
-module _ (num : Numbering) (concerned : List ℕ) (old new : TreeState) (image : SeenInodes) (plan : CommitPlan) (grant : GrantedNumbers) (store : ℕ → List ℕ) (parts : ℕ → Part)
+module _ (num : Numbering) (concerned : List ℕ) (old new : TreeState) (image : SeenInodes) (plan : CommitPlan) (grant : GrantedNumbers) (store : ℕ → List ℕ)
+    (parts : ℕ → Part)
     (is : IsPlanOverParts num concerned old new image plan grant store parts) where
   abbrev whole : IsCommitPlan num concerned old new image plan grant
   whole = is.full.sound.whole
@@ -80,7 +86,8 @@ module _ (num : Numbering) (concerned : List ℕ) (old new : TreeState) (image :
   rest gone i = cond gone (part_of store (inode_bytes free_inode)) (parts i)
 
   -- by what becomes of an inode
-  pub by_part : (P : ℕ → Part → Type 0) → ((one : Built) → Contains nodes one → P one.number (part_made store plan grant one)) → ((i : ℕ) → P i (part_of store (inode_bytes free_inode))) → ((i : ℕ) → i < image.count → P i (parts i))
+  pub by_part : (P : ℕ → Part → Type 0) → ((one : Built) → Contains nodes one → P one.number (part_made store plan grant one))
+      → ((i : ℕ) → P i (part_of store (inode_bytes free_inode))) → ((i : ℕ) → i < image.count → P i (parts i))
       → (i : ℕ) → i < image.count → P i (part_next store parts plan grant i)
   by_part P of_built of_free of_other i low = by (find (λ (one : Built). nat_eq one.number i) nodes) refl
     where
@@ -94,11 +101,14 @@ module _ (num : Numbering) (concerned : List ℕ) (old new : TreeState) (image :
           subst (P i) (sym (ap (λ (o : Option Built). option_map_or (part_made store plan grant) o (rest (is_among (map entry_number change.gone) i) i)) e))
           (subst (λ n. P n (part_made store plan grant one)) number (of_built one (found_is_in (λ (one : Built). nat_eq one.number i) nodes one e)))
       by None e =
-          subst (P i) (sym (ap (λ (o : Option Built). option_map_or (part_made store plan grant) o (rest (is_among (map entry_number change.gone) i) i)) e)) (by_gone (is_among (map entry_number change.gone) i))
+          subst (P i) (sym (ap (λ (o : Option Built). option_map_or (part_made store plan grant) o (rest (is_among (map entry_number change.gone) i) i)) e))
+          (by_gone (is_among (map entry_number change.gone) i))
 
   pub turns : (i : ℕ) → i < image.count → TurnsInto fresh (parts i) (part_next store parts plan grant i)
   turns = by_part (λ i part. TurnsInto fresh (parts i) part)
-      (λ one there. made_turns fresh (parts one.number) (part_made store plan grant one) (part_is_made num concerned old new image plan grant store parts is one there (node_built num concerned old new image plan grant is.full one there)).made)
+      (λ one there. made_turns fresh (parts one.number) (part_made store plan grant one)
+      (part_is_made num concerned old new image plan grant store parts is one there
+      (node_built num concerned old new image plan grant is.full one there)).made)
       (λ i. made_turns fresh (parts i) (part_of store (inode_bytes free_inode)) (free_is_made fresh (parts i) store))
       (λ i low other stands gathered. gathered)
 
@@ -109,12 +119,18 @@ module _ (num : Numbering) (concerned : List ℕ) (old new : TreeState) (image :
       let kept = kept_in (leaves plan.leave) plan.old entry gone in
       let own : num entry.node.0 ≡ Some entry.old.number = whole.from.numbered.old_numbers entry kept.0 in
       let number : node.of.inode ≡ entry.old.number = sym node.inode ∙ same in
-      by node.of.begun.node node.of.inode node.of.number number own kept.1 ((numbers num concerned old new image plan grant whole).gives.comes node.of.begun.node node.of.inode node.of.number)
+      by node.of.begun.node node.of.inode node.of.number number own kept.1
+      ((numbers num concerned old new image plan grant whole).gives.comes node.of.begun.node node.of.inode node.of.number)
     where
-      by : (x i : ℕ) → (commit_of num concerned plan grant).after x ≡ Some i → i ≡ entry.old.number → num entry.node.0 ≡ Some entry.old.number → node_leaves plan.leave entry.node.0 ≡ true → ComesBy (commit_of num concerned plan grant) image x i → ⊥
+      by : (x i : ℕ) → (commit_of num concerned plan grant).after x ≡ Some i → i ≡ entry.old.number → num entry.node.0 ≡ Some entry.old.number
+          → node_leaves plan.leave entry.node.0 ≡ true → ComesBy (commit_of num concerned plan grant) image x i → ⊥
       by x i has number own leaving (had p) =
           let here : x ≡ entry.node.0 = whole.stands.once x entry.node.0 i p (own ∙ ap Some (sym number)) in
-          none_some (sym (after_had num concerned old new image plan grant whole entry.node.0 entry.old.number own ∙ ap (λ b. cond b None (Some entry.old.number)) leaving) ∙ ap (commit_of num concerned plan grant).after (sym here) ∙ has)
+          none_some
+          (sym
+          (after_had num concerned old new image plan grant whole entry.node.0 entry.old.number own
+          ∙ ap (λ b. cond b None (Some entry.old.number)) leaving)
+          ∙ ap (commit_of num concerned plan grant).after (sym here) ∙ has)
       by x i has number own leaving (enters none low free) =
           not_used (kind_of old entry.node.0) (sym (whole.stands.each entry.node.0 i (own ∙ ap Some (sym number))).kind ∙ free.kind)
 
@@ -126,7 +142,9 @@ module _ (num : Numbering) (concerned : List ℕ) (old new : TreeState) (image :
 
   of_gone : (entry : OldEntry) → Contains change.gone entry → (part_next store parts plan grant entry.old.number).raw ≡ inode_bytes free_inode
   of_gone entry there =
-      ap (λ (o : Option Built). (option_map_or (part_made store plan grant) o (rest (is_among (map entry_number change.gone) entry.old.number) entry.old.number)).raw) (none_built (find (λ (one : Built). nat_eq one.number entry.old.number) nodes) refl)
+      ap (λ (o : Option Built).
+      (option_map_or (part_made store plan grant) o (rest (is_among (map entry_number change.gone) entry.old.number) entry.old.number)).raw)
+      (none_built (find (λ (one : Built). nat_eq one.number entry.old.number) nodes) refl)
       ∙ ap (λ b. (rest b entry.old.number).raw) (in_is_among (map entry_number change.gone) entry.old.number (in_mapped entry_number change.gone entry there))
       ∙ raw_of store (inode_bytes free_inode)
     where
@@ -144,17 +162,21 @@ module _ (num : Numbering) (concerned : List ℕ) (old new : TreeState) (image :
   ]
 
   pub writes : (r : TxRecord) → Contains (records_written change grant) r → (part_next store parts plan grant r.inode).raw ≡ r.bytes
-  writes r there = elim (Contains-append_cases (filter_map written_of_built nodes) (filter_map written_of_gone change.gone) r (ascending_is_in record_inode _ r there)) [
-    | inl in_built ↦
-        let one = given_by written_of_built nodes r in_built in
-        ap (λ n. (part_next store parts plan grant n).raw) (sym (written_number (record_of_built one.0) r one.2)) ∙ of_built one.0 one.1 ∙ written_bytes (record_of_built one.0) r one.2
-    | inr in_gone ↦
-        let entry = given_by written_of_gone change.gone r in_gone in
-        ap (λ n. (part_next store parts plan grant n).raw) (sym (written_number (record_of_gone entry.0) r entry.2)) ∙ of_gone entry.0 entry.1 ∙ written_bytes (record_of_gone entry.0) r entry.2
-  ]
+  writes r there =
+      elim (Contains-append_cases (filter_map written_of_built nodes) (filter_map written_of_gone change.gone) r (ascending_is_in record_inode _ r there)) [
+        | inl in_built ↦
+            let one = given_by written_of_built nodes r in_built in
+            ap (λ n. (part_next store parts plan grant n).raw) (sym (written_number (record_of_built one.0) r one.2)) ∙ of_built one.0 one.1
+            ∙ written_bytes (record_of_built one.0) r one.2
+        | inr in_gone ↦
+            let entry = given_by written_of_gone change.gone r in_gone in
+            ap (λ n. (part_next store parts plan grant n).raw) (sym (written_number (record_of_gone entry.0) r entry.2)) ∙ of_gone entry.0 entry.1
+            ∙ written_bytes (record_of_gone entry.0) r entry.2
+      ]
 
   -- what is built points to the data area
-  pub built_in_data : (layout : Layout) → LieInData layout image parts grant → (one : Built) → Contains nodes one → PointsToData layout (part_made store plan grant one)
+  pub built_in_data : (layout : Layout) → LieInData layout image parts grant → (one : Built) → Contains nodes one
+      → PointsToData layout (part_made store plan grant one)
   built_in_data layout data_is one there place some = elim (cases_lt place PLACES) [
     | inr past ↦ absurd (some (none_past_places (store_over fresh store) (inode_bytes one.meta) place past))
     | inl low ↦
@@ -165,16 +187,19 @@ module _ (num : Numbering) (concerned : List ℕ) (old new : TreeState) (image :
     where
       by : (one : Built) (there : Contains nodes one) (node : IsBuiltNode num concerned old new image plan grant is.full one) (place : ℕ) → place < PLACES
           → ((image_planned num concerned new image plan grant).seen node.of.inode).blocks place ≢ 0
-          → (data_start layout ≤ ((image_planned num concerned new image plan grant).seen node.of.inode).blocks place) × (((image_planned num concerned new image plan grant).seen node.of.inode).blocks place < layout.blocks)
+          → (data_start layout ≤ ((image_planned num concerned new image plan grant).seen node.of.inode).blocks place)
+          × (((image_planned num concerned new image plan grant).seen node.of.inode).blocks place < layout.blocks)
       by one there node place low there_is = elim (granted_or_old num concerned old new image plan grant store parts is one there node place low there_is) [
         | inl in_grant ↦ data_is.granted _ in_grant
         | inr same ↦
             subst (λ p. (data_start layout ≤ p) × (p < layout.blocks)) (sym same)
-            (data_is.parts_do node.of.inode (within num concerned old new image plan grant store parts is one there node) place (λ none. there_is (same ∙ none)))
+            (data_is.parts_do node.of.inode (within num concerned old new image plan grant store parts is one there node) place
+            (λ none. there_is (same ∙ none)))
       ]
 
   pub points : (layout : Layout) → LieInData layout image parts grant → (i : ℕ) → i < image.count → PointsToData layout (part_next store parts plan grant i)
-  points layout data_is = by_part (λ i part. PointsToData layout part) (built_in_data layout data_is) (λ i place some. absurd (some (free_has_none store place))) data_is.parts_do
+  points layout data_is =
+      by_part (λ i part. PointsToData layout part) (built_in_data layout data_is) (λ i place some. absurd (some (free_has_none store place))) data_is.parts_do
 
 pub plans_turn_parts : PlansTurnParts
 plans_turn_parts = turns
@@ -183,4 +208,5 @@ pub plans_write_parts : PlansWriteParts
 plans_write_parts = writes
 
 pub plans_point_to_data : PlansPointToData
-plans_point_to_data num concerned old new image plan grant store parts layout is data_is i low = points num concerned old new image plan grant store parts is layout data_is i low
+plans_point_to_data num concerned old new image plan grant store parts layout is data_is i low =
+    points num concerned old new image plan grant store parts is layout data_is i low

@@ -58,19 +58,24 @@ blocks_are_long (first ∷ blocks) long block (zero, within, is) = ap length (sy
 blocks_are_long (first ∷ blocks) long block (suc k, within, is) = blocks_are_long blocks long.1 block (k, omega arith, is)
 
 -- the slots of a node that is built stand in blocks of slots
-built_blocks : (changes : CommitChanges) (numbers : ℕ → Option ℕ) (net : List NetRow) (begun : Begun) → AreSlotBlocks begun.slots → (kind : Kind) → AreSlotBlocks (map (block_numbered numbers net) (seated_as kind changes begun).slots)
+built_blocks : (changes : CommitChanges) (numbers : ℕ → Option ℕ) (net : List NetRow) (begun : Begun) → AreSlotBlocks begun.slots → (kind : Kind)
+    → AreSlotBlocks (map (block_numbered numbers net) (seated_as kind changes begun).slots)
 built_blocks changes numbers net begun long File = blocks_are_long [] (long_blocks [] (λ block there. absurd (let within = there.1 in omega arith)))
 built_blocks changes numbers net begun long Directory =
     let own : List NetRow = net_of_node changes.nets begun.node in
     let after : List Slots = slot_blocks_after changes.directories own begun.slots in
-    blocks_are_long _ (long_numbered numbers net (take (blocks_to_last_row after) after) (long_taken (blocks_to_last_row after) after (long_after changes.directories own begun.slots (long_blocks begun.slots long))))
+    blocks_are_long _
+    (long_numbered numbers net (take (blocks_to_last_row after) after)
+    (long_taken (blocks_to_last_row after) after (long_after changes.directories own begun.slots (long_blocks begun.slots long))))
 
 -- and a file has none
-pub built_plain : (changes : CommitChanges) (numbers : ℕ → Option ℕ) (net : List NetRow) (begun : Begun) (kind : Kind) → (seated_as kind changes begun).meta.kind ≡ kind_byte File → map (block_numbered numbers net) (seated_as kind changes begun).slots ≡ []
+pub built_plain : (changes : CommitChanges) (numbers : ℕ → Option ℕ) (net : List NetRow) (begun : Begun) (kind : Kind)
+    → (seated_as kind changes begun).meta.kind ≡ kind_byte File → map (block_numbered numbers net) (seated_as kind changes begun).slots ≡ []
 built_plain changes numbers net begun File file = refl
 built_plain changes numbers net begun Directory file = absurd (cc)
 
-module _ (num : Numbering) (concerned : List ℕ) (old new : TreeState) (image : SeenInodes) (plan : CommitPlan) (grant : GrantedNumbers) (full : IsFullPlan num concerned old new image plan grant) where
+module _ (num : Numbering) (concerned : List ℕ) (old new : TreeState) (image : SeenInodes) (plan : CommitPlan) (grant : GrantedNumbers)
+    (full : IsFullPlan num concerned old new image plan grant) where
   abbrev change : Planned
   change = change_planned plan
 
@@ -91,15 +96,24 @@ module _ (num : Numbering) (concerned : List ℕ) (old new : TreeState) (image :
   node_built one there =
       let at = in_is_there (nodes_with_grant change grant) one there in
       let within = slice_get_within (nodes_with_grant change grant) at.0 one at.1 in
-      let seat = some_there change.seats at.0 (omega (arith, within, length_built change.changes (numbers_with change grant.inodes) change.seats grant.blocks)) in
+      let seat =
+      some_there change.seats at.0 (omega (arith, within, length_built change.changes (numbers_with change grant.inodes) change.seats grant.blocks)) in
       let ranked = nodes_are_built_by_rank change grant at.0 seat.0 seat.1 in
       let of = seat_is num concerned old new image plan grant full at.0 seat.0 seat.1 in
-      let shown = built_nodes_show_their_inodes (commit_of num concerned plan grant) change grant old new image concerned of.inode at.0 of.begun (made num concerned old new image plan grant full).is of.built in
+      let shown =
+      built_nodes_show_their_inodes (commit_of num concerned plan grant) change grant old new image concerned of.inode at.0 of.begun
+      (made num concerned old new image plan grant full).is of.built in
       let same : shown.0 ≡ one = some_same (sym shown.1 ∙ at.1) in
       let number : one.number ≡ of.inode =
-      some_same (sym (slice_get-map (λ (b : Built). b.number) (nodes_with_grant change grant) at.0 ∙ ap (option_map (λ (b : Built). b.number)) at.1) ∙ of.built.inode) in
-      let seen : next.seen of.inode ≡ seen_built (commit_of num concerned plan grant) new image (rewrites_of_change (commit_of num concerned plan grant) change image) of.inode of.begun.node =
-      built_seen (commit_of num concerned plan grant) old new image (rewrites_of_change (commit_of num concerned plan grant) change image) concerned full.sound.whole.stands (from num concerned old new image plan grant full) of.begun.node of.inode of.number of.among in
+      some_same
+      (sym (slice_get-map (λ (b : Built). b.number) (nodes_with_grant change grant) at.0 ∙ ap (option_map (λ (b : Built). b.number)) at.1)
+      ∙ of.built.inode) in
+      let seen : next.seen of.inode
+      ≡ seen_built (commit_of num concerned plan grant) new image
+      (rewrites_of_change (commit_of num concerned plan grant) change image) of.inode of.begun.node =
+      built_seen (commit_of num concerned plan grant) old new image
+      (rewrites_of_change (commit_of num concerned plan grant) change image) concerned full.sound.whole.stands
+      (from num concerned old new image plan grant full) of.begun.node of.inode of.number of.among in
       record {
         m = at.0;
         seat = seat.0;
@@ -107,7 +121,13 @@ module _ (num : Numbering) (concerned : List ℕ) (old new : TreeState) (image :
         of = of;
         is = some_same (sym at.1 ∙ ranked.built);
         inode = number;
-        shows = subst (ShowsInode one) (sym (ap next.seen number ∙ seen)) (subst (λ (b : Built). ShowsInode b (seen_built (commit_of num concerned plan grant) new image (rewrites_of_change (commit_of num concerned plan grant) change image) of.inode of.begun.node)) same shown.2);
+        shows =
+            subst (ShowsInode one) (sym (ap next.seen number ∙ seen))
+            (subst
+            (λ (b : Built). ShowsInode b
+            (seen_built (commit_of num concerned plan grant) new image
+            (rewrites_of_change (commit_of num concerned plan grant) change image) of.inode of.begun.node))
+            same shown.2);
       }
 
   kept_after : (one : Built) → IsBuiltNode one → IsKeptAfter num concerned new image plan grant (entry_after one)
@@ -115,10 +135,15 @@ module _ (num : Numbering) (concerned : List ℕ) (old new : TreeState) (image :
       let numbers : ℕ → Option ℕ = numbers_with change grant.inodes in
       let net : List NetRow = net_of_node change.changes.nets node.seat.node in
       let begun : Begun = node.of.begun in
-      let slots : one.slots ≡ map (block_numbered numbers net) (seated change.changes begun).slots = ap (λ (b : Built). b.slots) node.is ∙ ap (λ (s : Seated). map (block_numbered numbers net) s.slots) (sym node.of.begins) in
-      let kind : one.meta.kind ≡ (seated change.changes begun).meta.kind = ap (λ (b : Built). b.meta.kind) node.is ∙ ap (λ (s : Seated). s.meta.kind) (sym node.of.begins) in
+      let slots : one.slots ≡ map (block_numbered numbers net) (seated change.changes begun).slots =
+      ap (λ (b : Built). b.slots) node.is ∙ ap (λ (s : Seated). map (block_numbered numbers net) s.slots) (sym node.of.begins) in
+      let kind : one.meta.kind ≡ (seated change.changes begun).meta.kind =
+      ap (λ (b : Built). b.meta.kind) node.is ∙ ap (λ (s : Seated). s.meta.kind) (sym node.of.begins) in
       record {
-        number = ap (commit_of num concerned plan grant).after (ap (λ (b : Built). b.node) node.is ∙ ap (λ (s : Seated). s.node) (sym node.of.begins) ∙ planned_node change.changes begun begun.kind) ∙ node.of.number ∙ ap Some (sym node.inode);
+        number =
+            ap (commit_of num concerned plan grant).after
+            (ap (λ (b : Built). b.node) node.is ∙ ap (λ (s : Seated). s.node) (sym node.of.begins) ∙ planned_node change.changes begun begun.kind)
+            ∙ node.of.number ∙ ap Some (sym node.inode);
         shown = record {
           kind = node.shows.kind;
           links = node.shows.links;
@@ -135,5 +160,8 @@ plans_show_inodes num concerned old new image plan grant full one there = (node_
 
 pub plans_keep_shown : PlansKeepShown
 plans_keep_shown num concerned old new image plan grant full entry there =
-    let one = mapped_is_in entry_after (nodes_with_grant (change_planned plan) grant) entry (ascending_is_in entry_node (map entry_after (nodes_with_grant (change_planned plan) grant)) entry there) in
-    subst (IsKeptAfter num concerned new image plan grant) one.2 (kept_after num concerned old new image plan grant full one.0 (node_built num concerned old new image plan grant full one.0 one.1))
+    let one =
+    mapped_is_in entry_after (nodes_with_grant (change_planned plan) grant) entry
+    (ascending_is_in entry_node (map entry_after (nodes_with_grant (change_planned plan) grant)) entry there) in
+    subst (IsKeptAfter num concerned new image plan grant) one.2
+    (kept_after num concerned old new image plan grant full one.0 (node_built num concerned old new image plan grant full one.0 one.1))

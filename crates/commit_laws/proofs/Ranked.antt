@@ -19,7 +19,8 @@ use Rattle.disk_change.specs.Seated.{CommitChanges, Seated}
 use Rattle.commit_laws.specs.Ranked.{fresh_cut, NodesAreBuiltByRank, NeedsAreThose}
 
 -- the blocks of the first nodes come before those of the next
-pub rank_of_first : (seats : List Seated) (m : ℕ) → m ≤ length seats → rank (takes_in_row (map rewrite_in seats)) (place_in_row m 0) ≡ sum_by blocks_taken (take m seats)
+pub rank_of_first : (seats : List Seated) (m : ℕ) → m ≤ length seats
+    → rank (takes_in_row (map rewrite_in seats)) (place_in_row m 0) ≡ sum_by blocks_taken (take m seats)
 rank_of_first seats zero within = rank_first (takes_in_row (map rewrite_in seats)) ∙ sym (ap (sum_by blocks_taken) (none seats))
   where
     none : (xs : List Seated) → take 0 xs ≡ []
@@ -29,10 +30,13 @@ rank_of_first [] (suc m) within = absurd (omega arith)
 rank_of_first (first ∷ seats) (suc m) within =
     let all : List Seated = first ∷ seats in
     let seat : Seated = get_or all m first in
-    let here : slice_get (map rewrite_in all) m ≡ Some (rewrite_in seat) = slice_get-map rewrite_in all m ∙ ap (option_map rewrite_in) (slice_get-get_or all m first (omega arith)) in
+    let here : slice_get (map rewrite_in all) m ≡ Some (rewrite_in seat) =
+    slice_get-map rewrite_in all m ∙ ap (option_map rewrite_in) (slice_get-get_or all m first (omega arith)) in
     ap (rank (takes_in_row (map rewrite_in all))) (next m) ∙ ranks_go_on (map rewrite_in all) m PLACES (rewrite_in seat) here (omega arith)
     ∙ ap (λ n. n + blocks_taken seat) (rank_of_first all m (omega arith))
-    ∙ sym (ap (λ k. sum_by blocks_taken (take k all)) (suc_is_one_more m) ∙ ap (sum_by blocks_taken) (take_more all m first (omega arith)) ∙ sum_by-append blocks_taken (take m all) (seat ∷ []) ∙ ap (λ n. sum_by blocks_taken (take m all) + n) (alone seat))
+    ∙ sym
+    (ap (λ k. sum_by blocks_taken (take k all)) (suc_is_one_more m) ∙ ap (sum_by blocks_taken) (take_more all m first (omega arith))
+    ∙ sum_by-append blocks_taken (take m all) (seat ∷ []) ∙ ap (λ n. sum_by blocks_taken (take m all) + n) (alone seat))
   where
     next : (m : ℕ) → PLACES * suc m + 0 ≡ PLACES * m + PLACES
     next m = omega arith
@@ -42,7 +46,8 @@ rank_of_first (first ∷ seats) (suc m) within =
 
 pub needs_are_those : NeedsAreThose
 needs_are_those seats =
-    ap (rank (takes_in_row (map rewrite_in seats))) (ap (λ n. PLACES * n) (length-map seats rewrite_in) ∙ behind (length seats)) ∙ rank_of_first seats (length seats) (omega arith)
+    ap (rank (takes_in_row (map rewrite_in seats))) (ap (λ n. PLACES * n) (length-map seats rewrite_in) ∙ behind (length seats))
+    ∙ rank_of_first seats (length seats) (omega arith)
     ∙ ap (sum_by blocks_taken) (take_all (length seats) seats (omega arith))
   where
     behind : (n : ℕ) → PLACES * n ≡ PLACES * n + 0
@@ -54,7 +59,8 @@ built_at : (changes : CommitChanges) (numbers : ℕ → Option ℕ) (seats : Lis
 built_at changes numbers [] fresh m seat e = absurd (none_some e)
 built_at changes numbers (first ∷ seats) fresh zero seat e =
     let same = some_same e in
-    ap (λ (s : Seated). Some (built_by changes numbers (take (blocks_taken s) fresh) s)) same ∙ ap (λ those. Some (built_by changes numbers (take (blocks_taken seat) those) seat)) (sym (drop_zero fresh))
+    ap (λ (s : Seated). Some (built_by changes numbers (take (blocks_taken s) fresh) s)) same
+    ∙ ap (λ those. Some (built_by changes numbers (take (blocks_taken seat) those) seat)) (sym (drop_zero fresh))
 built_at changes numbers (first ∷ seats) fresh (suc m) seat e =
     built_at changes numbers seats (drop (blocks_taken first) fresh) m seat e
     ∙ ap (λ those. Some (built_by changes numbers (take (blocks_taken seat) those) seat))
@@ -68,6 +74,9 @@ nodes_are_built_by_rank change grant m seat is = record {
       let place_rank : ℕ = rank (takes_place (rewrite_in seat)) place in
       let below : place_rank < blocks_taken seat = rank_below (takes_place (rewrite_in seat)) place PLACES takes within in
       get_or-take (blocks_taken seat) (drop front grant.blocks) place_rank 0 below ∙ get_or-drop front grant.blocks place_rank 0
-      ∙ ap (slice_index grant.blocks) (sym (ranks_go_on (map rewrite_in change.seats) m place (rewrite_in seat) (slice_get-map rewrite_in change.seats m ∙ ap (option_map rewrite_in) is) (omega arith)
+      ∙ ap (slice_index grant.blocks)
+      (sym
+      (ranks_go_on (map rewrite_in change.seats) m place (rewrite_in seat) (slice_get-map rewrite_in change.seats m ∙ ap (option_map rewrite_in) is)
+      (omega arith)
       ∙ ap (λ n. n + place_rank) (rank_of_first change.seats m (let low = slice_get_within change.seats m seat is in omega arith))));
 }

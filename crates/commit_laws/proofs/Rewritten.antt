@@ -54,13 +54,19 @@ module _ (rewrite other : Rewrite) (same : SayTheSame rewrite other) where
   take_same = record {
     takes = λ place within. elim (cases_lt place FILE_BLOCKS) [
       | inl low ↦
-          ap (λ b. cond b (takes_data rewrite place) (rewrites_table rewrite (place - FILE_BLOCKS) && table_has_pointer rewrite (place - FILE_BLOCKS))) (lt-ltb place FILE_BLOCKS low)
+          ap (λ b. cond b (takes_data rewrite place) (rewrites_table rewrite (place - FILE_BLOCKS) && table_has_pointer rewrite (place - FILE_BLOCKS)))
+          (lt-ltb place FILE_BLOCKS low)
           ∙ takes_same place low
-          ∙ sym (ap (λ b. cond b (takes_data other place) (rewrites_table other (place - FILE_BLOCKS) && table_has_pointer other (place - FILE_BLOCKS))) (lt-ltb place FILE_BLOCKS low))
+          ∙ sym
+          (ap (λ b. cond b (takes_data other place) (rewrites_table other (place - FILE_BLOCKS) && table_has_pointer other (place - FILE_BLOCKS)))
+          (lt-ltb place FILE_BLOCKS low))
       | inr high ↦
-          ap (λ b. cond b (takes_data rewrite place) (rewrites_table rewrite (place - FILE_BLOCKS) && table_has_pointer rewrite (place - FILE_BLOCKS))) (le-ltb place FILE_BLOCKS high)
+          ap (λ b. cond b (takes_data rewrite place) (rewrites_table rewrite (place - FILE_BLOCKS) && table_has_pointer rewrite (place - FILE_BLOCKS)))
+          (le-ltb place FILE_BLOCKS high)
           ∙ (λ i. table_same (place - FILE_BLOCKS) (omega arith) i && some_same (place - FILE_BLOCKS) (omega arith) i)
-          ∙ sym (ap (λ b. cond b (takes_data other place) (rewrites_table other (place - FILE_BLOCKS) && table_has_pointer other (place - FILE_BLOCKS))) (le-ltb place FILE_BLOCKS high))
+          ∙ sym
+          (ap (λ b. cond b (takes_data other place) (rewrites_table other (place - FILE_BLOCKS) && table_has_pointer other (place - FILE_BLOCKS)))
+          (le-ltb place FILE_BLOCKS high))
     ];
     after = λ fresh place within. elim (cases_lt place FILE_BLOCKS) [
       | inl low ↦
@@ -69,26 +75,33 @@ module _ (rewrite other : Rewrite) (same : SayTheSame rewrite other) where
           ∙ sym (low_is other fresh place low)
       | inr high ↦
           high_is rewrite fresh place high
-          ∙ (λ i. cond (table_same (place - FILE_BLOCKS) (omega arith) i) (cond (some_same (place - FILE_BLOCKS) (omega arith) i) (fresh place) 0) (same.pointers place within i))
+          ∙ (λ i. cond (table_same (place - FILE_BLOCKS) (omega arith) i) (cond (some_same (place - FILE_BLOCKS) (omega arith) i) (fresh place) 0)
+          (same.pointers place within i))
           ∙ sym (high_is other fresh place high)
     ];
   }
     where
-      low_is : (r : Rewrite) (fresh : ℕ → ℕ) (place : ℕ) → place < FILE_BLOCKS → pointer_after r fresh place ≡ cond (r.is_rewritten place) (cond (r.is_zero place) 0 (fresh place)) (r.pointers place)
+      low_is : (r : Rewrite) (fresh : ℕ → ℕ) (place : ℕ) → place < FILE_BLOCKS
+          → pointer_after r fresh place ≡ cond (r.is_rewritten place) (cond (r.is_zero place) 0 (fresh place)) (r.pointers place)
       low_is r fresh place low = ap (λ b. cond b (cond (r.is_rewritten place) (cond (r.is_zero place) 0 (fresh place)) (r.pointers place))
-          (cond (rewrites_table r (place - FILE_BLOCKS)) (cond (table_has_pointer r (place - FILE_BLOCKS)) (fresh place) 0) (r.pointers place))) (lt-ltb place FILE_BLOCKS low)
+          (cond (rewrites_table r (place - FILE_BLOCKS)) (cond (table_has_pointer r (place - FILE_BLOCKS)) (fresh place) 0) (r.pointers place)))
+          (lt-ltb place FILE_BLOCKS low)
 
       high_is : (r : Rewrite) (fresh : ℕ → ℕ) (place : ℕ) → FILE_BLOCKS ≤ place
-          → pointer_after r fresh place ≡ cond (rewrites_table r (place - FILE_BLOCKS)) (cond (table_has_pointer r (place - FILE_BLOCKS)) (fresh place) 0) (r.pointers place)
+          → pointer_after r fresh place
+          ≡ cond (rewrites_table r (place - FILE_BLOCKS)) (cond (table_has_pointer r (place - FILE_BLOCKS)) (fresh place) 0) (r.pointers place)
       high_is r fresh place high = ap (λ b. cond b (cond (r.is_rewritten place) (cond (r.is_zero place) 0 (fresh place)) (r.pointers place))
-          (cond (rewrites_table r (place - FILE_BLOCKS)) (cond (table_has_pointer r (place - FILE_BLOCKS)) (fresh place) 0) (r.pointers place))) (le-ltb place FILE_BLOCKS high)
+          (cond (rewrites_table r (place - FILE_BLOCKS)) (cond (table_has_pointer r (place - FILE_BLOCKS)) (fresh place) 0) (r.pointers place)))
+          (le-ltb place FILE_BLOCKS high)
 
       by_pointer : (fresh : ℕ → ℕ) (place : ℕ) → place < FILE_BLOCKS
-          → cond (rewrite.is_rewritten place) (cond (rewrite.is_zero place) 0 (fresh place)) (rewrite.pointers place) ≡ cond (other.is_rewritten place) (cond (other.is_zero place) 0 (fresh place)) (other.pointers place)
+          → cond (rewrite.is_rewritten place) (cond (rewrite.is_zero place) 0 (fresh place)) (rewrite.pointers place)
+          ≡ cond (other.is_rewritten place) (cond (other.is_zero place) 0 (fresh place)) (other.pointers place)
       by_pointer fresh place low = elim (cases_Bool (other.is_rewritten place)) [
         | inl t ↦ λ i. cond (same.rewritten place low i) (cond (same.zero place low t i) 0 (fresh place)) (same.pointers place (omega arith) i)
         | inr f ↦
-            ap (λ b. cond b (cond (rewrite.is_zero place) 0 (fresh place)) (rewrite.pointers place)) (same.rewritten place low ∙ f) ∙ same.pointers place (omega arith)
+            ap (λ b. cond b (cond (rewrite.is_zero place) 0 (fresh place)) (rewrite.pointers place)) (same.rewritten place low ∙ f)
+            ∙ same.pointers place (omega arith)
             ∙ sym (ap (λ b. cond b (cond (other.is_zero place) 0 (fresh place)) (other.pointers place)) f)
       ]
 
@@ -101,15 +114,19 @@ rank_same p q same zero = rank_first p ∙ sym (rank_first q)
 rank_same p q same (suc n) = rank_more p n ∙ (λ i. rank_same p q same n i + cond (same n i) 1 0) ∙ sym (rank_more q n)
 
 -- so rewritings that take the same need as many blocks
-pub needs_same : {X : Type 0} (f g : X → Rewrite) (xs : List X) → ((x : X) → Contains xs x → TakeTheSame (f x) (g x)) → blocks_needed (map f xs) ≡ blocks_needed (map g xs)
+pub needs_same : {X : Type 0} (f g : X → Rewrite) (xs : List X) → ((x : X) → Contains xs x → TakeTheSame (f x) (g x))
+    → blocks_needed (map f xs) ≡ blocks_needed (map g xs)
 needs_same f g xs same =
-    ap (λ n. rank (takes_in_row (map f xs)) (PLACES * n)) (length-map xs f ∙ sym (length-map xs g)) ∙ rank_same (takes_in_row (map f xs)) (takes_in_row (map g xs)) in_row (PLACES * length (map g xs))
+    ap (λ n. rank (takes_in_row (map f xs)) (PLACES * n)) (length-map xs f ∙ sym (length-map xs g))
+    ∙ rank_same (takes_in_row (map f xs)) (takes_in_row (map g xs)) in_row (PLACES * length (map g xs))
   where
     in_row : (p : ℕ) → takes_in_row (map f xs) p ≡ takes_in_row (map g xs) p
     in_row p =
-        ap (λ (o : Option Rewrite). option_map_or (λ r. takes_place r (p % PLACES)) o false) (slice_get-map f xs (p / PLACES)) ∙ by (slice_get xs (p / PLACES)) refl
+        ap (λ (o : Option Rewrite). option_map_or (λ r. takes_place r (p % PLACES)) o false) (slice_get-map f xs (p / PLACES))
+        ∙ by (slice_get xs (p / PLACES)) refl
         ∙ sym (ap (λ (o : Option Rewrite). option_map_or (λ r. takes_place r (p % PLACES)) o false) (slice_get-map g xs (p / PLACES)))
       where
-        by : (o : Option _) → slice_get xs (p / PLACES) ≡ o → option_map_or (λ r. takes_place r (p % PLACES)) (option_map f o) false ≡ option_map_or (λ r. takes_place r (p % PLACES)) (option_map g o) false
+        by : (o : Option _) → slice_get xs (p / PLACES) ≡ o
+            → option_map_or (λ r. takes_place r (p % PLACES)) (option_map f o) false ≡ option_map_or (λ r. takes_place r (p % PLACES)) (option_map g o) false
         by None e = refl
         by (Some x) e = (same x (there_is_in xs (p / PLACES) x e)).takes (p % PLACES) (omega arith)

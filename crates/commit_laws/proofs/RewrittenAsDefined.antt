@@ -70,11 +70,15 @@ row_found (slot ∷ slots) row once (zero, within, is) = by slot is
     by : (s : Option Row) → s ≡ Some row → cond (has_name row.name s) s (looked_up row.name slots) ≡ Some row
     by None e = absurd (none_some e)
     by (Some held) e = ap (λ b. cond b (Some held) (looked_up row.name slots)) (ap (λ o. has_name row.name o) e ∙ same_bytes row.name) ∙ e
-row_found (slot ∷ slots) row once (suc k, within, is) = by (has_name row.name slot) refl (row_found slots row (let c = count_slot row.name slot slots in omega arith) (k, omega arith, is))
+row_found (slot ∷ slots) row once (suc k, within, is) =
+    by (has_name row.name slot) refl (row_found slots row (let c = count_slot row.name slot slots in omega arith) (k, omega arith, is))
   where
     by : (b : Bool) → has_name row.name slot ≡ b → looked_up row.name slots ≡ Some row → cond b slot (looked_up row.name slots) ≡ Some row
     by false e rest = rest
-    by true e rest = absurd (let c = count_slot row.name slot slots ∙ ap (λ b. cond b 1 0 + name_count row.name slots) e in let some = looked_counts row.name slots row rest in omega arith)
+    by true e rest =
+        absurd
+        (let c = count_slot row.name slot slots ∙ ap (λ b. cond b 1 0 + name_count row.name slots) e in let some = looked_counts row.name slots row rest in
+        omega arith)
 
 -- what is said of a block says that it is rewritten
 said_some : (b : Bool) (one : ChangedBlock) → is_some (cond b (Some one) None) ≡ b
@@ -94,7 +98,8 @@ blocks_of_size b few = ap (λ n. (n + 4095) / 4096) (min-eq_left (omega arith)) 
     whole : (b : ℕ) → (4096 * b + 4095) / 4096 ≡ b
     whole b = omega arith
 
-module _ (num : Numbering) (concerned : List ℕ) (old new : TreeState) (image : SeenInodes) (plan : CommitPlan) (grant : GrantedNumbers) (written : IsWrittenPlan num concerned old new image plan grant) where
+module _ (num : Numbering) (concerned : List ℕ) (old new : TreeState) (image : SeenInodes) (plan : CommitPlan) (grant : GrantedNumbers)
+    (written : IsWrittenPlan num concerned old new image plan grant) where
   abbrev full : IsFullPlan num concerned old new image plan grant
   full = written.full
 
@@ -122,7 +127,8 @@ module _ (num : Numbering) (concerned : List ℕ) (old new : TreeState) (image :
       by (enters none low free) = absurd (not_used (kind_of old x) (sym (is.stands.each x i a).kind ∙ free.kind))
 
   -- a row that a net brings is not the one that stands under its name
-  rows_apart : (node : ℕ) (blocks : List Slots) → slots_joined blocks ≡ (seen_before commit image node).slots → KnowsChildren directories new (net_of_node plan.nets node) → NumbersChildren numbers commit.after (net_of_node plan.nets node)
+  rows_apart : (node : ℕ) (blocks : List Slots) → slots_joined blocks ≡ (seen_before commit image node).slots
+      → KnowsChildren directories new (net_of_node plan.nets node) → NumbersChildren numbers commit.after (net_of_node plan.nets node)
       → TellsApart numbers directories (net_of_node plan.nets node) (slots_joined blocks)
   rows_apart node blocks joined known agree row there named brought comes same = by_new (number_of comes.change.after) refl
     where
@@ -130,14 +136,19 @@ module _ (num : Numbering) (concerned : List ℕ) (old new : TreeState) (image :
       net = net_of_node plan.nets node
 
       now : Some row ≡ brought_row commit.after new comes.change
-      now = ap Some (sym same) ∙ ap (slot_numbered numbers net) (sym comes.brought) ∙ brought_is numbers commit.after new directories net known agree comes.change comes.one
+      now =
+          ap Some (sym same) ∙ ap (slot_numbered numbers net) (sym comes.brought)
+          ∙ brought_is numbers commit.after new directories net known agree comes.change comes.one
 
       was : Some row ≡ option_map (row_on num old row.name) (row_of old node row.name)
       was =
-          let slots = slots_before commit old new image (image_planned num concerned new image plan grant) (step num concerned old new image plan grant full) node in
-          sym (row_found (slots_joined blocks) row (subst (λ those. name_count row.name those ≤ 1) (sym joined) (slots.once row.name)) there) ∙ ap (looked_up row.name) joined ∙ slots.looked row.name
+          let slots =
+          slots_before commit old new image (image_planned num concerned new image plan grant) (step num concerned old new image plan grant full) node in
+          sym (row_found (slots_joined blocks) row (subst (λ those. name_count row.name those ≤ 1) (sym joined) (slots.once row.name)) there)
+          ∙ ap (looked_up row.name) joined ∙ slots.looked row.name
 
-      by_old : (y : ℕ) → number_of comes.change.after ≡ Some y → row ≡ row_on commit.after new comes.change.name y → (o : Option ℕ) → row_of old node row.name ≡ o → ⊥
+      by_old : (y : ℕ) → number_of comes.change.after ≡ Some y → row ≡ row_on commit.after new comes.change.name y → (o : Option ℕ)
+          → row_of old node row.name ≡ o → ⊥
       by_old y after is_now None e = none_some (sym (was ∙ ap (option_map (row_on num old row.name)) e))
       by_old y after is_now (Some x) e =
           let own = net_row num concerned old new image plan grant is node comes.change comes.one in
@@ -146,7 +157,8 @@ module _ (num : Numbering) (concerned : List ℕ) (old new : TreeState) (image :
           let before : number_of comes.change.before ≡ Some x = own.before ∙ ap (row_of old node) (sym name) ∙ e in
           let i = is.stands.named node row.name x e in
           let j = is.follows.named node comes.change.name y (sym own.after ∙ after) in
-          let inode : i.0 ≡ j.0 = sym (under_is num x i.0 i.1) ∙ sym (ap (λ (r : Row). r.inode) is_was) ∙ ap (λ (r : Row). r.inode) is_now ∙ under_is commit.after y j.0 j.1 in
+          let inode : i.0 ≡ j.0 =
+          sym (under_is num x i.0 i.1) ∙ sym (ap (λ (r : Row). r.inode) is_was) ∙ ap (λ (r : Row). r.inode) is_now ∙ under_is commit.after y j.0 j.1 in
           own.differs (same_child comes.change.before comes.change.after (before ∙ ap Some (one_number x y i.0 i.1 (j.1 ∙ ap Some (sym inode))) ∙ sym after))
 
       by_new : (o : Option ℕ) → number_of comes.change.after ≡ o → ⊥
@@ -185,27 +197,39 @@ module _ (num : Numbering) (concerned : List ℕ) (old new : TreeState) (image :
     old_block n = ap (slots_in_block n) (sym of.built.begins.slots) ∙ in_block_joined of.begun.slots long n
 
     pub new_block : (n : ℕ) → slots_in_block n slots ≡ block_numbered numbers net (get_or after n empty_block)
-    new_block n = ap (λ those. slots_in_block n (slots_after commit.after new net those)) (sym of.built.begins.slots) ∙ block_after numbers commit.after new directories net of.begun.slots known of.built.numbers long n
+    new_block n =
+        ap (λ those. slots_in_block n (slots_after commit.after new net those)) (sym of.built.begins.slots)
+        ∙ block_after numbers commit.after new directories net of.begun.slots known of.built.numbers long n
 
     pub end : blocks_to_last_row after ≡ blocks_up_to_last slots
     end =
         let kept = kept_long old new numbers commit.after seen change.changes of.begun 0 [] of.built.begins of.built.leads of.built.numbers in
-        let same = ap length (slots_are old new numbers commit.after seen change.changes of.begun 0 [] of.built.begins of.built.leads of.built.numbers) ∙ length_in_blocks slots in
+        let same =
+        ap length (slots_are old new numbers commit.after seen change.changes of.begun 0 [] of.built.begins of.built.leads of.built.numbers)
+        ∙ length_in_blocks slots in
         omega (arith, kept, same)
 
     -- a block of the directory as it then is
-    test_is : (n : ℕ) → n < FILE_BLOCKS → n < length after → (get_or touched n false || (nat_le (blocks_to_last_row after) n && not (nat_eq (pointer_kept of.begun.base of.begun.tables n) 0))) ≡ rewrites_slots seen slots n
+    test_is : (n : ℕ) → n < FILE_BLOCKS → n < length after
+        → (get_or touched n false || (nat_le (blocks_to_last_row after) n && not (nat_eq (pointer_kept of.begun.base of.begun.tables n) 0)))
+        ≡ rewrites_slots seen slots n
     test_is n low within =
-        let changes = block_touched numbers directories net of.begun.slots (rows_apart of.begun.node of.begun.slots of.built.begins.slots known of.built.numbers) n within in
-        λ i. (changes ∙ ap not (λ j. same_slots (sym (old_block n) j) (sym (new_block n) j))) i || (nat_le (end i) n && not (nat_eq (of.built.begins.pointers n (omega arith) i) 0))
+        let changes =
+        block_touched numbers directories net of.begun.slots
+        (rows_apart of.begun.node of.begun.slots of.built.begins.slots known of.built.numbers) n within in
+        λ i. (changes ∙ ap not (λ j. same_slots (sym (old_block n) j) (sym (new_block n) j))) i
+        || (nat_le (end i) n && not (nat_eq (of.built.begins.pointers n (omega arith) i) 0))
 
-    said_there : (n : ℕ) → n < FILE_BLOCKS → n < length after → change_of (directory_changed (pointer_kept of.begun.base of.begun.tables) after touched) n ≡ said n
-    said_there n low within = said_within said (said_at (pointer_kept of.begun.base of.begun.tables) after touched) 0 (min (length after) FILE_BLOCKS) n (omega arith) (omega arith)
+    said_there : (n : ℕ) → n < FILE_BLOCKS → n < length after
+        → change_of (directory_changed (pointer_kept of.begun.base of.begun.tables) after touched) n ≡ said n
+    said_there n low within =
+        said_within said (said_at (pointer_kept of.begun.base of.begun.tables) after touched) 0 (min (length after) FILE_BLOCKS) n (omega arith) (omega arith)
 
     -- behind its blocks nothing is rewritten
     none_behind : begun.kind ≡ Directory → (n : ℕ) → n < FILE_BLOCKS → length after ≤ n → rewrites_slots seen slots n ≡ false
     none_behind kind n low behind =
-        (λ i. not (same_slots (old_empty i) (new_empty i)) || (nat_le (blocks_up_to_last slots) n && not (nat_eq (hole (num of.begun.node) refl i) 0))) ∙ and_false (nat_le (blocks_up_to_last slots) n)
+        (λ i. not (same_slots (old_empty i) (new_empty i)) || (nat_le (blocks_up_to_last slots) n && not (nat_eq (hole (num of.begun.node) refl i) 0)))
+        ∙ and_false (nat_le (blocks_up_to_last slots) n)
       where
         few : length of.begun.slots ≤ n
         few = let all = length_after numbers directories net of.begun.slots in omega arith
@@ -223,21 +247,31 @@ module _ (num : Numbering) (concerned : List ℕ) (old new : TreeState) (image :
             let count = ap length (of.built.begins.slots ∙ ap (λ (s : Seen). s.slots) here) in
             let whole = length_joined of.begun.slots long in
             ap (λ (s : Seen). s.blocks n) here
-            ∙ written.behind i n (is.stands.within of.begun.node i e, (is.stands.each of.begun.node i e).kind ∙ ap kind_byte (sym of.built.begins.kind ∙ kind)) low (omega (arith, few, count, whole))
+            ∙ written.behind i n
+            (is.stands.within of.begun.node i e, (is.stands.each of.begun.node i e).kind ∙ ap kind_byte (sym of.built.begins.kind ∙ kind)) low
+            (omega (arith, few, count, whole))
 
     pub directory_says : begun.kind ≡ Directory → SayTheSame (rewrite_in (seated_as Directory change.changes of.begun)) (directory_rewrite seen slots)
     directory_says kind = record {
       blocks = ap (λ b. (size_of_blocks b + 4095) / 4096) end ∙ blocks_of_size (blocks_up_to_last slots) of.built.leads.blocks;
       rewritten = λ n low. elim (cases_lt n (length after)) [
-        | inl within ↦ ap is_some (said_there n low within) ∙ said_some (get_or touched n false || (nat_le (blocks_to_last_row after) n && not (nat_eq (pointer_kept of.begun.base of.begun.tables n) 0))) _ ∙ test_is n low within
+        | inl within ↦
+            ap is_some (said_there n low within)
+            ∙ said_some (get_or touched n false || (nat_le (blocks_to_last_row after) n && not (nat_eq (pointer_kept of.begun.base of.begun.tables n) 0))) _
+            ∙ test_is n low within
         | inr behind ↦
-            ap is_some (said_behind said (said_at (pointer_kept of.begun.base of.begun.tables) after touched) 0 (min (length after) FILE_BLOCKS) n (omega arith)) ∙ sym (none_behind kind n low behind)
+            ap is_some
+            (said_behind said (said_at (pointer_kept of.begun.base of.begun.tables) after touched) 0 (min (length after) FILE_BLOCKS) n (omega arith))
+            ∙ sym (none_behind kind n low behind)
       ];
       zero = λ n low rewritten. elim (cases_lt n (length after)) [
         | inr behind ↦ absurd (true_not_false (sym rewritten ∙ none_behind kind n low behind))
         | inl within ↦
-            ap (λ (o : Option ChangedBlock). option_map_or (λ one. one.is_zero) o false) (said_there n low within ∙ ap (λ b. cond b (Some (record { block = n; is_zero = has_no_row (get_or after n []) })) None) (test_is n low within ∙ rewritten))
-            ∙ ap has_no_row (get_or_default after n [] empty_block within) ∙ empties_numbered numbers net (get_or after n empty_block) ∙ ap (list_all is_none) (sym (new_block n))
+            ap (λ (o : Option ChangedBlock). option_map_or (λ one. one.is_zero) o false)
+            (said_there n low within
+            ∙ ap (λ b. cond b (Some (record { block = n; is_zero = has_no_row (get_or after n []) })) None) (test_is n low within ∙ rewritten))
+            ∙ ap has_no_row (get_or_default after n [] empty_block within) ∙ empties_numbered numbers net (get_or after n empty_block)
+            ∙ ap (list_all is_none) (sym (new_block n))
       ];
       pointers = λ place within. begun_pointers change.changes of.begun Directory place ∙ of.built.begins.pointers place within;
     }
@@ -249,9 +283,12 @@ module _ (num : Numbering) (concerned : List ℕ) (old new : TreeState) (image :
     page_zero : (n : ℕ) (p : Option Page) → item_with page_block n (pages_of_node plan.files of.begun.node) ≡ p → is_some p ≡ true
         → option_map_or (λ (one : ChangedBlock). one.is_zero) (option_map page_said p) false ≡ is_none (nonzero_in (4096 * n) 4096 (bytes_of new of.begun.node))
     page_zero n None there some = absurd (true_not_false (sym some))
-    page_zero n (Some page) there some = ap (λ bytes. is_none (nonzero_in 0 4096 bytes)) (page_bytes new plan written.pages of.begun.node n page there) ∙ block_zeros n (bytes_of new of.begun.node)
+    page_zero n (Some page) there some =
+        ap (λ bytes. is_none (nonzero_in 0 4096 bytes)) (page_bytes new plan written.pages of.begun.node n page there)
+        ∙ block_zeros n (bytes_of new of.begun.node)
 
-    file_says : begun.kind ≡ File → SayTheSame (rewrite_in (seated_as File change.changes of.begun)) (file_rewrite (has_page plan.files of.begun.node) seen (bytes_of new of.begun.node))
+    file_says : begun.kind ≡ File
+        → SayTheSame (rewrite_in (seated_as File change.changes of.begun)) (file_rewrite (has_page plan.files of.begun.node) seen (bytes_of new of.begun.node))
     file_says kind = record {
       blocks = ap (λ n. (n + 4095) / 4096) (of.built.leads.size kind);
       rewritten = λ n low. ap is_some (change_said file_change n) ∙ some_mapped (item_with page_block n (pages_of_node plan.files of.begun.node));
@@ -268,11 +305,19 @@ module _ (num : Numbering) (concerned : List ℕ) (old new : TreeState) (image :
     is_kind : (k : Kind) → begun.kind ≡ k → is_directory new of.begun.node ≡ is_directory_kind k
     is_kind k e = directory_by_kind new of.begun.node ∙ ap is_directory_kind (of.built.leads.nets.between.kinds of.begun.node ∙ sym of.built.begins.kind ∙ e)
 
-    says_by_kind : (kind : Kind) → begun.kind ≡ kind → SayTheSame (rewrite_in (seated_as kind change.changes of.begun)) (rewrite_defined commit new image plan.files (seated_as kind change.changes of.begun).node)
+    says_by_kind : (kind : Kind) → begun.kind ≡ kind
+        → SayTheSame (rewrite_in (seated_as kind change.changes of.begun))
+        (rewrite_defined commit new image plan.files (seated_as kind change.changes of.begun).node)
     says_by_kind Directory kind = subst (SayTheSame (rewrite_in (seated_as Directory change.changes of.begun)))
-        (sym (cond-true (is_directory new of.begun.node) (directory_rewrite seen slots) (file_rewrite (has_page plan.files of.begun.node) seen (bytes_of new of.begun.node)) (is_kind Directory kind))) (directory_says kind)
+        (sym
+        (cond-true (is_directory new of.begun.node) (directory_rewrite seen slots)
+        (file_rewrite (has_page plan.files of.begun.node) seen (bytes_of new of.begun.node)) (is_kind Directory kind)))
+        (directory_says kind)
     says_by_kind File kind = subst (SayTheSame (rewrite_in (seated_as File change.changes of.begun)))
-        (sym (cond-false (is_directory new of.begun.node) (directory_rewrite seen slots) (file_rewrite (has_page plan.files of.begun.node) seen (bytes_of new of.begun.node)) (is_kind File kind))) (file_says kind)
+        (sym
+        (cond-false (is_directory new of.begun.node) (directory_rewrite seen slots)
+        (file_rewrite (has_page plan.files of.begun.node) seen (bytes_of new of.begun.node)) (is_kind File kind)))
+        (file_says kind)
 
     pub says : SayTheSame (rewrite_in seat) (rewrite_defined commit new image plan.files seat.node)
     says = subst (λ (s : Seated). SayTheSame (rewrite_in s) (rewrite_defined commit new image plan.files s.node)) of.begins (says_by_kind begun.kind refl)
@@ -284,12 +329,14 @@ plans_rewrite_as_defined num concerned old new image plan grant written seat the
 
 pub plans_need_as_defined : PlansNeedAsDefined
 plans_need_as_defined num concerned old new image plan grant written =
-    needs_same rewrite_in defined (change_planned plan).seats (λ seat there. take_same (rewrite_in seat) (defined seat) (plans_rewrite_as_defined num concerned old new image plan grant written seat there))
+    needs_same rewrite_in defined (change_planned plan).seats
+    (λ seat there. take_same (rewrite_in seat) (defined seat) (plans_rewrite_as_defined num concerned old new image plan grant written seat there))
     ∙ ap blocks_needed (sym (of_nodes (change_planned plan).seats))
   where
     defined : Seated → Rewrite
     defined seat = rewrite_defined (commit_of num concerned plan grant) new image plan.files seat.node
 
-    of_nodes : (seats : List Seated) → map (rewrite_defined (commit_of num concerned plan grant) new image plan.files) (map (λ (seat : Seated). seat.node) seats) ≡ map defined seats
+    of_nodes : (seats : List Seated)
+        → map (rewrite_defined (commit_of num concerned plan grant) new image plan.files) (map (λ (seat : Seated). seat.node) seats) ≡ map defined seats
     of_nodes [] = refl
     of_nodes (seat ∷ seats) = ap (λ rest. defined seat ∷ rest) (of_nodes seats)

@@ -29,7 +29,8 @@ module _ (said : ℕ → Option ChangedBlock) (own : (n : ℕ) (one : ChangedBlo
   change_first : (a n : ℕ) (rest : List ChangedBlock) (o : Option ChangedBlock) → said a ≡ o
       → change_of (cons_option o rest) n ≡ cond (nat_eq a n && is_some o) o (change_of rest n)
   change_first a n rest None e = ap (λ b. cond b None (change_of rest n)) (sym (and_false (nat_eq a n)))
-  change_first a n rest (Some one) e = (λ i. cond (nat_eq (own a one e i) n) (Some one) (change_of rest n)) ∙ ap (λ b. cond b (Some one) (change_of rest n)) (sym (and_true (nat_eq a n)))
+  change_first a n rest (Some one) e =
+      (λ i. cond (nat_eq (own a one e i) n) (Some one) (change_of rest n)) ∙ ap (λ b. cond b (Some one) (change_of rest n)) (sym (and_true (nat_eq a n)))
 
   none_said : (a k n : ℕ) → n < a → change_of (filter_map said (range_with_len a k)) n ≡ None
   none_said a zero n below = refl
@@ -52,7 +53,8 @@ module _ (said : ℕ → Option ChangedBlock) (own : (n : ℕ) (one : ChangedBlo
         ∙ ap said same
   ]
     where
-      by : (o : Option ChangedBlock) → nat_eq a n ≡ true → change_of (filter_map said (range_with_len (a + 1) k)) n ≡ None → cond (nat_eq a n && is_some o) o (change_of (filter_map said (range_with_len (a + 1) k)) n) ≡ o
+      by : (o : Option ChangedBlock) → nat_eq a n ≡ true → change_of (filter_map said (range_with_len (a + 1) k)) n ≡ None
+          → cond (nat_eq a n && is_some o) o (change_of (filter_map said (range_with_len (a + 1) k)) n) ≡ o
       by None here none = ap (λ b. cond b None (change_of (filter_map said (range_with_len (a + 1) k)) n)) (and_false (nat_eq a n)) ∙ none
       by (Some one) here none = ap (λ b. cond (b && true) (Some one) (change_of (filter_map said (range_with_len (a + 1) k)) n)) here
 
@@ -124,30 +126,38 @@ taken_twice zero (x ∷ xs) = refl
 taken_twice (suc m) [] = refl
 taken_twice (suc m) (x ∷ xs) = ap (λ rest. x ∷ rest) (taken_twice m xs)
 
-zeros_at : (at m : ℕ) (xs : List ℕ) → is_none (option_map (λ k. 0 + k) (position is_nonzero (take m (drop 0 (take m (xs ++ zeros m)))))) ≡ is_none (option_map (λ k. at + k) (position is_nonzero (take m xs)))
+zeros_at : (at m : ℕ) (xs : List ℕ)
+    → is_none (option_map (λ k. 0 + k) (position is_nonzero (take m (drop 0 (take m (xs ++ zeros m))))))
+    ≡ is_none (option_map (λ k. at + k) (position is_nonzero (take m xs)))
 unfolding zeros
 zeros_at at m xs =
     is_none_moved (position is_nonzero (take m (drop 0 (take m (xs ++ replicate m 0))))) 0
     ∙ ap (λ ys. is_none (position is_nonzero ys)) (ap (take m) (drop_zero (take m (xs ++ replicate m 0))) ∙ taken_twice m (xs ++ replicate m 0))
-    ∙ none_positioned (take m (xs ++ replicate m 0)) ∙ zeros_behind m m xs ∙ sym (none_positioned (take m xs)) ∙ sym (is_none_moved (position is_nonzero (take m xs)) at)
+    ∙ none_positioned (take m (xs ++ replicate m 0)) ∙ zeros_behind m m xs ∙ sym (none_positioned (take m xs))
+    ∙ sym (is_none_moved (position is_nonzero (take m xs)) at)
 
 -- a block of a file is all zeros exactly where its bytes in the file are
 pub block_zeros : (n : ℕ) (bytes : List ℕ) → is_none (nonzero_in 0 4096 (bytes_in_block n bytes)) ≡ is_none (nonzero_in (4096 * n) 4096 bytes)
 block_zeros n bytes = zeros_at (4096 * n) 4096 (drop (4096 * n) bytes)
 
 -- what is said of the blocks of a file's change
-pub change_said : (o : Option FileChange) (n : ℕ) → change_of (option_map_or (λ (one : FileChange). file_changed one.pages.items) o []) n ≡ option_map page_said (item_with page_block n (option_map_or (λ (one : FileChange). one.pages.items) o []))
+pub change_said : (o : Option FileChange) (n : ℕ)
+    → change_of (option_map_or (λ (one : FileChange). file_changed one.pages.items) o []) n
+    ≡ option_map page_said (item_with page_block n (option_map_or (λ (one : FileChange). one.pages.items) o []))
 change_said None n = refl
 change_said (Some one) n = pages_said one.pages.items n
 
 -- the page of a block has the bytes that its file then has there
-pub page_bytes : (new : TreeState) (plan : CommitPlan) → HasPages new plan → (node n : ℕ) (page : Page) → item_with page_block n (pages_of_node plan.files node) ≡ Some page → page.bytes ≡ bytes_in_block n (bytes_of new node)
+pub page_bytes : (new : TreeState) (plan : CommitPlan) → HasPages new plan → (node n : ℕ) (page : Page)
+    → item_with page_block n (pages_of_node plan.files node) ≡ Some page → page.bytes ≡ bytes_in_block n (bytes_of new node)
 page_bytes new plan pages node n page is = by (item_with file_node node plan.files) refl is
   where
-    by : (o : Option FileChange) → item_with file_node node plan.files ≡ o → item_with page_block n (option_map_or (λ (one : FileChange). one.pages.items) o []) ≡ Some page → page.bytes ≡ bytes_in_block n (bytes_of new node)
+    by : (o : Option FileChange) → item_with file_node node plan.files ≡ o
+        → item_with page_block n (option_map_or (λ (one : FileChange). one.pages.items) o []) ≡ Some page → page.bytes ≡ bytes_in_block n (bytes_of new node)
     by None e there = absurd (none_some there)
     by (Some one) e there =
         let here = eqb-true (file_node one) node (found_passes (λ item. nat_eq (file_node item) node) plan.files one e) in
         let block = eqb-true (page_block page) n (found_passes (λ item. nat_eq (page_block item) n) one.pages.items page there) in
-        pages one (found_is_in (λ item. nat_eq (file_node item) node) plan.files one e) page (found_is_in (λ item. nat_eq (page_block item) n) one.pages.items page there)
+        pages one (found_is_in (λ item. nat_eq (file_node item) node) plan.files one e) page
+        (found_is_in (λ item. nat_eq (page_block item) n) one.pages.items page there)
         ∙ (λ i. bytes_in_block (block i) (bytes_of new (here i)))

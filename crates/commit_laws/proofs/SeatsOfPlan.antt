@@ -95,7 +95,8 @@ ascending_once key xs up m l i at also =
     ]
 
 -- a place of two lists is one of the first, or one of the second
-split_there : {X : Type 0} (xs ys : List X) (m : ℕ) (x : X) → slice_get (xs ++ ys) m ≡ Some x → (slice_get xs m ≡ Some x) ⊎ ((k : ℕ) × (m ≡ length xs + k) × (slice_get ys k ≡ Some x))
+split_there : {X : Type 0} (xs ys : List X) (m : ℕ) (x : X) → slice_get (xs ++ ys) m ≡ Some x
+    → (slice_get xs m ≡ Some x) ⊎ ((k : ℕ) × (m ≡ length xs + k) × (slice_get ys k ≡ Some x))
 split_there [] ys m x is = inr (m, sym (zero_plus m), is)
 split_there (y ∷ xs) ys zero x is = inl is
 split_there (y ∷ xs) ys (suc m) x is = elim (split_there xs ys m x is) [
@@ -120,7 +121,8 @@ once_append xs ys one two apart m l i at also = by (split_there xs ys m i at) (s
 pub node_there : (change : Planned) (m : ℕ) (seat : Seated) → slice_get change.seats m ≡ Some seat → slice_get (seated_nodes change) m ≡ Some seat.node
 node_there change m seat at = slice_get-map (λ (s : Seated). s.node) change.seats m ∙ ap (option_map (λ (s : Seated). s.node)) at
 
-module _ (num : Numbering) (concerned : List ℕ) (old new : TreeState) (image : SeenInodes) (plan : CommitPlan) (grant : GrantedNumbers) (is : IsCommitPlan num concerned old new image plan grant) where
+module _ (num : Numbering) (concerned : List ℕ) (old new : TreeState) (image : SeenInodes) (plan : CommitPlan) (grant : GrantedNumbers)
+    (is : IsCommitPlan num concerned old new image plan grant) where
   abbrev change : Planned
   change = change_planned plan
 
@@ -145,23 +147,29 @@ module _ (num : Numbering) (concerned : List ℕ) (old new : TreeState) (image :
 
   -- a node with a number keeps it, or leaves
   pub after_had : (node i : ℕ) → num node ≡ Some i → after node ≡ cond (node_leaves plan.leave node) None (Some i)
-  after_had node i had = ap (λ (o : Option ℕ). cond (is_some o) (cond (node_leaves plan.leave node) None o) (grant_for (map enter_node plan.enter) grant.inodes node)) had
+  after_had node i had =
+      ap (λ (o : Option ℕ). cond (is_some o) (cond (node_leaves plan.leave node) None o) (grant_for (map enter_node plan.enter) grant.inodes node)) had
 
   -- and one without gets that of the grant
   pub after_none : (node : ℕ) → num node ≡ None → after node ≡ grant_for (map enter_node plan.enter) grant.inodes node
-  after_none node none = ap (λ (o : Option ℕ). cond (is_some o) (cond (node_leaves plan.leave node) None o) (grant_for (map enter_node plan.enter) grant.inodes node)) none
+  after_none node none =
+      ap (λ (o : Option ℕ). cond (is_some o) (cond (node_leaves plan.leave node) None o) (grant_for (map enter_node plan.enter) grant.inodes node)) none
 
   stays_after : (entry : OldEntry) → Contains stays entry → after entry.node.0 ≡ Some entry.old.number
   stays_after entry there =
       let kept = kept_in (λ e. not (leaves plan.leave e)) plan.old entry there in
-      after_had entry.node.0 entry.old.number (is.from.numbered.old_numbers entry kept.0) ∙ ap (λ b. cond b None (Some entry.old.number)) (not_true (node_leaves plan.leave entry.node.0) kept.1)
+      after_had entry.node.0 entry.old.number (is.from.numbered.old_numbers entry kept.0)
+      ∙ ap (λ b. cond b None (Some entry.old.number)) (not_true (node_leaves plan.leave entry.node.0) kept.1)
 
   enters_after : (one : Enter) → Contains plan.enter one → (i : ℕ) × (after one.node.0 ≡ Some i)
-  enters_after one there = numbers.each one.node.0 (is.from.numbered.enter_none one there) (in_is_among (map enter_node plan.enter) one.node.0 (in_mapped enter_node plan.enter one there))
+  enters_after one there =
+      numbers.each one.node.0 (is.from.numbered.enter_none one there)
+      (in_is_among (map enter_node plan.enter) one.node.0 (in_mapped enter_node plan.enter one there))
 
   -- what is built is that of a node that stays, or of one that enters
   pub seat_comes : (seat : Seated) → Contains change.seats seat
-      → ((entry : OldEntry) × Contains stays entry × (seated_old change.changes entry ≡ seat)) ⊎ ((one : Enter) × Contains plan.enter one × (seated_entering change.changes one ≡ seat))
+      → ((entry : OldEntry) × Contains stays entry × (seated_old change.changes entry ≡ seat))
+      ⊎ ((one : Enter) × Contains plan.enter one × (seated_entering change.changes one ≡ seat))
   seat_comes seat there = elim (Contains-append_cases (map (seated_old change.changes) stays) (map (seated_entering change.changes) plan.enter) seat there) [
     | inl old_one ↦ inl (mapped_is_in (seated_old change.changes) stays seat old_one)
     | inr new_one ↦ inr (mapped_is_in (seated_entering change.changes) plan.enter seat new_one)
@@ -192,29 +200,36 @@ module _ (num : Numbering) (concerned : List ℕ) (old new : TreeState) (image :
   ]
 
   -- what is built at a place has its node's number
-  pub number_at : (m : ℕ) (seat : Seated) → slice_get change.seats m ≡ Some seat → (i : ℕ) × (slice_get (inodes_built change grant) m ≡ Some i) × (after seat.node ≡ Some i)
+  pub number_at : (m : ℕ) (seat : Seated) → slice_get change.seats m ≡ Some seat
+      → (i : ℕ) × (slice_get (inodes_built change grant) m ≡ Some i) × (after seat.node ≡ Some i)
   number_at m seat at =
       let own = seat_numbered seat (there_is_in change.seats m seat at) in
       let ranked = nodes_are_built_by_rank change grant m seat at in (
         own.i,
-        slice_get-map (λ (one : Built). one.number) (nodes_with_grant change grant) m ∙ ap (option_map (λ (one : Built). one.number)) ranked.built ∙ ap (λ (o : Option ℕ). Some (unwrap_or o 0)) own.given,
+        slice_get-map (λ (one : Built). one.number) (nodes_with_grant change grant) m ∙ ap (option_map (λ (one : Built). one.number)) ranked.built
+            ∙ ap (λ (o : Option ℕ). Some (unwrap_or o 0)) own.given,
         own.after_is,
       )
 
   -- and a number that is built is that of a node
-  pub seat_at : (m i : ℕ) → slice_get (inodes_built change grant) m ≡ Some i → (seat : Seated) × (slice_get change.seats m ≡ Some seat) × (after seat.node ≡ Some i)
+  pub seat_at : (m i : ℕ) → slice_get (inodes_built change grant) m ≡ Some i
+      → (seat : Seated) × (slice_get change.seats m ≡ Some seat) × (after seat.node ≡ Some i)
   seat_at m i there =
-      let long = length-map (nodes_with_grant change grant) (λ (one : Built). one.number) ∙ length_built change.changes (numbers_with change grant.inodes) change.seats grant.blocks in
+      let long =
+      length-map (nodes_with_grant change grant) (λ (one : Built). one.number)
+      ∙ length_built change.changes (numbers_with change grant.inodes) change.seats grant.blocks in
       let within = slice_get_within (inodes_built change grant) m i there in
       let found = some_there change.seats m (omega (arith, within, long)) in
       let number = number_at m found.0 found.1 in
       (found.0, found.1, number.2 ∙ sym number.1 ∙ there)
 
   -- each node that has a number afterwards and is concerned is built
-  pub node_seated : (node i : ℕ) → after node ≡ Some i → is_among concerned node ≡ true → (m : ℕ) × (seat : Seated) × (slice_get change.seats m ≡ Some seat) × (seat.node ≡ node)
+  pub node_seated : (node i : ℕ) → after node ≡ Some i → is_among concerned node ≡ true
+      → (m : ℕ) × (seat : Seated) × (slice_get change.seats m ≡ Some seat) × (seat.node ≡ node)
   node_seated node i has among = by (num node) refl
     where
-      built : (seat : Seated) → Contains change.seats seat → seat.node ≡ node → (m : ℕ) × (seat : Seated) × (slice_get change.seats m ≡ Some seat) × (seat.node ≡ node)
+      built : (seat : Seated) → Contains change.seats seat → seat.node ≡ node
+          → (m : ℕ) × (seat : Seated) × (slice_get change.seats m ≡ Some seat) × (seat.node ≡ node)
       built seat there same = let at = in_is_there change.seats seat there in (at.0, seat, at.1, same)
 
       by : (o : Option ℕ) → num node ≡ o → (m : ℕ) × (seat : Seated) × (slice_get change.seats m ≡ Some seat) × (seat.node ≡ node)
@@ -225,15 +240,24 @@ module _ (num : Numbering) (concerned : List ℕ) (old new : TreeState) (image :
             | inr f ↦ f
           ] in
           let kept = in_kept (λ e. not (leaves plan.leave e)) plan.old entry.0 entry.1 (ap not (ap (node_leaves plan.leave) entry.2 ∙ stays_there)) in
-          built (seated_old change.changes entry.0) (Contains-append_left (map (seated_old change.changes) stays) (map (seated_entering change.changes) plan.enter) _ (in_mapped (seated_old change.changes) stays entry.0 kept)) (old_node entry.0 ∙ entry.2)
+          built (seated_old change.changes entry.0)
+          (Contains-append_left (map (seated_old change.changes) stays) (map (seated_entering change.changes) plan.enter) _
+          (in_mapped (seated_old change.changes) stays entry.0 kept))
+          (old_node entry.0 ∙ entry.2)
       by None e =
           let at = granted (map enter_node plan.enter) grant.inodes node i (sym (after_none node e) ∙ has) in
           let one = mapped_is_in enter_node plan.enter node (there_is_in (map enter_node plan.enter) at.place node at.enters_there) in
-          built (seated_entering change.changes one.0) (Contains-append_right (map (seated_old change.changes) stays) (map (seated_entering change.changes) plan.enter) _ (in_mapped (seated_entering change.changes) plan.enter one.0 one.1)) (entering_node one.0 ∙ one.2)
+          built (seated_entering change.changes one.0)
+          (Contains-append_right (map (seated_old change.changes) stays) (map (seated_entering change.changes) plan.enter) _
+          (in_mapped (seated_entering change.changes) plan.enter one.0 one.1))
+          (entering_node one.0 ∙ one.2)
 
   -- each node is built once
   pub nodes_once : StandOnce (seated_nodes change)
-  nodes_once = subst StandOnce (sym nodes_are) (once_append (map entry_node stays) (map enter_node plan.enter) (ascending_once entry_node stays stays_ascend) (ascending_once enter_node plan.enter is.from.numbered.enter_ascend) apart)
+  nodes_once =
+      subst StandOnce (sym nodes_are)
+      (once_append (map entry_node stays) (map enter_node plan.enter) (ascending_once entry_node stays stays_ascend)
+      (ascending_once enter_node plan.enter is.from.numbered.enter_ascend) apart)
     where
       stays_ascend : AscendBy entry_node stays
       stays_ascend = AllPairs-filter (λ first later. entry_node first < entry_node later) (λ e. not (leaves plan.leave e)) plan.old is.from.numbered.old_ascend
@@ -247,7 +271,9 @@ module _ (num : Numbering) (concerned : List ℕ) (old new : TreeState) (image :
       enters_are (one ∷ enter) = λ i. entering_node one i ∷ enters_are enter i
 
       nodes_are : seated_nodes change ≡ map entry_node stays ++ map enter_node plan.enter
-      nodes_are = map-append (λ (s : Seated). s.node) (map (seated_old change.changes) stays) (map (seated_entering change.changes) plan.enter) ∙ (λ i. olds_are stays i ++ enters_are plan.enter i)
+      nodes_are =
+          map-append (λ (s : Seated). s.node) (map (seated_old change.changes) stays) (map (seated_entering change.changes) plan.enter)
+          ∙ (λ i. olds_are stays i ++ enters_are plan.enter i)
 
       apart : (i : ℕ) → Contains (map entry_node stays) i → Contains (map enter_node plan.enter) i → ⊥
       apart i one two =

@@ -42,7 +42,8 @@ found_is_in p (y ∷ ys) x e = by (p y) e (found_is_in p ys x)
     by false e later = further_in y x ys (later e)
 
 -- the children that the net of a node names
-pub children_of : (directories : List ℕ) (tree : TreeState) (nets : List DirectoryNet) → KnowsDirectories directories tree nets → (node : ℕ) → KnowsChildren directories tree (net_of_node nets node)
+pub children_of : (directories : List ℕ) (tree : TreeState) (nets : List DirectoryNet) → KnowsDirectories directories tree nets → (node : ℕ)
+    → KnowsChildren directories tree (net_of_node nets node)
 children_of directories tree nets known node = by (item_with net_node node nets) refl
   where
     by : (o : Option DirectoryNet) → item_with net_node node nets ≡ o → KnowsChildren directories tree (option_map_or (λ one. one.net.items) o [])
@@ -59,7 +60,8 @@ length_in_blocks slots =
     length-take-le n (slots ++ replicate n None) (omega (arith, length-append slots (replicate n None), length-replicate {A = Option Row} n None))
 
 module _ (old new : TreeState) (numbers : ℕ → Option ℕ) (num : Numbering) (seen : Seen) (changes : CommitChanges) (begun : Begun) (number : ℕ) (fresh : List ℕ)
-    (begins : BeginsWith old seen begun) (leads : LeadNode old new num seen changes begun) (agree : NumbersChildren numbers num (net_of_node changes.nets begun.node)) where
+    (begins : BeginsWith old seen begun) (leads : LeadNode old new num seen changes begun)
+    (agree : NumbersChildren numbers num (net_of_node changes.nets begun.node)) where
   abbrev net : List NetRow
   net = net_of_node changes.nets begun.node
 
@@ -70,18 +72,22 @@ module _ (old new : TreeState) (numbers : ℕ → Option ℕ) (num : Numbering) 
   kind_is kind is = ap kind_byte (sym is ∙ begins.kind ∙ sym (leads.nets.between.kinds begun.node))
 
   links_are : links_by_nets changes.directories changes.nets begun.node begun.base.links ≡ links_of new begun.node
-  links_are = ap (links_by_nets changes.directories changes.nets begun.node) begins.links ∙ nets_count_links old new changes.directories changes.nets begun.node leads.nets leads.links
+  links_are =
+      ap (links_by_nets changes.directories changes.nets begun.node) begins.links
+      ∙ nets_count_links old new changes.directories changes.nets begun.node leads.nets leads.links
 
   pub slots_are : slots_joined (blocks_kept numbers changes.directories net begun.slots) ≡ in_blocks (slots_after num new net seen.slots)
   slots_are =
-      net_slots_are_those numbers num new changes.directories net begun.slots begins.blocks (children_of changes.directories new changes.nets leads.nets.kinds begun.node) agree
+      net_slots_are_those numbers num new changes.directories net begun.slots begins.blocks
+      (children_of changes.directories new changes.nets leads.nets.kinds begun.node) agree
       ∙ ap (λ slots. in_blocks (slots_after num new net slots)) begins.slots
 
   -- a directory is as large as the blocks that it keeps
   pub kept_long : length (slots_joined (blocks_kept numbers changes.directories net begun.slots)) ≡ 15 * blocks_to_last_row blocks
   kept_long =
       let long = long_after changes.directories net begun.slots (long_blocks begun.slots begins.blocks) in
-      ap length (joined_mapped (slot_numbered numbers net) (take (blocks_to_last_row blocks) blocks)) ∙ length-map (slots_joined (take (blocks_to_last_row blocks) blocks)) (slot_numbered numbers net)
+      ap length (joined_mapped (slot_numbered numbers net) (take (blocks_to_last_row blocks) blocks))
+      ∙ length-map (slots_joined (take (blocks_to_last_row blocks) blocks)) (slot_numbered numbers net)
       ∙ ap length (joined_kept blocks long) ∙ length_in_blocks (slots_joined blocks) ∙ ap (λ n. 15 * n) (sym (end_is blocks long))
 
   size_is : size_of_blocks (blocks_to_last_row blocks) ≡ 4096 * (length (slots_joined (blocks_kept numbers changes.directories net begun.slots)) / 15)
@@ -91,7 +97,8 @@ module _ (old new : TreeState) (numbers : ℕ → Option ℕ) (num : Numbering) 
       let long = kept_long in
       min-eq_left (omega arith) ∙ omega arith
 
-  shown : (kind : Kind) → begun.kind ≡ kind → ShowsNewNode new num seen changes (seated_as kind changes begun) fresh (built numbers net number fresh (seated_as kind changes begun))
+  shown : (kind : Kind) → begun.kind ≡ kind
+      → ShowsNewNode new num seen changes (seated_as kind changes begun) fresh (built numbers net number fresh (seated_as kind changes begun))
   shown Directory is =
       let seat = seated_as Directory changes begun in
       record {
@@ -112,4 +119,5 @@ module _ (old new : TreeState) (numbers : ℕ → Option ℕ) (num : Numbering) 
       }
 
 pub built_nodes_show : BuiltNodesShow
-built_nodes_show old new numbers num seen changes begun number fresh begins leads agree = shown old new numbers num seen changes begun number fresh begins leads agree begun.kind refl
+built_nodes_show old new numbers num seen changes begun number fresh begins leads agree =
+    shown old new numbers num seen changes begun number fresh begins leads agree begun.kind refl

@@ -41,13 +41,15 @@ module _ (numbers : ℕ → Option ℕ) (directories : List ℕ) (net : List Net
 
   -- no row that the net brings is one that stands in a slot whose name the net has
   abbrev pub TellsApart : Slots → Type 0
-  TellsApart slots = (row : Row) → Contains slots (Some row) → is_in_net net (Some row) ≡ true → (brought : Row) → IsBrought brought → row_numbered numbers net brought ≢ row
+  TellsApart slots =
+      (row : Row) → Contains slots (Some row) → is_in_net net (Some row) ≡ true → (brought : Row) → IsBrought brought → row_numbered numbers net brought ≢ row
 
   abbrev AreBrought : List Row → Type 0
   AreBrought rows = (row : Row) → Contains rows row → IsBrought row
 
   new_are_brought : AreBrought (rows_new directories net)
-  new_are_brought row there = let change = given_by (row_new directories) net row there in record { change = change.0; one = change.1; brought = by (is_none change.0.before) (row_brought directories change.0) change.2 }
+  new_are_brought row there = let change = given_by (row_new directories) net row there in
+      record { change = change.0; one = change.1; brought = by (is_none change.0.before) (row_brought directories change.0) change.2 }
     where
       by : (b : Bool) (o : Option Row) → cond b o None ≡ Some row → o ≡ Some row
       by true o e = e
@@ -58,7 +60,8 @@ module _ (numbers : ℕ → Option ℕ) (directories : List ℕ) (net : List Net
   changes old new = not (same_slots old (block_numbered numbers net new))
 
   -- a slot whose name the net has changes
-  moved_apart : (row : Row) (rows : List Row) (o : Option Row) → ((brought : Row) → IsBrought brought → row_numbered numbers net brought ≢ row) → AreBrought rows
+  moved_apart : (row : Row) (rows : List Row) (o : Option Row) → ((brought : Row) → IsBrought brought → row_numbered numbers net brought ≢ row)
+      → AreBrought rows
       → ((brought : Row) → o ≡ Some brought → IsBrought brought) → Some row ≢ slot_numbered numbers net (cond (is_none o) (slice_get rows 0) o)
   moved_apart row rows (Some brought) apart new own same = apart brought (own brought refl) (sym (some_same same))
   moved_apart row [] None apart new own same = some_not_none same
@@ -68,42 +71,75 @@ module _ (numbers : ℕ → Option ℕ) (directories : List ℕ) (net : List Net
   none_dropped m = ap (λ (rows : List Row). nat_eq (length rows) 0) (drop_none m)
 
   -- the slots of a block change exactly where the block is said to be touched
-  slots_touched : (slots : Slots) (rows : List Row) → TellsApart slots → AreBrought rows → block_is_touched directories net slots rows ≡ changes slots (fill_front (block_moved directories net slots) rows)
+  slots_touched : (slots : Slots) (rows : List Row) → TellsApart slots → AreBrought rows
+      → block_is_touched directories net slots rows ≡ changes slots (fill_front (block_moved directories net slots) rows)
   slots_touched [] rows apart new = ap (λ those. not (nat_eq (length those) (length rows))) (drop_zero rows) ∙ ap not (same_number (length rows))
   slots_touched (None ∷ slots) [] apart new =
-      ap (λ b. list_any (is_in_net net) slots || not b) (none_dropped (count_by is_none (None ∷ block_moved directories net slots)) ∙ sym (none_dropped (count_by is_none (block_moved directories net slots))))
+      ap (λ b. list_any (is_in_net net) slots || not b)
+      (none_dropped (count_by is_none (None ∷ block_moved directories net slots))
+      ∙ sym (none_dropped (count_by is_none (block_moved directories net slots))))
       ∙ slots_touched slots [] (λ row there. apart row (further_in None (Some row) slots there)) new
   slots_touched (None ∷ slots) (first ∷ rows) apart new =
-      ap (λ b. list_any (is_in_net net) slots || not b) (not_same (length (rows_left (None ∷ block_moved directories net slots) (first ∷ rows))) (suc (length rows)) (λ same.
+      ap (λ b. list_any (is_in_net net) slots || not b)
+      (not_same (length (rows_left (None ∷ block_moved directories net slots) (first ∷ rows))) (suc (length rows)) (λ same.
       let count = count-cons {X = Option Row} is_none None (block_moved directories net slots) in
       let left = length-drop (count_by is_none (None ∷ block_moved directories net slots)) (first ∷ rows) in
       omega arith)) ∙ or_true (list_any (is_in_net net) slots)
-  slots_touched (Some row ∷ slots) rows apart new = by (row_in_net row.name net) refl (slots_touched slots rows (λ other there. apart other (further_in (Some row) (Some other) slots there)) new)
+  slots_touched (Some row ∷ slots) rows apart new =
+      by (row_in_net row.name net) refl (slots_touched slots rows (λ other there. apart other (further_in (Some row) (Some other) slots there)) new)
     where
       Rest : Type 0
       Rest = block_is_touched directories net slots rows ≡ changes slots (fill_front (block_moved directories net slots) rows)
 
       -- a slot that stays has its row
       stays : (slot : Option Row) → slot ≡ Some row → slot_numbered numbers net (Some row) ≡ Some row → Rest
-          → (false || list_any (is_in_net net) slots || not (nat_eq (length (rows_left (slot ∷ block_moved directories net slots) rows)) (length rows))) ≡ changes (Some row ∷ slots) (fill_front (slot ∷ block_moved directories net slots) rows)
+          → (false || list_any (is_in_net net) slots || not (nat_eq (length (rows_left (slot ∷ block_moved directories net slots) rows)) (length rows)))
+          ≡ changes (Some row ∷ slots) (fill_front (slot ∷ block_moved directories net slots) rows)
       stays None e own rest = absurd (none_some e)
       stays (Some held) e own rest =
-          ap (λ m. list_any (is_in_net net) slots || not (nat_eq (length (drop m rows)) (length rows))) (count-cons {X = Option Row} is_none (Some held) (block_moved directories net slots) ∙ zero_plus _)
+          ap (λ m. list_any (is_in_net net) slots || not (nat_eq (length (drop m rows)) (length rows)))
+          (count-cons {X = Option Row} is_none (Some held) (block_moved directories net slots) ∙ zero_plus _)
           ∙ rest
-          ∙ sym (ap (λ (o : Option Row). not (option_eq same_row (Some row) (slot_numbered numbers net o) && same_slots slots (block_numbered numbers net (fill_front (block_moved directories net slots) rows)))) e
-          ∙ ap (λ (o : Option Row). not (option_eq same_row (Some row) o && same_slots slots (block_numbered numbers net (fill_front (block_moved directories net slots) rows)))) own
+          ∙ sym
+          (ap
+          (λ (o : Option Row). not
+          (option_eq same_row (Some row) (slot_numbered numbers net o)
+          && same_slots slots (block_numbered numbers net (fill_front (block_moved directories net slots) rows))))
+          e
+          ∙ ap (λ (o : Option Row). not
+          (option_eq same_row (Some row) o && same_slots slots (block_numbered numbers net (fill_front (block_moved directories net slots) rows))))
+          own
           ∙ ap (λ b. not (b && same_slots slots (block_numbered numbers net (fill_front (block_moved directories net slots) rows)))) (slot_itself (Some row)))
 
-      by : (o : Option NetRow) → row_in_net row.name net ≡ o → Rest → block_is_touched directories net (Some row ∷ slots) rows ≡ changes (Some row ∷ slots) (fill_front (block_moved directories net (Some row ∷ slots)) rows)
+      by : (o : Option NetRow) → row_in_net row.name net ≡ o → Rest
+          → block_is_touched directories net (Some row ∷ slots) rows
+          ≡ changes (Some row ∷ slots) (fill_front (block_moved directories net (Some row ∷ slots)) rows)
       by None e rest =
-          ap (λ (o : Option NetRow). (is_some o || list_any (is_in_net net) slots) || not (nat_eq (length (rows_left (block_moved directories net (Some row ∷ slots)) rows)) (length rows))) e
-          ∙ stays (slot_moved directories net (Some row)) (ap (λ (o : Option NetRow). option_map_or (row_brought directories) o (Some row)) e) (ap (λ (o : Option NetRow). Some (cond (is_some o) (row_with_inode (unwrap_or (numbers row.inode) 0) row) row)) e) rest
+          ap (λ (o : Option NetRow). (is_some o || list_any (is_in_net net) slots)
+          || not (nat_eq (length (rows_left (block_moved directories net (Some row ∷ slots)) rows)) (length rows)))
+          e
+          ∙ stays (slot_moved directories net (Some row)) (ap (λ (o : Option NetRow). option_map_or (row_brought directories) o (Some row)) e)
+          (ap (λ (o : Option NetRow). Some (cond (is_some o) (row_with_inode (unwrap_or (numbers row.inode) 0) row) row)) e) rest
       by (Some change) e rest =
-          ap (λ (o : Option NetRow). (is_some o || list_any (is_in_net net) slots) || not (nat_eq (length (rows_left (block_moved directories net (Some row ∷ slots)) rows)) (length rows))) e
-          ∙ sym (ap (λ b. not (b && same_slots slots (block_numbered numbers net (fill_front (block_moved directories net slots) (cond (is_none (slot_moved directories net (Some row))) (drop 1 rows) rows)))))
-          (unlike (Some row) (slot_numbered numbers net (cond (is_none (slot_moved directories net (Some row))) (slice_get rows 0) (slot_moved directories net (Some row))))
+          ap (λ (o : Option NetRow). (is_some o || list_any (is_in_net net) slots)
+          || not (nat_eq (length (rows_left (block_moved directories net (Some row ∷ slots)) rows)) (length rows)))
+          e
+          ∙ sym
+          (ap
+          (λ b. not
+          (b
+          && same_slots slots
+          (block_numbered numbers net
+          (fill_front (block_moved directories net slots)
+          (cond (is_none (slot_moved directories net (Some row))) (drop 1 rows) rows)))))
+          (unlike (Some row)
+          (slot_numbered numbers net (cond (is_none (slot_moved directories net (Some row))) (slice_get rows 0) (slot_moved directories net (Some row))))
           (moved_apart row rows (slot_moved directories net (Some row)) (apart row (first_in (Some row) slots) (ap is_some e)) new
-          (λ brought is. record { change = change; one = found_there row.name net change e; brought = sym (ap (λ (o : Option NetRow). option_map_or (row_brought directories) o (Some row)) e) ∙ is }))))
+          (λ brought is. record {
+            change = change;
+            one = found_there row.name net change e;
+            brought = sym (ap (λ (o : Option NetRow). option_map_or (row_brought directories) o (Some row)) e) ∙ is;
+          }))))
 
   length_touched : (blocks : List Slots) (rows : List Row) → length (blocks_touched directories net blocks rows) ≡ length blocks
   length_touched [] rows = refl
@@ -117,12 +153,14 @@ module _ (numbers : ℕ → Option ℕ) (directories : List ℕ) (net : List Net
   pub length_after : (blocks : List Slots) → length blocks ≤ length (slot_blocks_after directories net blocks)
   length_after blocks =
       let rest = rows_behind directories net blocks (rows_new directories net) in
-      let all = length-append (old_blocks_after directories net blocks (rows_new directories net)) (map (block_added rest) (range_with_len 0 (blocks_for rest))) in
+      let all =
+      length-append (old_blocks_after directories net blocks (rows_new directories net)) (map (block_added rest) (range_with_len 0 (blocks_for rest))) in
       omega (arith, length_old blocks (rows_new directories net))
 
   -- so it is of each block that there was
   old_touched : (blocks : List Slots) (rows : List Row) (n : ℕ) → TellsApart (slots_joined blocks) → AreBrought rows → n < length blocks
-      → get_or (blocks_touched directories net blocks rows) n false ≡ changes (get_or blocks n empty_block) (get_or (old_blocks_after directories net blocks rows) n empty_block)
+      → get_or (blocks_touched directories net blocks rows) n false
+      ≡ changes (get_or blocks n empty_block) (get_or (old_blocks_after directories net blocks rows) n empty_block)
   old_touched [] rows n apart new within = absurd (omega arith)
   old_touched (block ∷ blocks) rows zero apart new within =
       slots_touched block rows (λ row there. apart row (Contains-append_left block (slots_joined blocks) (Some row) there)) new
@@ -145,21 +183,30 @@ module _ (numbers : ℕ → Option ℕ) (directories : List ℕ) (net : List Net
 
     -- a block changes exactly where it is said to be touched
     pub block_touched : (n : ℕ) → n < length (slot_blocks_after directories net blocks)
-        → get_or (directory_touched directories net blocks) n false ≡ changes (get_or blocks n empty_block) (get_or (slot_blocks_after directories net blocks) n empty_block)
+        → get_or (directory_touched directories net blocks) n false
+        ≡ changes (get_or blocks n empty_block) (get_or (slot_blocks_after directories net blocks) n empty_block)
     block_touched n within = elim (cases_lt n (length blocks)) [
       | inl low ↦
-          get_or_append_left (blocks_touched directories net blocks (rows_new directories net)) (replicate (blocks_for behind) true) false n (omega (arith, low, length_touched blocks (rows_new directories net)))
+          get_or_append_left (blocks_touched directories net blocks (rows_new directories net)) (replicate (blocks_for behind) true) false n
+          (omega (arith, low, length_touched blocks (rows_new directories net)))
           ∙ old_touched blocks (rows_new directories net) n apart new_are_brought low
           ∙ ap (changes (get_or blocks n empty_block))
-          (sym (get_or_append_left (old_blocks_after directories net blocks (rows_new directories net)) (map (block_added behind) (range_with_len 0 (blocks_for behind))) empty_block n (omega (arith, low, length_old blocks (rows_new directories net)))))
+          (sym
+          (get_or_append_left (old_blocks_after directories net blocks (rows_new directories net))
+          (map (block_added behind) (range_with_len 0 (blocks_for behind))) empty_block n
+          (omega (arith, low, length_old blocks (rows_new directories net)))))
       | inr high ↦ further (n - length blocks) (omega arith)
     ]
       where
-        further : (m : ℕ) → n ≡ length blocks + m → get_or (directory_touched directories net blocks) n false ≡ changes (get_or blocks n empty_block) (get_or (slot_blocks_after directories net blocks) n empty_block)
+        further : (m : ℕ) → n ≡ length blocks + m
+            → get_or (directory_touched directories net blocks) n false
+            ≡ changes (get_or blocks n empty_block) (get_or (slot_blocks_after directories net blocks) n empty_block)
         further m at =
             let long = length_touched blocks (rows_new directories net) in
             let long_old = length_old blocks (rows_new directories net) in
-            let all = length-append (old_blocks_after directories net blocks (rows_new directories net)) (map (block_added behind) (range_with_len 0 (blocks_for behind))) in
+            let all =
+            length-append (old_blocks_after directories net blocks (rows_new directories net))
+            (map (block_added behind) (range_with_len 0 (blocks_for behind))) in
             let added = length-map-range_with_len (block_added behind) 0 (blocks_for behind) in
             let low : m < blocks_for behind = omega (arith, within, at) in
             ap (λ k. get_or (directory_touched directories net blocks) k false) (at ∙ ap (λ k. k + m) (sym long))
@@ -169,7 +216,8 @@ module _ (numbers : ℕ → Option ℕ) (directories : List ℕ) (net : List Net
             ∙ ap (λ block. changes block (block_added behind m)) (sym (get_or_past blocks n empty_block (omega arith)))
             ∙ ap (changes (get_or blocks n empty_block))
             (sym (ap (λ k. get_or (slot_blocks_after directories net blocks) k empty_block) (at ∙ ap (λ k. k + m) (sym long_old))
-            ∙ get_or-append-add (old_blocks_after directories net blocks (rows_new directories net)) (map (block_added behind) (range_with_len 0 (blocks_for behind))) m empty_block
+            ∙ get_or-append-add (old_blocks_after directories net blocks (rows_new directories net))
+            (map (block_added behind) (range_with_len 0 (blocks_for behind))) m empty_block
             ∙ get_or-map-range_with_len (block_added behind) 0 (blocks_for behind) m m empty_block low (omega arith)))
           where
             all_true : (k m : ℕ) → m < k → get_or (replicate k true) m false ≡ true

@@ -23,12 +23,15 @@ use Rattle.commit_laws.proofs.Ranked.{nodes_are_built_by_rank}
 use Rattle.commit_laws.proofs.Shown.{built_nodes_show}
 
 -- a pointer afterwards asks for a fresh block only where its place takes one
-pointers_agree : (rewrite : Rewrite) (fresh other : ℕ → ℕ) (place : ℕ) → (takes_place rewrite place ≡ true → fresh place ≡ other place) → pointer_after rewrite fresh place ≡ pointer_after rewrite other place
+pointers_agree : (rewrite : Rewrite) (fresh other : ℕ → ℕ) (place : ℕ) → (takes_place rewrite place ≡ true → fresh place ≡ other place)
+    → pointer_after rewrite fresh place ≡ pointer_after rewrite other place
 pointers_agree rewrite fresh other place same =
-    by (nat_lt place FILE_BLOCKS) (rewrite.is_rewritten place) (rewrite.is_zero place) (rewrites_table rewrite (place - FILE_BLOCKS)) (table_has_pointer rewrite (place - FILE_BLOCKS)) (fresh place) (other place) (rewrite.pointers place) same
+    by (nat_lt place FILE_BLOCKS) (rewrite.is_rewritten place) (rewrite.is_zero place) (rewrites_table rewrite (place - FILE_BLOCKS))
+    (table_has_pointer rewrite (place - FILE_BLOCKS)) (fresh place) (other place) (rewrite.pointers place) same
   where
     by : (low rewritten empty table some : Bool) (a b stands : ℕ) → (cond low (rewritten && not empty) (table && some) ≡ true → a ≡ b)
-        → cond low (cond rewritten (cond empty 0 a) stands) (cond table (cond some a 0) stands) ≡ cond low (cond rewritten (cond empty 0 b) stands) (cond table (cond some b 0) stands)
+        → cond low (cond rewritten (cond empty 0 a) stands) (cond table (cond some a 0) stands)
+        ≡ cond low (cond rewritten (cond empty 0 b) stands) (cond table (cond some b 0) stands)
     by true true true table some a b stands same = refl
     by true true false table some a b stands same = same refl
     by true false empty table some a b stands same = refl
@@ -48,9 +51,13 @@ built_nodes_show_their_inodes commit change grant old new image concerned i m be
     let ranked = nodes_are_built_by_rank change grant m seat at.seat in
     let shows = built_nodes_show old new numbers commit.after seen change.changes begun number fresh at.begins at.leads at.numbers in
     let kind = shows.kind ∙ ap (λ n. kind_byte (kind_of new n)) node in
-    let slots = shows.slots ∙ ap (λ n. in_blocks (slots_after commit.after new (net_of_node change.changes.nets n) seen.slots)) node ∙ ap (λ net. in_blocks (slots_after commit.after new net seen.slots)) (sym (is.nets begun.node)) in
-    let own : slice_get (seated_nodes change) m ≡ Some begun.node = slice_get-map (λ (s : Seated). s.node) change.seats m ∙ ap (option_map (λ (s : Seated). s.node)) at.seat ∙ ap Some node in
-    let rewritten : slice_get (rewrites_seated change) m ≡ Some (rewrite_in seat) = slice_get-map rewrite_in change.seats m ∙ ap (option_map rewrite_in) at.seat in
+    let slots =
+    shows.slots ∙ ap (λ n. in_blocks (slots_after commit.after new (net_of_node change.changes.nets n) seen.slots)) node
+    ∙ ap (λ net. in_blocks (slots_after commit.after new net seen.slots)) (sym (is.nets begun.node)) in
+    let own : slice_get (seated_nodes change) m ≡ Some begun.node =
+    slice_get-map (λ (s : Seated). s.node) change.seats m ∙ ap (option_map (λ (s : Seated). s.node)) at.seat ∙ ap Some node in
+    let rewritten : slice_get (rewrites_seated change) m ≡ Some (rewrite_in seat) =
+    slice_get-map rewrite_in change.seats m ∙ ap (option_map rewrite_in) at.seat in
     let ranks = by_rank commit change grant old new image concerned is in (
       one,
       ranked.built ∙ ap (λ n. Some (built numbers (net_of_node change.changes.nets n) number fresh seat)) node,
@@ -61,8 +68,10 @@ built_nodes_show_their_inodes commit change grant old new image concerned i m be
         slots = slots;
         blocks = λ place within.
             shows.blocks place within
-            ∙ pointers_agree (rewrite_in seat) (fresh_for (rewrite_in seat) fresh) (commit.fresh i) place (λ takes. ranked.fresh place within takes ∙ sym (ranks.fresh i m place at.inode))
-            ∙ ap (λ (r : Rewrite). pointer_after r (commit.fresh i) place) (sym (rewrite_of_node commit change grant old new image concerned is begun.node m (rewrite_in seat) own rewritten));
+            ∙ pointers_agree (rewrite_in seat) (fresh_for (rewrite_in seat) fresh) (commit.fresh i) place
+            (λ takes. ranked.fresh place within takes ∙ sym (ranks.fresh i m place at.inode))
+            ∙ ap (λ (r : Rewrite). pointer_after r (commit.fresh i) place)
+            (sym (rewrite_of_node commit change grant old new image concerned is begun.node m (rewrite_in seat) own rewritten));
       },
     )
 

@@ -40,7 +40,8 @@ GoodPartsFit = (store : ℕ → List ℕ) (layout : Layout) (image : SeenInodes)
     → AreGoodParts layout image parts → DirectoriesFit image
 
 -- A plan over good parts says what all blocks have, cuts files off at their ends, and has a grant in the data area.
-pub record IsCleanPlan (num : Numbering) (concerned : List ℕ) (old new : TreeState) (image : SeenInodes) (plan : CommitPlan) (grant : GrantedNumbers) (layout : Layout) (parts : ℕ → Part) : Type 0 where
+pub record IsCleanPlan (num : Numbering) (concerned : List ℕ) (old new : TreeState) (image : SeenInodes) (plan : CommitPlan) (grant : GrantedNumbers)
+    (layout : Layout) (parts : ℕ → Part) : Type 0 where
   pub contents : HasContents num concerned old new image plan grant parts
   pub ends : CutsOffEnds concerned old new plan
   pub good : AreGoodParts layout image parts
@@ -48,12 +49,17 @@ pub record IsCleanPlan (num : Numbering) (concerned : List ℕ) (old new : TreeS
 
 -- The parts after the commit of such a plan break none of these rules.
 abbrev pub PlansLeaveGoodBytes : Type 0
-PlansLeaveGoodBytes = (num : Numbering) (concerned : List ℕ) (old new : TreeState) (image : SeenInodes) (plan : CommitPlan) (grant : GrantedNumbers) (store : ℕ → List ℕ) (parts : ℕ → Part) (layout : Layout)
+PlansLeaveGoodBytes =
+    (num : Numbering) (concerned : List ℕ) (old new : TreeState) (image : SeenInodes) (plan : CommitPlan) (grant : GrantedNumbers) (store : ℕ → List ℕ)
+    (parts : ℕ → Part) (layout : Layout)
     → IsPlanOverParts num concerned old new image plan grant store parts → IsCleanPlan num concerned old new image plan grant layout parts
     → HaveGoodBytes layout (part_next store parts plan grant)
 
 -- What the disk has of a node after the commit is what is kept of its part, of files and of directories.
 abbrev pub PlansKeepParts : Type 0
-PlansKeepParts = (num : Numbering) (concerned : List ℕ) (old new : TreeState) (image : SeenInodes) (plan : CommitPlan) (grant : GrantedNumbers) (store : ℕ → List ℕ) (parts : ℕ → Part)
+PlansKeepParts =
+    (num : Numbering) (concerned : List ℕ) (old new : TreeState) (image : SeenInodes) (plan : CommitPlan) (grant : GrantedNumbers) (store : ℕ → List ℕ)
+    (parts : ℕ → Part)
     → IsPlanOverParts num concerned old new image plan grant store parts → HasContents num concerned old new image plan grant parts
-    → (entry : OldEntry) → Contains (after_commit (change_planned plan) grant) entry → entry.old.kept ≡ kept_of (part_next store parts plan grant entry.old.number)
+    → (entry : OldEntry) → Contains (after_commit (change_planned plan) grant) entry
+    → entry.old.kept ≡ kept_of (part_next store parts plan grant entry.old.number)

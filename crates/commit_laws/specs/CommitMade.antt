@@ -64,7 +64,8 @@ pub record IsSeatedAt (change : Planned) (grant : GrantedNumbers) (node i m : �
 -- A commit is that of a change with a grant: it concerns these nodes, has the change's nets, takes the grant's blocks by ranks, and gives
 -- numbers. Each concerned node that has a number afterwards is built with it, each once, from what the image has of it. All others are
 -- left as they are.
-pub record IsCommitOf (commit : Commit) (change : Planned) (grant : GrantedNumbers) (old new : TreeState) (image : SeenInodes) (concerned : List ℕ) : Type 0 where
+pub record IsCommitOf (commit : Commit) (change : Planned) (grant : GrantedNumbers) (old new : TreeState) (image : SeenInodes)
+    (concerned : List ℕ) : Type 0 where
   pub concerns : (node : ℕ) → commit.concerns node ≡ list_any (λ other. other == node) concerned
   pub nets : (node : ℕ) → commit.nets node ≡ net_of_node change.changes.nets node
   pub takes : (i place : ℕ) → commit.takes i place ≡ takes_of_change change grant i place

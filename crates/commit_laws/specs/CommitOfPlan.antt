@@ -81,7 +81,8 @@ pub record ServesPlan (image : SeenInodes) (plan : CommitPlan) (grant : GrantedN
   pub blocks : GrantServes image (rewrites_seated (change_planned plan)) grant.blocks
 
 -- A plan is made over an image that stands for a tree, with a grant that serves it, and leads to another tree.
-pub record IsCommitPlan (num : Numbering) (concerned : List ℕ) (old new : TreeState) (image : SeenInodes) (plan : CommitPlan) (grant : GrantedNumbers) : Type 0 where
+pub record IsCommitPlan (num : Numbering) (concerned : List ℕ) (old new : TreeState) (image : SeenInodes) (plan : CommitPlan)
+    (grant : GrantedNumbers) : Type 0 where
   pub stands : StandsForTree num old image
   pub from : PlansFrom num concerned image plan
   pub to : PlansTo concerned old new plan
@@ -89,7 +90,8 @@ pub record IsCommitPlan (num : Numbering) (concerned : List ℕ) (old new : Tree
   pub follows : MayFollow (numbers_planned num plan grant.inodes) old new
 
 -- What a plan makes is a commit of its change, whose nets lead to the new tree.
-pub record CommitsPlan (num : Numbering) (concerned : List ℕ) (old new : TreeState) (image : SeenInodes) (plan : CommitPlan) (grant : GrantedNumbers) : Type 0 where
+pub record CommitsPlan (num : Numbering) (concerned : List ℕ) (old new : TreeState) (image : SeenInodes) (plan : CommitPlan)
+    (grant : GrantedNumbers) : Type 0 where
   pub is : IsCommitOf (commit_of num concerned plan grant) (change_planned plan) grant old new image concerned
   pub leads : LeadTo old new (change_planned plan).changes.directories plan.nets
 
@@ -105,7 +107,8 @@ image_planned num concerned new image plan grant =
     image_made commit new image (rewrites_of_change commit (change_planned plan) image) concerned
 
 -- A plan leads from a sound tree to a sound one, which is such that an image may stand for it.
-pub record IsSoundPlan (num : Numbering) (concerned : List ℕ) (old new : TreeState) (image : SeenInodes) (plan : CommitPlan) (grant : GrantedNumbers) : Type 0 where
+pub record IsSoundPlan (num : Numbering) (concerned : List ℕ) (old new : TreeState) (image : SeenInodes) (plan : CommitPlan)
+    (grant : GrantedNumbers) : Type 0 where
   pub whole : IsCommitPlan num concerned old new image plan grant
   pub sound : IsSound old
   pub next_sound : IsSound new
@@ -113,6 +116,7 @@ pub record IsSoundPlan (num : Numbering) (concerned : List ℕ) (old new : TreeS
 
 -- The image that the commit of such a plan makes stands for the new tree, and shows it.
 abbrev pub PlansLeaveTrees : Type 0
-PlansLeaveTrees = (num : Numbering) (concerned : List ℕ) (old new : TreeState) (image : SeenInodes) (plan : CommitPlan) (grant : GrantedNumbers) (making : Making)
+PlansLeaveTrees =
+    (num : Numbering) (concerned : List ℕ) (old new : TreeState) (image : SeenInodes) (plan : CommitPlan) (grant : GrantedNumbers) (making : Making)
     → IsSoundPlan num concerned old new image plan grant
     → LeavesTree (commit_of num concerned plan grant) new (image_planned num concerned new image plan grant) making

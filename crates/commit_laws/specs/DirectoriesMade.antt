@@ -20,7 +20,8 @@ use Rattle.commit_laws.specs.Rewritten.{HasPages, HasNoneBehind}
 pub record HasSlotContents (new : TreeState) (image : SeenInodes) (plan : CommitPlan) (grant : GrantedNumbers) : Type 0 where
   pub behind : HasNoneBehind image
   pub pages : HasPages new plan
-  pub slots : (one : Built) → Contains (nodes_with_grant (change_planned plan) grant) one → (block : List (Option Row)) → Contains one.slots block → AreSlots block
+  pub slots : (one : Built) → Contains (nodes_with_grant (change_planned plan) grant) one → (block : List (Option Row)) → Contains one.slots block
+      → AreSlots block
 
 -- The part of a node after the commit is what the disk then has of it in memory, and shows what the next image shows.
 pub record IsKeptMade (next : SeenInodes) (after : Part) (one : Built) : Type 0 where
@@ -29,7 +30,9 @@ pub record IsKeptMade (next : SeenInodes) (after : Part) (one : Built) : Type 0 
 
 -- So it is of each directory that such a plan builds.
 abbrev pub PlansMakeDirectories : Type 0
-PlansMakeDirectories = (num : Numbering) (concerned : List ℕ) (old new : TreeState) (image : SeenInodes) (plan : CommitPlan) (grant : GrantedNumbers) (store : ℕ → List ℕ) (parts : ℕ → Part)
+PlansMakeDirectories =
+    (num : Numbering) (concerned : List ℕ) (old new : TreeState) (image : SeenInodes) (plan : CommitPlan) (grant : GrantedNumbers) (store : ℕ → List ℕ)
+    (parts : ℕ → Part)
     → IsPlanOverParts num concerned old new image plan grant store parts → HasSlotContents new image plan grant
     → (one : Built) → Contains (nodes_with_grant (change_planned plan) grant) one → kind_of new one.node ≡ Directory
     → IsKeptMade (image_planned num concerned new image plan grant) (part_made store plan grant one) one

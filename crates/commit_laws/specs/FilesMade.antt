@@ -33,7 +33,8 @@ HasBytesInBlocks part bytes = (n : ℕ) → n < FILE_BLOCKS → slice_index_or p
 pub record HasFileBlocks (num : Numbering) (concerned : List ℕ) (old new : TreeState) (plan : CommitPlan) (parts : ℕ → Part) : Type 0 where
   pub before : (node i : ℕ) → is_among concerned node ≡ true → num node ≡ Some i → kind_of old node ≡ File → HasBytesInBlocks (parts i) (bytes_of old node)
   pub pages : HasPages new plan
-  pub untouched : (node n : ℕ) → is_among concerned node ≡ true → has_page plan.files node n ≡ false → bytes_in_block n (bytes_of new node) ≡ bytes_in_block n (bytes_of old node)
+  pub untouched : (node n : ℕ) → is_among concerned node ≡ true → has_page plan.files node n ≡ false
+      → bytes_in_block n (bytes_of new node) ≡ bytes_in_block n (bytes_of old node)
   pub short : (node : ℕ) → length (bytes_of new node) ≤ BLOCK_BYTES * FILE_BLOCKS
 
 -- The part of a file after the commit has the new bytes in its blocks, is what the disk then has of it in memory, and shows what the next
@@ -45,7 +46,9 @@ pub record IsFileMade (new : TreeState) (next : SeenInodes) (after : Part) (one 
 
 -- So it is of each file that such a plan builds.
 abbrev pub PlansMakeFiles : Type 0
-PlansMakeFiles = (num : Numbering) (concerned : List ℕ) (old new : TreeState) (image : SeenInodes) (plan : CommitPlan) (grant : GrantedNumbers) (store : ℕ → List ℕ) (parts : ℕ → Part)
+PlansMakeFiles =
+    (num : Numbering) (concerned : List ℕ) (old new : TreeState) (image : SeenInodes) (plan : CommitPlan) (grant : GrantedNumbers) (store : ℕ → List ℕ)
+    (parts : ℕ → Part)
     → IsPlanOverParts num concerned old new image plan grant store parts → HasFileBlocks num concerned old new plan parts
     → (one : Built) → Contains (nodes_with_grant (change_planned plan) grant) one → kind_of new one.node ≡ File
     → IsFileMade new (image_planned num concerned new image plan grant) (part_made store plan grant one) one

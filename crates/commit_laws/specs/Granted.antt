@@ -12,7 +12,8 @@ use Rattle.disk_change.specs.declared.old.OldEntry.{OldEntry}
 
 -- Each fresh block that a commit writes is one of its grant, whatever the change and the grant are.
 abbrev pub FreshBlocksAreGranted : Type 0
-FreshBlocksAreGranted = (change : Planned) (grant : GrantedNumbers) (one : TxBlock) → Contains (fresh_of_commit change grant) one → Contains grant.blocks one.block
+FreshBlocksAreGranted =
+    (change : Planned) (grant : GrantedNumbers) (one : TxBlock) → Contains (fresh_of_commit change grant) one → Contains grant.blocks one.block
 
 -- An inode is one of a grant, or that of a node of a change that has one.
 pub data IsOwnInode (change : Planned) (grant : GrantedNumbers) (i : ℕ) : Type 0 where

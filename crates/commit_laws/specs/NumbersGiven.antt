@@ -27,7 +27,8 @@ abbrev pub node_leaves : List NodeId → ℕ → Bool
 node_leaves leave node = not (times_in (map node_number leave) node == 0)
 
 -- A node that stays has its number, and one that enters has that of the grant in the order of the nodes that enter.
-pub record NumbersAreThose (num : Numbering) (old : List OldEntry) (nets : List DirectoryNet) (files : List FileChange) (enter : List Enter) (leave : List NodeId) (inodes : List ℕ) : Type 0 where
+pub record NumbersAreThose (num : Numbering) (old : List OldEntry) (nets : List DirectoryNet) (files : List FileChange) (enter : List Enter)
+    (leave : List NodeId) (inodes : List ℕ) : Type 0 where
   pub stays : (entry : OldEntry) → Contains (staying old leave) entry
       → numbers_with (planned old nets files enter leave) inodes entry.node.0 ≡ numbers_after num (node_leaves leave) (map enter_node enter) inodes entry.node.0
   pub enters : (one : Enter) → Contains enter one
@@ -35,5 +36,6 @@ pub record NumbersAreThose (num : Numbering) (old : List OldEntry) (nets : List 
 
 -- The numbers of a commit's nodes are those.
 abbrev pub GivenNumbersAreThose : Type 0
-GivenNumbersAreThose = (num : Numbering) (old : List OldEntry) (nets : List DirectoryNet) (files : List FileChange) (enter : List Enter) (leave : List NodeId) (inodes : List ℕ)
+GivenNumbersAreThose =
+    (num : Numbering) (old : List OldEntry) (nets : List DirectoryNet) (files : List FileChange) (enter : List Enter) (leave : List NodeId) (inodes : List ℕ)
     → AreNumbered num old enter → NumbersAreThose num old nets files enter leave inodes

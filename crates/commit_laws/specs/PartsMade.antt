@@ -53,7 +53,8 @@ pub record IsOverParts (new : TreeState) (parts : ℕ → Part) (plan : CommitPl
   pub some : (k : ℕ) → k < length grant.blocks → slice_index grant.blocks k ≢ 0
 
 -- A plan that says all that its nodes show is made over parts that stand in a store.
-pub record IsPlanOverParts (num : Numbering) (concerned : List ℕ) (old new : TreeState) (image : SeenInodes) (plan : CommitPlan) (grant : GrantedNumbers) (store : ℕ → List ℕ) (parts : ℕ → Part) : Type 0 where
+pub record IsPlanOverParts (num : Numbering) (concerned : List ℕ) (old new : TreeState) (image : SeenInodes) (plan : CommitPlan) (grant : GrantedNumbers)
+    (store : ℕ → List ℕ) (parts : ℕ → Part) : Type 0 where
   pub full : IsFullPlan num concerned old new image plan grant
   pub standing : StandInStore store parts image
   pub over : IsOverParts new parts plan grant
@@ -67,7 +68,9 @@ pub record IsPartMade (fresh : List FreshBlock) (before after : Part) (one : Bui
 
 -- So it is of each node that such a plan builds.
 abbrev pub PlansMakeParts : Type 0
-PlansMakeParts = (num : Numbering) (concerned : List ℕ) (old new : TreeState) (image : SeenInodes) (plan : CommitPlan) (grant : GrantedNumbers) (store : ℕ → List ℕ) (parts : ℕ → Part)
+PlansMakeParts =
+    (num : Numbering) (concerned : List ℕ) (old new : TreeState) (image : SeenInodes) (plan : CommitPlan) (grant : GrantedNumbers) (store : ℕ → List ℕ)
+    (parts : ℕ → Part)
     → IsPlanOverParts num concerned old new image plan grant store parts → (one : Built) → Contains (nodes_with_grant (change_planned plan) grant) one
     → IsPartMade (blocks_planned plan grant) (parts one.number) (part_made store plan grant one) one
 
@@ -78,5 +81,7 @@ pub record AreOwnAndFree (fresh : List FreshBlock) (parts : ℕ → Part) (count
 
 -- So are those that such a plan writes.
 abbrev pub PlansWriteApart : Type 0
-PlansWriteApart = (num : Numbering) (concerned : List ℕ) (old new : TreeState) (image : SeenInodes) (plan : CommitPlan) (grant : GrantedNumbers) (store : ℕ → List ℕ) (parts : ℕ → Part)
+PlansWriteApart =
+    (num : Numbering) (concerned : List ℕ) (old new : TreeState) (image : SeenInodes) (plan : CommitPlan) (grant : GrantedNumbers) (store : ℕ → List ℕ)
+    (parts : ℕ → Part)
     → IsPlanOverParts num concerned old new image plan grant store parts → AreOwnAndFree (blocks_planned plan grant) parts image.count

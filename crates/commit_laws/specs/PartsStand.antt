@@ -25,7 +25,8 @@ pub record ShowsAlike (image other : SeenInodes) : Type 0 where
 
 -- An image that shows what another one shows stands for the same tree.
 abbrev pub AlikeImagesStand : Type 0
-AlikeImagesStand = (num : Numbering) (tree : TreeState) (image other : SeenInodes) → ShowsAlike image other → StandsForTree num tree other → StandsForTree num tree image
+AlikeImagesStand =
+    (num : Numbering) (tree : TreeState) (image other : SeenInodes) → ShowsAlike image other → StandsForTree num tree other → StandsForTree num tree image
 
 -- the part of inode i after the commit of a plan: that of the node that is built with it; a free one where the node that had it leaves; and any
 -- other as it was
@@ -39,12 +40,15 @@ abbrev pub inodes_next : (ℕ → List ℕ) → (ℕ → Part) → SeenInodes �
 inodes_next store parts image plan grant = record { count = image.count; seen = λ i. seen_of (part_next store parts plan grant i) }
 
 -- A plan over parts says what all blocks have: of files and of directories.
-pub record HasContents (num : Numbering) (concerned : List ℕ) (old new : TreeState) (image : SeenInodes) (plan : CommitPlan) (grant : GrantedNumbers) (parts : ℕ → Part) : Type 0 where
+pub record HasContents (num : Numbering) (concerned : List ℕ) (old new : TreeState) (image : SeenInodes) (plan : CommitPlan) (grant : GrantedNumbers)
+    (parts : ℕ → Part) : Type 0 where
   pub files : HasFileBlocks num concerned old new plan parts
   pub directories : HasSlotContents new image plan grant
 
 -- The parts after the commit of such a plan stand for the new tree.
 abbrev pub PlansLeaveParts : Type 0
-PlansLeaveParts = (num : Numbering) (concerned : List ℕ) (old new : TreeState) (image : SeenInodes) (plan : CommitPlan) (grant : GrantedNumbers) (store : ℕ → List ℕ) (parts : ℕ → Part)
+PlansLeaveParts =
+    (num : Numbering) (concerned : List ℕ) (old new : TreeState) (image : SeenInodes) (plan : CommitPlan) (grant : GrantedNumbers) (store : ℕ → List ℕ)
+    (parts : ℕ → Part)
     → IsPlanOverParts num concerned old new image plan grant store parts → HasContents num concerned old new image plan grant parts
     → StandsForTree (numbers_planned num plan grant.inodes) new (inodes_next store parts image plan grant)

@@ -15,13 +15,17 @@ use Rattle.commit_laws.specs.PartsStand.{part_next}
 
 -- Fresh blocks turn each inode's part before the commit of a plan into its part after it.
 abbrev pub PlansTurnParts : Type 0
-PlansTurnParts = (num : Numbering) (concerned : List ℕ) (old new : TreeState) (image : SeenInodes) (plan : CommitPlan) (grant : GrantedNumbers) (store : ℕ → List ℕ) (parts : ℕ → Part)
+PlansTurnParts =
+    (num : Numbering) (concerned : List ℕ) (old new : TreeState) (image : SeenInodes) (plan : CommitPlan) (grant : GrantedNumbers) (store : ℕ → List ℕ)
+    (parts : ℕ → Part)
     → IsPlanOverParts num concerned old new image plan grant store parts → (i : ℕ) → i < image.count
     → TurnsInto (blocks_planned plan grant) (parts i) (part_next store parts plan grant i)
 
 -- The records that the commit writes are those of the parts after it.
 abbrev pub PlansWriteParts : Type 0
-PlansWriteParts = (num : Numbering) (concerned : List ℕ) (old new : TreeState) (image : SeenInodes) (plan : CommitPlan) (grant : GrantedNumbers) (store : ℕ → List ℕ) (parts : ℕ → Part)
+PlansWriteParts =
+    (num : Numbering) (concerned : List ℕ) (old new : TreeState) (image : SeenInodes) (plan : CommitPlan) (grant : GrantedNumbers) (store : ℕ → List ℕ)
+    (parts : ℕ → Part)
     → IsPlanOverParts num concerned old new image plan grant store parts → (one : TxRecord) → Contains (records_written (change_planned plan) grant) one
     → (part_next store parts plan grant one.inode).raw ≡ one.bytes
 
@@ -32,6 +36,8 @@ pub record LieInData (layout : Layout) (image : SeenInodes) (parts : ℕ → Par
 
 -- Then the parts after the commit point there too.
 abbrev pub PlansPointToData : Type 0
-PlansPointToData = (num : Numbering) (concerned : List ℕ) (old new : TreeState) (image : SeenInodes) (plan : CommitPlan) (grant : GrantedNumbers) (store : ℕ → List ℕ) (parts : ℕ → Part) (layout : Layout)
+PlansPointToData =
+    (num : Numbering) (concerned : List ℕ) (old new : TreeState) (image : SeenInodes) (plan : CommitPlan) (grant : GrantedNumbers) (store : ℕ → List ℕ)
+    (parts : ℕ → Part) (layout : Layout)
     → IsPlanOverParts num concerned old new image plan grant store parts → LieInData layout image parts grant → (i : ℕ) → i < image.count
     → PointsToData layout (part_next store parts plan grant i)

@@ -29,7 +29,8 @@ pub record HaveRoom (new : TreeState) (image : SeenInodes) : Type 0 where
   pub directories : DirectoriesFit image
 
 -- A plan says all that its nodes show afterwards.
-pub record IsFullPlan (num : Numbering) (concerned : List ℕ) (old new : TreeState) (image : SeenInodes) (plan : CommitPlan) (grant : GrantedNumbers) : Type 0 where
+pub record IsFullPlan (num : Numbering) (concerned : List ℕ) (old new : TreeState) (image : SeenInodes) (plan : CommitPlan)
+    (grant : GrantedNumbers) : Type 0 where
   pub sound : IsSoundPlan num concerned old new image plan grant
   pub sizes : HasFileSizes old new plan
   pub room : HaveRoom new image
@@ -41,7 +42,8 @@ PlansShowInodes = (num : Numbering) (concerned : List ℕ) (old new : TreeState)
     → ShowsInode one ((image_planned num concerned new image plan grant).seen one.number)
 
 -- What the disk has of a node after the commit of a plan: the number that the commit gives it, and what its inode then shows.
-pub record IsKeptAfter (num : Numbering) (concerned : List ℕ) (new : TreeState) (image : SeenInodes) (plan : CommitPlan) (grant : GrantedNumbers) (entry : OldEntry) : Type 0 where
+pub record IsKeptAfter (num : Numbering) (concerned : List ℕ) (new : TreeState) (image : SeenInodes) (plan : CommitPlan) (grant : GrantedNumbers)
+    (entry : OldEntry) : Type 0 where
   pub number : numbers_planned num plan grant.inodes entry.node.0 ≡ Some entry.old.number
   pub shown : KeepsSeen entry.old.kept ((image_planned num concerned new image plan grant).seen entry.old.number)
 

@@ -15,13 +15,16 @@ fresh_cut seats grant m seat = take (blocks_taken seat) (drop (sum_by blocks_tak
 
 -- A node is built with the blocks that the grant has for its places by their ranks, in the row of all places of the commit's nodes.
 pub record IsBuiltByRank (change : Planned) (grant : GrantedNumbers) (m : ℕ) (seat : Seated) : Type 0 where
-  pub built : slice_get (nodes_with_grant change grant) m ≡ Some (built_by change.changes (numbers_with change grant.inodes) (fresh_cut change.seats grant.blocks m seat) seat)
+  pub built : slice_get (nodes_with_grant change grant) m
+      ≡ Some (built_by change.changes (numbers_with change grant.inodes) (fresh_cut change.seats grant.blocks m seat) seat)
   pub fresh : (place : ℕ) → place < PLACES → takes_place (rewrite_in seat) place ≡ true
-      → fresh_for (rewrite_in seat) (fresh_cut change.seats grant.blocks m seat) place ≡ granted_block (map rewrite_in change.seats) grant.blocks (place_in_row m place)
+      → fresh_for (rewrite_in seat) (fresh_cut change.seats grant.blocks m seat) place
+      ≡ granted_block (map rewrite_in change.seats) grant.blocks (place_in_row m place)
 
 -- Each node of a commit is built so.
 abbrev pub NodesAreBuiltByRank : Type 0
-NodesAreBuiltByRank = (change : Planned) (grant : GrantedNumbers) (m : ℕ) (seat : Seated) → slice_get change.seats m ≡ Some seat → IsBuiltByRank change grant m seat
+NodesAreBuiltByRank =
+    (change : Planned) (grant : GrantedNumbers) (m : ℕ) (seat : Seated) → slice_get change.seats m ≡ Some seat → IsBuiltByRank change grant m seat
 
 -- The fresh blocks that a commit needs are those of its rewritten nodes.
 abbrev pub NeedsAreThose : Type 0

@@ -56,14 +56,17 @@ rewrite_defined commit new image files node =
 
 -- each page of a plan has the bytes that its file then has in its block
 abbrev pub HasPages : TreeState → CommitPlan → Type 0
-HasPages new plan = (one : FileChange) → Contains plan.files one → (page : Page) → Contains one.pages.items page → page.bytes ≡ bytes_in_block page.block (bytes_of new one.node.0)
+HasPages new plan =
+    (one : FileChange) → Contains plan.files one → (page : Page) → Contains one.pages.items page
+    → page.bytes ≡ bytes_in_block page.block (bytes_of new one.node.0)
 
 -- no directory of an image has a block behind its slots
 abbrev pub HasNoneBehind : SeenInodes → Type 0
 HasNoneBehind image = (i n : ℕ) → IsDirectoryInode image i → n < FILE_BLOCKS → length (image.seen i).slots ≤ BLOCK_SLOTS * n → (image.seen i).blocks n ≡ 0
 
 -- A plan says all that its nodes show afterwards, and all that is written of them.
-pub record IsWrittenPlan (num : Numbering) (concerned : List ℕ) (old new : TreeState) (image : SeenInodes) (plan : CommitPlan) (grant : GrantedNumbers) : Type 0 where
+pub record IsWrittenPlan (num : Numbering) (concerned : List ℕ) (old new : TreeState) (image : SeenInodes) (plan : CommitPlan)
+    (grant : GrantedNumbers) : Type 0 where
   pub full : IsFullPlan num concerned old new image plan grant
   pub pages : HasPages new plan
   pub behind : HasNoneBehind image
@@ -78,4 +81,5 @@ PlansRewriteAsDefined = (num : Numbering) (concerned : List ℕ) (old new : Tree
 abbrev pub PlansNeedAsDefined : Type 0
 PlansNeedAsDefined = (num : Numbering) (concerned : List ℕ) (old new : TreeState) (image : SeenInodes) (plan : CommitPlan) (grant : GrantedNumbers)
     → IsWrittenPlan num concerned old new image plan grant
-    → blocks_needed (rewrites_seated (change_planned plan)) ≡ blocks_needed (map (rewrite_defined (commit_of num concerned plan grant) new image plan.files) (seated_nodes (change_planned plan)))
+    → blocks_needed (rewrites_seated (change_planned plan))
+    ≡ blocks_needed (map (rewrite_defined (commit_of num concerned plan grant) new image plan.files) (seated_nodes (change_planned plan)))

@@ -50,7 +50,8 @@ size_in new one = if one.meta.kind == 2 then BLOCK_BYTES * (length (slots_joined
 
 -- What is built of a node is what its inode shows after the commit: the kind and the link count of the new tree, the size of what it has,
 -- the old slots after the net, and at each place the pointer that stays, or the fresh block.
-pub record ShowsNewNode (new : TreeState) (num : Numbering) (seen : Seen) (changes : CommitChanges) (seat : Seated) (fresh : List ℕ) (one : Built) : Type 0 where
+pub record ShowsNewNode (new : TreeState) (num : Numbering) (seen : Seen) (changes : CommitChanges) (seat : Seated) (fresh : List ℕ)
+    (one : Built) : Type 0 where
   pub kind : one.meta.kind ≡ kind_byte (kind_of new one.node)
   pub links : one.meta.links ≡ links_of new one.node
   pub size : one.meta.size ≡ size_in new one
@@ -59,6 +60,7 @@ pub record ShowsNewNode (new : TreeState) (num : Numbering) (seen : Seen) (chang
 
 -- What is built of a node shows it as the new tree has it.
 abbrev pub BuiltNodesShow : Type 0
-BuiltNodesShow = (old new : TreeState) (numbers : ℕ → Option ℕ) (num : Numbering) (seen : Seen) (changes : CommitChanges) (begun : Begun) (number : ℕ) (fresh : List ℕ)
+BuiltNodesShow =
+    (old new : TreeState) (numbers : ℕ → Option ℕ) (num : Numbering) (seen : Seen) (changes : CommitChanges) (begun : Begun) (number : ℕ) (fresh : List ℕ)
     → BeginsWith old seen begun → LeadNode old new num seen changes begun → NumbersChildren numbers num (net_of_node changes.nets begun.node)
     → ShowsNewNode new num seen changes (seated changes begun) fresh (built numbers (net_of_node changes.nets begun.node) number fresh (seated changes begun))

@@ -30,7 +30,8 @@ pub record ShowsInode (one : Built) (seen : Seen) : Type 0 where
   pub blocks : (place : ℕ) → place < PLACES → pointer_kept one.meta one.tables place ≡ seen.blocks place
 
 -- A node is built at a place of a commit's nodes with a number, from what its inode shows before, and the change leads it to the new tree.
-pub record IsBuiltAt (commit : Commit) (change : Planned) (grant : GrantedNumbers) (old new : TreeState) (image : SeenInodes) (i m : ℕ) (begun : Begun) : Type 0 where
+pub record IsBuiltAt (commit : Commit) (change : Planned) (grant : GrantedNumbers) (old new : TreeState) (image : SeenInodes) (i m : ℕ)
+    (begun : Begun) : Type 0 where
   pub seat : slice_get change.seats m ≡ Some (seated change.changes begun)
   pub inode : slice_get (inodes_built change grant) m ≡ Some i
   pub begins : BeginsWith old (seen_before commit image begun.node) begun
@@ -39,13 +40,16 @@ pub record IsBuiltAt (commit : Commit) (change : Planned) (grant : GrantedNumber
 
 -- What is built of a node shows exactly the inode that the commit makes for it.
 abbrev pub BuiltNodesShowTheirInodes : Type 0
-BuiltNodesShowTheirInodes = (commit : Commit) (change : Planned) (grant : GrantedNumbers) (old new : TreeState) (image : SeenInodes) (concerned : List ℕ) (i m : ℕ) (begun : Begun)
+BuiltNodesShowTheirInodes =
+    (commit : Commit) (change : Planned) (grant : GrantedNumbers) (old new : TreeState) (image : SeenInodes) (concerned : List ℕ) (i m : ℕ) (begun : Begun)
     → IsCommitOf commit change grant old new image concerned → IsBuiltAt commit change grant old new image i m begun
-    → (one : Built) × (slice_get (nodes_with_grant change grant) m ≡ Some one) × ShowsInode one (seen_built commit new image (rewrites_of_change commit change image) i begun.node)
+    → (one : Built) × (slice_get (nodes_with_grant change grant) m ≡ Some one)
+    × ShowsInode one (seen_built commit new image (rewrites_of_change commit change image) i begun.node)
 
 -- The image that a change makes stands for the new tree, and shows it.
 abbrev pub ChangesLeaveTrees : Type 0
-ChangesLeaveTrees = (commit : Commit) (change : Planned) (grant : GrantedNumbers) (old new : TreeState) (image : SeenInodes) (concerned : List ℕ) (making : Making)
+ChangesLeaveTrees =
+    (commit : Commit) (change : Planned) (grant : GrantedNumbers) (old new : TreeState) (image : SeenInodes) (concerned : List ℕ) (making : Making)
     → StandsForTree commit.before old image → IsSound old → IsCommitOf commit change grant old new image concerned
     → LeadTo old new change.changes.directories change.changes.nets → GrantServes image (rewrites_seated change) grant.blocks
     → IsSound new → MayFollow commit.after old new → IsStorable commit.after new

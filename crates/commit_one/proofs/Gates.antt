@@ -35,12 +35,14 @@ module _ (job : Job) (is : IsJob job) (parts : ℕ → Part) (new : List InodePa
   Either image = IsBefore job parts image ⊎ IsByItsSlot job parts new image
 
   -- the seal
-  module _ {V E : Type 0} (old first : View) (sealed : Result V E) (seal : IsSync old first sealed) (lawful : IsLawful old) (leaves : EachLeft old (IsBefore job parts)) where
+  module _ {V E : Type 0} (old first : View) (sealed : Result V E) (seal : IsSync old first sealed) (lawful : IsLawful old)
+      (leaves : EachLeft old (IsBefore job parts)) where
     pub seal_keeps : Keeps (IsBefore job parts) old first
     seal_keeps = sync_keeps (IsBefore job parts) old first sealed lawful seal leaves
 
     pub seal_later : LaterLeaves (Opening old.now) old first
-    seal_later = later_more (λ k image. IsBefore job parts image) (Opening old.now) old first (λ k image from to stands. ((λ le. stands), inl stands)) seal_keeps.later
+    seal_later =
+        later_more (λ k image. IsBefore job parts image) (Opening old.now) old first (λ k image from to stands. ((λ le. stands), inl stands)) seal_keeps.later
 
     -- the gate
     module _ {W F : Type 0} (second : View) (opened : Result W F) (write : IsWrite (gate_piece job.place 1) first second opened) (fits : first.now < 2 ^ 64)
@@ -48,7 +50,8 @@ module _ (job : Job) (is : IsJob job) (parts : ℕ → Part) (new : List InodePa
       gate_images : (content : List ℕ) → first.content ≡ Some content → (image : List ℕ) → images second image → Either image
       gate_images content told image left =
           let was = write.torn image left in
-          gate_opens_or_stays job is parts new change was.0 image (seal_keeps.now content told was.0 was.1) (has_pieces job first filled content told was.0 was.1) whole was.2
+          gate_opens_or_stays job is parts new change was.0 image (seal_keeps.now content told was.0 was.1)
+          (has_pieces job first filled content told was.0 was.1) whole was.2
 
       pub gate_tells : GoesOnTelling old second
       gate_tells = telling_trans old first second seal_keeps.told (writes_tell (gate_piece job.place 1) first second opened write)
@@ -65,10 +68,12 @@ module _ (job : Job) (is : IsJob job) (parts : ℕ → Part) (new : List InodePa
       gate_later =
           later_trans (Opening old.now) old first second seal_keeps.told gate_goes seal_later
           (later_call (Opening old.now) first second write.call.time
-          (λ counts content told image left. ((λ le. absurd (omega (arith, write.call.time.counted, seal.call.time.counted, counts, le))), gate_images content told image left)))
+          (λ counts content told image left.
+          ((λ le. absurd (omega (arith, write.call.time.counted, seal.call.time.counted, counts, le))), gate_images content told image left)))
 
       -- the sync behind it
-      module _ {X G : Type 0} (now : View) (settled : Result X G) (settle : IsSync second now settled) (settle_fits : second.now < 2 ^ 64) (settle_lawful : IsLawful second) where
+      module _ {X G : Type 0} (now : View) (settled : Result X G) (settle : IsSync second now settled) (settle_fits : second.now < 2 ^ 64)
+          (settle_lawful : IsLawful second) where
         settle_keeps : Keeps Either second now
         settle_keeps = sync_keeps Either second now settled settle_lawful settle gate_leaves
 
@@ -85,22 +90,26 @@ module _ (job : Job) (is : IsJob job) (parts : ℕ → Part) (new : List InodePa
             )))
 
         pub settle_leaves : IsDurable job 0 now → EachLeft now (IsByItsSlot job parts new)
-        settle_leaves knows content told image left = open_is_by_its_slot job is parts new change image (knows.opened content told image left) (settle_keeps.now content told image left)
+        settle_leaves knows content told image left =
+            open_is_by_its_slot job is parts new change image (knows.opened content told image left) (settle_keeps.now content told image left)
 
   -- what each moment of the closing leaves
   abbrev New : List ℕ → Type 0
   New image = IsByItsSlot job parts new image ⊎ IsAfter job parts new image
 
   -- the sync before the gate
-  module _ {V E : Type 0} (old first : View) (copied : Result V E) (copy : IsSync old first copied) (lawful : IsLawful old) (leaves : EachLeft old (IsByItsSlot job parts new)) where
+  module _ {V E : Type 0} (old first : View) (copied : Result V E) (copy : IsSync old first copied) (lawful : IsLawful old)
+      (leaves : EachLeft old (IsByItsSlot job parts new)) where
     pub copy_keeps : Keeps (IsByItsSlot job parts new) old first
     copy_keeps = sync_keeps (IsByItsSlot job parts new) old first copied lawful copy leaves
 
     pub copy_later : LaterLeaves (λ k image. New image) old first
-    copy_later = later_more (λ k image. IsByItsSlot job parts new image) (λ k image. New image) old first (λ k image from to stands. inl stands) copy_keeps.later
+    copy_later =
+        later_more (λ k image. IsByItsSlot job parts new image) (λ k image. New image) old first (λ k image from to stands. inl stands) copy_keeps.later
 
     -- the gate
-    module _ {W F : Type 0} (second : View) (shut : Result W F) (write : IsWrite (gate_piece job.place 0) first second shut) (fits : first.now < 2 ^ 64) (knows : IsCopied job first) where
+    module _ {W F : Type 0} (second : View) (shut : Result W F) (write : IsWrite (gate_piece job.place 0) first second shut) (fits : first.now < 2 ^ 64)
+        (knows : IsCopied job first) where
       shut_images : (content : List ℕ) → first.content ≡ Some content → (image : List ℕ) → images second image → New image
       shut_images content told image left =
           let was = write.torn image left in
@@ -121,7 +130,8 @@ module _ (job : Job) (is : IsJob job) (parts : ℕ → Part) (new : List InodePa
           (later_call (λ k image. New image) first second write.call.time (λ counts content told image left. shut_images content told image left))
 
       -- the sync behind it
-      module _ {X G : Type 0} (now : View) (finished : Result X G) (finish : IsSync second now finished) (finish_fits : second.now < 2 ^ 64) (finish_lawful : IsLawful second) where
+      module _ {X G : Type 0} (now : View) (finished : Result X G) (finish : IsSync second now finished) (finish_fits : second.now < 2 ^ 64)
+          (finish_lawful : IsLawful second) where
         finish_keeps : Keeps New second now
         finish_keeps = sync_keeps New second now finished finish_lawful finish shut_leaves
 
@@ -129,7 +139,10 @@ module _ (job : Job) (is : IsJob job) (parts : ℕ → Part) (new : List InodePa
         finish_tells = telling_trans old second now shut_tells finish_keeps.told
 
         pub finish_later : LaterLeaves (λ k image. New image) old now
-        finish_later = later_trans (λ k image. New image) old second now shut_tells (call_advances second now finished finish_fits finish.call) shut_later finish_keeps.later
+        finish_later =
+            later_trans (λ k image. New image) old second now shut_tells
+            (call_advances second now finished finish_fits finish.call) shut_later finish_keeps.later
 
         pub finish_leaves : IsEnded job now → EachLeft now (IsAfter job parts new)
-        finish_leaves closed content told image left = shut_is_after job is parts new change image (closed.idle content told image left) (finish_keeps.now content told image left)
+        finish_leaves closed content told image left =
+            shut_is_after job is parts new change image (closed.idle content told image left) (finish_keeps.now content told image left)

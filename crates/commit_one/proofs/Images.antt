@@ -69,8 +69,10 @@ module _ (job : Job) (is : IsJob job) (parts : ℕ → Part) (free : AreFree job
         apart = λ i place below points.
             let here : pointer_at (parts i) place ≢ 0 = subst (λ (p : Part). pointer_at p place ≢ 0) (own_part job parts i) points in
             let other = free i place k below lt here in
-            subst (λ (p : Part). LiesApart (4096 * pointer_at p place) 4096 (fill_piece job k).at (length (fill_piece job k).bytes)) (sym (own_part job parts i))
-            (blocks_apart (pointer_at (parts i) place) (get_or job.fresh k no_block).block (fill_piece job k).at (length (fill_piece job k).bytes) other at_is whole);
+            subst (λ (p : Part). LiesApart (4096 * pointer_at p place) 4096 (fill_piece job k).at (length (fill_piece job k).bytes))
+            (sym (own_part job parts i))
+            (blocks_apart (pointer_at (parts i) place) (get_or job.fresh k no_block).block (fill_piece job k).at
+            (length (fill_piece job k).bytes) other at_is whole);
       })
     where
       blocks_apart : (p b at n : ℕ) → b ≢ p → at ≡ 4096 * b → n ≡ 4096 → LiesApart (4096 * p) 4096 at n
@@ -85,8 +87,10 @@ module _ (job : Job) (is : IsJob job) (parts : ℕ → Part) (free : AreFree job
   body_keeps k was image le same stands =
       let piece = body_piece job (k - length job.fresh) in
       let lies = body_lies job is (k - length job.fresh) in
-      let same_body : SameOutside piece.at (length piece.bytes) was image = subst (λ (p : Piece). SameOutside p.at (length p.bytes) was image) (body_is job is k le) same in
-      let same_at : SameOutside (slot_byte job.place.layout job.place.slot + lies.from) (length piece.bytes) was image = subst (λ (a : ℕ). SameOutside a (length piece.bytes) was image) lies.begins same_body in
+      let same_body : SameOutside piece.at (length piece.bytes) was image =
+      subst (λ (p : Piece). SameOutside p.at (length p.bytes) was image) (body_is job is k le) same in
+      let same_at : SameOutside (slot_byte job.place.layout job.place.slot + lies.from) (length piece.bytes) was image =
+      subst (λ (a : ℕ). SameOutside a (length piece.bytes) was image) lies.begins same_body in
       body_written job.place.layout nothing_open parts job.place.slot was image stands
       (record {
         from = lies.from;
@@ -120,9 +124,11 @@ module _ (job : Job) (is : IsJob job) (parts : ℕ → Part) (new : List InodePa
   entry_is k lt = sym (get_or-map entry_of_part new k no_part no_entry lt) ∙ ap (λ (l : List Entry). get_or l k no_entry) change.records
 
   below : (k : ℕ) → k < length new → (get_or new k no_part).inode < job.place.layout.inodes
-  below k lt = subst (λ (i : ℕ). i < job.place.layout.inodes) (sym (ap (λ (e : Entry). e.inode) (entry_is k lt))) (entry_below job is k (omega (arith, as_many)))
+  below k lt =
+      subst (λ (i : ℕ). i < job.place.layout.inodes) (sym (ap (λ (e : Entry). e.inode) (entry_is k lt))) (entry_below job is k (omega (arith, as_many)))
 
-  body_is_whole : (image : List ℕ) → HasPieces job image → HasBody job.place.layout.inodes (transaction_of job new) (journal_slot job.place.layout image job.place.slot)
+  body_is_whole : (image : List ℕ) → HasPieces job image
+      → HasBody job.place.layout.inodes (transaction_of job new) (journal_slot job.place.layout image job.place.slot)
   body_is_whole image has =
       let read = body_read job image is has in
       record {
@@ -132,7 +138,8 @@ module _ (job : Job) (is : IsJob job) (parts : ℕ → Part) (new : List InodePa
       }
 
   -- the fresh blocks stand in the image, each with all of its bytes
-  blocks_stand : (image : List ℕ) → HasPieces job image → ((k : ℕ) → k < length job.fresh → length (fill_piece job k).bytes ≡ 4096) → StandIn (image_block image) job.fresh
+  blocks_stand : (image : List ℕ) → HasPieces job image → ((k : ℕ) → k < length job.fresh → length (fill_piece job k).bytes ≡ 4096)
+      → StandIn (image_block image) job.fresh
   blocks_stand image has whole =
       All-from_get_or (λ (one : FreshBlock). image_block image one.block ≡ one.bytes) job.fresh no_block
       (λ k lt.
@@ -142,7 +149,8 @@ module _ (job : Job) (is : IsJob job) (parts : ℕ → Part) (new : List InodePa
       subst (λ (p : Piece). part p.at 4096 image ≡ p.bytes) (fresh_is job is k lt) own)
 
   -- the new parts are gathered in an image that has the fresh blocks
-  gathered : (image : List ℕ) → IsBefore job parts image → StandIn (image_block image) job.fresh → All (λ (own : InodePart). IsGathered (image_block image) own.part) new
+  gathered : (image : List ℕ) → IsBefore job parts image → StandIn (image_block image) job.fresh
+      → All (λ (own : InodePart). IsGathered (image_block image) own.part) new
   gathered image stands blocks =
       All-from_get_or (λ (own : InodePart). IsGathered (image_block image) own.part) new no_part
       (λ k lt.
@@ -151,11 +159,13 @@ module _ (job : Job) (is : IsJob job) (parts : ℕ → Part) (new : List InodePa
       (subst (λ (p : Part). TurnsInto job.fresh p (get_or new k no_part).part) (sym (own_part job parts (get_or new k no_part).inode)) turns) blocks)
 
   -- a write at the gate over a whole body opens it or leaves it
-  pub gate_opens_or_stays : (was image : List ℕ) → IsBefore job parts was → HasPieces job was → ((k : ℕ) → k < length job.fresh → length (fill_piece job k).bytes ≡ 4096)
+  pub gate_opens_or_stays : (was image : List ℕ) → IsBefore job parts was → HasPieces job was
+      → ((k : ℕ) → k < length job.fresh → length (fill_piece job k).bytes ≡ 4096)
       → SameOutside (slot_byte job.place.layout job.place.slot) 1 was image → IsBefore job parts image ⊎ IsByItsSlot job parts new image
   gate_opens_or_stays was image stands has whole same = by (head_of (part 0 4096 (journal_slot job.place.layout image job.place.slot))).gate refl
     where
-      by : (b : Bool) → (head_of (part 0 4096 (journal_slot job.place.layout image job.place.slot))).gate ≡ b → IsBefore job parts image ⊎ IsByItsSlot job parts new image
+      by : (b : Bool) → (head_of (part 0 4096 (journal_slot job.place.layout image job.place.slot))).gate ≡ b
+          → IsBefore job parts image ⊎ IsByItsSlot job parts new image
       by true gate =
           inr (gate_opens job.place.layout nothing_open parts job.place.slot (transaction_of job new) was image stands
           (record {
@@ -180,7 +190,8 @@ module _ (job : Job) (is : IsJob job) (parts : ℕ → Part) (new : List InodePa
           }))
 
   -- an image with the slot open is not one before the commit
-  pub open_is_by_its_slot : (image : List ℕ) → IsOpenIn job.place image → IsBefore job parts image ⊎ IsByItsSlot job parts new image → IsByItsSlot job parts new image
+  pub open_is_by_its_slot : (image : List ℕ) → IsOpenIn job.place image → IsBefore job parts image ⊎ IsByItsSlot job parts new image
+      → IsByItsSlot job parts new image
   open_is_by_its_slot image opened (inl stands) = absurd (let never : true ≡ false = sym opened ∙ stands.slots job.place.slot is.place.within in cc)
   open_is_by_its_slot image opened (inr stands) = stands
 
@@ -189,8 +200,11 @@ module _ (job : Job) (is : IsJob job) (parts : ℕ → Part) (new : List InodePa
   is_given k lt none =
       let i = (get_or new k no_part).inode in
       let at : ℕ → Option (Stamped Part) = λ j. part_given i (opened_by job new j) in
-      let nothing : at job.place.slot ≡ None = newest_none at 0 (slot_count job.place.layout) (None-option_map (λ (newest : Stamped Part). newest.value) _ none) job.place.slot (omega arith) (omega (arith, is.place.within)) in
-      let gone : part_given i (Some (transaction_of job new)) ≡ None = ap (part_given i) (sym (with_slot-same nothing_open job.place.slot (Some (transaction_of job new)))) ∙ nothing in
+      let nothing : at job.place.slot ≡ None =
+      newest_none at 0 (slot_count job.place.layout) (None-option_map (λ (newest : Stamped Part). newest.value) _ none) job.place.slot (omega arith)
+      (omega (arith, is.place.within)) in
+      let gone : part_given i (Some (transaction_of job new)) ≡ None =
+      ap (part_given i) (sym (with_slot-same nothing_open job.place.slot (Some (transaction_of job new)))) ∙ nothing in
       let not_found : find (λ (own : InodePart). eqb own.inode i) new ≡ None = None-option_map _ (find (λ (own : InodePart). eqb own.inode i) new) gone in
       let passes : eqb i i ≡ true = grind (arith, nat_tests) in
       let fails : eqb i i ≡ false = not_found_at (λ (own : InodePart). eqb own.inode i) new k no_part not_found lt in
@@ -204,7 +218,8 @@ module _ (job : Job) (is : IsJob job) (parts : ℕ → Part) (new : List InodePa
       let few : k < length new = omega (arith, as_many) in
       let inode : (get_or new k no_part).inode ≡ (get_or job.entries k no_entry).inode = ap (λ (e : Entry). e.inode) (entry_is k few) in
       let at : (table_piece job k).at ≡ table_byte job.place.layout (get_or job.entries k no_entry).inode + 0 = omega arith in
-      let same_at : SameOutside (table_byte job.place.layout (get_or job.entries k no_entry).inode + 0) (length (table_piece job k).bytes) was image = subst (λ (a : ℕ). SameOutside a (length (table_piece job k).bytes) was image) at same in
+      let same_at : SameOutside (table_byte job.place.layout (get_or job.entries k no_entry).inode + 0) (length (table_piece job k).bytes) was image =
+      subst (λ (a : ℕ). SameOutside a (length (table_piece job k).bytes) was image) at same in
       table_written job.place.layout (opened_by job new) parts (get_or job.entries k no_entry).inode was image stands
       (record {
         from = 0;
@@ -216,7 +231,8 @@ module _ (job : Job) (is : IsJob job) (parts : ℕ → Part) (new : List InodePa
       })
 
   -- the table has the records of the commit where they stand there
-  pub records_in_table : (image : List ℕ) → ((k : ℕ) → k < length job.entries → IsWrittenIn (table_piece job k) image) → HasRecordsOf job.place.layout (transaction_of job new) image
+  pub records_in_table : (image : List ℕ) → ((k : ℕ) → k < length job.entries → IsWrittenIn (table_piece job k) image)
+      → HasRecordsOf job.place.layout (transaction_of job new) image
   records_in_table image stand =
       All-from_get_or (λ (own : InodePart). table_record job.place.layout image own.inode ≡ own.part.raw) new no_part
       (λ k lt.
@@ -227,7 +243,8 @@ module _ (job : Job) (is : IsJob job) (parts : ℕ → Part) (new : List InodePa
   shut_again : with_slot (opened_by job new) job.place.slot None ≡ nothing_open
   shut_again = fun_ext (λ j. elim (cases_eq j job.place.slot) [
     | inl here ↦ ap (with_slot (opened_by job new) job.place.slot None) here ∙ with_slot-same (opened_by job new) job.place.slot None
-    | inr other ↦ with_slot-other (opened_by job new) job.place.slot None j other ∙ with_slot-other nothing_open job.place.slot (Some (transaction_of job new)) j other
+    | inr other ↦
+        with_slot-other (opened_by job new) job.place.slot None j other ∙ with_slot-other nothing_open job.place.slot (Some (transaction_of job new)) j other
   ])
 
   -- a write at the gate of the open slot, once the table has the records, shuts it or leaves it
@@ -239,9 +256,12 @@ module _ (job : Job) (is : IsJob job) (parts : ℕ → Part) (new : List InodePa
       own = with_slot-same nothing_open job.place.slot (Some (transaction_of job new))
 
       open_before : IsSlotOf job.place.layout.inodes (Some (transaction_of job new)) (journal_slot job.place.layout was job.place.slot)
-      open_before = subst (λ (o : Option Transaction). IsSlotOf job.place.layout.inodes o (journal_slot job.place.layout was job.place.slot)) own (stands.slots job.place.slot is.place.within)
+      open_before =
+          subst (λ (o : Option Transaction). IsSlotOf job.place.layout.inodes o (journal_slot job.place.layout was job.place.slot)) own
+          (stands.slots job.place.slot is.place.within)
 
-      by : (b : Bool) → (head_of (part 0 4096 (journal_slot job.place.layout image job.place.slot))).gate ≡ b → IsByItsSlot job parts new image ⊎ IsAfter job parts new image
+      by : (b : Bool) → (head_of (part 0 4096 (journal_slot job.place.layout image job.place.slot))).gate ≡ b
+          → IsByItsSlot job parts new image ⊎ IsAfter job parts new image
       by true gate =
           inl (gate_written job.place.layout (opened_by job new) parts job.place.slot was image stands
           (record {
@@ -255,7 +275,9 @@ module _ (job : Job) (is : IsJob job) (parts : ℕ → Part) (new : List InodePa
             within = is.place.within;
             written = agrees (slot_byte job.place.layout job.place.slot) 1 was image same;
             may = oldest_may_shut job.place.layout (opened_by job new) parts job.place.slot (transaction_of job new) was is.place.within own
-                (λ j other h apart open_with. absurd (let never : None ≡ Some other = sym (with_slot-other nothing_open job.place.slot (Some (transaction_of job new)) j apart) ∙ open_with in cc))
+                (λ j other h apart open_with. absurd
+                (let never : None ≡ Some other = sym (with_slot-other nothing_open job.place.slot (Some (transaction_of job new)) j apart) ∙ open_with in
+                cc))
                 (inr records);
             gate = gate;
           }) in

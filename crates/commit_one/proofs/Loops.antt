@@ -27,7 +27,8 @@ loops_none : (left : Stage → ℕ) (first : Stage) (disk : View) → 0 < left f
 loops_none left first disk some = record { job = refl; some = some; goes = GoesOn-refl disk; time = λ counts. refl; faults = refl }
 
 -- a write of a loop
-module _ {V E : Type 0} (left : Stage → ℕ) (first stage : Stage) (old mid new : View) (piece : Piece) (result : Result V E) (before : LoopsSoFar left first old stage mid) (fits : mid.now < 2 ^ 64)
+module _ {V E : Type 0} (left : Stage → ℕ) (first stage : Stage) (old mid new : View) (piece : Piece) (result : Result V E)
+    (before : LoopsSoFar left first old stage mid) (fits : mid.now < 2 ^ 64)
     (write : IsWrite piece mid new result) where
   loop_goes : Advances old new
   loop_goes = GoesOn-trans old mid new before.goes (call_advances mid new result fits write.call)
@@ -39,7 +40,8 @@ module _ {V E : Type 0} (left : Stage → ℕ) (first stage : Stage) (old mid ne
       omega (arith, write.call.time.counted, counts, t)
 
 -- a write that answered Ok, with more to come
-loops_more : {V E : Type 0} (left : Stage → ℕ) (first stage next : Stage) (old mid new : View) (piece : Piece) (value : V) → LoopsSoFar left first old stage mid → mid.now < 2 ^ 64
+loops_more : {V E : Type 0} (left : Stage → ℕ) (first stage next : Stage) (old mid new : View) (piece : Piece) (value : V) → LoopsSoFar left first old stage mid
+    → mid.now < 2 ^ 64
     → IsWrite {V = V} {E = E} piece mid new (Ok value) → next.job ≡ stage.job → left stage ≡ left next + 1 → 1 < left stage → LoopsSoFar left first old next new
 loops_more {V} {E} left first stage next old mid new piece value before fits write same one_less many =
     let result : Result V E = Ok value in
@@ -55,7 +57,8 @@ loops_more {V} {E} left first stage next old mid new piece value before fits wri
 pub record FillsSoFar (first : Stage) (old : View) (stage : Stage) (now : View) : Type 0 where
   pub loop : LoopsSoFar left_to_fill first old stage now
   pub filled : IsFilling first.job first.done old → IsFilling first.job stage.done now
-  pub keeps : (parts : ℕ → Part) → IsJob first.job → AreFree first.job parts → EachLeft old (IsBefore first.job parts) → Keeps (IsBefore first.job parts) old now
+  pub keeps : (parts : ℕ → Part) → IsJob first.job → AreFree first.job parts → EachLeft old (IsBefore first.job parts)
+      → Keeps (IsBefore first.job parts) old now
 
 pub fills_none : (first : Stage) (disk : View) → 0 < left_to_fill first → FillsSoFar first disk first disk
 fills_none first disk some = record {
@@ -66,14 +69,17 @@ fills_none first disk some = record {
 
 -- a write of the loop
 module _ {V E : Type 0} (first stage : Stage) (old mid new : View) (result : Result V E) (before : FillsSoFar first old stage mid) (fits : mid.now < 2 ^ 64)
-    (write : IsWrite (fill_piece stage.job stage.done) mid new result) (whole : stage.done < length stage.job.fresh → length (fill_piece stage.job stage.done).bytes ≡ 4096) where
+    (write : IsWrite (fill_piece stage.job stage.done) mid new result)
+    (whole : stage.done < length stage.job.fresh → length (fill_piece stage.job stage.done).bytes ≡ 4096) where
   pub fill_goes : Advances old new
   fill_goes = loop_goes left_to_fill first stage old mid new (fill_piece stage.job stage.done) result before.loop fits write
 
-  pub fill_shows : (parts : ℕ → Part) → IsJob first.job → AreFree first.job parts → EachLeft old (IsBefore first.job parts) → Keeps (IsBefore first.job parts) old new
+  pub fill_shows : (parts : ℕ → Part) → IsJob first.job → AreFree first.job parts → EachLeft old (IsBefore first.job parts)
+      → Keeps (IsBefore first.job parts) old new
   fill_shows parts is free leaves =
       let sofar = before.keeps parts is free leaves in
-      let same_job : IsWrite (fill_piece first.job stage.done) mid new result = subst (λ (j : Job). IsWrite (fill_piece j stage.done) mid new result) before.loop.job write in
+      let same_job : IsWrite (fill_piece first.job stage.done) mid new result =
+      subst (λ (j : Job). IsWrite (fill_piece j stage.done) mid new result) before.loop.job write in
       let same_whole : stage.done < length first.job.fresh → length (fill_piece first.job stage.done).bytes ≡ 4096 =
       subst (λ (j : Job). stage.done < length j.fresh → length (fill_piece j stage.done).bytes ≡ 4096) before.loop.job whole in
       keeps_trans (IsBefore first.job parts) old mid new (call_advances mid new result fits write.call) sofar
@@ -86,14 +92,17 @@ module _ {V E : Type 0} (first stage : Stage) (old mid new : View) (result : Res
 
 -- a write that answered Ok, with more to come
 pub fills_more : {V E : Type 0} (first stage next : Stage) (old mid new : View) (value : V) → FillsSoFar first old stage mid → mid.now < 2 ^ 64
-    → IsWrite {V = V} {E = E} (fill_piece stage.job stage.done) mid new (Ok value) → (stage.done < length stage.job.fresh → length (fill_piece stage.job stage.done).bytes ≡ 4096)
+    → IsWrite {V = V} {E = E} (fill_piece stage.job stage.done) mid new (Ok value)
+    → (stage.done < length stage.job.fresh → length (fill_piece stage.job stage.done).bytes ≡ 4096)
     → next ≡ next_stage stage → 1 < left_to_fill stage
     → (IsFilling stage.job stage.done mid → IsFilling stage.job (stage.done + 1) new) → FillsSoFar first old next new
 fills_more {V} {E} first stage next old mid new value before fits write whole is many filled =
     let result : Result V E = Ok value in
     subst (λ (s : Stage). FillsSoFar first old s new) (sym is)
     (record {
-      loop = loops_more left_to_fill first stage (next_stage stage) old mid new (fill_piece stage.job stage.done) value before.loop fits write refl (omega arith) many;
+      loop =
+          loops_more left_to_fill first stage (next_stage stage) old mid new (fill_piece stage.job stage.done) value before.loop fits write refl
+          (omega arith) many;
       filled = λ knows. subst (λ (j : Job). IsFilling j stage.done mid → IsFilling j (stage.done + 1) new) before.loop.job filled (before.filled knows);
       keeps = fill_shows first stage old mid new result before fits write whole;
     })
@@ -109,7 +118,8 @@ fills_done first stage old mid new before last filled knows =
 -- Until a later moment each image stands for parts that are changed by the slot of a job.
 abbrev pub PlacingKeeps : Job → View → View → Type 0
 PlacingKeeps job old now =
-    (parts : ℕ → Part) (new : List InodePart) → IsJob job → IsChangeOf job parts new → EachLeft old (IsByItsSlot job parts new) → Keeps (IsByItsSlot job parts new) old now
+    (parts : ℕ → Part) (new : List InodePart) → IsJob job → IsChangeOf job parts new → EachLeft old (IsByItsSlot job parts new)
+    → Keeps (IsByItsSlot job parts new) old now
 
 -- The same of the records that are placed.
 pub record PlacesSoFar (first : Stage) (old : View) (stage : Stage) (now : View) : Type 0 where
@@ -132,7 +142,8 @@ module _ {V E : Type 0} (first stage : Stage) (old mid now : View) (result : Res
   pub place_shows : PlacingKeeps first.job old now
   place_shows parts new is change leaves =
       let sofar = before.keeps parts new is change leaves in
-      let same_job : IsWrite (table_piece first.job stage.done) mid now result = subst (λ (j : Job). IsWrite (table_piece j stage.done) mid now result) before.loop.job write in
+      let same_job : IsWrite (table_piece first.job stage.done) mid now result =
+      subst (λ (j : Job). IsWrite (table_piece j stage.done) mid now result) before.loop.job write in
       let within : stage.done < length first.job.entries = omega (arith, before.loop.some, ap (λ (j : Job). length j.entries) before.loop.job) in
       keeps_trans (IsByItsSlot first.job parts new) old mid now (call_advances mid now result fits write.call) sofar
       (write_keeps (IsByItsSlot first.job parts new) (table_piece first.job stage.done) mid now result
@@ -150,7 +161,9 @@ places_more {V} {E} first stage next old mid now value before fits write is many
     let result : Result V E = Ok value in
     subst (λ (s : Stage). PlacesSoFar first old s now) (sym is)
     (record {
-      loop = loops_more left_to_place first stage (next_stage stage) old mid now (table_piece stage.job stage.done) value before.loop fits write refl (omega arith) many;
+      loop =
+          loops_more left_to_place first stage (next_stage stage) old mid now (table_piece stage.job stage.done) value before.loop fits write refl
+          (omega arith) many;
       placed = λ knows. subst (λ (j : Job). IsDurable j stage.done mid → IsDurable j (stage.done + 1) now) before.loop.job placed (before.placed knows);
       keeps = place_shows first stage old mid now result before fits write;
     })

@@ -20,14 +20,16 @@ keeps_none P disk leaves = record {
 }
 
 -- one device call: its only later moment is that of the images now
-pub later_call : (P : ℕ → List ℕ → Type 0) (old new : View) → Elapses old new → (CountsOn new → (content : List ℕ) → old.content ≡ Some content → (image : List ℕ) → images new image → P new.now image)
+pub later_call : (P : ℕ → List ℕ → Type 0) (old new : View) → Elapses old new
+    → (CountsOn new → (content : List ℕ) → old.content ≡ Some content → (image : List ℕ) → images new image → P new.now image)
     → LaterLeaves P old new
 later_call P old new time here content is counts k image from to left =
     let there : k ≡ new.now = omega (arith, time.counted) in
     subst (λ (n : ℕ). P n image) (sym there) (here counts content is image (subst (λ (n : ℕ). new.crash_images n image) there left))
 
 -- calls after calls
-pub later_trans : (P : ℕ → List ℕ → Type 0) (old mid new : View) → GoesOnTelling old mid → Advances mid new → LaterLeaves P old mid → LaterLeaves P mid new → LaterLeaves P old new
+pub later_trans : (P : ℕ → List ℕ → Type 0) (old mid new : View) → GoesOnTelling old mid → Advances mid new → LaterLeaves P old mid → LaterLeaves P mid new
+    → LaterLeaves P old new
 later_trans P old mid new told goes first second content is counts k image from to left =
     elim (cases_lt mid.now k) [
       | inl late ↦ let m = told content is in second m.0 m.1 counts k image late to left
@@ -45,7 +47,8 @@ keeps_trans P old mid new goes first second = record {
 }
 
 -- more is left where more is so
-pub later_more : (P Q : ℕ → List ℕ → Type 0) (old new : View) → ((k : ℕ) (image : List ℕ) → old.now < k → k ≤ new.now → P k image → Q k image) → LaterLeaves P old new → LaterLeaves Q old new
+pub later_more : (P Q : ℕ → List ℕ → Type 0) (old new : View) → ((k : ℕ) (image : List ℕ) → old.now < k → k ≤ new.now → P k image → Q k image)
+    → LaterLeaves P old new → LaterLeaves Q old new
 later_more P Q old new more leaves content is counts k image from to left = more k image from to (leaves content is counts k image from to left)
 
 -- a write goes on telling, and so does a sync
@@ -61,7 +64,8 @@ syncs_tell old new result is content told = (content, is.content ∙ told)
 -- a write all of whose images have P where those before had
 pub write_keeps : {V E : Type 0} (P : List ℕ → Type 0) (piece : Piece) (old new : View) (result : Result V E)
     → ((was image : List ℕ) → SameOutside piece.at (length piece.bytes) was image → P was → P image)
-    → ((content : List ℕ) → new.content ≡ Some content → (was : List ℕ) × (old.content ≡ Some was)) → IsWrite piece old new result → EachLeft old P → Keeps P old new
+    → ((content : List ℕ) → new.content ≡ Some content → (was : List ℕ) × (old.content ≡ Some was)) → IsWrite piece old new result → EachLeft old P
+    → Keeps P old new
 write_keeps P piece old new result frame back is leaves =
     let now : (content : List ℕ) → old.content ≡ Some content → (image : List ℕ) → images new image → P image = λ content told image left.
     let was = is.torn image left in
@@ -73,7 +77,8 @@ write_keeps P piece old new result frame back is leaves =
     }
 
 -- and a sync
-pub sync_keeps : {V E : Type 0} (P : List ℕ → Type 0) (old new : View) (result : Result V E) → IsLawful old → IsSync old new result → EachLeft old P → Keeps P old new
+pub sync_keeps : {V E : Type 0} (P : List ℕ → Type 0) (old new : View) (result : Result V E) → IsLawful old → IsSync old new result → EachLeft old P
+    → Keeps P old new
 sync_keeps P old new result lawful is leaves =
     let rests = synced_rests old new result lawful is in
     record {
@@ -84,7 +89,9 @@ sync_keeps P old new result lawful is leaves =
     }
 
 -- what is told after a write was told before it
-pub writes_told : {V E : Type 0} (piece : Piece) (old new : View) (result : Result V E) → IsWrite piece old new result → (content : List ℕ) → new.content ≡ Some content
+pub writes_told : {V E : Type 0} (piece : Piece) (old new : View) (result : Result V E) → IsWrite piece old new result → (content : List ℕ)
+    → new.content ≡ Some content
     → (was : List ℕ) × (old.content ≡ Some was)
 writes_told piece old new (Ok value) is content told = let p = put_told piece old.content new.content content is.ok told in (p.0, p.1)
-writes_told piece old new (Err fault) is content told = let p = told_before piece.at (length piece.bytes) old.content new.content content is.err told in (p.0, p.1)
+writes_told piece old new (Err fault) is content told = let p = told_before piece.at (length piece.bytes) old.content new.content content is.err told in
+    (p.0, p.1)

@@ -13,10 +13,12 @@ use Rattle.commit_one.specs.Change.{IsBefore, IsByItsSlot, IsAfter, IsChangeOf}
 use Rattle.commit_one.proofs.Moments.{later_trans, telling_trans}
 
 -- what each moment leaves, where it is known how many calls were made
-later_counted : (P Q : ℕ → List ℕ → Type 0) (old new : View) → (CountsOn new → (k : ℕ) (image : List ℕ) → old.now < k → k ≤ new.now → P k image → Q k image) → LaterLeaves P old new → LaterLeaves Q old new
+later_counted : (P Q : ℕ → List ℕ → Type 0) (old new : View) → (CountsOn new → (k : ℕ) (image : List ℕ) → old.now < k → k ≤ new.now → P k image → Q k image)
+    → LaterLeaves P old new → LaterLeaves Q old new
 later_counted P Q old new more leaves content is counts k image from to left = more counts k image from to (leaves content is counts k image from to left)
 
-module _ (job : Job) (is : IsJob job) (parts : ℕ → Part) (new : List InodePart) (change : IsChangeOf job parts new) (old : View) (before : EachLeft old (IsBefore job parts)) where
+module _ (job : Job) (is : IsJob job) (parts : ℕ → Part) (new : List InodePart) (change : IsChangeOf job parts new) (old : View)
+    (before : EachLeft old (IsBefore job parts)) where
   abbrev Moment : ℕ → List ℕ → Type 0
   Moment k image = IsMomentOf job parts new old.now k image
 
@@ -33,7 +35,8 @@ module _ (job : Job) (is : IsJob job) (parts : ℕ → Part) (new : List InodePa
   }
 
   -- from the later moments to all of them
-  pub each_moment : (now : View) → LaterLeaves Moment old now → Advances old now → (content : List ℕ) → old.content ≡ Some content → CountsOn now → EachMoment old now Moment
+  pub each_moment : (now : View) → LaterLeaves Moment old now → Advances old now → (content : List ℕ) → old.content ≡ Some content → CountsOn now
+      → EachMoment old now Moment
   each_moment now later goes content told counts k image from to left =
       elim (cases_lt old.now k) [
         | inl late ↦ later content told counts k image late to left
@@ -48,16 +51,20 @@ module _ (job : Job) (is : IsJob job) (parts : ℕ → Part) (new : List InodePa
     pub fill_moments : LaterLeaves Moment old first
     fill_moments =
         later_counted (λ k image. IsBefore job parts image) Moment old first
-        (λ counts k image from to stands. let m = most_filled counts in record { sealed = λ le. stands; opening = λ le. inl stands; durable = λ lt. absurd (omega arith) })
+        (λ counts k image from to stands. let m = most_filled counts in
+        record { sealed = λ le. stands; opening = λ le. inl stands; durable = λ lt. absurd (omega arith) })
         filled.later
 
-    module _ (second : View) (goes_second : Advances first second) (all_filled : CountsOn first → first.now ≡ old.now + fill_count job) (told_second : GoesOnTelling first second)
-        (opens : LaterLeaves (λ k image. (k ≤ first.now + 1 → IsBefore job parts image) × (IsBefore job parts image ⊎ IsByItsSlot job parts new image)) first second)
+    module _ (second : View) (goes_second : Advances first second) (all_filled : CountsOn first → first.now ≡ old.now + fill_count job)
+        (told_second : GoesOnTelling first second)
+        (opens : LaterLeaves
+        (λ k image. (k ≤ first.now + 1 → IsBefore job parts image) × (IsBefore job parts image ⊎ IsByItsSlot job parts new image)) first second)
         (most_opened : CountsOn second → second.now ≤ first.now + 3) where
       pub open_moments : LaterLeaves Moment old second
       open_moments =
           later_trans Moment old first second filled.told goes_second fill_moments
-          (later_counted (λ k image. (k ≤ first.now + 1 → IsBefore job parts image) × (IsBefore job parts image ⊎ IsByItsSlot job parts new image)) Moment first second
+          (later_counted
+          (λ k image. (k ≤ first.now + 1 → IsBefore job parts image) × (IsBefore job parts image ⊎ IsByItsSlot job parts new image)) Moment first second
           (λ counts k image from to stands.
           let a = all_filled (omega (arith, goes_second.later, counts)) in
           let m = most_opened counts in
@@ -67,7 +74,8 @@ module _ (job : Job) (is : IsJob job) (parts : ℕ → Part) (new : List InodePa
       pub open_tells : GoesOnTelling old second
       open_tells = telling_trans old first second filled.told told_second
 
-      module _ (third : View) (goes_third : Advances second third) (all_opened : CountsOn second → second.now ≡ first.now + 3) (placed : Keeps (IsByItsSlot job parts new) second third) where
+      module _ (third : View) (goes_third : Advances second third) (all_opened : CountsOn second → second.now ≡ first.now + 3)
+          (placed : Keeps (IsByItsSlot job parts new) second third) where
         -- the moment at which it is durable
         pub durable_is : CountsOn second → second.now ≡ durable_at old.now job
         durable_is counts =
@@ -87,7 +95,8 @@ module _ (job : Job) (is : IsJob job) (parts : ℕ → Part) (new : List InodePa
         pub place_tells : GoesOnTelling old third
         place_tells = telling_trans old second third open_tells placed.told
 
-        module _ (now : View) (goes_now : Advances third now) (shuts : LaterLeaves (λ k image. IsByItsSlot job parts new image ⊎ IsAfter job parts new image) third now) where
+        module _ (now : View) (goes_now : Advances third now)
+            (shuts : LaterLeaves (λ k image. IsByItsSlot job parts new image ⊎ IsAfter job parts new image) third now) where
           pub shut_moments : LaterLeaves Moment old now
           shut_moments =
               later_trans Moment old third now place_tells goes_now place_moments

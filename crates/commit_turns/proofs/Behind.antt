@@ -38,7 +38,8 @@ has_failed before most (Some failed) faults counts = (failed, refl)
 
 module _ (before most : ℕ) (start : Books) where
   -- a turn keeps a failure in the books
-  failure_kept : (turn : Turn) (books later : Books) (failed : ℕ) → books.failed ≡ Some failed → IsTurn before most books turn later → later.failed ≡ Some failed
+  failure_kept : (turn : Turn) (books later : Books) (failed : ℕ) → books.failed ≡ Some failed → IsTurn before most books turn later
+      → later.failed ≡ Some failed
   failure_kept turn books later failed e is = by turn.act is.does (stops before most books.failed failed e turn.act turn.faults is.faults)
     where
       other : (a : TurnAct) → HaltsOrGivesBack a → (a ≡ act.Halted → ⊥) → (a ≡ act.GivenBack → ⊥) → {P : Type 0} → P
@@ -55,7 +56,8 @@ module _ (before most : ℕ) (start : Books) where
       by act.Durable does stop = other act.Durable stop (λ e. cc) (λ e. cc)
       by act.Fail does stop = other act.Fail stop (λ e. cc) (λ e. cc)
 
-  failed_in_books : {turns : List Turn} {books : Books} → AreTurns before most start turns books → (fail : Turn) → IsOneOf turns fail → fail.act ≡ act.Fail → (failed : ℕ) × (books.failed ≡ Some failed)
+  failed_in_books : {turns : List Turn} {books : Books} → AreTurns before most start turns books → (fail : Turn) → IsOneOf turns fail → fail.act ≡ act.Fail
+      → (failed : ℕ) × (books.failed ≡ Some failed)
   failed_in_books no_turns = λ fail one did. absurd one
   failed_in_books (one_turn turns turn books later are is) = λ fail one did. elim (in_either turns (turn ∷ []) fail one) [
     | inl earlier ↦ let was = failed_in_books are fail earlier did in (was.0, failure_kept turn books later was.0 was.1 is)
@@ -78,7 +80,9 @@ failures_stop_commits first history image before most earlier turn books later a
 }
 
 -- what is reserved with one grant more
-more_reserved : (grants : List Grant) (grant : Grant) → ((reserved (grants ++ grant ∷ [])).inodes ≡ (reserved grants).inodes + grant.need.inodes) × ((reserved (grants ++ grant ∷ [])).blocks ≡ (reserved grants).blocks + grant.need.blocks)
+more_reserved : (grants : List Grant) (grant : Grant)
+    → ((reserved (grants ++ grant ∷ [])).inodes ≡ (reserved grants).inodes + grant.need.inodes)
+    × ((reserved (grants ++ grant ∷ [])).blocks ≡ (reserved grants).blocks + grant.need.blocks)
 more_reserved grants grant = (
   sum_by-append (λ (g : Grant). g.need.inodes) grants (grant ∷ []) ∙ ap (λ n. (reserved grants).inodes + n) (zero_plus grant.need.inodes),
   sum_by-append (λ (g : Grant). g.need.blocks) grants (grant ∷ []) ∙ ap (λ n. (reserved grants).blocks + n) (zero_plus grant.need.blocks),
@@ -94,14 +98,19 @@ reserved_is_not_free before most books turn later is did =
     record {
       need = does.need;
       needs = does.needs;
-      inodes = ap (λ (b : Books). (free_in b).inodes + does.need.inodes) does.later_is ∙ less_free (free_inodes books.image) (reserved books.grants).inodes does.need.inodes _ does.fits.inodes more.0;
-      blocks = ap (λ (b : Books). (free_in b).blocks + does.need.blocks) does.later_is ∙ less_free (free_blocks books.image) (reserved books.grants).blocks does.need.blocks _ does.fits.blocks more.1;
+      inodes =
+          ap (λ (b : Books). (free_in b).inodes + does.need.inodes) does.later_is
+          ∙ less_free (free_inodes books.image) (reserved books.grants).inodes does.need.inodes _ does.fits.inodes more.0;
+      blocks =
+          ap (λ (b : Books). (free_in b).blocks + does.need.blocks) does.later_is
+          ∙ less_free (free_blocks books.image) (reserved books.grants).blocks does.need.blocks _ does.fits.blocks more.1;
     }
 
 -- what passes a test stays
 stays_in : {X : Type 0} (test : X → Bool) (xs : List X) (x : X) → IsOneOf xs x → test x ≡ true → IsOneOf (filter test xs) x
 stays_in test [] x one passes = absurd one
-stays_in test (y ∷ xs) x (inl same) passes = subst (λ (b : Bool). IsOneOf (cond b (y ∷ filter test xs) (filter test xs)) x) (sym (ap test same ∙ passes)) (inl same)
+stays_in test (y ∷ xs) x (inl same) passes =
+    subst (λ (b : Bool). IsOneOf (cond b (y ∷ filter test xs) (filter test xs)) x) (sym (ap test same ∙ passes)) (inl same)
 stays_in {X} test (y ∷ xs) x (inr one) passes = by (test y) (stays_in test xs x one passes)
   where
     by : (b : Bool) → IsOneOf (filter test xs) x → IsOneOf (cond b (y ∷ filter test xs) (filter test xs)) x
@@ -132,7 +141,8 @@ further turns last turn is = record {
   takes_up = is.takes_up;
 }
 
-module _ (before most : ℕ) (turns : List Turn) (last : Turn) (books later : Books) (is : IsTurn before most books last later) (turn : Turn) (since : WaitsSince turns books turn) where
+module _ (before most : ℕ) (turns : List Turn) (last : Turn) (books later : Books) (is : IsTurn before most books last later) (turn : Turn)
+    (since : WaitsSince turns books turn) where
   -- it goes on to wait
   still_waits : IsOneOf later.waiting (waiting_for turn) → WaitsOrTaken (turns ++ last ∷ []) later turn
   still_waits waits = inl (record {
@@ -155,7 +165,8 @@ module _ (before most : ℕ) (turns : List Turn) (last : Turn) (books later : Bo
   same_waiting e = still_waits (subst (λ (l : List Waiting). IsOneOf l (waiting_for turn)) (sym e) since.waits)
 
   -- a turn that ends the wait of its fsync
-  leaves_off : later.waiting ≡ filter (is_other_waiting last.stamp.0) books.waiting → ((last.act ≡ act.CutAt) ⊎ HaltsOrGivesBack last.act) → WaitsOrTaken (turns ++ last ∷ []) later turn
+  leaves_off : later.waiting ≡ filter (is_other_waiting last.stamp.0) books.waiting → ((last.act ≡ act.CutAt) ⊎ HaltsOrGivesBack last.act)
+      → WaitsOrTaken (turns ++ last ∷ []) later turn
   leaves_off e ends = elim (cases_Bool (nat_eq turn.stamp.0 last.stamp.0)) [
     | inl t ↦ inr (record {
       earlier = since.earlier;
@@ -167,12 +178,17 @@ module _ (before most : ℕ) (turns : List Turn) (last : Turn) (books later : Bo
       own = sym (eqb-true turn.stamp.0 last.stamp.0 t);
       takes_up = ends;
     })
-    | inr f ↦ still_waits (subst (λ (l : List Waiting). IsOneOf l (waiting_for turn)) (sym e) (stays_in (is_other_waiting last.stamp.0) books.waiting (waiting_for turn) since.waits (ap not f)))
+    | inr f ↦
+        still_waits
+        (subst (λ (l : List Waiting). IsOneOf l (waiting_for turn)) (sym e)
+        (stays_in (is_other_waiting last.stamp.0) books.waiting (waiting_for turn) since.waits (ap not f)))
   ]
 
   by_last : (a : TurnAct) → last.act ≡ a → Does a books last later → WaitsOrTaken (turns ++ last ∷ []) later turn
   by_last act.Granted e does =
-      still_waits (subst (λ (l : List Waiting). IsOneOf l (waiting_for turn)) (sym (ap (λ (b : Books). b.waiting) does.later_is)) (in_left books.waiting (waiting_for last ∷ []) (waiting_for turn) since.waits))
+      still_waits
+      (subst (λ (l : List Waiting). IsOneOf l (waiting_for turn)) (sym (ap (λ (b : Books). b.waiting) does.later_is))
+      (in_left books.waiting (waiting_for last ∷ []) (waiting_for turn) since.waits))
   by_last act.GivenBack e does = leaves_off (ap (λ (b : Books). b.waiting) does.later_is) (inr (inr e))
   by_last (act.Short kind asked have) e does = same_waiting (ap (λ (b : Books). b.waiting) does.later_is)
   by_last act.Halted e does = leaves_off (ap (λ (b : Books). b.waiting) does) (inr (inl e))
@@ -182,7 +198,8 @@ module _ (before most : ℕ) (turns : List Turn) (last : Turn) (books later : Bo
   by_last act.Fail e does = same_waiting (ap (λ (b : Books). b.waiting) does.later_is)
 
 module _ (before most : ℕ) (start : Books) where
-  taken_up : {turns : List Turn} {books : Books} → AreTurns before most start turns books → (turn : Turn) → IsOneOf turns turn → turn.act ≡ act.Granted → WaitsOrTaken turns books turn
+  taken_up : {turns : List Turn} {books : Books} → AreTurns before most start turns books → (turn : Turn) → IsOneOf turns turn → turn.act ≡ act.Granted
+      → WaitsOrTaken turns books turn
   taken_up no_turns = λ turn one did. absurd one
   taken_up (one_turn turns last books later are is) = λ turn one did. elim (in_either turns (last ∷ []) turn one) [
     | inl earlier ↦ elim (taken_up are turn earlier did) [
@@ -205,7 +222,8 @@ module _ (before most : ℕ) (start : Books) where
   ]
 
 pub grants_are_taken_up : GrantsAreTakenUp
-grants_are_taken_up first history image from most turns turn recorded one did = elim (taken_up recorded.before most (books_of first history image) recorded.kept turn one did) [
-  | inl since ↦ absurd (subst (λ (l : List Waiting). IsOneOf l (waiting_for turn)) recorded.settled since.waits)
-  | inr taken ↦ taken
-]
+grants_are_taken_up first history image from most turns turn recorded one did =
+    elim (taken_up recorded.before most (books_of first history image) recorded.kept turn one did) [
+      | inl since ↦ absurd (subst (λ (l : List Waiting). IsOneOf l (waiting_for turn)) recorded.settled since.waits)
+      | inr taken ↦ taken
+    ]

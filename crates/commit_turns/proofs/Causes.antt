@@ -51,7 +51,8 @@ record StandsAmong (before most : ℕ) (start : Books) (turns : List Turn) (turn
   kept : AreTurns before most start earlier books
   is : IsTurn before most books turn next
 
-stands_among : (before most : ℕ) (start : Books) {turns : List Turn} {books : Books} → AreTurns before most start turns books → (turn : Turn) → IsOneOf turns turn → StandsAmong before most start turns turn
+stands_among : (before most : ℕ) (start : Books) {turns : List Turn} {books : Books} → AreTurns before most start turns books → (turn : Turn)
+    → IsOneOf turns turn → StandsAmong before most start turns turn
 stands_among before most start no_turns turn one = absurd one
 stands_among before most start (one_turn turns last books next are is) turn one = elim (in_either turns (last ∷ []) turn one) [
   | inl there ↦
@@ -91,15 +92,22 @@ module _ (before most : ℕ) (start : Books) (none_yet : start.failed ≡ None) 
     within = is.within;
   }
 
-  by_act : (turns : List Turn) (turn : Turn) (books next : Books) → ((faults : ℕ) → books.failed ≡ Some faults → WasFailure before most turns faults) → CountsFaults before most books.failed turn.act turn.faults
+  by_act : (turns : List Turn) (turn : Turn) (books next : Books) → ((faults : ℕ) → books.failed ≡ Some faults → WasFailure before most turns faults)
+      → CountsFaults before most books.failed turn.act turn.faults
       → (a : TurnAct) → turn.act ≡ a → Does a books turn next → (faults : ℕ) → next.failed ≡ Some faults → WasFailure before most (turns ++ turn ∷ []) faults
-  by_act turns turn books next was counts act.Granted e does faults is = more_turns turns turn faults (was faults (sym (ap (λ (b : Books). b.failed) does.later_is) ∙ is))
-  by_act turns turn books next was counts act.GivenBack e does faults is = more_turns turns turn faults (was faults (sym (ap (λ (b : Books). b.failed) does.later_is) ∙ is))
-  by_act turns turn books next was counts (act.Short kind asked have) e does faults is = more_turns turns turn faults (was faults (sym (ap (λ (b : Books). b.failed) does.later_is) ∙ is))
+  by_act turns turn books next was counts act.Granted e does faults is =
+      more_turns turns turn faults (was faults (sym (ap (λ (b : Books). b.failed) does.later_is) ∙ is))
+  by_act turns turn books next was counts act.GivenBack e does faults is =
+      more_turns turns turn faults (was faults (sym (ap (λ (b : Books). b.failed) does.later_is) ∙ is))
+  by_act turns turn books next was counts (act.Short kind asked have) e does faults is =
+      more_turns turns turn faults (was faults (sym (ap (λ (b : Books). b.failed) does.later_is) ∙ is))
   by_act turns turn books next was counts act.Halted e does faults is = more_turns turns turn faults (was faults (sym (ap (λ (b : Books). b.failed) does) ∙ is))
-  by_act turns turn books next was counts act.CutAt e does faults is = more_turns turns turn faults (was faults (sym (ap (λ (b : Books). b.failed) does.later_is) ∙ is))
-  by_act turns turn books next was counts act.Opened e does faults is = more_turns turns turn faults (was faults (sym (ap (λ (b : Books). b.failed) does.later_is) ∙ is))
-  by_act turns turn books next was counts act.Durable e does faults is = more_turns turns turn faults (was faults (sym (ap (λ (b : Books). b.failed) does.later_is) ∙ is))
+  by_act turns turn books next was counts act.CutAt e does faults is =
+      more_turns turns turn faults (was faults (sym (ap (λ (b : Books). b.failed) does.later_is) ∙ is))
+  by_act turns turn books next was counts act.Opened e does faults is =
+      more_turns turns turn faults (was faults (sym (ap (λ (b : Books). b.failed) does.later_is) ∙ is))
+  by_act turns turn books next was counts act.Durable e does faults is =
+      more_turns turns turn faults (was faults (sym (ap (λ (b : Books). b.failed) does.later_is) ∙ is))
   by_act turns turn books next was counts act.Fail e does faults is =
       let same : turn.faults ≡ faults = some_same (sym (ap (λ (b : Books). b.failed) does.later_is) ∙ is) in
       let right = risen books.failed (subst (λ (a : TurnAct). CountsFaults before most books.failed a turn.faults) e counts) in
@@ -116,14 +124,16 @@ module _ (before most : ℕ) (start : Books) (none_yet : start.failed ≡ None) 
       risen None counts = counts
       risen (Some failed) counts = absurd counts
 
-  pub failure : {turns : List Turn} {books : Books} → AreTurns before most start turns books → (faults : ℕ) → books.failed ≡ Some faults → WasFailure before most turns faults
+  pub failure : {turns : List Turn} {books : Books} → AreTurns before most start turns books → (faults : ℕ) → books.failed ≡ Some faults
+      → WasFailure before most turns faults
   failure no_turns = λ faults is. absurd (none_some (sym none_yet ∙ is))
   failure (one_turn turns turn books next are is) = by_act turns turn books next (failure are) is.faults turn.act refl is.does
 
 -- how an fsync ends by its last turn, the other way round
 module _ (turns : List Turn) (entry : Entry) (failed : Option ℕ) where
   -- a reply that only one act gives
-  only : (done : TurnAct) (given : Reply) → ((turn : Turn) (a : TurnAct) → EndsWith failed a turn given entry.ack → a ≡ done) → given ≢ reply.NoMemory → EndsBy failed (last_turn entry.stamp.0 turns) given entry.ack → LastDid turns entry done
+  only : (done : TurnAct) (given : Reply) → ((turn : Turn) (a : TurnAct) → EndsWith failed a turn given entry.ack → a ≡ done) → given ≢ reply.NoMemory
+      → EndsBy failed (last_turn entry.stamp.0 turns) given entry.ack → LastDid turns entry done
   only done given tells differs ends = by (last_turn entry.stamp.0 turns) refl ends
     where
       by : (o : Option Turn) → last_turn entry.stamp.0 turns ≡ o → EndsBy failed o given entry.ack → LastDid turns entry done
@@ -131,7 +141,8 @@ module _ (turns : List Turn) (entry : Entry) (failed : Option ℕ) where
       by (Some turn) e ends = record { turn = turn; last = e; did = tells turn turn.act ends }
 
   -- what an act gives, where the last turn did it
-  given_by : (done : TurnAct) (own : LastDid turns entry done) → EndsBy failed (last_turn entry.stamp.0 turns) entry.reply entry.ack → EndsWith failed done own.turn entry.reply entry.ack
+  given_by : (done : TurnAct) (own : LastDid turns entry done) → EndsBy failed (last_turn entry.stamp.0 turns) entry.reply entry.ack
+      → EndsWith failed done own.turn entry.reply entry.ack
   given_by done own ends =
       subst (λ (a : TurnAct). EndsWith failed a own.turn entry.reply entry.ack) own.did
       (subst (λ (o : Option Turn). EndsBy failed o entry.reply entry.ack) own.last ends)
@@ -156,7 +167,8 @@ module _ (turns : List Turn) (entry : Entry) (failed : Option ℕ) where
   tells_failed turn act.Durable ends = let e = ends.0 in absurd (cc)
   tells_failed turn act.Fail ends = refl
 
-  tells_short : (kind : SpaceKind) (asked have : ℕ) (turn : Turn) (a : TurnAct) → EndsWith failed a turn (reply.NoSpace kind asked have) entry.ack → a ≡ act.Short kind asked have
+  tells_short : (kind : SpaceKind) (asked have : ℕ) (turn : Turn) (a : TurnAct) → EndsWith failed a turn (reply.NoSpace kind asked have) entry.ack
+      → a ≡ act.Short kind asked have
   tells_short kind asked have turn act.Granted ends = absurd ends
   tells_short kind asked have turn act.GivenBack ends = absurd (cc)
   tells_short kind asked have turn (act.Short own need free) ends = cc
@@ -182,7 +194,8 @@ stopped_same e = cc
 fsync_same : {a b : NodeId} → call.Fsync a ≡ call.Fsync b → a ≡ b
 fsync_same e = cc
 
-module _ (first : TreeState) (history : List Entry) (image : ImageState) (from most : ℕ) (turns : List Turn) (entry : Entry) (node : NodeId) (legal : IsLegal first history) (recorded : IsRecorded first history image from most turns)
+module _ (first : TreeState) (history : List Entry) (image : ImageState) (from most : ℕ) (turns : List Turn) (entry : Entry) (node : NodeId)
+    (legal : IsLegal first history) (recorded : IsRecorded first history image from most turns)
     (fsync : IsLiveFsync first history entry node) where
   ends : EndsBy recorded.books.failed (last_turn entry.stamp.0 turns) entry.reply entry.ack
   ends = recorded.ends entry node fsync
@@ -200,10 +213,13 @@ module _ (first : TreeState) (history : List Entry) (image : ImageState) (from m
   failed_did is = only turns entry failed act.Fail reply.DiskFailed (tells_failed turns entry failed) (λ e. cc) (given reply.DiskFailed is)
 
   short_did : (kind : SpaceKind) (asked have : ℕ) → entry.reply ≡ reply.NoSpace kind asked have → LastDid turns entry (act.Short kind asked have)
-  short_did kind asked have is = only turns entry failed (act.Short kind asked have) (reply.NoSpace kind asked have) (tells_short turns entry failed kind asked have) (λ e. cc) (given (reply.NoSpace kind asked have) is)
+  short_did kind asked have is =
+      only turns entry failed (act.Short kind asked have) (reply.NoSpace kind asked have) (tells_short turns entry failed kind asked have) (λ e. cc)
+      (given (reply.NoSpace kind asked have) is)
 
   stopped_did : (faults : ℕ) → entry.reply ≡ reply.Stopped faults → LastDid turns entry act.Halted
-  stopped_did faults is = only turns entry failed act.Halted (reply.Stopped faults) (tells_stopped turns entry failed faults) (λ e. cc) (given (reply.Stopped faults) is)
+  stopped_did faults is =
+      only turns entry failed act.Halted (reply.Stopped faults) (tells_stopped turns entry failed faults) (λ e. cc) (given (reply.Stopped faults) is)
 
   -- the last turn is of the fsync
   own_flush : (turn : Turn) → last_turn entry.stamp.0 turns ≡ Some turn → ◌≡◌ {A = Flush} (flush_at turn) (record { node = node.0; stamp = entry.stamp.0 })
@@ -214,7 +230,8 @@ module _ (first : TreeState) (history : List Entry) (image : ImageState) (from m
       let nodes = fsync_same (sym of.fsync.asked ∙ ap (λ (e : Entry). e.call) entries ∙ fsync.asked) in
       λ i. record { node = (nodes i).0; stamp = there.1 i }
 
-  was_short : (kind : SpaceKind) (asked have : ℕ) → entry.reply ≡ reply.NoSpace kind asked have → WasShort first history image recorded.before most turns (record { node = node.0; stamp = entry.stamp.0 }) kind asked have
+  was_short : (kind : SpaceKind) (asked have : ℕ) → entry.reply ≡ reply.NoSpace kind asked have
+      → WasShort first history image recorded.before most turns (record { node = node.0; stamp = entry.stamp.0 }) kind asked have
   was_short kind asked have is =
       let own = short_did kind asked have is in
       let at = stands_among recorded.before most (books_of first history image) recorded.kept own.turn (last_among entry.stamp.0 turns own.turn own.last).0 in
@@ -247,4 +264,5 @@ module _ (first : TreeState) (history : List Entry) (image : ImageState) (from m
   }
 
 pub replies_have_causes : RepliesHaveCauses
-replies_have_causes first history image from most turns entry node legal recorded fsync = cause first history image from most turns entry node legal recorded fsync
+replies_have_causes first history image from most turns entry node legal recorded fsync =
+    cause first history image from most turns entry node legal recorded fsync

@@ -33,11 +33,13 @@ use Rattle.commit_turns.proofs.Causes.{last_among}
 -- the last turn of turns with one more
 own_last : (stamp : ℕ) (turns : List Turn) (turn : Turn) → turn.stamp.0 ≡ stamp → last_turn stamp (turns ++ turn ∷ []) ≡ Some turn
 own_last stamp [] turn e = ap (λ (n : ℕ). cond (nat_eq n stamp) (Some turn) None) e ∙ ap (λ b. cond b (Some turn) None) (same_number stamp)
-own_last stamp (first ∷ turns) turn e = ap (λ (o : Option Turn). option_or o (cond (nat_eq first.stamp.0 stamp) (Some first) None)) (own_last stamp turns turn e)
+own_last stamp (first ∷ turns) turn e =
+    ap (λ (o : Option Turn). option_or o (cond (nat_eq first.stamp.0 stamp) (Some first) None)) (own_last stamp turns turn e)
 
 other_last : (stamp : ℕ) (turns : List Turn) (turn : Turn) → turn.stamp.0 ≢ stamp → last_turn stamp (turns ++ turn ∷ []) ≡ last_turn stamp turns
 other_last stamp [] turn apart = ap (λ b. cond b (Some turn) None) (not_same turn.stamp.0 stamp apart)
-other_last stamp (first ∷ turns) turn apart = ap (λ (o : Option Turn). option_or o (cond (nat_eq first.stamp.0 stamp) (Some first) None)) (other_last stamp turns turn apart)
+other_last stamp (first ∷ turns) turn apart =
+    ap (λ (o : Option Turn). option_or o (cond (nat_eq first.stamp.0 stamp) (Some first) None)) (other_last stamp turns turn apart)
 
 -- A turn is this entry's, an fsync of a node.
 pub record IsOwn (entry : Entry) (node : NodeId) (turn : Turn) : Type 0 where
@@ -51,7 +53,8 @@ pub record Adds (entry : Entry) (node : NodeId) (turns all : List Turn) (last : 
   pub own : last_turn entry.stamp.0 all ≡ last
   pub each : (turn : Turn) → IsOneOf all turn → IsOneOf turns turn ⊎ IsOwn entry node turn
 
-pub adds_one : (entry : Entry) (node : NodeId) (turns all : List Turn) (last : Option Turn) → Adds entry node turns all last → (turn : Turn) → IsOwn entry node turn → Adds entry node turns (all ++ turn ∷ []) (Some turn)
+pub adds_one : (entry : Entry) (node : NodeId) (turns all : List Turn) (last : Option Turn) → Adds entry node turns all last → (turn : Turn)
+    → IsOwn entry node turn → Adds entry node turns (all ++ turn ∷ []) (Some turn)
 adds_one entry node turns all last was turn is = record {
   others = λ stamp apart. other_last stamp all turn (λ e. apart (sym e ∙ ap (λ (s : Stamp). s.0) is.stamp)) ∙ was.others stamp apart;
   own = own_last entry.stamp.0 all turn (ap (λ (s : Stamp). s.0) is.stamp);
@@ -114,7 +117,8 @@ module _ (first : TreeState) (history : List Entry) (entry : Entry) (next : Come
     pub each_still : (turn : Turn) → IsOneOf turns turn → IsOfFsync first longer turn
     each_still turn one = let of = each turn one in record { entry = of.entry; fsync = live_on of.entry turn.node of.fsync; core = of.core; stamp = of.stamp }
 
-    pub each_on : (node : NodeId) (all : List Turn) → IsNextFsync first history entry node → ((turn : Turn) → IsOneOf all turn → IsOneOf turns turn ⊎ IsOwn entry node turn) → (turn : Turn) → IsOneOf all turn → IsOfFsync first longer turn
+    pub each_on : (node : NodeId) (all : List Turn) → IsNextFsync first history entry node
+        → ((turn : Turn) → IsOneOf all turn → IsOneOf turns turn ⊎ IsOwn entry node turn) → (turn : Turn) → IsOneOf all turn → IsOfFsync first longer turn
     each_on node all is ways turn one = elim (ways turn one) [
       | inl before ↦ each_still turn before
       | inr own ↦ record {
@@ -126,7 +130,8 @@ module _ (first : TreeState) (history : List Entry) (entry : Entry) (next : Come
     ]
 
   -- an fsync of the longer history is one of the history, or the next one
-  back : (other : Entry) (node : NodeId) → IsLiveFsync first longer other node → IsLiveFsync first history other node ⊎ ((entry ≡ other) × (is_alive (tree_after first history) node.0 ≡ true))
+  back : (other : Entry) (node : NodeId) → IsLiveFsync first longer other node
+      → IsLiveFsync first history other node ⊎ ((entry ≡ other) × (is_alive (tree_after first history) node.0 ≡ true))
   back other node is = elim (in_either history (entry ∷ []) other is.among) [
     | inl before ↦ inl (record {
       among = before;
@@ -155,7 +160,8 @@ module _ (first : TreeState) (history : List Entry) (entry : Entry) (next : Come
   ]
 
 -- what ended before any failure has ended so after it
-pub ends_then : (first : TreeState) (history : List Entry) (turns : List Turn) (faults : ℕ) → EachEnds first history turns None → EachEnds first history turns (Some faults)
+pub ends_then : (first : TreeState) (history : List Entry) (turns : List Turn) (faults : ℕ) → EachEnds first history turns None
+    → EachEnds first history turns (Some faults)
 ends_then first history turns faults was entry node is = by (last_turn entry.stamp.0 turns) (was entry node is)
   where
     by_act : (a : TurnAct) (turn : Turn) → EndsWith None a turn entry.reply entry.ack → EndsWith (Some faults) a turn entry.reply entry.ack
@@ -186,7 +192,8 @@ durable_turn (turn ∷ turns) flush one = by turn.act one (durable_turn turns fl
     later : IsOfTurn turns flush → IsOfTurn (turn ∷ turns) flush
     later is = record { turn = is.turn; among = inr is.among; own = is.own }
 
-    by : (a : TurnAct) → IsOneOf (cons_option (durable_by_act a (flush_at turn)) (filter_map durable_flush turns)) flush → (IsOneOf (filter_map durable_flush turns) flush → IsOfTurn turns flush) → IsOfTurn (turn ∷ turns) flush
+    by : (a : TurnAct) → IsOneOf (cons_option (durable_by_act a (flush_at turn)) (filter_map durable_flush turns)) flush
+        → (IsOneOf (filter_map durable_flush turns) flush → IsOfTurn turns flush) → IsOfTurn (turn ∷ turns) flush
     by act.Granted one rest = later (rest one)
     by act.GivenBack one rest = later (rest one)
     by (act.Short kind asked have) one rest = later (rest one)

@@ -18,7 +18,8 @@ use Rattle.commit_turns.specs.OneThread.{books_at, over, TurnsFailed, ComesNext,
 use Rattle.commit_turns.proofs.Ends.{adds_none, adds_one, each_still, each_on, ends_on}
 use Rattle.commit_turns.proofs.Standing.{joined}
 
-module _ (first : TreeState) (history : List Entry) (image : ImageState) (before faults : ℕ) (turns : List Turn) (entry : Entry) (failed : TurnsFailed first history image before faults turns) where
+module _ (first : TreeState) (history : List Entry) (image : ImageState) (before faults : ℕ) (turns : List Turn) (entry : Entry)
+    (failed : TurnsFailed first history image before faults turns) where
   -- the turns so far, over a longer history
   still_failed : (more : List Entry) (most : ℕ) → IsLegal first ((history ++ entry ∷ []) ++ more) → faults ≤ most
       → AreTurns before most (books_of first ((history ++ entry ∷ []) ++ more) image) turns (over ((history ++ entry ∷ []) ++ more) failed.books)
@@ -34,7 +35,9 @@ module _ (first : TreeState) (history : List Entry) (image : ImageState) (before
     settled = failed.settled;
     turns_are = still_failed;
     each = each_still first history entry next failed.legal turns failed.each;
-    ends = ends_on first history entry next failed.legal (Some faults) turns turns None failed.ends (λ stamp apart. refl) (adds_none first history entry next failed.legal turns failed.each (record { 0 = 0 })).own none;
+    ends =
+        ends_on first history entry next failed.legal (Some faults) turns turns None failed.ends (λ stamp apart. refl)
+        (adds_none first history entry next failed.legal turns failed.each (record { 0 = 0 })).own none;
   }
 
   module _ (node : NodeId) (number moment own : ℕ) where
@@ -47,16 +50,21 @@ module _ (first : TreeState) (history : List Entry) (image : ImageState) (before
     counts : (most : ℕ) (o : Option ℕ) → o ≡ Some faults → CountsFaults before most o act.Halted own
     counts most o e = subst (λ (o : Option ℕ). CountsFaults before most o act.Halted own) (sym e) tt
 
-    halts : (more : List Entry) (most : ℕ) → IsTurn before most (over ((history ++ entry ∷ []) ++ more) failed.books) turn (over ((history ++ entry ∷ []) ++ more) (without_waiting entry.stamp.0 failed.books))
+    halts : (more : List Entry) (most : ℕ)
+        → IsTurn before most (over ((history ++ entry ∷ []) ++ more) failed.books) turn
+        (over ((history ++ entry ∷ []) ++ more) (without_waiting entry.stamp.0 failed.books))
     halts more most = record {
       own = λ other one same. absurd (nobody failed.books failed.settled other one);
       faults = counts most failed.books.failed failed.failed;
       does = refl;
     }
 
-    halts_on : IsNextFsync first history entry node → entry.reply ≡ reply.Stopped faults → TurnsFailed first (history ++ entry ∷ []) image before faults (then_turn turns turn)
+    halts_on : IsNextFsync first history entry node → entry.reply ≡ reply.Stopped faults
+        → TurnsFailed first (history ++ entry ∷ []) image before faults (then_turn turns turn)
     halts_on is answered =
-        let adds = adds_one entry node turns turns None (adds_none first history entry is.next failed.legal turns failed.each node) turn (record { core = refl; node_is = refl; stamp = refl }) in
+        let adds =
+        adds_one entry node turns turns None (adds_none first history entry is.next failed.legal turns failed.each node) turn
+        (record { core = refl; node_is = refl; stamp = refl }) in
         record {
           legal = is.next.legal;
           books = without_waiting entry.stamp.0 failed.books;
@@ -64,14 +72,17 @@ module _ (first : TreeState) (history : List Entry) (image : ImageState) (before
           settled = ap (filter (is_other_waiting entry.stamp.0)) failed.settled;
           turns_are = λ more most legal le. one_turn turns turn _ _ (still_failed more most legal le) (halts more most);
           each = each_on first history entry is.next failed.legal turns failed.each node (then_turn turns turn) is adds.each;
-          ends = ends_on first history entry is.next failed.legal (Some faults) turns (then_turn turns turn) (Some turn) failed.ends adds.others adds.own (λ other asked alive. (faults, refl, answered));
+          ends =
+              ends_on first history entry is.next failed.legal (Some faults) turns (then_turn turns turn) (Some turn) failed.ends adds.others adds.own
+              (λ other asked alive. (faults, refl, answered));
         }
 
 pub calls_fail : CallsFail
 calls_fail first history image before faults turns entry next none failed = calls_on first history image before faults turns entry failed next none
 
 pub halts_fail : HaltsFail
-halts_fail first history image before faults turns entry node number moment own is answered failed = halts_on first history image before faults turns entry failed node number moment own is answered
+halts_fail first history image before faults turns entry node number moment own is answered failed =
+    halts_on first history image before faults turns entry failed node number moment own is answered
 
 pub standing_are_recorded : StandingAreRecorded
 standing_are_recorded first history image from before most turns rest le stand = record {

@@ -34,7 +34,8 @@ same_or_above a j low not = elim (cases_lt a j) [
   | inr below ↦ omega (arith, low, below)
 ]
 
-among_first : (test : ℕ → Bool) (a n count i : ℕ) → is_listed (take count (filter test (range_with_len a n))) i ≡ true → IsAmongFirst test a n (take count (filter test (range_with_len a n))) i
+among_first : (test : ℕ → Bool) (a n count i : ℕ) → is_listed (take count (filter test (range_with_len a n))) i ≡ true
+    → IsAmongFirst test a n (take count (filter test (range_with_len a n))) i
 among_first test a zero count i t = absurd (of_nothing count i t)
 among_first test a (suc m) zero i t = absurd (no_first (filter test (range_with_len a (suc m))) i t)
 among_first test a (suc m) (suc c) i t = by (test a) refl t (λ count. among_first test (a + 1) m count i)
@@ -77,7 +78,8 @@ among_first test a (suc m) (suc c) i t = by (test a) refl t (λ count. among_fir
       ];
     }
 
-    by : (b : Bool) → test a ≡ b → is_listed (take (suc c) (cond b (a ∷ rest) rest)) i ≡ true → Later → IsAmongFirst test a (suc m) (take (suc c) (cond b (a ∷ rest) rest)) i
+    by : (b : Bool) → test a ≡ b → is_listed (take (suc c) (cond b (a ∷ rest) rest)) i ≡ true → Later
+        → IsAmongFirst test a (suc m) (take (suc c) (cond b (a ∷ rest) rest)) i
     by true e t later = elim (cases_Bool (nat_eq a i)) [
       | inl same ↦ passed e same
       | inr apart ↦ behind (later c (ap (λ b. b || is_listed (take c rest) i) (sym apart) ∙ t))

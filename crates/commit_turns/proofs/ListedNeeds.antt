@@ -60,7 +60,8 @@ sum_below value zero = 0
 sum_below value (suc n) = sum_below value n + value n
 
 -- rows that are counted one after the other
-rank_rows : (test : ℕ → Bool) (value : ℕ → ℕ) (n : ℕ) → ((x : ℕ) → x < n → rank (λ q. test (PLACES * x + q)) PLACES ≡ value x) → rank test (PLACES * n) ≡ sum_below value n
+rank_rows : (test : ℕ → Bool) (value : ℕ → ℕ) (n : ℕ) → ((x : ℕ) → x < n → rank (λ q. test (PLACES * x + q)) PLACES ≡ value x)
+    → rank test (PLACES * n) ≡ sum_below value n
 rank_rows test value zero each = none_counted test
 rank_rows test value (suc n) each =
     let rest = rank_rows test value n (λ x lt. each x (omega arith)) in
@@ -86,7 +87,8 @@ taken_at rewrites m = option_map_or (λ (r : Rewrite). rank (takes_place r) PLAC
 
 sum_listed : (rewrites : List Rewrite) → sum_below (taken_at rewrites) (length rewrites) ≡ total rewrites
 sum_listed [] = refl
-sum_listed (rewrite ∷ rewrites) = sum_first (taken_at (rewrite ∷ rewrites)) (length rewrites) ∙ ap (λ n. rank (takes_place rewrite) PLACES + n) (sum_listed rewrites)
+sum_listed (rewrite ∷ rewrites) =
+    sum_first (taken_at (rewrite ∷ rewrites)) (length rewrites) ∙ ap (λ n. rank (takes_place rewrite) PLACES + n) (sum_listed rewrites)
 
 blocks_total : (rewrites : List Rewrite) → blocks_needed rewrites ≡ total rewrites
 blocks_total rewrites = rank_rows (takes_in_row rewrites) (taken_at rewrites) (length rewrites) each ∙ sum_listed rewrites
@@ -97,7 +99,8 @@ blocks_total rewrites = rank_rows (takes_in_row rewrites) (taken_at rewrites) (l
         let remainder : (PLACES * m + q) % PLACES ≡ q = omega arith in
         λ i. option_map_or (λ (r : Rewrite). takes_place r (remainder i)) (slice_get rewrites (quotient i)) false
 
-    by : (o : Option Rewrite) → rank (λ q. option_map_or (λ (r : Rewrite). takes_place r q) o false) PLACES ≡ option_map_or (λ (r : Rewrite). rank (takes_place r) PLACES) o 0
+    by : (o : Option Rewrite)
+        → rank (λ q. option_map_or (λ (r : Rewrite). takes_place r q) o false) PLACES ≡ option_map_or (λ (r : Rewrite). rank (takes_place r) PLACES) o 0
     by None = rank_nothing (λ q. false) PLACES (λ k lt. refl)
     by (Some r) = refl
 
@@ -115,17 +118,21 @@ module _ (value : ℕ → ℕ) (number : ℕ) (numbers : List ℕ) where
   none_met (suc n) le = λ i. none_met n (omega arith) i + cond (not_same number n (λ e. absurd (omega arith)) i || is_listed numbers n) (value n) 0
 
   -- and one that stands there is met once
-  met_once : is_listed numbers number ≡ false → (n : ℕ) → number < n → sum_below (listed_value value (number ∷ numbers)) n ≡ value number + sum_below (listed_value value numbers) n
+  met_once : is_listed numbers number ≡ false → (n : ℕ) → number < n
+      → sum_below (listed_value value (number ∷ numbers)) n ≡ value number + sum_below (listed_value value numbers) n
   met_once none zero lt = absurd (omega arith)
   met_once none (suc n) lt = elim (cases_lt number n) [
     | inl low ↦
         let rest = met_once none n low in
-        let last : listed_value value (number ∷ numbers) n ≡ listed_value value numbers n = ap (λ b. cond (b || is_listed numbers n) (value n) 0) (not_same number n (λ e. absurd (omega arith))) in
+        let last : listed_value value (number ∷ numbers) n ≡ listed_value value numbers n =
+        ap (λ b. cond (b || is_listed numbers n) (value n) 0) (not_same number n (λ e. absurd (omega arith))) in
         omega arith
     | inr high ↦
         let same : number ≡ n = omega arith in
         let rest = none_met n (omega arith) in
-        let own : listed_value value (number ∷ numbers) n ≡ value number = ap (λ k. listed_value value (number ∷ numbers) k) (sym same) ∙ ap (λ b. cond (b || is_listed numbers number) (value number) 0) (same_number number) in
+        let own : listed_value value (number ∷ numbers) n ≡ value number =
+        ap (λ k. listed_value value (number ∷ numbers) k) (sym same)
+        ∙ ap (λ b. cond (b || is_listed numbers number) (value number) 0) (same_number number) in
         let less : listed_value value numbers n ≡ 0 = ap (λ k. listed_value value numbers k) (sym same) ∙ ap (λ b. cond b (value number) 0) none in
         omega arith
   ]
@@ -135,7 +142,8 @@ abbrev sum_of : (ℕ → ℕ) → List ℕ → ℕ
 sum_of value [] = 0
 sum_of value (number ∷ numbers) = value number + sum_of value numbers
 
-sum_once : (value : ℕ → ℕ) (n : ℕ) (numbers : List ℕ) → AreOnce numbers → ((x : ℕ) → is_listed numbers x ≡ true → x < n) → sum_below (listed_value value numbers) n ≡ sum_of value numbers
+sum_once : (value : ℕ → ℕ) (n : ℕ) (numbers : List ℕ) → AreOnce numbers → ((x : ℕ) → is_listed numbers x ≡ true → x < n)
+    → sum_below (listed_value value numbers) n ≡ sum_of value numbers
 sum_once value n [] once below = none n
   where
     none : (n : ℕ) → sum_below (λ x. 0) n ≡ 0
@@ -158,7 +166,8 @@ module _ (state : MachineState) (image : ImageState) (made : Made) where
   total_of (node ∷ nodes) = ap (λ n. rank (takes_place (rewrite_needed state image made node)) PLACES + n) (total_of nodes)
 
   module _ (nodes : List ℕ) (lists : ListsNodes state.first (λ node. made.concerns node && made.after node) nodes) where
-    needs_at : (x q : ℕ) → q < PLACES → needs_in_row state image made (PLACES * x + q) ≡ (is_listed nodes x && takes_place (rewrite_needed state image made x) q)
+    needs_at : (x q : ℕ) → q < PLACES
+        → needs_in_row state image made (PLACES * x + q) ≡ (is_listed nodes x && takes_place (rewrite_needed state image made x) q)
     needs_at x q lt =
         let quotient : (PLACES * x + q) / PLACES ≡ x = omega arith in
         let remainder : (PLACES * x + q) % PLACES ≡ q = omega arith in
@@ -187,7 +196,8 @@ count_listed : (numbers : List ℕ) → sum_of (λ x. 1) numbers ≡ length numb
 count_listed [] = refl
 count_listed (number ∷ numbers) = let rest = count_listed numbers in omega arith
 
-rank_listed : (test : ℕ → Bool) (numbers : List ℕ) → ((x : ℕ) → is_listed numbers x ≡ test x) → (n : ℕ) → rank test n ≡ sum_below (listed_value (λ x. 1) numbers) n
+rank_listed : (test : ℕ → Bool) (numbers : List ℕ) → ((x : ℕ) → is_listed numbers x ≡ test x) → (n : ℕ)
+    → rank test n ≡ sum_below (listed_value (λ x. 1) numbers) n
 rank_listed test numbers same zero = none_counted test
 rank_listed test numbers same (suc n) =
     rank_more test n ∙ (λ i. rank_listed test numbers same n i + cond (sym (same n) i) 1 0)

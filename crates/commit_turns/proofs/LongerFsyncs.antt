@@ -52,7 +52,8 @@ pub record GoesOn (first : TreeState) (history more : List Entry) (flushes : Lis
   pub stamp : flush.stamp ≤ length history
   pub live : HasLiveNode first (history ++ more) flush
 
-module _ (first : TreeState) (history more : List Entry) (flushes : List Flush) (rest : Resting) (flush : Flush) (go : GoesOn first history more flushes rest flush) where
+module _ (first : TreeState) (history more : List Entry) (flushes : List Flush) (rest : Resting) (flush : Flush)
+    (go : GoesOn first history more flushes rest flush) where
   abbrev whole : List Entry
   whole = history ++ more
 
@@ -77,9 +78,11 @@ module _ (first : TreeState) (history more : List Entry) (flushes : List Flush) 
   pub alike : AreAlike first flush (view_by history every_entry rest.cut rest.inodes) (view_by whole every_entry rest.cut rest.inodes)
   alike =
       subst (λ (h : List Entry). AreAlike first flush (view_by h every_entry rest.cut rest.inodes) (view_by whole every_entry rest.cut rest.inodes)) before
-      (alike_on first flush (view_by (take n whole) every_entry rest.cut rest.inodes) (view_by whole (below n) rest.cut rest.inodes) (view_by whole every_entry rest.cut rest.inodes)
+      (alike_on first flush (view_by (take n whole) every_entry rest.cut rest.inodes) (view_by whole (below n) rest.cut rest.inodes)
+      (view_by whole every_entry rest.cut rest.inodes)
       (prefixes_count first whole n flush rest.cut rest.inodes go.sound go.legal within go.stamp go.live)
-      (recounts first whole n (below n) every_entry flush rest.cut rest.inodes go.sound go.legal (λ t lt. lt-ltb t n lt) (λ t lt. refl) low go.stamp go.live held))
+      (recounts first whole n (below n) every_entry flush rest.cut rest.inodes go.sound go.legal (λ t lt. lt-ltb t n lt)
+      (λ t lt. refl) low go.stamp go.live held))
 
   module _ (made : Made) (is : IsMadeBy (machine_at first history rest) flush made) where
     raised_low : (node : ℕ) → cut_of made.raised node ≤ n
@@ -89,20 +92,27 @@ module _ (first : TreeState) (history more : List Entry) (flushes : List Flush) 
     ]
 
     more_old : HasMoreNodes (tree_at_cut first history rest.cut) (tree_at_cut first whole rest.cut)
-    more_old = subst (λ (h : List Entry). HasMoreNodes (tree_at_cut first h rest.cut) (tree_at_cut first whole rest.cut)) before (cut_trees_grow first whole n rest.cut go.sound go.legal low)
+    more_old =
+        subst (λ (h : List Entry). HasMoreNodes (tree_at_cut first h rest.cut) (tree_at_cut first whole rest.cut)) before
+        (cut_trees_grow first whole n rest.cut go.sound go.legal low)
 
     more_new : HasMoreNodes (tree_at_cut first history made.raised) (tree_at_cut first whole made.raised)
-    more_new = subst (λ (h : List Entry). HasMoreNodes (tree_at_cut first h made.raised) (tree_at_cut first whole made.raised)) before (cut_trees_grow first whole n made.raised go.sound go.legal raised_low)
+    more_new =
+        subst (λ (h : List Entry). HasMoreNodes (tree_at_cut first h made.raised) (tree_at_cut first whole made.raised)) before
+        (cut_trees_grow first whole n made.raised go.sound go.legal raised_low)
 
     -- it makes the same
     pub made_longer : IsMadeBy (machine_at first whole rest) flush made
     made_longer = record {
       concerned = λ node. (λ t. (alike.concerned node).0 ((is.concerned node).0 t), λ c. (is.concerned node).1 ((alike.concerned node).1 c));
       raises = (alike.raises made.raised).0 is.raises;
-      inodes_after = inodes_alike first flush (view_by history every_entry rest.cut rest.inodes) (view_by whole every_entry rest.cut rest.inodes) made.raised made.after alike is.raises is.inodes_after;
+      inodes_after =
+          inodes_alike first flush (view_by history every_entry rest.cut rest.inodes)
+          (view_by whole every_entry rest.cut rest.inodes) made.raised made.after alike is.raises is.inodes_after;
       each_net = λ node.
           subst (λ rows. IsNet (names_of node rows) (names_of node (tree_at_cut first whole made.raised).rows) (made.nets node)) (sym more_old.rows)
-          (subst (λ rows. IsNet (names_of node (tree_at_cut first history rest.cut).rows) (names_of node rows) (made.nets node)) (sym more_new.rows) (is.each_net node));
+          (subst (λ rows. IsNet (names_of node (tree_at_cut first history rest.cut).rows) (names_of node rows) (made.nets node)) (sym more_new.rows)
+          (is.each_net node));
     }
 
     kept_before : KeepsAll first history rest.cut rest.inodes
@@ -121,15 +131,20 @@ module _ (first : TreeState) (history more : List Entry) (flushes : List Flush) 
     new_node node has = ((cuts_keep_kinds first history made.raised).nodes node).1 (kept_after.nodes node has)
 
     -- of such a node it rewrites the same
-    rewrite_longer : (image : ImageState) (node : ℕ) → made.after node ≡ true → rewrite_needed (machine_at first whole rest) image made node ≡ rewrite_needed (machine_at first history rest) image made node
+    rewrite_longer : (image : ImageState) (node : ℕ) → made.after node ≡ true
+        → rewrite_needed (machine_at first whole rest) image made node ≡ rewrite_needed (machine_at first history rest) image made node
     rewrite_longer image node has =
         let new = tree_at_cut first history made.raised in
         let longer = tree_at_cut first whole made.raised in
         λ i. cond (directory_more new longer kept_after.sound more_new node (new_node node has) i)
-        (directory_rewrite (seen_under image node) (slots_more new longer kept_after.sound more_new (stand_in image.image) node (names_of node (tree_at_cut first history rest.cut).rows) (made.nets node) (is.each_net node) (seen_under image node).slots i))
-        (file_rewrite (touched_longer first history more go.sound go.legal node (cut_of rest.cut node) (cut_of made.raised node) (low node) (raised_low node) i) (seen_under image node) (bytes_more new longer kept_after.sound more_new node (new_node node has) i))
+        (directory_rewrite (seen_under image node)
+        (slots_more new longer kept_after.sound more_new (stand_in image.image) node (names_of node (tree_at_cut first history rest.cut).rows)
+        (made.nets node) (is.each_net node) (seen_under image node).slots i))
+        (file_rewrite (touched_longer first history more go.sound go.legal node (cut_of rest.cut node) (cut_of made.raised node) (low node) (raised_low node) i)
+        (seen_under image node) (bytes_more new longer kept_after.sound more_new node (new_node node has) i))
 
-    takes_longer : (image : ImageState) (p : ℕ) → needs_in_row (machine_at first whole rest) image made p ≡ needs_in_row (machine_at first history rest) image made p
+    takes_longer : (image : ImageState) (p : ℕ)
+        → needs_in_row (machine_at first whole rest) image made p ≡ needs_in_row (machine_at first history rest) image made p
     takes_longer image p = elim (cases_Bool (made.after (p / PLACES))) [
       | inl has ↦ ap (λ (r : Rewrite). needs_place made (λ node. r) p) (rewrite_longer image (p / PLACES) has)
       | inr lacks ↦ none _ lacks ∙ sym (none _ lacks)
@@ -162,11 +177,14 @@ module _ (first : TreeState) (history more : List Entry) (flushes : List Flush) 
           kept true old found = refl
           kept false old found = absurd (none_some found)
 
-          by : (o : Option ℕ) → image.num node ≡ o → cond (is_some o) (cond (not (made.after node)) None o) (grant_for leaves.gives.entering granted node) ≡ Some i → made.after node ≡ true
+          by : (o : Option ℕ) → image.num node ≡ o
+              → cond (is_some o) (cond (not (made.after node)) None o) (grant_for leaves.gives.entering granted node) ≡ Some i → made.after node ≡ true
           by (Some old) e found = kept (made.after node) old found
           by None e found = and_first (made.after node) (not (rest.inodes node)) (sym (leaves.gives.each node) ∙ listed leaves.gives.entering granted found)
 
-      rewritten_longer : (node i place : ℕ) → made.after node ≡ true → IsRewritten (machine_at first history rest) made image next leaves.takes leaves.fresh node i place → IsRewritten (machine_at first whole rest) made image next leaves.takes leaves.fresh node i place
+      rewritten_longer : (node i place : ℕ) → made.after node ≡ true
+          → IsRewritten (machine_at first history rest) made image next leaves.takes leaves.fresh node i place
+          → IsRewritten (machine_at first whole rest) made image next leaves.takes leaves.fresh node i place
       rewritten_longer node i place has was = record {
         taken = was.taken ∙ ap (λ (r : Rewrite). takes_place r place) (sym (rewrite_longer image node has));
         pointer = was.pointer ∙ ap (λ (r : Rewrite). pointer_after r (leaves.fresh i) place) (sym (rewrite_longer image node has));
@@ -177,7 +195,9 @@ module _ (first : TreeState) (history more : List Entry) (flushes : List Flush) 
       leaves_longer = record {
         takes = leaves.takes;
         fresh = leaves.fresh;
-        commits = commit_more (commit_made made image next leaves.takes leaves.fresh) (tree_at_cut first history rest.cut) (tree_at_cut first history made.raised) (tree_at_cut first whole rest.cut) (tree_at_cut first whole made.raised) image.image next.image
+        commits =
+            commit_more (commit_made made image next leaves.takes leaves.fresh) (tree_at_cut first history rest.cut) (tree_at_cut first history made.raised)
+            (tree_at_cut first whole rest.cut) (tree_at_cut first whole made.raised) image.image next.image
             kept_before.sound kept_after.sound more_old more_new leaves.commits
             (λ node i numbered. old_node node (numbered_after node i numbered)) (λ node i numbered. new_node node (numbered_after node i numbered));
         gives = record {
@@ -187,7 +207,9 @@ module _ (first : TreeState) (history more : List Entry) (flushes : List Flush) 
           enough = leaves.gives.enough;
           numbers = leaves.gives.numbers;
         };
-        rewrites = λ node i place numbered concerned within. rewritten_longer node i place (numbered_after node i numbered) (leaves.rewrites node i place numbered concerned within);
+        rewrites =
+            λ node i place numbered concerned within. rewritten_longer node i place (numbered_after node i numbered)
+            (leaves.rewrites node i place numbered concerned within);
         lies = leaves.lies;
         first_block = leaves.first_block;
         end_block = leaves.end_block;

@@ -37,10 +37,12 @@ record IsFlushed (first : TreeState) (history : List Entry) (flushes : List Flus
   flushed : AreFlushed first history every_entry flushes machine.cut machine.inodes
 
 -- one turn more
-module _ (first : TreeState) (history : List Entry) (flushes : List Flush) (turn : Turn) (books later : Books) (was : IsFlushed first history flushes books.machine) where
+module _ (first : TreeState) (history : List Entry) (flushes : List Flush) (turn : Turn) (books later : Books)
+    (was : IsFlushed first history flushes books.machine) where
   -- a machine that differs in other things
   stays : (m : MachineState) → later.machine ≡ m → IsFlushed first history flushes m → IsFlushed first history (flushes ++ []) later.machine
-  stays m same is = subst (λ (l : List Flush). IsFlushed first history l later.machine) (sym (append-nil flushes)) (subst (IsFlushed first history flushes) (sym same) is)
+  stays m same is =
+      subst (λ (l : List Flush). IsFlushed first history l later.machine) (sym (append-nil flushes)) (subst (IsFlushed first history flushes) (sym same) is)
 
   settled : SettlesCommit books turn later → IsFlushed first history (flushes ++ flush_at turn ∷ []) later.machine
   settled does =
@@ -49,11 +51,16 @@ module _ (first : TreeState) (history : List Entry) (flushes : List Flush) (turn
       by moves.0.flush moves.1 own moves.3
       (ap (λ (b : Books). b.machine) does.later_is ∙ moves.4)
     where
-      by : (flush : Flush) (raised : MachineState) → flush ≡ flush_at turn → IsRaisedBy books.machine (flush ∷ []) raised → {flights : List Flight} → later.machine ≡ record raised { flights = flights }
+      by : (flush : Flush) (raised : MachineState) → flush ≡ flush_at turn → IsRaisedBy books.machine (flush ∷ []) raised → {flights : List Flight}
+          → later.machine ≡ record raised { flights = flights }
           → IsFlushed first history (flushes ++ flush_at turn ∷ []) later.machine
       by flush raised own raises {flights} same =
-          let all = subst (λ (h : List Entry). AreRaised first h every_entry books.machine.cut books.machine.inodes (flush ∷ []) raised.cut raised.inodes) was.history_is
-          (subst (λ (t : TreeState). AreRaised t books.machine.history every_entry books.machine.cut books.machine.inodes (flush ∷ []) raised.cut raised.inodes) was.first_is raises.raised) in
+          let all =
+          subst (λ (h : List Entry). AreRaised first h every_entry books.machine.cut books.machine.inodes (flush ∷ []) raised.cut raised.inodes)
+          was.history_is
+          (subst
+          (λ (t : TreeState). AreRaised t books.machine.history every_entry books.machine.cut books.machine.inodes (flush ∷ []) raised.cut raised.inodes)
+          was.first_is raises.raised) in
           let once = raised_once first history every_entry books.machine.cut books.machine.inodes flush raised.cut raised.inodes all in
           let more = one_more flushes flush books.machine.cut raised.cut books.machine.inodes raised.inodes was.flushed once.0 once.1 in
           let now : IsFlushed first history (flushes ++ flush ∷ []) (record raised { flights = flights }) = record {
@@ -61,21 +68,29 @@ module _ (first : TreeState) (history : List Entry) (flushes : List Flush) (turn
             history_is = ap (λ (m : MachineState). m.history) raises.others ∙ was.history_is;
             flushed = more;
           } in
-          subst (IsFlushed first history (flushes ++ flush_at turn ∷ [])) (sym same) (subst (λ (f : Flush). IsFlushed first history (flushes ++ f ∷ []) (record raised { flights = flights })) own now)
+          subst (IsFlushed first history (flushes ++ flush_at turn ∷ [])) (sym same)
+          (subst (λ (f : Flush). IsFlushed first history (flushes ++ f ∷ []) (record raised { flights = flights })) own now)
 
   step : (a : TurnAct) → Does a books turn later → IsFlushed first history (flushes ++ cons_option (durable_by_act a (flush_at turn)) []) later.machine
   step act.Granted does = stays books.machine (ap (λ (b : Books). b.machine) does.later_is) was
   step act.GivenBack does = stays books.machine (ap (λ (b : Books). b.machine) does.later_is) was
   step (act.Short kind asked have) does = stays books.machine (ap (λ (b : Books). b.machine) does.later_is) was
   step act.Halted does = stays books.machine (ap (λ (b : Books). b.machine) does) was
-  step act.CutAt does = stays _ (ap (λ (b : Books). b.machine) does.later_is ∙ does.taken.moves.2) (record { first_is = was.first_is; history_is = was.history_is; flushed = was.flushed })
-  step act.Opened does = stays _ (ap (λ (b : Books). b.machine) does.later_is ∙ does.taken.moves) (record { first_is = was.first_is; history_is = was.history_is; flushed = was.flushed })
-  step act.Fail does = stays _ (ap (λ (b : Books). b.machine) does.later_is ∙ does.taken.moves) (record { first_is = was.first_is; history_is = was.history_is; flushed = was.flushed })
+  step act.CutAt does =
+      stays _ (ap (λ (b : Books). b.machine) does.later_is ∙ does.taken.moves.2)
+      (record { first_is = was.first_is; history_is = was.history_is; flushed = was.flushed })
+  step act.Opened does =
+      stays _ (ap (λ (b : Books). b.machine) does.later_is ∙ does.taken.moves)
+      (record { first_is = was.first_is; history_is = was.history_is; flushed = was.flushed })
+  step act.Fail does =
+      stays _ (ap (λ (b : Books). b.machine) does.later_is ∙ does.taken.moves)
+      (record { first_is = was.first_is; history_is = was.history_is; flushed = was.flushed })
   step act.Durable does = settled does
 
 module _ (first : TreeState) (history : List Entry) (image : ImageState) (before most : ℕ) where
   -- all turns
-  all_flushed : {turns : List Turn} {books : Books} → AreTurns before most (books_of first history image) turns books → IsFlushed first history (filter_map durable_flush turns) books.machine
+  all_flushed : {turns : List Turn} {books : Books} → AreTurns before most (books_of first history image) turns books
+      → IsFlushed first history (filter_map durable_flush turns) books.machine
   all_flushed no_turns = record { first_is = refl; history_is = refl; flushed = none }
   all_flushed (one_turn turns turn books later earlier is) =
       subst (λ (l : List Flush). IsFlushed first history l later.machine) (sym (found_last durable_flush turns turn))
@@ -94,13 +109,18 @@ goes_on turn books later act.Granted does = still (ap (λ (b : Books). b.machine
 goes_on turn books later act.GivenBack does = still (ap (λ (b : Books). b.machine) does.later_is)
 goes_on turn books later (act.Short kind asked have) does = still (ap (λ (b : Books). b.machine) does.later_is)
 goes_on turn books later act.Halted does = still (ap (λ (b : Books). b.machine) does)
-goes_on turn books later act.CutAt does = goes _ (subst (Accepts books.machine (event.CutAt turn.commit turn.node turn.stamp)) (sym (ap (λ (b : Books). b.machine) does.later_is)) does.taken)
-goes_on turn books later act.Opened does = goes _ (subst (Accepts books.machine (event.Opened turn.commit)) (sym (ap (λ (b : Books). b.machine) does.later_is)) does.taken)
-goes_on turn books later act.Durable does = goes _ (subst (Accepts books.machine (event.Durable turn.commit)) (sym (ap (λ (b : Books). b.machine) does.later_is)) does.taken)
-goes_on turn books later act.Fail does = goes _ (subst (Accepts books.machine (event.Fail turn.commit)) (sym (ap (λ (b : Books). b.machine) does.later_is)) does.taken)
+goes_on turn books later act.CutAt does =
+    goes _ (subst (Accepts books.machine (event.CutAt turn.commit turn.node turn.stamp)) (sym (ap (λ (b : Books). b.machine) does.later_is)) does.taken)
+goes_on turn books later act.Opened does =
+    goes _ (subst (Accepts books.machine (event.Opened turn.commit)) (sym (ap (λ (b : Books). b.machine) does.later_is)) does.taken)
+goes_on turn books later act.Durable does =
+    goes _ (subst (Accepts books.machine (event.Durable turn.commit)) (sym (ap (λ (b : Books). b.machine) does.later_is)) does.taken)
+goes_on turn books later act.Fail does =
+    goes _ (subst (Accepts books.machine (event.Fail turn.commit)) (sym (ap (λ (b : Books). b.machine) does.later_is)) does.taken)
 
 -- a run to a state goes on
-run_on : (first : TreeState) (events : List Event) (old new : MachineState) (o : Option Event) → GoesOn old new o → IsRunTo first events old → IsRunTo first (events ++ cons_option o []) new
+run_on : (first : TreeState) (events : List Event) (old new : MachineState) (o : Option Event) → GoesOn old new o → IsRunTo first events old
+    → IsRunTo first (events ++ cons_option o []) new
 run_on first events old new None (still same) is = record {
   states = is.states;
   run = rw (append-nil events) is.run;
@@ -109,18 +129,24 @@ run_on first events old new None (still same) is = record {
 run_on first events old new (Some e) (goes _ takes) is = record {
   states = then_state is.states (length events) new;
   run = runs_lengthen first events is.states e new is.run (subst (λ (m : MachineState). Accepts m e new) (sym is.last_is) takes);
-  last_is = let l = length-append events (e ∷ []) in ap (λ b. cond b new (is.states (length (events ++ e ∷ [])))) (lt-ltb (length events) (length (events ++ e ∷ [])) (omega arith));
+  last_is = let l = length-append events (e ∷ []) in
+      ap (λ b. cond b new (is.states (length (events ++ e ∷ [])))) (lt-ltb (length events) (length (events ++ e ∷ [])) (omega arith));
 }
 
 module _ (first : TreeState) (history : List Entry) (image : ImageState) (before most : ℕ) (legal : IsLegal first history) where
-  all_run : {turns : List Turn} {books : Books} → AreTurns before most (books_of first history image) turns books → IsRunTo first (events_of history turns) books.machine
+  all_run : {turns : List Turn} {books : Books} → AreTurns before most (books_of first history image) turns books
+      → IsRunTo first (events_of history turns) books.machine
   all_run no_turns = record {
     states = told first history;
     run = rw (append-nil (map event.Call history)) (calls_are_a_run first history legal);
-    last_is = rw (append-nil (map event.Call history)) (ap (λ (h : List Entry). record (start_of first) { history = h }) (ap (λ n. take n history) (length-map history event.Call) ∙ take-length history));
+    last_is =
+        rw (append-nil (map event.Call history))
+        (ap (λ (h : List Entry). record (start_of first) { history = h }) (ap (λ n. take n history) (length-map history event.Call) ∙ take-length history));
   }
   all_run (one_turn turns turn books later earlier is) =
-      subst (λ (l : List Event). IsRunTo first l later.machine) (append_assoc (map event.Call history) (filter_map event_of_turn turns) _ ∙ ap (λ (l : List Event). map event.Call history ++ l) (sym (found_last event_of_turn turns turn)))
+      subst (λ (l : List Event). IsRunTo first l later.machine)
+      (append_assoc (map event.Call history) (filter_map event_of_turn turns) _
+      ∙ ap (λ (l : List Event). map event.Call history ++ l) (sym (found_last event_of_turn turns turn)))
       (run_on first (events_of history turns) books.machine later.machine (event_of_turn turn) (goes_on turn books later turn.act is.does) (all_run earlier))
 
 pub turns_are_a_run : TurnsAreARun

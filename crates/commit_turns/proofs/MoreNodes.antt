@@ -74,7 +74,8 @@ module _ (tree more : TreeState) (is : IsSound tree) (has : HasMoreNodes tree mo
       slot_more None = refl
       slot_more (Some row) = by (row_in_net row.name net) refl
         where
-          by : (o : Option NetRow) → row_in_net row.name net ≡ o → option_map_or (brought_row num more) o (Some row) ≡ option_map_or (brought_row num tree) o (Some row)
+          by : (o : Option NetRow) → row_in_net row.name net ≡ o
+              → option_map_or (brought_row num more) o (Some row) ≡ option_map_or (brought_row num tree) o (Some row)
           by None e = refl
           by (Some change) e = brought_more change (net_row_is earlier (names_of node tree.rows) net net_is row.name change e).1
 
@@ -86,22 +87,32 @@ module _ (tree more : TreeState) (is : IsSound tree) (has : HasMoreNodes tree mo
       slots_more slots = λ i. filled (all_more slots i) (new_more net net_is.each i)
 
 -- a commit between two trees, and those that have more nodes
-module _ (commit : Commit) (old new more_old more_new : TreeState) (image next : SeenInodes) (sound_old : IsSound old) (sound_new : IsSound new) (has_old : HasMoreNodes old more_old) (has_new : HasMoreNodes new more_new)
+module _ (commit : Commit) (old new more_old more_new : TreeState) (image next : SeenInodes) (sound_old : IsSound old) (sound_new : IsSound new)
+    (has_old : HasMoreNodes old more_old) (has_new : HasMoreNodes new more_new)
     (is : IsCommit commit old new image next)
-    (old_nodes : (node i : ℕ) → commit.after node ≡ Some i → IsSome (get old.nodes node)) (new_nodes : (node i : ℕ) → commit.after node ≡ Some i → IsSome (get new.nodes node)) where
-  built_more : (node i : ℕ) → commit.after node ≡ Some i → IsBuiltAnew commit new node (seen_before commit image node) (next.seen i) → IsBuiltAnew commit more_new node (seen_before commit image node) (next.seen i)
+    (old_nodes : (node i : ℕ) → commit.after node ≡ Some i → IsSome (get old.nodes node))
+    (new_nodes : (node i : ℕ) → commit.after node ≡ Some i → IsSome (get new.nodes node)) where
+  built_more : (node i : ℕ) → commit.after node ≡ Some i → IsBuiltAnew commit new node (seen_before commit image node) (next.seen i)
+      → IsBuiltAnew commit more_new node (seen_before commit image node) (next.seen i)
   built_more node i numbered built = record {
     kind = built.kind ∙ ap kind_byte (sym (kind_more new more_new sound_new has_new node (new_nodes node i numbered)));
     links = built.links ∙ sym (links_more new more_new sound_new has_new node (new_nodes node i numbered));
     size = built.size;
     bytes = built.bytes ∙ sym (bytes_more new more_new sound_new has_new node (new_nodes node i numbered));
-    slots = built.slots ∙ ap in_blocks (sym (slots_more new more_new sound_new has_new commit.after node (names_of node old.rows) (commit.nets node) (is.nets node) (seen_before commit image node).slots));
+    slots =
+        built.slots
+        ∙ ap in_blocks
+        (sym
+        (slots_more new more_new sound_new has_new commit.after node (names_of node old.rows) (commit.nets node) (is.nets node)
+        (seen_before commit image node).slots));
   }
 
   aside_more : (node i : ℕ) → commit.after node ≡ Some i → IsAside old new node → IsAside more_old more_new node
   aside_more node i numbered aside = record {
     rows = λ name. row_more new more_new sound_new has_new node name ∙ aside.rows name ∙ sym (row_more old more_old sound_old has_old node name);
-    bytes = bytes_more new more_new sound_new has_new node (new_nodes node i numbered) ∙ aside.bytes ∙ sym (bytes_more old more_old sound_old has_old node (old_nodes node i numbered));
+    bytes =
+        bytes_more new more_new sound_new has_new node (new_nodes node i numbered) ∙ aside.bytes
+        ∙ sym (bytes_more old more_old sound_old has_old node (old_nodes node i numbered));
     naming = λ directory name.
         let there = row_more new more_new sound_new has_new directory name in
         let was = row_more old more_old sound_old has_old directory name in
@@ -111,7 +122,9 @@ module _ (commit : Commit) (old new more_old more_new : TreeState) (image next :
   pub commit_more : IsCommit commit more_old more_new image next
   commit_more = record {
     count = is.count;
-    nets = λ node. subst (λ rows. IsNet (names_of node rows) (names_of node more_new.rows) (commit.nets node)) (sym has_old.rows) (subst (λ rows. IsNet (names_of node old.rows) (names_of node rows) (commit.nets node)) (sym has_new.rows) (is.nets node));
+    nets =
+        λ node. subst (λ rows. IsNet (names_of node rows) (names_of node more_new.rows) (commit.nets node)) (sym has_old.rows)
+        (subst (λ rows. IsNet (names_of node old.rows) (names_of node rows) (commit.nets node)) (sym has_new.rows) (is.nets node));
     numbers = is.numbers;
     built = λ node i numbered concerned. built_more node i numbered (is.built node i numbered concerned);
     stays = λ node i numbered other. let was = is.stays node i numbered other in (was.0, was.1, aside_more node i numbered was.2);

@@ -36,7 +36,9 @@ same_denials true true there back = refl
 abbrev tree_by : TreeState → List Entry → (ℕ → ℕ) → TreeState
 tree_by first history stamps = record {
   rows = fold with_own first.rows (filter (λ change. nat_lt change.stamp (stamps change.directory)) (changes_of first history));
-  nodes = from_sorted (map (λ entry. (entry.0, record entry.1 { bytes = bytes_at first history entry.0 (stamps entry.0) })) (entries (tree_after first history).nodes));
+  nodes =
+      from_sorted
+      (map (λ entry. (entry.0, record entry.1 { bytes = bytes_at first history entry.0 (stamps entry.0) })) (entries (tree_after first history).nodes));
   first = first.first;
   share = first.share;
   made = (tree_after first history).made;
@@ -44,8 +46,12 @@ tree_by first history stamps = record {
 
 -- cuts with the same stamps
 module _ (first : TreeState) (history : List Entry) (cut other : Cut) (same : (node : ℕ) → cut_of cut node ≡ cut_of other node) where
-  named_there : (node : ℕ) → IsNamedIn (counted_rows_at_cut first history every_entry cut) node → IsNamedIn (counted_rows_at_cut first history every_entry other) node
-  named_there node = subst (λ (stamps : ℕ → ℕ). IsNamedIn (fold with_own first.rows (filter (λ (change : RowChange). nat_lt change.stamp (stamps change.directory)) (changes_of first history))) node) (fun_ext same)
+  named_there : (node : ℕ) → IsNamedIn (counted_rows_at_cut first history every_entry cut) node
+      → IsNamedIn (counted_rows_at_cut first history every_entry other) node
+  named_there node =
+      subst (λ (stamps : ℕ → ℕ). IsNamedIn
+      (fold with_own first.rows (filter (λ (change : RowChange). nat_lt change.stamp (stamps change.directory)) (changes_of first history))) node)
+      (fun_ext same)
 
   reached_there : (flush : Flush) (node : ℕ) → IsReached first history every_entry flush cut node → IsReached first history every_entry flush other node
   reached_there flush node reached = elim reached [
@@ -64,7 +70,8 @@ module _ (first : TreeState) (history : List Entry) (cut other : Cut) (same : (n
   ]
 
 -- so are nodes that are dead
-dead_there : (first : TreeState) (history : List Entry) (cut other : Cut) → ((node : ℕ) → cut_of cut node ≡ cut_of other node) → (node : ℕ) → IsDead first history every_entry cut node → IsDead first history every_entry other node
+dead_there : (first : TreeState) (history : List Entry) (cut other : Cut) → ((node : ℕ) → cut_of cut node ≡ cut_of other node) → (node : ℕ)
+    → IsDead first history every_entry cut node → IsDead first history every_entry other node
 dead_there first history cut other same node dead = record {
   no_root = dead.no_root;
   unnamed = λ named. dead.unnamed (named_there first history other cut (λ x. sym (same x)) node named);
@@ -74,7 +81,9 @@ dead_there first history cut other same node dead = record {
 -- two that an fsync makes of one state
 module _ (state : MachineState) (flush : Flush) (made other : Made) (is : IsMadeBy state flush made) (also : IsMadeBy state flush other) where
   pub same_concerns : (node : ℕ) → made.concerns node ≡ other.concerns node
-  same_concerns node = same_answers (made.concerns node) (other.concerns node) (λ t. (also.concerned node).1 ((is.concerned node).0 t)) (λ t. (is.concerned node).1 ((also.concerned node).0 t))
+  same_concerns node =
+      same_answers (made.concerns node) (other.concerns node) (λ t. (also.concerned node).1 ((is.concerned node).0 t))
+      (λ t. (is.concerned node).1 ((also.concerned node).0 t))
 
   pub same_stamp : (node : ℕ) → cut_of made.raised node ≡ cut_of other.raised node
   same_stamp node = elim (is.raises.other node) [
@@ -94,27 +103,36 @@ module _ (state : MachineState) (flush : Flush) (made other : Made) (is : IsMade
   pub same_nets : (node : ℕ) → made.nets node ≡ other.nets node
   same_nets node =
       one_net (names_of node (tree_before state).rows) (names_of node (tree_made state made).rows) (made.nets node) (other.nets node) (is.each_net node)
-      (subst (λ (tree : TreeState). IsNet (names_of node (tree_before state).rows) (names_of node tree.rows) (other.nets node)) (sym same_tree) (also.each_net node))
+      (subst (λ (tree : TreeState). IsNet (names_of node (tree_before state).rows) (names_of node tree.rows) (other.nets node)) (sym same_tree)
+      (also.each_net node))
 
   pub same_after : (node : ℕ) → made.after node ≡ other.after node
   same_after node = elim (state.inodes node) as (λ b. state.inodes node ≡ b → made.after node ≡ other.after node) [
     | true ↦ λ has. same_denials (made.after node) (other.after node)
-        (λ gone. let now = (is.inodes_after.leaves node has).0 gone in (also.inodes_after.leaves node has).1 (now.0, dead_there state.first state.history made.raised other.raised same_stamp node now.1))
-        (λ gone. let now = (also.inodes_after.leaves node has).0 gone in (is.inodes_after.leaves node has).1 (now.0, dead_there state.first state.history other.raised made.raised (λ x. sym (same_stamp x)) node now.1))
+        (λ gone. let now = (is.inodes_after.leaves node has).0 gone in
+        (also.inodes_after.leaves node has).1 (now.0, dead_there state.first state.history made.raised other.raised same_stamp node now.1))
+        (λ gone. let now = (also.inodes_after.leaves node has).0 gone in
+        (is.inodes_after.leaves node has).1 (now.0, dead_there state.first state.history other.raised made.raised (λ x. sym (same_stamp x)) node now.1))
     | false ↦ λ lacks. same_answers (made.after node) (other.after node)
-        (λ came. let now = (is.inodes_after.enters node lacks).0 came in (also.inodes_after.enters node lacks).1 (now.0, reached_there state.first state.history made.raised other.raised same_stamp flush node now.1))
-        (λ came. let now = (also.inodes_after.enters node lacks).0 came in (is.inodes_after.enters node lacks).1 (now.0, reached_there state.first state.history other.raised made.raised (λ x. sym (same_stamp x)) flush node now.1))
+        (λ came. let now = (is.inodes_after.enters node lacks).0 came in
+        (also.inodes_after.enters node lacks).1 (now.0, reached_there state.first state.history made.raised other.raised same_stamp flush node now.1))
+        (λ came. let now = (also.inodes_after.enters node lacks).0 came in
+        (is.inodes_after.enters node lacks).1
+        (now.0, reached_there state.first state.history other.raised made.raised (λ x. sym (same_stamp x)) flush node now.1))
   ] refl
 
   pub same_rewrite : (image : ImageState) (node : ℕ) → rewrite_needed state image made node ≡ rewrite_needed state image other node
   same_rewrite image node = λ i. cond (is_directory (same_tree i) node)
       (directory_rewrite (seen_under image node) (slots_after (stand_in image.image) (same_tree i) (same_nets node i) (seen_under image node).slots))
-      (file_rewrite (is_touched_between state.first state.history node (cut_of state.cut node) (same_stamp node i)) (seen_under image node) (bytes_of (same_tree i) node))
+      (file_rewrite (is_touched_between state.first state.history node (cut_of state.cut node) (same_stamp node i)) (seen_under image node)
+      (bytes_of (same_tree i) node))
 
   pub same_need : (image : ImageState) → need_of state image made ≡ need_of state image other
   same_need image = λ i. record {
     inodes = rank (λ node. same_after node i && not (state.inodes node)) (node_bound state.first);
-    blocks = rank (needs_place (record made { concerns = λ node. same_concerns node i; after = λ node. same_after node i }) (λ node. same_rewrite image node i)) (PLACES * node_bound state.first);
+    blocks =
+        rank (needs_place (record made { concerns = λ node. same_concerns node i; after = λ node. same_after node i }) (λ node. same_rewrite image node i))
+        (PLACES * node_bound state.first);
   }
 
 pub needs_once : NeedsOnce

@@ -61,8 +61,10 @@ end_alike : (olds ours these : Slots) → AreAlike olds ours these → rows_end 
 end_alike olds [] [] alike = refl
 end_alike olds [] (b ∷ these) alike = absurd alike
 end_alike olds (a ∷ ours) [] alike = absurd alike
-end_alike [] (a ∷ ours) (b ∷ these) alike = λ i. cond (alike.0.empty i && nat_eq (end_alike [] ours these alike.1 i) 0) 0 (suc (end_alike [] ours these alike.1 i))
-end_alike (old ∷ olds) (a ∷ ours) (b ∷ these) alike = λ i. cond (alike.0.empty i && nat_eq (end_alike olds ours these alike.1 i) 0) 0 (suc (end_alike olds ours these alike.1 i))
+end_alike [] (a ∷ ours) (b ∷ these) alike =
+    λ i. cond (alike.0.empty i && nat_eq (end_alike [] ours these alike.1 i) 0) 0 (suc (end_alike [] ours these alike.1 i))
+end_alike (old ∷ olds) (a ∷ ours) (b ∷ these) alike =
+    λ i. cond (alike.0.empty i && nat_eq (end_alike olds ours these alike.1 i) 0) 0 (suc (end_alike olds ours these alike.1 i))
 
 -- so have those behind the first ones
 behind_alike : (k : ℕ) (olds ours these : Slots) → AreAlike olds ours these → AreAlike (drop k olds) (drop k ours) (drop k these)
@@ -82,14 +84,18 @@ abbrev padded : ℕ → ℕ → Slots → Slots
 padded k more slots = take k (slots ++ replicate more None)
 
 -- as many of the first ones, and empty ones behind them, are the old ones or not alike
-same_alike : (k p q : ℕ) (olds ours these : Slots) → AreAlike olds ours these → k ≤ p → k ≤ q → same_slots (padded k p olds) (padded k q ours) ≡ same_slots (padded k p olds) (padded k q these)
-same_alike zero p q olds ours these alike le low = ap (same_slots (padded zero p olds)) (take_none (ours ++ replicate q None) ∙ sym (take_none (these ++ replicate q None)))
+same_alike : (k p q : ℕ) (olds ours these : Slots) → AreAlike olds ours these → k ≤ p → k ≤ q
+    → same_slots (padded k p olds) (padded k q ours) ≡ same_slots (padded k p olds) (padded k q these)
+same_alike zero p q olds ours these alike le low =
+    ap (same_slots (padded zero p olds)) (take_none (ours ++ replicate q None) ∙ sym (take_none (these ++ replicate q None)))
 same_alike (suc k) p q olds [] [] alike le low = refl
 same_alike (suc k) p q olds [] (b ∷ these) alike le low = absurd alike
 same_alike (suc k) p q olds (a ∷ ours) [] alike le low = absurd alike
 same_alike (suc k) zero q [] (a ∷ ours) (b ∷ these) alike le low = absurd (omega arith)
-same_alike (suc k) (suc p) q [] (a ∷ ours) (b ∷ these) alike le low = λ i. alike.0.kept i && same_alike k p q [] ours these alike.1 (omega arith) (omega arith) i
-same_alike (suc k) p q (old ∷ olds) (a ∷ ours) (b ∷ these) alike le low = λ i. alike.0.kept i && same_alike k p q olds ours these alike.1 (omega arith) (omega arith) i
+same_alike (suc k) (suc p) q [] (a ∷ ours) (b ∷ these) alike le low =
+    λ i. alike.0.kept i && same_alike k p q [] ours these alike.1 (omega arith) (omega arith) i
+same_alike (suc k) p q (old ∷ olds) (a ∷ ours) (b ∷ these) alike le low =
+    λ i. alike.0.kept i && same_alike k p q olds ours these alike.1 (omega arith) (omega arith) i
 
 -- and all empty or not alike
 empty_alike : (k q : ℕ) (olds ours these : Slots) → AreAlike olds ours these → list_all is_none (padded k q ours) ≡ list_all is_none (padded k q these)
@@ -113,7 +119,9 @@ rewrites_alike seen ours these alike = λ i. record {
     blocks = ap (λ n. (n + 14) / BLOCK_SLOTS) (end_alike seen.slots ours these alike)
 
     rewritten : (n : ℕ) → rewrites_slots seen ours n ≡ rewrites_slots seen these n
-    rewritten n = λ i. not (same_alike BLOCK_SLOTS BLOCK_SLOTS BLOCK_SLOTS _ _ _ (behind_alike (BLOCK_SLOTS * n) seen.slots ours these alike) (omega arith) (omega arith) i)
+    rewritten n =
+        λ i. not
+        (same_alike BLOCK_SLOTS BLOCK_SLOTS BLOCK_SLOTS _ _ _ (behind_alike (BLOCK_SLOTS * n) seen.slots ours these alike) (omega arith) (omega arith) i)
         || (nat_le (blocks i) n && not (nat_eq (seen.blocks n) 0))
 
 -- slots after a net under two numberings, by neither of which a row that comes is one that stood there
@@ -142,7 +150,8 @@ module _ (num other : Numbering) (tree : TreeState) (earlier later : FinMap name
   further (change ∷ net) all = by (is_none change.before) (number_of change.after) refl (further net (All-tail (IsNetRow earlier later) change net all))
     where
       by : (b : Bool) (o : Option ℕ) → number_of change.after ≡ o → AreFurther [] (new_rows num tree net) (new_rows other tree net)
-          → AreFurther [] (cons_option (cond b (option_map (row_on num tree change.name) o) None) (new_rows num tree net)) (cons_option (cond b (option_map (row_on other tree change.name) o) None) (new_rows other tree net))
+          → AreFurther [] (cons_option (cond b (option_map (row_on num tree change.name) o) None) (new_rows num tree net))
+          (cons_option (cond b (option_map (row_on other tree change.name) o) None) (new_rows other tree net))
       by false o e rest = rest
       by true None e rest = rest
       by true (Some child) e rest =
@@ -154,14 +163,18 @@ module _ (num other : Numbering) (tree : TreeState) (earlier later : FinMap name
     slot_alike None apart = record { empty = refl; kept = refl }
     slot_alike (Some row) apart = by_net (row_in_net row.name net) refl
       where
-        by_child : (change : NetRow) → IsNetRow earlier later change → (o : Option ℕ) → number_of change.after ≡ o → SlotAlike (Some row) (option_map (row_on num tree change.name) o) (option_map (row_on other tree change.name) o)
+        by_child : (change : NetRow) → IsNetRow earlier later change → (o : Option ℕ) → number_of change.after ≡ o
+            → SlotAlike (Some row) (option_map (row_on num tree change.name) o) (option_map (row_on other tree change.name) o)
         by_child change one None e = record { empty = refl; kept = refl }
         by_child change one (Some child) e = record {
           empty = refl;
-          kept = told_apart row (row_on num tree change.name child) (apart.own change one child e) ∙ sym (told_apart row (row_on other tree change.name child) (apart.theirs change one child e));
+          kept =
+              told_apart row (row_on num tree change.name child) (apart.own change one child e)
+              ∙ sym (told_apart row (row_on other tree change.name child) (apart.theirs change one child e));
         }
 
-        by_net : (o : Option NetRow) → row_in_net row.name net ≡ o → SlotAlike (Some row) (option_map_or (brought_row num tree) o (Some row)) (option_map_or (brought_row other tree) o (Some row))
+        by_net : (o : Option NetRow) → row_in_net row.name net ≡ o
+            → SlotAlike (Some row) (option_map_or (brought_row num tree) o (Some row)) (option_map_or (brought_row other tree) o (Some row))
         by_net None e = record { empty = refl; kept = refl }
         by_net (Some change) e = by_child change (net_row_is earlier later net is row.name change e).1 (number_of change.after) refl
 
@@ -181,19 +194,22 @@ module _ (num other : Numbering) (tree : TreeState) (earlier later : FinMap name
     behind_all (a ∷ ours) [] both = absurd both
     behind_all (a ∷ ours) (b ∷ these) both = (record { empty = refl; kept = refl }, behind_all ours these both.1)
 
-    filled_alike : (slots : Slots) (rows others : List Row) → AreApart slots → AreFurther [] rows others → AreAlike slots (filled (own_slots slots) rows) (filled (their_slots slots) others)
+    filled_alike : (slots : Slots) (rows others : List Row) → AreApart slots → AreFurther [] rows others
+        → AreAlike slots (filled (own_slots slots) rows) (filled (their_slots slots) others)
     filled_alike [] rows others apart both = behind_all rows others both
     filled_alike (slot ∷ slots) [] [] apart both = changed_alike (slot ∷ slots) apart
     filled_alike (slot ∷ slots) [] (b ∷ these) apart both = absurd both
     filled_alike (slot ∷ slots) (a ∷ ours) [] apart both = absurd both
     filled_alike (slot ∷ slots) (a ∷ ours) (b ∷ these) apart both =
-        by (slot_after num tree net slot) (slot_after other tree net slot) (slot_alike slot apart.0) (filled_alike slots ours these apart.1 both.1) (filled_alike slots (a ∷ ours) (b ∷ these) apart.1 both)
+        by (slot_after num tree net slot) (slot_after other tree net slot) (slot_alike slot apart.0) (filled_alike slots ours these apart.1 both.1)
+        (filled_alike slots (a ∷ ours) (b ∷ these) apart.1 both)
       where
         first : (slot : Option Row) → OnRow IsApart slot → SlotAlike slot (Some a) (Some b)
         first None apart = record { empty = refl; kept = refl }
         first (Some row) apart = record { empty = refl; kept = told_apart row a (both.0.own row apart) ∙ sym (told_apart row b (both.0.theirs row apart)) }
 
-        by : (s t : Option Row) → SlotAlike slot s t → AreAlike slots (filled (own_slots slots) ours) (filled (their_slots slots) these) → AreAlike slots (filled (own_slots slots) (a ∷ ours)) (filled (their_slots slots) (b ∷ these))
+        by : (s t : Option Row) → SlotAlike slot s t → AreAlike slots (filled (own_slots slots) ours) (filled (their_slots slots) these)
+            → AreAlike slots (filled (own_slots slots) (a ∷ ours)) (filled (their_slots slots) (b ∷ these))
             → AreAlike (slot ∷ slots) (filled (s ∷ own_slots slots) (a ∷ ours)) (filled (t ∷ their_slots slots) (b ∷ these))
         by None None alike fewer all = (first slot apart.0, fewer)
         by None (Some t) alike fewer all = absurd (true_not_false alike.empty)
@@ -207,7 +223,8 @@ number_tells None (Some b) e = absurd (none_some e)
 number_tells (Some a) None e = absurd (none_some (sym e))
 number_tells (Some a) (Some b) e = ap (λ (n : ℕ). Some (record { 0 = n })) (some_same e)
 
-module _ (commit : Commit) (old new : TreeState) (image : SeenInodes) (go : NumbersGoOn commit old new image) (node : ℕ) (net : List NetRow) (is : IsNet (names_of node old.rows) (names_of node new.rows) net) where
+module _ (commit : Commit) (old new : TreeState) (image : SeenInodes) (go : NumbersGoOn commit old new image) (node : ℕ) (net : List NetRow)
+    (is : IsNet (names_of node old.rows) (names_of node new.rows) net) where
   abbrev earlier : FinMap name_cmp ℕ
   earlier = names_of node old.rows
 
@@ -235,7 +252,8 @@ module _ (commit : Commit) (old new : TreeState) (image : SeenInodes) (go : Numb
       }
 
   -- a change brings another child under the name
-  other_child : (row : Row) (own : IsOfChild row) (change : NetRow) → IsNetRow earlier later change → change.name ≡ row.name → (child : ℕ) → number_of change.after ≡ Some child → child ≡ own.child → ⊥
+  other_child : (row : Row) (own : IsOfChild row) (change : NetRow) → IsNetRow earlier later change → change.name ≡ row.name → (child : ℕ)
+      → number_of change.after ≡ Some child → child ≡ own.child → ⊥
   other_child row own change one names child e same =
       one.differs (number_tells change.before change.after (
       one.before ∙ get-names_where node (λ _. true) old.rows change.name ∙ ap (row_of old node) names ∙ own.named ∙ ap Some (sym same) ∙ sym e
@@ -253,12 +271,16 @@ module _ (commit : Commit) (old new : TreeState) (image : SeenInodes) (go : Numb
         by_way change one (ap (λ (r : Row). r.name) same) child e has.0 inodes (go.gives.comes child has.0 has.1);
   }
     where
-      by_way : (change : NetRow) → IsNetRow earlier later change → change.name ≡ row.name → (child : ℕ) → number_of change.after ≡ Some child → (j : ℕ) → j ≡ own.number → ComesBy commit image child j → ⊥
-      by_way change one names child e j same (had has) = other_child row own change one names child e (go.stands.once child own.child own.number (has ∙ ap Some same) own.numbered)
+      by_way : (change : NetRow) → IsNetRow earlier later change → change.name ≡ row.name → (child : ℕ) → number_of change.after ≡ Some child → (j : ℕ)
+          → j ≡ own.number → ComesBy commit image child j → ⊥
+      by_way change one names child e j same (had has) =
+          other_child row own change one names child e (go.stands.once child own.child own.number (has ∙ ap Some same) own.numbered)
       by_way change one names child e j same (enters none lt unused) =
-          not_used (kind_of old own.child) (sym (go.stands.each own.child own.number own.numbered).kind ∙ sym (ap (λ k. (image.seen k).kind) same) ∙ unused.kind)
+          not_used (kind_of old own.child)
+          (sym (go.stands.each own.child own.number own.numbered).kind ∙ sym (ap (λ k. (image.seen k).kind) same) ∙ unused.kind)
 
-  slots_apart : (o : Option ℕ) → commit.before node ≡ o → AllByRecursion (OnRow (IsApart (stand_in image) commit.after new earlier later)) (option_map_or image.seen o blank).slots
+  slots_apart : (o : Option ℕ) → commit.before node ≡ o
+      → AllByRecursion (OnRow (IsApart (stand_in image) commit.after new earlier later)) (option_map_or image.seen o blank).slots
   slots_apart None e = tt
   slots_apart (Some i) e =
       each_found (IsApart (stand_in image) commit.after new earlier later) (image.seen i).slots (go.stands.each node i e).once

@@ -40,8 +40,10 @@ turns_begin first image before sound = record {
 pub joined : (history : List Entry) (entry : Entry) (more : List Entry) → (history ++ entry ∷ []) ++ more ≡ history ++ entry ∷ more
 joined history entry more = append_assoc history (entry ∷ []) more
 
-module _ (first : TreeState) (history : List Entry) (image : ImageState) (before : ℕ) (turns : List Turn) (rest : Resting) (entry : Entry) (stand : TurnsStand first history image before turns rest) where
-  pub still_turns : (more : List Entry) (most : ℕ) → IsLegal first ((history ++ entry ∷ []) ++ more) → AreTurns before most (books_of first ((history ++ entry ∷ []) ++ more) image) turns (books_at first ((history ++ entry ∷ []) ++ more) rest)
+module _ (first : TreeState) (history : List Entry) (image : ImageState) (before : ℕ) (turns : List Turn) (rest : Resting) (entry : Entry)
+    (stand : TurnsStand first history image before turns rest) where
+  pub still_turns : (more : List Entry) (most : ℕ) → IsLegal first ((history ++ entry ∷ []) ++ more)
+      → AreTurns before most (books_of first ((history ++ entry ∷ []) ++ more) image) turns (books_at first ((history ++ entry ∷ []) ++ more) rest)
   still_turns more most legal =
       subst (λ (l : List Entry). AreTurns before most (books_of first l image) turns (books_at first l rest)) (sym (joined history entry more))
       (stand.turns_are (entry ∷ more) most (subst (IsLegal first) (joined history entry more) legal))
@@ -59,7 +61,8 @@ calls_stand first history image before turns rest entry next none stand = record
     own = (adds_none first history entry next stand.legal turns stand.each (record { 0 = 0 })).own
 
 -- one fsync more
-module _ (first : TreeState) (history : List Entry) (image : ImageState) (before : ℕ) (turns : List Turn) (rest : Resting) (entry : Entry) (node : NodeId) (next : IsNextFsync first history entry node) (stand : TurnsStand first history image before turns rest) where
+module _ (first : TreeState) (history : List Entry) (image : ImageState) (before : ℕ) (turns : List Turn) (rest : Resting) (entry : Entry) (node : NodeId)
+    (next : IsNextFsync first history entry node) (stand : TurnsStand first history image before turns rest) where
   flushed : AreFlushed first history every_entry (filter_map durable_flush turns) rest.cut rest.inodes
   flushed =
       let legal = subst (IsLegal first) (sym (append-nil history)) stand.legal in
@@ -75,25 +78,34 @@ module _ (first : TreeState) (history : List Entry) (image : ImageState) (before
       omega arith
 
   -- it goes on over each longer history
-  pub goes : (more : List Entry) → IsLegal first (history ++ entry ∷ more) → GoesOn first history (entry ∷ more) (filter_map durable_flush turns) rest (fsync_of entry node)
+  pub goes : (more : List Entry) → IsLegal first (history ++ entry ∷ more)
+      → GoesOn first history (entry ∷ more) (filter_map durable_flush turns) rest (fsync_of entry node)
   goes more legal = record {
     sound = stand.sound;
     legal = legal;
     flushed = flushed;
-    flushed_whole = turns_are_flushed first (history ++ entry ∷ more) image before 0 turns (books_at first (history ++ entry ∷ more) rest) (stand.turns_are (entry ∷ more) 0 legal);
+    flushed_whole =
+        turns_are_flushed first (history ++ entry ∷ more) image before 0 turns (books_at first (history ++ entry ∷ more) rest)
+        (stand.turns_are (entry ∷ more) 0 legal);
     stamps = low;
     stamp = let e = next.next.stamped in omega arith;
-    live = ap (λ h. is_alive (tree_after first h) node.0) (ap (λ k. take k (history ++ entry ∷ more)) next.next.stamped ∙ take-append_seam history (entry ∷ more)) ∙ next.alive;
+    live =
+        ap (λ h. is_alive (tree_after first h) node.0) (ap (λ k. take k (history ++ entry ∷ more)) next.next.stamped ∙ take-append_seam history (entry ∷ more))
+        ∙ next.alive;
   }
 
   -- what it makes, over each longer history
-  pub made_on : (made : Made) → IsMadeBy (machine_at first history rest) (fsync_of entry node) made → (more : List Entry) → IsLegal first (history ++ entry ∷ more) → IsMadeBy (machine_at first (history ++ entry ∷ more) rest) (fsync_of entry node) made
+  pub made_on : (made : Made) → IsMadeBy (machine_at first history rest) (fsync_of entry node) made → (more : List Entry)
+      → IsLegal first (history ++ entry ∷ more) → IsMadeBy (machine_at first (history ++ entry ∷ more) rest) (fsync_of entry node) made
   made_on made is more legal = made_longer first history (entry ∷ more) (filter_map durable_flush turns) rest (fsync_of entry node) (goes more legal) made is
 
-  pub need_on : (made : Made) → IsMadeBy (machine_at first history rest) (fsync_of entry node) made → (more : List Entry) → IsLegal first (history ++ entry ∷ more) → need_at first (history ++ entry ∷ more) rest made ≡ need_at first history rest made
-  need_on made is more legal = need_longer first history (entry ∷ more) (filter_map durable_flush turns) rest (fsync_of entry node) (goes more legal) made is rest.image
+  pub need_on : (made : Made) → IsMadeBy (machine_at first history rest) (fsync_of entry node) made → (more : List Entry)
+      → IsLegal first (history ++ entry ∷ more) → need_at first (history ++ entry ∷ more) rest made ≡ need_at first history rest made
+  need_on made is more legal =
+      need_longer first history (entry ∷ more) (filter_map durable_flush turns) rest (fsync_of entry node) (goes more legal) made is rest.image
 
-  pub fits_on : (made : Made) → IsMadeBy (machine_at first history rest) (fsync_of entry node) made → (more : List Entry) → IsLegal first (history ++ entry ∷ more) → FitsFree (need_at first history rest made) (free_in (books_at first history rest))
+  pub fits_on : (made : Made) → IsMadeBy (machine_at first history rest) (fsync_of entry node) made → (more : List Entry)
+      → IsLegal first (history ++ entry ∷ more) → FitsFree (need_at first history rest made) (free_in (books_at first history rest))
       → FitsFree (need_at first (history ++ entry ∷ more) rest made) (free_in (books_at first (history ++ entry ∷ more) rest))
   fits_on made is more legal fits = subst (λ (need : Amount). FitsFree need (free_in (books_at first history rest))) (sym (need_on made is more legal)) fits
 
@@ -101,7 +113,8 @@ module _ (first : TreeState) (history : List Entry) (image : ImageState) (before
   abbrev pub flight_by : ℕ → Made → (ℕ → Bool) → Flight
   flight_by commit made members = record { commit = commit; flush = fsync_of entry node; members = members; concerned = made.concerns; opened = false }
 
-  pub begins_on : (commit : ℕ) (made : Made) (members : ℕ → Bool) → MayBegin first history rest (fsync_of entry node) commit made members → (more : List Entry) → IsLegal first (history ++ entry ∷ more)
+  pub begins_on : (commit : ℕ) (made : Made) (members : ℕ → Bool) → MayBegin first history rest (fsync_of entry node) commit made members → (more : List Entry)
+      → IsLegal first (history ++ entry ∷ more)
       → BeginsFlight (machine_at first (history ++ entry ∷ more) rest) commit (fsync_of entry node) (flight_by commit made members)
   begins_on commit made members may more legal =
       let same = alike first history (entry ∷ more) (filter_map durable_flush turns) rest (fsync_of entry node) (goes more legal) in
@@ -113,7 +126,8 @@ module _ (first : TreeState) (history : List Entry) (image : ImageState) (before
         closed = refl;
       }
 
-  pub may_on : (commit : ℕ) (made : Made) (members : ℕ → Bool) → MayBegin first history rest (fsync_of entry node) commit made members → (more : List Entry) → MayCommit (machine_at first (history ++ entry ∷ more) rest) commit entry.stamp
+  pub may_on : (commit : ℕ) (made : Made) (members : ℕ → Bool) → MayBegin first history rest (fsync_of entry node) commit made members → (more : List Entry)
+      → MayCommit (machine_at first (history ++ entry ∷ more) rest) commit entry.stamp
   may_on commit made members may more = record {
     goes = refl;
     failed = refl;

@@ -52,7 +52,8 @@ module _ (first : TreeState) (history : List Entry) (rest : Resting) (entry : En
   none_waits : [] ≡ filter (is_other_waiting entry.stamp.0) (waits ∷ [])
   none_waits = sym (ap (λ b. cond (not b) (waits ∷ []) []) (same_number entry.stamp.0))
 
-  pub short : (number moment : ℕ) (made : Made) (kind : SpaceKind) (asked have : ℕ) → IsMadeBy state flush made → IsShortOf (need_of state rest.image made) (free_in resting) kind asked have
+  pub short : (number moment : ℕ) (made : Made) (kind : SpaceKind) (asked have : ℕ) → IsMadeBy state flush made
+      → IsShortOf (need_of state rest.image made) (free_in resting) kind asked have
       → IsTurn before most resting (turn_of entry node number moment before (act.Short kind asked have)) resting
   short number moment made kind asked have is fits = record {
     own = λ other one same. absurd one;
@@ -70,14 +71,16 @@ module _ (first : TreeState) (history : List Entry) (rest : Resting) (entry : En
     pub none_granted : [] ≡ filter (is_other_grant entry.stamp.0) (grant ∷ [])
     none_granted = sym (ap (λ b. cond (not b) (grant ∷ []) []) (same_number entry.stamp.0))
 
-    pub granted_is : least_open resting need.inodes ≡ option_map_or (λ (g : Grant). g.inodes) (find (λ (g : Grant). nat_eq g.stamp entry.stamp.0) (grant ∷ [])) []
+    pub granted_is : least_open resting need.inodes
+        ≡ option_map_or (λ (g : Grant). g.inodes) (find (λ (g : Grant). nat_eq g.stamp entry.stamp.0) (grant ∷ [])) []
     granted_is = sym (ap (λ b. option_map_or (λ (g : Grant). g.inodes) (cond b (Some grant) None) []) (same_number entry.stamp.0))
 
     -- the books once it has reserved
     abbrev pub reserved : Books
     reserved = record resting { grants = grant ∷ []; waiting = waits ∷ [] }
 
-    pub reserves : (number moment : ℕ) → FitsFree need (free_in resting) → IsTurn before most resting (turn_of entry node number moment before act.Granted) reserved
+    pub reserves : (number moment : ℕ) → FitsFree need (free_in resting)
+        → IsTurn before most resting (turn_of entry node number moment before act.Granted) reserved
     reserves number moment fits = record {
       own = λ other one same. absurd one;
       faults = refl;
@@ -132,7 +135,8 @@ module _ (first : TreeState) (history : List Entry) (rest : Resting) (entry : En
       found : (opened : Bool) → flight_of (with_flight state commit flight opened) commit ≡ Some (record flight { opened = opened })
       found opened = ap (λ b. cond b (Some (record flight { opened = opened })) None) (eq-eqb flight.commit commit begins.number)
 
-      pub opens : (grants : List Grant) (moment : ℕ) → IsTurn before most (flying grants false) (turn_of entry node commit moment before act.Opened) (flying grants true)
+      pub opens : (grants : List Grant) (moment : ℕ)
+          → IsTurn before most (flying grants false) (turn_of entry node commit moment before act.Opened) (flying grants true)
       opens grants moment = record {
         own = λ other one same. absurd one;
         faults = refl;
@@ -144,9 +148,11 @@ module _ (first : TreeState) (history : List Entry) (rest : Resting) (entry : En
         };
       }
 
-      pub settles : (grants : List Grant) (granted : List ℕ) (moment : ℕ) (next : ImageState) → [] ≡ filter (is_other_grant entry.stamp.0) grants → granted ≡ inodes_for entry.stamp.0 (flying grants true)
+      pub settles : (grants : List Grant) (granted : List ℕ) (moment : ℕ) (next : ImageState) → [] ≡ filter (is_other_grant entry.stamp.0) grants
+          → granted ≡ inodes_for entry.stamp.0 (flying grants true)
           → Leaves state made granted rest.image next
-          → IsTurn before most (flying grants true) (turn_of entry node commit moment before act.Durable) (books_at first history (resting_after rest commit made next))
+          → IsTurn before most (flying grants true) (turn_of entry node commit moment before act.Durable)
+          (books_at first history (resting_after rest commit made next))
       settles grants granted moment next gone same leaves = record {
         own = λ other one same. absurd one;
         faults = refl;
@@ -162,7 +168,8 @@ module _ (first : TreeState) (history : List Entry) (rest : Resting) (entry : En
         };
       }
         where
-          leaves_flying : Leaves state made (inodes_for entry.stamp.0 (flying grants true)) rest.image next → Leaves (with_flight state commit flight true) made (inodes_for entry.stamp.0 (flying grants true)) rest.image next
+          leaves_flying : Leaves state made (inodes_for entry.stamp.0 (flying grants true)) rest.image next
+              → Leaves (with_flight state commit flight true) made (inodes_for entry.stamp.0 (flying grants true)) rest.image next
           leaves_flying was = record {
             takes = was.takes;
             fresh = was.fresh;
@@ -204,7 +211,8 @@ module _ (first : TreeState) (history : List Entry) (rest : Resting) (entry : En
       fail_free opened refused.NoMemory r = absurd r
 
       pub fails : (grants : List Grant) (opened : Bool) (moment faults : ℕ) → HasRisen before faults → faults ≤ most
-          → IsTurn before most (flying grants opened) (turn_of entry node commit moment faults act.Fail) (record (flying grants opened) { machine = failed opened; failed = Some faults })
+          → IsTurn before most (flying grants opened) (turn_of entry node commit moment faults act.Fail)
+          (record (flying grants opened) { machine = failed opened; failed = Some faults })
       fails grants opened moment faults risen le = record {
         own = λ other one same. absurd one;
         faults = (risen, le);

@@ -187,7 +187,8 @@ pub record Leaves (state : MachineState) (made : Made) (granted : List ℕ) (old
   pub fresh : ℕ → ℕ → ℕ
   pub commits : IsCommit (commit_made made old new takes fresh) (tree_before state) (tree_made state made) old.image new.image
   pub gives : GivesGranted state made granted old new
-  pub rewrites : (node i place : ℕ) → new.num node ≡ Some i → made.concerns node ≡ true → place < PLACES → IsRewritten state made old new takes fresh node i place
+  pub rewrites : (node i place : ℕ) → new.num node ≡ Some i → made.concerns node ≡ true → place < PLACES
+      → IsRewritten state made old new takes fresh node i place
   pub lies : (i place : ℕ) → takes i place ≡ true → (old.first_block ≤ fresh i place) × (fresh i place < old.end_block)
   pub first_block : new.first_block ≡ old.first_block
   pub end_block : new.end_block ≡ old.end_block
@@ -245,4 +246,5 @@ pub record IsTurn (before most : ℕ) (books : Books) (turn : Turn) (later : Boo
 -- Turns in their order, from some books on, and the books behind them.
 pub data AreTurns (before most : ℕ) (start : Books) : List Turn → Books → Type 0 where
   no_turns : AreTurns before most start [] start
-  one_turn : (turns : List Turn) (turn : Turn) (books later : Books) → AreTurns before most start turns books → IsTurn before most books turn later → AreTurns before most start (turns ++ turn ∷ []) later
+  one_turn : (turns : List Turn) (turn : Turn) (books later : Books) → AreTurns before most start turns books → IsTurn before most books turn later
+      → AreTurns before most start (turns ++ turn ∷ []) later

@@ -31,11 +31,15 @@ RewritesNeedNoNumbers = (commit : Commit) (old new : TreeState) (image : SeenIno
 
 -- What an fsync needs in a state has one value.
 abbrev pub NeedsOnce : Type 0
-NeedsOnce = (state : MachineState) (image : ImageState) (flush : Flush) (need other : Amount) → IsNeed state image flush need → IsNeed state image flush other → need ≡ other
+NeedsOnce =
+    (state : MachineState) (image : ImageState) (flush : Flush) (need other : Amount) → IsNeed state image flush need → IsNeed state image flush other
+    → need ≡ other
 
 -- Each node of a history from a sound tree has a number below the bound up to which needs are counted.
 abbrev pub NodesAreCounted : Type 0
-NodesAreCounted = (first : TreeState) (history : List Entry) (node : ℕ) → IsSoundTree first → IsLegal first history → IsSome (get (tree_after first history).nodes node) → node < node_bound first
+NodesAreCounted =
+    (first : TreeState) (history : List Entry) (node : ℕ) → IsSoundTree first → IsLegal first history → IsSome (get (tree_after first history).nodes node)
+    → node < node_bound first
 
 -- no number stands in a list twice
 abbrev pub AreOnce : List ℕ → Type 0
@@ -50,7 +54,8 @@ pub record ListsNodes (first : TreeState) (test : ℕ → Bool) (nodes : List �
 
 -- A commit needs as many blocks as the listed rewritings take of the nodes that it concerns and that have an inode after it.
 abbrev pub BlocksAreListed : Type 0
-BlocksAreListed = (state : MachineState) (image : ImageState) (made : Made) (nodes : List ℕ) → ListsNodes state.first (λ node. made.concerns node && made.after node) nodes
+BlocksAreListed =
+    (state : MachineState) (image : ImageState) (made : Made) (nodes : List ℕ) → ListsNodes state.first (λ node. made.concerns node && made.after node) nodes
     → (need_of state image made).blocks ≡ blocks_needed (map (rewrite_needed state image made) nodes)
 
 -- And as many inodes as nodes are listed that get one.

@@ -22,7 +22,8 @@ TurnsBegin = (first : TreeState) (image : ImageState) (before : ℕ) → IsSound
 
 -- An entry takes no turn: where it is an fsync of a live node, it is answered NoMemory.
 abbrev pub TakesNoTurn : TreeState → List Entry → Entry → Type 0
-TakesNoTurn first history entry = (node : NodeId) → entry.call ≡ call.Fsync node → is_alive (tree_after first history) node.0 ≡ true → entry.reply ≡ reply.NoMemory
+TakesNoTurn first history entry =
+    (node : NodeId) → entry.call ≡ call.Fsync node → is_alive (tree_after first history) node.0 ≡ true → entry.reply ≡ reply.NoMemory
 
 -- Then the turns go on to stand.
 abbrev pub CallsStand : Type 0
@@ -50,12 +51,14 @@ CommitsStand = (first : TreeState) (history : List Entry) (image : ImageState) (
     → entry.reply ≡ reply.Ok → entry.ack ≡ Some durable
     → TurnsStand first history image before turns rest
     → TurnsStand first (history ++ entry ∷ []) image before
-    (then_turn (then_turn (with_begun turns entry node before number commit reserved begun) (turn_of entry node commit opened before act.Opened)) (turn_of entry node commit durable before act.Durable))
+    (then_turn (then_turn (with_begun turns entry node before number commit reserved begun) (turn_of entry node commit opened before act.Opened))
+    (turn_of entry node commit durable before act.Durable))
     (resting_after rest commit made next)
 
 -- An fsync answered Ok that needs nothing: its commit begins, is opened and is durable at one moment.
 abbrev pub EmptyCommitsStand : Type 0
-EmptyCommitsStand = (first : TreeState) (history : List Entry) (image : ImageState) (before : ℕ) (turns : List Turn) (rest : Resting) (entry : Entry) (node : NodeId)
+EmptyCommitsStand =
+    (first : TreeState) (history : List Entry) (image : ImageState) (before : ℕ) (turns : List Turn) (rest : Resting) (entry : Entry) (node : NodeId)
     (commit durable : ℕ) (made : Made) (members : ℕ → Bool) (next : ImageState)
     → IsNextFsync first history entry node → MayBegin first history rest (fsync_of entry node) commit made members
     → need_at first history rest made ≡ nothing
@@ -63,7 +66,8 @@ EmptyCommitsStand = (first : TreeState) (history : List Entry) (image : ImageSta
     → entry.reply ≡ reply.Ok → entry.ack ≡ Some durable
     → TurnsStand first history image before turns rest
     → TurnsStand first (history ++ entry ∷ []) image before
-    (then_turn (then_turn (then_turn turns (turn_of entry node commit durable before act.CutAt)) (turn_of entry node commit durable before act.Opened)) (turn_of entry node commit durable before act.Durable))
+    (then_turn (then_turn (then_turn turns (turn_of entry node commit durable before act.CutAt)) (turn_of entry node commit durable before act.Opened))
+    (turn_of entry node commit durable before act.Durable))
     (resting_after rest commit made next)
 
 -- An fsync answered NoSpace: its need does not fit.
@@ -78,7 +82,8 @@ ShortsStand = (first : TreeState) (history : List Entry) (image : ImageState) (b
 
 -- An fsync answered NoMemory that has reserved what fits, and gives it back.
 abbrev pub GivenBackStand : Type 0
-GivenBackStand = (first : TreeState) (history : List Entry) (image : ImageState) (before : ℕ) (turns : List Turn) (rest : Resting) (entry : Entry) (node : NodeId)
+GivenBackStand =
+    (first : TreeState) (history : List Entry) (image : ImageState) (before : ℕ) (turns : List Turn) (rest : Resting) (entry : Entry) (node : NodeId)
     (number other reserved moment : ℕ) (made : Made)
     → IsNextFsync first history entry node → IsMadeBy (machine_at first history rest) (fsync_of entry node) made
     → FitsFree (need_at first history rest made) (free_in (books_at first history rest))
@@ -95,22 +100,27 @@ DoubtsFail = (first : TreeState) (history : List Entry) (image : ImageState) (be
     → FitsFree (need_at first history rest made) (free_in (books_at first history rest))
     → HasRisen before faults → entry.reply ≡ reply.DiskFailed
     → TurnsStand first history image before turns rest
-    → TurnsFailed first (history ++ entry ∷ []) image before faults (then_turn (with_begun turns entry node before number commit reserved begun) (turn_of entry node commit moment faults act.Fail))
+    → TurnsFailed first (history ++ entry ∷ []) image before faults
+    (then_turn (with_begun turns entry node before number commit reserved begun) (turn_of entry node commit moment faults act.Fail))
 
 -- An fsync answered DiskFailed whose commit was opened and then failed.
 abbrev pub OpenedDoubtsFail : Type 0
-OpenedDoubtsFail = (first : TreeState) (history : List Entry) (image : ImageState) (before : ℕ) (turns : List Turn) (rest : Resting) (entry : Entry) (node : NodeId)
+OpenedDoubtsFail =
+    (first : TreeState) (history : List Entry) (image : ImageState) (before : ℕ) (turns : List Turn) (rest : Resting) (entry : Entry) (node : NodeId)
     (number commit reserved begun opened moment faults : ℕ) (made : Made) (members : ℕ → Bool)
     → IsNextFsync first history entry node → MayBegin first history rest (fsync_of entry node) commit made members
     → FitsFree (need_at first history rest made) (free_in (books_at first history rest))
     → HasRisen before faults → entry.reply ≡ reply.DiskFailed
     → TurnsStand first history image before turns rest
     → TurnsFailed first (history ++ entry ∷ []) image before faults
-    (then_turn (then_turn (with_begun turns entry node before number commit reserved begun) (turn_of entry node commit opened before act.Opened)) (turn_of entry node commit moment faults act.Fail))
+    (then_turn (then_turn (with_begun turns entry node before number commit reserved begun) (turn_of entry node commit opened before act.Opened))
+    (turn_of entry node commit moment faults act.Fail))
 
 -- Once a commit has failed, an fsync that takes a turn halts, and is answered Stopped with the count of the failure.
 abbrev pub HaltsFail : Type 0
-HaltsFail = (first : TreeState) (history : List Entry) (image : ImageState) (before faults : ℕ) (turns : List Turn) (entry : Entry) (node : NodeId) (number moment own : ℕ)
+HaltsFail =
+    (first : TreeState) (history : List Entry) (image : ImageState) (before faults : ℕ) (turns : List Turn) (entry : Entry) (node : NodeId)
+    (number moment own : ℕ)
     → IsNextFsync first history entry node → entry.reply ≡ reply.Stopped faults
     → TurnsFailed first history image before faults turns
     → TurnsFailed first (history ++ entry ∷ []) image before faults (then_turn turns (turn_of entry node number moment own act.Halted))

@@ -78,7 +78,8 @@ pub record WasFailure (before most : ℕ) (turns : List Turn) (faults : ℕ) : T
   pub within : faults ≤ most
 
 -- At its turn an fsync needed more than was free.
-pub record WasShort (first : TreeState) (history : List Entry) (image : ImageState) (before most : ℕ) (turns : List Turn) (flush : Flush) (kind : SpaceKind) (asked have : ℕ) : Type 0 where
+pub record WasShort (first : TreeState) (history : List Entry) (image : ImageState) (before most : ℕ) (turns : List Turn) (flush : Flush) (kind : SpaceKind)
+    (asked have : ℕ) : Type 0 where
   pub earlier : List Turn
   pub turn : Turn
   pub later : List Turn
@@ -90,7 +91,8 @@ pub record WasShort (first : TreeState) (history : List Entry) (image : ImageSta
   pub short : IsShortOf need (free_in books) kind asked have
 
 -- The reply of an fsync has its cause: what its last turn did.
-pub record HasItsCause (first : TreeState) (history : List Entry) (image : ImageState) (before most : ℕ) (turns : List Turn) (entry : Entry) (node : NodeId) : Type 0 where
+pub record HasItsCause (first : TreeState) (history : List Entry) (image : ImageState) (before most : ℕ) (turns : List Turn) (entry : Entry)
+    (node : NodeId) : Type 0 where
   pub ok : (entry.reply ≡ reply.Ok) ↔ LastDid turns entry act.Durable
   pub ack : (own : LastDid turns entry act.Durable) → entry.ack ≡ Some own.turn.now
   pub disk_failed : (entry.reply ≡ reply.DiskFailed) ↔ LastDid turns entry act.Fail
@@ -102,7 +104,9 @@ pub record HasItsCause (first : TreeState) (history : List Entry) (image : Image
 
 -- So it is of each fsync of a live node, where the turns are recorded.
 abbrev pub RepliesHaveCauses : Type 0
-RepliesHaveCauses = (first : TreeState) (history : List Entry) (image : ImageState) (entry_faults exit_faults : ℕ) (turns : List Turn) (entry : Entry) (node : NodeId) → IsLegal first history
+RepliesHaveCauses =
+    (first : TreeState) (history : List Entry) (image : ImageState) (entry_faults exit_faults : ℕ) (turns : List Turn) (entry : Entry) (node : NodeId)
+    → IsLegal first history
     → (recorded : IsRecorded first history image entry_faults exit_faults turns) → IsLiveFsync first history entry node
     → HasItsCause first history image recorded.before exit_faults turns entry node
 
@@ -116,7 +120,8 @@ pub record ComesBehind (before most : ℕ) (earlier : List Turn) (turn : Turn) :
   pub halted : turn.act ≡ act.Halted → (faults : ℕ) × WasFailure before most earlier faults
 
 abbrev pub FailuresStopCommits : Type 0
-FailuresStopCommits = (first : TreeState) (history : List Entry) (image : ImageState) (before most : ℕ) (earlier : List Turn) (turn : Turn) (books later : Books)
+FailuresStopCommits =
+    (first : TreeState) (history : List Entry) (image : ImageState) (before most : ℕ) (earlier : List Turn) (turn : Turn) (books later : Books)
     → AreTurns before most (books_of first history image) earlier books → IsTurn before most books turn later
     → ComesBehind before most earlier turn
 
@@ -128,7 +133,8 @@ pub record TakesFree (books : Books) (turn : Turn) (later : Books) : Type 0 wher
   pub blocks : (free_in later).blocks + need.blocks ≡ (free_in books).blocks
 
 abbrev pub ReservedIsNotFree : Type 0
-ReservedIsNotFree = (before most : ℕ) (books : Books) (turn : Turn) (later : Books) → IsTurn before most books turn later → turn.act ≡ act.Granted → TakesFree books turn later
+ReservedIsNotFree =
+    (before most : ℕ) (books : Books) (turn : Turn) (later : Books) → IsTurn before most books turn later → turn.act ≡ act.Granted → TakesFree books turn later
 
 -- An inode is one of the least that are free and not reserved: it is such a one, and all such ones below it are taken with it.
 pub record IsLeastOpen (books : Books) (taken : List ℕ) (i : ℕ) : Type 0 where
@@ -143,7 +149,8 @@ pub record TakesLeast (books later : Books) : Type 0 where
   pub least : (i : ℕ) → is_listed grant.inodes i ≡ true → IsLeastOpen books grant.inodes i
 
 abbrev pub LeastAreTaken : Type 0
-LeastAreTaken = (before most : ℕ) (books : Books) (turn : Turn) (later : Books) → IsTurn before most books turn later → turn.act ≡ act.Granted → TakesLeast books later
+LeastAreTaken =
+    (before most : ℕ) (books : Books) (turn : Turn) (later : Books) → IsTurn before most books turn later → turn.act ≡ act.Granted → TakesLeast books later
 
 -- Behind a turn that reserves stands one of the same fsync that begins its commit, halts, or gives back; and between them none of its core
 -- is of another fsync.

@@ -84,7 +84,8 @@ abbrev pub rewrite_needed : MachineState → ImageState → Made → ℕ → Rew
 rewrite_needed state image made node =
     if is_directory (tree_made state made) node
     then directory_rewrite (seen_under image node) (slots_after (stand_in image.image) (tree_made state made) (made.nets node) (seen_under image node).slots)
-    else file_rewrite (is_touched_between state.first state.history node (cut_of state.cut node) (cut_of made.raised node)) (seen_under image node) (bytes_of (tree_made state made) node)
+    else file_rewrite (is_touched_between state.first state.history node (cut_of state.cut node) (cut_of made.raised node)) (seen_under image node)
+    (bytes_of (tree_made state made) node)
 
 -- a bound of the numbers of all nodes: those of the first tree, and behind them those that its cores may make
 abbrev pub node_bound : TreeState → ℕ

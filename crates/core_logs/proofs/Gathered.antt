@@ -38,7 +38,8 @@ use Rattle.core_logs.specs.Kept.{KeepsUnflushed, logged_of_core}
 use Rattle.core_logs.specs.Laws.{UnflushedIsGathered, GathersUnflushed}
 use Rattle.core_logs.proofs.Ordered.{all_of, history_in_order, logged_below, one_cores}
 
-module _ (first : TreeState) (history : List Entry) (cut : Cut) (logs : Logs) (legal : IsLegal first history) (keeps : KeepsUnflushed first history cut logs) where
+module _ (first : TreeState) (history : List Entry) (cut : Cut) (logs : Logs) (legal : IsLegal first history)
+    (keeps : KeepsUnflushed first history cut logs) where
   abbrev logged : List Change
   logged = logged_of first history
 
@@ -52,7 +53,9 @@ module _ (first : TreeState) (history : List Entry) (cut : Cut) (logs : Logs) (l
 
   -- a change stands at a place of its stamp
   place_stamp : (place : ℕ) (change other : Change) → stands_at place change ≡ true → stands_at place other ≡ true → change.stamp.0 ≡ other.stamp.0
-  place_stamp place change other here there = level change.stamp.0 other.stamp.0 (is_addition change.act) (is_addition other.act) (eqb-true (log_place change) place here ∙ sym (eqb-true (log_place other) place there))
+  place_stamp place change other here there =
+      level change.stamp.0 other.stamp.0 (is_addition change.act) (is_addition other.act)
+      (eqb-true (log_place change) place here ∙ sym (eqb-true (log_place other) place there))
     where
       level : (s t : ℕ) (a b : Bool) → 2 * s + cond a 1 0 ≡ 2 * t + cond b 1 0 → s ≡ t
       level s t true true same = omega arith
@@ -62,7 +65,8 @@ module _ (first : TreeState) (history : List Entry) (cut : Cut) (logs : Logs) (l
 
   -- the tests of what one core keeps of a directory and of what all do
   abbrev core_asks : ℕ → ℕ → Change → Bool
-  core_asks core directory change = (is_logged_in directory change && is_from (mark_kept (part_of logs core) directory) change) && is_under (length history) change
+  core_asks core directory change =
+      (is_logged_in directory change && is_from (mark_kept (part_of logs core) directory) change) && is_under (length history) change
 
   abbrev all_ask : ℕ → Change → Bool
   all_ask directory change = is_logged_in directory change && keeps_stamp directory change.stamp.0
@@ -83,15 +87,19 @@ module _ (first : TreeState) (history : List Entry) (cut : Cut) (logs : Logs) (l
   here_kept directory place = filter (stands_at place) (kept_of directory)
 
   of_one_core : (core directory place : ℕ) → core < length logs.parts
-      → filter (stands_at place) (part_changes directory (length history) (part_of logs core)) ≡ cond (nat_eq (core_at first history (stamp_of place)) core) (here_kept directory place) []
+      → filter (stands_at place) (part_changes directory (length history) (part_of logs core))
+      ≡ cond (nat_eq (core_at first history (stamp_of place)) core) (here_kept directory place) []
   of_one_core core directory place within =
       let own = logged_of_core core first history in
       let mark = mark_kept (part_of logs core) directory in
       ap (λ l. filter (stands_at place) (filter (is_under (length history)) l)) ((keeps.left core within).changes_left directory)
-      ∙ ap (λ l. filter (stands_at place) (filter (is_under (length history)) l)) (pass_both (is_logged_in directory) (is_from mark) (λ c. is_logged_in directory c && is_from mark c) (λ c. refl) own)
-      ∙ ap (filter (stands_at place)) (pass_both (λ c. is_logged_in directory c && is_from mark c) (is_under (length history)) (core_asks core directory) (λ c. refl) own)
+      ∙ ap (λ l. filter (stands_at place) (filter (is_under (length history)) l))
+      (pass_both (is_logged_in directory) (is_from mark) (λ c. is_logged_in directory c && is_from mark c) (λ c. refl) own)
+      ∙ ap (filter (stands_at place))
+      (pass_both (λ c. is_logged_in directory c && is_from mark c) (is_under (length history)) (core_asks core directory) (λ c. refl) own)
       ∙ pass_both (core_asks core directory) (stands_at place) (λ c. core_asks core directory c && stands_at place c) (λ c. refl) own
-      ∙ one_cores core (λ c. core_asks core directory c && stands_at place c) first history 0 (stamp_of place) legal (λ c is. stamped_so place c (second_true (core_asks core directory c) (stands_at place c) is) ∙ sym (zero_plus (stamp_of place)))
+      ∙ one_cores core (λ c. core_asks core directory c && stands_at place c) first history 0 (stamp_of place) legal
+      (λ c is. stamped_so place c (second_true (core_asks core directory c) (stands_at place c) is) ∙ sym (zero_plus (stamp_of place)))
       ∙ same_here (nat_eq (core_at first history (stamp_of place)) core) refl
     where
       second_true : (a b : Bool) → (a && b) ≡ true → b ≡ true
@@ -99,7 +107,8 @@ module _ (first : TreeState) (history : List Entry) (cut : Cut) (logs : Logs) (l
       second_true false b is = absurd (true_not_false (sym is))
 
       -- the tests agree on what the history logs
-      agree : core_at first history (stamp_of place) ≡ core → (c : Change) → IsOneOf logged c → (core_asks core directory c && stands_at place c) ≡ (all_ask directory c && stands_at place c)
+      agree : core_at first history (stamp_of place) ≡ core → (c : Change) → IsOneOf logged c
+          → (core_asks core directory c && stands_at place c) ≡ (all_ask directory c && stands_at place c)
       agree is c one = by (stands_at place c) refl
         where
           by : (b : Bool) → stands_at place c ≡ b → (core_asks core directory c && b) ≡ (all_ask directory c && b)
@@ -108,21 +117,27 @@ module _ (first : TreeState) (history : List Entry) (cut : Cut) (logs : Logs) (l
               let at = stamped_so place c on in
               let less = logged_below first history 0 legal c one in
               let under : is_under (length history) c ≡ true = grind (arith, nat_tests, less) in
-              let mark_same : mark_kept (part_of logs core) directory ≡ mark_kept (part_of logs (core_at first history c.stamp.0)) directory = ap (λ k. mark_kept (part_of logs k) directory) (sym is ∙ ap (core_at first history) (sym at)) in
+              let mark_same : mark_kept (part_of logs core) directory ≡ mark_kept (part_of logs (core_at first history c.stamp.0)) directory =
+              ap (λ k. mark_kept (part_of logs k) directory) (sym is ∙ ap (core_at first history) (sym at)) in
               ap (λ b. ((is_logged_in directory c && is_from (mark_kept (part_of logs core) directory) c) && b) && true) under
               ∙ ap (λ m. ((is_logged_in directory c && nat_le m c.stamp.0) && true) && true) mark_same
-              ∙ ap (λ b. b && true) (and_true (is_logged_in directory c && nat_le (mark_kept (part_of logs (core_at first history c.stamp.0)) directory) c.stamp.0))
+              ∙ ap (λ b. b && true)
+              (and_true (is_logged_in directory c && nat_le (mark_kept (part_of logs (core_at first history c.stamp.0)) directory) c.stamp.0))
 
       same_here : (b : Bool) → nat_eq (core_at first history (stamp_of place)) core ≡ b
           → cond b (filter (λ c. core_asks core directory c && stands_at place c) logged) [] ≡ cond b (here_kept directory place) []
       same_here false is = refl
       same_here true is =
-          filter_same (λ c. core_asks core directory c && stands_at place c) (λ c. all_ask directory c && stands_at place c) logged (agree (eqb-true (core_at first history (stamp_of place)) core is))
+          filter_same (λ c. core_asks core directory c && stands_at place c) (λ c. all_ask directory c && stands_at place c) logged
+          (agree (eqb-true (core_at first history (stamp_of place)) core is))
           ∙ sym (pass_both (all_ask directory) (stands_at place) (λ c. all_ask directory c && stands_at place c) (λ c. refl) logged)
-          ∙ ap (filter (stands_at place)) (sym (pass_both (is_logged_in directory) (λ c. keeps_stamp directory c.stamp.0) (all_ask directory) (λ c. refl) logged))
+          ∙ ap (filter (stands_at place))
+          (sym (pass_both (is_logged_in directory) (λ c. keeps_stamp directory c.stamp.0) (all_ask directory) (λ c. refl) logged))
 
   -- no part of some has anything at a place
-  none_there : (directory place : ℕ) (parts : List CoreLog) → ((i : ℕ) → i < length parts → filter (stands_at place) (part_changes directory (length history) (slice_index_or parts i blank_part)) ≡ []) → filter (stands_at place) (parts_changes directory (length history) parts) ≡ []
+  none_there : (directory place : ℕ) (parts : List CoreLog)
+      → ((i : ℕ) → i < length parts → filter (stands_at place) (part_changes directory (length history) (slice_index_or parts i blank_part)) ≡ [])
+      → filter (stands_at place) (parts_changes directory (length history) parts) ≡ []
   none_there directory place [] none = refl
   none_there directory place (part ∷ parts) none =
       filter-append (stands_at place) (part_changes directory (length history) part) (parts_changes directory (length history) parts)
@@ -130,25 +145,32 @@ module _ (first : TreeState) (history : List Entry) (cut : Cut) (logs : Logs) (l
       ∙ none_there directory place parts (λ i lt. none (suc i) (omega (arith, lt)))
 
   -- one part alone has something
-  one_there : (directory place : ℕ) (found : List Change) (parts : List CoreLog) (j : ℕ) → j < length parts → filter (stands_at place) (part_changes directory (length history) (slice_index_or parts j blank_part)) ≡ found
-      → ((i : ℕ) → i < length parts → (i ≡ j → ⊥) → filter (stands_at place) (part_changes directory (length history) (slice_index_or parts i blank_part)) ≡ []) → filter (stands_at place) (parts_changes directory (length history) parts) ≡ found
+  one_there : (directory place : ℕ) (found : List Change) (parts : List CoreLog) (j : ℕ) → j < length parts
+      → filter (stands_at place) (part_changes directory (length history) (slice_index_or parts j blank_part)) ≡ found
+      → ((i : ℕ) → i < length parts → (i ≡ j → ⊥) → filter (stands_at place) (part_changes directory (length history) (slice_index_or parts i blank_part)) ≡ [])
+      → filter (stands_at place) (parts_changes directory (length history) parts) ≡ found
   one_there directory place found [] j within is others = absurd (omega (arith, within))
   one_there directory place found (part ∷ parts) zero within is others =
       filter-append (stands_at place) (part_changes directory (length history) part) (parts_changes directory (length history) parts)
-      ∙ ap (λ l. filter (stands_at place) (part_changes directory (length history) part) ++ l) (none_there directory place parts (λ i lt. others (suc i) (omega (arith, lt)) (λ same. omega (arith, same))))
+      ∙ ap (λ l. filter (stands_at place) (part_changes directory (length history) part) ++ l)
+      (none_there directory place parts (λ i lt. others (suc i) (omega (arith, lt)) (λ same. omega (arith, same))))
       ∙ append-nil (filter (stands_at place) (part_changes directory (length history) part)) ∙ is
   one_there directory place found (part ∷ parts) (suc j) within is others =
       filter-append (stands_at place) (part_changes directory (length history) part) (parts_changes directory (length history) parts)
       ∙ ap (λ l. l ++ filter (stands_at place) (parts_changes directory (length history) parts)) (others zero (omega arith) (λ same. omega (arith, same)))
       ∙ one_there directory place found parts j (omega (arith, within)) is (λ i lt not. others (suc i) (omega (arith, lt)) (λ same. not (omega (arith, same))))
 
-  core_within : (tree : TreeState) (entries : List Entry) (t : ℕ) → All (λ entry. entry.core.0 < length logs.parts) entries → t < length entries → core_at tree entries t < length logs.parts
+  core_within : (tree : TreeState) (entries : List Entry) (t : ℕ) → All (λ entry. entry.core.0 < length logs.parts) entries → t < length entries
+      → core_at tree entries t < length logs.parts
   core_within tree [] t all within = absurd (omega (arith, within))
   core_within tree (entry ∷ entries) zero all within = All-head (λ (entry : Entry). entry.core.0 < length logs.parts) entry entries all
-  core_within tree (entry ∷ entries) (suc t) all within = core_within (tree_after_entry tree entry) entries t (All-tail (λ (entry : Entry). entry.core.0 < length logs.parts) entry entries all) (omega (arith, within))
+  core_within tree (entry ∷ entries) (suc t) all within =
+      core_within (tree_after_entry tree entry) entries t (All-tail (λ (entry : Entry). entry.core.0 < length logs.parts) entry entries all)
+      (omega (arith, within))
 
   -- at each place all cores together keep what is kept
-  all_there : (directory place : ℕ) → filter (stands_at place) (kept_of directory) ≡ filter (stands_at place) (parts_changes directory (length history) logs.parts)
+  all_there : (directory place : ℕ)
+      → filter (stands_at place) (kept_of directory) ≡ filter (stands_at place) (parts_changes directory (length history) logs.parts)
   all_there directory place = elim (below_or (stamp_of place) (length history)) [
     | inl early ↦
         let core = core_at first history (stamp_of place) in
@@ -158,10 +180,15 @@ module _ (first : TreeState) (history : List Entry) (cut : Cut) (logs : Logs) (l
         (λ i lt not. of_one_core i directory place lt ∙ off i (nat_eq core i) refl (λ same. not (sym same))))
     | inr late ↦
         let none : here_kept directory place ≡ [] = filter_none (stands_at place) (kept_of directory) (λ c one. not_here c (in_kept directory c one) late) in
-        none ∙ sym (none_there directory place logs.parts (λ i lt. of_one_core i directory place lt ∙ ap (λ l. cond (nat_eq (core_at first history (stamp_of place)) i) l []) none ∙ nothing (nat_eq (core_at first history (stamp_of place)) i)))
+        none
+        ∙ sym
+        (none_there directory place logs.parts
+        (λ i lt. of_one_core i directory place lt ∙ ap (λ l. cond (nat_eq (core_at first history (stamp_of place)) i) l []) none
+        ∙ nothing (nat_eq (core_at first history (stamp_of place)) i)))
   ]
     where
-      off : (i : ℕ) (b : Bool) → nat_eq (core_at first history (stamp_of place)) i ≡ b → (core_at first history (stamp_of place) ≡ i → ⊥) → cond b (here_kept directory place) [] ≡ []
+      off : (i : ℕ) (b : Bool) → nat_eq (core_at first history (stamp_of place)) i ≡ b → (core_at first history (stamp_of place) ≡ i → ⊥)
+          → cond b (here_kept directory place) [] ≡ []
       off i true is not = absurd (not (eqb-true (core_at first history (stamp_of place)) i is))
       off i false is not = refl
 
@@ -170,7 +197,9 @@ module _ (first : TreeState) (history : List Entry) (cut : Cut) (logs : Logs) (l
       nothing false = refl
 
       in_kept : (directory : ℕ) (c : Change) → IsOneOf (kept_of directory) c → IsOneOf logged c
-      in_kept directory c one = (in_filter (is_logged_in directory) logged c (in_filter (λ change. keeps_stamp directory change.stamp.0) (filter (is_logged_in directory) logged) c one).0).0
+      in_kept directory c one =
+          (in_filter (is_logged_in directory) logged c
+          (in_filter (λ change. keeps_stamp directory change.stamp.0) (filter (is_logged_in directory) logged) c one).0).0
 
       not_here : (c : Change) → IsOneOf logged c → length history ≤ stamp_of place → stands_at place c ≡ false
       not_here c one late = by (stands_at place c) refl
@@ -194,7 +223,8 @@ module _ (first : TreeState) (history : List Entry) (cut : Cut) (logs : Logs) (l
     is_log : (log : DirectoryChanges) → IsOneOf gathered log → IsLogOf first history every_entry log
     is_log log one = record { keeps = keeps_stamp log.dir.0; counted = λ stamp is. refl; changes = log_is log one }
 
-    found : (change : Change) → IsOneOf logged change → cut_of cut change.dir.0 ≤ change.stamp.0 → (log : DirectoryChanges) × IsOneOf gathered log × IsOneOf log.changes.items change
+    found : (change : Change) → IsOneOf logged change → cut_of cut change.dir.0 ≤ change.stamp.0
+        → (log : DirectoryChanges) × IsOneOf gathered log × IsOneOf log.changes.items change
     found change one unflushed =
         let directory = change.dir.0 in
         let core = core_at first history change.stamp.0 in
@@ -202,23 +232,29 @@ module _ (first : TreeState) (history : List Entry) (cut : Cut) (logs : Logs) (l
         let within : core < length logs.parts = core_within first history change.stamp.0 keeps.cores less in
         let mark = keeps.marks core directory within in
         let asks : keeps_stamp directory change.stamp.0 ≡ true = grind (arith, nat_tests, mark, unflushed) in
-        let kept : IsOneOf (kept_of directory) change = to_filter (λ c. keeps_stamp directory c.stamp.0) (filter (is_logged_in directory) logged) change (to_filter (is_logged_in directory) logged change one (same_number directory)) asks in
+        let kept : IsOneOf (kept_of directory) change =
+        to_filter (λ c. keeps_stamp directory c.stamp.0) (filter (is_logged_in directory) logged) change
+        (to_filter (is_logged_in directory) logged change one (same_number directory)) asks in
         let some : IsOneOf (changes_kept (part_of logs core) directory) change = in_part core directory change less kept refl in
         let listed : contains nat_cmp logs.directories directory ≡ true = elim (keeps.listed core directory within) [
           | inl none ↦ absurd (subst (λ l. IsOneOf l change) none some)
           | inr there ↦ there
         ] in
-        let log = from_map log_directory gathered directory (subst (λ l. IsOneOf l directory) (sym are.directories) (has_one logs.directories directory listed)) in
+        let log =
+        from_map log_directory gathered directory (subst (λ l. IsOneOf l directory) (sym are.directories) (has_one logs.directories directory listed)) in
         (log.0, log.1, subst (λ l. IsOneOf l change) (sym (log_is log.0 log.1 ∙ ap kept_of log.2)) kept)
       where
-        in_part : (core directory : ℕ) (c : Change) → c.stamp.0 < length history → IsOneOf (kept_of directory) c → core_at first history c.stamp.0 ≡ core → IsOneOf (changes_kept (part_of logs core) directory) c
+        in_part : (core directory : ℕ) (c : Change) → c.stamp.0 < length history → IsOneOf (kept_of directory) c → core_at first history c.stamp.0 ≡ core
+            → IsOneOf (changes_kept (part_of logs core) directory) c
         in_part core directory c less kept is =
             let place = log_place c in
             let at : c.stamp.0 ≡ stamp_of place = stamped_so place c (same_number place) in
             let own : core_at first history (stamp_of place) ≡ core = ap (core_at first history) (sym at) ∙ is in
             let here = to_filter (stands_at place) (kept_of directory) c kept (same_number place) in
             let within : core < length logs.parts = subst (λ k. k < length logs.parts) is (core_within first history c.stamp.0 keeps.cores less) in
-            let same = of_one_core core directory place within ∙ ap (λ b. cond b (here_kept directory place) []) (eq-eqb (core_at first history (stamp_of place)) core own) in
+            let same =
+            of_one_core core directory place within
+            ∙ ap (λ b. cond b (here_kept directory place) []) (eq-eqb (core_at first history (stamp_of place)) core own) in
             let some = in_filter (stands_at place) (part_changes directory (length history) (part_of logs core)) c (subst (λ l. IsOneOf l c) (sym same) here) in
             (in_filter (is_under (length history)) (changes_kept (part_of logs core) directory) c some.0).0
 
@@ -229,7 +265,10 @@ module _ (first : TreeState) (history : List Entry) (cut : Cut) (logs : Logs) (l
       ascending = are.ascending;
       own_logs = all_of IsOwnLog gathered (λ log one. record {
         own = all_of (λ change. change.dir.0 ≡ log.dir.0) log.changes.items (λ change in_log.
-            eqb-true change.dir.0 log.dir.0 (in_filter (is_logged_in log.dir.0) logged change (in_filter (λ c. keeps_stamp log.dir.0 c.stamp.0) (filter (is_logged_in log.dir.0) logged) change (subst (λ l. IsOneOf l change) (log_is log one) in_log)).0).1);
+            eqb-true change.dir.0 log.dir.0
+            (in_filter (is_logged_in log.dir.0) logged change
+            (in_filter (λ c. keeps_stamp log.dir.0 c.stamp.0) (filter (is_logged_in log.dir.0) logged) change
+            (subst (λ l. IsOneOf l change) (log_is log one) in_log)).0).1);
         in_order = (one_of_all (λ l. IsMergeOf (parts_changes l.dir.0 (length history) logs.parts) l.changes.items) gathered log are.merged one).in_order;
       });
     }

@@ -28,10 +28,13 @@ pub one_in_order : (change : Change) → IsInOrder (change ∷ [])
 one_in_order change = in_order-push [] change nothing_in_order (λ k d within. absurd (omega (arith, within)))
 
 two_in_order : (one other : Change) → log_place one ≤ log_place other → IsInOrder (one ∷ other ∷ [])
-two_in_order one other le = in_order-push (one ∷ []) other (one_in_order one) (All-from_recursion (λ (c : Change). log_place c ≤ log_place other) (one ∷ []) (le, tt))
+two_in_order one other le =
+    in_order-push (one ∷ []) other (one_in_order one) (All-from_recursion (λ (c : Change). log_place c ≤ log_place other) (one ∷ []) (le, tt))
 
 three_in_order : (one other third : Change) → log_place one ≤ log_place other → log_place other ≤ log_place third → IsInOrder (one ∷ other ∷ third ∷ [])
-three_in_order one other third le next = in_order-push (one ∷ other ∷ []) third (two_in_order one other le) (All-from_recursion (λ (c : Change). log_place c ≤ log_place third) (one ∷ other ∷ []) (omega (arith, le, next), (next, tt)))
+three_in_order one other third le next =
+    in_order-push (one ∷ other ∷ []) third (two_in_order one other le)
+    (All-from_recursion (λ (c : Change). log_place c ≤ log_place third) (one ∷ other ∷ []) (omega (arith, le, next), (next, tt)))
 
 -- what an entry logs stands in order
 pub logged_in_order : (tree : TreeState) (core stamp : ℕ) (effect : Effect) (makes : Option Kind) → IsInOrder (logged_by tree core stamp effect makes)
@@ -77,10 +80,12 @@ in_order-cons change rest order first = record { rises = rises }
     rises (suc i) (suc j) d le within = order.rises i j d (omega arith) (omega arith)
 
 -- later changes behind those in order
-in_order-append : (own rest : List Change) → IsInOrder own → IsInOrder rest → ((change other : Change) → IsOneOf own change → IsOneOf rest other → change.stamp.0 < other.stamp.0) → IsInOrder (own ++ rest)
+in_order-append : (own rest : List Change) → IsInOrder own → IsInOrder rest
+    → ((change other : Change) → IsOneOf own change → IsOneOf rest other → change.stamp.0 < other.stamp.0) → IsInOrder (own ++ rest)
 in_order-append [] rest order later before = later
 in_order-append (change ∷ own) rest order later before =
-    in_order-cons change (own ++ rest) (in_order-append own rest (in_order-drop 1 (change ∷ own) order) later (λ one other in_own. before one other (inr in_own)))
+    in_order-cons change (own ++ rest)
+    (in_order-append own rest (in_order-drop 1 (change ∷ own) order) later (λ one other in_own. before one other (inr in_own)))
     (all_of (λ other. log_place change ≤ log_place other) (own ++ rest) (λ other one. elim (in_either own rest other one) [
       | inl here ↦ one_of_all (λ o. log_place change ≤ log_place o) own other (λ k d within. order.rises 0 (suc k) d (omega arith) (omega arith)) here
       | inr there ↦ sooner change other (before change other (inl refl) there)
@@ -90,24 +95,32 @@ in_order-append (change ∷ own) rest order later before =
 pub history_in_order : (first : TreeState) (history : List Entry) (stamp : ℕ) → IsLegalFrom first stamp history → IsInOrder (logged_of first history)
 history_in_order first [] stamp legal = nothing_in_order
 history_in_order first (entry ∷ history) stamp legal =
-    in_order-append (logged_in_tree first entry) (logged_of (tree_after_entry first entry) history) (logged_in_order first entry.core.0 entry.stamp.0 _ _) (history_in_order (tree_after_entry first entry) history (suc stamp) legal.1)
-    (λ change other here there. let own = logged_stamp first entry.core.0 entry.stamp.0 _ _ change here in let later = logged_later (tree_after_entry first entry) history (suc stamp) legal.1 other there in let at = legal.0.stamped in omega arith)
+    in_order-append (logged_in_tree first entry) (logged_of (tree_after_entry first entry) history) (logged_in_order first entry.core.0 entry.stamp.0 _ _)
+    (history_in_order (tree_after_entry first entry) history (suc stamp) legal.1)
+    (λ change other here there. let own = logged_stamp first entry.core.0 entry.stamp.0 _ _ change here in
+    let later = logged_later (tree_after_entry first entry) history (suc stamp) legal.1 other there in let at = legal.0.stamped in omega arith)
 
 -- what it logs has a stamp below its end
-pub logged_below : (first : TreeState) (history : List Entry) (stamp : ℕ) → IsLegalFrom first stamp history → (change : Change) → IsOneOf (logged_of first history) change → change.stamp.0 < stamp + length history
+pub logged_below : (first : TreeState) (history : List Entry) (stamp : ℕ) → IsLegalFrom first stamp history → (change : Change)
+    → IsOneOf (logged_of first history) change → change.stamp.0 < stamp + length history
 logged_below first [] stamp legal change one = absurd one
-logged_below first (entry ∷ history) stamp legal change one = elim (in_either (logged_in_tree first entry) (logged_of (tree_after_entry first entry) history) change one) [
-  | inl here ↦ let same = logged_stamp first entry.core.0 entry.stamp.0 _ _ change here in let at = legal.0.stamped in omega arith
-  | inr later ↦ let less = logged_below (tree_after_entry first entry) history (suc stamp) legal.1 change later in omega arith
-]
+logged_below first (entry ∷ history) stamp legal change one =
+    elim (in_either (logged_in_tree first entry) (logged_of (tree_after_entry first entry) history) change one) [
+      | inl here ↦ let same = logged_stamp first entry.core.0 entry.stamp.0 _ _ change here in let at = legal.0.stamped in omega arith
+      | inr later ↦ let less = logged_below (tree_after_entry first entry) history (suc stamp) legal.1 change later in omega arith
+    ]
 
 -- what one core logs of a history the history logs
-pub of_history : (core : ℕ) (first : TreeState) (history : List Entry) (change : Change) → IsOneOf (logged_of_core core first history) change → IsOneOf (logged_of first history) change
+pub of_history : (core : ℕ) (first : TreeState) (history : List Entry) (change : Change) → IsOneOf (logged_of_core core first history) change
+    → IsOneOf (logged_of first history) change
 of_history core first [] change one = one
-of_history core first (entry ∷ history) change one = elim (in_either (cond (is_entry_of core entry) (logged_in_tree first entry) []) (logged_of_core core (tree_after_entry first entry) history) change one) [
-  | inl here ↦ in_left (logged_in_tree first entry) (logged_of (tree_after_entry first entry) history) change (own (is_entry_of core entry) here)
-  | inr later ↦ in_right (logged_in_tree first entry) (logged_of (tree_after_entry first entry) history) change (of_history core (tree_after_entry first entry) history change later)
-]
+of_history core first (entry ∷ history) change one =
+    elim (in_either (cond (is_entry_of core entry) (logged_in_tree first entry) []) (logged_of_core core (tree_after_entry first entry) history) change one) [
+      | inl here ↦ in_left (logged_in_tree first entry) (logged_of (tree_after_entry first entry) history) change (own (is_entry_of core entry) here)
+      | inr later ↦
+          in_right (logged_in_tree first entry) (logged_of (tree_after_entry first entry) history) change
+          (of_history core (tree_after_entry first entry) history change later)
+    ]
   where
     own : (b : Bool) → IsOneOf (cond b (logged_in_tree first entry) []) change → IsOneOf (logged_in_tree first entry) change
     own true here = here
@@ -115,7 +128,8 @@ of_history core first (entry ∷ history) change one = elim (in_either (cond (is
 
 -- what one core logs of a longer history
 pub logged_push : (core : ℕ) (first : TreeState) (history : List Entry) (entry : Entry)
-    → logged_of_core core first (history ++ entry ∷ []) ≡ logged_of_core core first history ++ cond (is_entry_of core entry) (logged_in_tree (tree_after first history) entry) []
+    → logged_of_core core first (history ++ entry ∷ [])
+    ≡ logged_of_core core first history ++ cond (is_entry_of core entry) (logged_in_tree (tree_after first history) entry) []
 logged_push core first [] entry = append-nil (cond (is_entry_of core entry) (logged_in_tree first entry) [])
 logged_push core first (next ∷ history) entry =
     let own : List Change = cond (is_entry_of core next) (logged_in_tree first next) [] in
@@ -124,7 +138,8 @@ logged_push core first (next ∷ history) entry =
     ∙ sym (append_assoc own (logged_of_core core next_tree history) (cond (is_entry_of core entry) (logged_in_tree (tree_after next_tree history) entry) []))
 
 -- of the changes that pass a test which only those of one stamp do, one core logs all or none: it is that of the stamp's entry, or not
-pub one_cores : (core : ℕ) (test : Change → Bool) (first : TreeState) (history : List Entry) (stamp t : ℕ) → IsLegalFrom first stamp history → ((change : Change) → test change ≡ true → change.stamp.0 ≡ stamp + t)
+pub one_cores : (core : ℕ) (test : Change → Bool) (first : TreeState) (history : List Entry) (stamp t : ℕ) → IsLegalFrom first stamp history
+    → ((change : Change) → test change ≡ true → change.stamp.0 ≡ stamp + t)
     → filter test (logged_of_core core first history) ≡ cond (nat_eq (core_at first history t) core) (filter test (logged_of first history)) []
 one_cores core test first [] stamp t legal asks = nothing (nat_eq 0 core)
   where
@@ -135,12 +150,17 @@ one_cores core test first (entry ∷ history) stamp zero legal asks =
     let own = logged_in_tree first entry in
     let rest = logged_of (tree_after_entry first entry) history in
     let core_rest = logged_of_core core (tree_after_entry first entry) history in
-    let none_later : (l : List Change) → ((change : Change) → IsOneOf l change → IsOneOf rest change) → filter test l ≡ [] = λ l within. filter_none test l (λ change one. refused change (let later = logged_later (tree_after_entry first entry) history (suc stamp) legal.1 change (within change one) in omega arith)) in
+    let none_later : (l : List Change) → ((change : Change) → IsOneOf l change → IsOneOf rest change) → filter test l ≡ [] =
+    λ l within. filter_none test l
+    (λ change one. refused change
+    (let later = logged_later (tree_after_entry first entry) history (suc stamp) legal.1 change (within change one) in omega arith)) in
     filter-append test (cond (is_entry_of core entry) own []) core_rest
-    ∙ ap (λ l. filter test (cond (is_entry_of core entry) own []) ++ l) (none_later core_rest (λ change one. of_history core (tree_after_entry first entry) history change one))
+    ∙ ap (λ l. filter test (cond (is_entry_of core entry) own []) ++ l)
+    (none_later core_rest (λ change one. of_history core (tree_after_entry first entry) history change one))
     ∙ append-nil (filter test (cond (is_entry_of core entry) own []))
     ∙ cond_in (is_entry_of core entry) own
-    ∙ ap (λ l. cond (is_entry_of core entry) l []) (sym (filter-append test own rest ∙ ap (λ l. filter test own ++ l) (none_later rest (λ change one. one)) ∙ append-nil (filter test own)))
+    ∙ ap (λ l. cond (is_entry_of core entry) l [])
+    (sym (filter-append test own rest ∙ ap (λ l. filter test own ++ l) (none_later rest (λ change one. one)) ∙ append-nil (filter test own)))
   where
     refused : (change : Change) → stamp + 0 < change.stamp.0 → test change ≡ false
     refused change less = by (test change) refl
@@ -156,11 +176,13 @@ one_cores core test first (entry ∷ history) stamp (suc t) legal asks =
     let own = logged_in_tree first entry in
     let rest = logged_of (tree_after_entry first entry) history in
     let core_rest = logged_of_core core (tree_after_entry first entry) history in
-    let none : filter test own ≡ [] = filter_none test own (λ change one. refused change (logged_stamp first entry.core.0 entry.stamp.0 _ _ change one ∙ legal.0.stamped)) in
+    let none : filter test own ≡ [] =
+    filter_none test own (λ change one. refused change (logged_stamp first entry.core.0 entry.stamp.0 _ _ change one ∙ legal.0.stamped)) in
     filter-append test (cond (is_entry_of core entry) own []) core_rest
     ∙ ap (λ l. l ++ filter test core_rest) (cond_none (is_entry_of core entry) own none)
     ∙ one_cores core test (tree_after_entry first entry) history (suc stamp) t legal.1 (λ change is. asks change is ∙ later)
-    ∙ ap (λ l. cond (nat_eq (core_at (tree_after_entry first entry) history t) core) l []) (sym (filter-append test own rest ∙ ap (λ l. l ++ filter test rest) none))
+    ∙ ap (λ l. cond (nat_eq (core_at (tree_after_entry first entry) history t) core) l [])
+    (sym (filter-append test own rest ∙ ap (λ l. l ++ filter test rest) none))
   where
     later : stamp + suc t ≡ suc stamp + t
     later = omega arith

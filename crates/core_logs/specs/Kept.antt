@@ -35,4 +35,5 @@ pub record KeepsUnflushed (first : TreeState) (history : List Entry) (cut : Cut)
   pub cores : All (λ entry. entry.core.0 < length logs.parts) history
   pub left : (core : ℕ) → core < length logs.parts → IsLeftOf (logged_of_core core first history) (count_by (is_entry_of core) history) (part_of logs core)
   pub marks : (core directory : ℕ) → core < length logs.parts → mark_kept (part_of logs core) directory ≤ cut_of cut directory
-  pub listed : (core directory : ℕ) → core < length logs.parts → (changes_kept (part_of logs core) directory ≡ []) ⊎ (contains nat_cmp logs.directories directory ≡ true)
+  pub listed : (core directory : ℕ) → core < length logs.parts
+      → (changes_kept (part_of logs core) directory ≡ []) ⊎ (contains nat_cmp logs.directories directory ≡ true)

@@ -23,18 +23,24 @@ BlankLogsKeep = (first : TreeState) (cut : Cut) (cores : ℕ) (logs : Logs) → 
 
 -- Room that was made changes nothing of it.
 abbrev pub RoomKeeps : Type 0
-RoomKeeps = (first : TreeState) (history : List Entry) (cut : Cut) (logs after : Logs) → AreSameChanges logs after → KeepsUnflushed first history cut logs → KeepsUnflushed first history cut after
+RoomKeeps =
+    (first : TreeState) (history : List Entry) (cut : Cut) (logs after : Logs) → AreSameChanges logs after → KeepsUnflushed first history cut logs
+    → KeepsUnflushed first history cut after
 
 -- Where no cut is above a legal history, the changes of its next entry may be added once there is room, and then the logs keep what is not
 -- flushed of the longer one.
 abbrev pub EntriesMayBeAdded : Type 0
-EntriesMayBeAdded = (first : TreeState) (history : List Entry) (entry : Entry) (cut : Cut) (logs : Logs) → IsLegal first history → MayCome (tree_after first history) (length history) entry
+EntriesMayBeAdded =
+    (first : TreeState) (history : List Entry) (entry : Entry) (cut : Cut) (logs : Logs) → IsLegal first history
+    → MayCome (tree_after first history) (length history) entry
     → length history < 2 ^ 64 - 1 → entry.core.0 < length logs.parts
     → KeepsUnflushed first history cut logs → HasRoom logs entry.core.0 (logged_in_tree (tree_after first history) entry)
     → MayAdd logs entry.core.0 (logged_in_tree (tree_after first history) entry)
 
 abbrev pub EntriesKeep : Type 0
-EntriesKeep = (first : TreeState) (history : List Entry) (entry : Entry) (cut : Cut) (logs after : Logs) → IsLegal first history → MayCome (tree_after first history) (length history) entry
+EntriesKeep =
+    (first : TreeState) (history : List Entry) (entry : Entry) (cut : Cut) (logs after : Logs) → IsLegal first history
+    → MayCome (tree_after first history) (length history) entry
     → ((node : ℕ) → cut_of cut node ≤ length history)
     → entry.core.0 < length logs.parts → HasRoom logs entry.core.0 (logged_in_tree (tree_after first history) entry)
     → AreWithEntry logs entry.core.0 (logged_in_tree (tree_after first history) entry) after
@@ -51,7 +57,8 @@ TrimsKeepUnflushed = (first : TreeState) (history : List Entry) (cut raised : Cu
 -- they stand in order.
 pub record GathersUnflushed (first : TreeState) (history : List Entry) (cut : Cut) (gathered : List DirectoryChanges) : Type 0 where
   pub logs : (log : DirectoryChanges) → IsOneOf gathered log → IsLogOf first history every_entry log
-  pub changes : (change : Change) → IsOneOf (logged_of first history) change → cut_of cut change.dir.0 ≤ change.stamp.0 → (log : DirectoryChanges) × IsOneOf gathered log × IsOneOf log.changes.items change
+  pub changes : (change : Change) → IsOneOf (logged_of first history) change → cut_of cut change.dir.0 ≤ change.stamp.0
+      → (log : DirectoryChanges) × IsOneOf gathered log × IsOneOf log.changes.items change
   pub ascending : IsStrictlyIncreasing (map log_directory gathered)
   pub own_logs : All IsOwnLog gathered
 

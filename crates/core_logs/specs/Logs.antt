@@ -93,5 +93,6 @@ pub record IsTrimmedPart (part : CoreLog) (directories : List ℕ) (below : ℕ)
 pub record AreTrimmedOf (logs : Logs) (directories : List ℕ) (below : ℕ) (after : Logs) : Type 0 where
   pub count : length after.parts ≡ length logs.parts
   pub parts : (core : ℕ) → IsTrimmedPart (part_of logs core) directories below (part_of after core)
-  pub listed : (directory : ℕ) → is_listed directories directory ≡ false → contains nat_cmp after.directories directory ≡ contains nat_cmp logs.directories directory
+  pub listed : (directory : ℕ) → is_listed directories directory ≡ false
+      → contains nat_cmp after.directories directory ≡ contains nat_cmp logs.directories directory
   pub ended : (directory : ℕ) → is_listed directories directory ≡ true → contains nat_cmp after.directories directory ≡ false

@@ -63,7 +63,8 @@ module _ {share from : ℕ} {first : TreeState} {history : List Entry} {entry : 
   read_longer : (image : List ℕ) → IsReadAsTree image share (tree_at_cut first history raised) → IsReadAsTree image share (tree_at_cut first longer raised)
   read_longer = read_on last (listed 0).each flushed share
 
-  stay : (k : ℕ) (image : List ℕ) → ((other : Flush) (ack : ℕ) → IsAcknowledged (entry ∷ []) other ack → ack ≤ k → ⊥) → IsAtACut share first history k image → IsAtACut share first longer k image
+  stay : (k : ℕ) (image : List ℕ) → ((other : Flush) (ack : ℕ) → IsAcknowledged (entry ∷ []) other ack → ack ≤ k → ⊥) → IsAtACut share first history k image
+      → IsAtACut share first longer k image
   stay k image none = at_cut_on last share k image none
 
   -- an image of the commit is at the raised cut, or at the one before

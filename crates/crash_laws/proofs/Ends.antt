@@ -22,12 +22,14 @@ use Rattle.crash_laws.proofs.Numbers.{le_trans}
 use Rattle.crash_laws.proofs.Splits.{ascend, list_splits}
 
 -- what is listed at a moment is so at each earlier one
-order_earlier : (history : List Entry) (moment later : ℕ) (flushes : List Flush) → moment ≤ later → AreInOrder history later flushes → AreInOrder history moment flushes
+order_earlier : (history : List Entry) (moment later : ℕ) (flushes : List Flush) → moment ≤ later → AreInOrder history later flushes
+    → AreInOrder history moment flushes
 order_earlier history moment later [] le order = tt
 order_earlier history moment later (flush ∷ flushes) le order =
     (λ other ack one acked by. order.0 other ack one acked (le_trans by le), order_earlier history moment later flushes le order.1)
 
-listed_earlier : (history : List Entry) (moment later : ℕ) (flushes : List Flush) → moment ≤ later → AreListed history later flushes → AreListed history moment flushes
+listed_earlier : (history : List Entry) (moment later : ℕ) (flushes : List Flush) → moment ≤ later → AreListed history later flushes
+    → AreListed history moment flushes
 listed_earlier history moment later flushes le are = record {
   each = are.each;
   acked = λ flush ack acked by. are.acked flush ack acked (le_trans by le);
@@ -36,7 +38,8 @@ listed_earlier history moment later flushes le are = record {
 }
 
 -- an image at a cut is safe
-safe : (share : ℕ) (first : TreeState) (history : List Entry) (moment : ℕ) (image : List ℕ) → IsSoundTree first → IsLegal first history → IsAtACut share first history moment image → IsSafeImage share first history moment image
+safe : (share : ℕ) (first : TreeState) (history : List Entry) (moment : ℕ) (image : List ℕ) → IsSoundTree first → IsLegal first history
+    → IsAtACut share first history moment image → IsSafeImage share first history moment image
 safe share first history moment image is legal at = record {
   flushes = at.flushes;
   cut = at.cut;
@@ -88,7 +91,12 @@ runs_read_back disk share first history flushes cut inodes is legal (inl stands)
   flushes = flushes;
   cut = cut;
   inodes = inodes;
-  exactly = λ flush. (λ one. let by = stands.each_acked flush one in (by.0, by.1), λ acked. listed.acked flush acked.0 acked.1 (stands.acked_by_now flush acked.0 acked.1));
+  exactly =
+      λ flush. (
+        λ one. let by = stands.each_acked flush one in
+            (by.0, by.1),
+        λ acked. listed.acked flush acked.0 acked.1 (stands.acked_by_now flush acked.0 acked.1),
+      );
   ascending = ascend first history legal disk.now flushes listed.order stands.each_acked;
   once = listed.once;
   raised = stands.flushed;

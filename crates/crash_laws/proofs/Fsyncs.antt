@@ -23,7 +23,8 @@ use Rattle.flush_core.proofs.Prefix.{legal_take}
 use Rattle.crash_laws.specs.Listed.{IsFsyncOf, MayBeWritten, IsListedFsync}
 
 -- a call that is answered so and is an fsync is one of a live node
-answered_live : (tree : TreeState) (core : ℕ) (c : Call) (node : NodeId) (given : Reply) → c ≡ call.Fsync node → IsDue (flushes tree c) (verdict tree core c).reply given → MayBeWritten given → is_alive tree node.0 ≡ true
+answered_live : (tree : TreeState) (core : ℕ) (c : Call) (node : NodeId) (given : Reply) → c ≡ call.Fsync node
+    → IsDue (flushes tree c) (verdict tree core c).reply given → MayBeWritten given → is_alive tree node.0 ≡ true
 answered_live tree core c node given asked due may =
     by_life (is_alive tree node.0) (subst (λ (c : Call). IsDue (flushes tree c) (verdict tree core c).reply given) asked due)
   where
@@ -36,7 +37,8 @@ module _ (first : TreeState) (history : List Entry) (legal : IsLegal first histo
   listed_live flush is =
       let may = (entries_may_come first history is.entry legal is.among).may in
       subst (HasLiveNode first history) (sym is.fsync.own)
-      (answered_live (tree_after first (take is.entry.stamp.0 history)) is.entry.core.0 is.entry.call is.fsync.node is.entry.reply is.fsync.asked may.due is.answered)
+      (answered_live
+      (tree_after first (take is.entry.stamp.0 history)) is.entry.core.0 is.entry.call is.fsync.node is.entry.reply is.fsync.asked may.due is.answered)
 
   pub listed_within : (flush : Flush) → IsListedFsync history flush → flush.stamp < length history
   listed_within flush is =
@@ -89,7 +91,8 @@ module _ (history : List Entry) (entry : Entry) where
   }
 
   -- what was acknowledged was so before, or by the last entry
-  pub acknowledged_in : (flush : Flush) (ack : ℕ) → IsAcknowledged (history ++ entry ∷ []) flush ack → IsAcknowledged history flush ack ⊎ IsAcknowledged (entry ∷ []) flush ack
+  pub acknowledged_in : (flush : Flush) (ack : ℕ) → IsAcknowledged (history ++ entry ∷ []) flush ack
+      → IsAcknowledged history flush ack ⊎ IsAcknowledged (entry ∷ []) flush ack
   acknowledged_in flush ack is = elim (in_either history (entry ∷ []) is.entry is.among) [
     | inl before ↦ inl (record {
       entry = is.entry;
@@ -126,14 +129,16 @@ module _ (entry : Entry) (flush : Flush) (ack : ℕ) (is : IsAcknowledged (entry
   pub own_flush : (other : Flush) → IsFsyncOf entry other → other ≡ flush
   own_flush other fsync =
       fsync.own
-      ∙ ap (λ (node : ℕ). record { node = node; stamp = entry.stamp.0 }) (node_same fsync.node is.node (sym fsync.asked ∙ ap (λ (e : Entry). e.call) own_entry ∙ is.asked))
+      ∙ ap (λ (node : ℕ). record { node = node; stamp = entry.stamp.0 })
+      (node_same fsync.node is.node (sym fsync.asked ∙ ap (λ (e : Entry). e.call) own_entry ∙ is.asked))
       ∙ ap (λ (stamp : ℕ). record { node = is.node.0; stamp = stamp }) (ap (λ (e : Entry). e.stamp.0) own_entry)
       ∙ sym is.own
     where
       node_same : (node other : NodeId) → call.Fsync node ≡ call.Fsync other → node.0 ≡ other.0
       node_same node other same = cc
 
-legal_last_from : (first : TreeState) (stamp : ℕ) (history : List Entry) (entry : Entry) → IsLegalFrom first stamp (history ++ entry ∷ []) → MayCome (tree_after first history) (stamp + length history) entry
+legal_last_from : (first : TreeState) (stamp : ℕ) (history : List Entry) (entry : Entry) → IsLegalFrom first stamp (history ++ entry ∷ [])
+    → MayCome (tree_after first history) (stamp + length history) entry
 legal_last_from first stamp [] entry legal = rw (plus_zero stamp) legal.0
 legal_last_from first stamp (next ∷ history) entry legal =
     rw (suc_plus stamp (length history)) at (legal_last_from (tree_after_entry first next) (suc stamp) history entry legal.1)

@@ -36,7 +36,8 @@ module _ {first : TreeState} {history : List Entry} {entry : Entry} (last : HasL
       let e = length-append history (entry ∷ []) in
       omega arith
 
-  module _ {flushes : List Flush} {cut : Cut} {inodes : ℕ → Bool} (each : (flush : Flush) → IsOneOf flushes flush → IsListedFsync longer flush) (flushed : AreFlushed first history every_entry flushes cut inodes) where
+  module _ {flushes : List Flush} {cut : Cut} {inodes : ℕ → Bool} (each : (flush : Flush) → IsOneOf flushes flush → IsListedFsync longer flush)
+      (flushed : AreFlushed first history every_entry flushes cut inodes) where
     -- they have raised the same
     pub flushed_on : AreFlushed first longer every_entry flushes cut inodes
     flushed_on =
@@ -53,11 +54,13 @@ module _ {first : TreeState} {history : List Entry} {entry : Entry} (last : HasL
         (cut_trees_grow first longer (length history) cut last.sound last.legal
         (cuts_stay_low first history every_entry (length history) flushed (none_above (length history)) (λ flush one. listed_low flush (each flush one)))))
 
-    pub read_on : (share : ℕ) (image : List ℕ) → IsReadAsTree image share (tree_at_cut first history cut) → IsReadAsTree image share (tree_at_cut first longer cut)
+    pub read_on : (share : ℕ) (image : List ℕ) → IsReadAsTree image share (tree_at_cut first history cut)
+        → IsReadAsTree image share (tree_at_cut first longer cut)
     read_on share image = read_as image share (tree_at_cut first history cut) (tree_at_cut first longer cut) shape_on
 
   -- where the entry is not acknowledged by a moment, an image stays at its cut
-  pub at_cut_on : (share moment : ℕ) (image : List ℕ) → ((flush : Flush) (ack : ℕ) → IsAcknowledged (entry ∷ []) flush ack → ack ≤ moment → ⊥) → IsAtACut share first history moment image → IsAtACut share first longer moment image
+  pub at_cut_on : (share moment : ℕ) (image : List ℕ) → ((flush : Flush) (ack : ℕ) → IsAcknowledged (entry ∷ []) flush ack → ack ≤ moment → ⊥)
+      → IsAtACut share first history moment image → IsAtACut share first longer moment image
   at_cut_on share moment image none at =
       let listed = listed_on history entry moment none at.flushes at.listed in
       record {

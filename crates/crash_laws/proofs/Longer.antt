@@ -33,7 +33,8 @@ module _ (history : List Entry) (entry : Entry) (moment : ℕ) (none : (flush : 
   }
 
 -- an entry that is an fsync, and may be written, is listed behind those before it
-module _ {first : TreeState} {history : List Entry} {entry : Entry} {own : Flush} (last : HasLast first history entry) (fsync : IsFsyncOf entry own) (answered : MayBeWritten entry.reply) where
+module _ {first : TreeState} {history : List Entry} {entry : Entry} {own : Flush} (last : HasLast first history entry) (fsync : IsFsyncOf entry own)
+    (answered : MayBeWritten entry.reply) where
   abbrev longer : List Entry
   longer = history ++ entry ∷ []
 
@@ -58,7 +59,8 @@ module _ {first : TreeState} {history : List Entry} {entry : Entry} {own : Flush
   AreAckedBefore flushes = (ack : ℕ) → IsAcknowledged (entry ∷ []) own ack → (flush : Flush) → IsOneOf flushes flush → IsAcknowledgedBy history ack flush
 
   -- its stamp is none of theirs
-  differ_more : (flushes : List Flush) → ((flush : Flush) → IsOneOf flushes flush → IsListedFsync history flush) → StampsDiffer flushes → StampsDiffer (flushes ++ own ∷ [])
+  differ_more : (flushes : List Flush) → ((flush : Flush) → IsOneOf flushes flush → IsListedFsync history flush) → StampsDiffer flushes
+      → StampsDiffer (flushes ++ own ∷ [])
   differ_more [] each once = (λ other one. absurd one, tt)
   differ_more (flush ∷ flushes) each once = (
     λ other one. elim (in_either flushes (own ∷ []) other one) [
@@ -72,9 +74,11 @@ module _ {first : TreeState} {history : List Entry} {entry : Entry} {own : Flush
   )
 
   module _ (moment : ℕ) where
-    order_more : (flushes : List Flush) → ((flush : Flush) → IsOneOf flushes flush → IsListedFsync history flush) → AreAckedBefore flushes → AreInOrder history moment flushes → AreInOrder longer moment (flushes ++ own ∷ [])
+    order_more : (flushes : List Flush) → ((flush : Flush) → IsOneOf flushes flush → IsListedFsync history flush) → AreAckedBefore flushes
+        → AreInOrder history moment flushes → AreInOrder longer moment (flushes ++ own ∷ [])
     order_more [] each acked order = (λ later ack one. absurd one, tt)
-    order_more (flush ∷ flushes) each acked order = (head, order_more flushes (λ other one. each other (inr one)) (λ ack mine other one. acked ack mine other (inr one)) order.1)
+    order_more (flush ∷ flushes) each acked order =
+        (head, order_more flushes (λ other one. each other (inr one)) (λ ack mine other one. acked ack mine other (inr one)) order.1)
       where
         old : (later : Flush) (ack : ℕ) → IsOneOf flushes later → IsAcknowledged longer later ack → ack ≤ moment → IsAcknowledgedBy longer ack flush
         old later ack one is le = elim (acknowledged_in history entry later ack is) [
@@ -88,7 +92,8 @@ module _ {first : TreeState} {history : List Entry} {entry : Entry} {own : Flush
           | inr mine ↦ let by = acked ack (rw same mine) flush (inl refl) in (by.0, acknowledged_still history entry flush by.0 by.1, by.2)
         ]
 
-        head : (later : Flush) (ack : ℕ) → IsOneOf (flushes ++ own ∷ []) later → IsAcknowledged longer later ack → ack ≤ moment → IsAcknowledgedBy longer ack flush
+        head : (later : Flush) (ack : ℕ) → IsOneOf (flushes ++ own ∷ []) later → IsAcknowledged longer later ack → ack ≤ moment
+            → IsAcknowledgedBy longer ack flush
         head later ack one is le = elim (in_either flushes (own ∷ []) later one) [
           | inl before ↦ old later ack before is le
           | inr behind ↦ elim behind [ inl same ↦ new later ack same is | inr none ↦ absurd none ]

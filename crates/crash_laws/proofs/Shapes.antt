@@ -26,7 +26,8 @@ module _ (tree more : TreeState) (is : IsSound tree) (has : HasMoreNodes tree mo
   met_node node root = directory_node tree 0 is.root
   met_node node (named directory name child row) = is.node directory name child row
 
-  rows_same : (directory number : ℕ) → itself directory ≡ Some number → (name : List ℕ) → row_of more number name ≡ option_and_then itself (row_of tree directory name)
+  rows_same : (directory number : ℕ) → itself directory ≡ Some number → (name : List ℕ)
+      → row_of more number name ≡ option_and_then itself (row_of tree directory name)
   rows_same directory number same name =
       ap (λ rows. get rows (number, name)) has.rows
       ∙ ap (λ (d : ℕ). get tree.rows (d, name)) (sym (some_same same))
@@ -47,7 +48,8 @@ module _ (tree more : TreeState) (is : IsSound tree) (has : HasMoreNodes tree mo
   shape_of_more = (renamed_trees_have_one_shape itself tree more is same_numbers).1
 
 -- what is read as a tree is read as each of its shape
-pub read_as : (image : List ℕ) (share : ℕ) (tree other : TreeState) → shape_of other ≡ shape_of tree → IsReadAsTree image share tree → IsReadAsTree image share other
+pub read_as : (image : List ℕ) (share : ℕ) (tree other : TreeState) → shape_of other ≡ shape_of tree → IsReadAsTree image share tree
+    → IsReadAsTree image share other
 read_as image share tree other same is = record {
   faultless = is.faultless;
   shown = is.shown;

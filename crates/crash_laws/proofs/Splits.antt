@@ -22,23 +22,28 @@ ok_of _ is = no_true is
 
 module _ (first : TreeState) (history : List Entry) (legal : IsLegal first history) where
   -- the moment of a listed fsync is that of its entry
-  entry_moment : (flush : Flush) (is : IsListedFsync history flush) (ack : ℕ) → IsAcknowledged history flush ack → (is.entry.reply ≡ reply.Ok) × (is.entry.ack ≡ Some ack)
+  entry_moment : (flush : Flush) (is : IsListedFsync history flush) (ack : ℕ) → IsAcknowledged history flush ack
+      → (is.entry.reply ≡ reply.Ok) × (is.entry.ack ≡ Some ack)
   entry_moment flush is ack acked =
       let stamps : is.entry.stamp.0 ≡ acked.entry.stamp.0 = ap (λ (f : Flush). f.stamp) (sym is.fsync.own ∙ acked.own) in
       let same = stamps_are_once first history is.entry acked.entry legal is.among acked.among stamps in
       (ap (λ (e : Entry). e.reply) same ∙ acked.answered, ap (λ (e : Entry). e.ack) same ∙ acked.moment)
 
   -- a listed fsync was acknowledged by a moment, or not
-  acknowledged_or : (moment : ℕ) (flush : Flush) → IsListedFsync history flush → IsAcknowledgedBy history moment flush ⊎ (IsAcknowledgedBy history moment flush → ⊥)
-  acknowledged_or moment flush is = elim (is_ok_reply is.entry.reply) as (λ b. is_ok_reply is.entry.reply ≡ b → IsAcknowledgedBy history moment flush ⊎ (IsAcknowledgedBy history moment flush → ⊥)) [
-    | true ↦ λ ok. by_ack (ok_of is.entry.reply ok) is.entry.ack refl
-    | false ↦ λ not_ok. inr (λ by. no_true (sym not_ok ∙ ap is_ok_reply (entry_moment flush is by.0 by.1).0))
-  ] refl
+  acknowledged_or : (moment : ℕ) (flush : Flush) → IsListedFsync history flush
+      → IsAcknowledgedBy history moment flush ⊎ (IsAcknowledgedBy history moment flush → ⊥)
+  acknowledged_or moment flush is =
+      elim (is_ok_reply is.entry.reply) as (λ b. is_ok_reply is.entry.reply ≡ b
+      → IsAcknowledgedBy history moment flush ⊎ (IsAcknowledgedBy history moment flush → ⊥)) [
+        | true ↦ λ ok. by_ack (ok_of is.entry.reply ok) is.entry.ack refl
+        | false ↦ λ not_ok. inr (λ by. no_true (sym not_ok ∙ ap is_ok_reply (entry_moment flush is by.0 by.1).0))
+      ] refl
     where
       past : (ack other : ℕ) → other ≤ moment → moment < ack → ack ≡ other → ⊥
       past ack other le lt same = omega arith
 
-      by_ack : is.entry.reply ≡ reply.Ok → (ack : Option ℕ) → is.entry.ack ≡ ack → IsAcknowledgedBy history moment flush ⊎ (IsAcknowledgedBy history moment flush → ⊥)
+      by_ack : is.entry.reply ≡ reply.Ok → (ack : Option ℕ) → is.entry.ack ≡ ack
+          → IsAcknowledgedBy history moment flush ⊎ (IsAcknowledgedBy history moment flush → ⊥)
       by_ack ok None none = inr (λ by. none_some (sym none ∙ (entry_moment flush is by.0 by.1).1))
       by_ack ok (Some ack) some = elim (below_or moment ack) [
         | inl later ↦ inr (λ by. past ack by.0 by.2 later (some_same (sym some ∙ (entry_moment flush is by.0 by.1).1)))
@@ -58,7 +63,8 @@ module _ (first : TreeState) (history : List Entry) (legal : IsLegal first histo
       ]
 
   -- fsyncs that stand in order are acknowledged in order
-  pub ascend : (moment : ℕ) (flushes : List Flush) → AreInOrder history moment flushes → ((flush : Flush) → IsOneOf flushes flush → IsAcknowledgedBy history moment flush) → Ascend history flushes
+  pub ascend : (moment : ℕ) (flushes : List Flush) → AreInOrder history moment flushes
+      → ((flush : Flush) → IsOneOf flushes flush → IsAcknowledgedBy history moment flush) → Ascend history flushes
   ascend moment [] order all = tt
   ascend moment (flush ∷ flushes) order all = (head, ascend moment flushes order.1 (λ other one. all other (inr one)))
     where
@@ -79,8 +85,10 @@ module _ (first : TreeState) (history : List Entry) (legal : IsLegal first histo
     late : (flush : Flush) → IsOneOf others flush → IsAcknowledgedBy history moment flush → ⊥
     order : AreInOrder history moment firsts
 
-  begins_with : (moment : ℕ) (flushes : List Flush) → ((flush : Flush) → IsOneOf flushes flush → IsListedFsync history flush) → AreInOrder history moment flushes → BeginsWithAcked moment flushes
-  begins_with moment [] each order = record { firsts = []; others = []; whole = refl; each = λ flush one. absurd one; late = λ flush one. absurd one; order = tt }
+  begins_with : (moment : ℕ) (flushes : List Flush) → ((flush : Flush) → IsOneOf flushes flush → IsListedFsync history flush)
+      → AreInOrder history moment flushes → BeginsWithAcked moment flushes
+  begins_with moment [] each order =
+      record { firsts = []; others = []; whole = refl; each = λ flush one. absurd one; late = λ flush one. absurd one; order = tt }
   begins_with moment (flush ∷ flushes) each order = elim (acknowledged_or moment flush (each flush (inl refl))) [
     | inl by ↦
         let rest = begins_with moment flushes (λ other one. each other (inr one)) order.1 in
@@ -90,7 +98,10 @@ module _ (first : TreeState) (history : List Entry) (legal : IsLegal first histo
           whole = ap (λ l. flush ∷ l) rest.whole;
           each = λ other one. elim one [ inl same ↦ rw same at by | inr one ↦ rest.each other one ];
           late = rest.late;
-          order = (λ later ack one. order.0 later ack (subst (λ (l : List Flush). IsOneOf l later) (sym rest.whole) (in_left rest.firsts rest.others later one)), rest.order);
+          order = (
+            λ later ack one. order.0 later ack (subst (λ (l : List Flush). IsOneOf l later) (sym rest.whole) (in_left rest.firsts rest.others later one)),
+            rest.order,
+          );
         }
     | inr not_by ↦ record {
       firsts = [];

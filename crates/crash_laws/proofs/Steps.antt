@@ -28,7 +28,8 @@ stopped_keep disk share from first history entry is legal none so_far k image si
     at_cut_on (record { sound = is; legal = legal }) share k image (never_acked entry none k) (so_far k image since le left)
 
 -- what holds a tree holds another that each image is read as too, and so does a disk to which nothing was written
-pub holds_on : (share : ℕ) (tree other : TreeState) (disk : View) → ((image : List ℕ) → IsReadAsTree image share tree → IsReadAsTree image share other) → HoldsTree share tree disk → HoldsTree share other disk
+pub holds_on : (share : ℕ) (tree other : TreeState) (disk : View) → ((image : List ℕ) → IsReadAsTree image share tree → IsReadAsTree image share other)
+    → HoldsTree share tree disk → HoldsTree share other disk
 holds_on share tree other disk read holds = record {
   left = λ image left. read image (holds.left image left);
   told = λ content told. read content (holds.told content told);
@@ -71,7 +72,8 @@ module _ {share from : ℕ} {first : TreeState} {history : List Entry} {entry : 
   call_stands = record {
     flushed = flushed_on last (stay_listed 0).each was.stands.flushed;
     listed = stay_listed;
-    each_acked = λ flush one. let by = was.stands.each_acked flush one in (by.0, acknowledged_still history entry flush by.0 by.1, le_trans by.2 wrote.keeps.later);
+    each_acked = λ flush one. let by = was.stands.each_acked flush one in
+        (by.0, acknowledged_still history entry flush by.0 by.1, le_trans by.2 wrote.keeps.later);
     acked_by_now = λ flush ack acked. elim (acknowledged_in history entry flush ack acked) [
       | inl before ↦ le_trans (was.stands.acked_by_now flush ack before) wrote.keeps.later
       | inr mine ↦ absurd (never_acked entry none ack flush ack mine (le_itself ack))

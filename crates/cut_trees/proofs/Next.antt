@@ -36,16 +36,21 @@ use Rattle.flush_core.proofs.Prefix.{kind_whole}
 use Rattle.cut_trees.specs.Next.{IsMountedHistory, NumbersInodes, IsStorableAtCut, CutTreesAreStorable, IsOneMore, RaisedTreesFollow, OthersAreAside, KeepsItsOwn, SameStampsKeep}
 
 -- directories that have the same rows have them in the same buckets
-same_bucket : (directory number : ℕ) (rows others : FinMap key_cmp ℕ) → names_of directory rows ≡ names_of directory others → bucket_rows directory number rows ≡ bucket_rows directory number others
+same_bucket : (directory number : ℕ) (rows others : FinMap key_cmp ℕ) → names_of directory rows ≡ names_of directory others
+    → bucket_rows directory number rows ≡ bucket_rows directory number others
 same_bucket directory number rows others same = same_map nat_list_cmp_total name_cmp-IsAntisymmetric _ _ (λ name.
     get-names_where directory (λ n. nat_eq (bucket n) number) rows name
-    ∙ ap (λ o. cond (nat_eq (bucket name) number) o None) (sym (get-names_where directory (λ _. true) rows name) ∙ ap (λ (m : FinMap name_cmp ℕ). get m name) same ∙ get-names_where directory (λ _. true) others name)
+    ∙ ap (λ o. cond (nat_eq (bucket name) number) o None)
+    (sym (get-names_where directory (λ _. true) rows name) ∙ ap (λ (m : FinMap name_cmp ℕ). get m name) same
+    ∙ get-names_where directory (λ _. true) others name)
     ∙ sym (get-names_where directory (λ n. nat_eq (bucket n) number) others name))
 
 -- so what a directory has under a name is by its rows
-row_by_names : (tree other : TreeState) (directory : ℕ) → names_of directory tree.rows ≡ names_of directory other.rows → (name : List ℕ) → row_of tree directory name ≡ row_of other directory name
+row_by_names : (tree other : TreeState) (directory : ℕ) → names_of directory tree.rows ≡ names_of directory other.rows → (name : List ℕ)
+    → row_of tree directory name ≡ row_of other directory name
 row_by_names tree other directory same name =
-    sym (get-names_where directory (λ _. true) tree.rows name) ∙ ap (λ (m : FinMap name_cmp ℕ). get m name) same ∙ get-names_where directory (λ _. true) other.rows name
+    sym (get-names_where directory (λ _. true) tree.rows name) ∙ ap (λ (m : FinMap name_cmp ℕ). get m name) same
+    ∙ get-names_where directory (λ _. true) other.rows name
 
 -- a node that a tree has not has no bytes
 absent_has_none : (tree : TreeState) (node : ℕ) → (IsSome (get tree.nodes node) → ⊥) → bytes_of tree node ≡ []
@@ -75,7 +80,8 @@ module _ (first : TreeState) (history : List Entry) (cut : Cut) (is : IsMountedH
       few directory number =
           let there : names_of directory tree.rows ≡ names_of directory (tree_after first (take (cut_of cut directory) history)).rows =
           directories_are_cut first history cut directory ∙ rows_at-tree_after first history directory (cut_of cut directory) is.legal in
-          subst (λ (m : FinMap name_cmp ℕ). len m ≤ BUCKET_ROWS) (sym (same_bucket directory number tree.rows (tree_after first (take (cut_of cut directory) history)).rows there))
+          subst (λ (m : FinMap name_cmp ℕ). len m ≤ BUCKET_ROWS)
+          (sym (same_bucket directory number tree.rows (tree_after first (take (cut_of cut directory) history)).rows there))
           ((histories_stay_within first history (cut_of cut directory) is.sound is.legal is.limits).buckets directory number)
 
       no_bytes : (node : ℕ) → is_directory tree node ≡ true → bytes_of tree node ≡ []
@@ -91,15 +97,22 @@ module _ (first : TreeState) (history : List Entry) (cut : Cut) (is : IsMountedH
           plain_early : (o : Option Node) → get early.nodes node ≡ o → bytes_of early node ≡ []
           plain_early None e = ap (λ (o : Option Node). option_map_or (λ (n : Node). n.bytes) o []) e
           plain_early (Some n) e = (histories_stay_within first history stamp is.sound is.legal is.limits).plain node
-              (sym (kind_whole first history stamp is.legal node is.sound (rw (ap (λ (t : TreeState). get t.nodes node) (tree_at-after first history stamp) ∙ e) refl)) ∙ sym (directory_is node) ∙ directory)
+              (sym
+              (kind_whole first history stamp is.legal node is.sound
+              (rw (ap (λ (t : TreeState). get t.nodes node) (tree_at-after first history stamp) ∙ e) refl))
+              ∙ sym (directory_is node) ∙ directory)
 
           by : (o : Option Node) → get last.nodes node ≡ o → bytes_of tree node ≡ []
-          by None e = absent_has_none tree node (λ some. let there : IsSome (get last.nodes node) = (kinds.nodes node).0 some in absurd (false_not_true (rw e at there)))
+          by None e =
+              absent_has_none tree node
+              (λ some. let there : IsSome (get last.nodes node) = (kinds.nodes node).0 some in absurd (false_not_true (rw e at there)))
           by (Some n) e =
-              files_are_cut first history cut node (rw e refl) ∙ bytes_at-tree_after first history node stamp is.sound is.legal ∙ plain_early (get early.nodes node) refl
+              files_are_cut first history cut node (rw e refl) ∙ bytes_at-tree_after first history node stamp is.sound is.legal
+              ∙ plain_early (get early.nodes node) refl
 
   -- what lists of fsyncs leave
-  module _ (flushes : List Flush) (inodes : ℕ → Bool) (flushed : AreFlushed first history every_entry flushes cut inodes) (num : Numbering) (numbers : NumbersInodes num inodes) where
+  module _ (flushes : List Flush) (inodes : ℕ → Bool) (flushed : AreFlushed first history every_entry flushes cut inodes) (num : Numbering)
+      (numbers : NumbersInodes num inodes) where
     keeps : KeepsAll first history cut inodes
     keeps = lists_keep first history flushes cut inodes is.sound is.legal flushed
 
@@ -109,7 +122,8 @@ module _ (first : TreeState) (history : List Entry) (cut : Cut) (is : IsMountedH
         elim (directories_are_named first history flushes cut inodes node is.sound is.legal flushed inode (sym (directory_is node) ∙ directory)) [
           | inl root ↦ subst (IsMet tree) (sym root) at_root
           | inr (inl named) ↦ by_row named.directory named.name node named.row
-          | inr (inr never) ↦ subst (IsMet tree) (sym (inodes_are_named first history flushes cut inodes node is.sound is.legal is.alive flushed inode never)) at_root
+          | inr (inr never) ↦
+              subst (IsMet tree) (sym (inodes_are_named first history flushes cut inodes node is.sound is.legal is.alive flushed inode never)) at_root
         ]
 
     pub storable : IsStorableAtCut num first history cut
@@ -122,7 +136,9 @@ pub cut_trees_are_storable : CutTreesAreStorable
 cut_trees_are_storable first history flushes cut inodes num is flushed numbers = storable first history cut is flushes inodes flushed num numbers
 
 -- the list with one fsync more
-more_flushed : (first : TreeState) (history : List Entry) (flushes : List Flush) (cut : Cut) (inodes : ℕ → Bool) (flush : Flush) (raised : Cut) (after : ℕ → Bool) → IsOneMore first history flushes cut inodes flush raised after
+more_flushed : (first : TreeState) (history : List Entry) (flushes : List Flush) (cut : Cut) (inodes : ℕ → Bool) (flush : Flush) (raised : Cut)
+    (after : ℕ → Bool)
+    → IsOneMore first history flushes cut inodes flush raised after
     → AreFlushed first history every_entry (flushes ++ flush ∷ []) raised after
 more_flushed first history flushes cut inodes flush raised after is = one_more flushes flush cut raised inodes after is.before is.raises is.inodes_after
 
@@ -130,7 +146,8 @@ pub raised_trees_follow : RaisedTreesFollow
 raised_trees_follow first history flushes cut inodes flush raised after num is numbers = record {
   kinds = λ node. (cuts_keep_kinds first history raised).kinds node ∙ sym ((cuts_keep_kinds first history cut).kinds node);
   root = numbers.root;
-  named = named first history raised is.history_is (flushes ++ flush ∷ []) after (more_flushed first history flushes cut inodes flush raised after is) num numbers;
+  named =
+      named first history raised is.history_is (flushes ++ flush ∷ []) after (more_flushed first history flushes cut inodes flush raised after is) num numbers;
 }
 
 pub same_stamps_keep : SameStampsKeep
@@ -139,16 +156,22 @@ same_stamps_keep first history cut raised node same = record {
   bytes = by (get (tree_after first history).nodes node) refl;
 }
   where
-    by : (o : Option Node) → get (tree_after first history).nodes node ≡ o → bytes_of (tree_at_cut first history raised) node ≡ bytes_of (tree_at_cut first history cut) node
+    by : (o : Option Node) → get (tree_after first history).nodes node ≡ o
+        → bytes_of (tree_at_cut first history raised) node ≡ bytes_of (tree_at_cut first history cut) node
     by None e = none raised ∙ sym (none cut)
       where
         none : (c : Cut) → bytes_of (tree_at_cut first history c) node ≡ []
-        none c = absent_has_none (tree_at_cut first history c) node (λ some. let there : IsSome (get (tree_after first history).nodes node) = ((cuts_keep_kinds first history c).nodes node).0 some in absurd (false_not_true (rw e at there)))
-    by (Some n) e = files_are_cut first history raised node (rw e refl) ∙ ap (bytes_at first history node) same ∙ sym (files_are_cut first history cut node (rw e refl))
+        none c =
+            absent_has_none (tree_at_cut first history c) node
+            (λ some. let there : IsSome (get (tree_after first history).nodes node) = ((cuts_keep_kinds first history c).nodes node).0 some in
+            absurd (false_not_true (rw e at there)))
+    by (Some n) e =
+        files_are_cut first history raised node (rw e refl) ∙ ap (bytes_at first history node) same ∙ sym (files_are_cut first history cut node (rw e refl))
 
 pub others_are_aside : OthersAreAside
 others_are_aside first history flushes cut inodes flush raised after node is aside =
-    let stays : StaysAsItWas first history cut raised inodes after node = others_stay first history cut raised inodes after flush node is.history_is.sound is.history_is.legal is.raises is.inodes_after aside in
+    let stays : StaysAsItWas first history cut raised inodes after node =
+    others_stay first history cut raised inodes after flush node is.history_is.sound is.history_is.legal is.raises is.inodes_after aside in
     let kept = same_stamps_keep first history cut raised node stays.stamp in
     record {
       rows = row_by_names (tree_at_cut first history raised) (tree_at_cut first history cut) node kept.rows;

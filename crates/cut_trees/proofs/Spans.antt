@@ -39,12 +39,20 @@ module _ {X Y : Type 0} (stamp : X → ℕ) (test : X → Bool) (make : Y → X 
   between x = (nat_le from (stamp x) && nat_lt (stamp x) to) && test x
 
   -- behind the earlier stamp
-  pub behind : (k : ℕ) (xs : List X) → from ≤ k → AreByStamps stamp k xs → (y : Y) → fold make y (filter (below to) xs) ≡ fold make (fold make y (filter (below from) xs)) (filter between xs)
+  pub behind : (k : ℕ) (xs : List X) → from ≤ k → AreByStamps stamp k xs → (y : Y)
+      → fold make y (filter (below to) xs) ≡ fold make (fold make y (filter (below from) xs)) (filter between xs)
   behind k xs high by y =
-      ap (fold make y) (filter_same (below to) between xs (λ x there. let low = later stamp k xs by x there in ap (λ b. (b && nat_lt (stamp x) to) && test x) (sym (le-leb from (stamp x) (omega arith)))))
-      ∙ ap (λ z. fold make z (filter between xs)) (ap (fold make y) (sym (filter_none (below from) xs (λ x there. let low = later stamp k xs by x there in ap (λ b. b && test x) (le-ltb (stamp x) from (omega arith))))))
+      ap (fold make y)
+      (filter_same (below to) between xs
+      (λ x there. let low = later stamp k xs by x there in ap (λ b. (b && nat_lt (stamp x) to) && test x) (sym (le-leb from (stamp x) (omega arith)))))
+      ∙ ap (λ z. fold make z (filter between xs))
+      (ap (fold make y)
+      (sym
+      (filter_none (below from) xs
+      (λ x there. let low = later stamp k xs by x there in ap (λ b. b && test x) (le-ltb (stamp x) from (omega arith))))))
 
-  pub split : (k : ℕ) (xs : List X) → AreByStamps stamp k xs → (y : Y) → fold make y (filter (below to) xs) ≡ fold make (fold make y (filter (below from) xs)) (filter between xs)
+  pub split : (k : ℕ) (xs : List X) → AreByStamps stamp k xs → (y : Y)
+      → fold make y (filter (below to) xs) ≡ fold make (fold make y (filter (below from) xs)) (filter between xs)
   split _ _ (nothing k) y = refl
   split _ _ (entry k own rest same others) y = elim (cases_lt k from) [
     | inr high ↦ behind k (own ++ rest) high (entry k own rest same others) y
@@ -53,27 +61,34 @@ module _ {X Y : Type 0} (stamp : X → ℕ) (test : X → Bool) (make : Y → X 
         ∙ fold-append make y (filter (below from) own) (filter (below to) rest)
         ∙ split (suc k) rest others (fold make y (filter (below from) own))
         ∙ sym (ap (λ z. fold make z (filter between rest)) (fold-append make y (filter (below from) own) (filter (below from) rest)))
-        ∙ sym (λ i. fold make (fold make y (filter-append (below from) own rest i)) ((filter-append between own rest ∙ ap (λ l. l ++ filter between rest) (none low)) i))
+        ∙ sym
+        (λ i. fold make (fold make y (filter-append (below from) own rest i))
+        ((filter-append between own rest ∙ ap (λ l. l ++ filter between rest) (none low)) i))
   ]
     where
       alike : k < from → filter (below to) own ≡ filter (below from) own
-      alike low = filter_same (below to) (below from) own (λ x there. let is = same x there in ap (λ b. b && test x) (lt-ltb (stamp x) to (omega arith) ∙ sym (lt-ltb (stamp x) from (omega arith))))
+      alike low =
+          filter_same (below to) (below from) own
+          (λ x there. let is = same x there in ap (λ b. b && test x) (lt-ltb (stamp x) to (omega arith) ∙ sym (lt-ltb (stamp x) from (omega arith))))
 
       none : k < from → filter between own ≡ []
-      none low = filter_none between own (λ x there. let is = same x there in ap (λ b. (b && nat_lt (stamp x) to) && test x) (not_le from (stamp x) (omega arith)))
+      none low =
+          filter_none between own (λ x there. let is = same x there in ap (λ b. (b && nat_lt (stamp x) to) && test x) (not_le from (stamp x) (omega arith)))
         where
           not_le : (a b : ℕ) → b < a → nat_le a b ≡ false
           not_le a b lt = grind (arith, nat_tests)
 
 -- the changes of a history stand by their stamps
-changes_by_stamps : (first : TreeState) (k : ℕ) (history : List Entry) → IsLegalFrom first k history → AreByStamps (λ (x : RowChange). x.stamp) k (changes_of first history)
+changes_by_stamps : (first : TreeState) (k : ℕ) (history : List Entry) → IsLegalFrom first k history
+    → AreByStamps (λ (x : RowChange). x.stamp) k (changes_of first history)
 changes_by_stamps first k [] legal = nothing k
 changes_by_stamps first k (e ∷ history) legal =
     entry k (changes_by first e.stamp.0 (verdict first e.core.0 e.call).effect) (changes_of (tree_after_entry first e) history)
     (λ x there. stamp_of first e.stamp.0 (verdict first e.core.0 e.call).effect x there ∙ legal.0.stamped)
     (changes_by_stamps (tree_after_entry first e) (suc k) history legal.1)
 
-edits_by_stamps : (first : TreeState) (k : ℕ) (history : List Entry) → IsLegalFrom first k history → AreByStamps (λ (x : FileChange). x.stamp) k (edits_of first history)
+edits_by_stamps : (first : TreeState) (k : ℕ) (history : List Entry) → IsLegalFrom first k history
+    → AreByStamps (λ (x : FileChange). x.stamp) k (edits_of first history)
 edits_by_stamps first k [] legal = nothing k
 edits_by_stamps first k (e ∷ history) legal =
     entry k (edits_by e.stamp.0 (verdict first e.core.0 e.call).effect) (edits_of (tree_after_entry first e) history)
@@ -90,13 +105,16 @@ edits_by_stamps first k (e ∷ history) legal =
 
 pub spans_make_rows : SpansMakeRows
 spans_make_rows first history directory from to legal le =
-    split (λ (x : RowChange). x.stamp) (λ x. nat_eq x.directory directory) with_change from to le 0 (changes_of first history) (changes_by_stamps first 0 history legal) (names_of directory first.rows)
+    split (λ (x : RowChange). x.stamp) (λ x. nat_eq x.directory directory) with_change from to le 0 (changes_of first history)
+    (changes_by_stamps first 0 history legal) (names_of directory first.rows)
 
 pub spans_make_cut_rows : SpansMakeCutRows
 spans_make_cut_rows first history cut raised directory legal le =
     directories_are_cut first history raised directory ∙ spans_make_rows first history directory (cut_of cut directory) (cut_of raised directory) legal le
-    ∙ ap (λ rows. fold with_change rows (filter (is_own_between directory (cut_of cut directory) (cut_of raised directory)) (changes_of first history))) (sym (directories_are_cut first history cut directory))
+    ∙ ap (λ rows. fold with_change rows (filter (is_own_between directory (cut_of cut directory) (cut_of raised directory)) (changes_of first history)))
+    (sym (directories_are_cut first history cut directory))
 
 pub spans_make_bytes : SpansMakeBytes
 spans_make_bytes first history file from to legal le =
-    split (λ (x : FileChange). x.stamp) (λ x. nat_eq x.file file) (λ bytes change. edited change.edit bytes) from to le 0 (edits_of first history) (edits_by_stamps first 0 history legal) (bytes_of first file)
+    split (λ (x : FileChange). x.stamp) (λ x. nat_eq x.file file) (λ bytes change. edited change.edit bytes) from to le 0 (edits_of first history)
+    (edits_by_stamps first 0 history legal) (bytes_of first file)

@@ -31,11 +31,13 @@ pub record IsStorableAtCut (num : Numbering) (first : TreeState) (history : List
   pub storable : IsStorable num (tree_at_cut first history cut)
 
 abbrev pub CutTreesAreStorable : Type 0
-CutTreesAreStorable = (first : TreeState) (history : List Entry) (flushes : List Flush) (cut : Cut) (inodes : ℕ → Bool) (num : Numbering) → IsMountedHistory first history
+CutTreesAreStorable =
+    (first : TreeState) (history : List Entry) (flushes : List Flush) (cut : Cut) (inodes : ℕ → Bool) (num : Numbering) → IsMountedHistory first history
     → AreFlushed first history every_entry flushes cut inodes → NumbersInodes num inodes → IsStorableAtCut num first history cut
 
 -- One fsync behind a list of others, with the cut and the inodes that it leaves.
-pub record IsOneMore (first : TreeState) (history : List Entry) (flushes : List Flush) (cut : Cut) (inodes : ℕ → Bool) (flush : Flush) (raised : Cut) (after : ℕ → Bool) : Type 0 where
+pub record IsOneMore (first : TreeState) (history : List Entry) (flushes : List Flush) (cut : Cut) (inodes : ℕ → Bool) (flush : Flush) (raised : Cut)
+    (after : ℕ → Bool) : Type 0 where
   pub history_is : IsMountedHistory first history
   pub before : AreFlushed first history every_entry flushes cut inodes
   pub raises : IsRaised first history every_entry cut inodes flush raised
@@ -43,12 +45,17 @@ pub record IsOneMore (first : TreeState) (history : List Entry) (flushes : List 
 
 -- The tree at the raised cut may follow the one before under each numbering of the nodes that then have an inode.
 abbrev pub RaisedTreesFollow : Type 0
-RaisedTreesFollow = (first : TreeState) (history : List Entry) (flushes : List Flush) (cut : Cut) (inodes : ℕ → Bool) (flush : Flush) (raised : Cut) (after : ℕ → Bool) (num : Numbering)
-    → IsOneMore first history flushes cut inodes flush raised after → NumbersInodes num after → MayFollow num (tree_at_cut first history cut) (tree_at_cut first history raised)
+RaisedTreesFollow =
+    (first : TreeState) (history : List Entry) (flushes : List Flush) (cut : Cut) (inodes : ℕ → Bool) (flush : Flush) (raised : Cut) (after : ℕ → Bool)
+    (num : Numbering)
+    → IsOneMore first history flushes cut inodes flush raised after → NumbersInodes num after
+    → MayFollow num (tree_at_cut first history cut) (tree_at_cut first history raised)
 
 -- A node that the fsync does not concern is left as it is.
 abbrev pub OthersAreAside : Type 0
-OthersAreAside = (first : TreeState) (history : List Entry) (flushes : List Flush) (cut : Cut) (inodes : ℕ → Bool) (flush : Flush) (raised : Cut) (after : ℕ → Bool) (node : ℕ)
+OthersAreAside =
+    (first : TreeState) (history : List Entry) (flushes : List Flush) (cut : Cut) (inodes : ℕ → Bool) (flush : Flush) (raised : Cut) (after : ℕ → Bool)
+    (node : ℕ)
     → IsOneMore first history flushes cut inodes flush raised after → (IsConcerned first history every_entry cut inodes flush node → ⊥)
     → IsAside (tree_at_cut first history cut) (tree_at_cut first history raised) node
 

@@ -30,24 +30,34 @@ brought look member node gathered (inl span) = by span.brings
 brought look member node gathered (inr birth) = birth_place (record { node = member; directory = node }) gathered birth.born birth.no_inode birth.naming
 
 -- what has the fsync's node and all that its nodes bring in has all that is gathered
-pub all_gathered : (look : Look) (Has : ℕ → Type 0) → Has look.flush.node → ((member node : ℕ) → Has member → MemberBrings look member node → Has node) → (node : ℕ) → Gathers look node → Has node
+pub all_gathered : (look : Look) (Has : ℕ → Type 0) → Has look.flush.node → ((member node : ℕ) → Has member → MemberBrings look member node → Has node)
+    → (node : ℕ) → Gathers look node → Has node
 all_gathered look Has start closed node itself = start
-all_gathered look Has start closed node (other_side noted other own sight two) = closed noted.change.directory other (all_gathered look Has start closed noted.change.directory own) (inl (record { noted = noted; in_sight = sight; own = refl; brings = inl two }))
-all_gathered look Has start closed node (ended noted own sight ends) = closed noted.change.directory noted.change.child (all_gathered look Has start closed noted.change.directory own) (inl (record { noted = noted; in_sight = sight; own = refl; brings = inr (inl (ends, refl)) }))
-all_gathered look Has start closed node (ancestor noted other own sight among) = closed noted.change.directory other (all_gathered look Has start closed noted.change.directory own) (inl (record { noted = noted; in_sight = sight; own = refl; brings = inr (inr among) }))
-all_gathered look Has start closed node (birth_place born own one lacks sees) = closed born.node born.directory (all_gathered look Has start closed born.node own) (inr (record { born = one; no_inode = lacks; naming = sees }))
+all_gathered look Has start closed node (other_side noted other own sight two) =
+    closed noted.change.directory other (all_gathered look Has start closed noted.change.directory own)
+    (inl (record { noted = noted; in_sight = sight; own = refl; brings = inl two }))
+all_gathered look Has start closed node (ended noted own sight ends) =
+    closed noted.change.directory noted.change.child (all_gathered look Has start closed noted.change.directory own)
+    (inl (record { noted = noted; in_sight = sight; own = refl; brings = inr (inl (ends, refl)) }))
+all_gathered look Has start closed node (ancestor noted other own sight among) =
+    closed noted.change.directory other (all_gathered look Has start closed noted.change.directory own)
+    (inl (record { noted = noted; in_sight = sight; own = refl; brings = inr (inr among) }))
+all_gathered look Has start closed node (birth_place born own one lacks sees) =
+    closed born.node born.directory (all_gathered look Has start closed born.node own) (inr (record { born = one; no_inode = lacks; naming = sees }))
 
 -- The members so far: each is gathered, the fsync's node is one, each that is due is one, and all that another one brings in are.
 pub record Closes (look : Look) (found : Found) : Type 0 where
   pub sound : (node : ℕ) → IsOneOf found.members.keys node → Gathers look node
   pub start : IsOneOf found.members.keys look.flush.node
   pub due : (node : ℕ) → IsOneOf found.due.items node → IsOneOf found.members.keys node
-  pub followed : (member : ℕ) → IsOneOf found.members.keys member → IsOneOf found.due.items member ⊎ ((node : ℕ) → MemberBrings look member node → IsOneOf found.members.keys node)
+  pub followed : (member : ℕ) → IsOneOf found.members.keys member
+      → IsOneOf found.due.items member ⊎ ((node : ℕ) → MemberBrings look member node → IsOneOf found.members.keys node)
   pub ordered : IsOrdered nat_cmp found.members
   pub small : All (λ number. number < 2 ^ 32) found.members.keys
 
 -- at first the fsync's node alone
-pub closes_first : (look : Look) (empty found : Found) → empty.members.keys ≡ [] → empty.due.items ≡ [] → IsOrdered nat_cmp empty.members → GrowsBy empty found (λ node. look.flush.node ≡ node) → Closes look found
+pub closes_first : (look : Look) (empty found : Found) → empty.members.keys ≡ [] → empty.due.items ≡ [] → IsOrdered nat_cmp empty.members
+    → GrowsBy empty found (λ node. look.flush.node ≡ node) → Closes look found
 closes_first look empty found none none_due order grows = record {
   sound = λ node one. subst (Gathers look) (first node one) itself;
   start = (grows.members look.flush.node).1 (inr refl);
@@ -61,7 +71,8 @@ closes_first look empty found none none_due order grows = record {
     first node one = elim ((grows.members node).0 one) [ inl old ↦ absurd (subst (λ l. IsOneOf l node) none old) | inr same ↦ same ]
 
 -- one of them was due and is followed
-pub closes_next : (look : Look) (old mid new : Found) (member : ℕ) → Closes look old → mid.members.keys ≡ old.members.keys → old.due.items ≡ mid.due.items ++ member ∷ [] → GrowsBy mid new (MemberBrings look member) → Closes look new
+pub closes_next : (look : Look) (old mid new : Found) (member : ℕ) → Closes look old → mid.members.keys ≡ old.members.keys
+    → old.due.items ≡ mid.due.items ++ member ∷ [] → GrowsBy mid new (MemberBrings look member) → Closes look new
 closes_next look old mid new member closes keys due grows = record {
   sound = λ node one. elim ((grows.members node).0 one) [
     | inl there ↦ closes.sound node (subst (λ l. IsOneOf l node) keys there)
@@ -96,7 +107,8 @@ closes_next look old mid new member closes keys due grows = record {
     member_old = closes.due member (subst (λ l. IsOneOf l member) (sym due) (in_right mid.due.items (member ∷ []) member (inl refl)))
 
 -- and what is left to be done is less
-pub closes_sooner : (look : Look) (old mid new : Found) (member : ℕ) → Closes look new → mid.members.keys ≡ old.members.keys → old.due.items ≡ mid.due.items ++ member ∷ [] → GrowsBy mid new (MemberBrings look member)
+pub closes_sooner : (look : Look) (old mid new : Found) (member : ℕ) → Closes look new → mid.members.keys ≡ old.members.keys
+    → old.due.items ≡ mid.due.items ++ member ∷ [] → GrowsBy mid new (MemberBrings look member)
     → 2 * (2 ^ 32 - length new.members.keys) + length new.due.items < 2 * (2 ^ 32 - length old.members.keys) + length old.due.items
 closes_sooner look old mid new member closes keys due grows =
     let many = ap length keys in

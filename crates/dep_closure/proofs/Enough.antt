@@ -21,16 +21,21 @@ use Rattle.dep_closure.proofs.Looked.{to_flat}
 use Rattle.dep_closure.proofs.True.{logged_row, stands_in_history, logs_are_true}
 
 -- each change of rows that counts and is not flushed was gathered
-is_noted : (first : TreeState) (history : List Entry) (counts : Counts) (cut : Cut) (inodes : ℕ → Bool) (gathered : Gathered) (start : NodeId) (below : Stamp) → IsSoundTree first → IsLegal first history → HasUnflushed first history counts cut inodes gathered
-    → (row : RowChange) → IsChange first history row → counts row.stamp ≡ true → cut_of cut row.directory ≤ row.stamp → IsNoted (look_of start below gathered) row
+is_noted : (first : TreeState) (history : List Entry) (counts : Counts) (cut : Cut) (inodes : ℕ → Bool) (gathered : Gathered) (start : NodeId) (below : Stamp)
+    → IsSoundTree first → IsLegal first history → HasUnflushed first history counts cut inodes gathered
+    → (row : RowChange) → IsChange first history row → counts row.stamp ≡ true → cut_of cut row.directory ≤ row.stamp
+    → IsNoted (look_of start below gathered) row
 is_noted first history counts cut inodes gathered start below sound legal has row is counted unflushed =
     let logged = logged_row first history row sound legal is in
     let change = logged.0 in
-    let there = has.changes change logged.1 (subst (λ (r : RowChange). counts r.stamp ≡ true) (sym logged.2) counted) (subst (λ (r : RowChange). cut_of cut r.directory ≤ r.stamp) (sym logged.2) unflushed) in
+    let there =
+    has.changes change logged.1 (subst (λ (r : RowChange). counts r.stamp ≡ true) (sym logged.2) counted)
+    (subst (λ (r : RowChange). cut_of cut r.directory ≤ r.stamp) (sym logged.2) unflushed) in
     let log = there.0 in
     let stands = stands_in_history first history counts log legal (has.logs log there.1) change there.2 in (
       noted_as log.changes.items change,
-      to_flat noted_in gathered.logs.items log (noted_as log.changes.items change) there.1 (to_map (noted_as log.changes.items) log.changes.items change there.2),
+      to_flat noted_in gathered.logs.items log (noted_as log.changes.items change) there.1
+          (to_map (noted_as log.changes.items) log.changes.items change there.2),
       ap (λ (noted : Noted). noted.change) stands.noted ∙ logged.2,
     )
 

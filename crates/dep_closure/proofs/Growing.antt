@@ -22,7 +22,8 @@ use Rattle.dep_closure.specs.Brought.{AddsTo, GrowsBy}
 pub put_in : (numbers : List ℕ) (number : ℕ) → IsOneOf (insert_key nat_cmp numbers number) number
 put_in [] number = inl refl
 put_in (first ∷ rest) number =
-    elim (nat_cmp number first) as (λ o. nat_cmp number first ≡ o → IsOneOf (match_ordering o (number ∷ first ∷ rest) (first ∷ rest) (first ∷ insert_key nat_cmp rest number)) number) [
+    elim (nat_cmp number first) as (λ o. nat_cmp number first ≡ o
+    → IsOneOf (match_ordering o (number ∷ first ∷ rest) (first ∷ rest) (first ∷ insert_key nat_cmp rest number)) number) [
       | Less ↦ λ is. inl refl
       | Equal ↦ λ is. inl (sym (nat_cmp-IsAntisymmetric number first is))
       | Greater ↦ λ is. inr (put_in rest number)
@@ -40,7 +41,8 @@ still_in (first ∷ rest) number other one =
 pub was_in : (numbers : List ℕ) (number other : ℕ) → IsOneOf (insert_key nat_cmp numbers number) other → IsOneOf numbers other ⊎ (number ≡ other)
 was_in [] number other one = elim one [ inl same ↦ inr same | inr none ↦ absurd none ]
 was_in (first ∷ rest) number other one =
-    elim (nat_cmp number first) as (λ o. IsOneOf (match_ordering o (number ∷ first ∷ rest) (first ∷ rest) (first ∷ insert_key nat_cmp rest number)) other → IsOneOf (first ∷ rest) other ⊎ (number ≡ other)) [
+    elim (nat_cmp number first) as (λ o. IsOneOf (match_ordering o (number ∷ first ∷ rest) (first ∷ rest) (first ∷ insert_key nat_cmp rest number)) other
+    → IsOneOf (first ∷ rest) other ⊎ (number ≡ other)) [
       | Less ↦ λ put. elim put [ inl same ↦ inr same | inr old ↦ inl old ]
       | Equal ↦ λ put. inl put
       | Greater ↦ λ put. elim put [
@@ -56,7 +58,8 @@ has_one set number = among set.keys
     among : (keys : List ℕ) → list_any (is_at (nat_cmp number)) keys ≡ true → IsOneOf keys number
     among [] e = absurd (cc)
     among (first ∷ rest) e =
-        elim (nat_cmp number first) as (λ o. nat_cmp number first ≡ o → (is_eq o || list_any (is_at (nat_cmp number)) rest) ≡ true → IsOneOf (first ∷ rest) number) [
+        elim (nat_cmp number first) as (λ o. nat_cmp number first ≡ o → (is_eq o || list_any (is_at (nat_cmp number)) rest) ≡ true
+        → IsOneOf (first ∷ rest) number) [
           | Less ↦ λ is later. inr (among rest later)
           | Equal ↦ λ is here. inl (sym (nat_cmp-IsAntisymmetric number first is))
           | Greater ↦ λ is later. inr (among rest later)
@@ -73,7 +76,8 @@ one_has set number = among set.keys
     ]
 
 -- a set grows by nothing new
-pub set_same : (old new : BTreeSet ℕ) (Comes : ℕ → Type 0) → new.keys ≡ old.keys → ((number : ℕ) → Comes number → IsOneOf old.keys number) → AddsTo old new Comes
+pub set_same : (old new : BTreeSet ℕ) (Comes : ℕ → Type 0) → new.keys ≡ old.keys → ((number : ℕ) → Comes number → IsOneOf old.keys number)
+    → AddsTo old new Comes
 set_same old new Comes keys there number = (
   λ one. inl (subst (λ l. IsOneOf l number) keys one),
   λ from. subst (λ l. IsOneOf l number) (sym keys) (elim from [ inl one ↦ one | inr comes ↦ there number comes ]),
@@ -90,7 +94,8 @@ set_one old new number keys other = (
 )
 
 -- by one step after the other
-pub set_both : (start mid end : BTreeSet ℕ) (Comes Further : ℕ → Type 0) → AddsTo start mid Comes → AddsTo mid end Further → AddsTo start end (λ number. Comes number ⊎ Further number)
+pub set_both : (start mid end : BTreeSet ℕ) (Comes Further : ℕ → Type 0) → AddsTo start mid Comes → AddsTo mid end Further
+    → AddsTo start end (λ number. Comes number ⊎ Further number)
 set_both start mid end Comes Further first second number = (
   λ one. elim ((second number).0 one) [
     | inl mid_one ↦ elim ((first number).0 mid_one) [ inl old ↦ inl old | inr early ↦ inr (inl early) ]
@@ -103,14 +108,16 @@ set_both start mid end Comes Further first second number = (
 )
 
 -- and by the same numbers, said in another way
-pub set_as : (old new : BTreeSet ℕ) (Comes Other : ℕ → Type 0) → AddsTo old new Comes → ((number : ℕ) → Comes number → Other number) → ((number : ℕ) → Other number → Comes number) → AddsTo old new Other
+pub set_as : (old new : BTreeSet ℕ) (Comes Other : ℕ → Type 0) → AddsTo old new Comes → ((number : ℕ) → Comes number → Other number)
+    → ((number : ℕ) → Other number → Comes number) → AddsTo old new Other
 set_as old new Comes Other grows there back number = (
   λ one. elim ((grows number).0 one) [ inl old_one ↦ inl old_one | inr comes ↦ inr (there number comes) ],
   λ from. (grows number).1 (elim from [ inl old_one ↦ inl old_one | inr other ↦ inr (back number other) ]),
 )
 
 -- the members grow by nothing new
-pub grows_same : (old new : Found) (Comes : ℕ → Type 0) → new.members.keys ≡ old.members.keys → new.due.items ≡ old.due.items → ((node : ℕ) → Comes node → IsOneOf old.members.keys node) → GrowsBy old new Comes
+pub grows_same : (old new : Found) (Comes : ℕ → Type 0) → new.members.keys ≡ old.members.keys → new.due.items ≡ old.due.items
+    → ((node : ℕ) → Comes node → IsOneOf old.members.keys node) → GrowsBy old new Comes
 grows_same old new Comes keys due there = record {
   members = set_same old.members new.members Comes keys there;
   due_kept = λ node one. subst (λ l. IsOneOf l node) (sym due) one;
@@ -123,7 +130,9 @@ grows_same old new Comes keys due there = record {
 }
 
 -- by a node that was none of them
-pub grows_one : (old new : Found) (node : ℕ) → node < 2 ^ 32 → new.members.keys ≡ insert_key nat_cmp old.members.keys node → length new.members.keys ≡ length old.members.keys + 1 → IsOrdered nat_cmp new.members → new.due.items ≡ old.due.items ++ node ∷ [] → GrowsBy old new (λ other. node ≡ other)
+pub grows_one : (old new : Found) (node : ℕ) → node < 2 ^ 32 → new.members.keys ≡ insert_key nat_cmp old.members.keys node
+    → length new.members.keys ≡ length old.members.keys + 1 → IsOrdered nat_cmp new.members → new.due.items ≡ old.due.items ++ node ∷ []
+    → GrowsBy old new (λ other. node ≡ other)
 grows_one old new node fits keys long order due = record {
   members = set_one old.members new.members node keys;
   due_kept = λ other one. subst (λ l. IsOneOf l other) (sym due) (in_left old.due.items (node ∷ []) other one);
@@ -145,7 +154,8 @@ grows_one old new node fits keys long order due = record {
 }
 
 -- by one step after the other
-pub grows_both : (start mid end : Found) (Comes Further : ℕ → Type 0) → GrowsBy start mid Comes → GrowsBy mid end Further → GrowsBy start end (λ node. Comes node ⊎ Further node)
+pub grows_both : (start mid end : Found) (Comes Further : ℕ → Type 0) → GrowsBy start mid Comes → GrowsBy mid end Further
+    → GrowsBy start end (λ node. Comes node ⊎ Further node)
 grows_both start mid end Comes Further first second = record {
   members = set_both start.members mid.members end.members Comes Further first.members second.members;
   due_kept = λ node one. second.due_kept node (first.due_kept node one);
@@ -164,7 +174,8 @@ grows_both start mid end Comes Further first second = record {
 }
 
 -- and by the same nodes, said in another way
-pub grows_as : (old new : Found) (Comes Other : ℕ → Type 0) → GrowsBy old new Comes → ((node : ℕ) → Comes node → Other node) → ((node : ℕ) → Other node → Comes node) → GrowsBy old new Other
+pub grows_as : (old new : Found) (Comes Other : ℕ → Type 0) → GrowsBy old new Comes → ((node : ℕ) → Comes node → Other node)
+    → ((node : ℕ) → Other node → Comes node) → GrowsBy old new Other
 grows_as old new Comes Other grows there back = record {
   members = set_as old.members new.members Comes Other grows.members there back;
   due_kept = grows.due_kept;
@@ -179,19 +190,31 @@ grows_as old new Comes Other grows there back = record {
 -- What grows so grows by what several things bring, one after the other.
 module _ {S : Type 0} (By : S → S → (ℕ → Type 0) → Type 0)
     (both : (start mid end : S) (Comes Further : ℕ → Type 0) → By start mid Comes → By mid end Further → By start end (λ number. Comes number ⊎ Further number))
-    (said : (old new : S) (Comes Other : ℕ → Type 0) → By old new Comes → ((number : ℕ) → Comes number → Other number) → ((number : ℕ) → Other number → Comes number) → By old new Other)
+    (said : (old new : S) (Comes Other : ℕ → Type 0) → By old new Comes → ((number : ℕ) → Comes number → Other number)
+    → ((number : ℕ) → Other number → Comes number) → By old new Other)
     {X : Type 0} (Brings : X → ℕ → Type 0) (things : List X) where
   pub by_one_more : (i : ℕ) (d thing : X) (start before after : S) → i < length things → thing ≡ get_or things i d
       → By start before (OfSome (take i things) Brings) → By before after (Brings thing) → By start after (OfSome (take (i + 1) things) Brings)
   by_one_more i d thing start before after within is first next =
-      said start after (λ number. OfSome (take i things) Brings number ⊎ Brings thing number) (OfSome (take (i + 1) things) Brings) (both start before after (OfSome (take i things) Brings) (Brings thing) first next)
-      (λ number come. elim come [ inl early ↦ (early.0, still_one things i d early.0 within early.1, early.2) | inr brings ↦ (thing, next_one things i d thing within is, brings) ])
-      (λ number some. elim (one_more things i d thing some.0 within is some.1) [ inl early ↦ inl (some.0, early, some.2) | inr same ↦ inr (subst (λ (x : X). Brings x number) (sym same) some.2) ])
+      said start after (λ number. OfSome (take i things) Brings number ⊎ Brings thing number) (OfSome (take (i + 1) things) Brings)
+      (both start before after (OfSome (take i things) Brings) (Brings thing) first next)
+      (λ number come. elim come [
+        | inl early ↦ (early.0, still_one things i d early.0 within early.1, early.2)
+        | inr brings ↦
+            (thing, next_one things i d thing within is, brings)
+      ])
+      (λ number some. elim (one_more things i d thing some.0 within is some.1) [
+        | inl early ↦ inl (some.0, early, some.2)
+        | inr same ↦
+            inr (subst (λ (x : X). Brings x number) (sym same) some.2)
+      ])
 
-pub grows_more : {X : Type 0} (Brings : X → ℕ → Type 0) (things : List X) (i : ℕ) (d thing : X) (start before after : Found) → i < length things → thing ≡ get_or things i d
+pub grows_more : {X : Type 0} (Brings : X → ℕ → Type 0) (things : List X) (i : ℕ) (d thing : X) (start before after : Found) → i < length things
+    → thing ≡ get_or things i d
     → GrowsBy start before (OfSome (take i things) Brings) → GrowsBy before after (Brings thing) → GrowsBy start after (OfSome (take (i + 1) things) Brings)
 grows_more = by_one_more GrowsBy grows_both grows_as
 
-pub set_more : {X : Type 0} (Brings : X → ℕ → Type 0) (things : List X) (i : ℕ) (d thing : X) (start before after : BTreeSet ℕ) → i < length things → thing ≡ get_or things i d
+pub set_more : {X : Type 0} (Brings : X → ℕ → Type 0) (things : List X) (i : ℕ) (d thing : X) (start before after : BTreeSet ℕ) → i < length things
+    → thing ≡ get_or things i d
     → AddsTo start before (OfSome (take i things) Brings) → AddsTo before after (Brings thing) → AddsTo start after (OfSome (take (i + 1) things) Brings)
 set_more = by_one_more AddsTo set_both set_as

@@ -49,10 +49,12 @@ some_mapped f None = refl
 some_mapped f (Some x) = refl
 
 -- whether there is one is whether its number is listed
-pub found_listed : {X : Type 0} (number : X → ℕ) (xs : List X) (n : ℕ) → is_some (find (λ x. nat_eq (number x) n) xs) ≡ list_any (λ listed. nat_eq listed n) (map number xs)
+pub found_listed : {X : Type 0} (number : X → ℕ) (xs : List X) (n : ℕ)
+    → is_some (find (λ x. nat_eq (number x) n) xs) ≡ list_any (λ listed. nat_eq listed n) (map number xs)
 found_listed number [] n = refl
 found_listed number (x ∷ xs) n =
-    elim (nat_eq (number x) n) as (λ b. is_some (cond b (Some x) (find (λ one. nat_eq (number one) n) xs)) ≡ (b || list_any (λ listed. nat_eq listed n) (map number xs))) [
+    elim (nat_eq (number x) n) as (λ b. is_some (cond b (Some x) (find (λ one. nat_eq (number one) n) xs))
+    ≡ (b || list_any (λ listed. nat_eq listed n) (map number xs))) [
       | true ↦ refl
       | false ↦ found_listed number xs n
     ]
@@ -64,12 +66,19 @@ module _ {X : Type 0} (number : X → ℕ) where
   greater_behind first xs up x one =
       one_of_all (λ other. number first < number other) xs x (λ k d within. numbers_rise number (first ∷ xs) up 0 (suc k) d (omega arith) (omega arith)) one
 
-  pub only_one : (xs : List X) → IsStrictlyIncreasing (map number xs) → (n : ℕ) (x : X) → IsOneOf xs x → number x ≡ n → find (λ one. nat_eq (number one) n) xs ≡ Some x
+  pub only_one : (xs : List X) → IsStrictlyIncreasing (map number xs) → (n : ℕ) (x : X) → IsOneOf xs x → number x ≡ n
+      → find (λ one. nat_eq (number one) n) xs ≡ Some x
   only_one [] up n x one own = absurd one
   only_one (first ∷ xs) up n x one own = elim one [
-    | inl same ↦ cond-true (nat_eq (number first) n) (Some first) (find (λ one. nat_eq (number one) n) xs) (subst (λ m. nat_eq (number first) m ≡ true) (ap number same ∙ own) (same_number (number first))) ∙ ap Some same
+    | inl same ↦
+        cond-true (nat_eq (number first) n) (Some first) (find (λ one. nat_eq (number one) n) xs)
+        (subst (λ m. nat_eq (number first) m ≡ true) (ap number same ∙ own) (same_number (number first)))
+        ∙ ap Some same
     | inr later ↦
         let less = greater_behind first xs up x later in
         cond-false (nat_eq (number first) n) (Some first) (find (λ one. nat_eq (number one) n) xs) (grind (arith, nat_tests))
-        ∙ only_one xs (λ k within. subst (λ m. get_or (map number (first ∷ xs)) (suc k) 0 < get_or (map number (first ∷ xs)) m 0) (sym (suc_joins k 1)) (up (suc k) (omega arith))) n x later own
+        ∙ only_one xs
+        (λ k within. subst (λ m. get_or (map number (first ∷ xs)) (suc k) 0 < get_or (map number (first ∷ xs)) m 0) (sym (suc_joins k 1))
+        (up (suc k) (omega arith)))
+        n x later own
   ]

@@ -41,8 +41,11 @@ module _ {X : Type 0} (number : X → ℕ) (items : List X) (up : IsStrictlyIncr
         sym (find_at (λ one. nat_eq (number one) n) items ∙ ap (slice_get items) first ∙ slice_get_read items (length items) at item refl within read)
 
     -- and there is none otherwise
-    none_of_all : ((k : ℕ) (d : X) → at ≤ k → k < length items → nat_eq (number (get_or items k d)) n ≡ false) → find (λ one. nat_eq (number one) n) items ≡ None
-    none_of_all others = find_at (λ one. nat_eq (number one) n) items ∙ by_cases (position_or_len (λ one. nat_eq (number one) n) items) (passes_at_first (λ one. nat_eq (number one) n) items)
+    none_of_all : ((k : ℕ) (d : X) → at ≤ k → k < length items → nat_eq (number (get_or items k d)) n ≡ false)
+        → find (λ one. nat_eq (number one) n) items ≡ None
+    none_of_all others =
+        find_at (λ one. nat_eq (number one) n) items
+        ∙ by_cases (position_or_len (λ one. nat_eq (number one) n) items) (passes_at_first (λ one. nat_eq (number one) n) items)
       where
         by_cases : (i : ℕ) → ((d : X) → i < length items → nat_eq (number (get_or items i d)) n ≡ true) → slice_get items i ≡ None
         by_cases i passes = elim (slice_get_cases items i).1 [
@@ -64,12 +67,15 @@ module _ {X : Type 0} (number : X → ℕ) (items : List X) (up : IsStrictlyIncr
           not_same (number (get_or items k d)) n (grind (arith, nat_tests))
       | inr le ↦
           let here : k ≡ at = omega arith in
-          let same : get_or items k d ≡ item = ap (λ j. get_or items j d) here ∙ some_same (sym (slice_get-get_or items at d within) ∙ slice_get_read items (length items) at item refl within read) in
+          let same : get_or items k d ≡ item =
+          ap (λ j. get_or items j d) here
+          ∙ some_same (sym (slice_get-get_or items at d within) ∙ slice_get_read items (length items) at item refl within read) in
           subst (λ (i : X). nat_eq (number i) n ≡ false) (sym same) (not_same (number item) n other)
     ]))
 
 -- Whether numbers ascend is seen at neighbours.
-module _ {X : Type 0} (number : X → ℕ) (items : List X) (at : ℕ) (some : 0 < at) (within : at < length items) (first second : X) (first_is : first ≡ get_or items (at - 1) first) (second_is : second ≡ get_or items at second) where
+module _ {X : Type 0} (number : X → ℕ) (items : List X) (at : ℕ) (some : 0 < at) (within : at < length items) (first second : X)
+    (first_is : first ≡ get_or items (at - 1) first) (second_is : second ≡ get_or items at second) where
   read_first : get_or (map number items) (at - 1) 0 ≡ number first
   read_first = get_or-map number items (at - 1) first 0 (omega arith) ∙ ap number (sym first_is)
 
@@ -87,7 +93,8 @@ module _ {X : Type 0} (number : X → ℕ) (items : List X) (at : ℕ) (some : 0
       again n more = omega arith
 
   -- one that is less
-  pub rises_there : number first < number second → ((k : ℕ) → k + 1 < at → get_or (map number items) k 0 < get_or (map number items) (k + 1) 0) → (k : ℕ) → k + 1 < at + 1 → get_or (map number items) k 0 < get_or (map number items) (k + 1) 0
+  pub rises_there : number first < number second → ((k : ℕ) → k + 1 < at → get_or (map number items) k 0 < get_or (map number items) (k + 1) 0) → (k : ℕ)
+      → k + 1 < at + 1 → get_or (map number items) k 0 < get_or (map number items) (k + 1) 0
   rises_there less before k below = elim (cases_lt (k + 1) at) [
     | inl earlier ↦ before k earlier
     | inr here ↦

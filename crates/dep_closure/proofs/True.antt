@@ -49,10 +49,13 @@ abbrev pub logged_at : TreeState → List Entry → ℕ → ℕ → List Change
 logged_at first history stamp t = logged_by (tree_at first history t) (core_at first history t) stamp (effect_at first history t) (makes_at first history t)
 
 -- what an entry logs has its stamp
-pub logged_stamp : (tree : TreeState) (core stamp : ℕ) (effect : Effect) (makes : Option Kind) (change : Change) → IsOneOf (logged_by tree core stamp effect makes) change → change.stamp.0 ≡ stamp
+pub logged_stamp : (tree : TreeState) (core stamp : ℕ) (effect : Effect) (makes : Option Kind) (change : Change)
+    → IsOneOf (logged_by tree core stamp effect makes) change → change.stamp.0 ≡ stamp
 logged_stamp tree core stamp Stays makes change one = absurd one
-logged_stamp tree core stamp (Adds directory name child) makes change one = elim one [ inl same ↦ ap (λ (c : Change). c.stamp.0) (sym same) | inr none ↦ absurd none ]
-logged_stamp tree core stamp (Removes directory name child) makes change one = elim one [ inl same ↦ ap (λ (c : Change). c.stamp.0) (sym same) | inr none ↦ absurd none ]
+logged_stamp tree core stamp (Adds directory name child) makes change one =
+    elim one [ inl same ↦ ap (λ (c : Change). c.stamp.0) (sym same) | inr none ↦ absurd none ]
+logged_stamp tree core stamp (Removes directory name child) makes change one =
+    elim one [ inl same ↦ ap (λ (c : Change). c.stamp.0) (sym same) | inr none ↦ absurd none ]
 logged_stamp tree core stamp (Moves p n q m x) makes change one = elim (in_either (logged_replaced tree stamp p q m (row_of tree q m)) _ change one) [
   | inl replaced ↦ of_replaced (row_of tree q m) replaced
   | inr moved ↦ elim moved [
@@ -67,7 +70,8 @@ logged_stamp tree core stamp (Moves p n q m x) makes change one = elim (in_eithe
 logged_stamp tree core stamp (Edits file edit) makes change one = absurd one
 
 -- later entries log at later stamps
-pub logged_later : (first : TreeState) (history : List Entry) (stamp : ℕ) → IsLegalFrom first stamp history → (change : Change) → IsOneOf (logged_of first history) change → stamp ≤ change.stamp.0
+pub logged_later : (first : TreeState) (history : List Entry) (stamp : ℕ) → IsLegalFrom first stamp history → (change : Change)
+    → IsOneOf (logged_of first history) change → stamp ≤ change.stamp.0
 logged_later first [] stamp legal change one = absurd one
 logged_later first (entry ∷ history) stamp legal change one = elim (in_either _ (logged_of (tree_after_entry first entry) history) change one) [
   | inl here ↦ let same = logged_stamp first entry.core.0 entry.stamp.0 _ _ change here in let at = legal.0.stamped in omega arith
@@ -75,43 +79,62 @@ logged_later first (entry ∷ history) stamp legal change one = elim (in_either 
 ]
 
 -- what a history logs at a stamp is what the entry of that stamp logs
-logged_there : (first : TreeState) (history : List Entry) (stamp t : ℕ) → IsLegalFrom first stamp history → filter (is_of_stamp (stamp + t)) (logged_of first history) ≡ logged_at first history (stamp + t) t
+logged_there : (first : TreeState) (history : List Entry) (stamp t : ℕ) → IsLegalFrom first stamp history
+    → filter (is_of_stamp (stamp + t)) (logged_of first history) ≡ logged_at first history (stamp + t) t
 logged_there first [] stamp t legal = refl
 logged_there first (entry ∷ history) stamp zero legal =
     let own = logged_by first entry.core.0 entry.stamp.0 (verdict first entry.core.0 entry.call).effect (verdict first entry.core.0 entry.call).makes in
     let rest = logged_of (tree_after_entry first entry) history in
     let stamped = legal.0.stamped in
-    let all : filter (is_of_stamp (stamp + 0)) own ≡ own = filter_all (is_of_stamp (stamp + 0)) own (λ x one. let at = logged_stamp first entry.core.0 entry.stamp.0 _ _ x one in eq-eqb x.stamp.0 (stamp + 0) (omega arith)) in
-    let none : filter (is_of_stamp (stamp + 0)) rest ≡ [] = filter_none (is_of_stamp (stamp + 0)) rest (λ x one. let late = logged_later (tree_after_entry first entry) history (suc stamp) legal.1 x one in not_same x.stamp.0 (stamp + 0) (omega arith)) in
+    let all : filter (is_of_stamp (stamp + 0)) own ≡ own =
+    filter_all (is_of_stamp (stamp + 0)) own
+    (λ x one. let at = logged_stamp first entry.core.0 entry.stamp.0 _ _ x one in eq-eqb x.stamp.0 (stamp + 0) (omega arith)) in
+    let none : filter (is_of_stamp (stamp + 0)) rest ≡ [] =
+    filter_none (is_of_stamp (stamp + 0)) rest
+    (λ x one. let late = logged_later (tree_after_entry first entry) history (suc stamp) legal.1 x one in
+    not_same x.stamp.0 (stamp + 0) (omega arith)) in
     filter-append (is_of_stamp (stamp + 0)) own rest ∙ ap (λ l. l ++ filter (is_of_stamp (stamp + 0)) rest) all ∙ ap (λ l. own ++ l) none ∙ append-nil own
-    ∙ ap (λ n. logged_by first entry.core.0 n (verdict first entry.core.0 entry.call).effect (verdict first entry.core.0 entry.call).makes) (stamped ∙ sym (plus_zero stamp))
+    ∙ ap (λ n. logged_by first entry.core.0 n (verdict first entry.core.0 entry.call).effect (verdict first entry.core.0 entry.call).makes)
+    (stamped ∙ sym (plus_zero stamp))
 logged_there first (entry ∷ history) stamp (suc t) legal =
     let own = logged_by first entry.core.0 entry.stamp.0 (verdict first entry.core.0 entry.call).effect (verdict first entry.core.0 entry.call).makes in
     let rest = logged_of (tree_after_entry first entry) history in
     let stamped = legal.0.stamped in
-    let none : filter (is_of_stamp (stamp + suc t)) own ≡ [] = filter_none (is_of_stamp (stamp + suc t)) own (λ x one. let at = logged_stamp first entry.core.0 entry.stamp.0 _ _ x one in not_same x.stamp.0 (stamp + suc t) (omega arith)) in
+    let none : filter (is_of_stamp (stamp + suc t)) own ≡ [] =
+    filter_none (is_of_stamp (stamp + suc t)) own
+    (λ x one. let at = logged_stamp first entry.core.0 entry.stamp.0 _ _ x one in not_same x.stamp.0 (stamp + suc t) (omega arith)) in
     filter-append (is_of_stamp (stamp + suc t)) own rest ∙ ap (λ l. l ++ filter (is_of_stamp (stamp + suc t)) rest) none
-    ∙ subst (λ n. filter (is_of_stamp n) rest ≡ logged_at (tree_after_entry first entry) history n t) (suc_plus stamp t) (logged_there (tree_after_entry first entry) history (suc stamp) t legal.1)
+    ∙ subst (λ n. filter (is_of_stamp n) rest ≡ logged_at (tree_after_entry first entry) history n t) (suc_plus stamp t)
+    (logged_there (tree_after_entry first entry) history (suc stamp) t legal.1)
 
 -- what a whole history logs at a stamp
-pub logged_stamped : (first : TreeState) (history : List Entry) (stamp : ℕ) → IsLegal first history → filter (is_of_stamp stamp) (logged_of first history) ≡ logged_at first history stamp stamp
-logged_stamped first history stamp legal = subst (λ n. filter (is_of_stamp n) (logged_of first history) ≡ logged_at first history n stamp) (zero_plus stamp) (logged_there first history 0 stamp legal)
+pub logged_stamped : (first : TreeState) (history : List Entry) (stamp : ℕ) → IsLegal first history
+    → filter (is_of_stamp stamp) (logged_of first history) ≡ logged_at first history stamp stamp
+logged_stamped first history stamp legal =
+    subst (λ n. filter (is_of_stamp n) (logged_of first history) ≡ logged_at first history n stamp) (zero_plus stamp) (logged_there first history 0 stamp legal)
 
 -- a change of a history is logged by the entry of its stamp
-pub logged_once : (first : TreeState) (history : List Entry) (change : Change) → IsLegal first history → IsOneOf (logged_of first history) change → IsOneOf (logged_at first history change.stamp.0 change.stamp.0) change
+pub logged_once : (first : TreeState) (history : List Entry) (change : Change) → IsLegal first history → IsOneOf (logged_of first history) change
+    → IsOneOf (logged_at first history change.stamp.0 change.stamp.0) change
 logged_once first history change legal one =
-    subst (λ l. IsOneOf l change) (logged_stamped first history change.stamp.0 legal) (to_filter (is_of_stamp change.stamp.0) (logged_of first history) change one (same_number change.stamp.0))
+    subst (λ l. IsOneOf l change) (logged_stamped first history change.stamp.0 legal)
+    (to_filter (is_of_stamp change.stamp.0) (logged_of first history) change one (same_number change.stamp.0))
 
 -- what an entry logs erases to its changes of rows
-erased_from : (first : TreeState) (history : List Entry) (stamp t : ℕ) → IsSoundTree first → IsLegalFrom first stamp history → erased_entry (logged_at first history (stamp + t) t) ≡ changes_by (tree_at first history t) (stamp + t) (effect_at first history t)
+erased_from : (first : TreeState) (history : List Entry) (stamp t : ℕ) → IsSoundTree first → IsLegalFrom first stamp history
+    → erased_entry (logged_at first history (stamp + t) t) ≡ changes_by (tree_at first history t) (stamp + t) (effect_at first history t)
 erased_from first [] stamp t is legal = refl
 erased_from first (entry ∷ history) stamp zero is legal = logs_erase first entry.core.0 (stamp + 0) entry.call is legal.0.core
 erased_from first (entry ∷ history) stamp (suc t) is legal =
     let next = tree_after_entry first entry in
-    subst (λ n. erased_entry (logged_at next history n t) ≡ changes_by (tree_at next history t) n (effect_at next history t)) (suc_plus stamp t) (erased_from next history (suc stamp) t (calls_keep_sound first entry.core.0 entry.call is legal.0.core) legal.1)
+    subst (λ n. erased_entry (logged_at next history n t) ≡ changes_by (tree_at next history t) n (effect_at next history t)) (suc_plus stamp t)
+    (erased_from next history (suc stamp) t (calls_keep_sound first entry.core.0 entry.call is legal.0.core) legal.1)
 
-erased_at : (first : TreeState) (history : List Entry) (stamp : ℕ) → IsSoundTree first → IsLegal first history → erased_entry (logged_at first history stamp stamp) ≡ changes_by (tree_at first history stamp) stamp (effect_at first history stamp)
-erased_at first history stamp is legal = subst (λ n. erased_entry (logged_at first history n stamp) ≡ changes_by (tree_at first history stamp) n (effect_at first history stamp)) (zero_plus stamp) (erased_from first history 0 stamp is legal)
+erased_at : (first : TreeState) (history : List Entry) (stamp : ℕ) → IsSoundTree first → IsLegal first history
+    → erased_entry (logged_at first history stamp stamp) ≡ changes_by (tree_at first history stamp) stamp (effect_at first history stamp)
+erased_at first history stamp is legal =
+    subst (λ n. erased_entry (logged_at first history n stamp) ≡ changes_by (tree_at first history stamp) n (effect_at first history stamp)) (zero_plus stamp)
+    (erased_from first history 0 stamp is legal)
 
 -- two functions that give the same along a list give the same of each of it
 same_of_maps : {X Y : Type 0} (f g : X → Y) (xs : List X) (x : X) → map f xs ≡ map g xs → IsOneOf xs x → f x ≡ g x
@@ -127,7 +150,8 @@ record ComesHere (tree : TreeState) (change : Change) : Type 0 where
   alive : is_alive tree change.dir.0 ≡ true
   child : change.kind ≡ kind_of tree change.child.0
 
-comes_here : (tree : TreeState) (core stamp : ℕ) (effect : Effect) (makes : Option Kind) (change : Change) → Fits tree core effect makes → IsOneOf (logged_by tree core stamp effect makes) change → is_addition change.act ≡ true → is_some change.other ≡ true → ComesHere tree change
+comes_here : (tree : TreeState) (core stamp : ℕ) (effect : Effect) (makes : Option Kind) (change : Change) → Fits tree core effect makes
+    → IsOneOf (logged_by tree core stamp effect makes) change → is_addition change.act ≡ true → is_some change.other ≡ true → ComesHere tree change
 comes_here tree core stamp Stays makes change fits one adds other = absurd one
 comes_here tree core stamp (Adds directory name child) makes change fits one adds other = elim one [
   | inl same ↦ absurd (true_not_false (sym other ∙ ap (λ (c : Change). is_some c.other) (sym same)))
@@ -138,16 +162,17 @@ comes_here tree core stamp (Removes directory name child) makes change fits one 
   | inr none ↦ absurd none
 ]
 comes_here tree core stamp (Moves p n q m x) (Some kind) change fits one adds other = absurd fits
-comes_here tree core stamp (Moves p n q m x) None change fits one adds other = elim (in_either (logged_replaced tree stamp p q m (row_of tree q m)) _ change one) [
-  | inl replaced ↦ absurd (of_replaced (row_of tree q m) replaced)
-  | inr moved ↦ elim moved [
-    | inl same ↦ absurd (true_not_false (sym adds ∙ ap (λ (c : Change). is_addition c.act) (sym same)))
-    | inr put ↦ elim put [
-      | inl same ↦ subst (ComesHere tree) same (record { kind = fits.holder.kind; alive = fits.holder.alive; child = refl })
-      | inr none ↦ absurd none
+comes_here tree core stamp (Moves p n q m x) None change fits one adds other =
+    elim (in_either (logged_replaced tree stamp p q m (row_of tree q m)) _ change one) [
+      | inl replaced ↦ absurd (of_replaced (row_of tree q m) replaced)
+      | inr moved ↦ elim moved [
+        | inl same ↦ absurd (true_not_false (sym adds ∙ ap (λ (c : Change). is_addition c.act) (sym same)))
+        | inr put ↦ elim put [
+          | inl same ↦ subst (ComesHere tree) same (record { kind = fits.holder.kind; alive = fits.holder.alive; child = refl })
+          | inr none ↦ absurd none
+        ]
+      ]
     ]
-  ]
-]
   where
     of_replaced : (there : Option ℕ) → IsOneOf (logged_replaced tree stamp p q m there) change → ⊥
     of_replaced None one = one
@@ -175,7 +200,8 @@ other_some : (other : Option NodeId) → is_some other ≡ true → number_of ot
 other_some None some none = absurd (cc)
 other_some (Some node) some none = some_not_none none
 
-module _ (first : TreeState) (history : List Entry) (counts : Counts) (sound : IsSoundTree first) (legal : IsLegal first history) (change : Change) (counted : counts change.stamp.0 ≡ true)
+module _ (first : TreeState) (history : List Entry) (counts : Counts) (sound : IsSoundTree first) (legal : IsLegal first history) (change : Change)
+    (counted : counts change.stamp.0 ≡ true)
     (one : IsOneOf (logged_at first history change.stamp.0 change.stamp.0) change) where
   abbrev tree : TreeState
   tree = tree_at first history change.stamp.0
@@ -193,13 +219,21 @@ module _ (first : TreeState) (history : List Entry) (counts : Counts) (sound : I
   is_sound = sound_at first history 0 change.stamp.0 sound legal
 
   comes : is_addition change.act ≡ true → is_some change.other ≡ true → ComesHere tree change
-  comes = comes_here tree (core_at first history change.stamp.0) change.stamp.0 (effect_at first history change.stamp.0) (makes_at first history change.stamp.0) change (fits_at first history 0 change.stamp.0 sound legal) one
+  comes =
+      comes_here tree (core_at first history change.stamp.0) change.stamp.0 (effect_at first history change.stamp.0)
+      (makes_at first history change.stamp.0) change (fits_at first history 0 change.stamp.0 sound legal) one
 
   due : change.above ≡ above_due tree change
-  due = same_of_maps (λ (c : Change). c.above) (above_due tree) entry change (logs_tell_ways tree (core_at first history change.stamp.0) change.stamp.0 (effect_at first history change.stamp.0) (makes_at first history change.stamp.0)) one
+  due =
+      same_of_maps (λ (c : Change). c.above) (above_due tree) entry change
+      (logs_tell_ways tree (core_at first history change.stamp.0) change.stamp.0 (effect_at first history change.stamp.0)
+      (makes_at first history change.stamp.0))
+      one
 
   pub row : IsChange first history (erased entry change)
-  row = change_in first history change.stamp.0 (erased entry change) legal (subst (λ l. IsOneOf l (erased entry change)) (erased_at first history change.stamp.0 sound legal) (to_map (erased entry) entry change one))
+  row =
+      change_in first history change.stamp.0 (erased entry change) legal
+      (subst (λ l. IsOneOf l (erased entry change)) (erased_at first history change.stamp.0 sound legal) (to_map (erased entry) entry change one))
 
   same_kind : ComesHere tree change → is_directory tree change.child.0 ≡ is_directory_kind change.kind
   same_kind here = directory_by_kind tree change.child.0 ∙ ap is_directory_kind (sym here.child)
@@ -209,14 +243,19 @@ module _ (first : TreeState) (history : List Entry) (counts : Counts) (sound : I
       let other = some_other change.other move.moves.other in
       let here = comes move.moves.places other in
       let kind = subst (λ t. is_directory t change.child.0 ≡ true) (sym same_tree) move.moves.kind in
-      due_full (is_addition change.act) (is_some change.other) (is_directory_kind change.kind) _ change.above move.moves.places other (sym (same_kind here) ∙ kind) due
+      due_full (is_addition change.act) (is_some change.other) (is_directory_kind change.kind) _ change.above move.moves.places other
+      (sym (same_kind here) ∙ kind) due
       ∙ walk_is tree is_sound (subst (λ t. Above t change.dir.0 above) (sym same_tree) way) here.kind
 
-  any_above : (node : ℕ) → IsOneOf change.above node → (is_addition change.act ≡ true) × (is_some change.other ≡ true) × (is_directory_kind change.kind ≡ true) × (change.above ≡ walk_up (len tree.rows) tree change.dir.0)
-  any_above node among = elim (due_cases (is_addition change.act) (is_some change.other) (is_directory_kind change.kind) (walk_up (len tree.rows) tree change.dir.0) change.above due) [
-    | inl all ↦ all
-    | inr none ↦ absurd (subst (λ l. IsOneOf l node) none among)
-  ]
+  any_above : (node : ℕ) → IsOneOf change.above node
+      → (is_addition change.act ≡ true) × (is_some change.other ≡ true) × (is_directory_kind change.kind ≡ true)
+      × (change.above ≡ walk_up (len tree.rows) tree change.dir.0)
+  any_above node among =
+      elim (due_cases (is_addition change.act) (is_some change.other) (is_directory_kind change.kind)
+      (walk_up (len tree.rows) tree change.dir.0) change.above due) [
+        | inl all ↦ all
+        | inr none ↦ absurd (subst (λ l. IsOneOf l node) none among)
+      ]
 
   one_is_true : IsTrue first history counts (record { change = erased entry change; above = change.above })
   one_is_true = record {
@@ -237,11 +276,13 @@ module _ (first : TreeState) (history : List Entry) (counts : Counts) (sound : I
         let all = any_above node among in
         let here = comes all.0 all.1 in
         let way = way_up tree is_sound change.dir.0 here.kind here.alive in
-        subst (λ t. Above t change.dir.0 change.above) same_tree (subst (λ l. Above tree change.dir.0 l) (sym (all.3 ∙ walk_is tree is_sound way.1 here.kind)) way.1);
+        subst (λ t. Above t change.dir.0 change.above) same_tree
+        (subst (λ l. Above tree change.dir.0 l) (sym (all.3 ∙ walk_is tree is_sound way.1 here.kind)) way.1);
   }
 
 -- a log's changes at a stamp are those of its directory that the entry logs
-log_stamped : (first : TreeState) (history : List Entry) (counts : Counts) (log : DirectoryChanges) (is : IsLogOf first history counts log) (stamp : ℕ) → IsLegal first history → is.keeps stamp ≡ true
+log_stamped : (first : TreeState) (history : List Entry) (counts : Counts) (log : DirectoryChanges) (is : IsLogOf first history counts log) (stamp : ℕ)
+    → IsLegal first history → is.keeps stamp ≡ true
     → filter (is_of_stamp stamp) log.changes.items ≡ filter (is_logged_in log.dir.0) (logged_at first history stamp stamp)
 log_stamped first history counts log is stamp legal kept =
     let logged = logged_of first history in
@@ -249,7 +290,9 @@ log_stamped first history counts log is stamp legal kept =
     ap (filter (is_of_stamp stamp)) is.changes
     ∙ pass_both (λ change. is.keeps change.stamp.0) (is_of_stamp stamp) (is_of_stamp stamp) asks own
     ∙ pass_both (is_logged_in log.dir.0) (is_of_stamp stamp) (λ change. is_logged_in log.dir.0 change && is_of_stamp stamp change) (λ change. refl) logged
-    ∙ sym (pass_both (is_of_stamp stamp) (is_logged_in log.dir.0) (λ change. is_logged_in log.dir.0 change && is_of_stamp stamp change) (λ change. and_turned (is_logged_in log.dir.0 change) (is_of_stamp stamp change)) logged)
+    ∙ sym
+    (pass_both (is_of_stamp stamp) (is_logged_in log.dir.0) (λ change. is_logged_in log.dir.0 change && is_of_stamp stamp change)
+    (λ change. and_turned (is_logged_in log.dir.0 change) (is_of_stamp stamp change)) logged)
     ∙ ap (filter (is_logged_in log.dir.0)) (logged_stamped first history stamp legal)
   where
     asks : (x : Change) → is_of_stamp stamp x ≡ (is.keeps x.stamp.0 && is_of_stamp stamp x)
@@ -268,11 +311,14 @@ log_stamped first history counts log is stamp legal kept =
 pub record StandsInHistory (first : TreeState) (history : List Entry) (counts : Counts) (log : DirectoryChanges) (change : Change) : Type 0 where
   pub counted : counts change.stamp.0 ≡ true
   pub logged : IsOneOf (logged_of first history) change
-  pub noted : noted_as log.changes.items change ≡ record { change = erased (logged_at first history change.stamp.0 change.stamp.0) change; above = change.above }
+  pub noted : noted_as log.changes.items change
+      ≡ record { change = erased (logged_at first history change.stamp.0 change.stamp.0) change; above = change.above }
 
-pub stands_in_history : (first : TreeState) (history : List Entry) (counts : Counts) (log : DirectoryChanges) → IsLegal first history → IsLogOf first history counts log → (change : Change) → IsOneOf log.changes.items change → StandsInHistory first history counts log change
+pub stands_in_history : (first : TreeState) (history : List Entry) (counts : Counts) (log : DirectoryChanges) → IsLegal first history
+    → IsLogOf first history counts log → (change : Change) → IsOneOf log.changes.items change → StandsInHistory first history counts log change
 stands_in_history first history counts log legal is change one =
-    let kept = in_filter (λ c. is.keeps c.stamp.0) (filter (is_logged_in log.dir.0) (logged_of first history)) change (subst (λ l. IsOneOf l change) is.changes one) in
+    let kept =
+    in_filter (λ c. is.keeps c.stamp.0) (filter (is_logged_in log.dir.0) (logged_of first history)) change (subst (λ l. IsOneOf l change) is.changes one) in
     let own = in_filter (is_logged_in log.dir.0) (logged_of first history) change kept.0 in
     let directory : change.dir.0 ≡ log.dir.0 = eqb-true change.dir.0 log.dir.0 own.1 in
     let entry = logged_at first history change.stamp.0 change.stamp.0 in
@@ -284,7 +330,16 @@ stands_in_history first history counts log legal is change one =
       counted = is.counted change.stamp.0 kept.1;
       logged = own.0;
       noted = λ i. record {
-        change = record { stamp = change.stamp.0; directory = change.dir.0; name = change.name; child = change.child.0; places = is_addition change.act; other = number_of change.other; ends = is_end_of (same i) change };
+        change =
+            record {
+              stamp = change.stamp.0;
+              directory = change.dir.0;
+              name = change.name;
+              child = change.child.0;
+              places = is_addition change.act;
+              other = number_of change.other;
+              ends = is_end_of (same i) change;
+            };
         above = change.above;
       };
     }
@@ -293,10 +348,12 @@ stands_in_history first history counts log legal is change one =
     and_itself true = refl
     and_itself false = refl
 
-log_is_true : (first : TreeState) (history : List Entry) (counts : Counts) (log : DirectoryChanges) → IsSoundTree first → IsLegal first history → IsLogOf first history counts log → (change : Change) → IsOneOf log.changes.items change → IsTrue first history counts (noted_as log.changes.items change)
+log_is_true : (first : TreeState) (history : List Entry) (counts : Counts) (log : DirectoryChanges) → IsSoundTree first → IsLegal first history
+    → IsLogOf first history counts log → (change : Change) → IsOneOf log.changes.items change → IsTrue first history counts (noted_as log.changes.items change)
 log_is_true first history counts log sound legal is change one =
     let stands = stands_in_history first history counts log legal is change one in
-    subst (IsTrue first history counts) (sym stands.noted) (one_is_true first history counts sound legal change stands.counted (logged_once first history change legal stands.logged))
+    subst (IsTrue first history counts) (sym stands.noted)
+    (one_is_true first history counts sound legal change stands.counted (logged_once first history change legal stands.logged))
 
 -- each change of rows in a history is what a logged one erases to
 pub logged_row : (first : TreeState) (history : List Entry) (row : RowChange) → IsSoundTree first → IsLegal first history → IsChange first history row
@@ -305,9 +362,12 @@ logged_row first history row sound legal is =
     let entry = logged_at first history row.stamp row.stamp in
     let here = subst (λ l. IsOneOf l row) (sym (erased_at first history row.stamp sound legal)) (change_of first history row legal is) in
     let logged = from_map (erased entry) entry row here in
-    let stamped = logged_stamp (tree_at first history row.stamp) (core_at first history row.stamp) row.stamp (effect_at first history row.stamp) (makes_at first history row.stamp) logged.0 logged.1 in (
+    let stamped =
+    logged_stamp (tree_at first history row.stamp) (core_at first history row.stamp) row.stamp (effect_at first history row.stamp)
+    (makes_at first history row.stamp) logged.0 logged.1 in (
       logged.0,
-      (in_filter (is_of_stamp row.stamp) (logged_of first history) logged.0 (subst (λ l. IsOneOf l logged.0) (sym (logged_stamped first history row.stamp legal)) logged.1)).0,
+      (in_filter (is_of_stamp row.stamp) (logged_of first history) logged.0
+          (subst (λ l. IsOneOf l logged.0) (sym (logged_stamped first history row.stamp legal)) logged.1)).0,
       ap (λ n. erased (logged_at first history n n) logged.0) stamped ∙ logged.2,
     )
 

@@ -32,7 +32,10 @@ pub record IsLogOf (first : TreeState) (history : List Entry) (counts : Counts) 
 -- What was flushed may be there too.
 pub record HasUnflushed (first : TreeState) (history : List Entry) (counts : Counts) (cut : Cut) (inodes : ℕ → Bool) (gathered : Gathered) : Type 0 where
   pub logs : (log : DirectoryChanges) → IsOneOf gathered.logs.items log → IsLogOf first history counts log
-  pub changes : (change : Change) → IsOneOf (logged_of first history) change → counts change.stamp.0 ≡ true → cut_of cut change.dir.0 ≤ change.stamp.0 → (log : DirectoryChanges) × IsOneOf gathered.logs.items log × IsOneOf log.changes.items change
+  pub changes : (change : Change) → IsOneOf (logged_of first history) change → counts change.stamp.0 ≡ true → cut_of cut change.dir.0 ≤ change.stamp.0
+      → (log : DirectoryChanges) × IsOneOf gathered.logs.items log × IsOneOf log.changes.items change
   pub cuts : (node : ℕ) → cut_in gathered.cuts.items node ≡ cut_of cut node
-  pub births : (node directory : ℕ) → IsOneOf (map born_as gathered.births.items) (record { node = node; directory = directory }) ↔ ((stamp : ℕ) × IsOneOf (births_of first history) (record { stamp = stamp; directory = directory; node = node }))
+  pub births : (node directory : ℕ)
+      → IsOneOf (map born_as gathered.births.items) (record { node = node; directory = directory }) ↔
+      ((stamp : ℕ) × IsOneOf (births_of first history) (record { stamp = stamp; directory = directory; node = node }))
   pub with_inode : (node : ℕ) → is_listed (map node_number gathered.inodes.items) node ≡ inodes node

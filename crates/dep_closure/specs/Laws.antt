@@ -20,18 +20,24 @@ use Rattle.dep_closure.specs.History.{IsLogOf, HasUnflushed}
 -- What was gathered of a legal history is so in it: where each log has what the history logs at stamps that count, each gathered change
 -- is one of the history, with the directories above its own recorded exactly where it places a directory by a rename between two.
 abbrev pub LogsAreTrue : Type 0
-LogsAreTrue = (first : TreeState) (history : List Entry) (counts : Counts) (gathered : Gathered) (start : NodeId) (below : Stamp) → IsSoundTree first → IsLegal first history
+LogsAreTrue =
+    (first : TreeState) (history : List Entry) (counts : Counts) (gathered : Gathered) (start : NodeId) (below : Stamp) → IsSoundTree first
+    → IsLegal first history
     → ((log : DirectoryChanges) → IsOneOf gathered.logs.items log → IsLogOf first history counts log)
     → (noted : Noted) → IsOneOf (look_of start below gathered).noted noted → IsTrue first history counts noted
 
 -- What has all of a legal history that counts and is not flushed is enough of it.
 abbrev pub UnflushedIsEnough : Type 0
-UnflushedIsEnough = (first : TreeState) (history : List Entry) (counts : Counts) (cut : Cut) (inodes : ℕ → Bool) (gathered : Gathered) (start : NodeId) (below : Stamp) → IsSoundTree first → IsLegal first history
+UnflushedIsEnough =
+    (first : TreeState) (history : List Entry) (counts : Counts) (cut : Cut) (inodes : ℕ → Bool) (gathered : Gathered) (start : NodeId) (below : Stamp)
+    → IsSoundTree first → IsLegal first history
     → HasUnflushed first history counts cut inodes gathered → KnowsEnough first history counts cut inodes (look_of start below gathered)
 
 -- Where what was gathered is enough of a history, a list of what it gathers is the closure of the fsync in that history.
 abbrev pub ListsAreClosures : Type 0
-ListsAreClosures = (first : TreeState) (history : List Entry) (counts : Counts) (cut : Cut) (inodes : ℕ → Bool) (gathered : Gathered) (start : NodeId) (below : Stamp) (nodes : List ℕ)
+ListsAreClosures =
+    (first : TreeState) (history : List Entry) (counts : Counts) (cut : Cut) (inodes : ℕ → Bool) (gathered : Gathered) (start : NodeId) (below : Stamp)
+    (nodes : List ℕ)
     → KnowsEnough first history counts cut inodes (look_of start below gathered)
     → ((node : ℕ) → (is_listed nodes node ≡ true) ↔ Gathers (look_of start below gathered) node)
     → (node : ℕ) → (is_listed nodes node ≡ true) ↔ Closure first history counts cut inodes (record { node = start.0; stamp = below.0 }) node

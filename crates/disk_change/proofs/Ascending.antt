@@ -24,17 +24,21 @@ module _ {X : Type 0} (key : X → ℕ) where
 
   -- and so what a function gives of one more
   pub ascending_more : {Y : Type 0} (f : Y → Option X) (front : List X) (ys : List Y) (i : ℕ) (d : Y) (before new : List X) (o : Option X) → i < length ys
-      → before ≡ ascending_by key (front ++ filter_map f (take i ys)) → o ≡ f (get_or ys i d) → new ≡ put_if key o before → new ≡ ascending_by key (front ++ filter_map f (take (i + 1) ys))
+      → before ≡ ascending_by key (front ++ filter_map f (take i ys)) → o ≡ f (get_or ys i d) → new ≡ put_if key o before
+      → new ≡ ascending_by key (front ++ filter_map f (take (i + 1) ys))
   ascending_more f front ys i d before new o within was is after =
       after ∙ (λ j. put_if key (is j) (was j)) ∙ sym (ascending_maybe (front ++ filter_map f (take i ys)) (f (get_or ys i d)))
-      ∙ ap (ascending_by key) (append_assoc front (filter_map f (take i ys)) (option_to_list (f (get_or ys i d))) ∙ ap (λ rest. front ++ rest) (sym (filter_map_more f ys i d within)))
+      ∙ ap (ascending_by key)
+      (append_assoc front (filter_map f (take i ys)) (option_to_list (f (get_or ys i d)))
+      ∙ ap (λ rest. front ++ rest) (sym (filter_map_more f ys i d within)))
 
   -- items whose numbers are sorted ascend
   pub sorted_ascend : (items : List X) (numbers : List ℕ) → map key items ≡ numbers → IsStrictlySortedBy nat_cmp numbers → AscendBy key items
   sorted_ascend items numbers are sorted i j d lt within =
       let first = get_or-map key items i d 0 (omega arith) in
       let later = get_or-map key items j d 0 within in
-      let below = below_from_sorted (map key items) i j 0 (subst (IsStrictlySortedBy nat_cmp) (sym are) sorted) lt (omega (arith, within, length-map items key)) in
+      let below =
+      below_from_sorted (map key items) i j 0 (subst (IsStrictlySortedBy nat_cmp) (sym are) sorted) lt (omega (arith, within, length-map items key)) in
       omega (arith, below, first, later)
 
 module _ {V X : Type 0} (entry : ℕ × V → X) (key : X → ℕ) (own : (e : ℕ × V) → key (entry e) ≡ e.0) where
@@ -48,7 +52,9 @@ module _ {V X : Type 0} (entry : ℕ × V → X) (key : X → ℕ) (own : (e : �
   put_keyed [] k v = refl
   put_keyed (e ∷ es) k v =
       by (nat_cmp k e.0) (λ same. sym (nat_cmp-IsAntisymmetric k e.0 same)) (put_keyed es k v)
-      ∙ sym (λ i. match_ordering (nat_cmp (own (k, v) i) (own e i)) (entry (k, v) ∷ entry e ∷ map entry es) (entry (k, v) ∷ map entry es) (entry e ∷ put_over key (entry (k, v)) (map entry es)))
+      ∙ sym
+      (λ i. match_ordering (nat_cmp (own (k, v) i) (own e i)) (entry (k, v) ∷ entry e ∷ map entry es) (entry (k, v) ∷ map entry es)
+      (entry e ∷ put_over key (entry (k, v)) (map entry es)))
     where
       by : (o : Ordering) → (o ≡ Equal → e.0 ≡ k) → map entry (insert_entry nat_cmp es k v) ≡ put_over key (entry (k, v)) (map entry es)
           → map entry (match_ordering o ((k, v) ∷ e ∷ es) ((e.0, v) ∷ es) (e ∷ insert_entry nat_cmp es k v))

@@ -30,7 +30,8 @@ node_found nodes node at within equal =
     sym (list_any_at (λ other. nat_eq other node) nodes at 0 within (ap (λ n. nat_eq n node) same ∙ same_number node))
 
 -- and misses no other
-pub node_missed : (nodes : List ℕ) → IsStrictlyIncreasing nodes → (node at : ℕ) → at ≤ length nodes → (IsNonDecreasingBy (λ y. ordering_index (nat_cmp y node)) nodes
+pub node_missed : (nodes : List ℕ) → IsStrictlyIncreasing nodes → (node at : ℕ) → at ≤ length nodes
+    → (IsNonDecreasingBy (λ y. ordering_index (nat_cmp y node)) nodes
     → IsPartitionPoint (λ y. nat_cmp y node ≡ Less) (λ y. nat_cmp y node ≡ Greater) nodes at) → false ≡ is_among nodes node
 node_missed nodes up node at within parted =
     is_none_found (sym (search_misses (λ n. n) nodes (AllPairs-from_increasing nodes up) node at within parted))
@@ -47,7 +48,8 @@ node_missed nodes up node at within parted =
     is_none_found e = by_list nodes e
 
 -- a list whose front is rewritten, written at the next place
-pub set_next : {X : Type 0} (front old : List X) (i : ℕ) (v : X) → length front ≡ i → i < length old → set (front ++ drop i old) i v ≡ (front ++ v ∷ []) ++ drop (suc i) old
+pub set_next : {X : Type 0} (front old : List X) (i : ℕ) (v : X) → length front ≡ i → i < length old
+    → set (front ++ drop i old) i v ≡ (front ++ v ∷ []) ++ drop (suc i) old
 set_next [] [] zero v e within = absurd (omega arith)
 set_next [] (x ∷ old) zero v e within = refl
 set_next [] old (suc i) v e within = absurd (omega arith)
@@ -79,9 +81,14 @@ left_next rows n = let next : 1 + n ≡ suc n = omega arith in ap (λ m. drop m 
 pub fill-append : (a b : List (Option Row)) (rows : List Row) → fill_front (a ++ b) rows ≡ fill_front a rows ++ fill_front b (rows_left a rows)
 fill-append [] b rows = refl
 fill-append (None ∷ a) b rows =
-    ap (λ rest. slice_get rows 0 ∷ rest) (fill-append a b (drop 1 rows) ∙ ap (λ more. fill_front a (drop 1 rows) ++ fill_front b more) (sym (left_next rows (count_by is_none a)) ∙ ap (λ n. drop n rows) (sym (count-cons is_none None a))))
+    ap (λ rest. slice_get rows 0 ∷ rest)
+    (fill-append a b (drop 1 rows)
+    ∙ ap (λ more. fill_front a (drop 1 rows) ++ fill_front b more)
+    (sym (left_next rows (count_by is_none a)) ∙ ap (λ n. drop n rows) (sym (count-cons is_none None a))))
 fill-append (Some row ∷ a) b rows =
-    ap (λ rest. Some row ∷ rest) (fill-append a b rows ∙ ap (λ n. fill_front a rows ++ fill_front b (drop n rows)) (from_zero_plus (count_by is_none a) ∙ sym (count-cons is_none (Some row) a)))
+    ap (λ rest. Some row ∷ rest)
+    (fill-append a b rows
+    ∙ ap (λ n. fill_front a rows ++ fill_front b (drop n rows)) (from_zero_plus (count_by is_none a) ∙ sym (count-cons is_none (Some row) a)))
 
 pub length-fill : (slots : List (Option Row)) (rows : List Row) → length (fill_front slots rows) ≡ length slots
 length-fill [] rows = refl
@@ -99,7 +106,8 @@ left-append (Some row ∷ a) b rows =
 
 -- one more slot is filled, or stays
 pub fill_more : (old : List (Option Row)) (rows : List Row) (i : ℕ) → i < length old
-    → fill_front (take (i + 1) old) rows ≡ fill_front (take i old) rows ++ cond (is_none (get_or old i None)) (slice_get (rows_left (take i old) rows) 0) (get_or old i None) ∷ []
+    → fill_front (take (i + 1) old) rows
+    ≡ fill_front (take i old) rows ++ cond (is_none (get_or old i None)) (slice_get (rows_left (take i old) rows) 0) (get_or old i None) ∷ []
 fill_more old rows i within = ap (λ front. fill_front front rows) (take_more old i None within) ∙ fill-append (take i old) (get_or old i None ∷ []) rows
 
 pub left_more : (old : List (Option Row)) (rows : List Row) (i : ℕ) → i < length old
@@ -122,27 +130,37 @@ pub step_taken : (old block : List (Option Row)) (rows : List Row) (i : ℕ) →
 step_taken old block rows i within taken before =
     before ∙ ap (λ rest. fill_front (take i old) rows ++ rest) (behind_place old i None within)
     ∙ sym (append_assoc (fill_front (take i old) rows) (get_or old i None ∷ []) (drop (i + 1) old))
-    ∙ ap (λ front. front ++ drop (i + 1) old) (ap (λ b. fill_front (take i old) rows ++ cond b (slice_get (rows_left (take i old) rows) 0) (get_or old i None) ∷ []) (sym taken) ∙ sym (fill_more old rows i within))
+    ∙ ap (λ front. front ++ drop (i + 1) old)
+    (ap (λ b. fill_front (take i old) rows ++ cond b (slice_get (rows_left (take i old) rows) 0) (get_or old i None) ∷ []) (sym taken)
+    ∙ sym (fill_more old rows i within))
 
-pub left_taken : (old : List (Option Row)) (rows : List Row) (i : ℕ) → i < length old → is_none (get_or old i None) ≡ false → rows_left (take (i + 1) old) rows ≡ rows_left (take i old) rows
+pub left_taken : (old : List (Option Row)) (rows : List Row) (i : ℕ) → i < length old → is_none (get_or old i None) ≡ false
+    → rows_left (take (i + 1) old) rows ≡ rows_left (take i old) rows
 left_taken old rows i within taken =
     left_more old rows i within ∙ ap (λ n. drop n (rows_left (take i old) rows)) (count-cons is_none (get_or old i None) [] ∙ ap (λ b. cond b 1 0 + 0) taken)
 
 -- an empty slot gets the first row that is left
 pub step_empty : (old block : List (Option Row)) (rows : List Row) (i : ℕ) (slot : Option Row) → i < length old → is_none (get_or old i None) ≡ true
-    → block ≡ fill_front (take i old) rows ++ drop i old → slot ≡ slice_get (rows_left (take i old) rows) 0 → set block i slot ≡ fill_front (take (i + 1) old) rows ++ drop (i + 1) old
+    → block ≡ fill_front (take i old) rows ++ drop i old → slot ≡ slice_get (rows_left (take i old) rows) 0
+    → set block i slot ≡ fill_front (take (i + 1) old) rows ++ drop (i + 1) old
 step_empty old block rows i slot within empty before is =
     ap (λ b. set b i slot) before ∙ set_next (fill_front (take i old) rows) old i slot (front_filled old rows i within) within
     ∙ ap (λ n. (fill_front (take i old) rows ++ slot ∷ []) ++ drop n old) (suc_is_one_more i)
-    ∙ ap (λ front. front ++ drop (i + 1) old) (ap (λ s. fill_front (take i old) rows ++ s ∷ []) is ∙ ap (λ b. fill_front (take i old) rows ++ cond b (slice_get (rows_left (take i old) rows) 0) (get_or old i None) ∷ []) (sym empty) ∙ sym (fill_more old rows i within))
+    ∙ ap (λ front. front ++ drop (i + 1) old)
+    (ap (λ s. fill_front (take i old) rows ++ s ∷ []) is
+    ∙ ap (λ b. fill_front (take i old) rows ++ cond b (slice_get (rows_left (take i old) rows) 0) (get_or old i None) ∷ []) (sym empty)
+    ∙ sym (fill_more old rows i within))
 
-pub left_empty : (old : List (Option Row)) (rows : List Row) (i : ℕ) → i < length old → is_none (get_or old i None) ≡ true → rows_left (take (i + 1) old) rows ≡ drop 1 (rows_left (take i old) rows)
+pub left_empty : (old : List (Option Row)) (rows : List Row) (i : ℕ) → i < length old → is_none (get_or old i None) ≡ true
+    → rows_left (take (i + 1) old) rows ≡ drop 1 (rows_left (take i old) rows)
 left_empty old rows i within empty =
     left_more old rows i within ∙ ap (λ n. drop n (rows_left (take i old) rows)) (count-cons is_none (get_or old i None) [] ∙ ap (λ b. cond b 1 0 + 0) empty)
 
 -- what stands at the place of a slot in a block that is filled up to there
-pub slot_there : (old block : List (Option Row)) (rows : List Row) (i : ℕ) → i < length old → block ≡ fill_front (take i old) rows ++ drop i old → get_or block i None ≡ get_or old i None
-slot_there old block rows i within before = ap (λ b. get_or b i None) before ∙ get_next (fill_front (take i old) rows) old i None (front_filled old rows i within) within
+pub slot_there : (old block : List (Option Row)) (rows : List Row) (i : ℕ) → i < length old → block ≡ fill_front (take i old) rows ++ drop i old
+    → get_or block i None ≡ get_or old i None
+slot_there old block rows i within before =
+    ap (λ b. get_or b i None) before ∙ get_next (fill_front (take i old) rows) old i None (front_filled old rows i within) within
 
 -- the last of a list that waits comes first
 pub popped : (waiting rest : List Row) (first : Option Row) → waiting ≡ rest ++ option_to_list first → (is_some first ≡ false → waiting ≡ [])
@@ -156,7 +174,8 @@ popped waiting rest (Some row) e none =
     (ap (λ w. slice_get w 0) (sym turned), ap (drop 1) (sym turned))
 
 -- nothing comes of a list in which nothing waits
-pub none_waits : {X : Type 0} (P Q : Type 0) (waiting : List X) (first : Option X) (n : ℕ) → MatchOption first ((n ≡ 0) × P) (λ _. Q) → n ≡ length waiting → is_some first ≡ false → waiting ≡ []
+pub none_waits : {X : Type 0} (P Q : Type 0) (waiting : List X) (first : Option X) (n : ℕ) → MatchOption first ((n ≡ 0) × P) (λ _. Q) → n ≡ length waiting
+    → is_some first ≡ false → waiting ≡ []
 none_waits P Q [] first n cases long none = refl
 none_waits P Q (x ∷ waiting) None n cases long none = absurd (omega (arith, cases.0))
 none_waits P Q (x ∷ waiting) (Some row) n cases long none = absurd (true_not_false none)
@@ -171,7 +190,8 @@ is_lent None slot same some = absurd (false_not_true some)
 is_lent (Some row) slot same some = ap is_none (sym same)
 
 -- one more slot after a net
-pub moved_more : {X Y : Type 0} (f : X → Y) (old : List X) (i : ℕ) (d : X) → i < length old → map f (take (i + 1) old) ≡ map f (take i old) ++ f (get_or old i d) ∷ []
+pub moved_more : {X Y : Type 0} (f : X → Y) (old : List X) (i : ℕ) (d : X) → i < length old
+    → map f (take (i + 1) old) ≡ map f (take i old) ++ f (get_or old i d) ∷ []
 moved_more f old i d within = ap (map f) (take_more old i d within) ∙ map-append f (take i old) (get_or old i d ∷ [])
 
 front_moved : {X Y : Type 0} (f : X → Y) (old : List X) (i : ℕ) → i < length old → length (map f (take i old)) ≡ i
@@ -191,7 +211,8 @@ module _ {X : Type 0} (f : X → X) (old block : List X) (i : ℕ) (d : X) (with
   -- and one that stays
   pub step_stays : get_or old i d ≡ f (get_or old i d) → block ≡ map f (take (i + 1) old) ++ drop (i + 1) old
   step_stays stays =
-      before ∙ ap (λ rest. map f (take i old) ++ rest) (behind_place old i d within) ∙ sym (append_assoc (map f (take i old)) (get_or old i d ∷ []) (drop (i + 1) old))
+      before ∙ ap (λ rest. map f (take i old) ++ rest) (behind_place old i d within)
+      ∙ sym (append_assoc (map f (take i old)) (get_or old i d ∷ []) (drop (i + 1) old))
       ∙ ap (λ front. front ++ drop (i + 1) old) (ap (λ s. map f (take i old) ++ s ∷ []) stays ∙ sym (moved_more f old i d within))
 
 -- what a net does to a slot, by the row of the net that has its name

@@ -38,17 +38,22 @@ times_same : (x n : ℕ) (xs : List ℕ) → x ≡ n → times_in (x ∷ xs) n �
 times_same x n xs same = times_cons x n xs ∙ ap (λ b. cond b 1 0 + times_in xs n) (ap (λ m. nat_eq m n) same ∙ same_number n)
 
 -- a number stands between two places alone
-pub times_between : (xs : List ℕ) (n from to : ℕ) → from ≤ length xs → to ≤ length xs → IsPartitionPoint (λ x. nat_lt x n ≡ true) (λ x. nat_lt x n ≡ false) xs from
+pub times_between : (xs : List ℕ) (n from to : ℕ) → from ≤ length xs → to ≤ length xs
+    → IsPartitionPoint (λ x. nat_lt x n ≡ true) (λ x. nat_lt x n ≡ false) xs from
     → IsPartitionPoint (λ x. nat_le x n ≡ true) (λ x. nat_le x n ≡ false) xs to → (from ≤ to) × (to - from ≡ times_in xs n)
 times_between [] n from to low high before upto = (omega arith, omega arith)
 times_between (x ∷ xs) n zero zero low high before upto =
     let above = leb-false x n (upto.1 0 x (omega arith) (omega arith)) in
-    let rest = times_between xs n 0 0 (omega arith) (omega arith) (λ k d a b. absurd (omega arith), λ k d a b. before.1 (suc k) d (omega arith) (omega arith)) (λ k d a b. absurd (omega arith), λ k d a b. upto.1 (suc k) d (omega arith) (omega arith)) in
+    let rest =
+    times_between xs n 0 0 (omega arith) (omega arith) (λ k d a b. absurd (omega arith), λ k d a b. before.1 (suc k) d (omega arith) (omega arith))
+    (λ k d a b. absurd (omega arith), λ k d a b. upto.1 (suc k) d (omega arith) (omega arith)) in
     (omega arith, omega (arith, rest.1, times_other x n xs (λ e. omega arith)))
 times_between (x ∷ xs) n zero (suc to) low high before upto =
     let not_below = ltb-false x n (before.1 0 x (omega arith) (omega arith)) in
     let not_above = leb-true x n (upto.0 0 x (omega arith) (omega arith)) in
-    let rest = times_between xs n 0 to (omega arith) (omega arith) (λ k d a b. absurd (omega arith), λ k d a b. before.1 (suc k) d (omega arith) (omega arith)) (λ k d a b. upto.0 (suc k) d (omega arith) (omega arith), λ k d a b. upto.1 (suc k) d (omega arith) (omega arith)) in
+    let rest =
+    times_between xs n 0 to (omega arith) (omega arith) (λ k d a b. absurd (omega arith), λ k d a b. before.1 (suc k) d (omega arith) (omega arith))
+    (λ k d a b. upto.0 (suc k) d (omega arith) (omega arith), λ k d a b. upto.1 (suc k) d (omega arith) (omega arith)) in
     (omega arith, omega (arith, rest.1, times_same x n xs (omega arith)))
 times_between (x ∷ xs) n (suc from) zero low high before upto =
     let below = ltb-true x n (before.0 0 x (omega arith) (omega arith)) in
@@ -56,17 +61,22 @@ times_between (x ∷ xs) n (suc from) zero low high before upto =
     absurd (omega arith)
 times_between (x ∷ xs) n (suc from) (suc to) low high before upto =
     let below = ltb-true x n (before.0 0 x (omega arith) (omega arith)) in
-    let rest = times_between xs n from to (omega arith) (omega arith) (λ k d a b. before.0 (suc k) d (omega arith) (omega arith), λ k d a b. before.1 (suc k) d (omega arith) (omega arith)) (λ k d a b. upto.0 (suc k) d (omega arith) (omega arith), λ k d a b. upto.1 (suc k) d (omega arith) (omega arith)) in
+    let rest =
+    times_between xs n from to (omega arith) (omega arith)
+    (λ k d a b. before.0 (suc k) d (omega arith) (omega arith), λ k d a b. before.1 (suc k) d (omega arith) (omega arith))
+    (λ k d a b. upto.0 (suc k) d (omega arith) (omega arith), λ k d a b. upto.1 (suc k) d (omega arith) (omega arith)) in
     (omega (arith, rest.0), omega (arith, rest.0, rest.1, times_other x n xs (λ e. omega arith)))
 
 -- a number in front of greater ones
 increasing_cons : (n : ℕ) (ys : List ℕ) → ((k : ℕ) → k < length ys → n < get_or ys k 0) → IsStrictlyIncreasing ys → IsStrictlyIncreasing (n ∷ ys)
 increasing_cons n ys above up zero within = above 0 (omega arith)
-increasing_cons n ys above up (suc k) within = let e : suc (k + 1) ≡ suc k + 1 = omega arith in subst (λ m. get_or ys k 0 < get_or (n ∷ ys) m 0) e (up k (omega arith))
+increasing_cons n ys above up (suc k) within = let e : suc (k + 1) ≡ suc k + 1 = omega arith in
+    subst (λ m. get_or ys k 0 < get_or (n ∷ ys) m 0) e (up k (omega arith))
 
 -- numbers that are given of ascending items ascend
 module _ {X : Type 0} (key : X → ℕ) (f : X → Option ℕ) (own : (x : X) (n : ℕ) → f x ≡ Some n → n ≡ key x) where
-  all_above : (xs : List X) (b : ℕ) → ((k : ℕ) (d : X) → k < length xs → b < key (get_or xs k d)) → (k : ℕ) → k < length (filter_map f xs) → b < get_or (filter_map f xs) k 0
+  all_above : (xs : List X) (b : ℕ) → ((k : ℕ) (d : X) → k < length xs → b < key (get_or xs k d)) → (k : ℕ) → k < length (filter_map f xs)
+      → b < get_or (filter_map f xs) k 0
   all_above [] b above k within = absurd (omega arith)
   all_above (x ∷ xs) b above k within = by (f x) (own x) (above 0 x (omega arith)) (all_above xs b (λ k d within. above (suc k) d (omega arith))) k within
     where
@@ -80,16 +90,22 @@ module _ {X : Type 0} (key : X → ℕ) (f : X → Option ℕ) (own : (x : X) (n
   given_increase [] up = λ k within. absurd (omega arith)
   given_increase (x ∷ xs) up = by (f x) (own x) (all_above xs (key x) (first_is_least key x xs up)) (given_increase xs (ascends_behind key x xs up))
     where
-      by : (o : Option ℕ) → ((n : ℕ) → o ≡ Some n → n ≡ key x) → ((k : ℕ) → k < length (filter_map f xs) → key x < get_or (filter_map f xs) k 0) → IsStrictlyIncreasing (filter_map f xs) → IsStrictlyIncreasing (cons_option o (filter_map f xs))
+      by : (o : Option ℕ) → ((n : ℕ) → o ≡ Some n → n ≡ key x) → ((k : ℕ) → k < length (filter_map f xs) → key x < get_or (filter_map f xs) k 0)
+          → IsStrictlyIncreasing (filter_map f xs) → IsStrictlyIncreasing (cons_option o (filter_map f xs))
       by None is above rest = rest
       by (Some n) is above rest = increasing_cons n (filter_map f xs) (λ k within. let more = above k within in let same = is n refl in omega arith) rest
 
 -- one more list comes last
-pub flat_map_last : {X A : Type 0} (f : X → List A) (xs : List X) (i : ℕ) (d : X) → i < length xs → flat_map f (take (i + 1) xs) ≡ flat_map f (take i xs) ++ f (get_or xs i d)
-flat_map_last f xs i d within = ap (flat_map f) (take_more xs i d within) ∙ flat_map-append f (take i xs) (get_or xs i d ∷ []) ∙ ap (λ rest. flat_map f (take i xs) ++ rest) (append-nil (f (get_or xs i d)))
+pub flat_map_last : {X A : Type 0} (f : X → List A) (xs : List X) (i : ℕ) (d : X) → i < length xs
+    → flat_map f (take (i + 1) xs) ≡ flat_map f (take i xs) ++ f (get_or xs i d)
+flat_map_last f xs i d within =
+    ap (flat_map f) (take_more xs i d within) ∙ flat_map-append f (take i xs) (get_or xs i d ∷ [])
+    ∙ ap (λ rest. flat_map f (take i xs) ++ rest) (append-nil (f (get_or xs i d)))
 
 -- what is pushed goes on with what a function gives of a list
-pub pushed_more : {X Y : Type 0} (f : X → Option Y) (front : List Y) (xs : List X) (i : ℕ) (d : X) (before new : List Y) (o : Option Y) → i < length xs → before ≡ front ++ filter_map f (take i xs)
+pub pushed_more : {X Y : Type 0} (f : X → Option Y) (front : List Y) (xs : List X) (i : ℕ) (d : X) (before new : List Y) (o : Option Y) → i < length xs
+    → before ≡ front ++ filter_map f (take i xs)
     → o ≡ f (get_or xs i d) → new ≡ before ++ option_to_list o → new ≡ front ++ filter_map f (take (i + 1) xs)
 pushed_more f front xs i d before new o within was is after =
-    after ∙ (λ j. was j ++ option_to_list (is j)) ∙ append_assoc front (filter_map f (take i xs)) (option_to_list (f (get_or xs i d))) ∙ ap (λ rest. front ++ rest) (sym (filter_map_more f xs i d within))
+    after ∙ (λ j. was j ++ option_to_list (is j)) ∙ append_assoc front (filter_map f (take i xs)) (option_to_list (f (get_or xs i d)))
+    ∙ ap (λ rest. front ++ rest) (sym (filter_map_more f xs i d within))

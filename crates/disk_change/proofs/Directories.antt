@@ -13,13 +13,17 @@ use Rattle.block_map.proofs.Places.{as_list}
 use Rattle.disk_change.proofs.Blocks.{drop_none}
 
 -- what a function gives of one item more comes last
-pub filter_map_more : {X Y : Type 0} (f : X → Option Y) (xs : List X) (i : ℕ) (d : X) → i < length xs → filter_map f (take (i + 1) xs) ≡ filter_map f (take i xs) ++ option_to_list (f (get_or xs i d))
-filter_map_more f xs i d within = ap (filter_map f) (take_more xs i d within) ∙ filter_map-append f (take i xs) (get_or xs i d ∷ []) ∙ ap (λ rest. filter_map f (take i xs) ++ rest) (as_list (f (get_or xs i d)))
+pub filter_map_more : {X Y : Type 0} (f : X → Option Y) (xs : List X) (i : ℕ) (d : X) → i < length xs
+    → filter_map f (take (i + 1) xs) ≡ filter_map f (take i xs) ++ option_to_list (f (get_or xs i d))
+filter_map_more f xs i d within =
+    ap (filter_map f) (take_more xs i d within) ∙ filter_map-append f (take i xs) (get_or xs i d ∷ [])
+    ∙ ap (λ rest. filter_map f (take i xs) ++ rest) (as_list (f (get_or xs i d)))
 
 module _ (directories : List ℕ) (net : List NetRow) where
   -- one block more takes what the others leave
   pub filled_more : (blocks : List (List (Option Row))) (block : List (Option Row)) (rows : List Row)
-      → old_blocks_after directories net (blocks ++ block ∷ []) rows ≡ old_blocks_after directories net blocks rows ++ fill_front (block_moved directories net block) (rows_behind directories net blocks rows) ∷ []
+      → old_blocks_after directories net (blocks ++ block ∷ []) rows
+      ≡ old_blocks_after directories net blocks rows ++ fill_front (block_moved directories net block) (rows_behind directories net blocks rows) ∷ []
   filled_more [] block rows = refl
   filled_more (first ∷ blocks) block rows = ap (λ rest. fill_front (block_moved directories net first) rows ∷ rest) (filled_more blocks block _)
 
@@ -29,7 +33,8 @@ module _ (directories : List ℕ) (net : List NetRow) where
   behind_more (first ∷ blocks) block rows = behind_more blocks block _
 
   pub touched_more : (blocks : List (List (Option Row))) (block : List (Option Row)) (rows : List Row)
-      → blocks_touched directories net (blocks ++ block ∷ []) rows ≡ blocks_touched directories net blocks rows ++ block_is_touched directories net block (rows_behind directories net blocks rows) ∷ []
+      → blocks_touched directories net (blocks ++ block ∷ []) rows
+      ≡ blocks_touched directories net blocks rows ++ block_is_touched directories net block (rows_behind directories net blocks rows) ∷ []
   touched_more [] block rows = refl
   touched_more (first ∷ blocks) block rows = ap (λ rest. block_is_touched directories net first rows ∷ rest) (touched_more blocks block _)
 
@@ -62,13 +67,16 @@ map_itself [] = refl
 map_itself (x ∷ xs) = ap (λ rest. x ∷ rest) (map_itself xs)
 
 -- each block is said to change or not
-pub length-directory : (directories : List ℕ) (net : List NetRow) (blocks : List (List (Option Row))) → length (directory_touched directories net blocks) ≡ length (slot_blocks_after directories net blocks)
+pub length-directory : (directories : List ℕ) (net : List NetRow) (blocks : List (List (Option Row)))
+    → length (directory_touched directories net blocks) ≡ length (slot_blocks_after directories net blocks)
 length-directory directories net blocks =
     let rest = rows_behind directories net blocks (rows_new directories net) in
     length-append (blocks_touched directories net blocks (rows_new directories net)) (replicate (blocks_for rest) true)
-    ∙ (λ i. one_each blocks (rows_new directories net) i + (length-replicate (blocks_for rest) true ∙ sym (length-map-range_with_len (block_added rest) 0 (blocks_for rest))) i)
+    ∙ (λ i. one_each blocks (rows_new directories net) i
+    + (length-replicate (blocks_for rest) true ∙ sym (length-map-range_with_len (block_added rest) 0 (blocks_for rest))) i)
     ∙ sym (length-append (old_blocks_after directories net blocks (rows_new directories net)) (map (block_added rest) (range_with_len 0 (blocks_for rest))))
   where
-    one_each : (blocks : List (List (Option Row))) (rows : List Row) → length (blocks_touched directories net blocks rows) ≡ length (old_blocks_after directories net blocks rows)
+    one_each : (blocks : List (List (Option Row))) (rows : List Row)
+        → length (blocks_touched directories net blocks rows) ≡ length (old_blocks_after directories net blocks rows)
     one_each [] rows = refl
     one_each (block ∷ blocks) rows = ap suc (one_each blocks _)

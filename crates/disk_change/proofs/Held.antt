@@ -31,11 +31,14 @@ of_table tables k = flat_map there (pointers_of_place tables k)
 module _ (inode : Inode) (tables : List Table) where
   -- the pointers of blocks: direct ones, and those of indirect blocks
   direct_place : (n : ℕ) → n < 108 → pointer_kept inode tables n ≡ get_or inode.direct n 0
-  direct_place n low = cond-true (nat_lt n FILE_BLOCKS) (block_kept inode tables n) _ (lt-ltb n FILE_BLOCKS (omega arith)) ∙ cond-true (nat_lt n 108) (slice_index inode.direct n) _ (lt-ltb n 108 low)
+  direct_place n low =
+      cond-true (nat_lt n FILE_BLOCKS) (block_kept inode tables n) _ (lt-ltb n FILE_BLOCKS (omega arith))
+      ∙ cond-true (nat_lt n 108) (slice_index inode.direct n) _ (lt-ltb n 108 low)
 
   table_place : (n : ℕ) → 108 ≤ n → n < FILE_BLOCKS → pointer_kept inode tables n ≡ get_or (pointers_of_place tables (table_of n)) (entry_of n) 0
   table_place n low high =
-      cond-true (nat_lt n FILE_BLOCKS) (block_kept inode tables n) _ (lt-ltb n FILE_BLOCKS high) ∙ cond-false (nat_lt n 108) (slice_index inode.direct n) _ (le-ltb n 108 low)
+      cond-true (nat_lt n FILE_BLOCKS) (block_kept inode tables n) _ (lt-ltb n FILE_BLOCKS high)
+      ∙ cond-false (nat_lt n 108) (slice_index inode.direct n) _ (le-ltb n 108 low)
       ∙ by (find (λ table. nat_eq table.place (table_of n)) tables) (entry_of n)
     where
       by : (o : Option Table) (e : ℕ) → option_map_or (λ table. slice_index table.pointers e) o 0 ≡ get_or (option_map_or (λ table. table.pointers) o []) e 0
@@ -43,7 +46,8 @@ module _ (inode : Inode) (tables : List Table) where
       by (Some table) e = refl
 
   -- a pointer that is listed is that of a place
-  listed_held : (pointers : List ℕ) (place_of : ℕ → ℕ) → ((i : ℕ) → i < length pointers → (place_of i < PLACES) × (pointer_kept inode tables (place_of i) ≡ get_or pointers i 0))
+  listed_held : (pointers : List ℕ) (place_of : ℕ → ℕ)
+      → ((i : ℕ) → i < length pointers → (place_of i < PLACES) × (pointer_kept inode tables (place_of i) ≡ get_or pointers i 0))
       → (block : ℕ) → Contains (flat_map there pointers) block → IsHeld (pointer_kept inode tables) block
   listed_held pointers place_of at block has =
       let found = in_one there pointers block has in
@@ -56,7 +60,8 @@ module _ (inode : Inode) (tables : List Table) where
   held_listed pointers i block some is =
       in_all there pointers i 0 block (some_within pointers i (λ e. some (sym is ∙ e))) (subst (λ b. Contains (there b) block) (sym is) (is_there block some))
 
-  module _ (direct_long : length inode.direct ≡ 108) (indirect_long : length inode.indirect ≡ 16) (tables_long : (k : ℕ) → k < 16 → length (pointers_of_place tables k) ≤ 1024) where
+  module _ (direct_long : length inode.direct ≡ 108) (indirect_long : length inode.indirect ≡ 16)
+      (tables_long : (k : ℕ) → k < 16 → length (pointers_of_place tables k) ≤ 1024) where
     from_tables : (block : ℕ) → Contains (flat_map (of_table tables) (range_with_len 0 16)) block → IsHeld (pointer_kept inode tables) block
     from_tables block has =
         let found = in_one (of_table tables) (range_with_len 0 16) block has in
@@ -64,16 +69,19 @@ module _ (inode : Inode) (tables : List Table) where
         at_table found.0 (omega (arith, found.1, length-range_with_len 0 16)) (subst (λ k. Contains (of_table tables k) block) place (found.2 0))
       where
         at_table : (k : ℕ) → k < 16 → Contains (of_table tables k) block → IsHeld (pointer_kept inode tables) block
-        at_table k low one = listed_held (pointers_of_place tables k) (λ e. 108 + 1024 * k + e) (λ e within. of_entry e (omega (arith, within, tables_long k low))) block one
+        at_table k low one =
+            listed_held (pointers_of_place tables k) (λ e. 108 + 1024 * k + e) (λ e within. of_entry e (omega (arith, within, tables_long k low))) block one
           where
-            of_entry : (e : ℕ) → e < 1024 → (108 + 1024 * k + e < PLACES) × (pointer_kept inode tables (108 + 1024 * k + e) ≡ get_or (pointers_of_place tables k) e 0)
+            of_entry : (e : ℕ) → e < 1024
+                → (108 + 1024 * k + e < PLACES) × (pointer_kept inode tables (108 + 1024 * k + e) ≡ get_or (pointers_of_place tables k) e 0)
             of_entry e within =
                 let t : table_of (108 + 1024 * k + e) ≡ k = omega arith in
                 let n : entry_of (108 + 1024 * k + e) ≡ e = omega arith in
                 (omega arith, table_place (108 + 1024 * k + e) (omega arith) (omega arith) ∙ (λ i. get_or (pointers_of_place tables (t i)) (n i) 0))
 
     -- all blocks that an inode holds, behind others
-    pub held_behind : (old all : List ℕ) → all ≡ ((old ++ flat_map there inode.direct) ++ flat_map there inode.indirect) ++ flat_map (of_table tables) (range_with_len 0 16)
+    pub held_behind : (old all : List ℕ)
+        → all ≡ ((old ++ flat_map there inode.direct) ++ flat_map there inode.indirect) ++ flat_map (of_table tables) (range_with_len 0 16)
         → (block : ℕ) → Contains all block ↔ (Contains old block ⊎ IsHeld (pointer_kept inode tables) block)
     held_behind old all is block = (λ has. to (subst (λ xs. Contains xs block) is has), λ has. subst (λ xs. Contains xs block) (sym is) (from has))
       where
@@ -103,9 +111,13 @@ module _ (inode : Inode) (tables : List Table) where
           | inr high ↦ elim (cases_lt held.place FILE_BLOCKS) [
             | inl below ↦
                 let k : table_of held.place < 16 = omega arith in
-                let listed : get_or (range_with_len 0 16) (table_of held.place) 0 ≡ table_of held.place = get_or-range_with_len 0 16 (table_of held.place) 0 k ∙ zero_plus (table_of held.place) in
-                Contains-append_right three _ block (in_all (of_table tables) (range_with_len 0 16) (table_of held.place) 0 block (omega (arith, k, length-range_with_len 0 16))
-                (subst (λ j. Contains (of_table tables j) block) (sym listed) (held_listed (pointers_of_place tables (table_of held.place)) (entry_of held.place) block held.some (sym (table_place held.place high below) ∙ held.stands))))
+                let listed : get_or (range_with_len 0 16) (table_of held.place) 0 ≡ table_of held.place =
+                get_or-range_with_len 0 16 (table_of held.place) 0 k ∙ zero_plus (table_of held.place) in
+                Contains-append_right three _ block
+                (in_all (of_table tables) (range_with_len 0 16) (table_of held.place) 0 block (omega (arith, k, length-range_with_len 0 16))
+                (subst (λ j. Contains (of_table tables j) block) (sym listed)
+                (held_listed (pointers_of_place tables (table_of held.place)) (entry_of held.place) block held.some
+                (sym (table_place held.place high below) ∙ held.stands))))
             | inr above ↦
                 let back : FILE_BLOCKS + (held.place - FILE_BLOCKS) ≡ held.place = omega arith in
                 Contains-append_left three _ block (Contains-append_right two _ block (held_listed inode.indirect (held.place - FILE_BLOCKS) block held.some

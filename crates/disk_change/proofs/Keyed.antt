@@ -21,12 +21,14 @@ module _ {X : Type 0} (key : X → ℕ) where
   first_is_least one rest up k d within = up 0 (suc k) d (omega arith) (omega arith)
 
   -- of each item's number it is found
-  pub item_at : (items : List X) → AscendBy key items → (i : ℕ) (d : X) → i < length items → item_with key (key (get_or items i d)) items ≡ Some (get_or items i d)
+  pub item_at : (items : List X) → AscendBy key items → (i : ℕ) (d : X) → i < length items
+      → item_with key (key (get_or items i d)) items ≡ Some (get_or items i d)
   item_at [] up i d within = absurd (omega arith)
   item_at (one ∷ rest) up zero d within = cond-true (nat_eq (key one) (key one)) _ _ (same_number (key one))
   item_at (one ∷ rest) up (suc i) d within =
       let least = first_is_least one rest up i d (omega arith) in
-      cond-false (nat_eq (key one) (key (get_or rest i d))) _ _ (not_same (key one) (key (get_or rest i d)) (omega arith)) ∙ item_at rest (ascends_behind one rest up) i d (omega arith)
+      cond-false (nat_eq (key one) (key (get_or rest i d))) _ _ (not_same (key one) (key (get_or rest i d)) (omega arith))
+      ∙ item_at rest (ascends_behind one rest up) i d (omega arith)
 
   -- and of no other number anything
   pub no_item : (items : List X) (n : ℕ) → ((k : ℕ) (d : X) → k < length items → key (get_or items k d) ≢ n) → item_with key n items ≡ None
@@ -42,7 +44,8 @@ module _ {X : Type 0} (key : X → ℕ) where
     answers_rise i j d le within = let rise = numbers_rise i j d le within in higher n _ _ rise
 
     -- a search that ends at a place has found the item
-    pub search_finds : (i : ℕ) (d : X) → i < length items → HoldsAt (λ one. nat_cmp (key one) n ≡ Equal) items i → Some (get_or items i d) ≡ item_with key n items
+    pub search_finds : (i : ℕ) (d : X) → i < length items → HoldsAt (λ one. nat_cmp (key one) n ≡ Equal) items i
+        → Some (get_or items i d) ≡ item_with key n items
     search_finds i d within equal =
         let same : key (get_or items i d) ≡ n = ranked _ n _ (sym (equal d)) in
         sym (item_at items up i d within) ∙ ap (λ m. item_with key m items) same

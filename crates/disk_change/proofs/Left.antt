@@ -33,14 +33,19 @@ same_numbers numbers sorted once same is n = (
 )
 
 -- what a function gives of one item more comes behind
-pub flat_more : {X A : Type 0} (f : X → List A) (front : List A) (xs : List X) (i : ℕ) (d : X) (before new own : List A) → i < length xs → before ≡ front ++ flat_map f (take i xs)
+pub flat_more : {X A : Type 0} (f : X → List A) (front : List A) (xs : List X) (i : ℕ) (d : X) (before new own : List A) → i < length xs
+    → before ≡ front ++ flat_map f (take i xs)
     → own ≡ f (get_or xs i d) → new ≡ before ++ own → new ≡ front ++ flat_map f (take (i + 1) xs)
 flat_more f front xs i d before new own within was is after =
     after ∙ (λ j. was j ++ is j) ∙ append_assoc front (flat_map f (take i xs)) (f (get_or xs i d))
-    ∙ ap (λ rest. front ++ rest) (sym (ap (flat_map f) (take_more xs i d within) ∙ flat_map-append f (take i xs) (get_or xs i d ∷ []) ∙ ap (λ rest. flat_map f (take i xs) ++ rest) (append-nil (f (get_or xs i d)))))
+    ∙ ap (λ rest. front ++ rest)
+    (sym
+    (ap (flat_map f) (take_more xs i d within) ∙ flat_map-append f (take i xs) (get_or xs i d ∷ [])
+    ∙ ap (λ rest. flat_map f (take i xs) ++ rest) (append-nil (f (get_or xs i d)))))
 
 -- and so of a number more
-pub range_more_flat : {A : Type 0} (f : ℕ → List A) (front : List A) (k : ℕ) (before new : List A) → before ≡ front ++ flat_map f (range_with_len 0 k) → new ≡ before ++ f k
+pub range_more_flat : {A : Type 0} (f : ℕ → List A) (front : List A) (k : ℕ) (before new : List A) → before ≡ front ++ flat_map f (range_with_len 0 k)
+    → new ≡ before ++ f k
     → new ≡ front ++ flat_map f (range_with_len 0 (k + 1))
 range_more_flat f front k before new was after =
     after ∙ ap (λ xs. xs ++ f k) was ∙ append_assoc front (flat_map f (range_with_len 0 k)) (f k)
@@ -71,7 +76,13 @@ gone_more gone i entry freed before after within is was now block = (
   λ has. elim ((now block).0 has) [
     | inl earlier ↦ elim ((was block).0 earlier) [
       | inl left ↦ inl left
-      | inr gone_one ↦ inr (record { entry = gone_one.entry; one = subst (λ xs. Contains xs gone_one.entry) (sym more) (last_in (take i gone) entry gone_one.entry (inl gone_one.one)); held = gone_one.held })
+      | inr gone_one ↦
+          inr
+          (record {
+            entry = gone_one.entry;
+            one = subst (λ xs. Contains xs gone_one.entry) (sym more) (last_in (take i gone) entry gone_one.entry (inl gone_one.one));
+            held = gone_one.held;
+          })
     ]
     | inr held ↦ inr (record { entry = entry; one = subst (λ xs. Contains xs entry) (sym more) (last_in (take i gone) entry entry (inr refl)); held = held })
   ],
@@ -88,22 +99,28 @@ gone_more gone i entry freed before after within is was now block = (
     more = take_more gone i entry within ∙ ap (λ e. take i gone ++ e ∷ []) (sym is)
 
 -- and nodes that are built leave what they give up
-pub seats_more : (seats : List Seated) (seat : Seated) (before own after : List ℕ) → ((block : ℕ) → Contains before block ↔ IsLeftBySeat seats block) → AreFreed (rewrite_in seat) own
+pub seats_more : (seats : List Seated) (seat : Seated) (before own after : List ℕ) → ((block : ℕ) → Contains before block ↔ IsLeftBySeat seats block)
+    → AreFreed (rewrite_in seat) own
     → after ≡ before ++ own → (block : ℕ) → Contains after block ↔ IsLeftBySeat (seats ++ seat ∷ []) block
 seats_more seats seat before own after was freed is block = (
   λ has. elim (Contains-append_cases before own block (subst (λ xs. Contains xs block) is has)) [
-    | inl earlier ↦ let one = (was block).0 earlier in record { seat = one.seat; one = last_in seats seat one.seat (inl one.one); place = one.place; left = one.left }
+    | inl earlier ↦ let one = (was block).0 earlier in
+        record { seat = one.seat; one = last_in seats seat one.seat (inl one.one); place = one.place; left = one.left }
     | inr given ↦ let up = (freed.each block).0 given in record { seat = seat; one = last_in seats seat seat (inr refl); place = up.0; left = up.1 }
   ],
   λ one. subst (λ xs. Contains xs block) (sym is) (elim (in_last seats seat one.seat one.one) [
     | inl earlier ↦ Contains-append_left before own block ((was block).1 (record { seat = one.seat; one = earlier; place = one.place; left = one.left }))
-    | inr same ↦ Contains-append_right before own block ((freed.each block).1 (subst (λ (s : Seated). (place : ℕ) × IsGivenUp (rewrite_in s) block place) (sym same) (one.place, one.left)))
+    | inr same ↦
+        Contains-append_right before own block
+        ((freed.each block).1 (subst (λ (s : Seated). (place : ℕ) × IsGivenUp (rewrite_in s) block place) (sym same) (one.place, one.left)))
   ]),
 )
 
 -- what a commit gives up is what its nodes give up, and what those hold that lose their inodes
-pub all_left : (change : Planned) (seats : List Seated) (gone : List OldEntry) (freed blocks : List ℕ) → seats ≡ change.seats → gone ≡ change.gone → ((block : ℕ) → Contains freed block ↔ IsLeftBySeat seats block)
-    → ((block : ℕ) → Contains blocks block ↔ (Contains freed block ⊎ IsLeftByGone gone block)) → (block : ℕ) → Contains blocks block ↔ (IsLeftBySeat change.seats block ⊎ IsLeftByGone change.gone block)
+pub all_left : (change : Planned) (seats : List Seated) (gone : List OldEntry) (freed blocks : List ℕ) → seats ≡ change.seats → gone ≡ change.gone
+    → ((block : ℕ) → Contains freed block ↔ IsLeftBySeat seats block)
+    → ((block : ℕ) → Contains blocks block ↔ (Contains freed block ⊎ IsLeftByGone gone block)) → (block : ℕ)
+    → Contains blocks block ↔ (IsLeftBySeat change.seats block ⊎ IsLeftByGone change.gone block)
 all_left change seats gone freed blocks same_seats same_gone by_seats by_all block = (
   λ has. elim ((by_all block).0 has) [
     | inl one ↦ inl (subst (λ (those : List Seated). IsLeftBySeat those block) same_seats ((by_seats block).0 one))
@@ -116,5 +133,6 @@ all_left change seats gone freed blocks same_seats same_gone by_seats by_all blo
 )
 
 -- equal numbers are in the same lists
-pub same_inodes : (numbers others inodes : List ℕ) → numbers ≡ others → ((n : ℕ) → Contains inodes n ↔ Contains numbers n) → (n : ℕ) → Contains inodes n ↔ Contains others n
+pub same_inodes : (numbers others inodes : List ℕ) → numbers ≡ others → ((n : ℕ) → Contains inodes n ↔ Contains numbers n) → (n : ℕ)
+    → Contains inodes n ↔ Contains others n
 same_inodes numbers others inodes same each = subst (λ those. (n : ℕ) → Contains inodes n ↔ Contains those n) same each

@@ -33,7 +33,8 @@ not_less_itself name = by_order (name_cmp name name) (nat_list_cmp_total.antisym
 unlike_if_less : (name other : List ℕ) → is_lt (name_cmp other name) ≡ true → bytes_eq name other ≡ false
 unlike_if_less name other less = elim (cases_Bool (bytes_eq name other)) [
   | inr apart ↦ apart
-  | inl same ↦ absurd (not_both_of (is_lt (name_cmp other name)) less (ap (λ n. is_lt (name_cmp n name)) (sym (bytes_same name other same)) ∙ not_less_itself name))
+  | inl same ↦
+      absurd (not_both_of (is_lt (name_cmp other name)) less (ap (λ n. is_lt (name_cmp n name)) (sym (bytes_same name other same)) ∙ not_less_itself name))
 ]
 
 pub other_way : (name other : List ℕ) → bytes_eq other name ≡ true → bytes_eq name other ≡ true
@@ -57,13 +58,16 @@ module _ (name : List ℕ) where
   ]
 
   -- the row of a name is found at its place
-  pub row_here : (net : List NetRow) → NamesAscend net → (i : ℕ) (d : NetRow) → i < length net → bytes_eq name (get_or net i d).name ≡ true → Some (get_or net i d) ≡ row_in_net name net
+  pub row_here : (net : List NetRow) → NamesAscend net → (i : ℕ) (d : NetRow) → i < length net → bytes_eq name (get_or net i d).name ≡ true
+      → Some (get_or net i d) ≡ row_in_net name net
   row_here [] up i d within e = absurd (omega arith)
   row_here (row ∷ rest) up zero d within e = sym (cond-true (bytes_eq name row.name) _ _ e)
   row_here (row ∷ rest) up (suc i) d within e =
       let less : name_cmp row.name (get_or rest i d).name ≡ Less = up 0 (suc i) d (omega arith) (omega arith) in
       row_here rest (λ a b x lt in_. up (suc a) (suc b) x (omega arith) (omega arith)) i d (omega arith) e
-      ∙ sym (cond-false (bytes_eq name row.name) _ _ (unlike_if_less name row.name (ap (λ n. is_lt (name_cmp row.name n)) (bytes_same name (get_or rest i d).name e) ∙ ap is_lt less)))
+      ∙ sym
+      (cond-false (bytes_eq name row.name) _ _
+      (unlike_if_less name row.name (ap (λ n. is_lt (name_cmp row.name n)) (bytes_same name (get_or rest i d).name e) ∙ ap is_lt less)))
 
   -- and a name that no row has is not found
   no_row : (net : List NetRow) → ((k : ℕ) (d : NetRow) → k < length net → bytes_eq name (get_or net k d).name ≡ false) → None ≡ row_in_net name net
@@ -83,7 +87,8 @@ module _ (name : List ℕ) where
           | inl more ↦ elim (cases_Bool (bytes_eq name (get_or net k d).name)) [
             | inr no_ ↦ no_
             | inl same ↦ absurd (not_both_of (is_before (get_or net at d))
-                (ap (λ n. is_lt (name_cmp (get_or net at d).name n)) (bytes_same name (get_or net k d).name same) ∙ ap is_lt (up at k d more within)) (point.1 at d (omega arith) (omega arith)))
+                (ap (λ n. is_lt (name_cmp (get_or net at d).name n)) (bytes_same name (get_or net k d).name same) ∙ ap is_lt (up at k d more within))
+                (point.1 at d (omega arith) (omega arith)))
           ]
         ]
       ]

@@ -12,16 +12,19 @@ use Rattle.disk_change.specs.declared.numbers.NodeNumber.{NodeNumber}
 
 -- one node more has its own number, or the next one of the grant
 numbers_last : (seats : List Seated) (seat : Seated) (grant : List ℕ)
-    → numbers_given (seats ++ seat ∷ []) grant ≡ numbers_given seats grant ++ record { node = seat.node; number = number_given seat.number (grant_behind seats grant) } ∷ []
+    → numbers_given (seats ++ seat ∷ []) grant
+    ≡ numbers_given seats grant ++ record { node = seat.node; number = number_given seat.number (grant_behind seats grant) } ∷ []
 numbers_last [] seat grant = refl
 numbers_last (first ∷ seats) seat grant = ap (λ rest. record { node = first.node; number = number_given first.number grant } ∷ rest) (numbers_last seats seat _)
 
-behind_last : (seats : List Seated) (seat : Seated) (grant : List ℕ) → grant_behind (seats ++ seat ∷ []) grant ≡ grant_left seat.number (grant_behind seats grant)
+behind_last : (seats : List Seated) (seat : Seated) (grant : List ℕ)
+    → grant_behind (seats ++ seat ∷ []) grant ≡ grant_left seat.number (grant_behind seats grant)
 behind_last [] seat grant = refl
 behind_last (first ∷ seats) seat grant = behind_last seats seat _
 
 pub numbers_more : (seats : List Seated) (i : ℕ) (seat : Seated) (grant : List ℕ) → i < length seats → seat ≡ get_or seats i seat
-    → numbers_given (take (i + 1) seats) grant ≡ numbers_given (take i seats) grant ++ record { node = seat.node; number = number_given seat.number (grant_behind (take i seats) grant) } ∷ []
+    → numbers_given (take (i + 1) seats) grant
+    ≡ numbers_given (take i seats) grant ++ record { node = seat.node; number = number_given seat.number (grant_behind (take i seats) grant) } ∷ []
 numbers_more seats i seat grant within is =
     ap (λ those. numbers_given those grant) (take_more seats i seat within ∙ ap (λ s. take i seats ++ s ∷ []) (sym is)) ∙ numbers_last (take i seats) seat grant
 
@@ -32,7 +35,8 @@ behind_more seats i seat grant within is =
 
 -- the number of a node after one entry more
 pub number_more : (numbers : List NodeNumber) (i : ℕ) (d : NodeNumber) (node : ℕ) (found : Option (Option ℕ)) (new : Option (Option ℕ)) → i < length numbers
-    → unwrap_or found None ≡ number_in (take i numbers) node → new ≡ cond (is_eq (nat_cmp (get_or numbers i d).node node)) (Some (get_or numbers i d).number) found
+    → unwrap_or found None ≡ number_in (take i numbers) node
+    → new ≡ cond (is_eq (nat_cmp (get_or numbers i d).node node)) (Some (get_or numbers i d).number) found
     → unwrap_or new None ≡ number_in (take (i + 1) numbers) node
 number_more numbers i d node found new within before is =
     ap (λ o. unwrap_or o None) is ∙ by_test (is_eq (nat_cmp (get_or numbers i d).node node)) (get_or numbers i d).number found

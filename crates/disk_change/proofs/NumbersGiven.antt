@@ -47,7 +47,8 @@ unfoldable enters_numbered : List Enter → List ℕ → List NodeNumber
 enters_numbered [] grant = []
 enters_numbered (one ∷ enter) grant = record { node = one.node.0; number = slice_get grant 0 } ∷ enters_numbered enter (drop 1 grant)
 
-given_enters : (changes : CommitChanges) (enter : List Enter) (grant : List ℕ) → numbers_given (map (seated_entering changes) enter) grant ≡ enters_numbered enter grant
+given_enters : (changes : CommitChanges) (enter : List Enter) (grant : List ℕ)
+    → numbers_given (map (seated_entering changes) enter) grant ≡ enters_numbered enter grant
 unfolding enters_numbered
 given_enters changes [] grant = refl
 given_enters changes (one ∷ enter) grant =
@@ -56,13 +57,15 @@ given_enters changes (one ∷ enter) grant =
     (λ i. record { node = node i; number = number_given (number i) grant } ∷ numbers_given (map (seated_entering changes) enter) (grant_left (number i) grant))
     ∙ ap (λ rest. record { node = one.node.0; number = slice_get grant 0 } ∷ rest) (given_enters changes enter (drop 1 grant))
 
-given_olds : (changes : CommitChanges) (entries : List OldEntry) (seats : List Seated) (grant : List ℕ) → numbers_given (map (seated_old changes) entries ++ seats) grant ≡ olds_numbered entries ++ numbers_given seats grant
+given_olds : (changes : CommitChanges) (entries : List OldEntry) (seats : List Seated) (grant : List ℕ)
+    → numbers_given (map (seated_old changes) entries ++ seats) grant ≡ olds_numbered entries ++ numbers_given seats grant
 unfolding olds_numbered
 given_olds changes [] seats grant = refl
 given_olds changes (entry ∷ entries) seats grant =
     let node = planned_node changes (begun_old entry) (begun_old entry).kind in
     let number = planned_number changes (begun_old entry) (begun_old entry).kind in
-    (λ i. record { node = node i; number = number_given (number i) grant } ∷ numbers_given (map (seated_old changes) entries ++ seats) (grant_left (number i) grant))
+    (λ i. record { node = node i; number = number_given (number i) grant }
+    ∷ numbers_given (map (seated_old changes) entries ++ seats) (grant_left (number i) grant))
     ∙ ap (λ rest. record { node = entry.node.0; number = Some entry.old.number } ∷ rest) (given_olds changes entries seats grant)
 
 pub drop_zero : {X : Type 0} (xs : List X) → drop 0 xs ≡ xs
@@ -74,7 +77,9 @@ module _ (node : ℕ) where
   step found one = cond (is_eq (nat_cmp one.node node)) one.number found
 
   found_here : (one : NodeNumber) (found : Option ℕ) → one.node ≡ node → step found one ≡ one.number
-  found_here one found same = cond-true (is_eq (nat_cmp one.node node)) one.number found (ap (λ n. is_eq (nat_cmp n node)) same ∙ ap is_eq (is_equal _ (ap is_eq (tied_itself nat_cmp_total node))))
+  found_here one found same =
+      cond-true (is_eq (nat_cmp one.node node)) one.number found
+      (ap (λ n. is_eq (nat_cmp n node)) same ∙ ap is_eq (is_equal _ (ap is_eq (tied_itself nat_cmp_total node))))
 
   not_here : (one : NodeNumber) (found : Option ℕ) → one.node ≢ node → step found one ≡ found
   not_here one found apart = elim (cases_Bool (is_eq (nat_cmp one.node node))) [
@@ -82,18 +87,22 @@ module _ (node : ℕ) where
     | inr f ↦ cond-false (is_eq (nat_cmp one.node node)) one.number found f
   ]
 
-  olds_without : (entries : List OldEntry) (found : Option ℕ) → ((entry : OldEntry) → Contains entries entry → entry.node.0 ≢ node) → fold step found (olds_numbered entries) ≡ found
+  olds_without : (entries : List OldEntry) (found : Option ℕ) → ((entry : OldEntry) → Contains entries entry → entry.node.0 ≢ node)
+      → fold step found (olds_numbered entries) ≡ found
   unfolding olds_numbered
   olds_without [] found apart = refl
   olds_without (entry ∷ entries) found apart =
-      ap (λ o. fold step o (olds_numbered entries)) (not_here (record { node = entry.node.0; number = Some entry.old.number }) found (apart entry (first_in entry entries)))
+      ap (λ o. fold step o (olds_numbered entries))
+      (not_here (record { node = entry.node.0; number = Some entry.old.number }) found (apart entry (first_in entry entries)))
       ∙ olds_without entries found (λ other is. apart other (further_in entry other entries is))
 
-  enters_without : (enter : List Enter) (grant : List ℕ) (found : Option ℕ) → ((one : Enter) → Contains enter one → one.node.0 ≢ node) → fold step found (enters_numbered enter grant) ≡ found
+  enters_without : (enter : List Enter) (grant : List ℕ) (found : Option ℕ) → ((one : Enter) → Contains enter one → one.node.0 ≢ node)
+      → fold step found (enters_numbered enter grant) ≡ found
   unfolding enters_numbered
   enters_without [] grant found apart = refl
   enters_without (one ∷ enter) grant found apart =
-      ap (λ o. fold step o (enters_numbered enter (drop 1 grant))) (not_here (record { node = one.node.0; number = slice_get grant 0 }) found (apart one (first_in one enter)))
+      ap (λ o. fold step o (enters_numbered enter (drop 1 grant)))
+      (not_here (record { node = one.node.0; number = slice_get grant 0 }) found (apart one (first_in one enter)))
       ∙ enters_without enter (drop 1 grant) found (λ other is. apart other (further_in one other enter is))
 
   grant_of_none : (nodes : List ℕ) → grant_for nodes [] node ≡ None
@@ -113,7 +122,8 @@ old_found (first ∷ entries) up entry (zero, within, is) found =
     let less = later_is_greater entry_node first other entries up in_rest in
     let here = ap (λ (e : OldEntry). e.node.0) is in
     omega arith)
-    ∙ found_here entry.node.0 (record { node = first.node.0; number = Some first.old.number }) found (ap (λ (e : OldEntry). e.node.0) is) ∙ ap (λ (e : OldEntry). Some e.old.number) is
+    ∙ found_here entry.node.0 (record { node = first.node.0; number = Some first.old.number }) found (ap (λ (e : OldEntry). e.node.0) is)
+    ∙ ap (λ (e : OldEntry). Some e.old.number) is
 old_found (first ∷ entries) up entry (suc k, within, is) found = old_found entries (ascends_behind entry_node first entries up) entry (k, omega arith, is) _
 
 enter_found : (enter : List Enter) → AscendBy enter_node enter → (one : Enter) → Contains enter one → (grant : List ℕ) (found : Option ℕ)
@@ -132,11 +142,14 @@ enter_found (first ∷ enter) up one (zero, within, is) grant found =
     by (i ∷ grant) = sym (cond-true (nat_eq first.node.0 one.node.0) (Some i) _ (ap (λ (e : Enter). nat_eq e.node.0 one.node.0) is ∙ same_number one.node.0))
 enter_found (first ∷ enter) up one (suc k, within, is) grant found =
     let rest : Contains enter one = (k, omega arith, is) in
-    enter_found enter (ascends_behind enter_node first enter up) one rest (drop 1 grant) _ ∙ by grant (not_same first.node.0 one.node.0 (λ same. let less = later_is_greater enter_node first one enter up rest in omega arith))
+    enter_found enter (ascends_behind enter_node first enter up) one rest (drop 1 grant) _
+    ∙ by grant (not_same first.node.0 one.node.0 (λ same. let less = later_is_greater enter_node first one enter up rest in omega arith))
   where
-    by : (grant : List ℕ) → nat_eq first.node.0 one.node.0 ≡ false → grant_for (map enter_node enter) (drop 1 grant) one.node.0 ≡ grant_for (first.node.0 ∷ map enter_node enter) grant one.node.0
+    by : (grant : List ℕ) → nat_eq first.node.0 one.node.0 ≡ false
+        → grant_for (map enter_node enter) (drop 1 grant) one.node.0 ≡ grant_for (first.node.0 ∷ map enter_node enter) grant one.node.0
     by [] apart = grant_of_none one.node.0 (map enter_node enter)
-    by (i ∷ grant) apart = ap (λ those. grant_for (map enter_node enter) those one.node.0) (drop_zero grant) ∙ sym (cond-false (nat_eq first.node.0 one.node.0) (Some i) _ apart)
+    by (i ∷ grant) apart =
+        ap (λ those. grant_for (map enter_node enter) those one.node.0) (drop_zero grant) ∙ sym (cond-false (nat_eq first.node.0 one.node.0) (Some i) _ apart)
 
 -- the numbers of all nodes of a commit
 module _ (changes : CommitChanges) (entries : List OldEntry) (enter : List Enter) (grant : List ℕ) where
@@ -145,19 +158,25 @@ module _ (changes : CommitChanges) (entries : List OldEntry) (enter : List Enter
 
   all : (node : ℕ) → numbered node ≡ fold (step node) (fold (step node) None (olds_numbered entries)) (enters_numbered enter grant)
   all node =
-      ap (λ numbers. number_in numbers node) (given_olds changes entries (map (seated_entering changes) enter) grant ∙ ap (λ rest. olds_numbered entries ++ rest) (given_enters changes enter grant))
+      ap (λ numbers. number_in numbers node)
+      (given_olds changes entries (map (seated_entering changes) enter) grant
+      ∙ ap (λ rest. olds_numbered entries ++ rest) (given_enters changes enter grant))
       ∙ fold-append (step node) None (olds_numbered entries) (enters_numbered enter grant)
 
-  pub stays_numbered : AscendBy entry_node entries → (entry : OldEntry) → Contains entries entry → ((one : Enter) → Contains enter one → one.node.0 ≢ entry.node.0) → numbered entry.node.0 ≡ Some entry.old.number
+  pub stays_numbered : AscendBy entry_node entries → (entry : OldEntry) → Contains entries entry
+      → ((one : Enter) → Contains enter one → one.node.0 ≢ entry.node.0) → numbered entry.node.0 ≡ Some entry.old.number
   stays_numbered up entry is apart = all entry.node.0 ∙ enters_without entry.node.0 enter grant _ apart ∙ old_found entries up entry is None
 
-  pub enters_granted : AscendBy enter_node enter → (one : Enter) → Contains enter one → ((entry : OldEntry) → Contains entries entry → entry.node.0 ≢ one.node.0)
+  pub enters_granted : AscendBy enter_node enter → (one : Enter) → Contains enter one
+      → ((entry : OldEntry) → Contains entries entry → entry.node.0 ≢ one.node.0)
       → numbered one.node.0 ≡ grant_for (map enter_node enter) grant one.node.0
   enters_granted up one is apart =
-      all one.node.0 ∙ ap (λ o. fold (step one.node.0) o (enters_numbered enter grant)) (olds_without one.node.0 entries None apart) ∙ enter_found enter up one is grant None
+      all one.node.0 ∙ ap (λ o. fold (step one.node.0) o (enters_numbered enter grant)) (olds_without one.node.0 entries None apart)
+      ∙ enter_found enter up one is grant None
 
   -- no other node has a number
-  pub unnumbered : (node : ℕ) → ((entry : OldEntry) → Contains entries entry → entry.node.0 ≢ node) → ((one : Enter) → Contains enter one → one.node.0 ≢ node) → numbered node ≡ None
+  pub unnumbered : (node : ℕ) → ((entry : OldEntry) → Contains entries entry → entry.node.0 ≢ node) → ((one : Enter) → Contains enter one → one.node.0 ≢ node)
+      → numbered node ≡ None
   unnumbered node olds enters = all node ∙ enters_without node enter grant _ enters ∙ olds_without node entries None olds
 
 -- a number is a node's own, or one of a grant
@@ -169,23 +188,32 @@ abbrev pub HasSeat : List Seated → ℕ → Type 0
 HasSeat seats node = (seat : Seated) × Contains seats seat × (seat.node ≡ node)
 
 -- each node has such a number, where a grant has one for each that enters
-pub number_known : (Known : ℕ → Type 0) (node : ℕ) (seats : List Seated) (grant : List ℕ) → count_by enters seats ≤ length grant → ((n : ℕ) → IsOwnOrGranted seats grant n → Known n)
-    → (found : Option ℕ) → ((n : ℕ) × (found ≡ Some n) × Known n) ⊎ HasSeat seats node → (n : ℕ) × (fold (step node) found (numbers_given seats grant) ≡ Some n) × Known n
+pub number_known : (Known : ℕ → Type 0) (node : ℕ) (seats : List Seated) (grant : List ℕ) → count_by enters seats ≤ length grant
+    → ((n : ℕ) → IsOwnOrGranted seats grant n → Known n)
+    → (found : Option ℕ) → ((n : ℕ) × (found ≡ Some n) × Known n) ⊎ HasSeat seats node
+    → (n : ℕ) × (fold (step node) found (numbers_given seats grant) ≡ Some n) × Known n
 number_known Known node [] grant enough known found (inl has) = has
 number_known Known node [] grant enough known found (inr (seat, (k, within, is), same)) = absurd (omega arith)
 number_known Known node (first ∷ seats) grant enough known found has =
     by first.number refl grant enough known (λ rest few knows before is. number_known Known node seats rest few knows before is)
   where
     Rest : List ℕ → Type 0
-    Rest rest = count_by enters seats ≤ length rest → ((n : ℕ) → IsOwnOrGranted seats rest n → Known n) → (before : Option ℕ) → ((n : ℕ) × (before ≡ Some n) × Known n) ⊎ HasSeat seats node
+    Rest rest =
+        count_by enters seats ≤ length rest → ((n : ℕ) → IsOwnOrGranted seats rest n → Known n) → (before : Option ℕ)
+        → ((n : ℕ) × (before ≡ Some n) × Known n) ⊎ HasSeat seats node
         → (n : ℕ) × (fold (step node) before (numbers_given seats rest) ≡ Some n) × Known n
 
-    moved : (one : NodeNumber) (m : ℕ) → one.node ≡ first.node → one.number ≡ Some m → Known m → ((n : ℕ) × (step node found one ≡ Some n) × Known n) ⊎ HasSeat seats node
+    moved : (one : NodeNumber) (m : ℕ) → one.node ≡ first.node → one.number ≡ Some m → Known m
+        → ((n : ℕ) × (step node found one ≡ Some n) × Known n) ⊎ HasSeat seats node
     moved one m same is knows = elim (cases_Bool (is_eq (nat_cmp one.node node))) [
       | inl t ↦ inl (m, cond-true (is_eq (nat_cmp one.node node)) one.number found t ∙ is, knows)
       | inr f ↦ elim has [
         | inl before ↦ inl (before.0, cond-false (is_eq (nat_cmp one.node node)) one.number found f ∙ before.1, before.2)
-        | inr (seat, (zero, within, here), own) ↦ absurd (false_not_true (sym f ∙ ap (λ n. is_eq (nat_cmp n node)) (same ∙ ap (λ (s : Seated). s.node) here ∙ own) ∙ ap is_eq (is_equal _ (ap is_eq (tied_itself nat_cmp_total node)))))
+        | inr (seat, (zero, within, here), own) ↦
+            absurd
+            (false_not_true
+            (sym f ∙ ap (λ n. is_eq (nat_cmp n node)) (same ∙ ap (λ (s : Seated). s.node) here ∙ own)
+            ∙ ap is_eq (is_equal _ (ap is_eq (tied_itself nat_cmp_total node)))))
         | inr (seat, (suc k, within, here), own) ↦ inr (seat, (k, omega arith, here), own)
       ]
     ]
@@ -194,15 +222,23 @@ number_known Known node (first ∷ seats) grant enough known found has =
     further rest all in_all n (inl (seat, is, own)) = inl (seat, further_in first seat seats is, own)
     further rest all in_all n (inr is) = inr (in_all n is)
 
-    by : (o : Option ℕ) → first.number ≡ o → (grant : List ℕ) → count_by enters (first ∷ seats) ≤ length grant → ((n : ℕ) → IsOwnOrGranted (first ∷ seats) grant n → Known n) → ((rest : List ℕ) → Rest rest)
-        → (n : ℕ) × (fold (step node) (step node found (record { node = first.node; number = number_given o grant })) (numbers_given seats (grant_left o grant)) ≡ Some n) × Known n
+    by : (o : Option ℕ) → first.number ≡ o → (grant : List ℕ) → count_by enters (first ∷ seats) ≤ length grant
+        → ((n : ℕ) → IsOwnOrGranted (first ∷ seats) grant n → Known n) → ((rest : List ℕ) → Rest rest)
+        → (n : ℕ)
+        × (fold (step node) (step node found (record { node = first.node; number = number_given o grant })) (numbers_given seats (grant_left o grant))
+        ≡ Some n)
+        × Known n
     by (Some m) e grant enough known later =
         let counted = count-cons enters first seats in
-        later grant (omega (arith, counted)) (λ n own. known n (further grant grant (λ x is. is) n own)) _ (moved (record { node = first.node; number = Some m }) m refl refl (known m (inl (first, first_in first seats, e))))
+        later grant (omega (arith, counted)) (λ n own. known n (further grant grant (λ x is. is) n own)) _
+        (moved (record { node = first.node; number = Some m }) m refl refl (known m (inl (first, first_in first seats, e))))
     by None e [] enough known later =
         absurd (let counted = count-cons enters first seats ∙ ap (λ (o : Option ℕ). cond (is_none o) 1 0 + count_by enters seats) e in omega arith)
     by None e (i ∷ grant) enough known later =
         let counted = count-cons enters first seats ∙ ap (λ (o : Option ℕ). cond (is_none o) 1 0 + count_by enters seats) e in
         let whole = ap length (drop_zero grant) in
-        later (drop 1 (i ∷ grant)) (omega (arith, counted, whole)) (λ n own. known n (further (drop 1 (i ∷ grant)) (i ∷ grant) (λ x is. further_in i x grant (subst (λ xs. Contains xs x) (drop_zero grant) is)) n own)) _
+        later (drop 1 (i ∷ grant)) (omega (arith, counted, whole))
+        (λ n own. known n
+        (further (drop 1 (i ∷ grant)) (i ∷ grant) (λ x is. further_in i x grant (subst (λ xs. Contains xs x) (drop_zero grant) is)) n own))
+        _
         (moved (record { node = first.node; number = Some i }) i refl refl (known i (inr (first_in i grant))))

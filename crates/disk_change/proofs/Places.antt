@@ -24,16 +24,25 @@ module _ {X : Type 0} (key : X → ℕ) where
 
   -- an item whose number none has, and which is put behind the lesser ones, is put in its place
   pub insert_is_put : (items : List X) (item : X) (place : ℕ) → place ≤ length items → item_with key (key item) items ≡ None
-      → IsPartitionPoint (λ one. nat_lt (key one) (key item) ≡ true) (λ one. nat_lt (key one) (key item) ≡ false) items place → insert items place item ≡ put_in key item items
+      → IsPartitionPoint (λ one. nat_lt (key one) (key item) ≡ true) (λ one. nat_lt (key one) (key item) ≡ false) items place
+      → insert items place item ≡ put_in key item items
   insert_is_put [] item zero low none point = refl
   insert_is_put [] item (suc place) low none point = absurd (omega arith)
   insert_is_put (other ∷ others) item zero low none point =
       let above = ltb-false (key other) (key item) (point.1 0 other (omega arith) (omega arith)) in
-      let apart : key other ≢ key item = λ same. some_not_none (sym (cond-true (nat_eq (key other) (key item)) (Some other) (item_with key (key item) others) (ap (λ n. nat_eq n (key item)) same ∙ same_number (key item))) ∙ none) in
+      let apart : key other ≢ key item =
+      λ same. some_not_none
+      (sym
+      (cond-true (nat_eq (key other) (key item)) (Some other) (item_with key (key item) others)
+      (ap (λ n. nat_eq n (key item)) same ∙ same_number (key item)))
+      ∙ none) in
       sym (cond-true (nat_lt (key item) (key other)) _ _ (lt-ltb (key item) (key other) (omega arith)))
   insert_is_put (other ∷ others) item (suc place) low none point =
       let below = ltb-true (key other) (key item) (point.0 0 other (omega arith) (omega arith)) in
-      let rest = insert_is_put others item place (omega arith) (sym (cond-false (nat_eq (key other) (key item)) (Some other) (item_with key (key item) others) (not_same (key other) (key item) (omega arith))) ∙ none)
+      let rest =
+      insert_is_put others item place (omega arith)
+      (sym (cond-false (nat_eq (key other) (key item)) (Some other) (item_with key (key item) others) (not_same (key other) (key item) (omega arith)))
+      ∙ none)
       (λ k d a b. point.0 (suc k) d (omega arith) (omega arith), λ k d a b. point.1 (suc k) d (omega arith) (omega arith)) in
       ap (λ more. other ∷ more) rest ∙ sym (cond-false (nat_lt (key item) (key other)) _ _ (le-ltb (key item) (key other) (omega arith)))
 
@@ -50,11 +59,14 @@ module _ {X : Type 0} (key : X → ℕ) where
   pub ascends_put : (items : List X) (item : X) → AscendBy key items → item_with key (key item) items ≡ None → AscendBy key (put_in key item items)
   ascends_put [] item up none = λ i j d lt within. absurd (omega arith)
   ascends_put (other ∷ others) item up none = by_test (nat_lt (key item) (key other)) refl (cases_Bool (nat_eq (key other) (key item)))
-      (λ apart. ascends_put others item (ascends_behind key other others up) (sym (cond-false (nat_eq (key other) (key item)) (Some other) (item_with key (key item) others) apart) ∙ none))
+      (λ apart. ascends_put others item (ascends_behind key other others up)
+      (sym (cond-false (nat_eq (key other) (key item)) (Some other) (item_with key (key item) others) apart) ∙ none))
     where
       by_test : (b : Bool) → nat_lt (key item) (key other) ≡ b → (nat_eq (key other) (key item) ≡ true) ⊎ (nat_eq (key other) (key item) ≡ false)
-          → (nat_eq (key other) (key item) ≡ false → AscendBy key (put_in key item others)) → AscendBy key (cond b (item ∷ other ∷ others) (other ∷ put_in key item others))
-      by_test b is (inl same) rest = absurd (some_not_none (sym (cond-true (nat_eq (key other) (key item)) (Some other) (item_with key (key item) others) same) ∙ none))
+          → (nat_eq (key other) (key item) ≡ false → AscendBy key (put_in key item others))
+          → AscendBy key (cond b (item ∷ other ∷ others) (other ∷ put_in key item others))
+      by_test b is (inl same) rest =
+          absurd (some_not_none (sym (cond-true (nat_eq (key other) (key item)) (Some other) (item_with key (key item) others) same) ∙ none))
       by_test true is (inr apart) rest =
           let less = ltb-true (key item) (key other) is in
           AllPairs-cons (λ a b. key a < key b) item (other ∷ others) (λ k d within. above k d within less) up
@@ -66,10 +78,12 @@ module _ {X : Type 0} (key : X → ℕ) where
           let not_less = ltb-false (key item) (key other) is in
           let unlike = eqb-false (key other) (key item) apart in
           let less : key other < key item = grind (arith, unlike) in
-          AllPairs-cons (λ a b. key a < key b) other (put_in key item others) (all_put (λ y. key other < key y) others item less (first_is_least key other others up)) (rest apart)
+          AllPairs-cons (λ a b. key a < key b) other (put_in key item others)
+          (all_put (λ y. key other < key y) others item less (first_is_least key other others up)) (rest apart)
 
   -- an item that is removed at its place is left out
-  pub remove_is_without : (items : List X) → AscendBy key items → (at : ℕ) (d : X) → at < length items → remove items at ≡ without key (key (get_or items at d)) items
+  pub remove_is_without : (items : List X) → AscendBy key items → (at : ℕ) (d : X) → at < length items
+      → remove items at ≡ without key (key (get_or items at d)) items
   remove_is_without [] up at d within = absurd (omega arith)
   remove_is_without (item ∷ items) up zero d within = sym (cond-true (nat_eq (key item) (key item)) _ _ (same_number (key item)))
   remove_is_without (item ∷ items) up (suc at) d within =
@@ -82,7 +96,8 @@ module _ {X : Type 0} (key : X → ℕ) where
   nothing_without [] n none = refl
   nothing_without (item ∷ items) n none = by_test (nat_eq (key item) n) none (nothing_without items n)
     where
-      by_test : (b : Bool) → cond b (Some item) (item_with key n items) ≡ None → (item_with key n items ≡ None → items ≡ without key n items) → item ∷ items ≡ cond b items (item ∷ without key n items)
+      by_test : (b : Bool) → cond b (Some item) (item_with key n items) ≡ None → (item_with key n items ≡ None → items ≡ without key n items)
+          → item ∷ items ≡ cond b items (item ∷ without key n items)
       by_test true e rest = absurd (some_not_none e)
       by_test false e rest = ap (λ more. item ∷ more) (rest e)
 

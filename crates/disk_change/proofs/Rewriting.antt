@@ -27,14 +27,17 @@ one_taken (slot ∷ block) zero within taken = λ i. sym taken i && has_no_row b
 one_taken (slot ∷ block) (suc k) within taken = sym (and_false (is_none slot)) ∙ ap (λ b. is_none slot && b) (one_taken block k (omega arith) taken)
 
 -- a block without rows moves no end
-end_empty : (blocks : List (List (Option Row))) (block : List (Option Row)) → has_no_row block ≡ true → blocks_to_last_row (blocks ++ block ∷ []) ≡ blocks_to_last_row blocks
+end_empty : (blocks : List (List (Option Row))) (block : List (Option Row)) → has_no_row block ≡ true
+    → blocks_to_last_row (blocks ++ block ∷ []) ≡ blocks_to_last_row blocks
 end_empty [] block none = ap (λ b. cond (b && true) 0 1) none
 end_empty (first ∷ blocks) block none = ap (λ n. cond (has_no_row first && nat_eq n 0) 0 (suc n)) (end_empty blocks block none)
 
 -- and one with a row is the last
-end_row : (blocks : List (List (Option Row))) (block : List (Option Row)) → has_no_row block ≡ false → blocks_to_last_row (blocks ++ block ∷ []) ≡ suc (length blocks)
+end_row : (blocks : List (List (Option Row))) (block : List (Option Row)) → has_no_row block ≡ false
+    → blocks_to_last_row (blocks ++ block ∷ []) ≡ suc (length blocks)
 end_row [] block some = ap (λ b. cond (b && true) 0 1) some
-end_row (first ∷ blocks) block some = ap (λ n. cond (has_no_row first && nat_eq n 0) 0 (suc n)) (end_row blocks block some) ∙ by_test (has_no_row first) (length blocks)
+end_row (first ∷ blocks) block some =
+    ap (λ n. cond (has_no_row first && nat_eq n 0) 0 (suc n)) (end_row blocks block some) ∙ by_test (has_no_row first) (length blocks)
   where
     by_test : (b : Bool) (n : ℕ) → cond (b && nat_eq (suc n) 0) 0 (suc (suc n)) ≡ suc (suc n)
     by_test true n = cond-false (nat_eq (suc n) 0) 0 (suc (suc n)) (not_same (suc n) 0 (λ e. omega arith))
@@ -51,7 +54,8 @@ module _ (blocks : List (List (Option Row))) (n : ℕ) (within : n < length bloc
       last = omega (arith, length-take n blocks)
 
 -- what is said of a block is of that block
-pub said_at : (pointers : ℕ → ℕ) (blocks : List (List (Option Row))) (touched : List Bool) (n : ℕ) (one : ChangedBlock) → block_said pointers blocks touched n ≡ Some one → one.block ≡ n
+pub said_at : (pointers : ℕ → ℕ) (blocks : List (List (Option Row))) (touched : List Bool) (n : ℕ) (one : ChangedBlock)
+    → block_said pointers blocks touched n ≡ Some one → one.block ≡ n
 said_at pointers blocks touched n one e = by_test (get_or touched n false || (nat_le (blocks_to_last_row blocks) n && not (nat_eq (pointers n) 0))) e
   where
     by_test : (b : Bool) → cond b (Some (record { block = n; is_zero = has_no_row (get_or blocks n []) })) None ≡ Some one → one.block ≡ n
@@ -62,12 +66,15 @@ said_at pointers blocks touched n one e = by_test (get_or touched n false || (na
 pub all_below_next : (changed : List ChangedBlock) (n : ℕ) → All (λ one. one.block < n) changed → All (λ one. one.block < n + 1) changed
 all_below_next changed n below = λ i d within. let less = below i d within in omega arith
 
-pub all_below_more : (changed : List ChangedBlock) (n : ℕ) (one : ChangedBlock) → All (λ one. one.block < n) changed → one.block ≡ n → All (λ one. one.block < n + 1) (changed ++ one ∷ [])
+pub all_below_more : (changed : List ChangedBlock) (n : ℕ) (one : ChangedBlock) → All (λ one. one.block < n) changed → one.block ≡ n
+    → All (λ one. one.block < n + 1) (changed ++ one ∷ [])
 all_below_more changed n one below at = All-push (λ one. one.block < n + 1) changed one (all_below_next changed n below) (omega arith)
 
 -- the pages before one are below it
-pub pages_below : (pages : List Page) → AscendBy page_block pages → (i : ℕ) (d : Page) → i < length pages → All (λ one. one.block < page_block (get_or pages i d)) (map page_said (take i pages))
+pub pages_below : (pages : List Page) → AscendBy page_block pages → (i : ℕ) (d : Page) → i < length pages
+    → All (λ one. one.block < page_block (get_or pages i d)) (map page_said (take i pages))
 pages_below [] up i d within = absurd (omega arith)
 pages_below (page ∷ pages) up zero d within = λ k e in_. absurd (omega arith)
-pages_below (page ∷ pages) up (suc i) d within = All-cons (λ one. one.block < page_block (get_or pages i d)) (page_said page) (map page_said (take i pages)) (up 0 (suc i) d (omega arith) (omega arith))
+pages_below (page ∷ pages) up (suc i) d within =
+    All-cons (λ one. one.block < page_block (get_or pages i d)) (page_said page) (map page_said (take i pages)) (up 0 (suc i) d (omega arith) (omega arith))
     (pages_below pages (ascends_behind page_block page pages up) i d (omega arith))

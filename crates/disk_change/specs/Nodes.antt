@@ -28,4 +28,5 @@ entry_old entry = entry.old
 
 -- the entry of a node with this inode
 abbrev pub old_entry : NodeId → ℕ → Inode → List Table → List (List (Option Row)) → OldEntry
-old_entry node number inode tables slots = record { node = node; old = record { number = number; kept = record { inode = inode; tables = tables; slots = slots } } }
+old_entry node number inode tables slots =
+    record { node = node; old = record { number = number; kept = record { inode = inode; tables = tables; slots = slots } } }

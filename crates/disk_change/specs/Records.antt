@@ -19,7 +19,8 @@ pub record RecordChange : Type 0 where
 -- whether two inodes are one
 abbrev pub same_inode : Inode → Inode → Bool
 same_inode inode other =
-    inode.kind == other.kind && (inode.links == other.links && (inode.size == other.size && (bytes_eq inode.direct other.direct && bytes_eq inode.indirect other.indirect)))
+    inode.kind == other.kind
+    && (inode.links == other.links && (inode.size == other.size && (bytes_eq inode.direct other.direct && bytes_eq inode.indirect other.indirect)))
 
 -- the record of a node that has an inode afterwards, and of one that loses its own: it is free
 abbrev pub record_of_built : Built → RecordChange

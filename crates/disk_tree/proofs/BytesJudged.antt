@@ -19,13 +19,16 @@ use Rattle.disk_tree.specs.Gathered.{KeepPointerRules}
 use Rattle.disk_tree.specs.Inodes.{inode_at}
 use Rattle.disk_tree.proofs.PartsRead.{read_inode, own_inode}
 
-module _ (told : Option (List ℕ)) (layout : Layout) (records : List (List ℕ)) (count : length records ≡ layout.inodes) (inodes : List Inode) (are : inodes ≡ map inode_of records) (fit : All IsInode inodes)
-    (tables : List (Roomy Table)) (keep : KeepPointerRules told layout records tables) (contents : List (Roomy ℕ)) (parts : ℕ → Part) (hold : HoldContents told layout records tables contents parts) where
+module _ (told : Option (List ℕ)) (layout : Layout) (records : List (List ℕ)) (count : length records ≡ layout.inodes) (inodes : List Inode)
+    (are : inodes ≡ map inode_of records) (fit : All IsInode inodes)
+    (tables : List (Roomy Table)) (keep : KeepPointerRules told layout records tables) (contents : List (Roomy ℕ)) (parts : ℕ → Part)
+    (hold : HoldContents told layout records tables contents parts) where
   abbrev inode_here : ℕ → Inode
   inode_here i = inode_at inodes i
 
   pub part_inode : (i : ℕ) → i < layout.inodes → inode_in (parts i) ≡ inode_at inodes i
-  part_inode i within = read_inode told (slice_index_or records i []) (parts i) (hold.read i within) ∙ sym (own_inode told layout records count inodes are fit i within)
+  part_inode i within =
+      read_inode told (slice_index_or records i []) (parts i) (hold.read i within) ∙ sym (own_inode told layout records count inodes are fit i within)
 
   pub fits_size : (i : ℕ) → i < layout.inodes → FitsSize (parts i)
   fits_size i within = (sizes_say (parts i)).0 (keep.keep parts hold.read hold.kept 3 i (omega arith) (omega arith) within)
@@ -33,15 +36,19 @@ module _ (told : Option (List ℕ)) (layout : Layout) (records : List (List ℕ)
   record_inode : (i : ℕ) → i < layout.inodes → inode_of (slice_index_or records i []) ≡ inode_at inodes i
   record_inode i within = sym (own_inode told layout records count inodes are fit i within)
 
-  pub block_is : (i n : ℕ) → i < layout.inodes → n < blocks_of_size (inode_at inodes i).size → slice_index_or (parts i).blocks n [] ≡ part (4096 * n) 4096 (bytes_of_inode contents i)
+  pub block_is : (i n : ℕ) → i < layout.inodes → n < blocks_of_size (inode_at inodes i).size
+      → slice_index_or (parts i).blocks n [] ≡ part (4096 * n) 4096 (bytes_of_inode contents i)
   block_is i n within inside = hold.blocks i n within (subst (λ (inode : Inode). n < blocks_of_size inode.size) (sym (record_inode i within)) inside)
 
   pub sixth_rule : (i : ℕ) → i < layout.inodes → breaks_tail (parts i) ≡ tail_badly (inode_at inodes i) (bytes_of_inode contents i)
   sixth_rule i within =
-      ap (λ (inode : Inode). eqb inode.kind 1 && not (eqb (inode.size % 4096) 0) && is_some (nonzero_in (inode.size % 4096) (4096 - inode.size % 4096) (slice_index_or (parts i).blocks (inode.size / 4096) []))) (part_inode i within)
+      ap (λ (inode : Inode). eqb inode.kind 1 && not (eqb (inode.size % 4096) 0)
+      && is_some (nonzero_in (inode.size % 4096) (4096 - inode.size % 4096) (slice_index_or (parts i).blocks (inode.size / 4096) [])))
+      (part_inode i within)
       ∙ elim (cases_Bool (eqb ((inode_at inodes i).size % 4096) 0)) [
         | inr rest ↦ (let some : (inode_at inodes i).size % 4096 ≢ 0 = eqb-false _ _ rest in
-            ap (λ (block : List ℕ). eqb (inode_at inodes i).kind 1 && not (eqb ((inode_at inodes i).size % 4096) 0) && is_some (nonzero_in ((inode_at inodes i).size % 4096) (4096 - (inode_at inodes i).size % 4096) block))
+            ap (λ (block : List ℕ). eqb (inode_at inodes i).kind 1 && not (eqb ((inode_at inodes i).size % 4096) 0)
+            && is_some (nonzero_in ((inode_at inodes i).size % 4096) (4096 - (inode_at inodes i).size % 4096) block))
             (block_is i ((inode_at inodes i).size / 4096) within (omega arith)))
         | inl whole ↦ even (eqb (inode_at inodes i).kind 1) _ _ _ whole
       ]
@@ -54,7 +61,8 @@ module _ (told : Option (List ℕ)) (layout : Layout) (records : List (List ℕ)
           by false = refl
       even a false c d e = absurd cc
 
-  pub blocks_are : (i : ℕ) → i < layout.inodes → (inode_at inodes i).kind ≡ 2 → directory_blocks (parts i) ≡ blocks_in ((inode_at inodes i).size / 4096) (bytes_of_inode contents i)
+  pub blocks_are : (i : ℕ) → i < layout.inodes → (inode_at inodes i).kind ≡ 2
+      → directory_blocks (parts i) ≡ blocks_in ((inode_at inodes i).size / 4096) (bytes_of_inode contents i)
   unfolding blocks_in
   blocks_are i within kind =
       let fits = fits_size i within in
@@ -63,9 +71,11 @@ module _ (told : Option (List ℕ)) (layout : Layout) (records : List (List ℕ)
       let whole = fits.whole directory in
       let size : (inode_in (parts i)).size ≡ (inode_at inodes i).size = ap (λ (inode : Inode). inode.size) (part_inode i within) in
       let long = (hold.read i within).count in
-      let taken : length (take ((inode_at inodes i).size / 4096) (parts i).blocks) ≡ (inode_at inodes i).size / 4096 = length-take-le ((inode_at inodes i).size / 4096) (parts i).blocks (omega arith) in
+      let taken : length (take ((inode_at inodes i).size / 4096) (parts i).blocks) ≡ (inode_at inodes i).size / 4096 =
+      length-take-le ((inode_at inodes i).size / 4096) (parts i).blocks (omega arith) in
       ap (λ (n : ℕ). take (n / 4096) (parts i).blocks) size
-      ∙ same_lists (take ((inode_at inodes i).size / 4096) (parts i).blocks) (map (λ n. part (4096 * n) 4096 (bytes_of_inode contents i)) (range_with_len 0 ((inode_at inodes i).size / 4096)))
+      ∙ same_lists (take ((inode_at inodes i).size / 4096) (parts i).blocks)
+      (map (λ n. part (4096 * n) 4096 (bytes_of_inode contents i)) (range_with_len 0 ((inode_at inodes i).size / 4096)))
       (taken ∙ sym (length-map-range_with_len (λ n. part (4096 * n) 4096 (bytes_of_inode contents i)) 0 ((inode_at inodes i).size / 4096)))
       (λ k d h.
       let below : k < (inode_at inodes i).size / 4096 = omega arith in
@@ -78,6 +88,7 @@ module _ (told : Option (List ℕ)) (layout : Layout) (records : List (List ℕ)
   seventh_rule i within =
       ap (λ (inode : Inode). eqb inode.kind 2 && list_any is_malformed (directory_blocks (parts i))) (part_inode i within)
       ∙ elim (cases_Bool (eqb (inode_at inodes i).kind 2)) [
-        | inl directory ↦ ap (λ (blocks : List (List ℕ)). eqb (inode_at inodes i).kind 2 && list_any is_malformed blocks) (blocks_are i within (eqb-true _ _ directory))
+        | inl directory ↦
+            ap (λ (blocks : List (List ℕ)). eqb (inode_at inodes i).kind 2 && list_any is_malformed blocks) (blocks_are i within (eqb-true _ _ directory))
         | inr other ↦ and_left (eqb (inode_at inodes i).kind 2) _ other ∙ sym (and_left (eqb (inode_at inodes i).kind 2) _ other)
       ]

@@ -27,7 +27,8 @@ use Rattle.disk_tree.proofs.PartsMade.{parts_made}
 use Rattle.disk_tree.proofs.PartsRead.{own_inode, own_pointer, used_of_pointer, fits_at, parts_of_tables, parts_of_tables_read, parts_of_tables_kept}
 use Rattle.disk_tree.proofs.Refusals.{refused_at, byte_rule}
 
-module _ (told : Option (List ℕ)) (layout : Layout) (records : List (List ℕ)) (count : length records ≡ layout.inodes) (inodes : List Inode) (are : inodes ≡ map inode_of records) (fit : All IsInode inodes)
+module _ (told : Option (List ℕ)) (layout : Layout) (records : List (List ℕ)) (count : length records ≡ layout.inodes) (inodes : List Inode)
+    (are : inodes ≡ map inode_of records) (fit : All IsInode inodes)
     (tables : List (Roomy Table)) (first : KeepRecordRules layout records) (keep : KeepPointerRules told layout records tables) where
   abbrev own : AreDecoded layout records inodes
   own = own_inode told layout records count inodes are fit
@@ -35,7 +36,8 @@ module _ (told : Option (List ℕ)) (layout : Layout) (records : List (List ℕ)
   -- no inode is larger than a file may be
   pub sizes_fit : (i : ℕ) → i < layout.inodes → (inode_at inodes i).size ≤ 4096 * FILE_BLOCKS
   sizes_fit i within =
-      let fits = (sizes_say (unread told records i)).0 (first.keep (unread told records) (unread_have told layout records) 3 i (omega arith) (omega arith) within) in
+      let fits =
+      (sizes_say (unread told records i)).0 (first.keep (unread told records) (unread_have told layout records) 3 i (omega arith) (omega arith) within) in
       let same : inode_of (unread told records i).raw ≡ inode_at inodes i = ap inode_of (unread_have told layout records i within) ∙ sym (own i within) in
       let size = ap (λ (inode : Inode). inode.size) same in
       let kinds = fits_at told layout records count inodes are fit i within in
@@ -56,13 +58,15 @@ module _ (told : Option (List ℕ)) (layout : Layout) (records : List (List ℕ)
       ]
 
   -- each block lies on the disk
-  pub blocks_within : (size i n : ℕ) → i < layout.inodes → n < FILE_BLOCKS → 0 < layout.blocks → layout.blocks ≤ size → block_kept (inode_at inodes i) (tables_at tables i) n < size
+  pub blocks_within : (size i n : ℕ) → i < layout.inodes → n < FILE_BLOCKS → 0 < layout.blocks → layout.blocks ≤ size
+      → block_kept (inode_at inodes i) (tables_at tables i) n < size
   blocks_within size i n within inside some le =
       let parts = parts_of_tables told layout records tables keep.has in
       let read = parts_of_tables_read told layout records tables keep.has in
       let kept = parts_of_tables_kept told layout records tables keep.has in
       let same : pointer_at (parts i) n ≡ block_kept (inode_at inodes i) (tables_at tables i) n =
-      own_pointer told layout records count inodes are fit tables parts read kept i n within ∙ cond-true (ltb n FILE_BLOCKS) _ _ (lt-ltb n FILE_BLOCKS inside) in
+      own_pointer told layout records count inodes are fit tables parts read kept i n within
+      ∙ cond-true (ltb n FILE_BLOCKS) _ _ (lt-ltb n FILE_BLOCKS inside) in
       subst (λ (p : ℕ). p < size) same (elim (cases_Bool (eqb (pointer_at (parts i) n) 0)) [
         | inl hole ↦ (let none = eqb-true _ _ hole in omega arith)
         | inr there ↦ (let some_there = eqb-false _ _ there in
@@ -106,7 +110,8 @@ module _ (told : Option (List ℕ)) (layout : Layout) (records : List (List ℕ)
       six rule i low high within = elim (cases_lt rule 6) [
         | inl less ↦ five rule i low (omega arith) within
         | inr here ↦ (let e : 6 ≡ rule = omega arith in
-            subst (λ (r : ℕ). breaks_bytes_rule r layout parts i ≡ false) e (sixth i within ∙ tails i (let m = length_inodes layout records inodes count are in omega arith)))
+            subst (λ (r : ℕ). breaks_bytes_rule r layout parts i ≡ false) e
+            (sixth i within ∙ tails i (let m = length_inodes layout records inodes count are in omega arith)))
       ]
 
       seventh_refused : (i rule : ℕ) → BreaksSeventh inodes contents i rule → Refused told layout records i rule
@@ -126,7 +131,8 @@ module _ (told : Option (List ℕ)) (layout : Layout) (records : List (List ℕ)
       seventh_refusal NoMemory is = tt
       seventh_refusal DiskFailed is = tt
 
-      pub read_well : (slots : List (Roomy (List (Option Row)))) → AreSlotLists inodes contents (length inodes) slots → ReadWell told layout records inodes tables contents slots
+      pub read_well : (slots : List (Roomy (List (Option Row)))) → AreSlotLists inodes contents (length inodes) slots
+          → ReadWell told layout records inodes tables contents slots
       read_well slots lists = record {
         parts = parts;
         hold = hold;
@@ -135,6 +141,7 @@ module _ (told : Option (List ℕ)) (layout : Layout) (records : List (List ℕ)
         keep = λ rule i low high within. elim (cases_lt rule 7) [
           | inl less ↦ six rule i low (omega arith) within
           | inr here ↦ (let e : 7 ≡ rule = omega arith in
-              subst (λ (r : ℕ). breaks_bytes_rule r layout parts i ≡ false) e (seventh i within ∙ lists.keep i (let m = length_inodes layout records inodes count are in omega arith)))
+              subst (λ (r : ℕ). breaks_bytes_rule r layout parts i ≡ false) e
+              (seventh i within ∙ lists.keep i (let m = length_inodes layout records inodes count are in omega arith)))
         ];
       }

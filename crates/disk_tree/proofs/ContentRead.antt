@@ -26,7 +26,9 @@ pub more_content : (told : Option (List ℕ)) (inode : Inode) (tables : List Tab
 more_content told inode tables k bytes block before long read = record {
   size = length-append bytes block ∙ (let e = before.size in omega arith);
   each = λ n below. elim (cases_lt n k) [
-    | inl less ↦ subst (IsReadBlock told (block_kept inode tables n)) (sym (part_before (4096 * n) 4096 bytes block (let e = before.size in omega arith))) (before.each n less)
+    | inl less ↦
+        subst (IsReadBlock told (block_kept inode tables n)) (sym (part_before (4096 * n) 4096 bytes block (let e = before.size in omega arith)))
+        (before.each n less)
     | inr here ↦ (let same : k ≡ n = omega arith in
         let at : length bytes ≡ 4096 * n = (let e = before.size in omega arith) in
         let given : part (4096 * n) 4096 (bytes ++ block) ≡ block = sym (ap (λ (a : ℕ). part a 4096 (bytes ++ block)) at) ∙ part_behind 4096 bytes block long in
@@ -35,5 +37,6 @@ more_content told inode tables k bytes block before long read = record {
 }
 
 -- the block that `block_at` names
-pub block_named : (inode : Inode) (tables : List Table) (n pointer : ℕ) → n < FILE_BLOCKS → pointer ≡ pointer_kept inode tables n → pointer ≡ block_kept inode tables n
+pub block_named : (inode : Inode) (tables : List Table) (n pointer : ℕ) → n < FILE_BLOCKS → pointer ≡ pointer_kept inode tables n
+    → pointer ≡ block_kept inode tables n
 block_named inode tables n pointer below is = is ∙ cond-true (ltb n FILE_BLOCKS) _ _ (lt-ltb n FILE_BLOCKS below)

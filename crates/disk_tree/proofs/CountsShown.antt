@@ -39,7 +39,9 @@ own_names rows none at earlier within before same =
     (list_any_at (λ (row : Row). nat_lt 1 (rows_named row.name rows)) rows at NO_ROW within
     (lt-ltb 1 (rows_named (slice_index_or rows at NO_ROW).name rows)
     (two_counted (λ (row : Row). bytes_eq (slice_index_or rows at NO_ROW).name row.name) NO_ROW rows earlier at before within
-    (ap (bytes_eq (slice_index_or rows at NO_ROW).name) same ∙ same_bytes (slice_index_or rows at NO_ROW).name) (same_bytes (slice_index_or rows at NO_ROW).name)))) none
+    (ap (bytes_eq (slice_index_or rows at NO_ROW).name) same ∙ same_bytes (slice_index_or rows at NO_ROW).name)
+    (same_bytes (slice_index_or rows at NO_ROW).name))))
+    none
 
 -- rows of slots, as a tree has them
 tree_rows : (i : ℕ) (slots : List (Option Row)) → filter_map (tree_row i) slots ≡ map (entry_of_row i) (rows_in_slots slots)
@@ -52,17 +54,22 @@ any_same p q [] same = refl
 any_same p q (x ∷ xs) same = ap (λ b. b || list_any p xs) (same x) ∙ ap (λ b. q x || b) (any_same p q xs same)
 
 -- tests that agree on rows that pass another
-counted_same : (p q wrong : Row → Bool) (rows : List Row) → list_any wrong rows ≡ false → ((row : Row) → wrong row ≡ false → p row ≡ q row) → count_by p rows ≡ count_by q rows
+counted_same : (p q wrong : Row → Bool) (rows : List Row) → list_any wrong rows ≡ false → ((row : Row) → wrong row ≡ false → p row ≡ q row)
+    → count_by p rows ≡ count_by q rows
 counted_same p q wrong [] none same = refl
 counted_same p q wrong (row ∷ rows) none same =
     let both = or_parts (wrong row) (list_any wrong rows) none in
-    count-cons p row rows ∙ ap (λ b. cond b 1 0 + count_by p rows) (same row both.0) ∙ ap (λ (k : ℕ). cond (q row) 1 0 + k) (counted_same p q wrong rows both.1 same) ∙ sym (count-cons q row rows)
+    count-cons p row rows ∙ ap (λ b. cond b 1 0 + count_by p rows) (same row both.0)
+    ∙ ap (λ (k : ℕ). cond (q row) 1 0 + k) (counted_same p q wrong rows both.1 same) ∙ sym (count-cons q row rows)
 
-module _ (image : SeenInodes) (inodes : List Inode) (rows : List (Roomy Row)) (shows : ShowsRows image inodes rows) (long : length rows ≡ length inodes) (once : NonePasses image.count (breaks_eighth rows)) where
+module _ (image : SeenInodes) (inodes : List Inode) (rows : List (Roomy Row)) (shows : ShowsRows image inodes rows) (long : length rows ≡ length inodes)
+    (once : NonePasses image.count (breaks_eighth rows)) where
   pub own : (i : ℕ) → HaveOwnNames (rows_of_inode rows i) (length (rows_of_inode rows i))
   own i = elim (cases_lt i image.count) [
     | inl within ↦ own_names (rows_of_inode rows i) (once i within)
-    | inr past ↦ own_names (rows_of_inode rows i) (ap has_twice (ap (λ (r : Roomy Row). r.items) (get_or_past rows i (record { items = []; spare = 0 }) (let c = shows.count in omega arith))))
+    | inr past ↦
+        own_names (rows_of_inode rows i)
+        (ap has_twice (ap (λ (r : Roomy Row). r.items) (get_or_past rows i (record { items = []; spare = 0 }) (let c = shows.count in omega arith))))
   ]
 
   pub rows_are : image_rows image ≡ from_entries (row_entries rows image.count)
@@ -71,8 +78,12 @@ module _ (image : SeenInodes) (inodes : List Inode) (rows : List (Roomy Row)) (s
     where
       here : (i : ℕ) → i < image.count → rows_in image i ≡ entries_at rows i
       here i within = elim (cases_Bool (eqb (image.seen i).kind 2)) [
-        | inl directory ↦ ap (λ b. cond b (filter_map (tree_row i) (image.seen i).slots) []) directory ∙ tree_rows i (image.seen i).slots ∙ ap (map (entry_of_row i)) (sym (shows.slots i within (eqb-true _ _ directory)))
-        | inr other ↦ ap (λ b. cond b (filter_map (tree_row i) (image.seen i).slots) []) other ∙ ap (map (entry_of_row i)) (sym (shows.others i within (eqb-false _ _ other)))
+        | inl directory ↦
+            ap (λ b. cond b (filter_map (tree_row i) (image.seen i).slots) []) directory ∙ tree_rows i (image.seen i).slots
+            ∙ ap (map (entry_of_row i)) (sym (shows.slots i within (eqb-true _ _ directory)))
+        | inr other ↦
+            ap (λ b. cond b (filter_map (tree_row i) (image.seen i).slots) []) other
+            ∙ ap (map (entry_of_row i)) (sym (shows.others i within (eqb-false _ _ other)))
       ]
 
   counted : (p : Key × ℕ → Bool) → count_by p (entries (image_rows image)) ≡ count_by p (row_entries rows image.count)
@@ -91,7 +102,9 @@ module _ (image : SeenInodes) (inodes : List Inode) (rows : List (Roomy Row)) (s
   unfolding has_full_bucket
   ninth i within = elim (cases_Bool (eqb (image.seen i).kind 2)) [
     | inl directory ↦ ap (λ b. b && has_overfull_bucket image i) directory
-        ∙ any_same (λ number. nat_lt BUCKET_ROWS (len (bucket_rows i number (image_rows image)))) (λ number. nat_lt BUCKET_ROWS (rows_in_bucket (rows_of_inode rows i) number)) (range_with_len 0 8) (λ number. ap (nat_lt BUCKET_ROWS) (bucket_is i number within))
+        ∙ any_same (λ number. nat_lt BUCKET_ROWS (len (bucket_rows i number (image_rows image))))
+        (λ number. nat_lt BUCKET_ROWS (rows_in_bucket (rows_of_inode rows i) number)) (range_with_len 0 8)
+        (λ number. ap (nat_lt BUCKET_ROWS) (bucket_is i number within))
     | inr other ↦ ap (λ b. b && has_overfull_bucket image i) other ∙ sym (ap has_full_bucket (shows.others i within (eqb-false _ _ other)))
   ]
 
@@ -112,15 +125,20 @@ module _ (image : SeenInodes) (inodes : List Inode) (rows : List (Roomy Row)) (s
         directory_shown image NOTHING_MADE row.inode within
         ∙ ap (λ (k : ℕ). nat_eq k 2) (shows.kind row.inode within ∙ eqb-true _ _ (not_false _ both.1)) ∙ kind_test row.kind
 
-    inside_is : (i : ℕ) → i < image.count → count_by (holds_directory (ruled_tree image) i) (entries (image_rows image)) ≡ directory_row_count (rows_of_inode rows i)
+    inside_is : (i : ℕ) → i < image.count
+        → count_by (holds_directory (ruled_tree image) i) (entries (image_rows image)) ≡ directory_row_count (rows_of_inode rows i)
     inside_is i within =
         counted (holds_directory (ruled_tree image) i)
         ∙ entries_of rows (λ e. is_directory (ruled_tree image) e.1) i image.count within
-        ∙ counted_same (λ (row : Row). is_directory (ruled_tree image) row.inode) (λ (row : Row). is_directory_kind row.kind) (is_misplaced_by inodes) (rows_of_inode rows i) (placed i within) child_is
+        ∙ counted_same (λ (row : Row). is_directory (ruled_tree image) row.inode) (λ (row : Row). is_directory_kind row.kind) (is_misplaced_by inodes)
+        (rows_of_inode rows i) (placed i within) child_is
 
-    links_are : (i : ℕ) → i < image.count → links_of (ruled_tree image) i ≡ cond (nat_eq (inode_at inodes i).kind 2) (2 + directory_row_count (rows_of_inode rows i)) (naming_below rows (length inodes) i)
+    links_are : (i : ℕ) → i < image.count
+        → links_of (ruled_tree image) i
+        ≡ cond (nat_eq (inode_at inodes i).kind 2) (2 + directory_row_count (rows_of_inode rows i)) (naming_below rows (length inodes) i)
     links_are i within =
-        ap (λ b. cond b (2 + count_by (holds_directory (ruled_tree image) i) (entries (image_rows image))) (count_of (image_rows image) i)) (directory_shown image NOTHING_MADE i within ∙ ap (λ (k : ℕ). nat_eq k 2) (shows.kind i within))
+        ap (λ b. cond b (2 + count_by (holds_directory (ruled_tree image) i) (entries (image_rows image))) (count_of (image_rows image) i))
+        (directory_shown image NOTHING_MADE i within ∙ ap (λ (k : ℕ). nat_eq k 2) (shows.kind i within))
         ∙ ap (λ (n : ℕ). cond (nat_eq (inode_at inodes i).kind 2) (2 + n) (count_of (image_rows image) i)) (inside_is i within)
         ∙ ap (cond (nat_eq (inode_at inodes i).kind 2) (2 + directory_row_count (rows_of_inode rows i))) (count_is i)
 

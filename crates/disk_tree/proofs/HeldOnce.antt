@@ -11,7 +11,8 @@ use Rattle.disk_tree.specs.Apart.{is_marked, MarksEach, pointer_in, HoldOnce}
 use Rattle.disk_tree.specs.Inodes.{inode_at}
 
 -- elements of the lists are those of a number
-pub same_pointers : (inodes : List Inode) (tables : List (Roomy Table)) (place : ℕ) (inode : Inode) (own : Roomy Table) → place < length inodes → place < length tables →
+pub same_pointers : (inodes : List Inode) (tables : List (Roomy Table)) (place : ℕ) (inode : Inode) (own : Roomy Table) → place < length inodes
+    → place < length tables →
     inode ≡ get_or inodes place inode → own ≡ get_or tables place own → (p : ℕ) → pointer_kept inode own.items p ≡ pointer_in inodes tables place p
 same_pointers inodes tables place inode own within there is own_is p =
     ap (λ (i : Inode). pointer_kept i own.items p) (get_or_read inodes place inode within is (inode_of []))

@@ -19,7 +19,8 @@ use Rattle.disk_tree.proofs.Refusals.{store_of, unread_is_read, refused_at, byte
 -- the inode of a number among those of records
 pub inode_at_record : (records : List (List ℕ)) (inodes : List Inode) (i : ℕ) → inodes ≡ map inode_of records → i < length records →
     inode_at inodes i ≡ inode_of (slice_index_or records i [])
-inode_at_record records inodes i is within = ap (λ (xs : List Inode). slice_index_or xs i (inode_of [])) is ∙ get_or-map inode_of records i [] (inode_of []) within
+inode_at_record records inodes i is within =
+    ap (λ (xs : List Inode). slice_index_or xs i (inode_of [])) is ∙ get_or-map inode_of records i [] (inode_of []) within
 
 some_wrong : (o : Option ℕ) → (o ≡ None → ⊥) → is_some o ≡ true
 some_wrong None some = absurd (some refl)
@@ -44,7 +45,8 @@ module _ (layout : Layout) (records : List (List ℕ)) (parts : ℕ → Part) (h
         | true ↦ λ t. ap (λ (j : ℕ). not (eqb (inode_of (slice_index_or records j [])).kind 2)) (eqb-true i 0 t) ∙ ap not (eq-eqb _ 2 kind)
       ] refl
 
-  keep_three : SoundRecords layout.inodes records → (inode_of (slice_index_or records 0 [])).kind ≡ 2 → NonePasses layout.inodes (λ i. breaks_size_by (inode_of (slice_index_or records i []))) →
+  keep_three : SoundRecords layout.inodes records → (inode_of (slice_index_or records 0 [])).kind ≡ 2
+      → NonePasses layout.inodes (λ i. breaks_size_by (inode_of (slice_index_or records i []))) →
       (rule i : ℕ) → 1 ≤ rule → rule ≤ 3 → i < layout.inodes → breaks_bytes_rule rule layout parts i ≡ false
   keep_three sound root sizes zero i low high within = absurd (omega arith)
   keep_three sound root sizes (suc zero) i low high within = first_rule i within ∙ ap is_some (sound i within)
@@ -70,20 +72,30 @@ module _ (told : Option (List ℕ)) (layout : Layout) (records : List (List ℕ)
   malformed_is_refused inode rule count is =
       let within : inode < layout.inodes = (let h = is.within in omega arith) in
       subst (λ (r : ℕ). Refused told layout records inode r) (sym is.first)
-      (refused_at told layout records (unread told records) 1 inode unread_read (omega arith) (omega arith) (λ lesser j low high _. none_lesser j lesser low high) (record {
+      (refused_at told layout records (unread told records) 1 inode unread_read (omega arith) (omega arith)
+      (λ lesser j low high _. none_lesser j lesser low high) (record {
         within = within;
-        passes = byte_rule layout (unread told records) 1 inode (omega arith) ∙ first_rule layout records (unread told records) unread_have inode within ∙ some_wrong _ is.wrong;
-        before = λ j less. byte_rule layout (unread told records) 1 j (omega arith) ∙ first_rule layout records (unread told records) unread_have j (omega arith) ∙ ap is_some (is.before j less);
+        passes =
+            byte_rule layout (unread told records) 1 inode (omega arith) ∙ first_rule layout records (unread told records) unread_have inode within
+            ∙ some_wrong _ is.wrong;
+        before =
+            λ j less. byte_rule layout (unread told records) 1 j (omega arith) ∙ first_rule layout records (unread told records) unread_have j (omega arith)
+            ∙ ap is_some (is.before j less);
       }))
 
-  pub root_is_refused : 0 < layout.inodes → SoundRecords layout.inodes records → (inode_of (slice_index_or records 0 [])).kind ≢ 2 → Refused told layout records 0 2
+  pub root_is_refused : 0 < layout.inodes → SoundRecords layout.inodes records → (inode_of (slice_index_or records 0 [])).kind ≢ 2
+      → Refused told layout records 0 2
   root_is_refused some sound other =
       refused_at told layout records (unread told records) 2 0 unread_read (omega arith) (omega arith)
       (λ lesser j low high within. let one : 1 ≡ lesser = omega arith in
-      subst (λ (r : ℕ). breaks_of layout (unread told records) r j ≡ false) one (byte_rule layout (unread told records) 1 j (omega arith) ∙ first_rule layout records (unread told records) unread_have j within ∙ ap is_some (sound j within)))
+      subst (λ (r : ℕ). breaks_of layout (unread told records) r j ≡ false) one
+      (byte_rule layout (unread told records) 1 j (omega arith) ∙ first_rule layout records (unread told records) unread_have j within
+      ∙ ap is_some (sound j within)))
       (record {
         within = some;
-        passes = byte_rule layout (unread told records) 2 0 (omega arith) ∙ second_rule layout records (unread told records) unread_have 0 some ∙ ap not (ne_eqb _ 2 other);
+        passes =
+            byte_rule layout (unread told records) 2 0 (omega arith) ∙ second_rule layout records (unread told records) unread_have 0 some
+            ∙ ap not (ne_eqb _ 2 other);
         before = λ j less. absurd (omega arith);
       })
 
@@ -93,18 +105,26 @@ module _ (told : Option (List ℕ)) (layout : Layout) (records : List (List ℕ)
       refused_at told layout records (unread told records) 3 inode unread_read (omega arith) (omega arith) lesser_kept
       (record {
         within = first.within;
-        passes = byte_rule layout (unread told records) 3 inode (omega arith) ∙ third_rule layout records (unread told records) unread_have inode first.within ∙ first.passes;
-        before = λ j less. byte_rule layout (unread told records) 3 j (omega arith) ∙ third_rule layout records (unread told records) unread_have j (let h = first.within in omega arith) ∙ first.before j less;
+        passes =
+            byte_rule layout (unread told records) 3 inode (omega arith) ∙ third_rule layout records (unread told records) unread_have inode first.within
+            ∙ first.passes;
+        before =
+            λ j less. byte_rule layout (unread told records) 3 j (omega arith)
+            ∙ third_rule layout records (unread told records) unread_have j (let h = first.within in omega arith) ∙ first.before j less;
       })
     where
       lesser_kept : (lesser j : ℕ) → 1 ≤ lesser → lesser < 3 → j < layout.inodes → breaks_of layout (unread told records) lesser j ≡ false
       lesser_kept zero j low high within = absurd (omega arith)
-      lesser_kept (suc zero) j low high within = byte_rule layout (unread told records) 1 j (omega arith) ∙ first_rule layout records (unread told records) unread_have j within ∙ ap is_some (sound j within)
-      lesser_kept (suc (suc zero)) j low high within = byte_rule layout (unread told records) 2 j (omega arith) ∙ root_keeps layout records (unread told records) unread_have root j within
+      lesser_kept (suc zero) j low high within =
+          byte_rule layout (unread told records) 1 j (omega arith) ∙ first_rule layout records (unread told records) unread_have j within
+          ∙ ap is_some (sound j within)
+      lesser_kept (suc (suc zero)) j low high within =
+          byte_rule layout (unread told records) 2 j (omega arith) ∙ root_keeps layout records (unread told records) unread_have root j within
       lesser_kept (suc (suc (suc n))) j low high within = absurd (omega arith)
 
 -- a refusal by the first rule, as one of a whole image
-pub malformed_refusal : (layout : Layout) (records : List (List ℕ)) (fault : TreeFault) → length records ≡ layout.inodes → IsRefusal (IsMalformed records) fault →
+pub malformed_refusal : (layout : Layout) (records : List (List ℕ)) (fault : TreeFault) → length records ≡ layout.inodes
+    → IsRefusal (IsMalformed records) fault →
     IsRefusal (λ inode rule. (told : Option (List ℕ)) → Refused told layout records inode rule) fault
 malformed_refusal layout records (BadImage inode rule) count is = λ told. malformed_is_refused told layout records inode rule count is
 malformed_refusal layout records NoMemory count is = tt
@@ -144,10 +164,12 @@ module _ (layout : Layout) (records : List (List ℕ)) (inodes : List Inode) (co
   size_in_record : (i : ℕ) → i < layout.inodes → breaks_size_by (inode_at inodes i) ≡ breaks_size_by (inode_of (slice_index_or records i []))
   size_in_record i within = ap breaks_size_by (inode_at_record records inodes i is (omega arith))
 
-  pub sizes_none : NonePasses (length inodes) (λ i. breaks_size_by (inode_at inodes i)) → NonePasses layout.inodes (λ i. breaks_size_by (inode_of (slice_index_or records i [])))
+  pub sizes_none : NonePasses (length inodes) (λ i. breaks_size_by (inode_at inodes i))
+      → NonePasses layout.inodes (λ i. breaks_size_by (inode_of (slice_index_or records i [])))
   sizes_none none i within = sym (size_in_record i within) ∙ none i (subst (λ (n : ℕ). i < n) (sym length_inodes) within)
 
-  pub sizes_first : (i : ℕ) → IsFirst (length inodes) (λ i. breaks_size_by (inode_at inodes i)) i → IsFirst layout.inodes (λ i. breaks_size_by (inode_of (slice_index_or records i []))) i
+  pub sizes_first : (i : ℕ) → IsFirst (length inodes) (λ i. breaks_size_by (inode_at inodes i)) i
+      → IsFirst layout.inodes (λ i. breaks_size_by (inode_of (slice_index_or records i []))) i
   sizes_first i first =
       let within : i < layout.inodes = subst (λ (n : ℕ). i < n) length_inodes first.within in
       record {
@@ -165,7 +187,8 @@ module _ (layout : Layout) (records : List (List ℕ)) (inodes : List Inode) (co
 -- one more record that is decoded
 module _ (records seen : List (List ℕ)) (same : seen ≡ records) (n : ℕ) (d : List ℕ) (within : n < length seen) where
   pub fault_read : inode_fault (get_or seen n d) ≡ None → inode_fault (slice_index_or records n []) ≡ None
-  fault_read none = ap (λ (xs : List (List ℕ)). inode_fault (slice_index_or xs n [])) (sym same) ∙ ap inode_fault (sym (get_or_default seen n d [] within)) ∙ none
+  fault_read none =
+      ap (λ (xs : List (List ℕ)). inode_fault (slice_index_or xs n [])) (sym same) ∙ ap inode_fault (sym (get_or_default seen n d [] within)) ∙ none
 
   pub whole_read : IsWholeRecord (get_or seen n d) → IsWholeRecord (slice_index_or records n [])
   whole_read whole = subst (λ (xs : List (List ℕ)). IsWholeRecord (slice_index_or xs n [])) same (subst IsWholeRecord (get_or_default seen n d [] within) whole)

@@ -21,7 +21,8 @@ marks_none held pointers = record {
 }
 
 -- marks that come after marks: pointers from n on, as others from 0 on
-module _ (old mid new : List Bool) (pointers more : ℕ → ℕ) (n len : ℕ) (same : (k : ℕ) → k < len → pointers (n + k) ≡ more k) (first : MarksEach old mid pointers n) where
+module _ (old mid new : List Bool) (pointers more : ℕ → ℕ) (n len : ℕ) (same : (k : ℕ) → k < len → pointers (n + k) ≡ more k)
+    (first : MarksEach old mid pointers n) where
   -- a later pointer, as one of the others
   later : (k : ℕ) → n ≤ k → k < n + len → (j : ℕ) × (j < len) × (n + j ≡ k) × (pointers k ≡ more j)
   later k low high =
@@ -94,7 +95,13 @@ module _ (old mid new : List Bool) (pointers more : ℕ → ℕ) (n len : ℕ) (
         | inl old_mark ↦ inl (subst (λ (b : ℕ). is_marked old b ≡ true) (sym (same meets.at meets.within)) old_mark)
         | inr one ↦ inr (one.0, (let h = one.1 in omega arith), one.3 ∙ sym (same meets.at meets.within))
       ]
-      | inr one ↦ inr (n + one.0, (let h = one.1 in omega arith), same one.0 (let h = one.1 in let w = meets.within in omega arith) ∙ one.2 ∙ sym (same meets.at meets.within))
+      | inr one ↦
+          inr (
+            n + one.0,
+            (let h = one.1 in omega arith),
+            same one.0 (let h = one.1 in let w = meets.within in omega arith) ∙ one.2
+                ∙ sym (same meets.at meets.within),
+          )
     ];
   }
 
@@ -105,7 +112,8 @@ module _ (inode : Inode) (tables : List Table) where
       let e : 0 + k ≡ k = omega arith in
       ap (pointer_kept inode tables) e ∙ cond-true (ltb k FILE_BLOCKS) _ _ (lt-ltb k FILE_BLOCKS (omega arith)) ∙ cond-true (ltb k 108) _ _ (lt-ltb k 108 near)
 
-  pub kept_entry : (place k : ℕ) → place < 16 → k < 1024 → pointer_kept inode tables (108 + 1024 * place + k) ≡ entry_kept k (find (λ table. eqb table.place place) tables)
+  pub kept_entry : (place k : ℕ) → place < 16 → k < 1024
+      → pointer_kept inode tables (108 + 1024 * place + k) ≡ entry_kept k (find (λ table. eqb table.place place) tables)
   kept_entry place k small tiny =
       let n = 108 + 1024 * place + k in
       let table : table_of n ≡ place = omega arith in
@@ -120,31 +128,41 @@ module _ (inode : Inode) (tables : List Table) where
       cond-false (ltb (FILE_BLOCKS + k) FILE_BLOCKS) _ _ (le-ltb (FILE_BLOCKS + k) FILE_BLOCKS (omega arith)) ∙ ap (slice_index inode.indirect) e
 
   -- the first 108 places
-  pub direct_marked : (old new : List Bool) → length inode.direct ≡ 108 → MarksEach old new (slice_index inode.direct) (length inode.direct) → MarksEach old new (pointer_kept inode tables) (108 + 1024 * 0)
+  pub direct_marked : (old new : List Bool) → length inode.direct ≡ 108 → MarksEach old new (slice_index inode.direct) (length inode.direct)
+      → MarksEach old new (pointer_kept inode tables) (108 + 1024 * 0)
   direct_marked old new long marks =
-      marks_more old old new (pointer_kept inode tables) (slice_index inode.direct) 0 108 kept_direct (marks_none old (pointer_kept inode tables)) (subst (MarksEach old new (slice_index inode.direct)) long marks)
+      marks_more old old new (pointer_kept inode tables) (slice_index inode.direct) 0 108 kept_direct (marks_none old (pointer_kept inode tables))
+      (subst (MarksEach old new (slice_index inode.direct)) long marks)
 
-  pub direct_meets : (old : List Bool) → length inode.direct ≡ 108 → Meets old (slice_index inode.direct) (length inode.direct) → Meets old (pointer_kept inode tables) PLACES
+  pub direct_meets : (old : List Bool) → length inode.direct ≡ 108 → Meets old (slice_index inode.direct) (length inode.direct)
+      → Meets old (pointer_kept inode tables) PLACES
   direct_meets old long meets =
-      meets_more old old old (pointer_kept inode tables) (slice_index inode.direct) 0 108 kept_direct (marks_none old (pointer_kept inode tables)) PLACES (omega arith) (subst (Meets old (slice_index inode.direct)) long meets)
+      meets_more old old old (pointer_kept inode tables) (slice_index inode.direct) 0 108 kept_direct (marks_none old (pointer_kept inode tables)) PLACES
+      (omega arith) (subst (Meets old (slice_index inode.direct)) long meets)
 
   module _ (old mid : List Bool) (place : ℕ) (small : place < 16) (first : MarksEach old mid (pointer_kept inode tables) (108 + 1024 * place)) where
-    pub table_marked : (new : List Bool) → MarksEach mid new (λ k. entry_kept k (find (λ table. eqb table.place place) tables)) 1024 → MarksEach old new (pointer_kept inode tables) (108 + 1024 * (place + 1))
+    pub table_marked : (new : List Bool) → MarksEach mid new (λ k. entry_kept k (find (λ table. eqb table.place place) tables)) 1024
+        → MarksEach old new (pointer_kept inode tables) (108 + 1024 * (place + 1))
     table_marked new marks =
         let e : 108 + 1024 * place + 1024 ≡ 108 + 1024 * (place + 1) = omega arith in
         subst (MarksEach old new (pointer_kept inode tables)) e
-        (marks_more old mid new (pointer_kept inode tables) (λ k. entry_kept k (find (λ table. eqb table.place place) tables)) (108 + 1024 * place) 1024 (λ k tiny. kept_entry place k small tiny) first marks)
+        (marks_more old mid new (pointer_kept inode tables) (λ k. entry_kept k (find (λ table. eqb table.place place) tables)) (108 + 1024 * place) 1024
+        (λ k tiny. kept_entry place k small tiny) first marks)
 
     pub table_meets : Meets mid (λ k. entry_kept k (find (λ table. eqb table.place place) tables)) 1024 → Meets old (pointer_kept inode tables) PLACES
     table_meets meets =
-        meets_more old mid mid (pointer_kept inode tables) (λ k. entry_kept k (find (λ table. eqb table.place place) tables)) (108 + 1024 * place) 1024 (λ k tiny. kept_entry place k small tiny) first PLACES (omega arith) meets
+        meets_more old mid mid (pointer_kept inode tables) (λ k. entry_kept k (find (λ table. eqb table.place place) tables)) (108 + 1024 * place) 1024
+        (λ k tiny. kept_entry place k small tiny) first PLACES (omega arith) meets
 
   module _ (old mid new : List Bool) (first : MarksEach old mid (pointer_kept inode tables) (108 + 1024 * 16)) (long : length inode.indirect ≡ 16) where
     indirect_answers : (met : Bool) → AnswersMarks mid new (slice_index inode.indirect) 16 met → AnswersMarks old new (pointer_kept inode tables) PLACES met
-    indirect_answers true meets = meets_more old mid new (pointer_kept inode tables) (slice_index inode.indirect) FILE_BLOCKS 16 (λ k _. kept_indirect k) first PLACES (omega arith) meets
-    indirect_answers false marks = marks_more old mid new (pointer_kept inode tables) (slice_index inode.indirect) FILE_BLOCKS 16 (λ k _. kept_indirect k) first marks
+    indirect_answers true meets =
+        meets_more old mid new (pointer_kept inode tables) (slice_index inode.indirect) FILE_BLOCKS 16 (λ k _. kept_indirect k) first PLACES (omega arith) meets
+    indirect_answers false marks =
+        marks_more old mid new (pointer_kept inode tables) (slice_index inode.indirect) FILE_BLOCKS 16 (λ k _. kept_indirect k) first marks
 
-    pub indirect_answered : (met : Bool) → AnswersMarks mid new (slice_index inode.indirect) (length inode.indirect) met → AnswersMarks old new (pointer_kept inode tables) PLACES met
+    pub indirect_answered : (met : Bool) → AnswersMarks mid new (slice_index inode.indirect) (length inode.indirect) met
+        → AnswersMarks old new (pointer_kept inode tables) PLACES met
     indirect_answered met answers = indirect_answers met (subst (λ (n : ℕ). AnswersMarks mid new (slice_index inode.indirect) n met) long answers)
 
   module _ (size : ℕ) (within : (place : ℕ) → place < PLACES → pointer_kept inode tables place < size) where

@@ -75,8 +75,10 @@ module _ (rows : List Row) (ascend : AscendByName rows) where
   pub own_by_neighbours : NeighboursDiffer rows (length rows) → HaveOwnNames rows (length rows)
   own_by_neighbours differ k earlier within before same =
       (let next : k - 1 + 1 ≡ k = omega arith in
-      let far = sorted_far comes_before (ranks_by nat_list_cmp_total (λ (row : Row). row.name)) rows ascend earlier (k - 1) NO_ROW (omega arith) (omega arith) in
+      let far =
+      sorted_far comes_before (ranks_by nat_list_cmp_total (λ (row : Row). row.name)) rows ascend earlier (k - 1) NO_ROW (omega arith) (omega arith) in
       let near = ascend (k - 1) NO_ROW (omega arith) (omega arith) in
       let back : is_lt (name_cmp (row_at rows earlier).name (row_at rows (k - 1)).name) ≡ false =
       ap (λ (n : List ℕ). is_lt (name_cmp n (row_at rows (k - 1)).name)) (same ∙ ap (λ (m : ℕ). (row_at rows m).name) (sym next)) ∙ near in
-      differ (k - 1) (omega arith) (one_name (row_at rows (k - 1)).name (row_at rows earlier).name far back ∙ same ∙ ap (λ (m : ℕ). (row_at rows m).name) (sym next)))
+      differ (k - 1) (omega arith)
+      (one_name (row_at rows (k - 1)).name (row_at rows earlier).name far back ∙ same ∙ ap (λ (m : ℕ). (row_at rows m).name) (sym next)))

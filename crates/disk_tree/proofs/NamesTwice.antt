@@ -29,7 +29,9 @@ module _ {X : Type 0} (p : X → Bool) (d : X) where
   none_counted [] never = refl
   none_counted (x ∷ xs) never = elim (cases_Bool (p x)) [
     | inl passes ↦ absurd (never 0 (omega arith) passes)
-    | inr fails ↦ (let c = count-cons p x xs ∙ ap (λ b. cond b 1 0 + count_by p xs) fails in let h = none_counted xs (λ i within. never (suc i) (omega arith)) in omega arith)
+    | inr fails ↦
+        (let c = count-cons p x xs ∙ ap (λ b. cond b 1 0 + count_by p xs) fails in let h = none_counted xs (λ i within. never (suc i) (omega arith)) in
+        omega arith)
   ]
 
   pub few_counted : (xs : List X) → ((i j : ℕ) → i < j → j < length xs → p (get_or xs i d) ≡ true → p (get_or xs j d) ≡ true → ⊥) → count_by p xs ≤ 1
@@ -44,7 +46,8 @@ module _ {X : Type 0} (p : X → Bool) (d : X) where
   ]
 
 -- two rows of one name count
-pub named_twice : (rows : List Row) (earlier at : ℕ) → earlier < at → at < length rows → (row_at rows earlier).name ≡ (row_at rows at).name → 1 < rows_named (row_at rows at).name rows
+pub named_twice : (rows : List Row) (earlier at : ℕ) → earlier < at → at < length rows → (row_at rows earlier).name ≡ (row_at rows at).name
+    → 1 < rows_named (row_at rows at).name rows
 named_twice rows earlier at before within same =
     two_counted (λ (row : Row). bytes_eq (row_at rows at).name row.name) NO_ROW rows earlier at before within
     (ap (bytes_eq (row_at rows at).name) same ∙ same_bytes (row_at rows at).name) (same_bytes (row_at rows at).name)
@@ -56,9 +59,11 @@ own_names_counted rows name own =
     (λ i j less within first second. own j i within less (sym (bytes_same name _ first) ∙ bytes_same name _ second))
 
 -- two rows of one name are found
-pub found_twice : (rows : List Row) (earlier at : ℕ) → earlier < at → at < length rows → (row_at rows earlier).name ≡ (row_at rows at).name → has_twice rows ≡ true
+pub found_twice : (rows : List Row) (earlier at : ℕ) → earlier < at → at < length rows → (row_at rows earlier).name ≡ (row_at rows at).name
+    → has_twice rows ≡ true
 found_twice rows earlier at before within same =
-    list_any_at (λ (row : Row). nat_lt 1 (rows_named row.name rows)) rows at NO_ROW within (lt-ltb 1 (rows_named (row_at rows at).name rows) (named_twice rows earlier at before within same))
+    list_any_at (λ (row : Row). nat_lt 1 (rows_named row.name rows)) rows at NO_ROW within
+    (lt-ltb 1 (rows_named (row_at rows at).name rows) (named_twice rows earlier at before within same))
 
 -- and rows with names of their own are none such
 pub none_twice : (rows : List Row) → HaveOwnNames rows (length rows) → has_twice rows ≡ false

@@ -39,7 +39,10 @@ other_key inode count bytes i q other = by (nat_eq inode.kind 2) (nat_eq inode.k
     apart : (node : Node) → find nat_cmp q ((i, node) ∷ []) ≡ None
     apart node = ap (λ b. cond b (Some node) None) (sym (unsigned_ties q i) ∙ ne_eqb q i other)
 
-    by : (a b : Bool) → find {X = Node} nat_cmp q (cond a ((i, record { kind = Directory; bytes = [] }) ∷ []) (cond b ((i, record { kind = File; bytes = take inode.size bytes }) ∷ []) [])) ≡ None
+    by : (a b : Bool)
+        → find {X = Node} nat_cmp q
+        (cond a ((i, record { kind = Directory; bytes = [] }) ∷ []) (cond b ((i, record { kind = File; bytes = take inode.size bytes }) ∷ []) []))
+        ≡ None
     by true b = apart (record { kind = Directory; bytes = [] })
     by false true = apart (record { kind = File; bytes = take inode.size bytes })
     by false false = refl
@@ -49,29 +52,41 @@ module _ (inodes : List Inode) (named : List ℕ) (contents : List (Roomy ℕ)) 
   fresh_node zero q le = ap (find nat_cmp q) (no_nodes inodes named contents)
   fresh_node (suc n) q le =
       (let e : suc n ≡ n + 1 = omega arith in ap (λ (k : ℕ). find nat_cmp q (node_entries inodes named contents k)) e)
-      ∙ ap (find nat_cmp q) (more_nodes inodes named contents n) ∙ find-append nat_cmp q (node_entries inodes named contents n) (node_at inodes named contents n)
+      ∙ ap (find nat_cmp q) (more_nodes inodes named contents n)
+      ∙ find-append nat_cmp q (node_entries inodes named contents n) (node_at inodes named contents n)
       ∙ ap (λ o. option_or o (find nat_cmp q (node_at inodes named contents n))) (fresh_node n q (omega arith))
       ∙ other_key (inode_at inodes n) (slice_index named n) (bytes_of_inode contents n) n q (λ same. omega arith)
 
   pub absent_node : (n : ℕ) → get (from_entries {R = nat_cmp} (node_entries inodes named contents n)) n ≡ None
   absent_node n = get-from_entries nat_cmp_total (node_entries inodes named contents n) n ∙ fresh_node n n (omega arith)
 
-  pub put_node_more : (start : TreeState) (n : ℕ) → with_node_of (with_nodes start (node_entries inodes named contents n)) (inode_at inodes n) (slice_index named n) (bytes_of_inode contents n) n
+  pub put_node_more : (start : TreeState) (n : ℕ)
+      → with_node_of (with_nodes start (node_entries inodes named contents n)) (inode_at inodes n) (slice_index named n) (bytes_of_inode contents n) n
       ≡ with_nodes start (node_entries inodes named contents (n + 1))
   put_node_more start n =
-      by (nat_eq (inode_at inodes n).kind 2) (nat_eq (inode_at inodes n).kind 1 && not (nat_eq (slice_index named n) 0)) ∙ ap (with_nodes start) (sym (more_nodes inodes named contents n))
+      by (nat_eq (inode_at inodes n).kind 2) (nat_eq (inode_at inodes n).kind 1 && not (nat_eq (slice_index named n) 0))
+      ∙ ap (with_nodes start) (sym (more_nodes inodes named contents n))
     where
       es : List (ℕ × Node)
       es = node_entries inodes named contents n
 
-      push : (node : Node) → with_node (with_nodes start (node_entries inodes named contents n)) n node.kind node.bytes ≡ with_nodes start (node_entries inodes named contents n ++ (n, node) ∷ [])
+      push : (node : Node)
+          → with_node (with_nodes start (node_entries inodes named contents n)) n node.kind node.bytes
+          ≡ with_nodes start (node_entries inodes named contents n ++ (n, node) ∷ [])
       push node =
-          let here : insert (from_entries (node_entries inodes named contents n)) n node ≡ from_entries {R = nat_cmp} (node_entries inodes named contents n ++ (n, node) ∷ []) =
+          let here : insert (from_entries (node_entries inodes named contents n)) n node
+          ≡ from_entries {R = nat_cmp} (node_entries inodes named contents n ++ (n, node) ∷ []) =
           sym (from_entries_push nat_cmp_total nat_cmp-IsAntisymmetric (node_entries inodes named contents n) n node (fresh_node n n (omega arith))) in
           λ j. record { rows = start.rows; nodes = here j; first = start.first; share = start.share; made = start.made }
 
-      by : (a b : Bool) → cond a (with_node (with_nodes start (node_entries inodes named contents n)) n Directory []) (cond b (with_node (with_nodes start (node_entries inodes named contents n)) n File (take (inode_at inodes n).size (bytes_of_inode contents n))) (with_nodes start (node_entries inodes named contents n)))
-          ≡ with_nodes start (node_entries inodes named contents n ++ cond a ((n, record { kind = Directory; bytes = [] }) ∷ []) (cond b ((n, record { kind = File; bytes = take (inode_at inodes n).size (bytes_of_inode contents n) }) ∷ []) []))
+      by : (a b : Bool)
+          → cond a (with_node (with_nodes start (node_entries inodes named contents n)) n Directory [])
+          (cond b (with_node (with_nodes start (node_entries inodes named contents n)) n File (take (inode_at inodes n).size (bytes_of_inode contents n)))
+          (with_nodes start (node_entries inodes named contents n)))
+          ≡ with_nodes start
+          (node_entries inodes named contents n
+          ++ cond a ((n, record { kind = Directory; bytes = [] }) ∷ [])
+          (cond b ((n, record { kind = File; bytes = take (inode_at inodes n).size (bytes_of_inode contents n) }) ∷ []) []))
       by true b = push (record { kind = Directory; bytes = [] })
       by false true = push (record { kind = File; bytes = take (inode_at inodes n).size (bytes_of_inode contents n) })
       by false false = ap (with_nodes start) (sym (append-nil (node_entries inodes named contents n)))

@@ -33,7 +33,8 @@ use Rattle.disk_tree.proofs.Refusals.{store_of, store_reads, refused_at, byte_ru
 -- the part of a record whose indirect blocks were read, and nothing else of it
 module _ (told : Option (List ℕ)) (raw : List ℕ) (tables : List Table) (has : HasTables told (inode_of raw) tables) where
   pub part_from : Part
-  part_from = record { raw = raw; tables = has.blocks; blocks = tabulate FILE_BLOCKS (λ n. read_block (store_of told) (block_pointer (inode_of raw) has.blocks n)) }
+  part_from =
+      record { raw = raw; tables = has.blocks; blocks = tabulate FILE_BLOCKS (λ n. read_block (store_of told) (block_pointer (inode_of raw) has.blocks n)) }
 
   pub part_from_read : IsReadPart told raw part_from
   unfolding part_from
@@ -41,7 +42,10 @@ module _ (told : Option (List ℕ)) (raw : List ℕ) (tables : List Table) (has 
     raw_is = refl;
     tables = has.read;
     count = length-tabulate FILE_BLOCKS _;
-    each = λ n below. subst (IsReadBlock told (block_pointer (inode_of raw) has.blocks n)) (sym (get_or-tabulate FILE_BLOCKS (λ n. read_block (store_of told) (block_pointer (inode_of raw) has.blocks n)) n [] below)) (store_reads told (block_pointer (inode_of raw) has.blocks n));
+    each =
+        λ n below. subst (IsReadBlock told (block_pointer (inode_of raw) has.blocks n))
+        (sym (get_or-tabulate FILE_BLOCKS (λ n. read_block (store_of told) (block_pointer (inode_of raw) has.blocks n)) n [] below))
+        (store_reads told (block_pointer (inode_of raw) has.blocks n));
   }
 
   pub part_from_kept : kept_tables part_from ≡ tables
@@ -63,7 +67,8 @@ module _ (told : Option (List ℕ)) (raw : List ℕ) (part : Part) (read : IsRea
   read_pointer place = sym (kept_place part read_holes place) ∙ ap (λ (i : Inode). pointer_kept i (kept_tables part) place) read_inode
 
 -- a free inode has no pointer
-pub free_pointers : (inode : Inode) (blocks : List (List ℕ)) → IsFree inode → (place : ℕ) → place < PLACES → pointer_kept inode (tables_kept inode blocks) place ≡ 0
+pub free_pointers : (inode : Inode) (blocks : List (List ℕ)) → IsFree inode → (place : ℕ) → place < PLACES
+    → pointer_kept inode (tables_kept inode blocks) place ≡ 0
 free_pointers inode blocks free place within =
     elim (cases_lt place FILE_BLOCKS) [
       | inr behind ↦ cond-false (ltb place FILE_BLOCKS) _ _ (le-ltb place FILE_BLOCKS behind) ∙ free_indirect inode free (place - FILE_BLOCKS)
@@ -71,31 +76,38 @@ free_pointers inode blocks free place within =
         | inl near ↦ cond-true (ltb place 108) _ _ (lt-ltb place 108 near) ∙ ap (λ (xs : List ℕ). slice_index xs place) free.direct ∙ zeros_read 108 place
         | inr far ↦ cond-false (ltb place 108) _ _ (le-ltb place 108 far)
             ∙ ap (λ (o : Option Table). option_map_or (λ table. slice_index table.pointers (entry_of place)) o 0)
-            (table_found inode blocks (table_of place) (omega arith) ∙ cond-true (eqb (slice_index inode.indirect (table_of place)) 0) _ _ (eq-eqb _ _ (free_indirect inode free (table_of place))))
+            (table_found inode blocks (table_of place) (omega arith)
+            ∙ cond-true (eqb (slice_index inode.indirect (table_of place)) 0) _ _ (eq-eqb _ _ (free_indirect inode free (table_of place))))
       ]
     ]
 
 -- parts of inodes whose indirect blocks were read
-pub parts_of_tables : (told : Option (List ℕ)) (layout : Layout) (records : List (List ℕ)) (tables : List (Roomy Table)) → HaveTables told layout records tables → ℕ → Part
-parts_of_tables told layout records tables has = parts_made layout.inodes (λ i within. part_from told (slice_index_or records i []) (tables_at tables i) (has i within))
+pub parts_of_tables : (told : Option (List ℕ)) (layout : Layout) (records : List (List ℕ)) (tables : List (Roomy Table)) → HaveTables told layout records tables
+    → ℕ → Part
+parts_of_tables told layout records tables has =
+    parts_made layout.inodes (λ i within. part_from told (slice_index_or records i []) (tables_at tables i) (has i within))
 
 module _ (told : Option (List ℕ)) (layout : Layout) (records : List (List ℕ)) (tables : List (Roomy Table)) (has : HaveTables told layout records tables) where
   pub parts_of_tables_read : AreReadParts told layout records (parts_of_tables told layout records tables has)
   unfolding parts_of_tables
   parts_of_tables_read = made_within layout.inodes (λ i within. part_from told (slice_index_or records i []) (tables_at tables i) (has i within))
-      (λ i part. IsReadPart told (slice_index_or records i []) part) (λ i within. part_from_read told (slice_index_or records i []) (tables_at tables i) (has i within))
+      (λ i part. IsReadPart told (slice_index_or records i []) part)
+      (λ i within. part_from_read told (slice_index_or records i []) (tables_at tables i) (has i within))
 
   pub parts_of_tables_kept : KeepTables layout tables (parts_of_tables told layout records tables has)
   unfolding parts_of_tables
   parts_of_tables_kept = made_within layout.inodes (λ i within. part_from told (slice_index_or records i []) (tables_at tables i) (has i within))
       (λ i part. kept_tables part ≡ tables_at tables i) (λ i within. part_from_kept told (slice_index_or records i []) (tables_at tables i) (has i within))
 
-module _ (told : Option (List ℕ)) (layout : Layout) (records : List (List ℕ)) (count : length records ≡ layout.inodes) (inodes : List Inode) (are : inodes ≡ map inode_of records) (fit : All IsInode inodes) where
+module _ (told : Option (List ℕ)) (layout : Layout) (records : List (List ℕ)) (count : length records ≡ layout.inodes) (inodes : List Inode)
+    (are : inodes ≡ map inode_of records) (fit : All IsInode inodes) where
   pub own_inode : AreDecoded layout records inodes
   own_inode i within = inode_at_record records inodes i are (omega arith)
 
   pub fits_at : (i : ℕ) → i < layout.inodes → IsInode (inode_of (slice_index_or records i []))
-  fits_at i within = subst IsInode (own_inode i within) (All-get_or IsInode inodes i (inode_of []) (let c = (length_inodes layout records inodes count are) in omega arith) fit)
+  fits_at i within =
+      subst IsInode (own_inode i within)
+      (All-get_or IsInode inodes i (inode_of []) (let c = (length_inodes layout records inodes count are) in omega arith) fit)
 
   -- parts that were read and whose indirect blocks are kept so
   module _ (tables : List (Roomy Table)) (parts : ℕ → Part) (read : AreReadParts told layout records parts) where
@@ -103,10 +115,12 @@ module _ (told : Option (List ℕ)) (layout : Layout) (records : List (List ℕ)
     records_are i within = (read i within).raw_is
 
     -- the fourth rule, by what is kept of one inode
-    pub fourth_rule : (i : ℕ) → i < layout.inodes → (badly : Bool) (own : List Table) → kept_tables (parts i) ≡ own → AreJudgedTables told layout (inode_at inodes i) badly own → breaks_bytes_rule 4 layout parts i ≡ badly
+    pub fourth_rule : (i : ℕ) → i < layout.inodes → (badly : Bool) (own : List Table) → kept_tables (parts i) ≡ own
+        → AreJudgedTables told layout (inode_at inodes i) badly own → breaks_bytes_rule 4 layout parts i ≡ badly
     fourth_rule i within badly own kept judged =
         rule_by_kept layout (parts i) (entry_holes told (slice_index_or records i []) (parts i) (read i within))
-        ∙ ap (λ (inode : Inode). points_badly layout inode (kept_tables (parts i))) (read_inode told (slice_index_or records i []) (parts i) (read i within) ∙ sym (own_inode i within))
+        ∙ ap (λ (inode : Inode). points_badly layout inode (kept_tables (parts i)))
+        (read_inode told (slice_index_or records i []) (parts i) (read i within) ∙ sym (own_inode i within))
         ∙ ap (points_badly layout (inode_at inodes i)) kept
         ∙ judged.judged
 
@@ -121,8 +135,14 @@ module _ (told : Option (List ℕ)) (layout : Layout) (records : List (List ℕ)
       pub used_of_pointer : (i place : ℕ) → i < layout.inodes → place < PLACES → pointer_at (parts i) place ≢ 0 → is_free_part (parts i) ≡ false
       used_of_pointer i place within inside some = elim (cases_Bool (is_free_part (parts i))) [
         | inr used ↦ used
-        | inl free ↦ (let kind : (inode_of (slice_index_or records i [])).kind ≡ 0 = sym (ap (λ (n : Inode). n.kind) (read_inode told (slice_index_or records i []) (parts i) (read i within))) ∙ eqb-true _ _ free in
-            let none = free_pointers (inode_in (parts i)) (parts i).tables (subst IsFree (sym (read_inode told (slice_index_or records i []) (parts i) (read i within))) ((fits_at i within).free kind)) place inside in
+        | inl free ↦
+            (let kind : (inode_of (slice_index_or records i [])).kind
+            ≡ 0 = sym (ap (λ (n : Inode). n.kind) (read_inode told (slice_index_or records i []) (parts i) (read i within)))
+            ∙ eqb-true _ _ free in
+            let none =
+            free_pointers (inode_in (parts i)) (parts i).tables
+            (subst IsFree (sym (read_inode told (slice_index_or records i []) (parts i) (read i within))) ((fits_at i within).free kind)) place
+            inside in
             absurd (some (sym (kept_place (parts i) (read_holes told (slice_index_or records i []) (parts i) (read i within)) place) ∙ none)))
       ]
 
@@ -132,7 +152,9 @@ module _ (told : Option (List ℕ)) (layout : Layout) (records : List (List ℕ)
         | inr used ↦ (blocks_say parts i used).1 (λ place inside there.
             let some : pointer_in inodes tables i place ≢ 0 = λ none. there (own_pointer i place within ∙ none) in
             record {
-              below = λ j q lower far same. once.below i j place q less lower inside far some (sym (own_pointer j q (omega arith)) ∙ same ∙ own_pointer i place within);
+              below =
+                  λ j q lower far same. once.below i j place q less lower inside far some
+                  (sym (own_pointer j q (omega arith)) ∙ same ∙ own_pointer i place within);
               before = λ q earlier same. once.before i place q less earlier inside some (sym (own_pointer i q within) ∙ same ∙ own_pointer i place within);
             })
       ]
@@ -145,20 +167,31 @@ module _ (told : Option (List ℕ)) (layout : Layout) (records : List (List ℕ)
           let here : is_held_before parts i at ≡ true = held_before at there shares.meets.before in
           ap (λ b. not b && any_below PLACES (is_held_before parts i)) used ∙ any_below-at PLACES (is_held_before parts i) at shares.meets.within here
         where
-          held_before : (at : ℕ) → pointer_at (parts i) at ≢ 0 → (is_marked shares.marked (pointer_in inodes tables i at) ≡ true) ⊎ ((earlier : ℕ) × (earlier < at) × (pointer_in inodes tables i earlier ≡ pointer_in inodes tables i at)) →
+          held_before : (at : ℕ) → pointer_at (parts i) at ≢ 0
+              → (is_marked shares.marked (pointer_in inodes tables i at) ≡ true)
+              ⊎ ((earlier : ℕ) × (earlier < at) × (pointer_in inodes tables i earlier ≡ pointer_in inodes tables i at)) →
               is_held_before parts i at ≡ true
           held_before at there (inl marked) =
               let one = shares.lesser.only (pointer_in inodes tables i at) marked in
-              let same : pointer_at (parts one.0) one.1 ≡ pointer_at (parts i) at = own_pointer one.0 one.1 (let h = one.2 in omega arith) ∙ one.4 ∙ sym (own_pointer i at within) in
-              ap (λ b. not b && (any_below i (λ j. stands_below PLACES (parts j) (pointer_at (parts i) at)) || stands_below at (parts i) (pointer_at (parts i) at))) (ne_eqb _ _ there)
-              ∙ or_left (any_below i (λ j. stands_below PLACES (parts j) (pointer_at (parts i) at))) _ (any_below-at i (λ j. stands_below PLACES (parts j) (pointer_at (parts i) at)) one.0 one.2 (any_below-at PLACES (λ place. eqb (pointer_at (parts one.0) place) (pointer_at (parts i) at)) one.1 one.3 (eq-eqb _ _ same)))
+              let same : pointer_at (parts one.0) one.1 ≡ pointer_at (parts i) at =
+              own_pointer one.0 one.1 (let h = one.2 in omega arith) ∙ one.4 ∙ sym (own_pointer i at within) in
+              ap (λ b. not b
+              && (any_below i (λ j. stands_below PLACES (parts j) (pointer_at (parts i) at)) || stands_below at (parts i) (pointer_at (parts i) at)))
+              (ne_eqb _ _ there)
+              ∙ or_left (any_below i (λ j. stands_below PLACES (parts j) (pointer_at (parts i) at))) _
+              (any_below-at i (λ j. stands_below PLACES (parts j) (pointer_at (parts i) at)) one.0 one.2
+              (any_below-at PLACES (λ place. eqb (pointer_at (parts one.0) place) (pointer_at (parts i) at)) one.1 one.3 (eq-eqb _ _ same)))
           held_before at there (inr one) =
               let same : pointer_at (parts i) one.0 ≡ pointer_at (parts i) at = own_pointer i one.0 within ∙ one.2 ∙ sym (own_pointer i at within) in
-              ap (λ b. not b && (any_below i (λ j. stands_below PLACES (parts j) (pointer_at (parts i) at)) || stands_below at (parts i) (pointer_at (parts i) at))) (ne_eqb _ _ there)
-              ∙ or_right (any_below i (λ j. stands_below PLACES (parts j) (pointer_at (parts i) at))) _ (any_below-at at (λ place. eqb (pointer_at (parts i) place) (pointer_at (parts i) at)) one.0 one.1 (eq-eqb _ _ same))
+              ap (λ b. not b
+              && (any_below i (λ j. stands_below PLACES (parts j) (pointer_at (parts i) at)) || stands_below at (parts i) (pointer_at (parts i) at)))
+              (ne_eqb _ _ there)
+              ∙ or_right (any_below i (λ j. stands_below PLACES (parts j) (pointer_at (parts i) at))) _
+              (any_below-at at (λ place. eqb (pointer_at (parts i) place) (pointer_at (parts i) at)) one.0 one.1 (eq-eqb _ _ same))
 
   -- the tables of an inode were judged, as those of its record
-  judged_has : (i : ℕ) → i < layout.inodes → (badly : Bool) (own : List Table) → AreJudgedTables told layout (inode_at inodes i) badly own → HasTables told (inode_of (slice_index_or records i [])) own
+  judged_has : (i : ℕ) → i < layout.inodes → (badly : Bool) (own : List Table) → AreJudgedTables told layout (inode_at inodes i) badly own
+      → HasTables told (inode_of (slice_index_or records i [])) own
   judged_has i within badly own judged = subst (λ (inode : Inode). HasTables told inode own) (own_inode i within) judged.has
 
   -- an inode up to the first that breaks the fourth rule has its judged tables, and any other some tables
@@ -212,11 +245,18 @@ module _ (told : Option (List ℕ)) (layout : Layout) (records : List (List ℕ)
     fourth_refused keep =
         subst (λ (r : ℕ). Refused told layout records broken r) (sym breaks.fourth)
         (refused_at told layout records chosen_parts 4 broken chosen_read (omega arith) (omega arith)
-        (λ lesser j low high within. byte_rule layout chosen_parts lesser j (omega arith) ∙ keep.keep chosen_parts (records_are [] chosen_parts chosen_read) lesser j low (omega arith) within)
+        (λ lesser j low high within. byte_rule layout chosen_parts lesser j (omega arith)
+        ∙ keep.keep chosen_parts (records_are [] chosen_parts chosen_read) lesser j low (omega arith) within)
         (record {
           within = broken_within;
-          passes = byte_rule layout chosen_parts 4 broken (omega arith) ∙ fourth_rule [] chosen_parts chosen_read broken broken_within true (choice broken).own (chosen_kept broken) ((choice broken).here broken_within refl);
-          before = λ j less. byte_rule layout chosen_parts 4 j (omega arith) ∙ fourth_rule [] chosen_parts chosen_read j (let h = broken_within in omega arith) false (choice j).own (chosen_kept j) ((choice j).lesser (let h = broken_within in omega arith) less);
+          passes =
+              byte_rule layout chosen_parts 4 broken (omega arith)
+              ∙ fourth_rule [] chosen_parts chosen_read broken broken_within true (choice broken).own (chosen_kept broken)
+              ((choice broken).here broken_within refl);
+          before =
+              λ j less. byte_rule layout chosen_parts 4 j (omega arith)
+              ∙ fourth_rule [] chosen_parts chosen_read j (let h = broken_within in omega arith) false (choice j).own (chosen_kept j)
+              ((choice j).lesser (let h = broken_within in omega arith) less);
         }))
 
   -- where all tables were read
@@ -234,15 +274,18 @@ module _ (told : Option (List ℕ)) (layout : Layout) (records : List (List ℕ)
           | inl hole ↦ (let none = eqb-true _ _ hole in omega arith)
           | inr there ↦ (let some_there = eqb-false _ _ there in
               let used = used_of_pointer tables parts read kept i place within inside some_there in
-              (good_from_rule layout (parts i) place (fourth_rule tables parts read i within false (tables_at tables i) (kept i within) (all.each i within)) used inside some_there).high)
+              (good_from_rule layout (parts i) place
+              (fourth_rule tables parts read i within false (tables_at tables i) (kept i within) (all.each i within)) used inside some_there).high)
         ])
 
-    lesser_four : KeepRecordRules layout records → (parts : ℕ → Part) → AreReadParts told layout records parts → KeepTables layout tables parts → (rule j : ℕ) → 1 ≤ rule → rule ≤ 4 → j < layout.inodes →
+    lesser_four : KeepRecordRules layout records → (parts : ℕ → Part) → AreReadParts told layout records parts → KeepTables layout tables parts → (rule j : ℕ)
+        → 1 ≤ rule → rule ≤ 4 → j < layout.inodes →
         breaks_bytes_rule rule layout parts j ≡ false
     lesser_four keep parts read kept rule j low high within = elim (cases_lt rule 4) [
       | inl less ↦ keep.keep parts (records_are tables parts read) rule j low (omega arith) within
       | inr here ↦ (let same : 4 ≡ rule = omega arith in
-          subst (λ (r : ℕ). breaks_bytes_rule r layout parts j ≡ false) same (fourth_rule tables parts read j within false (tables_at tables j) (kept j within) (all.each j within)))
+          subst (λ (r : ℕ). breaks_bytes_rule r layout parts j ≡ false) same
+          (fourth_rule tables parts read j within false (tables_at tables j) (kept j within) (all.each j within)))
     ]
 
     pub fifth_refused : KeepRecordRules layout records → (i : ℕ) → SharesFirst inodes tables i → Refused told layout records i 5
@@ -259,20 +302,26 @@ module _ (told : Option (List ℕ)) (layout : Layout) (records : List (List ℕ)
           before = λ j less. byte_rule layout parts 5 j (omega arith) ∙ fifth_rule tables parts read kept i j shares.marked shares.lesser less (omega arith);
         })
 
-    pub pointer_rules_kept : KeepRecordRules layout records → (marked : List Bool) → HoldOnce inodes tables (length inodes) marked → KeepPointerRules told layout records tables
+    pub pointer_rules_kept : KeepRecordRules layout records → (marked : List Bool) → HoldOnce inodes tables (length inodes) marked
+        → KeepPointerRules told layout records tables
     pointer_rules_kept keep marked once = record {
       sound = keep.sound;
       has = has_at;
       keep = λ parts read kept rule j low high within. elim (cases_lt rule 5) [
         | inl less ↦ lesser_four keep parts read kept rule j low (omega arith) within
         | inr here ↦ (let same : 5 ≡ rule = omega arith in
-            subst (λ (r : ℕ). breaks_bytes_rule r layout parts j ≡ false) same (fifth_rule tables parts read kept (length inodes) j marked once (let c = (length_inodes layout records inodes count are) in omega arith) within))
+            subst (λ (r : ℕ). breaks_bytes_rule r layout parts j ≡ false) same
+            (fifth_rule tables parts read kept (length inodes) j marked once
+            (let c = (length_inodes layout records inodes count are) in omega arith) within))
       ];
     }
 
 -- a refusal by the fourth rule
-pub fourth_refusal : (told : Option (List ℕ)) (layout : Layout) (records : List (List ℕ)) → length records ≡ layout.inodes → (inodes : List Inode) → inodes ≡ map inode_of records → All IsInode inodes →
-    KeepRecordRules layout records → (fault : TreeFault) → IsReadRefusal (BreaksFourth told layout inodes) fault → IsReadRefusal (Refused told layout records) fault
-fourth_refusal told layout records count inodes are fit keep (BadImage inode rule) breaks = fourth_refused told layout records count inodes are fit inode rule breaks keep
+pub fourth_refusal : (told : Option (List ℕ)) (layout : Layout) (records : List (List ℕ)) → length records ≡ layout.inodes → (inodes : List Inode)
+    → inodes ≡ map inode_of records → All IsInode inodes →
+    KeepRecordRules layout records → (fault : TreeFault) → IsReadRefusal (BreaksFourth told layout inodes) fault
+    → IsReadRefusal (Refused told layout records) fault
+fourth_refusal told layout records count inodes are fit keep (BadImage inode rule) breaks =
+    fourth_refused told layout records count inodes are fit inode rule breaks keep
 fourth_refusal told layout records count inodes are fit keep NoMemory _ = tt
 fourth_refusal told layout records count inodes are fit keep DiskFailed _ = tt

@@ -27,14 +27,23 @@ read_parts_show_rows told layout records inodes tables contents slots rows count
       kind = λ i within. ap (λ (inode : Inode). inode.kind) (part i within);
       links = λ i within. ap (λ (inode : Inode). inode.links) (part i within);
       slots = λ i within kind.
-          lists.each i within ∙ ap rows_in_slots (ap slots_together (of_directory i within (sym (ap (λ (inode : Inode). inode.kind) (part i within)) ∙ kind)) ∙ together slots_of (blocks_in ((inode_at inodes i).size / 4096) (bytes_of_inode contents i))
-          ∙ ap (flat_map slots_of) (sym (blocks_are told layout records count inodes are fit tables keep contents well.parts well.hold i within (sym (ap (λ (inode : Inode). inode.kind) (part i within)) ∙ kind)))
+          lists.each i within
+          ∙ ap rows_in_slots
+          (ap slots_together (of_directory i within (sym (ap (λ (inode : Inode). inode.kind) (part i within)) ∙ kind))
+          ∙ together slots_of (blocks_in ((inode_at inodes i).size / 4096) (bytes_of_inode contents i))
+          ∙ ap (flat_map slots_of)
+          (sym
+          (blocks_are told layout records count inodes are fit tables keep contents well.parts well.hold i within
+          (sym (ap (λ (inode : Inode). inode.kind) (part i within)) ∙ kind)))
           ∙ sym (cond-true (is_directory_part (well.parts i)) (flat_map slots_of (directory_blocks (well.parts i))) [] (eq-eqb _ _ kind)));
       others = λ i within other.
-          lists.each i within ∙ ap (λ (blocks : List (List (Option Row))). rows_in_slots (slots_together blocks)) (of_other i within (λ kind. other (ap (λ (inode : Inode). inode.kind) (part i within) ∙ kind)));
+          lists.each i within
+          ∙ ap (λ (blocks : List (List (Option Row))). rows_in_slots (slots_together blocks))
+          (of_other i within (λ kind. other (ap (λ (inode : Inode). inode.kind) (part i within) ∙ kind)));
     }
   where
-    of_directory : (i : ℕ) → i < layout.inodes → (inode_at inodes i).kind ≡ 2 → slots_at slots i ≡ map slots_of (blocks_in ((inode_at inodes i).size / 4096) (bytes_of_inode contents i))
+    of_directory : (i : ℕ) → i < layout.inodes → (inode_at inodes i).kind ≡ 2
+        → slots_at slots i ≡ map slots_of (blocks_in ((inode_at inodes i).size / 4096) (bytes_of_inode contents i))
     of_directory i within kind = well.slots_are.each i within ∙ cond-true (eqb (inode_at inodes i).kind 2) _ _ (eq-eqb _ _ kind)
 
     of_other : (i : ℕ) → i < layout.inodes → (inode_at inodes i).kind ≢ 2 → slots_at slots i ≡ []

@@ -17,11 +17,13 @@ use Rattle.disk_tree.proofs.PartsRead.{entry_holes}
 use Rattle.disk_tree.proofs.Refusals.{breaks_of, byte_rule}
 
 -- parts without a fault break no rule on bytes
-pub byte_rules_kept : (layout : Layout) (parts : ℕ → Part) → fault_of_parts layout parts ≡ None → (rule i : ℕ) → 1 ≤ rule → rule ≤ 7 → i < layout.inodes → breaks_bytes_rule rule layout parts i ≡ false
+pub byte_rules_kept : (layout : Layout) (parts : ℕ → Part) → fault_of_parts layout parts ≡ None → (rule i : ℕ) → 1 ≤ rule → rule ≤ 7 → i < layout.inodes
+    → breaks_bytes_rule rule layout parts i ≡ false
 byte_rules_kept layout parts none rule i low high within =
     sym (byte_rule layout parts rule i high) ∙ no_break (breaks_of layout parts) layout.inodes none rule i low (omega arith) within
 
-module _ (told : Option (List ℕ)) (layout : Layout) (records : List (List ℕ)) (parts : ℕ → Part) (some : 0 < layout.inodes) (read : AreReadParts told layout records parts) (none : fault_of_parts layout parts ≡ None) where
+module _ (told : Option (List ℕ)) (layout : Layout) (records : List (List ℕ)) (parts : ℕ → Part) (some : 0 < layout.inodes)
+    (read : AreReadParts told layout records parts) (none : fault_of_parts layout parts ≡ None) where
   abbrev image : SeenInodes
   image = inodes_shown layout parts
 
@@ -29,12 +31,16 @@ module _ (told : Option (List ℕ)) (layout : Layout) (records : List (List ℕ)
   whole i within = record { blocks = (read i within).count; holes = entry_holes told (slice_index_or records i []) (parts i) (read i within) }
 
   kinds_shown : ShowsByKind image
-  kinds_shown = shows_by_kind parts layout.inodes whole (λ i within. byte_rules_kept layout parts none 1 i (omega arith) (omega arith) within) (λ i within. byte_rules_kept layout parts none 3 i (omega arith) (omega arith) within)
+  kinds_shown =
+      shows_by_kind parts layout.inodes whole (λ i within. byte_rules_kept layout parts none 1 i (omega arith) (omega arith) within)
+      (λ i within. byte_rules_kept layout parts none 3 i (omega arith) (omega arith) within)
 
   start : KeepsByteRules image
   start = record {
     root = (some, root_shown (parts 0) (byte_rules_kept layout parts none 2 0 (omega arith) (omega arith) some));
-    apart = holds_apart parts layout.inodes whole (λ i within. byte_rules_kept layout parts none 1 i (omega arith) (omega arith) within) (λ i within. byte_rules_kept layout parts none 5 i (omega arith) (omega arith) within);
+    apart =
+        holds_apart parts layout.inodes whole (λ i within. byte_rules_kept layout parts none 1 i (omega arith) (omega arith) within)
+        (λ i within. byte_rules_kept layout parts none 5 i (omega arith) (omega arith) within);
   }
 
   rules_kept : KeepsRules image

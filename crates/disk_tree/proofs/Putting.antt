@@ -40,7 +40,9 @@ module _ (start : TreeState) (rows : List (Roomy Row)) (may : MayPut start rows)
   unfolding in_bucket
   put_room =
       let all = len-names_where i (λ name. nat_eq (bucket name) (bucket row.name)) (from_entries (entries_to rows i k)) in
-      let from = counted_from (λ e. Rattle.std.specs.Prelude.◌&&◌ (nat_eq e.0.0 i) (nat_eq (bucket e.0.1) (bucket row.name))) (entries_to rows i k) (own_entries_to rows may.own i k (omega arith)) in
+      let from =
+      counted_from (λ e. Rattle.std.specs.Prelude.◌&&◌ (nat_eq e.0.0 i) (nat_eq (bucket e.0.1) (bucket row.name))) (entries_to rows i k)
+      (own_entries_to rows may.own i k (omega arith)) in
       let own = entries_of_to rows (λ e. nat_eq (bucket e.0.1) (bucket row.name)) i k in
       let one = count_by_more_yes in_bucket (rows_of_inode rows i) k NO_ROW less (eq-eqb (bucket row.name) (bucket row.name) refl) in
       let few = count_take in_bucket (rows_of_inode rows i) (k + 1) in
@@ -50,7 +52,8 @@ module _ (start : TreeState) (rows : List (Roomy Row)) (may : MayPut start rows)
   pub put_more : with_row (with_entries start (entries_to rows i k)) i row.name row.inode ≡ with_entries start (entries_to rows i (k + 1))
   put_more =
       let here : insert (from_entries (entries_to rows i k)) (i, row.name) row.inode ≡ from_entries (entries_to rows i (k + 1)) =
-      sym (from_entries_push key_cmp_total key_cmp-IsAntisymmetric (entries_to rows i k) (i, row.name) row.inode (fresh_entry rows may.own i k less)) ∙ ap from_entries (sym (entry_more rows i k less)) in
+      sym (from_entries_push key_cmp_total key_cmp-IsAntisymmetric (entries_to rows i k) (i, row.name) row.inode (fresh_entry rows may.own i k less))
+      ∙ ap from_entries (sym (entry_more rows i k less)) in
       λ j. record { rows = here j; nodes = start.nodes; first = start.first; share = start.share; made = start.made }
 
 -- a tree that has other rows may have the same put

@@ -35,7 +35,8 @@ use Rattle.disk_tree.specs.Shown.{ShowsRows, ReachedTestIsRule}
 use Rattle.disk_tree.specs.Tests.{breaks_eighth, breaks_tenth, breaks_eleventh, breaks_twelfth}
 use Rattle.disk_tree.proofs.CountsShown.{count_is, rows_are, own}
 
-module _ (image : SeenInodes) (inodes : List Inode) (rows : List (Roomy Row)) (shows : ShowsRows image inodes rows) (long : length rows ≡ length inodes) (once : NonePasses image.count (breaks_eighth rows)) where
+module _ (image : SeenInodes) (inodes : List Inode) (rows : List (Roomy Row)) (shows : ShowsRows image inodes rows) (long : length rows ≡ length inodes)
+    (once : NonePasses image.count (breaks_eighth rows)) where
   abbrev tree : TreeState
   tree = ruled_tree image
 
@@ -59,16 +60,25 @@ module _ (image : SeenInodes) (inodes : List Inode) (rows : List (Roomy Row)) (s
   in_rows d n name x [] is = absurd (none_some is)
   in_rows d n name x (row ∷ own) is = by (cases_Bool (eq_by_cmp key_cmp (d, name) (n, row.name))) (in_rows d n name x own)
     where
-      by : (eq_by_cmp key_cmp (d, name) (n, row.name) ≡ true) ⊎ (eq_by_cmp key_cmp (d, name) (n, row.name) ≡ false) → (find key_cmp (d, name) (map (entry_of_row n) own) ≡ Some x → (d ≡ n) × InRows d x own) → (d ≡ n) × InRows d x (row ∷ own)
+      by : (eq_by_cmp key_cmp (d, name) (n, row.name) ≡ true) ⊎ (eq_by_cmp key_cmp (d, name) (n, row.name) ≡ false)
+          → (find key_cmp (d, name) (map (entry_of_row n) own) ≡ Some x → (d ≡ n) × InRows d x own) → (d ≡ n) × InRows d x (row ∷ own)
       by (inl same) rest = (
         elim (cases_Bool (nat_eq d n)) [
           | inl e ↦ eqb-true _ _ e
           | inr other ↦ absurd (not_both_of (eq_by_cmp key_cmp (d, name) (n, row.name)) same (other_directory d n name row.name (eqb-false _ _ other)))
         ],
-        record { k = 0; inside = omega arith; is = some_same (sym (cond-true (eq_by_cmp key_cmp (d, name) (n, row.name)) (Some row.inode) (find key_cmp (d, name) (map (entry_of_row n) own)) same) ∙ is) },
+        record {
+          k = 0;
+          inside = omega arith;
+          is =
+              some_same
+              (sym (cond-true (eq_by_cmp key_cmp (d, name) (n, row.name)) (Some row.inode) (find key_cmp (d, name) (map (entry_of_row n) own)) same)
+              ∙ is);
+        },
       )
       by (inr other) rest =
-          (let found = rest (sym (cond-false (eq_by_cmp key_cmp (d, name) (n, row.name)) (Some row.inode) (find key_cmp (d, name) (map (entry_of_row n) own)) other) ∙ is) in
+          (let found = rest
+          (sym (cond-false (eq_by_cmp key_cmp (d, name) (n, row.name)) (Some row.inode) (find key_cmp (d, name) (map (entry_of_row n) own)) other) ∙ is) in
           let one = found.1 in
           (found.0, record { k = suc one.k; inside = (let h = one.inside in omega arith); is = one.is }))
 
@@ -77,10 +87,16 @@ module _ (image : SeenInodes) (inodes : List Inode) (rows : List (Roomy Row)) (s
   in_entries (suc n) d name x is = by (find key_cmp (d, name) (row_entries rows n)) refl split (in_entries n d name x)
     where
       split : option_or (find key_cmp (d, name) (row_entries rows n)) (find key_cmp (d, name) (entries_at rows n)) ≡ Some x
-      split = sym ((let e : suc n ≡ n + 1 = omega arith in ap (λ (k : ℕ). find key_cmp (d, name) (row_entries rows k)) e) ∙ ap (find key_cmp (d, name)) (more_entries rows n) ∙ find-append key_cmp (d, name) (row_entries rows n) (entries_at rows n)) ∙ is
+      split =
+          sym
+          ((let e : suc n ≡ n + 1 = omega arith in ap (λ (k : ℕ). find key_cmp (d, name) (row_entries rows k)) e)
+          ∙ ap (find key_cmp (d, name)) (more_entries rows n) ∙ find-append key_cmp (d, name) (row_entries rows n) (entries_at rows n))
+          ∙ is
 
-      by : (o : Option ℕ) → find key_cmp (d, name) (row_entries rows n) ≡ o → option_or o (find key_cmp (d, name) (entries_at rows n)) ≡ Some x → (find key_cmp (d, name) (row_entries rows n) ≡ Some x → RowBack d name x n) → RowBack d name x (suc n)
-      by (Some y) found same rest = (let one = rest (found ∙ same) in record { within = (let h = one.within in omega arith); k = one.k; inside = one.inside; is = one.is })
+      by : (o : Option ℕ) → find key_cmp (d, name) (row_entries rows n) ≡ o → option_or o (find key_cmp (d, name) (entries_at rows n)) ≡ Some x
+          → (find key_cmp (d, name) (row_entries rows n) ≡ Some x → RowBack d name x n) → RowBack d name x (suc n)
+      by (Some y) found same rest =
+          (let one = rest (found ∙ same) in record { within = (let h = one.within in omega arith); k = one.k; inside = one.inside; is = one.is })
       by None found same rest =
           (let one = in_rows d n name x (rows_of_inode rows n) same in
           let e : n ≡ d = sym one.0 in
@@ -94,7 +110,11 @@ module _ (image : SeenInodes) (inodes : List Inode) (rows : List (Roomy Row)) (s
 
   row_back : (d : ℕ) (name : List ℕ) (x : ℕ) → row_of tree d name ≡ Some x → RowBack d name x image.count
   row_back d name x is =
-      in_entries image.count d name x (sym (ap (λ (m : FinMap key_cmp ℕ). get m (d, name)) (rows_are image inodes rows shows long once) ∙ get-from_entries key_cmp_total (row_entries rows image.count) (d, name)) ∙ is)
+      in_entries image.count d name x
+      (sym
+      (ap (λ (m : FinMap key_cmp ℕ). get m (d, name)) (rows_are image inodes rows shows long once)
+      ∙ get-from_entries key_cmp_total (row_entries rows image.count) (d, name))
+      ∙ is)
 
   module _ (d k : ℕ) (inside : k < length (rows_of_inode rows d)) where
     abbrev key : Key
@@ -102,47 +122,62 @@ module _ (image : SeenInodes) (inodes : List Inode) (rows : List (Roomy Row)) (s
 
     at_k : find key_cmp key (entries_to rows d (k + 1)) ≡ Some (row_at (rows_of_inode rows d) k).inode
     at_k =
-        ap (find key_cmp key) (entry_more rows d k inside) ∙ find-append key_cmp key (entries_to rows d k) (entry_of_row d (row_at (rows_of_inode rows d) k) ∷ [])
-        ∙ ap (λ o. option_or o (find key_cmp key (entry_of_row d (row_at (rows_of_inode rows d) k) ∷ []))) (fresh_entry rows (own image inodes rows shows long once) d k inside)
+        ap (find key_cmp key) (entry_more rows d k inside)
+        ∙ find-append key_cmp key (entries_to rows d k) (entry_of_row d (row_at (rows_of_inode rows d) k) ∷ [])
+        ∙ ap (λ o. option_or o (find key_cmp key (entry_of_row d (row_at (rows_of_inode rows d) k) ∷ [])))
+        (fresh_entry rows (own image inodes rows shows long once) d k inside)
         ∙ ap (λ b. cond b (Some (row_at (rows_of_inode rows d) k).inode) None) (same_itself key)
 
-    to_end : (j : ℕ) → k + 1 + j ≤ length (rows_of_inode rows d) → find key_cmp key (entries_to rows d (k + 1 + j)) ≡ Some (row_at (rows_of_inode rows d) k).inode
+    to_end : (j : ℕ) → k + 1 + j ≤ length (rows_of_inode rows d)
+        → find key_cmp key (entries_to rows d (k + 1 + j)) ≡ Some (row_at (rows_of_inode rows d) k).inode
     to_end zero le = (let e : k + 1 + 0 ≡ k + 1 = omega arith in ap (λ (n : ℕ). find key_cmp key (entries_to rows d n)) e) ∙ at_k
     to_end (suc j) le =
         (let e : k + 1 + suc j ≡ k + 1 + j + 1 = omega arith in ap (λ (n : ℕ). find key_cmp key (entries_to rows d n)) e)
         ∙ ap (find key_cmp key) (entry_more rows d (k + 1 + j) (omega arith))
-        ∙ stay_more key (entries_to rows d (k + 1 + j)) (entry_of_row d (row_at (rows_of_inode rows d) (k + 1 + j)) ∷ []) (row_at (rows_of_inode rows d) k).inode (to_end j (omega arith))
+        ∙ stay_more key (entries_to rows d (k + 1 + j)) (entry_of_row d (row_at (rows_of_inode rows d) (k + 1 + j)) ∷ [])
+        (row_at (rows_of_inode rows d) k).inode (to_end j (omega arith))
 
     own_all : find key_cmp key (row_entries rows (d + 1)) ≡ Some (row_at (rows_of_inode rows d) k).inode
     own_all =
         ap (find key_cmp key) (sym (whole_entries rows d))
-        ∙ (let e : length (rows_of_inode rows d) ≡ k + 1 + (length (rows_of_inode rows d) - (k + 1)) = omega arith in ap (λ (n : ℕ). find key_cmp key (entries_to rows d n)) e)
+        ∙ (let e : length (rows_of_inode rows d) ≡ k + 1 + (length (rows_of_inode rows d) - (k + 1)) = omega arith in
+        ap (λ (n : ℕ). find key_cmp key (entries_to rows d n)) e)
         ∙ to_end (length (rows_of_inode rows d) - (k + 1)) (omega arith)
 
     to_all : (j : ℕ) → find key_cmp key (row_entries rows (d + 1 + j)) ≡ Some (row_at (rows_of_inode rows d) k).inode
     to_all zero = (let e : d + 1 + 0 ≡ d + 1 = omega arith in ap (λ (n : ℕ). find key_cmp key (row_entries rows n)) e) ∙ own_all
     to_all (suc j) =
         (let e : d + 1 + suc j ≡ d + 1 + j + 1 = omega arith in ap (λ (n : ℕ). find key_cmp key (row_entries rows n)) e)
-        ∙ ap (find key_cmp key) (more_entries rows (d + 1 + j)) ∙ stay_more key (row_entries rows (d + 1 + j)) (entries_at rows (d + 1 + j)) (row_at (rows_of_inode rows d) k).inode (to_all j)
+        ∙ ap (find key_cmp key) (more_entries rows (d + 1 + j))
+        ∙ stay_more key (row_entries rows (d + 1 + j)) (entries_at rows (d + 1 + j)) (row_at (rows_of_inode rows d) k).inode (to_all j)
 
     row_forth : d < image.count → row_of tree d (row_at (rows_of_inode rows d) k).name ≡ Some (row_at (rows_of_inode rows d) k).inode
     row_forth within =
-        ap (λ (m : FinMap key_cmp ℕ). get m key) (rows_are image inodes rows shows long once) ∙ get-from_entries key_cmp_total (row_entries rows image.count) key
-        ∙ (let e : image.count ≡ d + 1 + (image.count - (d + 1)) = omega arith in ap (λ (n : ℕ). find key_cmp key (row_entries rows n)) e) ∙ to_all (image.count - (d + 1))
+        ap (λ (m : FinMap key_cmp ℕ). get m key) (rows_are image inodes rows shows long once)
+        ∙ get-from_entries key_cmp_total (row_entries rows image.count) key
+        ∙ (let e : image.count ≡ d + 1 + (image.count - (d + 1)) = omega arith in ap (λ (n : ℕ). find key_cmp key (row_entries rows n)) e)
+        ∙ to_all (image.count - (d + 1))
 
-  module _ (placed : NonePasses image.count (breaks_tenth inodes rows)) (rootless : NonePasses image.count (breaks_eleventh rows)) (few : NonePasses image.count (breaks_twelfth inodes rows (length inodes))) where
+  module _ (placed : NonePasses image.count (breaks_tenth inodes rows)) (rootless : NonePasses image.count (breaks_eleventh rows))
+      (few : NonePasses image.count (breaks_twelfth inodes rows (length inodes))) where
     -- an inode with a row is one of the image's
     holds_rows : (d k : ℕ) → k < length (rows_of_inode rows d) → d < image.count
     holds_rows d k inside = elim (cases_lt d image.count) [
       | inl within ↦ within
-      | inr past ↦ absurd (let e = ap (λ (r : Roomy Row). length r.items) (get_or_past rows d (record { items = []; spare = 0 }) (let c = shows.count in omega arith)) in omega arith)
+      | inr past ↦
+          absurd
+          (let e = ap (λ (r : Roomy Row). length r.items) (get_or_past rows d (record { items = []; spare = 0 }) (let c = shows.count in omega arith)) in
+          omega arith)
     ]
 
     -- a row is not misplaced
     placed_at : (d k : ℕ) → k < length (rows_of_inode rows d) → is_misplaced_by inodes (row_at (rows_of_inode rows d) k) ≡ false
     placed_at d k inside = elim (cases_Bool (is_misplaced_by inodes (row_at (rows_of_inode rows d) k))) [
       | inr fine ↦ fine
-      | inl wrong ↦ absurd (not_both_of (breaks_tenth inodes rows d) (list_any_at (is_misplaced_by inodes) (rows_of_inode rows d) k NO_ROW inside wrong) (placed d (holds_rows d k inside)))
+      | inl wrong ↦
+          absurd
+          (not_both_of (breaks_tenth inodes rows d) (list_any_at (is_misplaced_by inodes) (rows_of_inode rows d) k NO_ROW inside wrong)
+          (placed d (holds_rows d k inside)))
     ]
 
     child_within : (d k : ℕ) → k < length (rows_of_inode rows d) → (row_at (rows_of_inode rows d) k).inode < image.count
@@ -152,8 +187,10 @@ module _ (image : SeenInodes) (inodes : List Inode) (rows : List (Roomy Row)) (s
         let c = shows.count in
         omega arith)
 
-    child_kind : (d k : ℕ) → k < length (rows_of_inode rows d) → (inode_at inodes (row_at (rows_of_inode rows d) k).inode).kind ≡ kind_byte (row_at (rows_of_inode rows d) k).kind
-    child_kind d k inside = eqb-true _ _ (not_false _ (or_parts (not (nat_lt (row_at (rows_of_inode rows d) k).inode (length inodes))) _ (placed_at d k inside)).1)
+    child_kind : (d k : ℕ) → k < length (rows_of_inode rows d)
+        → (inode_at inodes (row_at (rows_of_inode rows d) k).inode).kind ≡ kind_byte (row_at (rows_of_inode rows d) k).kind
+    child_kind d k inside =
+        eqb-true _ _ (not_false _ (or_parts (not (nat_lt (row_at (rows_of_inode rows d) k).inode (length inodes))) _ (placed_at d k inside)).1)
 
     kind_again : (kind : Kind) → kind_byte kind ≡ 2 → is_directory_kind kind ≡ true
     kind_again File e = absurd (let h : 1 ≡ 2 = e in omega arith)
@@ -166,21 +203,30 @@ module _ (image : SeenInodes) (inodes : List Inode) (rows : List (Roomy Row)) (s
     -- no row names the root
     root_free : (d k : ℕ) → k < length (rows_of_inode rows d) → (row_at (rows_of_inode rows d) k).inode ≢ 0
     root_free d k inside same =
-        not_both_of (breaks_eleventh rows d) (list_any_at (λ (row : Row). nat_eq row.inode 0) (rows_of_inode rows d) k NO_ROW inside (eq-eqb _ _ same)) (rootless d (holds_rows d k inside))
+        not_both_of (breaks_eleventh rows d) (list_any_at (λ (row : Row). nat_eq row.inode 0) (rows_of_inode rows d) k NO_ROW inside (eq-eqb _ _ same))
+        (rootless d (holds_rows d k inside))
 
     -- the holder of a directory is the one of a row that names it
-    holder_is : (d k : ℕ) → k < length (rows_of_inode rows d) → is_directory_kind (row_at (rows_of_inode rows d) k).kind ≡ true → holder_of tree (row_at (rows_of_inode rows d) k).inode ≡ Some d
+    holder_is : (d k : ℕ) → k < length (rows_of_inode rows d) → is_directory_kind (row_at (rows_of_inode rows d) k).kind ≡ true
+        → holder_of tree (row_at (rows_of_inode rows d) k).inode ≡ Some d
     holder_is d k inside kind =
         let x = (row_at (rows_of_inode rows d) k).inode in
         let within = child_within d k inside in
         let row = row_forth d k inside (holds_rows d k inside) in
         let some = count_some (names_it x) (image_rows image) (d, (row_at (rows_of_inode rows d) k).name) x row (eq-eqb x x refl) in
-        let directory : nat_eq (inode_at inodes x).kind 2 ≡ true = eq-eqb _ _ (child_kind d k inside ∙ kind_forth (row_at (rows_of_inode rows d) k).kind kind) in
-        let most = ltb-false 1 (naming_below rows (length inodes) x) (sym (ap (λ b. b && nat_lt 1 (naming_below rows (length inodes) x)) directory) ∙ few x within) in
+        let directory : nat_eq (inode_at inodes x).kind 2 ≡ true =
+        eq-eqb _ _ (child_kind d k inside ∙ kind_forth (row_at (rows_of_inode rows d) k).kind kind) in
+        let most =
+        ltb-false 1 (naming_below rows (length inodes) x) (sym (ap (λ b. b && nat_lt 1 (naming_below rows (length inodes) x)) directory) ∙ few x within) in
         let counted = count_is image inodes rows shows long once x in
         let one : count_of (image_rows image) x ≡ 1 = omega arith in
         elim (holder_found tree x) [
-          | inl f ↦ f.1 ∙ ap Some (ap (λ (q : Key). q.0) (only (names_it x) (image_rows image) (d, (row_at (rows_of_inode rows d) k).name) (f.0, f.2.0) x x one row (eq-eqb x x refl) f.2.1 (eq-eqb x x refl)))
+          | inl f ↦
+              f.1
+              ∙ ap Some
+              (ap (λ (q : Key). q.0)
+              (only (names_it x) (image_rows image) (d, (row_at (rows_of_inode rows d) k).name) (f.0, f.2.0) x x one row (eq-eqb x x refl) f.2.1
+              (eq-eqb x x refl)))
           | inr none ↦ absurd (none.1 (record { directory = d; name = (row_at (rows_of_inode rows d) k).name; row = row }))
         ]
 
@@ -218,21 +264,29 @@ module _ (image : SeenInodes) (inodes : List Inode) (rows : List (Roomy Row)) (s
       met_marked zero x kind met = absurd (not_both_of false met refl)
       met_marked (suc steps) x kind met = by (holder_found tree x) (met_marked steps)
         where
-          by : ((h : ℕ) × (holder_of tree x ≡ Some h) × ((name : List ℕ) × (row_of tree h name ≡ Some x))) ⊎ ((holder_of tree x ≡ None) × (Rattle.sfs_tree.proofs.RowFacts.IsNamed tree.rows x → ⊥)) →
-              ((y : ℕ) → (inode_at inodes y).kind ≡ 2 → list_any (λ a. nat_eq a 0) (walk_up steps tree y) ≡ true → is_marked reached y ≡ true) → is_marked reached x ≡ true
-          by (inr none) up = absurd (not_both_of (list_any (λ a. nat_eq a 0) (and_above (walk_up steps tree) (holder_of tree x))) met (ap (λ o. list_any (λ a. nat_eq a 0) (and_above (walk_up steps tree) o)) none.0))
+          by : ((h : ℕ) × (holder_of tree x ≡ Some h) × ((name : List ℕ) × (row_of tree h name ≡ Some x)))
+              ⊎ ((holder_of tree x ≡ None) × (Rattle.sfs_tree.proofs.RowFacts.IsNamed tree.rows x → ⊥)) →
+              ((y : ℕ) → (inode_at inodes y).kind ≡ 2 → list_any (λ a. nat_eq a 0) (walk_up steps tree y) ≡ true → is_marked reached y ≡ true)
+              → is_marked reached x ≡ true
+          by (inr none) up =
+              absurd
+              (not_both_of (list_any (λ a. nat_eq a 0) (and_above (walk_up steps tree) (holder_of tree x))) met
+              (ap (λ o. list_any (λ a. nat_eq a 0) (and_above (walk_up steps tree) o)) none.0))
           by (inl f) up =
               let back = row_back f.0 f.2.0 x f.2.1 in
               let holder_kind : (inode_at inodes f.0).kind ≡ 2 = elim (cases_Bool (eqb (image.seen f.0).kind 2)) [
                 | inl directory ↦ sym (shows.kind f.0 back.within) ∙ eqb-true _ _ directory
                 | inr other ↦ absurd (let e = ap length (shows.others f.0 back.within (eqb-false _ _ other)) in let h = back.inside in omega arith)
               ] in
-              let meets : (nat_eq f.0 0 || list_any (λ a. nat_eq a 0) (walk_up steps tree f.0)) ≡ true = sym (ap (λ o. list_any (λ a. nat_eq a 0) (and_above (walk_up steps tree) o)) f.1) ∙ met in
+              let meets : (nat_eq f.0 0 || list_any (λ a. nat_eq a 0) (walk_up steps tree f.0)) ≡ true =
+              sym (ap (λ o. list_any (λ a. nat_eq a 0) (and_above (walk_up steps tree) o)) f.1) ∙ met in
               let marked : is_marked reached f.0 ≡ true = elim (or_cases (nat_eq f.0 0) _ meets) [
                 | inl zero_is ↦ subst (λ (j : ℕ). is_marked reached j ≡ true) (sym (eqb-true _ _ zero_is)) marks.root
                 | inr above ↦ up f.0 holder_kind above
               ] in
-              let own_kind = kind_again (row_at (rows_of_inode rows f.0) back.k).kind (sym (child_kind f.0 back.k back.inside) ∙ ap (λ (j : ℕ). (inode_at inodes j).kind) back.is ∙ kind) in
+              let own_kind =
+              kind_again (row_at (rows_of_inode rows f.0) back.k).kind
+              (sym (child_kind f.0 back.k back.inside) ∙ ap (λ (j : ℕ). (inode_at inodes j).kind) back.is ∙ kind) in
               subst (λ (j : ℕ). is_marked reached j ≡ true) back.is (marks.closed f.0 marked back.k back.inside own_kind)
 
       unreached_is : (x : ℕ) → (inode_at inodes x).kind ≡ 2 → is_unreached image x ≡ not (is_marked reached x)
@@ -250,6 +304,11 @@ module _ (image : SeenInodes) (inodes : List Inode) (rows : List (Roomy Row)) (s
 pub reached_test_is_rule : ReachedTestIsRule
 reached_test_is_rule image inodes rows reached shows long once placed rootless few marks some kind i within =
     elim (cases_Bool (eqb (inode_at inodes i).kind 2)) [
-      | inl directory ↦ ap (λ (k : ℕ). nat_eq k 2 && is_unreached image i) (shows.kind i within) ∙ ap (λ b. nat_eq (inode_at inodes i).kind 2 && b) (unreached_is image inodes rows shows long once placed rootless few reached marks i (eqb-true _ _ directory))
-      | inr other ↦ ap (λ (k : ℕ). nat_eq k 2 && is_unreached image i) (shows.kind i within) ∙ ap (λ b. b && is_unreached image i) other ∙ sym (ap (λ b. b && not (is_marked reached i)) other)
+      | inl directory ↦
+          ap (λ (k : ℕ). nat_eq k 2 && is_unreached image i) (shows.kind i within)
+          ∙ ap (λ b. nat_eq (inode_at inodes i).kind 2 && b)
+          (unreached_is image inodes rows shows long once placed rootless few reached marks i (eqb-true _ _ directory))
+      | inr other ↦
+          ap (λ (k : ℕ). nat_eq k 2 && is_unreached image i) (shows.kind i within) ∙ ap (λ b. b && is_unreached image i) other
+          ∙ sym (ap (λ b. b && not (is_marked reached i)) other)
     ]

@@ -30,31 +30,40 @@ module _ (breaks : ℕ → ℕ → Bool) (count : ℕ) (fault : TreeFault) (leas
     where
       by_inode : other.rule ≡ fault.rule → (other.inode ≡ fault.inode) ⊎ ((other.inode < fault.inode) ⊎ (fault.inode < other.inode)) → other ≡ fault
       by_inode rule (inl inode) = λ i. record { rule = rule i; inode = inode i }
-      by_inode rule (inr (inl less)) = absurd (not_both_of (breaks fault.rule other.inode) (sym (ap (λ r. breaks r other.inode) rule) ∙ found.breaks_it) (least.lesser_inodes other.inode less))
-      by_inode rule (inr (inr more)) = absurd (not_both_of (breaks other.rule fault.inode) (ap (λ r. breaks r fault.inode) rule ∙ least.breaks_it) (found.lesser_inodes fault.inode more))
+      by_inode rule (inr (inl less)) =
+          absurd
+          (not_both_of (breaks fault.rule other.inode) (sym (ap (λ r. breaks r other.inode) rule) ∙ found.breaks_it) (least.lesser_inodes other.inode less))
+      by_inode rule (inr (inr more)) =
+          absurd (not_both_of (breaks other.rule fault.inode) (ap (λ r. breaks r fault.inode) rule ∙ least.breaks_it) (found.lesser_inodes fault.inode more))
 
       by_rule : (other.rule ≡ fault.rule) ⊎ ((other.rule < fault.rule) ⊎ (fault.rule < other.rule)) → other ≡ fault
       by_rule (inl rule) = by_inode rule (cases_order other.inode fault.inode)
-      by_rule (inr (inl less)) = absurd (not_both_of (breaks other.rule other.inode) found.breaks_it (least.lesser_rules other.rule other.inode found.rule_low less found.within))
-      by_rule (inr (inr more)) = absurd (not_both_of (breaks fault.rule fault.inode) least.breaks_it (found.lesser_rules fault.rule fault.inode least.rule_low more least.within))
+      by_rule (inr (inl less)) =
+          absurd (not_both_of (breaks other.rule other.inode) found.breaks_it (least.lesser_rules other.rule other.inode found.rule_low less found.within))
+      by_rule (inr (inr more)) =
+          absurd (not_both_of (breaks fault.rule fault.inode) least.breaks_it (found.lesser_rules fault.rule fault.inode least.rule_low more least.within))
 
   least_is_found : first_fault breaks count ≡ Some fault
   least_is_found = by (first_fault breaks count) (first_fault_is_least breaks count)
     where
       by : (o : Option TreeFault) → FindsFault breaks count o → o ≡ Some fault
-      by None none = absurd (not_both_of (breaks fault.rule fault.inode) least.breaks_it (none fault.rule fault.inode least.rule_low least.rule_high least.within))
+      by None none =
+          absurd (not_both_of (breaks fault.rule fault.inode) least.breaks_it (none fault.rule fault.inode least.rule_low least.rule_high least.within))
       by (Some other) found = ap Some (same_fault other found)
 
 -- where no rule is broken nothing is found
-none_is_found : (breaks : ℕ → ℕ → Bool) (count : ℕ) → ((rule i : ℕ) → 1 ≤ rule → rule ≤ RULES → i < count → breaks rule i ≡ false) → first_fault breaks count ≡ None
+none_is_found : (breaks : ℕ → ℕ → Bool) (count : ℕ) → ((rule i : ℕ) → 1 ≤ rule → rule ≤ RULES → i < count → breaks rule i ≡ false)
+    → first_fault breaks count ≡ None
 none_is_found breaks count keep = by (first_fault breaks count) (first_fault_is_least breaks count)
   where
     by : (o : Option TreeFault) → FindsFault breaks count o → o ≡ None
     by None none = refl
-    by (Some fault) found = absurd (not_both_of (breaks fault.rule fault.inode) found.breaks_it (keep fault.rule fault.inode found.rule_low found.rule_high found.within))
+    by (Some fault) found =
+        absurd (not_both_of (breaks fault.rule fault.inode) found.breaks_it (keep fault.rule fault.inode found.rule_low found.rule_high found.within))
 
 -- where the same rules are broken the same fault is found
-pub faults_alike : (breaks others : ℕ → ℕ → Bool) (count : ℕ) → ((rule i : ℕ) → i < count → breaks rule i ≡ others rule i) → first_fault breaks count ≡ first_fault others count
+pub faults_alike : (breaks others : ℕ → ℕ → Bool) (count : ℕ) → ((rule i : ℕ) → i < count → breaks rule i ≡ others rule i)
+    → first_fault breaks count ≡ first_fault others count
 faults_alike breaks others count same = by (first_fault breaks count) (first_fault_is_least breaks count)
   where
     by : (o : Option TreeFault) → FindsFault breaks count o → o ≡ first_fault others count
@@ -75,7 +84,8 @@ breaks_of layout parts = breaks_rule (λ rule i. breaks_bytes_rule rule layout p
 pub byte_rule : (layout : Layout) (parts : ℕ → Part) (rule i : ℕ) → rule ≤ 7 → breaks_of layout parts rule i ≡ breaks_bytes_rule rule layout parts i
 byte_rule layout parts rule i le = cond-false (ltb BYTE_RULES rule) _ _ (le-ltb BYTE_RULES rule le)
 
-pub tree_rule : (layout : Layout) (parts : ℕ → Part) (rule i : ℕ) → 7 < rule → breaks_of layout parts rule i ≡ breaks_tree_rule (inodes_shown layout parts) rule i
+pub tree_rule : (layout : Layout) (parts : ℕ → Part) (rule i : ℕ) → 7 < rule
+    → breaks_of layout parts rule i ≡ breaks_tree_rule (inodes_shown layout parts) rule i
 tree_rule layout parts rule i more = cond-true (ltb BYTE_RULES rule) _ _ (lt-ltb BYTE_RULES rule more)
 
 -- the first inode that breaks a rule, where no inode breaks a lesser one, is the first fault
@@ -130,7 +140,8 @@ unread_is_read told raw =
       tables = record {
         count = length-map (inode_of raw).indirect (read_block store) ∙ length-u32s_at 448 16 raw;
         each = λ k small. subst (IsReadBlock told (slice_index (inode_of raw).indirect k))
-            (sym (table_is_read store raw k small ∙ ap (read_block store) (pointer_of_table (part_of store raw) k))) (store_reads told (slice_index (inode_of raw).indirect k));
+            (sym (table_is_read store raw k small ∙ ap (read_block store) (pointer_of_table (part_of store raw) k)))
+            (store_reads told (slice_index (inode_of raw).indirect k));
       };
       count = length-tabulate FILE_BLOCKS _;
       each = λ n below. subst (IsReadBlock told (block_pointer (inode_of raw) (part_of store raw).tables n))

@@ -21,7 +21,9 @@ pub rows_below : (rows : List (Roomy Row)) (k n : ℕ) → k < n → named_rows 
 rows_below rows k zero less = absurd (omega arith)
 rows_below rows k (suc n) less = elim (cases_lt k n) [
   | inl below ↦ (let h = rows_below rows k n below in omega arith)
-  | inr last ↦ (let e : k ≡ n = omega arith in subst (λ (m : ℕ). named_rows rows k + length (rows_of_inode rows k) ≤ named_rows rows m + length (rows_of_inode rows m)) e (omega arith))
+  | inr last ↦
+      (let e : k ≡ n = omega arith in
+      subst (λ (m : ℕ). named_rows rows k + length (rows_of_inode rows k) ≤ named_rows rows m + length (rows_of_inode rows m)) e (omega arith))
 ]
 
 named_next : (rows : List (Roomy Row)) (n i : ℕ) → naming_below rows (n + 1) i ≡ naming_below rows n i + naming i (rows_of_inode rows n)
@@ -33,14 +35,17 @@ rows_next rows n = (let e : n + 1 ≡ suc n = omega arith in ap (named_rows rows
 naming_le : (i : ℕ) (rows : List Row) → naming i rows ≤ length rows
 naming_le i rows = Rattle.std.proofs.lemmas.List.Sums.count_by-le-length (λ (row : Row). Rattle.std.proofs.Common.nat_eq row.inode i) rows
 
-module _ (rows : List (Roomy Row)) (n : ℕ) (old held new : List ℕ) (before : CountedSoFar rows n old held) (own : List Row) (is : own ≡ rows_of_inode rows n) (counts : CountsNamings held new own (length own)) where
+module _ (rows : List (Roomy Row)) (n : ℕ) (old held new : List ℕ) (before : CountedSoFar rows n old held) (own : List Row) (is : own ≡ rows_of_inode rows n)
+    (counts : CountsNamings held new own (length own)) where
   here : (i : ℕ) → i < length held → slice_index new i ≡ slice_index held i + naming i (rows_of_inode rows n)
   here i less = counts.each i less ∙ ap (λ (xs : List Row). slice_index held i + naming i xs) (take_all (length own) own (omega arith) ∙ is)
 
   pub more_counted : CountedSoFar rows (n + 1) old new
   more_counted = record {
     size = counts.size ∙ before.size;
-    each = λ i less. here i (let s = before.size in omega arith) ∙ ap (λ (k : ℕ). k + naming i (rows_of_inode rows n)) (before.each i less) ∙ sym (named_next rows n i);
+    each =
+        λ i less. here i (let s = before.size in omega arith) ∙ ap (λ (k : ℕ). k + naming i (rows_of_inode rows n)) (before.each i less)
+        ∙ sym (named_next rows n i);
     room = λ i. elim (cases_lt i (length held)) [
       | inl less ↦ (let h = here i less in
           let r = before.room i in
@@ -51,9 +56,11 @@ module _ (rows : List (Roomy Row)) (n : ℕ) (old held new : List ℕ) (before :
     ];
   }
 
-pub counted_all : (rows : List (Roomy Row)) (old named : List ℕ) → CountedSoFar rows (length rows) old named → AreNamingCounts rows (length rows) (length old) named
+pub counted_all : (rows : List (Roomy Row)) (old named : List ℕ) → CountedSoFar rows (length rows) old named
+    → AreNamingCounts rows (length rows) (length old) named
 counted_all rows old named so = record { size = so.size; each = so.each }
 
 -- the rows of an element of the list are those of its number
-pub rows_of_number : (rows : List (Roomy Row)) (place : ℕ) (own : Roomy Row) → place < length rows → own ≡ get_or rows place own → own.items ≡ rows_of_inode rows place
+pub rows_of_number : (rows : List (Roomy Row)) (place : ℕ) (own : Roomy Row) → place < length rows → own ≡ get_or rows place own
+    → own.items ≡ rows_of_inode rows place
 rows_of_number rows place own within is = ap (λ (r : Roomy Row). r.items) (get_or_read rows place own within is (record { items = []; spare = 0 }))

@@ -8,7 +8,8 @@ use Rattle.sfs_image.specs.Slot.{Row}
 use Rattle.disk_tree.specs.Rows.{row_of_slot, rows_in_slots, slots_together}
 use Rattle.block_map.proofs.Places.{as_list}
 
-pub more_rows : (slots : List (Option Row)) (n : ℕ) (slot : Option Row) (start old new : List Row) → n < length slots → slot ≡ get_or slots n slot → old ≡ start ++ rows_in_slots (take n slots) → new ≡ old ++ option_to_list slot →
+pub more_rows : (slots : List (Option Row)) (n : ℕ) (slot : Option Row) (start old new : List Row) → n < length slots → slot ≡ get_or slots n slot
+    → old ≡ start ++ rows_in_slots (take n slots) → new ≡ old ++ option_to_list slot →
     new ≡ start ++ rows_in_slots (take (n + 1) slots)
 more_rows slots n slot start old new within is before put =
     put ∙ ap (λ (xs : List Row). xs ++ option_to_list slot) before
@@ -18,7 +19,8 @@ more_rows slots n slot start old new within is before put =
     ∙ ap (λ (x : Option Row). start ++ rows_in_slots (take n slots ++ x ∷ [])) is
     ∙ ap (λ (xs : List (Option Row)). start ++ rows_in_slots xs) (sym (take_more slots n slot within))
 
-pub more_blocks : (blocks : List (List (Option Row))) (n : ℕ) (block : List (Option Row)) (old new : List Row) → n < length blocks → block ≡ get_or blocks n block → old ≡ rows_in_slots (slots_together (take n blocks)) →
+pub more_blocks : (blocks : List (List (Option Row))) (n : ℕ) (block : List (Option Row)) (old new : List Row) → n < length blocks
+    → block ≡ get_or blocks n block → old ≡ rows_in_slots (slots_together (take n blocks)) →
     new ≡ old ++ rows_in_slots block → new ≡ rows_in_slots (slots_together (take (n + 1) blocks))
 more_blocks blocks n block old new within is before put =
     put ∙ ap (λ (xs : List Row). xs ++ rows_in_slots block) before

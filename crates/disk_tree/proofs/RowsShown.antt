@@ -38,7 +38,8 @@ same_any p q (row ∷ rows) same = ap (λ b. b || list_any p rows) (same row) �
 
 module _ (image : SeenInodes) (inodes : List Inode) (rows : List (Roomy Row)) (shows : ShowsRows image inodes rows) where
   -- what is asked of directories alone, by rows that others have not
-  of_directory : (i : ℕ) → i < image.count → (asked : Bool) (test : List Row → Bool) → test [] ≡ false → ((image.seen i).kind ≡ 2 → asked ≡ test (rows_of_inode rows i)) →
+  of_directory : (i : ℕ) → i < image.count → (asked : Bool) (test : List Row → Bool) → test [] ≡ false
+      → ((image.seen i).kind ≡ 2 → asked ≡ test (rows_of_inode rows i)) →
       (shows_directory (image.seen i) && asked) ≡ test (rows_of_inode rows i)
   of_directory i within asked test none same = elim (cases_Bool (eqb (image.seen i).kind 2)) [
     | inl directory ↦ ap (λ b. b && asked) directory ∙ same (eqb-true _ _ directory)
@@ -61,7 +62,8 @@ module _ (image : SeenInodes) (inodes : List Inode) (rows : List (Roomy Row)) (s
   row_tests = record {
     eighth = λ i within. of_directory i within _ has_twice refl
         (λ kind. asked_rows i within kind (λ (row : Row). nat_lt 1 (name_count row.name (image.seen i).slots))
-        ∙ same_any (λ (row : Row). nat_lt 1 (name_count row.name (image.seen i).slots)) (λ (row : Row). nat_lt 1 (rows_named row.name (rows_of_inode rows i))) (rows_of_inode rows i)
+        ∙ same_any (λ (row : Row). nat_lt 1 (name_count row.name (image.seen i).slots)) (λ (row : Row). nat_lt 1 (rows_named row.name (rows_of_inode rows i)))
+        (rows_of_inode rows i)
         (λ row. ap (nat_lt 1) (named_rows row.name (image.seen i).slots ∙ ap (rows_named row.name) (sym (shows.slots i within kind)))));
     tenth = λ i within. of_directory i within _ (list_any (is_misplaced_by inodes)) refl
         (λ kind. asked_rows i within kind (is_misplaced image) ∙ same_any (is_misplaced image) (is_misplaced_by inodes) (rows_of_inode rows i) misplaced_same);

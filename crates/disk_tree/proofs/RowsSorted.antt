@@ -49,13 +49,15 @@ module _ (i : ℕ) (q : Key) where
       cond-true _ (Some row.inode) (find key_cmp q (map (entry_of_row i) rows))
       (key_is q.0 i q.1 row.name ∙ cond-true (nat_eq q.0 i) (bytes_eq q.1 row.name) false (eq-eqb q.0 i here) ∙ ap (bytes_eq q.1) (sym name) ∙ same_bytes q.1)
   found_one (row ∷ rows) (suc k) less own here name =
-      ap (λ b. cond b (Some row.inode) (find key_cmp q (map (entry_of_row i) rows))) (other_name q.0 i q.1 row.name (λ same. own 0 (omega arith) (sym same ∙ name)))
+      ap (λ b. cond b (Some row.inode) (find key_cmp q (map (entry_of_row i) rows)))
+      (other_name q.0 i q.1 row.name (λ same. own 0 (omega arith) (sym same ∙ name)))
       ∙ found_one rows k (omega arith) (λ earlier lower. own (suc earlier) (omega arith)) here name
 
   found_none : (own : List Row) → ((k : ℕ) → k < length own → q.0 ≡ i → q.1 ≢ (row_at own k).name) → find key_cmp q (map (entry_of_row i) own) ≡ None
   found_none [] none = refl
   found_none (row ∷ own) none =
-      ap (λ b. cond b (Some row.inode) (find key_cmp q (map (entry_of_row i) own))) (by (cases_eq q.0 i)) ∙ found_none own (λ k less. none (suc k) (omega arith))
+      ap (λ b. cond b (Some row.inode) (find key_cmp q (map (entry_of_row i) own))) (by (cases_eq q.0 i))
+      ∙ found_none own (λ k less. none (suc k) (omega arith))
     where
       by : (q.0 ≡ i) ⊎ (q.0 ≢ i) → Rattle.std.specs.Ordering.eq_by_cmp key_cmp q (i, row.name) ≡ false
       by (inl here) = other_name q.0 i q.1 row.name (none 0 (omega arith) here)
@@ -92,7 +94,8 @@ module _ (rows : List (Roomy Row)) (i : ℕ) (sorted : List Row) (within : i < l
   own_reordered = ap (λ (r : Roomy Row). r.items) (get_or-set_same rows i (record { items = sorted; spare = 0 }) (record { items = []; spare = 0 }) within)
 
   others_stay : (j : ℕ) → j ≢ i → rows_of_inode (reordered rows i sorted) j ≡ rows_of_inode rows j
-  others_stay j other = ap (λ (r : Roomy Row). r.items) (get_or-set_other rows i j (record { items = sorted; spare = 0 }) (record { items = []; spare = 0 }) other)
+  others_stay j other =
+      ap (λ (r : Roomy Row). r.items) (get_or-set_other rows i j (record { items = sorted; spare = 0 }) (record { items = []; spare = 0 }) other)
 
   each_moved : (j : ℕ) → IsPermutation (rows_of_inode rows j) (rows_of_inode (reordered rows i sorted) j)
   each_moved j = elim (cases_eq j i) [
@@ -137,7 +140,9 @@ module _ (rows : List (Roomy Row)) (i : ℕ) (sorted : List Row) (within : i < l
     where
       looked : (all : List (Roomy Row)) (q : Key) → get (from_entries {R = key_cmp} (row_entries all (i + 1))) q
           ≡ option_or (find key_cmp q (row_entries all i)) (find key_cmp q (entries_at all i))
-      looked all q = get-from_entries key_cmp_total (row_entries all (i + 1)) q ∙ ap (find key_cmp q) (more_entries all i) ∙ find-append key_cmp q (row_entries all i) (entries_at all i)
+      looked all q =
+          get-from_entries key_cmp_total (row_entries all (i + 1)) q ∙ ap (find key_cmp q) (more_entries all i)
+          ∙ find-append key_cmp q (row_entries all i) (entries_at all i)
 
       here : (q : Key) → find key_cmp q (entries_at (reordered rows i sorted) i) ≡ find key_cmp q (entries_at rows i)
       here q = ap (λ (own : List Row). find key_cmp q (map (entry_of_row i) own)) own_reordered ∙ found_moved i q (rows_of_inode rows i) sorted moved own

@@ -65,7 +65,8 @@ rows_few [] = omega arith
 rows_few (None ∷ slots) = (let h = rows_few slots in omega arith)
 rows_few (Some row ∷ slots) = (let h = rows_few slots in omega arith)
 
-module _ (told : Option (List ℕ)) (layout : Layout) (records : List (List ℕ)) (count : length records ≡ layout.inodes) (inodes : List Inode) (are : inodes ≡ map inode_of records) (fit : All IsInode inodes)
+module _ (told : Option (List ℕ)) (layout : Layout) (records : List (List ℕ)) (count : length records ≡ layout.inodes) (inodes : List Inode)
+    (are : inodes ≡ map inode_of records) (fit : All IsInode inodes)
     (tables : List (Roomy Table)) (keep : KeepPointerRules told layout records tables) (contents : List (Roomy ℕ)) (slots : List (Roomy (List (Option Row))))
     (well : ReadWell told layout records inodes tables contents slots) (rows : List (Roomy Row)) (lists : AreRowLists slots layout.inodes rows) where
   abbrev image : SeenInodes
@@ -77,10 +78,14 @@ module _ (told : Option (List ℕ)) (layout : Layout) (records : List (List ℕ)
   -- a directory has no more rows than its blocks have slots
   pub are_few : AreFewRows rows
   are_few i = elim (cases_lt i layout.inodes) [
-    | inr past ↦ (let none : length (rows_of_inode rows i) ≡ 0 = ap (λ (r : Roomy Row). length r.items) (get_or_past rows i (record { items = []; spare = 0 }) (let c = lists.count in omega arith)) in omega arith)
+    | inr past ↦
+        (let none : length (rows_of_inode rows i)
+        ≡ 0 = ap (λ (r : Roomy Row). length r.items) (get_or_past rows i (record { items = []; spare = 0 }) (let c = lists.count in omega arith)) in
+        omega arith)
     | inl within ↦ elim (cases_Bool (eqb (image.seen i).kind 2)) [
       | inr other ↦ (let none : length (rows_of_inode rows i) ≡ 0 = ap length (shows.others i within (eqb-false _ _ other)) in omega arith)
-      | inl directory ↦ (let some : length (rows_of_inode rows i) ≡ length (rows_in_slots (image.seen i).slots) = ap length (shows.slots i within (eqb-true _ _ directory)) in
+      | inl directory ↦
+          (let some : length (rows_of_inode rows i) ≡ length (rows_in_slots (image.seen i).slots) = ap length (shows.slots i within (eqb-true _ _ directory)) in
           let few = rows_few (image.seen i).slots in
           let many = (slots_shown (well.parts i) directory).count in
           let blocks = Rattle.std.proofs.lemmas.List.length-take ((inode_in (well.parts i)).size / 4096) (well.parts i).blocks in
@@ -92,16 +97,20 @@ module _ (told : Option (List ℕ)) (layout : Layout) (records : List (List ℕ)
   module _ (some : 0 < layout.inodes) where
     -- each rule across inodes is its test, where no inode breaks a rule before it
     abbrev TestIsRule : List Bool → ℕ → ℕ → Type 0
-    TestIsRule reached j rule = KeepEarlier inodes rows reached rule → (rule ≡ 14 → MarksReached rows (length rows) reached) → breaks_tree_rule image rule j ≡ breaks_numbered inodes rows reached rule j
+    TestIsRule reached j rule =
+        KeepEarlier inodes rows reached rule → (rule ≡ 14 → MarksReached rows (length rows) reached)
+        → breaks_tree_rule image rule j ≡ breaks_numbered inodes rows reached rule j
 
     row_tests : AreRowTests image inodes rows
     row_tests = row_tests_are_rules image inodes rows shows
 
-    none_at : (reached : List Bool) (rule : ℕ) → KeepEarlier inodes rows reached rule → (earlier : ℕ) → 8 ≤ earlier → earlier < rule → NonePasses image.count (breaks_numbered inodes rows reached earlier)
+    none_at : (reached : List Bool) (rule : ℕ) → KeepEarlier inodes rows reached rule → (earlier : ℕ) → 8 ≤ earlier → earlier < rule
+        → NonePasses image.count (breaks_numbered inodes rows reached earlier)
     none_at reached rule kept earlier low less i inside = kept earlier i low less (let c = shows.count in omega arith)
 
     count_tests : (reached : List Bool) (rule : ℕ) → 8 < rule → KeepEarlier inodes rows reached rule → AreCountTests image inodes rows
-    count_tests reached rule more kept = count_tests_are_rules image inodes rows shows (lists.count ∙ shows.count) (none_at reached rule kept 8 (omega arith) more)
+    count_tests reached rule more kept =
+        count_tests_are_rules image inodes rows shows (lists.count ∙ shows.count) (none_at reached rule kept 8 (omega arith) more)
 
     rule_is_test : (reached : List Bool) (j : ℕ) → j < layout.inodes → (rule : ℕ) → 8 ≤ rule → rule ≤ 14 → TestIsRule reached j rule
     rule_is_test reached j within = each_rule (TestIsRule reached j)
@@ -111,20 +120,25 @@ module _ (told : Option (List ℕ)) (layout : Layout) (records : List (List ℕ)
         (λ kept marks. row_tests.eleventh j within)
         (λ kept marks. (count_tests reached 12 (omega arith) kept).twelfth j within)
         (λ kept marks. (count_tests reached 13 (omega arith) kept).thirteenth (none_at reached 13 kept 10 (omega arith) (omega arith)) j within)
-        (λ kept marks. reached_test_is_rule image inodes rows reached shows (lists.count ∙ shows.count) (none_at reached 14 kept 8 (omega arith) (omega arith)) (none_at reached 14 kept 10 (omega arith) (omega arith))
+        (λ kept marks. reached_test_is_rule image inodes rows reached shows (lists.count ∙ shows.count) (none_at reached 14 kept 8 (omega arith) (omega arith))
+        (none_at reached 14 kept 10 (omega arith) (omega arith))
         (none_at reached 14 kept 11 (omega arith) (omega arith)) (none_at reached 14 kept 12 (omega arith) (omega arith)) (marks refl) some
         (root_shown (well.parts 0) (well.keep 2 0 (omega arith) (omega arith) some)) j within)
 
-    numbered_is : (reached : List Bool) (rule j : ℕ) → 8 ≤ rule → rule ≤ 14 → j < layout.inodes → KeepEarlier inodes rows reached rule → (rule ≡ 14 → MarksReached rows (length rows) reached) →
+    numbered_is : (reached : List Bool) (rule j : ℕ) → 8 ≤ rule → rule ≤ 14 → j < layout.inodes → KeepEarlier inodes rows reached rule
+        → (rule ≡ 14 → MarksReached rows (length rows) reached) →
         breaks_of layout well.parts rule j ≡ breaks_numbered inodes rows reached rule j
-    numbered_is reached rule j low high within kept marks = tree_rule layout well.parts rule j (omega arith) ∙ rule_is_test reached j within rule low high kept marks
+    numbered_is reached rule j low high within kept marks =
+        tree_rule layout well.parts rule j (omega arith) ∙ rule_is_test reached j within rule low high kept marks
 
     -- no inode breaks a rule before one before which the tests find none
     none_broken : (reached : List Bool) (rule : ℕ) → rule ≤ 15 → KeepEarlier inodes rows reached rule → (14 < rule → MarksReached rows (length rows) reached) →
         (lesser j : ℕ) → 1 ≤ lesser → lesser < rule → j < layout.inodes → breaks_of layout well.parts lesser j ≡ false
     none_broken reached rule high kept marks lesser j low less within = elim (cases_lt lesser 8) [
       | inl byte ↦ byte_rule layout well.parts lesser j (omega arith) ∙ well.keep lesser j low (omega arith) within
-      | inr tree ↦ numbered_is reached lesser j tree (omega arith) within (λ earlier i first before inside. kept earlier i first (omega arith) inside) (λ last. marks (omega arith))
+      | inr tree ↦
+          numbered_is reached lesser j tree (omega arith) within (λ earlier i first before inside. kept earlier i first (omega arith) inside)
+          (λ last. marks (omega arith))
           ∙ kept lesser j tree less (let c = shows.count in omega arith)
     ]
 
@@ -134,7 +148,8 @@ module _ (told : Option (List ℕ)) (layout : Layout) (records : List (List ℕ)
         let high = is.high in
         let inside = is.first.within in
         let c = shows.count in
-        refused_at told layout records well.parts rule inode well.hold.read (omega arith) high (none_broken is.reached rule (omega arith) is.earlier (λ more. absurd (omega arith))) (record {
+        refused_at told layout records well.parts rule inode well.hold.read (omega arith) high
+        (none_broken is.reached rule (omega arith) is.earlier (λ more. absurd (omega arith))) (record {
           within = omega arith;
           passes = numbered_is is.reached rule inode low high (omega arith) is.earlier is.marks ∙ is.first.passes;
           before = λ k less. numbered_is is.reached rule k low high (omega arith) is.earlier is.marks ∙ is.first.before k less;
@@ -146,4 +161,6 @@ module _ (told : Option (List ℕ)) (layout : Layout) (records : List (List ℕ)
     tree_refusal DiskFailed is = tt
 
     pub faultless : KeepTreeRules inodes rows → fault_of_parts layout well.parts ≡ None
-    faultless kept = kept_all layout well.parts (λ rule j low high within. none_broken kept.reached 15 (omega arith) kept.keep (λ more. kept.marks) rule j low (omega arith) within)
+    faultless kept =
+        kept_all layout well.parts
+        (λ rule j low high within. none_broken kept.reached 15 (omega arith) kept.keep (λ more. kept.marks) rule j low (omega arith) within)

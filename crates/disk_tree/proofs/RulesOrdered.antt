@@ -18,7 +18,8 @@ module _ (inodes : List Inode) (rows : List (Roomy Row)) where
   none_earlier reached earlier i low less within = absurd (omega arith)
 
   -- one more rule that no inode breaks
-  pub more_kept : (reached : List Bool) (rule : ℕ) → KeepEarlier inodes rows reached rule → NonePasses (length inodes) (breaks_numbered inodes rows reached rule) →
+  pub more_kept : (reached : List Bool) (rule : ℕ) → KeepEarlier inodes rows reached rule
+      → NonePasses (length inodes) (breaks_numbered inodes rows reached rule) →
       KeepEarlier inodes rows reached (rule + 1)
   more_kept reached rule kept none earlier i low less within = elim (cases_lt earlier rule) [
     | inl before ↦ kept earlier i low before within
@@ -26,7 +27,8 @@ module _ (inodes : List Inode) (rows : List (Roomy Row)) where
   ]
 
   -- the first inode that breaks a rule before the last one
-  pub breaks_at : (rule i : ℕ) → 8 ≤ rule → rule < 14 → KeepEarlier inodes rows [] rule → IsFirst (length inodes) (breaks_numbered inodes rows [] rule) i → BreaksFirst inodes rows i rule
+  pub breaks_at : (rule i : ℕ) → 8 ≤ rule → rule < 14 → KeepEarlier inodes rows [] rule → IsFirst (length inodes) (breaks_numbered inodes rows [] rule) i
+      → BreaksFirst inodes rows i rule
   breaks_at rule i low high kept first = record {
     low = low;
     high = omega arith;
@@ -49,14 +51,17 @@ module _ (inodes : List Inode) (rows : List (Roomy Row)) where
         kept_10 = more_kept [] 10 kept_9 (λ i within. tenth i (omega arith))
 
   -- a row that is not misplaced names one of the inodes
-  placed_within : (own : List Row) → list_any (is_misplaced_by inodes) own ≡ false → (k : ℕ) (d : Row) → k < length own → (slice_index_or own k d).inode < length inodes
+  placed_within : (own : List Row) → list_any (is_misplaced_by inodes) own ≡ false → (k : ℕ) (d : Row) → k < length own
+      → (slice_index_or own k d).inode < length inodes
   placed_within own none k d less = elim (cases_lt (slice_index_or own k d).inode (length inodes)) [
     | inl within ↦ within
     | inr beyond ↦ absurd (not_both_of (list_any (is_misplaced_by inodes) own)
-        (list_any_at (is_misplaced_by inodes) own k d less (or_left (not (ltb (slice_index_or own k d).inode (length inodes))) _ (ap not (le-ltb _ _ beyond)))) none)
+        (list_any_at (is_misplaced_by inodes) own k d less (or_left (not (ltb (slice_index_or own k d).inode (length inodes))) _ (ap not (le-ltb _ _ beyond))))
+        none)
   ]
 
-  pub rows_within : KeepEarlier inodes rows [] 12 → (i : ℕ) → i < length inodes → (k : ℕ) (d : Row) → k < length (rows_of_inode rows i) → (slice_index_or (rows_of_inode rows i) k d).inode < length inodes
+  pub rows_within : KeepEarlier inodes rows [] 12 → (i : ℕ) → i < length inodes → (k : ℕ) (d : Row) → k < length (rows_of_inode rows i)
+      → (slice_index_or (rows_of_inode rows i) k d).inode < length inodes
   rows_within kept i within = placed_within (rows_of_inode rows i) (kept 10 i (omega arith) (omega arith) within)
 
 -- the directories have no more rows than their blocks have slots

@@ -31,29 +31,36 @@ list_any_more p (x ∷ xs) ys = ap (λ b. p x || b) (list_any_more p xs ys) ∙ 
     three false b c = refl
 
 -- one more block in which nothing is wrong
-pub more_slots : (n : ℕ) (bytes block : List ℕ) (old new : List (List (Option Row))) (slots : List (Option Row)) → block ≡ part (4096 * n) 4096 bytes → old ≡ map slots_of (blocks_in n bytes) →
+pub more_slots : (n : ℕ) (bytes block : List ℕ) (old new : List (List (Option Row))) (slots : List (Option Row)) → block ≡ part (4096 * n) 4096 bytes
+    → old ≡ map slots_of (blocks_in n bytes) →
     new ≡ old ++ slots ∷ [] → slots ≡ slots_of block → new ≡ map slots_of (blocks_in (n + 1) bytes)
 more_slots n bytes block old new slots is before put read =
     put ∙ ap (λ (xs : List (List (Option Row))). xs ++ slots ∷ []) before
     ∙ ap (λ (s : List (Option Row)). map slots_of (blocks_in n bytes) ++ s ∷ []) (read ∙ ap slots_of is)
     ∙ sym (ap (map slots_of) (one_more_block n bytes) ∙ map-append slots_of (blocks_in n bytes) (part (4096 * n) 4096 bytes ∷ []))
 
-pub more_kept : (n : ℕ) (bytes block : List ℕ) → block ≡ part (4096 * n) 4096 bytes → list_any is_malformed (blocks_in n bytes) ≡ false → slots_fault block ≡ None →
+pub more_kept : (n : ℕ) (bytes block : List ℕ) → block ≡ part (4096 * n) 4096 bytes → list_any is_malformed (blocks_in n bytes) ≡ false
+    → slots_fault block ≡ None →
     list_any is_malformed (blocks_in (n + 1) bytes) ≡ false
 more_kept n bytes block is before none =
     ap (list_any is_malformed) (one_more_block n bytes) ∙ list_any_more is_malformed (blocks_in n bytes) (part (4096 * n) 4096 bytes ∷ [])
-    ∙ or_from (list_any is_malformed (blocks_in n bytes)) _ before (or_from (is_malformed (part (4096 * n) 4096 bytes)) false (ap is_malformed (sym is) ∙ ap is_some none) refl)
+    ∙ or_from (list_any is_malformed (blocks_in n bytes)) _ before
+    (or_from (is_malformed (part (4096 * n) 4096 bytes)) false (ap is_malformed (sym is) ∙ ap is_some none) refl)
 
 -- a block in which something is wrong, among more
-wrong_among : (n : ℕ) (bytes : List ℕ) → is_malformed (part (4096 * n) 4096 bytes) ≡ true → (more : ℕ) → list_any is_malformed (blocks_in (n + 1 + more) bytes) ≡ true
+wrong_among : (n : ℕ) (bytes : List ℕ) → is_malformed (part (4096 * n) 4096 bytes) ≡ true → (more : ℕ)
+    → list_any is_malformed (blocks_in (n + 1 + more) bytes) ≡ true
 wrong_among n bytes wrong zero = (let e : n + 1 + 0 ≡ n + 1 = omega arith in ap (λ (k : ℕ). list_any is_malformed (blocks_in k bytes)) e)
     ∙ ap (list_any is_malformed) (one_more_block n bytes) ∙ list_any_more is_malformed (blocks_in n bytes) (part (4096 * n) 4096 bytes ∷ [])
     ∙ or_right (list_any is_malformed (blocks_in n bytes)) _ (or_left (is_malformed (part (4096 * n) 4096 bytes)) false wrong)
-wrong_among n bytes wrong (suc more) = (let e : n + 1 + suc more ≡ (n + 1 + more) + 1 = omega arith in ap (λ (k : ℕ). list_any is_malformed (blocks_in k bytes)) e)
-    ∙ ap (list_any is_malformed) (one_more_block (n + 1 + more) bytes) ∙ list_any_more is_malformed (blocks_in (n + 1 + more) bytes) (part (4096 * (n + 1 + more)) 4096 bytes ∷ [])
+wrong_among n bytes wrong (suc more) =
+    (let e : n + 1 + suc more ≡ (n + 1 + more) + 1 = omega arith in ap (λ (k : ℕ). list_any is_malformed (blocks_in k bytes)) e)
+    ∙ ap (list_any is_malformed) (one_more_block (n + 1 + more) bytes)
+    ∙ list_any_more is_malformed (blocks_in (n + 1 + more) bytes) (part (4096 * (n + 1 + more)) 4096 bytes ∷ [])
     ∙ or_left (list_any is_malformed (blocks_in (n + 1 + more) bytes)) _ (wrong_among n bytes wrong more)
 
-pub seventh_broken : (inode : Inode) (bytes block : List ℕ) (n at : ℕ) → inode.kind ≡ 2 → n < inode.size / 4096 → block ≡ part (4096 * n) 4096 bytes → slots_fault block ≡ Some at → slots_badly inode bytes ≡ true
+pub seventh_broken : (inode : Inode) (bytes block : List ℕ) (n at : ℕ) → inode.kind ≡ 2 → n < inode.size / 4096 → block ≡ part (4096 * n) 4096 bytes
+    → slots_fault block ≡ Some at → slots_badly inode bytes ≡ true
 seventh_broken inode bytes block n at kind less is wrong =
     let e : n + 1 + (inode.size / 4096 - (n + 1)) ≡ inode.size / 4096 = omega arith in
     ap (λ b. b && list_any is_malformed (blocks_in (inode.size / 4096) bytes)) (eq-eqb _ _ kind)
@@ -61,17 +68,27 @@ seventh_broken inode bytes block n at kind less is wrong =
     ∙ wrong_among n bytes (ap is_malformed (sym is) ∙ ap is_some wrong) (inode.size / 4096 - (n + 1))
 
 -- a directory in whose blocks nothing is wrong, and what is none
-pub directory_slots : (inode : Inode) (bytes : List ℕ) (slots : List (List (Option Row))) → inode.kind ≡ 2 → slots ≡ map slots_of (blocks_in (inode.size / 4096) bytes) →
+pub directory_slots : (inode : Inode) (bytes : List ℕ) (slots : List (List (Option Row))) → inode.kind ≡ 2
+    → slots ≡ map slots_of (blocks_in (inode.size / 4096) bytes) →
     list_any is_malformed (blocks_in (inode.size / 4096) bytes) ≡ false → (slots ≡ slots_by inode bytes) × (slots_badly inode bytes ≡ false)
-directory_slots inode bytes slots kind are none =
-    (are ∙ sym (cond-true (eqb inode.kind 2) _ _ (eq-eqb _ _ kind)), ap (λ b. b && list_any is_malformed (blocks_in (inode.size / 4096) bytes)) (eq-eqb _ _ kind) ∙ none)
+directory_slots inode bytes slots kind are none = (
+  are
+      ∙ sym (cond-true (eqb inode.kind 2) _ _ (eq-eqb _ _ kind)),
+  ap (λ b. b && list_any is_malformed (blocks_in (inode.size / 4096) bytes)) (eq-eqb _ _ kind)
+      ∙ none,
+)
 
-pub other_slots : (inode : Inode) (bytes : List ℕ) (slots : List (List (Option Row))) → inode.kind ≢ 2 → slots ≡ [] → (slots ≡ slots_by inode bytes) × (slots_badly inode bytes ≡ false)
-other_slots inode bytes slots other are =
-    (are ∙ sym (cond-false (eqb inode.kind 2) _ _ (ne_eqb _ _ other)), ap (λ b. b && list_any is_malformed (blocks_in (inode.size / 4096) bytes)) (ne_eqb _ _ other))
+pub other_slots : (inode : Inode) (bytes : List ℕ) (slots : List (List (Option Row))) → inode.kind ≢ 2 → slots ≡ []
+    → (slots ≡ slots_by inode bytes) × (slots_badly inode bytes ≡ false)
+other_slots inode bytes slots other are = (
+  are
+      ∙ sym (cond-false (eqb inode.kind 2) _ _ (ne_eqb _ _ other)),
+  ap (λ b. b && list_any is_malformed (blocks_in (inode.size / 4096) bytes)) (ne_eqb _ _ other),
+)
 
 -- elements of the lists are those of a number
-module _ (inodes : List Inode) (contents : List (Roomy ℕ)) (place : ℕ) (inode : Inode) (own : Roomy ℕ) (within : place < length inodes) (there : place < length contents) (is : inode ≡ get_or inodes place inode) (own_is : own ≡ get_or contents place own) where
+module _ (inodes : List Inode) (contents : List (Roomy ℕ)) (place : ℕ) (inode : Inode) (own : Roomy ℕ) (within : place < length inodes)
+    (there : place < length contents) (is : inode ≡ get_or inodes place inode) (own_is : own ≡ get_or contents place own) where
   pub inode_is : inode ≡ inode_at inodes place
   inode_is = get_or_read inodes place inode within is (inode_of [])
 
@@ -85,15 +102,25 @@ none_passes_more n test before here k less = elim (cases_lt k n) [
 ]
 
 -- the slots of one more inode
-module _ (inodes : List Inode) (contents : List (Roomy ℕ)) (n : ℕ) (old new : List (Roomy (List (Option Row)))) (before : AreSlotLists inodes contents n old) where
-  pub more_lists : (slots : Roomy (List (Option Row))) → new ≡ old ++ slots ∷ [] → FindsSlots (inode_at inodes n) (bytes_of_inode contents n) (Some slots) → AreSlotLists inodes contents (n + 1) new
+module _ (inodes : List Inode) (contents : List (Roomy ℕ)) (n : ℕ) (old new : List (Roomy (List (Option Row))))
+    (before : AreSlotLists inodes contents n old) where
+  pub more_lists : (slots : Roomy (List (Option Row))) → new ≡ old ++ slots ∷ [] → FindsSlots (inode_at inodes n) (bytes_of_inode contents n) (Some slots)
+      → AreSlotLists inodes contents (n + 1) new
   more_lists slots put finds = record {
     count = ap length put ∙ length-append old (slots ∷ []) ∙ (let c = before.count in omega arith);
     each = λ i less. elim (cases_lt i n) [
-      | inl below ↦ ap (λ (xs : List (Roomy (List (Option Row)))). slots_at xs i) put ∙ ap (λ (s : Roomy (List (Option Row))). s.items) (get_or_append_left old (slots ∷ []) (record { items = []; spare = 0 }) i (let c = before.count in omega arith)) ∙ before.each i below
+      | inl below ↦
+          ap (λ (xs : List (Roomy (List (Option Row)))). slots_at xs i) put
+          ∙ ap (λ (s : Roomy (List (Option Row))). s.items)
+          (get_or_append_left old (slots ∷ []) (record { items = []; spare = 0 }) i (let c = before.count in omega arith))
+          ∙ before.each i below
       | inr last ↦ (let here : n ≡ i = omega arith in
           let first : n - n ≡ 0 = omega arith in
-          let same : slots_at new n ≡ slots.items = ap (λ (xs : List (Roomy (List (Option Row)))). slots_at xs n) put ∙ ap (λ (s : Roomy (List (Option Row))). s.items) (get_or-append_right old (slots ∷ []) n n (record { items = []; spare = 0 }) before.count (omega arith) ∙ ap (λ (k : ℕ). get_or (slots ∷ []) k (record { items = []; spare = 0 })) first) in
+          let same : slots_at new n ≡ slots.items =
+          ap (λ (xs : List (Roomy (List (Option Row)))). slots_at xs n) put
+          ∙ ap (λ (s : Roomy (List (Option Row))). s.items)
+          (get_or-append_right old (slots ∷ []) n n (record { items = []; spare = 0 }) before.count (omega arith)
+          ∙ ap (λ (k : ℕ). get_or (slots ∷ []) k (record { items = []; spare = 0 })) first) in
           subst (λ (j : ℕ). slots_at new j ≡ slots_by (inode_at inodes j) (bytes_of_inode contents j)) here (same ∙ finds.0))
     ];
     keep = none_passes_more n (breaks_slots_at inodes contents) before.keep finds.1;

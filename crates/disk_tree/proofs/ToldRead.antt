@@ -61,8 +61,11 @@ module _ (layout : Layout) (parts others : ℕ → Part) (same : (i : ℕ) → i
       held : (place : ℕ) → is_held_before parts i place ≡ is_held_before others i place
       held place =
           ap (λ b. not (eqb (pointer_at (parts i) place) 0) && (b || stands_below place (parts i) (pointer_at (parts i) place)))
-          (any_same i (λ j. stands_below PLACES (parts j) (pointer_at (parts i) place)) (λ j. stands_below PLACES (others j) (pointer_at (parts i) place)) (λ j less. ap (λ (part : Part). stands_below PLACES part (pointer_at (parts i) place)) (same j (omega arith))))
-          ∙ ap (λ (part : Part). not (eqb (pointer_at part place) 0) && (any_below i (λ j. stands_below PLACES (others j) (pointer_at part place)) || stands_below place part (pointer_at part place))) (same i within)
+          (any_same i (λ j. stands_below PLACES (parts j) (pointer_at (parts i) place)) (λ j. stands_below PLACES (others j) (pointer_at (parts i) place))
+          (λ j less. ap (λ (part : Part). stands_below PLACES part (pointer_at (parts i) place)) (same j (omega arith))))
+          ∙ ap (λ (part : Part). not (eqb (pointer_at part place) 0)
+          && (any_below i (λ j. stands_below PLACES (others j) (pointer_at part place)) || stands_below place part (pointer_at part place)))
+          (same i within)
 
   bytes_alike : (rule i : ℕ) → i < layout.inodes → breaks_bytes_rule rule layout parts i ≡ breaks_bytes_rule rule layout others i
   bytes_alike rule i within = elim (cases_Bool (eqb rule 5)) [
@@ -73,7 +76,9 @@ module _ (layout : Layout) (parts others : ℕ → Part) (same : (i : ℕ) → i
 
   breaks_alike : (rule i : ℕ) → i < layout.inodes → breaks_of layout parts rule i ≡ breaks_of layout others rule i
   breaks_alike rule i within = elim (cases_lt 7 rule) [
-    | inl tree ↦ tree_rule layout parts rule i tree ∙ tree_rule_alike layout.inodes (λ k. seen_of (parts k)) (λ k. seen_of (others k)) (λ k less. ap seen_of (same k less)) rule i within
+    | inl tree ↦
+        tree_rule layout parts rule i tree
+        ∙ tree_rule_alike layout.inodes (λ k. seen_of (parts k)) (λ k. seen_of (others k)) (λ k less. ap seen_of (same k less)) rule i within
         ∙ sym (tree_rule layout others rule i tree)
     | inr byte ↦ byte_rule layout parts rule i byte ∙ bytes_alike rule i within ∙ sym (byte_rule layout others rule i byte)
   ]
@@ -83,15 +88,19 @@ module _ (layout : Layout) (parts others : ℕ → Part) (same : (i : ℕ) → i
 
   kept_alike : kept_in_use layout.inodes parts ≡ kept_in_use layout.inodes others
   unfolding kept_in_use
-  kept_alike = filter_map_same (kept_if_used parts) (kept_if_used others) 0 layout.inodes (λ i low high. let within : i < layout.inodes = omega arith in λ j. kept_if_used (λ _. same i within j) i)
+  kept_alike =
+      filter_map_same (kept_if_used parts) (kept_if_used others) 0 layout.inodes
+      (λ i low high. let within : i < layout.inodes = omega arith in λ j. kept_if_used (λ _. same i within j) i)
 
 module _ (image : List ℕ) (layout : Layout) (records : List (List ℕ)) (settles : SettlesRecords image layout records) where
   parts_are : (parts : ℕ → Part) → AreReadParts (Some image) layout records parts → (i : ℕ) → i < layout.inodes → parts i ≡ parts_of layout image i
   parts_are parts read i within =
-      one_part image (slice_index_or records i []) (parts i) (part_of (image_block image) (slice_index_or records i [])) (read i within) (unread_is_read (Some image) (slice_index_or records i []))
+      one_part image (slice_index_or records i []) (parts i) (part_of (image_block image) (slice_index_or records i [])) (read i within)
+      (unread_is_read (Some image) (slice_index_or records i []))
       ∙ ap (part_of (image_block image)) (settles.each i within)
 
-  no_faults_before : (tree : Option TreeFault) → first_of_faults (super_fault_of image) (journal_fault_of (layout_of image) image) tree ≡ first_of_faults None None tree
+  no_faults_before : (tree : Option TreeFault)
+      → first_of_faults (super_fault_of image) (journal_fault_of (layout_of image) image) tree ≡ first_of_faults None None tree
   no_faults_before tree =
       ap (λ (super : Option ℕ). first_of_faults super (journal_fault_of (layout_of image) image) tree) settles.super
       ∙ ap (λ (l : Layout). first_of_faults None (journal_fault_of l image) tree) (sym settles.layout_is)
@@ -109,10 +118,15 @@ found_is_the_images image layout records found settles is =
     record {
       tree =
           ap (λ (o : Option ImageFault). cond (is_none o) (Some (image_tree (image_inodes image) (making_at_mount image 0))) None) none
-          ∙ ap Some (sym (is.tree ∙ tree_alike layout.inodes (λ k. seen_of (is.parts k)) (λ k. seen_of (parts_of layout image k)) (λ k less. ap seen_of (parts_are image layout records settles is.parts is.read k less)) (making_when_read layout)
+          ∙ ap Some
+          (sym
+          (is.tree
+          ∙ tree_alike layout.inodes (λ k. seen_of (is.parts k)) (λ k. seen_of (parts_of layout image k))
+          (λ k less. ap seen_of (parts_are image layout records settles is.parts is.read k less)) (making_when_read layout)
           ∙ ap (λ (l : Layout). image_tree (inodes_shown l (parts_of l image)) (making_when_read l)) settles.layout_is));
       kept = is.kept ∙ kept_alike layout is.parts (parts_of layout image) (parts_are image layout records settles is.parts is.read);
     }
 
 pub faults_are_the_images : FaultsAreTheImages
-faults_are_the_images image layout records inode rule settles is = fault_is image layout records settles is.parts is.read ∙ ap (first_of_faults None None) is.fault
+faults_are_the_images image layout records inode rule settles is =
+    fault_is image layout records settles is.parts is.read ∙ ap (first_of_faults None None) is.fault

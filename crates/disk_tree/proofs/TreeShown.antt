@@ -58,7 +58,8 @@ use Rattle.disk_tree.proofs.TablesRead.{filter_map_same}
 -- the inode that a row names is named once at least
 naming_some : (own : List Row) (k : ℕ) → k < length own → 1 ≤ naming (row_at own k).inode own
 naming_some own k less =
-    (let one = count_by_more_yes (λ (row : Row). eqb row.inode (row_at own k).inode) own k NO_ROW less (eq-eqb (row_at own k).inode (row_at own k).inode refl) in
+    (let one = count_by_more_yes (λ (row : Row). eqb row.inode (row_at own k).inode) own k NO_ROW less
+    (eq-eqb (row_at own k).inode (row_at own k).inode refl) in
     let few = count_take (λ (row : Row). eqb row.inode (row_at own k).inode) own (k + 1) in
     omega arith)
 
@@ -67,37 +68,49 @@ naming_met rows zero i k less inside = absurd (omega arith)
 naming_met rows (suc n) i k less inside = elim (cases_lt i n) [
   | inl below ↦ (let h = naming_met rows n i k below inside in omega arith)
   | inr last ↦ (let e : i ≡ n = omega arith in
-      subst (λ (m : ℕ). 1 ≤ naming_below rows n (row_at (rows_of_inode rows i) k).inode + naming (row_at (rows_of_inode rows i) k).inode (rows_of_inode rows m)) e
+      subst (λ (m : ℕ). 1 ≤ naming_below rows n (row_at (rows_of_inode rows i) k).inode + naming (row_at (rows_of_inode rows i) k).inode (rows_of_inode rows m))
+      e
       (let h = naming_some (rows_of_inode rows i) k inside in omega arith))
 ]
 
 -- a node of an inode, by its kind, by how many rows name it, and by its bytes
 abbrev node_of : ℕ → ℕ → ℕ → List ℕ → List (ℕ × Node)
-node_of i kind named bytes = cond (eqb kind 2 || (eqb kind 1 && not (eqb named 0))) ((let node : ℕ × Node = (i, record { kind = kind_of kind; bytes = bytes }) in node) ∷ []) []
+node_of i kind named bytes =
+    cond (eqb kind 2 || (eqb kind 1 && not (eqb named 0))) ((let node : ℕ × Node = (i, record { kind = kind_of kind; bytes = bytes }) in node) ∷ []) []
 
 abbrev node_by : ℕ → ℕ → ℕ → List ℕ → List (ℕ × Node)
-node_by i kind named bytes = cond (eqb kind 2) ((let node : ℕ × Node = (i, record { kind = Directory; bytes = [] }) in node) ∷ []) (cond (eqb kind 1 && not (eqb named 0)) ((let node : ℕ × Node = (i, record { kind = File; bytes = bytes }) in node) ∷ []) [])
+node_by i kind named bytes =
+    cond (eqb kind 2) ((let node : ℕ × Node = (i, record { kind = Directory; bytes = [] }) in node) ∷ [])
+    (cond (eqb kind 1 && not (eqb named 0)) ((let node : ℕ × Node = (i, record { kind = File; bytes = bytes }) in node) ∷ []) [])
 
-same_node : (i kind named : ℕ) (shown held : List ℕ) → (kind ≡ 2 → shown ≡ []) → (kind ≡ 1 → shown ≡ held) → node_of i kind named shown ≡ node_by i kind named held
+same_node : (i kind named : ℕ) (shown held : List ℕ) → (kind ≡ 2 → shown ≡ []) → (kind ≡ 1 → shown ≡ held)
+    → node_of i kind named shown ≡ node_by i kind named held
 same_node i kind named shown held directory file = elim (cases_Bool (eqb kind 2)) [
   | inl is ↦ (let two = eqb-true _ _ is in
-      ap (λ (n : ℕ). node_of i n named shown) two ∙ ap (λ (bytes : List ℕ). node_of i 2 named bytes) (directory two) ∙ sym (ap (λ (n : ℕ). node_by i n named held) two))
+      ap (λ (n : ℕ). node_of i n named shown) two ∙ ap (λ (bytes : List ℕ). node_of i 2 named bytes) (directory two)
+      ∙ sym (ap (λ (n : ℕ). node_by i n named held) two))
   | inr other ↦ elim (cases_Bool (eqb kind 1)) [
     | inl is ↦ (let one = eqb-true _ _ is in
-        ap (λ (n : ℕ). node_of i n named shown) one ∙ ap (λ (bytes : List ℕ). node_of i 1 named bytes) (file one) ∙ sym (ap (λ (n : ℕ). node_by i n named held) one))
+        ap (λ (n : ℕ). node_of i n named shown) one ∙ ap (λ (bytes : List ℕ). node_of i 1 named bytes) (file one)
+        ∙ sym (ap (λ (n : ℕ). node_by i n named held) one))
     | inr none ↦ nothing (eqb kind 2) (eqb kind 1) other none
   ]
 ]
   where
-    nothing : (a b : Bool) → a ≡ false → b ≡ false → cond (a || (b && not (eqb named 0))) ((let node : ℕ × Node = (i, record { kind = kind_of kind; bytes = shown }) in node) ∷ []) []
-        ≡ cond a ((let node : ℕ × Node = (i, record { kind = Directory; bytes = [] }) in node) ∷ []) (cond (b && not (eqb named 0)) ((let node : ℕ × Node = (i, record { kind = File; bytes = held }) in node) ∷ []) [])
+    nothing : (a b : Bool) → a ≡ false → b ≡ false
+        → cond (a || (b && not (eqb named 0))) ((let node : ℕ × Node = (i, record { kind = kind_of kind; bytes = shown }) in node) ∷ []) []
+        ≡ cond a ((let node : ℕ × Node = (i, record { kind = Directory; bytes = [] }) in node) ∷ [])
+        (cond (b && not (eqb named 0)) ((let node : ℕ × Node = (i, record { kind = File; bytes = held }) in node) ∷ []) [])
     nothing false false e f = refl
     nothing true b e f = absurd cc
     nothing false true e f = absurd cc
 
-module _ (told : Option (List ℕ)) (layout : Layout) (records : List (List ℕ)) (count : length records ≡ layout.inodes) (inodes : List Inode) (are : inodes ≡ map inode_of records) (fit : All IsInode inodes)
-    (first : KeepRecordRules layout records) (tables : List (Roomy Table)) (keep : KeepPointerRules told layout records tables) (contents : List (Roomy ℕ)) (slots : List (Roomy (List (Option Row))))
-    (well : ReadWell told layout records inodes tables contents slots) (rows : List (Roomy Row)) (lists : AreRowLists slots layout.inodes rows) (some : 0 < layout.inodes) (kept : KeepTreeRules inodes rows) where
+module _ (told : Option (List ℕ)) (layout : Layout) (records : List (List ℕ)) (count : length records ≡ layout.inodes) (inodes : List Inode)
+    (are : inodes ≡ map inode_of records) (fit : All IsInode inodes)
+    (first : KeepRecordRules layout records) (tables : List (Roomy Table)) (keep : KeepPointerRules told layout records tables) (contents : List (Roomy ℕ))
+    (slots : List (Roomy (List (Option Row))))
+    (well : ReadWell told layout records inodes tables contents slots) (rows : List (Roomy Row)) (lists : AreRowLists slots layout.inodes rows)
+    (some : 0 < layout.inodes) (kept : KeepTreeRules inodes rows) where
   abbrev image : SeenInodes
   image = inodes_shown layout well.parts
 
@@ -145,9 +158,11 @@ module _ (told : Option (List ℕ)) (layout : Layout) (records : List (List ℕ)
       again : (place : ℕ) → 4096 * (place / 4096) + place % 4096 ≡ place
       again place = omega arith
 
-      here : (place : ℕ) → place < (inode_at inodes i).size → file_byte (well.parts i) place ≡ slice_index (take (inode_at inodes i).size (bytes_of_inode contents i)) place
+      here : (place : ℕ) → place < (inode_at inodes i).size
+          → file_byte (well.parts i) place ≡ slice_index (take (inode_at inodes i).size (bytes_of_inode contents i)) place
       here place less =
-          ap (λ (block : List ℕ). slice_index block (place % 4096)) (block_is told layout records count inodes are fit tables keep contents well.parts well.hold i (place / 4096) within (omega arith))
+          ap (λ (block : List ℕ). slice_index block (place % 4096))
+          (block_is told layout records count inodes are fit tables keep contents well.parts well.hold i (place / 4096) within (omega arith))
           ∙ get_or-take 4096 (drop (4096 * (place / 4096)) (bytes_of_inode contents i)) (place % 4096) 0 (omega arith)
           ∙ get_or-drop (4096 * (place / 4096)) (bytes_of_inode contents i) (place % 4096) 0
           ∙ ap (slice_index (bytes_of_inode contents i)) (again place)
@@ -160,7 +175,10 @@ module _ (told : Option (List ℕ)) (layout : Layout) (records : List (List ℕ)
 
   has_rows : (i k : ℕ) → k < length (rows_of_inode rows i) → HasRows i
   has_rows i k less = elim (cases_lt i layout.inodes) [
-    | inr past ↦ (let none : length (rows_of_inode rows i) ≡ 0 = ap (λ (r : Roomy Row). length r.items) (get_or_past rows i (record { items = []; spare = 0 }) (let c = lists.count in omega arith)) in absurd (omega arith))
+    | inr past ↦
+        (let none : length (rows_of_inode rows i)
+        ≡ 0 = ap (λ (r : Roomy Row). length r.items) (get_or_past rows i (record { items = []; spare = 0 }) (let c = lists.count in omega arith)) in
+        absurd (omega arith))
     | inl within ↦ elim (cases_Bool (eqb (image.seen i).kind 2)) [
       | inl directory ↦ record { within = within; kind = eqb-true _ _ directory }
       | inr other ↦ (let none : length (rows_of_inode rows i) ≡ 0 = ap length (rows_shown.others i within (eqb-false _ _ other)) in absurd (omega arith))
@@ -174,7 +192,10 @@ module _ (told : Option (List ℕ)) (layout : Layout) (records : List (List ℕ)
 
   placed : (i k : ℕ) → k < length (rows_of_inode rows i) → IsPlaced (row_at (rows_of_inode rows i) k)
   placed i k less = elim (cases_Bool (is_misplaced_by inodes row)) [
-    | inl wrong ↦ absurd (not_both_of _ (list_any_at (is_misplaced_by inodes) (rows_of_inode rows i) k NO_ROW less wrong) (kept.keep 10 i (omega arith) (omega arith) (let h = (has_rows i k less).within in let m = rows_shown.count in omega arith)))
+    | inl wrong ↦
+        absurd
+        (not_both_of _ (list_any_at (is_misplaced_by inodes) (rows_of_inode rows i) k NO_ROW less wrong)
+        (kept.keep 10 i (omega arith) (omega arith) (let h = (has_rows i k less).within in let m = rows_shown.count in omega arith)))
     | inr right ↦ (let both = or_parts (not (Rattle.std.specs.Prelude.nat_lt row.inode (length inodes))) _ right in
         let within : row.inode < layout.inodes = (let h = ltb-true _ _ (not_false _ both.0) in let m = rows_shown.count in omega arith) in
         record { within = within; kind = rows_shown.kind row.inode within ∙ eqb-true _ _ (not_false _ both.1) })
@@ -205,7 +226,8 @@ module _ (told : Option (List ℕ)) (layout : Layout) (records : List (List ℕ)
       where
         by : (kind : Kind) → (image.seen row.inode).kind ≡ kind_byte kind → is_node image row.inode ≡ true
         by Directory is_kind = directory_is_node image row.inode is_kind
-        by File is_kind = file_is_node image row.inode is_kind (λ none. absurd (let c = count_is image inodes rows rows_shown as_many once row.inode in omega arith))
+        by File is_kind =
+            file_is_node image row.inode is_kind (λ none. absurd (let c = count_is image inodes rows rows_shown as_many once row.inode in omega arith))
 
     rows_may : MayPut (tree_of_entries layout (node_entries inodes named contents (length inodes)) []) rows
     rows_may = record {
@@ -216,11 +238,17 @@ module _ (told : Option (List ℕ)) (layout : Layout) (records : List (List ℕ)
           (let row = row_at (rows_of_inode rows i) k in
           let is = placed i k less in
           let met = naming_met rows (length inodes) i k (let h = (has_rows i k less).within in let m = rows_shown.count in omega arith) less in
-          subst (λ (m : FinMap nat_cmp Node). IsSome (get m row.inode)) nodes_are (subst IsSome (sym (node_is image (is_node image) row.inode is.within (chosen row is met))) refl));
+          subst (λ (m : FinMap nat_cmp Node). IsSome (get m row.inode)) nodes_are
+          (subst IsSome (sym (node_is image (is_node image) row.inode is.within (chosen row is met))) refl));
       own = own image inodes rows rows_shown as_many once;
       room = λ i number. elim (cases_lt i layout.inodes) [
         | inl within ↦ (let same = bucket_is image inodes rows rows_shown as_many once i number within in let few = limits.buckets i number in omega arith)
-        | inr past ↦ (let none : rows_in_bucket (rows_of_inode rows i) number ≡ 0 = ap (λ (r : Roomy Row). rows_in_bucket r.items number) (get_or_past rows i (record { items = []; spare = 0 }) (let c = lists.count in omega arith)) in omega arith)
+        | inr past ↦
+            (let none : rows_in_bucket (rows_of_inode rows i) number
+            ≡ 0 =
+            ap (λ (r : Roomy Row). rows_in_bucket r.items number)
+            (get_or_past rows i (record { items = []; spare = 0 }) (let c = lists.count in omega arith)) in
+            omega arith)
       ];
     }
 
@@ -236,7 +264,8 @@ module _ (told : Option (List ℕ)) (layout : Layout) (records : List (List ℕ)
       rows_may = rows_may;
     }
 
-    tree_is : tree_of_entries layout (node_entries inodes named contents (length inodes)) (row_entries rows (length rows)) ≡ image_tree image (making_when_read layout)
+    tree_is : tree_of_entries layout (node_entries inodes named contents (length inodes)) (row_entries rows (length rows))
+        ≡ image_tree image (making_when_read layout)
     tree_is =
         let same_rows : from_entries {R = key_cmp} (row_entries rows (length rows)) ≡ image_rows image =
         ap (λ (n : ℕ). from_entries {R = key_cmp} (row_entries rows n)) lists.count ∙ sym (rows_are image inodes rows rows_shown as_many once) in
@@ -248,7 +277,8 @@ module _ (told : Option (List ℕ)) (layout : Layout) (records : List (List ℕ)
         ap (λ (inode : Inode). cond (eqb inode.kind 2) (map slots_of (directory_blocks (well.parts i))) []) (inode_is i within)
         ∙ elim (cases_Bool (eqb (inode_at inodes i).kind 2)) [
           | inl directory ↦ cond-true (eqb (inode_at inodes i).kind 2) _ _ directory
-              ∙ ap (map slots_of) (blocks_are told layout records count inodes are fit tables keep contents well.parts well.hold i within (eqb-true _ _ directory))
+              ∙ ap (map slots_of)
+              (blocks_are told layout records count inodes are fit tables keep contents well.parts well.hold i within (eqb-true _ _ directory))
               ∙ sym (cond-true (eqb (inode_at inodes i).kind 2) _ _ directory)
           | inr other ↦ cond-false (eqb (inode_at inodes i).kind 2) _ _ other ∙ sym (cond-false (eqb (inode_at inodes i).kind 2) _ _ other)
         ]
@@ -256,7 +286,9 @@ module _ (told : Option (List ℕ)) (layout : Layout) (records : List (List ℕ)
 
     kept_is : gathered_in_use inodes tables slots (length inodes) ≡ kept_in_use layout.inodes well.parts
     unfolding gathered_in_use kept_in_use
-    kept_is = ap (gathered_in_use inodes tables slots) (sym rows_shown.count) ∙ filter_map_same (gathered_if_used inodes tables slots) (kept_if_used well.parts) 0 layout.inodes (λ i low high. here i (omega arith))
+    kept_is =
+        ap (gathered_in_use inodes tables slots) (sym rows_shown.count)
+        ∙ filter_map_same (gathered_if_used inodes tables slots) (kept_if_used well.parts) 0 layout.inodes (λ i low high. here i (omega arith))
       where
         here : (i : ℕ) → i < layout.inodes → gathered_if_used inodes tables slots i ≡ kept_if_used well.parts i
         here i within =
@@ -274,7 +306,9 @@ module _ (told : Option (List ℕ)) (layout : Layout) (records : List (List ℕ)
       whole = whole;
       faultless = no_fault;
       tree = tree ∙ tree_is;
-      sound = subst IsSoundTree (sym (tree ∙ tree_is)) (record { sound = sound_shown image (making_when_read layout) rules; numbered = numbered image 0 layout.cores });
+      sound =
+          subst IsSoundTree (sym (tree ∙ tree_is))
+          (record { sound = sound_shown image (making_when_read layout) rules; numbered = numbered image 0 layout.cores });
       limits = subst IsWithinLimits (sym (tree ∙ tree_is)) limits;
       kept = parts ∙ kept_is;
     }

@@ -27,10 +27,13 @@ within_marks reached i marked = elim (cases_lt i (length reached)) [
 
 -- numbers that are pending, with one more behind them
 pub pending_before : (pending : List ℕ) (x i : ℕ) → IsPending pending i → IsPending (pending ++ x ∷ []) i
-pending_before pending x i one = (one.0, (let h = one.1 in omega (arith, length-append pending (x ∷ []))), get_or_append_left pending (x ∷ []) 0 one.0 one.1 ∙ one.2)
+pending_before pending x i one =
+    (one.0, (let h = one.1 in omega (arith, length-append pending (x ∷ []))), get_or_append_left pending (x ∷ []) 0 one.0 one.1 ∙ one.2)
 
 last_is : (pending : List ℕ) (x k : ℕ) → k ≡ length pending → slice_index (pending ++ x ∷ []) k ≡ x
-last_is pending x k e = get_or-append_right pending (x ∷ []) (length pending) k 0 refl (omega arith) ∙ (let z : k - length pending ≡ 0 = omega arith in ap (λ (n : ℕ). get_or (x ∷ []) n 0) z)
+last_is pending x k e =
+    get_or-append_right pending (x ∷ []) (length pending) k 0 refl (omega arith)
+    ∙ (let z : k - length pending ≡ 0 = omega arith in ap (λ (n : ℕ). get_or (x ∷ []) n 0) z)
 
 pub pending_last : (pending : List ℕ) (x : ℕ) → IsPending (pending ++ x ∷ []) x
 pending_last pending x = (length pending, omega (arith, length-append pending (x ∷ [])), last_is pending x (length pending) refl)
@@ -84,7 +87,8 @@ module _ (rows : List Row) (n : ℕ) (old new : List Bool) (pending now : List �
 
 -- a row that names a directory without a mark
 module _ (rows : List Row) (n : ℕ) (old new : List Bool) (pending now : List ℕ) (before : Visits rows n old new pending now)
-    (kind : is_directory_kind (row_at rows n).kind ≡ true) (fits : (row_at rows n).inode < length new) (none : is_marked new (row_at rows n).inode ≡ false) where
+    (kind : is_directory_kind (row_at rows n).kind ≡ true) (fits : (row_at rows n).inode < length new)
+    (none : is_marked new (row_at rows n).inode ≡ false) where
   x : ℕ
   x = (row_at rows n).inode
 
@@ -135,7 +139,8 @@ module _ (rows : List Row) (n : ℕ) (old new : List Bool) (pending now : List �
   }
 
 -- one visit of a directory that was pending
-module _ (rows : List (Roomy Row)) (count : ℕ) (reached new : List Bool) (pending rest now : List ℕ) (directory : ℕ) (before : Frontier rows count reached pending) (popped : pending ≡ rest ++ directory ∷ [])
+module _ (rows : List (Roomy Row)) (count : ℕ) (reached new : List Bool) (pending rest now : List ℕ) (directory : ℕ)
+    (before : Frontier rows count reached pending) (popped : pending ≡ rest ++ directory ∷ [])
     (visits : Visits (rows_of_inode rows directory) (length (rows_of_inode rows directory)) reached new rest now) where
   was_pending : IsPending pending directory
   was_pending = subst (λ (p : List ℕ). IsPending p directory) (sym popped) (pending_last rest directory)
@@ -174,7 +179,8 @@ module _ (rows : List (Roomy Row)) (count : ℕ) (reached new : List Bool) (pend
   less_work = (let w = visits.work in omega (arith, ap length popped, length-append rest (directory ∷ [])))
 
 -- nothing is pending
-pub all_visited : (rows : List (Roomy Row)) (count : ℕ) (reached : List Bool) (pending : List ℕ) → Frontier rows count reached pending → pending ≡ [] → MarksReached rows count reached
+pub all_visited : (rows : List (Roomy Row)) (count : ℕ) (reached : List Bool) (pending : List ℕ) → Frontier rows count reached pending → pending ≡ []
+    → MarksReached rows count reached
 all_visited rows count reached pending before none = record {
   size = before.size;
   root = before.root;
@@ -186,7 +192,8 @@ all_visited rows count reached pending before none = record {
 }
 
 -- one more row, as it was visited
-pub visited_more : (rows : List Row) (n : ℕ) (old mid new : List Bool) (pending between now : List ℕ) (row : Row) → Visits rows n old mid pending between → row ≡ row_at rows n → row.inode < length mid →
+pub visited_more : (rows : List Row) (n : ℕ) (old mid new : List Bool) (pending between now : List ℕ) (row : Row) → Visits rows n old mid pending between
+    → row ≡ row_at rows n → row.inode < length mid →
     Passes row mid new between now ⊎ Marks row mid new between now → Visits rows (n + 1) old new pending now
 visited_more rows n old mid new pending between now row before is fits (inl passes) =
     subst (λ (reached : List Bool). Visits rows (n + 1) old reached pending now) (sym passes.marks)
@@ -194,11 +201,14 @@ visited_more rows n old mid new pending between now row before is fits (inl pass
     (pass_row rows n old mid pending between before (subst (λ (r : Row). is_directory_kind r.kind ≡ true → is_marked mid r.inode ≡ true) is passes.known)))
 visited_more rows n old mid new pending between now row before is fits (inr marks) =
     subst (λ (reached : List Bool). Visits rows (n + 1) old reached pending now) (sym (marks.marks ∙ ap (λ (r : Row). slice_set mid r.inode true) is))
-    (subst (λ (p : List ℕ). Visits rows (n + 1) old (slice_set mid (row_at rows n).inode true) pending p) (sym (marks.pending_more ∙ ap (λ (r : Row). between ++ r.inode ∷ []) is))
-    (visit_row rows n old mid pending between before (subst (λ (r : Row). is_directory_kind r.kind ≡ true) is marks.kind) (subst (λ (r : Row). r.inode < length mid) is fits) (subst (λ (r : Row). is_marked mid r.inode ≡ false) is marks.fresh)))
+    (subst (λ (p : List ℕ). Visits rows (n + 1) old (slice_set mid (row_at rows n).inode true) pending p)
+    (sym (marks.pending_more ∙ ap (λ (r : Row). between ++ r.inode ∷ []) is))
+    (visit_row rows n old mid pending between before (subst (λ (r : Row). is_directory_kind r.kind ≡ true) is marks.kind)
+    (subst (λ (r : Row). r.inode < length mid) is fits) (subst (λ (r : Row). is_marked mid r.inode ≡ false) is marks.fresh)))
 
 -- the root alone
-pub root_frontier : (rows : List (Roomy Row)) (count : ℕ) (reached : List Bool) (pending : List ℕ) → 0 < count → length reached ≡ count → ((i : ℕ) → is_marked reached i ≡ false) → pending ≡ 0 ∷ [] →
+pub root_frontier : (rows : List (Roomy Row)) (count : ℕ) (reached : List Bool) (pending : List ℕ) → 0 < count → length reached ≡ count
+    → ((i : ℕ) → is_marked reached i ≡ false) → pending ≡ 0 ∷ [] →
     Frontier rows count (slice_set reached 0 true) pending
 root_frontier rows count reached pending some size none is = record {
   size = length-set reached 0 true ∙ size;
@@ -221,7 +231,8 @@ root_frontier rows count reached pending some size none is = record {
     root_only i one = (let h = one.1 in let e : one.0 ≡ 0 = omega arith in sym (ap (λ (k : ℕ). slice_index (0 ∷ []) k) e) ∙ one.2)
 
 -- what was pending has a mark, and lies within
-pub popped_within : (rows : List (Roomy Row)) (count : ℕ) (reached : List Bool) (pending rest : List ℕ) (directory : ℕ) → Frontier rows count reached pending → pending ≡ rest ++ directory ∷ [] → directory < count
+pub popped_within : (rows : List (Roomy Row)) (count : ℕ) (reached : List Bool) (pending rest : List ℕ) (directory : ℕ) → Frontier rows count reached pending
+    → pending ≡ rest ++ directory ∷ [] → directory < count
 popped_within rows count reached pending rest directory before popped =
     let marked = before.marked directory (subst (λ (p : List ℕ). IsPending p directory) (sym popped) (pending_last rest directory)) in
     let h = within_marks reached directory marked in

@@ -43,7 +43,8 @@ pointer_in inodes tables i place = pointer_kept (inode_at inodes i) (tables_at t
 
 -- The first inodes hold each block once, and exactly the blocks that they hold have a mark.
 pub record HoldOnce (inodes : List Inode) (tables : List (Roomy Table)) (n : ℕ) (held : List Bool) : Type 0 where
-  pub below : (i j p q : ℕ) → i < n → j < i → p < PLACES → q < PLACES → pointer_in inodes tables i p ≢ 0 → pointer_in inodes tables j q ≢ pointer_in inodes tables i p
+  pub below : (i j p q : ℕ) → i < n → j < i → p < PLACES → q < PLACES → pointer_in inodes tables i p ≢ 0
+      → pointer_in inodes tables j q ≢ pointer_in inodes tables i p
   pub before : (i p q : ℕ) → i < n → q < p → p < PLACES → pointer_in inodes tables i p ≢ 0 → pointer_in inodes tables i q ≢ pointer_in inodes tables i p
   pub marks : (i p : ℕ) → i < n → p < PLACES → pointer_in inodes tables i p ≢ 0 → is_marked held (pointer_in inodes tables i p) ≡ true
   pub only : (block : ℕ) → is_marked held block ≡ true → (i : ℕ) × (p : ℕ) × (i < n) × (p < PLACES) × (pointer_in inodes tables i p ≡ block)

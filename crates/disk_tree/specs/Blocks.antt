@@ -64,7 +64,8 @@ pub record BreaksSeventh (inodes : List Inode) (contents : List (Roomy ℕ)) (in
   pub first : IsFirst (length inodes) (breaks_slots_at inodes contents) inode
 
 -- Parts were read, with their bytes and slots, and keep the first seven rules.
-pub record ReadWell (told : Option (List ℕ)) (layout : Layout) (records : List (List ℕ)) (inodes : List Inode) (tables : List (Roomy Table)) (contents : List (Roomy ℕ)) (slots : List (Roomy (List (Option Row)))) : Type 0 where
+pub record ReadWell (told : Option (List ℕ)) (layout : Layout) (records : List (List ℕ)) (inodes : List Inode) (tables : List (Roomy Table))
+    (contents : List (Roomy ℕ)) (slots : List (Roomy (List (Option Row)))) : Type 0 where
   pub parts : ℕ → Part
   pub hold : HoldContents told layout records tables contents parts
   pub content_count : length contents ≡ layout.inodes

@@ -24,7 +24,8 @@ pub record AreReadContents (told : Option (List ℕ)) (inodes : List Inode) (tab
   pub each : (i : ℕ) → i < n → HasContent told (inode_at inodes i) (tables_at tables i) (blocks_of_size (inode_at inodes i).size) (bytes_of_inode contents i)
 
 -- Parts are what reads gave: what is kept of their indirect blocks, and the blocks of their bytes.
-pub record HoldContents (told : Option (List ℕ)) (layout : Layout) (records : List (List ℕ)) (tables : List (Roomy Table)) (contents : List (Roomy ℕ)) (parts : ℕ → Part) : Type 0 where
+pub record HoldContents (told : Option (List ℕ)) (layout : Layout) (records : List (List ℕ)) (tables : List (Roomy Table)) (contents : List (Roomy ℕ))
+    (parts : ℕ → Part) : Type 0 where
   pub read : AreReadParts told layout records parts
   pub kept : KeepTables layout tables parts
   pub blocks : (i n : ℕ) → i < layout.inodes → n < blocks_of_size (inode_of (slice_index_or records i [])).size

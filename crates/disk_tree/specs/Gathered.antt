@@ -39,5 +39,6 @@ HaveTables told layout records tables = (i : ℕ) → i < layout.inodes → HasT
 pub record KeepPointerRules (told : Option (List ℕ)) (layout : Layout) (records : List (List ℕ)) (tables : List (Roomy Table)) : Type 0 where
   pub sound : SoundRecords layout.inodes records
   pub has : HaveTables told layout records tables
-  pub keep : (parts : ℕ → Part) → AreReadParts told layout records parts → KeepTables layout tables parts → (rule i : ℕ) → 1 ≤ rule → rule ≤ 5 → i < layout.inodes
+  pub keep : (parts : ℕ → Part) → AreReadParts told layout records parts → KeepTables layout tables parts → (rule i : ℕ) → 1 ≤ rule → rule ≤ 5
+      → i < layout.inodes
       → breaks_bytes_rule rule layout parts i ≡ false

@@ -22,7 +22,8 @@ breaks_numbered inodes rows reached rule i =
 
 -- no inode breaks a rule across inodes that comes before this one
 abbrev pub KeepEarlier : List Inode → List (Roomy Row) → List Bool → ℕ → Type 0
-KeepEarlier inodes rows reached rule = (earlier i : ℕ) → 8 ≤ earlier → earlier < rule → i < length inodes → breaks_numbered inodes rows reached earlier i ≡ false
+KeepEarlier inodes rows reached rule =
+    (earlier i : ℕ) → 8 ≤ earlier → earlier < rule → i < length inodes → breaks_numbered inodes rows reached earlier i ≡ false
 
 -- An inode is the first that breaks a rule across inodes, and no inode breaks one that comes before it.
 pub record BreaksFirst (inodes : List Inode) (rows : List (Roomy Row)) (inode rule : ℕ) : Type 0 where

@@ -13,7 +13,8 @@ row_at rows k = slice_index_or rows k NO_ROW
 -- a walk from the root reaches the root, and each directory that a row of a reached one names
 pub data IsReachedFromRoot (rows : List (Roomy Row)) : ℕ → Type 0 where
   root : IsReachedFromRoot rows 0
-  named : (directory k : ℕ) → k < length (rows_of_inode rows directory) → is_directory_kind (row_at (rows_of_inode rows directory) k).kind ≡ true → IsReachedFromRoot rows directory
+  named : (directory k : ℕ) → k < length (rows_of_inode rows directory) → is_directory_kind (row_at (rows_of_inode rows directory) k).kind ≡ true
+      → IsReachedFromRoot rows directory
       → IsReachedFromRoot rows (row_at (rows_of_inode rows directory) k).inode
 
 -- each directory that one of the first n rows names has a mark
@@ -55,7 +56,8 @@ pub record Visits (rows : List Row) (n : ℕ) (old new : List Bool) (pending now
   pub size : length new ≡ length old
   pub keeps : (i : ℕ) → is_marked old i ≡ true → is_marked new i ≡ true
   pub marks : AreMarked new rows n
-  pub only : (i : ℕ) → is_marked new i ≡ true → (is_marked old i ≡ true) ⊎ ((k : ℕ) × (k < n) × (is_directory_kind (row_at rows k).kind ≡ true) × ((row_at rows k).inode ≡ i))
+  pub only : (i : ℕ) → is_marked new i ≡ true
+      → (is_marked old i ≡ true) ⊎ ((k : ℕ) × (k < n) × (is_directory_kind (row_at rows k).kind ≡ true) × ((row_at rows k).inode ≡ i))
   pub stay : (i : ℕ) → IsPending pending i → IsPending now i
   pub fresh : (i : ℕ) → is_marked new i ≡ true → (is_marked old i ≡ true) ⊎ IsPending now i
   pub from : (i : ℕ) → IsPending now i → IsPending pending i ⊎ (is_marked new i ≡ true)

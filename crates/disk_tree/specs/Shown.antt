@@ -42,7 +42,8 @@ RowTestsAreRules = (image : SeenInodes) (inodes : List Inode) (rows : List (Room
 pub record AreCountTests (image : SeenInodes) (inodes : List Inode) (rows : List (Roomy Row)) : Type 0 where
   pub ninth : (i : ℕ) → i < image.count → breaks_tree_rule image 9 i ≡ breaks_ninth rows i
   pub twelfth : (i : ℕ) → i < image.count → breaks_tree_rule image 12 i ≡ breaks_twelfth inodes rows (length inodes) i
-  pub thirteenth : NonePasses image.count (breaks_tenth inodes rows) → (i : ℕ) → i < image.count → breaks_tree_rule image 13 i ≡ breaks_thirteenth inodes rows (length inodes) i
+  pub thirteenth : NonePasses image.count (breaks_tenth inodes rows) → (i : ℕ) → i < image.count
+      → breaks_tree_rule image 13 i ≡ breaks_thirteenth inodes rows (length inodes) i
 
 -- What was counted over the rows is what the rules ask.
 abbrev pub CountTestsAreRules : Type 0
@@ -51,14 +52,16 @@ CountTestsAreRules = (image : SeenInodes) (inodes : List Inode) (rows : List (Ro
 
 -- The rule on walks from the root is a test by the marks of what a walk reaches, where the rules before it on rows hold.
 abbrev pub ReachedTestIsRule : Type 0
-ReachedTestIsRule = (image : SeenInodes) (inodes : List Inode) (rows : List (Roomy Row)) (reached : List Bool) → ShowsRows image inodes rows → length rows ≡ length inodes
+ReachedTestIsRule =
+    (image : SeenInodes) (inodes : List Inode) (rows : List (Roomy Row)) (reached : List Bool) → ShowsRows image inodes rows → length rows ≡ length inodes
     → NonePasses image.count (breaks_eighth rows) → NonePasses image.count (breaks_tenth inodes rows) → NonePasses image.count (breaks_eleventh rows)
     → NonePasses image.count (breaks_twelfth inodes rows (length inodes)) → MarksReached rows (length rows) reached → 0 < image.count → (image.seen 0).kind ≡ 2
     → (i : ℕ) → i < image.count → breaks_tree_rule image 14 i ≡ breaks_fourteenth inodes reached i
 
 -- What was read of an image shows its rows: the parts that were read, with the rows in their slots.
 abbrev pub ReadPartsShowRows : Type 0
-ReadPartsShowRows = (told : Option (List ℕ)) (layout : Layout) (records : List (List ℕ)) (inodes : List Inode) (tables : List (Roomy Table)) (contents : List (Roomy ℕ))
+ReadPartsShowRows =
+    (told : Option (List ℕ)) (layout : Layout) (records : List (List ℕ)) (inodes : List Inode) (tables : List (Roomy Table)) (contents : List (Roomy ℕ))
     (slots : List (Roomy (List (Option Row)))) (rows : List (Roomy Row)) → length records ≡ layout.inodes → inodes ≡ map inode_of records → All IsInode inodes
     → KeepPointerRules told layout records tables → (well : ReadWell told layout records inodes tables contents slots) → AreRowLists slots layout.inodes rows
     → ShowsRows (inodes_shown layout well.parts) inodes rows
@@ -70,5 +73,6 @@ pub record AreRuled (image : SeenInodes) : Type 0 where
 
 -- Parts that reads gave, and that have no fault, show inodes that keep the rules.
 abbrev pub FaultlessPartsAreRuled : Type 0
-FaultlessPartsAreRuled = (told : Option (List ℕ)) (layout : Layout) (records : List (List ℕ)) (parts : ℕ → Part) → 0 < layout.inodes → AreReadParts told layout records parts
+FaultlessPartsAreRuled =
+    (told : Option (List ℕ)) (layout : Layout) (records : List (List ℕ)) (parts : ℕ → Part) → 0 < layout.inodes → AreReadParts told layout records parts
     → fault_of_parts layout parts ≡ None → AreRuled (inodes_shown layout parts)

@@ -24,7 +24,10 @@ module _ (image : List ℕ) where
 
   -- no inode of an image without a fault breaks the rule on sizes
   sizes_good : fault_of image ≡ None → (i : ℕ) → i < inodes.count → breaks_bytes_of image 3 i ≡ false
-  sizes_good e i low = no_break (breaks_rule (breaks_bytes_of image) inodes) inodes.count (by (super_fault_of image) (journal_fault_of (layout_of image) image) (tree_fault (breaks_bytes_of image) inodes) e) 3 i (omega arith) (omega arith) low
+  sizes_good e i low =
+      no_break (breaks_rule (breaks_bytes_of image) inodes) inodes.count
+      (by (super_fault_of image) (journal_fault_of (layout_of image) image) (tree_fault (breaks_bytes_of image) inodes) e) 3 i (omega arith)
+      (omega arith) low
     where
       by : (super : Option ℕ) (journal : Option SlotFault) (tree : Option TreeFault) → first_of_faults super journal tree ≡ None → tree ≡ None
       by None None None e = refl
@@ -51,7 +54,8 @@ module _ (image : List ℕ) where
         subst (λ (o : Option Node). length (option_map_or (λ (n : Node). n.bytes) o []) ≤ 4096 * FILE_BLOCKS) (sym (get_node inodes (is_node inodes) node low))
         (chosen (is_node inodes node) (shown_short e node low))
     | inr past ↦
-        subst (λ (o : Option Node). length (option_map_or (λ (n : Node). n.bytes) o []) ≤ 4096 * FILE_BLOCKS) (sym (no_node_outside inodes (is_node inodes) node past)) (omega arith)
+        subst (λ (o : Option Node). length (option_map_or (λ (n : Node). n.bytes) o []) ≤ 4096 * FILE_BLOCKS)
+        (sym (no_node_outside inodes (is_node inodes) node past)) (omega arith)
   ]
     where
       chosen : (b : Bool) → length (inodes.seen node).bytes ≤ 4096 * FILE_BLOCKS
@@ -62,6 +66,7 @@ module _ (image : List ℕ) where
 pub images_have_short_files : ImagesHaveShortFiles
 images_have_short_files image share tree is = by (fault_of image) refl is
   where
-    by : (o : Option ImageFault) → fault_of image ≡ o → cond (is_none o) (Some (image_tree (image_inodes image) (making_at_mount image share))) None ≡ Some tree → HasShortFiles tree
+    by : (o : Option ImageFault) → fault_of image ≡ o → cond (is_none o) (Some (image_tree (image_inodes image) (making_at_mount image share))) None ≡ Some tree
+        → HasShortFiles tree
     by None none same = subst HasShortFiles (some_same same) (node_short image share none)
     by (Some fault) some never = absurd (none_some never)

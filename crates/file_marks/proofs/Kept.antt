@@ -33,7 +33,8 @@ use Rattle.file_marks.proofs.Edits.{edit_in, edit_at, edits_from, bytes_in_tree,
 
 -- no block of a file without marks is marked
 unmarked : (file : File) → IsUnmarked file → (from block : ℕ) → is_marked_from from file block ≡ true → ⊥
-unmarked file none from block marked = false_not_true (sym (ap (λ (o : Option Stamp). option_map_or (λ (mark : Stamp). nat_le from mark.0) o false) (none block)) ∙ marked)
+unmarked file none from block marked =
+    false_not_true (sym (ap (λ (o : Option Stamp). option_map_or (λ (mark : Stamp). nat_le from mark.0) o false) (none block)) ∙ marked)
 
 pub files_begin : FilesBegin
 files_begin first node file same none = record {
@@ -42,15 +43,18 @@ files_begin first node file same none = record {
 }
 
 -- what happens at the end of a history's begin is what the entry there does
-effect_behind : (first : TreeState) (history : List Entry) (entry : Entry) (rest : List Entry) → effect_at first (history ++ entry ∷ rest) (length history) ≡ (verdict_behind first history entry).effect
+effect_behind : (first : TreeState) (history : List Entry) (entry : Entry) (rest : List Entry)
+    → effect_at first (history ++ entry ∷ rest) (length history) ≡ (verdict_behind first history entry).effect
 effect_behind first [] entry rest = refl
 effect_behind first (e ∷ history) entry rest = effect_behind (tree_after_entry first e) history entry rest
 
-makes_behind : (first : TreeState) (history : List Entry) (entry : Entry) (rest : List Entry) → makes_at first (history ++ entry ∷ rest) (length history) ≡ (verdict_behind first history entry).makes
+makes_behind : (first : TreeState) (history : List Entry) (entry : Entry) (rest : List Entry)
+    → makes_at first (history ++ entry ∷ rest) (length history) ≡ (verdict_behind first history entry).makes
 makes_behind first [] entry rest = refl
 makes_behind first (e ∷ history) entry rest = makes_behind (tree_after_entry first e) history entry rest
 
-module _ (first : TreeState) (history rest : List Entry) (is : IsSoundTree first) (legal : IsLegal first (history ++ rest)) (node stamp : ℕ) (low : stamp ≤ length history) where
+module _ (first : TreeState) (history rest : List Entry) (is : IsSoundTree first) (legal : IsLegal first (history ++ rest)) (node stamp : ℕ)
+    (low : stamp ≤ length history) where
   -- what a change of the begin finds
   found_same : (s : ℕ) → s < stamp → bytes_at first (history ++ rest) node s ≡ bytes_at first history node s
   found_same s below = bytes_longer first history rest is legal node s s (omega (arith, below, low)) (omega (arith, below, low))
@@ -58,7 +62,9 @@ module _ (first : TreeState) (history rest : List Entry) (is : IsSoundTree first
   touched_still : (from block : ℕ) → IsTouchedBetween first history node from stamp block → IsTouchedBetween first (history ++ rest) node from stamp block
   touched_still from block t = record {
     change = t.change;
-    among = subst (λ those. IsOneOf those t.change) (sym (edits_joined first history rest)) (in_left (edits_of first history) (edits_of (tree_after first history) rest) t.change t.among);
+    among =
+        subst (λ those. IsOneOf those t.change) (sym (edits_joined first history rest))
+        (in_left (edits_of first history) (edits_of (tree_after first history) rest) t.change t.among);
     own = t.own;
     since = t.since;
     below = t.below;
@@ -68,10 +74,15 @@ module _ (first : TreeState) (history rest : List Entry) (is : IsSoundTree first
   touched_before : (from block : ℕ) → IsTouchedBetween first (history ++ rest) node from stamp block → IsTouchedBetween first history node from stamp block
   touched_before from block t = record {
     change = t.change;
-    among = elim (in_either (edits_of first history) (edits_of (tree_after first history) rest) t.change (subst (λ those. IsOneOf those t.change) (edits_joined first history rest) t.among)) [
-      | inl early ↦ early
-      | inr late ↦ absurd (let high = edits_from (tree_after first history) rest (0 + length history) t.change (legal_rest first 0 history rest legal) late in let below = t.below in omega (arith, high, below, low))
-    ];
+    among =
+        elim (in_either (edits_of first history) (edits_of (tree_after first history) rest) t.change
+        (subst (λ those. IsOneOf those t.change) (edits_joined first history rest) t.among)) [
+          | inl early ↦ early
+          | inr late ↦
+              absurd
+              (let high = edits_from (tree_after first history) rest (0 + length history) t.change (legal_rest first 0 history rest legal) late in
+              let below = t.below in omega (arith, high, below, low))
+        ];
     own = t.own;
     since = t.since;
     below = t.below;
@@ -81,15 +92,20 @@ module _ (first : TreeState) (history rest : List Entry) (is : IsSoundTree first
   file_longer : (file : File) → IsFileAt first history node stamp file → IsFileAt first (history ++ rest) node stamp file
   file_longer file at = record {
     bytes = at.bytes ∙ sym (bytes_longer first history rest is legal node stamp stamp low low);
-    marks = λ from block. ((λ marked. touched_still from block ((at.marks from block).0 marked)), (λ touched. (at.marks from block).1 (touched_before from block touched)));
+    marks =
+        λ from block.
+        ((λ marked. touched_still from block ((at.marks from block).0 marked)), (λ touched. (at.marks from block).1 (touched_before from block touched)));
   }
 
 pub longer_histories_keep_files : LongerHistoriesKeepFiles
-longer_histories_keep_files first history rest node stamp file mounted low at = file_longer first history rest mounted.sound mounted.legal node stamp low file at
+longer_histories_keep_files first history rest node stamp file mounted low at =
+    file_longer first history rest mounted.sound mounted.legal node stamp low file at
 
-module _ (first : TreeState) (history : List Entry) (is : IsSoundTree first) (legal : IsLegal first history) (node k : ℕ) (file : File) (at : IsFileAt first history node k file) where
+module _ (first : TreeState) (history : List Entry) (is : IsSoundTree first) (legal : IsLegal first history) (node k : ℕ) (file : File)
+    (at : IsFileAt first history node k file) where
   -- a block that is touched up to the next stamp was touched before, or by what happens at this one
-  touched_earlier : (from block : ℕ) (t : IsTouchedBetween first history node from (suc k) block) → (t.change.stamp ≡ k → ⊥) → IsTouchedBetween first history node from k block
+  touched_earlier : (from block : ℕ) (t : IsTouchedBetween first history node from (suc k) block) → (t.change.stamp ≡ k → ⊥)
+      → IsTouchedBetween first history node from k block
   touched_earlier from block t other = record {
     change = t.change;
     among = t.among;
@@ -100,7 +116,8 @@ module _ (first : TreeState) (history : List Entry) (is : IsSoundTree first) (le
   }
 
   -- what happens at the stamp where a change of the file stands
-  happens : (from block : ℕ) (t : IsTouchedBetween first history node from (suc k) block) → t.change.stamp ≡ k → effect_at first history k ≡ Edits node t.change.edit
+  happens : (from block : ℕ) (t : IsTouchedBetween first history node from (suc k) block) → t.change.stamp ≡ k
+      → effect_at first history k ≡ Edits node t.change.edit
   happens from block t same = ap (effect_at first history) (sym same) ∙ edit_at first history t.change legal t.among ∙ ap (λ f. Edits f t.change.edit) t.own
 
   module _ (other : (edit : Edit) → effect_at first history k ≢ Edits node edit) where
@@ -116,14 +133,18 @@ module _ (first : TreeState) (history : List Entry) (is : IsSoundTree first) (le
 
     pub file_stays : IsFileAt first history node (suc k) file
     file_stays = record {
-      bytes = sym (next_bytes first history is legal node k ∙ ap (bytes_after (effect_at first history k) node) (sym at.bytes) ∙ bytes_stay (effect_at first history k) refl);
+      bytes =
+          sym
+          (next_bytes first history is legal node k ∙ ap (bytes_after (effect_at first history k) node) (sym at.bytes)
+          ∙ bytes_stay (effect_at first history k) refl);
       marks = λ from block. (
         (λ marked. longer first history is legal node from block k ((at.marks from block).0 marked)),
         (λ touched. (at.marks from block).1 (touched_earlier from block touched (λ same. other touched.change.edit (happens from block touched same)))),
       );
     }
 
-  module _ (edit : Edit) (stamp : Stamp) (after : File) (does : effect_at first history k ≡ Edits node edit) (stamped : stamp.0 ≡ k) (marked : IsMarkedEdit edit stamp file after) where
+  module _ (edit : Edit) (stamp : Stamp) (after : File) (does : effect_at first history k ≡ Edits node edit) (stamped : stamp.0 ≡ k)
+      (marked : IsMarkedEdit edit stamp file after) where
     bytes_edited : after.bytes ≡ bytes_at first history node (suc k)
     bytes_edited =
         marked.bytes ∙ ap (edited edit) at.bytes
@@ -132,19 +153,26 @@ module _ (first : TreeState) (history : List Entry) (is : IsSoundTree first) (le
         ∙ sym (next_bytes first history is legal node k)
 
     -- the test of a mark, by what the edit touches
-    test_is : (from block : ℕ) (b : Bool) → is_touched (touched_by edit (length file.bytes)) block ≡ b → is_marked_from from after block ≡ cond b (nat_le from k) (is_marked_from from file block)
+    test_is : (from block : ℕ) (b : Bool) → is_touched (touched_by edit (length file.bytes)) block ≡ b
+        → is_marked_from from after block ≡ cond b (nat_le from k) (is_marked_from from file block)
     test_is from block b e =
-        ap (λ (o : Option Stamp). option_map_or (λ (mark : Stamp). nat_le from mark.0) o false) (marked.marks block ∙ ap (λ c. cond c (Some stamp) (mark_of file block)) e)
+        ap (λ (o : Option Stamp). option_map_or (λ (mark : Stamp). nat_le from mark.0) o false)
+        (marked.marks block ∙ ap (λ c. cond c (Some stamp) (mark_of file block)) e)
         ∙ by b
       where
-        by : (c : Bool) → option_map_or (λ (mark : Stamp). nat_le from mark.0) (cond c (Some stamp) (mark_of file block)) false ≡ cond c (nat_le from k) (is_marked_from from file block)
+        by : (c : Bool)
+            → option_map_or (λ (mark : Stamp). nat_le from mark.0) (cond c (Some stamp) (mark_of file block)) false
+            ≡ cond c (nat_le from k) (is_marked_from from file block)
         by true = ap (nat_le from) stamped
         by false = refl
 
-    touched_now : (from block : ℕ) → is_touched (touched_by edit (length file.bytes)) block ≡ true → nat_le from k ≡ true → IsTouchedBetween first history node from (suc k) block
+    touched_now : (from block : ℕ) → is_touched (touched_by edit (length file.bytes)) block ≡ true → nat_le from k ≡ true
+        → IsTouchedBetween first history node from (suc k) block
     touched_now from block touches low = record {
       change = record { stamp = k; file = node; edit = edit };
-      among = edit_in first history k (record { stamp = k; file = node; edit = edit }) legal (subst (λ o. IsOneOf (edits_by k o) (record { stamp = k; file = node; edit = edit })) (sym does) (inl refl));
+      among =
+          edit_in first history k (record { stamp = k; file = node; edit = edit }) legal
+          (subst (λ o. IsOneOf (edits_by k o) (record { stamp = k; file = node; edit = edit })) (sym does) (inl refl));
       own = refl;
       since = grind (arith, nat_tests);
       below = omega arith;
@@ -152,7 +180,8 @@ module _ (first : TreeState) (history : List Entry) (is : IsSoundTree first) (le
     }
 
     -- a change at this stamp is this one
-    same_edit : (from block : ℕ) (t : IsTouchedBetween first history node from (suc k) block) → t.change.stamp ≡ k → is_touched (touched_by edit (length file.bytes)) block ≡ true
+    same_edit : (from block : ℕ) (t : IsTouchedBetween first history node from (suc k) block) → t.change.stamp ≡ k
+        → is_touched (touched_by edit (length file.bytes)) block ≡ true
     same_edit from block t same =
         let is_edit : t.change.edit ≡ edit = the_edit t.change.edit (sym (happens from block t same) ∙ does) in
         ap (λ e. is_touched (touched_by e (length file.bytes)) block) (sym is_edit)
@@ -162,7 +191,8 @@ module _ (first : TreeState) (history : List Entry) (is : IsSoundTree first) (le
         the_edit : (e : Edit) → Edits node e ≡ Edits node edit → e ≡ edit
         the_edit e q = cc
 
-    marks_edited : (from block : ℕ) (b : Bool) → is_touched (touched_by edit (length file.bytes)) block ≡ b → (is_marked_from from after block ≡ true) ↔ IsTouchedBetween first history node from (suc k) block
+    marks_edited : (from block : ℕ) (b : Bool) → is_touched (touched_by edit (length file.bytes)) block ≡ b
+        → (is_marked_from from after block ≡ true) ↔ IsTouchedBetween first history node from (suc k) block
     marks_edited from block true touches = (
       (λ test. touched_now from block touches (sym (test_is from block true touches) ∙ test)),
       (λ t. test_is from block true touches ∙ (let since = t.since in let below = t.below in grind (arith, nat_tests))),
@@ -186,18 +216,21 @@ module _ (first : TreeState) (history : List Entry) (is : IsSoundTree first) (le
     | inl past ↦ subst (λ t. IsSome (get (tree_at first history t).nodes node)) (let e : s ≡ suc k = omega (arith, le, past) in e) some
     | inr low ↦
         subst (λ (t : TreeState). IsSome (get t.nodes node)) (sym (next_at first history k))
-        (node_stays (tree_at first history k) (core_at first history k) (effect_at first history k) (makes_at first history k) node (fits_at first history 0 k is legal) (there_later s k low some))
+        (node_stays (tree_at first history k) (core_at first history k) (effect_at first history k) (makes_at first history k) node
+        (fits_at first history 0 k is legal) (there_later s k low some))
   ]
 
   -- a node whose bytes change is there
-  edited_there : (tree : TreeState) (core : ℕ) (effect : Effect) (makes : Option Kind) (edit : Edit) → Fits tree core effect makes → effect ≡ Edits node edit → IsSome (get tree.nodes node)
+  edited_there : (tree : TreeState) (core : ℕ) (effect : Effect) (makes : Option Kind) (edit : Edit) → Fits tree core effect makes → effect ≡ Edits node edit
+      → IsSome (get tree.nodes node)
   edited_there tree core effect makes edit fits e = by makes (subst (λ o. Fits tree core o makes) e fits)
     where
       by : (m : Option Kind) → Fits tree core (Edits node edit) m → IsSome (get tree.nodes node)
       by None f = f.node
       by (Some kind) f = absurd f
 
-  module _ (k directory : ℕ) (name : List ℕ) (kind : Kind) (adds : effect_at first history k ≡ Adds directory name node) (makes : makes_at first history k ≡ Some kind) where
+  module _ (k directory : ℕ) (name : List ℕ) (kind : Kind) (adds : effect_at first history k ≡ Adds directory name node)
+      (makes : makes_at first history k ≡ Some kind) where
     -- the node was not there before
     fresh : get (tree_at first history k).nodes node ≡ None
     fresh =
@@ -209,8 +242,11 @@ module _ (first : TreeState) (history : List Entry) (is : IsSoundTree first) (le
 
     never_touched : (from block : ℕ) → IsTouchedBetween first history node from k block → ⊥
     never_touched from block t =
-        let does : effect_at first history t.change.stamp ≡ Edits node t.change.edit = edit_at first history t.change legal t.among ∙ ap (λ f. Edits f t.change.edit) t.own in
-        let there = edited_there (tree_at first history t.change.stamp) (core_at first history t.change.stamp) (effect_at first history t.change.stamp) (makes_at first history t.change.stamp) t.change.edit (fits_at first history 0 t.change.stamp is legal) does in
+        let does : effect_at first history t.change.stamp ≡ Edits node t.change.edit =
+        edit_at first history t.change legal t.among ∙ ap (λ f. Edits f t.change.edit) t.own in
+        let there =
+        edited_there (tree_at first history t.change.stamp) (core_at first history t.change.stamp) (effect_at first history t.change.stamp)
+        (makes_at first history t.change.stamp) t.change.edit (fits_at first history 0 t.change.stamp is legal) does in
         none_not_some _ fresh (there_later t.change.stamp k (let below = t.below in omega (arith, below)) there)
 
     made_file : (file : File) → file.bytes ≡ [] → IsUnmarked file → IsFileAt first history node (suc k) file
@@ -230,11 +266,14 @@ new_files_begin first history entry rest directory name node kind file mounted a
 pub others_keep_files : OthersKeepFiles
 others_keep_files first history entry node file mounted other at =
     file_stays first (history ++ entry ∷ []) mounted.sound mounted.legal node (length history) file
-    (file_longer first history (entry ∷ []) mounted.sound mounted.legal node (length history) (let le : length history ≤ length history = omega arith in le) file at)
+    (file_longer first history (entry ∷ []) mounted.sound mounted.legal node (length history)
+    (let le : length history ≤ length history = omega arith in le) file at)
     (λ edit does. other edit (sym (effect_behind first history entry []) ∙ does))
 
 pub edits_keep_files : EditsKeepFiles
 edits_keep_files first history entry node edit file after mounted does at marked =
     file_edited first (history ++ entry ∷ []) mounted.sound mounted.legal node (length history) file
-    (file_longer first history (entry ∷ []) mounted.sound mounted.legal node (length history) (let le : length history ≤ length history = omega arith in le) file at)
-    edit entry.stamp after (effect_behind first history entry [] ∙ does) ((legal_rest first 0 history (entry ∷ []) mounted.legal).0.stamped ∙ zero_plus (length history)) marked
+    (file_longer first history (entry ∷ []) mounted.sound mounted.legal node (length history)
+    (let le : length history ≤ length history = omega arith in le) file at)
+    edit entry.stamp after (effect_behind first history entry [] ∙ does)
+    ((legal_rest first 0 history (entry ∷ []) mounted.legal).0.stamped ∙ zero_plus (length history)) marked

@@ -43,7 +43,9 @@ module _ (from : ℕ) (file : File) where
       let long = length-map blocks (page_of file.bytes) in
       let first = get_or-map (page_of file.bytes) blocks i 0 d (omega (arith, lt, within, long)) in
       let later = get_or-map (page_of file.bytes) blocks j 0 d (omega (arith, within, long)) in
-      let below = AllPairs-filter (λ (a b : ℕ). a < b) (is_marked_from from file) (range_with_len 0 (room file)) (blocks_ascend (room file)) i j 0 lt (omega (arith, within, long)) in
+      let below =
+      AllPairs-filter (λ (a b : ℕ). a < b) (is_marked_from from file) (range_with_len 0 (room file)) (blocks_ascend (room file)) i j 0 lt
+      (omega (arith, within, long)) in
       let first_block : page_block (get_or (pages_from from file) i d) ≡ get_or blocks i 0 = ap page_block first in
       let later_block : page_block (get_or (pages_from from file) j d) ≡ get_or blocks j 0 = ap page_block later in
       omega (arith, below, first_block, later_block)
@@ -57,12 +59,18 @@ module _ (from : ℕ) (file : File) where
   -- a marked block has a page
   marked_has_page : (n : ℕ) → is_marked_from from file n ≡ true → is_some (item_with page_block n (pages_from from file)) ≡ true
   marked_has_page n marked =
-      ap is_some (own_item page_block (pages_from from file) pages_ascend (page_of file.bytes n) (in_mapped (page_of file.bytes) blocks n (in_kept (is_marked_from from file) (range_with_len 0 (room file)) n (in_range (room file) n inside) marked)))
+      ap is_some
+      (own_item page_block (pages_from from file) pages_ascend (page_of file.bytes n)
+      (in_mapped (page_of file.bytes) blocks n
+      (in_kept (is_marked_from from file) (range_with_len 0 (room file)) n (in_range (room file) n inside) marked)))
     where
       inside : n < room file
       inside = elim (cases_lt n (room file)) [
         | inl low ↦ low
-        | inr past ↦ absurd (true_not_false (sym marked ∙ ap (λ (o : Option Stamp). option_map_or (λ (mark : Stamp). nat_le from mark.0) o false) (get_or_past file.marks n None past)))
+        | inr past ↦
+            absurd
+            (true_not_false
+            (sym marked ∙ ap (λ (o : Option Stamp). option_map_or (λ (mark : Stamp). nat_le from mark.0) o false) (get_or_past file.marks n None past)))
       ]
 
   no_page_unmarked : (n : ℕ) → is_some (item_with page_block n (pages_from from file)) ≡ false → is_marked_from from file n ≡ true → ⊥

@@ -60,13 +60,15 @@ use Rattle.flush_commits.proofs.FileBlocks.{file_has_blocks}
 use Rattle.flush_commits.proofs.Numbers.{none_for, numbers_then}
 
 -- a directory that is among no nets has none
-pub no_net : (nets : List DirectoryNet) (directory : ℕ) → list_any (λ member. nat_eq member directory) (map net_node nets) ≡ false → net_of_node nets directory ≡ []
+pub no_net : (nets : List DirectoryNet) (directory : ℕ) → list_any (λ member. nat_eq member directory) (map net_node nets) ≡ false
+    → net_of_node nets directory ≡ []
 no_net nets directory none = ap (λ (o : Option DirectoryNet). option_map_or (λ one. one.net.items) o []) (not_found nets none)
   where
     not_found : (nets : List DirectoryNet) → list_any (λ member. nat_eq member directory) (map net_node nets) ≡ false → item_with net_node directory nets ≡ None
     not_found [] e = refl
     not_found (one ∷ nets) e =
-        ap (λ b. cond b (Some one) (item_with net_node directory nets)) (or_first (nat_eq one.node.0 directory) _ e) ∙ not_found nets (or_second (nat_eq one.node.0 directory) _ e)
+        ap (λ b. cond b (Some one) (item_with net_node directory nets)) (or_first (nat_eq one.node.0 directory) _ e)
+        ∙ not_found nets (or_second (nat_eq one.node.0 directory) _ e)
 
 module _ (layout : Layout) (store : ℕ → List ℕ) (parts : ℕ → Part) (sound : AreSoundParts layout store parts) where
   -- sound parts point to the data area
@@ -75,7 +77,8 @@ module _ (layout : Layout) (store : ℕ → List ℕ) (parts : ℕ → Part) (so
       let good = good_part layout parts sound.good i low in
       let gathered = sound.gathered i low in
       subst (λ p. PointsToData layout p) gathered
-      (points_to_data layout store (parts i).raw (sound.records i low) (ap breaks_record gathered ∙ good.record_good) (ap (breaks_pointers layout) gathered ∙ good.pointers))
+      (points_to_data layout store (parts i).raw (sound.records i low) (ap breaks_record gathered ∙ good.record_good)
+      (ap (breaks_pointers layout) gathered ∙ good.pointers))
 
   pub standing : StandInStore store parts (inodes_shown layout parts)
   standing = record {
@@ -83,15 +86,18 @@ module _ (layout : Layout) (store : ℕ → List ℕ) (parts : ℕ → Part) (so
     shown = λ i low. refl;
     small = λ i place low within. elim (cases_Bool (nat_eq (pointer_at (parts i) place) 0)) [
       | inl none ↦ let zero_is = eqb-true (pointer_at (parts i) place) 0 none in omega arith
-      | inr some ↦ let points = sound_points i low place (eqb-false (pointer_at (parts i) place) 0 some) in let below = points.1 in let few = sound.ranges.blocks in omega (arith, below, few)
+      | inr some ↦ let points = sound_points i low place (eqb-false (pointer_at (parts i) place) 0 some) in let below = points.1 in
+          let few = sound.ranges.blocks in omega (arith, below, few)
     ];
   }
 
   pub good_parts : AreGoodParts layout (inodes_shown layout parts) parts
   good_parts = record { count = refl; good = sound.good }
 
-module _ (first : TreeState) (history : List Entry) (flushes : List Flush) (cut : Cut) (inodes : ℕ → Bool) (flush : Flush) (raised : Cut) (after : ℕ → Bool) (num : Numbering) (layout : Layout) (store : ℕ → List ℕ) (parts : ℕ → Part)
-    (nodes : List ℕ) (entries : List OldEntry) (plan : CommitPlan) (grant : GrantedNumbers) (is : IsPlannedFsync first history flushes cut inodes flush raised after num layout store parts nodes entries plan grant) where
+module _ (first : TreeState) (history : List Entry) (flushes : List Flush) (cut : Cut) (inodes : ℕ → Bool) (flush : Flush) (raised : Cut) (after : ℕ → Bool)
+    (num : Numbering) (layout : Layout) (store : ℕ → List ℕ) (parts : ℕ → Part)
+    (nodes : List ℕ) (entries : List OldEntry) (plan : CommitPlan) (grant : GrantedNumbers)
+    (is : IsPlannedFsync first history flushes cut inodes flush raised after num layout store parts nodes entries plan grant) where
   abbrev old : TreeState
   old = tree_at_cut first history cut
 
@@ -122,7 +128,9 @@ module _ (first : TreeState) (history : List Entry) (flushes : List Flush) (cut 
   stored_old = cut_trees_are_storable first history flushes cut inodes num is.ready.history_is is.ready.flushed is.ready.numbers
 
   pub stored_new : IsStorableAtCut next_num first history raised
-  stored_new = cut_trees_are_storable first history (flushes ++ flush ∷ []) raised after next_num is.ready.history_is (one_more flushes flush cut raised inodes after is.ready.flushed is.raises is.inodes_after) numbers_next
+  stored_new =
+      cut_trees_are_storable first history (flushes ++ flush ∷ []) raised after next_num is.ready.history_is
+      (one_more flushes flush cut raised inodes after is.ready.flushed is.raises is.inodes_after) numbers_next
 
   follows : MayFollow next_num old new
   follows = raised_trees_follow first history flushes cut inodes flush raised after next_num more numbers_next
@@ -132,7 +140,8 @@ module _ (first : TreeState) (history : List Entry) (flushes : List Flush) (cut 
   shown entry there =
       let kept = is.keeps.each entry (is.plans.old.own entry there).0 in
       let low = is.ready.stands.within entry.node.0 entry.old.number kept.0 in
-      subst (λ k. KeepsSeen k (seen_of (parts entry.old.number))) (sym kept.1) (kept_parts_show store (parts entry.old.number) (is.ready.sound.gathered entry.old.number low))
+      subst (λ k. KeepsSeen k (seen_of (parts entry.old.number))) (sym kept.1)
+      (kept_parts_show store (parts entry.old.number) (is.ready.sound.gathered entry.old.number low))
 
   pub whole : IsCommitPlan num nodes old new image plan grant
   whole = record {
@@ -142,22 +151,34 @@ module _ (first : TreeState) (history : List Entry) (flushes : List Flush) (cut 
         old_ascend = is.plans.old.ascend;
         enter_ascend = is.plans.moves.ascend;
         old_numbers = λ entry there. (is.keeps.each entry (is.plans.old.own entry there).0).0;
-        enter_none = λ one there. none_for num image new inodes after plan grant is.ready.numbers is.plans.moves is.grants.serves.inodes root_after one.node.0 (is.plans.moves.entering one there).0;
+        enter_none =
+            λ one there. none_for num image new inodes after plan grant is.ready.numbers is.plans.moves is.grants.serves.inodes root_after one.node.0
+            (is.plans.moves.entering one there).0;
       };
       complete = λ node i among has.
           let entry = is.keeps.all node i has in
           (entry.0, is.plans.old.all entry.0 entry.1 (subst (λ x. is_among nodes x ≡ true) (sym entry.2) among), entry.2);
       own = λ entry there. (is.plans.old.own entry there).1;
       shown = shown;
-      entering = λ one there. let enters = is.plans.moves.entering one there in (is.plans.concerns one.node.0).1 ((is.inodes_after.enters one.node.0 enters.0).0 enters.1).0;
-      leaving = λ node leaves. let goes = (is.plans.moves.leaving node).0 leaves in (is.plans.concerns node).1 ((is.inodes_after.leaves node goes.0).0 goes.1).0;
+      entering = λ one there. let enters = is.plans.moves.entering one there in
+          (is.plans.concerns one.node.0).1 ((is.inodes_after.enters one.node.0 enters.0).0 enters.1).0;
+      leaving = λ node leaves. let goes = (is.plans.moves.leaving node).0 leaves in
+          (is.plans.concerns node).1 ((is.inodes_after.leaves node goes.0).0 goes.1).0;
     };
     to = record {
-      between = record { kinds = follows.kinds; each = is.plans.nets.each; others = λ directory none. no_net plan.nets directory none; ascending = is.plans.nets.sorted };
+      between =
+          record {
+            kinds = follows.kinds;
+            each = is.plans.nets.each;
+            others = λ directory none. no_net plan.nets directory none;
+            ascending = is.plans.nets.sorted;
+          };
       ascend = is.plans.nets.ascend;
       holders = is.plans.nets.holders;
       kinds = λ one there. (is.plans.moves.entering one there).2;
-      others = λ node none. others_are_aside first history flushes cut inodes flush raised after node more (λ concerned. true_not_false (sym ((is.plans.concerns node).1 concerned) ∙ none));
+      others =
+          λ node none. others_are_aside first history flushes cut inodes flush raised after node more
+          (λ concerned. true_not_false (sym ((is.plans.concerns node).1 concerned) ∙ none));
     };
     serves = is.grants.serves;
     follows = follows;
@@ -186,8 +207,10 @@ module _ (first : TreeState) (history : List Entry) (flushes : List Flush) (cut 
       by false e =
           let enters = is.plans.moves.entering one there in
           let file : is_directory (tree_after first history) one.node.0 ≡ false =
-          directory_by_kind (tree_after first history) one.node.0 ∙ ap is_directory_kind (sym ((cuts_keep_kinds first history cut).kinds one.node.0)) ∙ sym (directory_by_kind old one.node.0) ∙ e in
-          (files_enter_blank first history flushes cut raised inodes after flush one.node.0 is.ready.history_is.sound is.ready.history_is.legal is.ready.flushed is.raises is.inodes_after file enters.0 enters.1).bytes
+          directory_by_kind (tree_after first history) one.node.0 ∙ ap is_directory_kind (sym ((cuts_keep_kinds first history cut).kinds one.node.0))
+          ∙ sym (directory_by_kind old one.node.0) ∙ e in
+          (files_enter_blank first history flushes cut raised inodes after flush one.node.0 is.ready.history_is.sound is.ready.history_is.legal is.ready.flushed
+          is.raises is.inodes_after file enters.0 enters.1).bytes
 
   full : IsFullPlan num nodes old new image plan grant
   full = record {
@@ -228,13 +251,15 @@ module _ (first : TreeState) (history : List Entry) (flushes : List Flush) (cut 
       files = record {
         before = λ node i among has file.
             let shows = is.ready.stands.each node i has in
-            file_has_blocks layout store parts is.ready.sound i (is.ready.stands.within node i has) (bytes_of old node) (shows.kind ∙ ap kind_byte file) (size_of node i has file) shows.bytes;
+            file_has_blocks layout store parts is.ready.sound i (is.ready.stands.within node i has) (bytes_of old node) (shows.kind ∙ ap kind_byte file)
+            (size_of node i has file) shows.bytes;
         pages = is.plans.files.pages;
         untouched = is.plans.files.untouched;
         short = is.plans.files.short;
       };
       directories = record {
-        behind = good_parts_have_none_behind store layout image parts (standing layout store parts is.ready.sound) (good_parts layout store parts is.ready.sound);
+        behind =
+            good_parts_have_none_behind store layout image parts (standing layout store parts is.ready.sound) (good_parts layout store parts is.ready.sound);
         pages = is.plans.files.pages;
         slots = is.grants.slots;
       };
@@ -247,4 +272,5 @@ module _ (first : TreeState) (history : List Entry) (flushes : List Flush) (cut 
       size_of : (node i : ℕ) → num node ≡ Some i → kind_of old node ≡ File → (inode_in (parts i)).size ≡ length (bytes_of old node)
       size_of node i has file =
           let shows = is.ready.stands.each node i has in
-          shows.size ∙ ap (λ k. cond (nat_eq k 2) (4096 * (length (image.seen i).slots / 15)) (length (image.seen i).bytes)) (shows.kind ∙ ap kind_byte file) ∙ ap length shows.bytes
+          shows.size ∙ ap (λ k. cond (nat_eq k 2) (4096 * (length (image.seen i).slots / 15)) (length (image.seen i).bytes)) (shows.kind ∙ ap kind_byte file)
+          ∙ ap length shows.bytes

@@ -32,7 +32,9 @@ module _ {X : Type 0} (f : X → ℕ) where
     where
       parts : (a n : ℕ) → cond (nat_lt a (suc n)) 1 0 ≡ cond (nat_lt a n) 1 0 + cond (nat_eq a n) 1 0
       parts a n = elim (cases_lt a n) [
-        | inl low ↦ (λ i. cond (lt-ltb a (suc n) (omega (arith, low)) i) 1 0) ∙ sym (λ i. cond (lt-ltb a n low i) 1 0 + cond (not_same a n (λ e. omega (arith, low, e)) i) 1 0)
+        | inl low ↦
+            (λ i. cond (lt-ltb a (suc n) (omega (arith, low)) i) 1 0)
+            ∙ sym (λ i. cond (lt-ltb a n low i) 1 0 + cond (not_same a n (λ e. omega (arith, low, e)) i) 1 0)
         | inr high ↦ by_eq (cases_Bool (nat_eq a n)) high
       ]
         where
@@ -61,7 +63,8 @@ module _ {X : Type 0} (f : X → ℕ) where
       let all = next_counted n xs in
       omega (arith, rest, own, all)
 
-module _ (num : Numbering) (tree : TreeState) (count : ℕ) (limits : IsWithinLimits tree) (once : (node twin i : ℕ) → num node ≡ Some i → num twin ≡ Some i → node ≡ twin)
+module _ (num : Numbering) (tree : TreeState) (count : ℕ) (limits : IsWithinLimits tree)
+    (once : (node twin i : ℕ) → num node ≡ Some i → num twin ≡ Some i → node ≡ twin)
     (holders : (directory : ℕ) (name : List ℕ) (child : ℕ) → row_of tree directory name ≡ Some child → (i : ℕ) × (num directory ≡ Some i) × (i < count)) where
   abbrev number : Key × ℕ → ℕ
   number e = option_map_or (λ i. i) (num e.0.0) 0
@@ -79,12 +82,14 @@ module _ (num : Numbering) (tree : TreeState) (count : ℕ) (limits : IsWithinLi
       own one =
           let has = holders one.row.0.0 one.row.0.1 one.row.1 one.there in
           let is : has.0 ≡ m = ap (λ (o : Option ℕ). option_map_or (λ i. i) o 0) (sym has.1) ∙ eqb-true (number one.row) m one.passes in
-          let same = count_agree (λ e. nat_eq (number e) m) (stands_in one.row.0.0) tree.rows (λ key child there. alike key child there one.row.0.0 has.0 has.1 is) in
+          let same =
+          count_agree (λ e. nat_eq (number e) m) (stands_in one.row.0.0) tree.rows (λ key child there. alike key child there one.row.0.0 has.0 has.1 is) in
           let rows = rows-le one.row.0.0 tree.rows (λ bucket low. limits.buckets one.row.0.0 bucket) in
           let all = len-names_of one.row.0.0 tree.rows in
           omega (arith, same, rows, all)
         where
-          alike : (key : Key) (child : ℕ) → get tree.rows key ≡ Some child → (directory i : ℕ) → num directory ≡ Some i → i ≡ m → nat_eq (number (key, child)) m ≡ nat_eq key.0 directory
+          alike : (key : Key) (child : ℕ) → get tree.rows key ≡ Some child → (directory i : ℕ) → num directory ≡ Some i → i ≡ m
+              → nat_eq (number (key, child)) m ≡ nat_eq key.0 directory
           alike key child there directory i at is = by (cases_Bool (nat_eq key.0 directory))
             where
               mine : (j : ℕ) × (num key.0 ≡ Some j) × (j < count)
@@ -92,7 +97,9 @@ module _ (num : Numbering) (tree : TreeState) (count : ℕ) (limits : IsWithinLi
 
               by : (nat_eq key.0 directory ≡ true) ⊎ (nat_eq key.0 directory ≡ false) → nat_eq (number (key, child)) m ≡ nat_eq key.0 directory
               by (inl same) =
-                  eq-eqb (number (key, child)) m (ap (λ d. option_map_or (λ i. i) (num d) 0) (eqb-true key.0 directory same) ∙ ap (λ (o : Option ℕ). option_map_or (λ i. i) o 0) at ∙ is) ∙ sym same
+                  eq-eqb (number (key, child)) m
+                  (ap (λ d. option_map_or (λ i. i) (num d) 0) (eqb-true key.0 directory same) ∙ ap (λ (o : Option ℕ). option_map_or (λ i. i) o 0) at ∙ is)
+                  ∙ sym same
               by (inr other) = by_test (nat_eq (number (key, child)) m) refl ∙ sym other
                 where
                   by_test : (b : Bool) → nat_eq (number (key, child)) m ≡ b → b ≡ false

@@ -39,7 +39,8 @@ module _ (layout : Layout) (store : ℕ → List ℕ) (parts : ℕ → Part) (so
   used = ap (λ k. nat_eq k 0) kind
 
   block_is : (n : ℕ) → n < FILE_BLOCKS → slice_index_or part.blocks n [] ≡ read_block store (pointer_at part n)
-  block_is n within = sym (cond-true (nat_lt n FILE_BLOCKS) _ _ (lt-ltb n FILE_BLOCKS within)) ∙ gathered_is_read store part n (sound.gathered i low) (omega arith)
+  block_is n within =
+      sym (cond-true (nat_lt n FILE_BLOCKS) _ _ (lt-ltb n FILE_BLOCKS within)) ∙ gathered_is_read store part n (sound.gathered i low) (omega arith)
 
   -- each block is whole
   long : (n : ℕ) → n < FILE_BLOCKS → length (slice_index_or part.blocks n []) ≡ 4096
@@ -58,14 +59,17 @@ module _ (layout : Layout) (store : ℕ → List ℕ) (parts : ℕ → Part) (so
       ∙ ap (λ those. get_or those place 0) (sym (cond-true (is_file_part part) _ [] is_file) ∙ shown)
 
   inside_block : (n : ℕ) → n < FILE_BLOCKS → 4096 * n < length bytes → slice_index_or part.blocks n [] ≡ bytes_in_block n bytes
-  inside_block n within begins = ext_get_or 0 (slice_index_or part.blocks n []) (bytes_in_block n bytes) (long n within ∙ sym (length_block n bytes)) (λ r inside.
+  inside_block n within begins =
+      ext_get_or 0 (slice_index_or part.blocks n []) (bytes_in_block n bytes) (long n within ∙ sym (length_block n bytes)) (λ r inside.
       let low_r : r < 4096 = subst (λ l. r < l) (long n within) inside in
       let block : (4096 * n + r) / 4096 ≡ n = omega arith in
       let rest : (4096 * n + r) % 4096 ≡ r = omega arith in
       sym (ap (λ m. slice_index (slice_index_or part.blocks m []) ((4096 * n + r) % 4096)) block ∙ ap (slice_index (slice_index_or part.blocks n [])) rest)
       ∙ elim (cases_lt (4096 * n + r) (length bytes)) [
         | inl there ↦ byte_is (4096 * n + r) there
-        | inr past ↦ (tails_say part).0 good.tail is_file (4096 * n + r) (omega (arith, past, size)) (omega (arith, begins, size)) ∙ sym (get_or_past bytes (4096 * n + r) 0 past)
+        | inr past ↦
+            (tails_say part).0 good.tail is_file (4096 * n + r) (omega (arith, past, size)) (omega (arith, begins, size))
+            ∙ sym (get_or_past bytes (4096 * n + r) 0 past)
       ] ∙ sym (byte_in_block n r bytes low_r))
 
   outside_block : (n : ℕ) → n < FILE_BLOCKS → length bytes ≤ 4096 * n → slice_index_or part.blocks n [] ≡ bytes_in_block n bytes

@@ -57,8 +57,10 @@ fsyncs_are_commits first history flushes cut inodes flush raised after num layou
   clean = clean_plan first history flushes cut inodes flush raised after num layout store parts nodes entries plan grant is;
 }
 
-module _ (first : TreeState) (history : List Entry) (flushes : List Flush) (cut : Cut) (inodes : ℕ → Bool) (flush : Flush) (raised : Cut) (after : ℕ → Bool) (num : Numbering) (layout : Layout) (store : ℕ → List ℕ) (parts : ℕ → Part)
-    (nodes : List ℕ) (entries : List OldEntry) (plan : CommitPlan) (grant : GrantedNumbers) (is : IsPlannedFsync first history flushes cut inodes flush raised after num layout store parts nodes entries plan grant) where
+module _ (first : TreeState) (history : List Entry) (flushes : List Flush) (cut : Cut) (inodes : ℕ → Bool) (flush : Flush) (raised : Cut) (after : ℕ → Bool)
+    (num : Numbering) (layout : Layout) (store : ℕ → List ℕ) (parts : ℕ → Part)
+    (nodes : List ℕ) (entries : List OldEntry) (plan : CommitPlan) (grant : GrantedNumbers)
+    (is : IsPlannedFsync first history flushes cut inodes flush raised after num layout store parts nodes entries plan grant) where
   abbrev old : TreeState
   old = tree_at_cut first history cut
 
@@ -86,11 +88,14 @@ module _ (first : TreeState) (history : List Entry) (flushes : List Flush) (cut 
   -- each record has its bytes
   long_records : (i : ℕ) → i < layout.inodes → length (next i).raw ≡ 512
   long_records = by_part num nodes old new image plan grant store parts over (λ _ part. length part.raw ≡ 512)
-      (λ one there. ap length (raw_of (store_planned store plan grant) (inode_bytes one.meta)) ∙ length-inode_bytes one.meta (meta_fits num nodes old new image plan grant store parts over one there (node_built num nodes old new image plan grant over.full one there)))
+      (λ one there. ap length (raw_of (store_planned store plan grant) (inode_bytes one.meta))
+      ∙ length-inode_bytes one.meta
+      (meta_fits num nodes old new image plan grant store parts over one there (node_built num nodes old new image plan grant over.full one there)))
       (λ i. ap length (raw_of store (inode_bytes free_inode)) ∙ length-inode_bytes free_inode free_fits)
       is.ready.sound.records
 
-  pub ready_after : (later : ℕ → List ℕ) → IsStoreAfter layout parts plan grant later → IsBetweenCommits first history (flushes ++ flush ∷ []) raised after next_num layout later next
+  pub ready_after : (later : ℕ → List ℕ) → IsStoreAfter layout parts plan grant later
+      → IsBetweenCommits first history (flushes ++ flush ∷ []) raised after next_num layout later next
   ready_after later there = record {
     history_is = is.ready.history_is;
     flushed = one_more flushes flush cut raised inodes after is.ready.flushed is.raises is.inodes_after;
@@ -139,10 +144,13 @@ module _ (first : TreeState) (history : List Entry) (flushes : List Flush) (cut 
           let number = eqb-true one.number i (found_passes (λ (one : Built). nat_eq one.number i) (nodes_with_grant change grant) one e) in
           let built : IsBuiltNode num nodes old new image plan grant over.full one = node_built num nodes old new image plan grant over.full one there in
           let stands_next = next_stands first history flushes cut inodes flush raised after num layout store parts nodes entries plan grant is in
-          absurd (other built.of.begun.node built.of.among (stands_next.once built.of.begun.node node i (built.of.number ∙ ap Some (sym built.inode ∙ number)) (kept_number node aside ∙ has)))
+          absurd
+          (other built.of.begun.node built.of.among
+          (stands_next.once built.of.begun.node node i (built.of.number ∙ ap Some (sym built.inode ∙ number)) (kept_number node aside ∙ has)))
 
   -- what is built of two nodes is one where the nodes are one
-  built_once : (one : Built) → Contains (nodes_with_grant change grant) one → (twin : Built) → Contains (nodes_with_grant change grant) twin → one.node ≡ twin.node → one ≡ twin
+  built_once : (one : Built) → Contains (nodes_with_grant change grant) one → (twin : Built) → Contains (nodes_with_grant change grant) twin
+      → one.node ≡ twin.node → one ≡ twin
   built_once one there twin also same =
       let first_built : IsBuiltNode num nodes old new image plan grant over.full one = node_built num nodes old new image plan grant over.full one there in
       let other_built : IsBuiltNode num nodes old new image plan grant over.full twin = node_built num nodes old new image plan grant over.full twin also in
@@ -150,7 +158,9 @@ module _ (first : TreeState) (history : List Entry) (flushes : List Flush) (cut 
       (node_there change first_built.m first_built.seat first_built.at ∙ ap Some (sym (ap (λ (b : Built). b.node) first_built.is)))
       (node_there change other_built.m other_built.seat other_built.at ∙ ap Some (sym (ap (λ (b : Built). b.node) other_built.is) ∙ sym same)) in
       first_built.is
-      ∙ some_same (sym (nodes_are_built_by_rank change grant first_built.m first_built.seat first_built.at).built ∙ ap (slice_get (nodes_with_grant change grant)) places
+      ∙ some_same
+      (sym (nodes_are_built_by_rank change grant first_built.m first_built.seat first_built.at).built
+      ∙ ap (slice_get (nodes_with_grant change grant)) places
       ∙ (nodes_are_built_by_rank change grant other_built.m other_built.seat other_built.at).built)
       ∙ sym other_built.is
 

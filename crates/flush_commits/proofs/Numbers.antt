@@ -29,21 +29,25 @@ granted_enters [] grant node i has = absurd (none_some has)
 granted_enters (first ∷ entering) [] node i has = absurd (none_some has)
 granted_enters (first ∷ entering) (j ∷ grant) node i has = by (nat_eq first node) refl has (granted_enters entering grant node i)
   where
-    by : (b : Bool) → nat_eq first node ≡ b → cond b (Some j) (grant_for entering grant node) ≡ Some i → (grant_for entering grant node ≡ Some i → Contains entering node) → Contains (first ∷ entering) node
+    by : (b : Bool) → nat_eq first node ≡ b → cond b (Some j) (grant_for entering grant node) ≡ Some i
+        → (grant_for entering grant node ≡ Some i → Contains entering node) → Contains (first ∷ entering) node
     by true t is rest = subst (λ x. Contains (first ∷ entering) x) (eqb-true first node t) (first_in first entering)
     by false t is rest = further_in first node entering (rest is)
 
 module _ (num : Numbering) (image : SeenInodes) (new : TreeState) (inodes after : ℕ → Bool) (plan : CommitPlan) (grant : GrantedNumbers)
-    (numbers : NumbersInodes num inodes) (moves : HasMoves new inodes after plan) (serves : InodeGrantServes image (map enter_node plan.enter) grant.inodes) (root : after 0 ≡ true) where
+    (numbers : NumbersInodes num inodes) (moves : HasMoves new inodes after plan) (serves : InodeGrantServes image (map enter_node plan.enter) grant.inodes)
+    (root : after 0 ≡ true) where
   given : NumbersAreGiven (commit_of num [] plan grant) image (map enter_node plan.enter)
   given = grants_give_numbers (commit_of num [] plan grant) image (node_leaves plan.leave) (map enter_node plan.enter) grant.inodes serves (λ node. refl)
 
   -- a node that had a number keeps it, or loses it where it leaves
   had : (node i : ℕ) → num node ≡ Some i → numbers_planned num plan grant.inodes node ≡ cond (node_leaves plan.leave node) None (Some i)
-  had node i is = ap (λ (o : Option ℕ). cond (is_some o) (cond (node_leaves plan.leave node) None o) (grant_for (map enter_node plan.enter) grant.inodes node)) is
+  had node i is =
+      ap (λ (o : Option ℕ). cond (is_some o) (cond (node_leaves plan.leave node) None o) (grant_for (map enter_node plan.enter) grant.inodes node)) is
 
   had_none : (node : ℕ) → num node ≡ None → numbers_planned num plan grant.inodes node ≡ grant_for (map enter_node plan.enter) grant.inodes node
-  had_none node is = ap (λ (o : Option ℕ). cond (is_some o) (cond (node_leaves plan.leave node) None o) (grant_for (map enter_node plan.enter) grant.inodes node)) is
+  had_none node is =
+      ap (λ (o : Option ℕ). cond (is_some o) (cond (node_leaves plan.leave node) None o) (grant_for (map enter_node plan.enter) grant.inodes node)) is
 
   -- whether it has an inode before
   pub none_for : (node : ℕ) → inodes node ≡ false → num node ≡ None
@@ -82,7 +86,9 @@ module _ (num : Numbering) (image : SeenInodes) (new : TreeState) (inodes after 
 
       back : HasNumber (numbers_planned num plan grant.inodes) node → after node ≡ true
       back (i, at) =
-          let one = mapped_is_in enter_node plan.enter node (granted_enters (map enter_node plan.enter) grant.inodes node i (sym (had_none node (none_for node none)) ∙ at)) in
+          let one =
+          mapped_is_in enter_node plan.enter node
+          (granted_enters (map enter_node plan.enter) grant.inodes node i (sym (had_none node (none_for node none)) ∙ at)) in
           ap after (sym one.2) ∙ (moves.entering one.0 one.1).1
 
   pub numbers_then : NumbersInodes (numbers_planned num plan grant.inodes) after

@@ -39,7 +39,8 @@ AreSpelled count parts = (i : ℕ) → i < count → inode_bytes (inode_in (part
 
 -- the parts that a commit gives: those of its records
 abbrev pub parts_given : (ℕ → List ℕ) → (ℕ → Part) → CommitPlan → GrantedNumbers → List InodePart
-parts_given store parts plan grant = map (λ (one : TxRecord). record { inode = one.inode; part = part_next store parts plan grant one.inode }) (records_written (change_planned plan) grant)
+parts_given store parts plan grant =
+    map (λ (one : TxRecord). record { inode = one.inode; part = part_next store parts plan grant one.inode }) (records_written (change_planned plan) grant)
 
 -- What a job's commit is: it changes the parts to those after it, and an image is read as the tree at the cut before it, and by its slot or behind it as
 -- the tree at the raised cut.
@@ -52,10 +53,14 @@ pub record ShowsCommit (share : ℕ) (old new : TreeState) (job : Job) (parts ne
   pub spelled : AreSpelled job.place.layout.inodes next
 
 abbrev pub JobsShowCommits : Type 0
-JobsShowCommits = (first : TreeState) (history : List Entry) (flushes : List Flush) (cut : Cut) (inodes : ℕ → Bool) (flush : Flush) (raised : Cut) (after : ℕ → Bool) (num : Numbering) (store : ℕ → List ℕ) (parts : ℕ → Part)
-    (nodes : List ℕ) (entries : List OldEntry) (plan : CommitPlan) (grant : GrantedNumbers) (job : Job) (share : ℕ) → IsPlannedFsync first history flushes cut inodes flush raised after num job.place.layout store parts nodes entries plan grant
+JobsShowCommits =
+    (first : TreeState) (history : List Entry) (flushes : List Flush) (cut : Cut) (inodes : ℕ → Bool) (flush : Flush) (raised : Cut) (after : ℕ → Bool)
+    (num : Numbering) (store : ℕ → List ℕ) (parts : ℕ → Part)
+    (nodes : List ℕ) (entries : List OldEntry) (plan : CommitPlan) (grant : GrantedNumbers) (job : Job) (share : ℕ)
+    → IsPlannedFsync first history flushes cut inodes flush raised after num job.place.layout store parts nodes entries plan grant
     → AreSpelled job.place.layout.inodes parts → WritesPlan plan grant job
-    → ShowsCommit share (tree_at_cut first history cut) (tree_at_cut first history raised) job parts (part_next store parts plan grant) (parts_given store parts plan grant)
+    → ShowsCommit share (tree_at_cut first history cut) (tree_at_cut first history raised) job parts (part_next store parts plan grant)
+    (parts_given store parts plan grant)
 
 -- What the device calls of a job's commit owe, where nobody else writes the disk meanwhile: at first each image is as before; time goes on, as long as
 -- the count of calls has not come to its last value; what a read gives is always left by a crash; and the commit is carried.
@@ -70,10 +75,14 @@ pub record CarriesCommit {V E : Type 0} (job : Job) (parts : ℕ → Part) (give
 
 -- Then a crash at each moment leaves the old tree or the new one, and from the durable moment on the new one; and after Ok the disk holds it.
 abbrev pub CarriedCommitsWrite : View → View → Type 0
-CarriedCommitsWrite old now = (share : ℕ) (before next_tree : TreeState) (job : Job) (parts next : ℕ → Part) (given : List InodePart) → ShowsCommit share before next_tree job parts next given
+CarriedCommitsWrite old now =
+    (share : ℕ) (before next_tree : TreeState) (job : Job) (parts next : ℕ → Part) (given : List InodePart)
+    → ShowsCommit share before next_tree job parts next given
     → CarriesCommit {V = ℕ} {E = ℕ} job parts given old now (Ok 0) → Wrote share before next_tree old now (Some (durable_at old.now job))
 
 -- And where one failed, it leaves the one or the other.
 abbrev pub DoubtfulCommitsWrite : View → View → Type 0
-DoubtfulCommitsWrite old now = (share : ℕ) (before next_tree : TreeState) (job : Job) (parts next : ℕ → Part) (given : List InodePart) → ShowsCommit share before next_tree job parts next given
+DoubtfulCommitsWrite old now =
+    (share : ℕ) (before next_tree : TreeState) (job : Job) (parts next : ℕ → Part) (given : List InodePart)
+    → ShowsCommit share before next_tree job parts next given
     → CarriesCommit {V = ℕ} {E = ℕ} job parts given old now (Err 0) → Wrote share before next_tree old now None

@@ -24,13 +24,17 @@ use Rattle.flush_commits.specs.Ready.{IsBetweenCommits, KeepsEntries}
 
 -- The plan of an fsync with a grant is all that the laws of commits ask: it is over the parts of the disk, from the tree at the cut to the tree at
 -- the raised cut, and clean.
-pub record IsCommitAtCut (first : TreeState) (history : List Entry) (cut raised : Cut) (num : Numbering) (layout : Layout) (store : ℕ → List ℕ) (parts : ℕ → Part) (nodes : List ℕ) (plan : CommitPlan) (grant : GrantedNumbers) : Type 0 where
+pub record IsCommitAtCut (first : TreeState) (history : List Entry) (cut raised : Cut) (num : Numbering) (layout : Layout) (store : ℕ → List ℕ)
+    (parts : ℕ → Part) (nodes : List ℕ) (plan : CommitPlan) (grant : GrantedNumbers) : Type 0 where
   pub over : IsPlanOverParts num nodes (tree_at_cut first history cut) (tree_at_cut first history raised) (inodes_shown layout parts) plan grant store parts
   pub clean : IsCleanPlan num nodes (tree_at_cut first history cut) (tree_at_cut first history raised) (inodes_shown layout parts) plan grant layout parts
 
 abbrev pub FsyncsAreCommits : Type 0
-FsyncsAreCommits = (first : TreeState) (history : List Entry) (flushes : List Flush) (cut : Cut) (inodes : ℕ → Bool) (flush : Flush) (raised : Cut) (after : ℕ → Bool) (num : Numbering) (layout : Layout) (store : ℕ → List ℕ) (parts : ℕ → Part)
-    (nodes : List ℕ) (entries : List OldEntry) (plan : CommitPlan) (grant : GrantedNumbers) → IsPlannedFsync first history flushes cut inodes flush raised after num layout store parts nodes entries plan grant
+FsyncsAreCommits =
+    (first : TreeState) (history : List Entry) (flushes : List Flush) (cut : Cut) (inodes : ℕ → Bool) (flush : Flush) (raised : Cut) (after : ℕ → Bool)
+    (num : Numbering) (layout : Layout) (store : ℕ → List ℕ) (parts : ℕ → Part)
+    (nodes : List ℕ) (entries : List OldEntry) (plan : CommitPlan) (grant : GrantedNumbers)
+    → IsPlannedFsync first history flushes cut inodes flush raised after num layout store parts nodes entries plan grant
     → IsCommitAtCut first history cut raised num layout store parts nodes plan grant
 
 -- A store of blocks after a commit: it has the fresh blocks and all parts before, and the blocks of the data area are whole.
@@ -41,10 +45,14 @@ pub record IsStoreAfter (layout : Layout) (parts : ℕ → Part) (plan : CommitP
 
 -- Once the commit is made all is ready for the next fsync, in each such store.
 abbrev pub FsyncsLeaveReady : Type 0
-FsyncsLeaveReady = (first : TreeState) (history : List Entry) (flushes : List Flush) (cut : Cut) (inodes : ℕ → Bool) (flush : Flush) (raised : Cut) (after : ℕ → Bool) (num : Numbering) (layout : Layout) (store : ℕ → List ℕ) (parts : ℕ → Part)
-    (nodes : List ℕ) (entries : List OldEntry) (plan : CommitPlan) (grant : GrantedNumbers) (later : ℕ → List ℕ) → IsPlannedFsync first history flushes cut inodes flush raised after num layout store parts nodes entries plan grant
+FsyncsLeaveReady =
+    (first : TreeState) (history : List Entry) (flushes : List Flush) (cut : Cut) (inodes : ℕ → Bool) (flush : Flush) (raised : Cut) (after : ℕ → Bool)
+    (num : Numbering) (layout : Layout) (store : ℕ → List ℕ) (parts : ℕ → Part)
+    (nodes : List ℕ) (entries : List OldEntry) (plan : CommitPlan) (grant : GrantedNumbers) (later : ℕ → List ℕ)
+    → IsPlannedFsync first history flushes cut inodes flush raised after num layout store parts nodes entries plan grant
     → IsStoreAfter layout parts plan grant later
-    → IsBetweenCommits first history (flushes ++ flush ∷ []) raised after (numbers_planned num plan grant.inodes) layout later (part_next store parts plan grant)
+    → IsBetweenCommits first history (flushes ++ flush ∷ []) raised after (numbers_planned num plan grant.inodes) layout later
+    (part_next store parts plan grant)
 
 -- What memory has after a commit: what the disk then has of the nodes of the commit, and of all others what it had.
 pub record AreEntriesAfter (nodes : List ℕ) (entries : List OldEntry) (plan : CommitPlan) (grant : GrantedNumbers) (later : List OldEntry) : Type 0 where
@@ -54,6 +62,9 @@ pub record AreEntriesAfter (nodes : List ℕ) (entries : List OldEntry) (plan : 
 
 -- So memory keeps an entry of each node that then has a number.
 abbrev pub FsyncsKeepEntries : Type 0
-FsyncsKeepEntries = (first : TreeState) (history : List Entry) (flushes : List Flush) (cut : Cut) (inodes : ℕ → Bool) (flush : Flush) (raised : Cut) (after : ℕ → Bool) (num : Numbering) (layout : Layout) (store : ℕ → List ℕ) (parts : ℕ → Part)
-    (nodes : List ℕ) (entries : List OldEntry) (plan : CommitPlan) (grant : GrantedNumbers) (later : List OldEntry) → IsPlannedFsync first history flushes cut inodes flush raised after num layout store parts nodes entries plan grant
+FsyncsKeepEntries =
+    (first : TreeState) (history : List Entry) (flushes : List Flush) (cut : Cut) (inodes : ℕ → Bool) (flush : Flush) (raised : Cut) (after : ℕ → Bool)
+    (num : Numbering) (layout : Layout) (store : ℕ → List ℕ) (parts : ℕ → Part)
+    (nodes : List ℕ) (entries : List OldEntry) (plan : CommitPlan) (grant : GrantedNumbers) (later : List OldEntry)
+    → IsPlannedFsync first history flushes cut inodes flush raised after num layout store parts nodes entries plan grant
     → AreEntriesAfter nodes entries plan grant later → KeepsEntries (numbers_planned num plan grant.inodes) (part_next store parts plan grant) later

@@ -61,12 +61,14 @@ pub record HasFiles (nodes : List ℕ) (old new : TreeState) (plan : CommitPlan)
   pub others : (node : ℕ) → item_with file_node node plan.files ≡ None → bytes_of new node ≡ bytes_of old node
   pub ascend : (one : FileChange) → Contains plan.files one → AscendBy page_block one.pages.items
   pub pages : HasPages new plan
-  pub untouched : (node n : ℕ) → is_among nodes node ≡ true → has_page plan.files node n ≡ false → bytes_in_block n (bytes_of new node) ≡ bytes_in_block n (bytes_of old node)
+  pub untouched : (node n : ℕ) → is_among nodes node ≡ true → has_page plan.files node n ≡ false
+      → bytes_in_block n (bytes_of new node) ≡ bytes_in_block n (bytes_of old node)
   pub ends : CutsOffEnds nodes old new plan
   pub short : (node : ℕ) → length (bytes_of new node) ≤ BLOCK_BYTES * FILE_BLOCKS
 
 -- The plan of an fsync that concerns these nodes.
-pub record IsPlanAt (first : TreeState) (history : List Entry) (cut : Cut) (inodes : ℕ → Bool) (flush : Flush) (raised : Cut) (after : ℕ → Bool) (nodes : List ℕ) (entries : List OldEntry) (plan : CommitPlan) : Type 0 where
+pub record IsPlanAt (first : TreeState) (history : List Entry) (cut : Cut) (inodes : ℕ → Bool) (flush : Flush) (raised : Cut) (after : ℕ → Bool)
+    (nodes : List ℕ) (entries : List OldEntry) (plan : CommitPlan) : Type 0 where
   pub concerns : (node : ℕ) → (is_among nodes node ≡ true) ↔ IsConcerned first history every_entry cut inodes flush node
   pub old : HasOldEntries nodes entries plan.old
   pub nets : HasNets (tree_at_cut first history cut) (tree_at_cut first history raised) plan.nets
@@ -78,10 +80,12 @@ pub record IsPlanAt (first : TreeState) (history : List Entry) (cut : Cut) (inod
 pub record GrantsPlan (layout : Layout) (parts : ℕ → Part) (plan : CommitPlan) (grant : GrantedNumbers) : Type 0 where
   pub serves : ServesPlan (inodes_shown layout parts) plan grant
   pub lies : (block : ℕ) → Contains grant.blocks block → (data_start layout ≤ block) × (block < layout.blocks)
-  pub slots : (one : Built) → Contains (nodes_with_grant (change_planned plan) grant) one → (block : List (Option Row)) → Contains one.slots block → AreSlots block
+  pub slots : (one : Built) → Contains (nodes_with_grant (change_planned plan) grant) one → (block : List (Option Row)) → Contains one.slots block
+      → AreSlots block
 
 -- What is known where one fsync more has a plan and a grant.
-pub record IsPlannedFsync (first : TreeState) (history : List Entry) (flushes : List Flush) (cut : Cut) (inodes : ℕ → Bool) (flush : Flush) (raised : Cut) (after : ℕ → Bool) (num : Numbering) (layout : Layout) (store : ℕ → List ℕ) (parts : ℕ → Part)
+pub record IsPlannedFsync (first : TreeState) (history : List Entry) (flushes : List Flush) (cut : Cut) (inodes : ℕ → Bool) (flush : Flush) (raised : Cut)
+    (after : ℕ → Bool) (num : Numbering) (layout : Layout) (store : ℕ → List ℕ) (parts : ℕ → Part)
     (nodes : List ℕ) (entries : List OldEntry) (plan : CommitPlan) (grant : GrantedNumbers) : Type 0 where
   pub ready : IsBetweenCommits first history flushes cut inodes num layout store parts
   pub keeps : KeepsEntries num parts entries

@@ -25,7 +25,8 @@ pub record AreSoundParts (layout : Layout) (store : ℕ → List ℕ) (parts : �
 
 -- Between two commits the fsyncs so far have left a cut and the nodes with an inode, which are numbered; and the parts of the disk are sound
 -- and stand for the tree at the cut.
-pub record IsBetweenCommits (first : TreeState) (history : List Entry) (flushes : List Flush) (cut : Cut) (inodes : ℕ → Bool) (num : Numbering) (layout : Layout) (store : ℕ → List ℕ) (parts : ℕ → Part) : Type 0 where
+pub record IsBetweenCommits (first : TreeState) (history : List Entry) (flushes : List Flush) (cut : Cut) (inodes : ℕ → Bool) (num : Numbering)
+    (layout : Layout) (store : ℕ → List ℕ) (parts : ℕ → Part) : Type 0 where
   pub history_is : IsMountedHistory first history
   pub flushed : AreFlushed first history every_entry flushes cut inodes
   pub numbers : NumbersInodes num inodes

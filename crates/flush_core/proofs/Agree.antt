@@ -19,20 +19,27 @@ use Rattle.flush_core.proofs.Alike.{Carries, member_carried, concerned_carried}
 
 -- Two cuts leave the same changes unflushed of those below a stamp that name a node.
 abbrev pub LeaveTheSame : TreeState → List Entry → ℕ → Cut → Cut → ℕ → Type 0
-LeaveTheSame first history n cut other node = (change : RowChange) → IsChange first history change → change.stamp < n → change.child ≡ node → (cut_of cut change.directory ≤ change.stamp) ↔ (cut_of other change.directory ≤ change.stamp)
+LeaveTheSame first history n cut other node =
+    (change : RowChange) → IsChange first history change → change.stamp < n → change.child ≡ node
+    → (cut_of cut change.directory ≤ change.stamp) ↔ (cut_of other change.directory ≤ change.stamp)
 
-pub same_back : (first : TreeState) (history : List Entry) (n : ℕ) (cut other : Cut) (node : ℕ) → LeaveTheSame first history n cut other node → LeaveTheSame first history n other cut node
+pub same_back : (first : TreeState) (history : List Entry) (n : ℕ) (cut other : Cut) (node : ℕ) → LeaveTheSame first history n cut other node
+    → LeaveTheSame first history n other cut node
 same_back first history n cut other node same x one lt child = let both = same x one lt child in (both.1, both.0)
 
 -- a cut agrees with itself
-pub agree_itself : (first : TreeState) (history : List Entry) (n : ℕ) (cut : Cut) (inodes : ℕ → Bool) (node : ℕ) → Agree first history n cut cut inodes inodes node
+pub agree_itself : (first : TreeState) (history : List Entry) (n : ℕ) (cut : Cut) (inodes : ℕ → Bool) (node : ℕ)
+    → Agree first history n cut cut inodes inodes node
 agree_itself first history n cut inodes node = record { cuts = refl; inode = refl; unflushed = λ x one lt child. (λ le. le, λ le. le) }
 
 -- to agree is to agree the other way round, and goes on over a third cut
-pub agree_back : (first : TreeState) (history : List Entry) (n : ℕ) (cut other : Cut) (inodes other_inodes : ℕ → Bool) (node : ℕ) → Agree first history n cut other inodes other_inodes node → Agree first history n other cut other_inodes inodes node
-agree_back first history n cut other inodes other_inodes node a = record { cuts = sym a.cuts; inode = sym a.inode; unflushed = same_back first history n cut other node a.unflushed }
+pub agree_back : (first : TreeState) (history : List Entry) (n : ℕ) (cut other : Cut) (inodes other_inodes : ℕ → Bool) (node : ℕ)
+    → Agree first history n cut other inodes other_inodes node → Agree first history n other cut other_inodes inodes node
+agree_back first history n cut other inodes other_inodes node a =
+    record { cuts = sym a.cuts; inode = sym a.inode; unflushed = same_back first history n cut other node a.unflushed }
 
-pub agree_on : (first : TreeState) (history : List Entry) (n : ℕ) (cut other third : Cut) (inodes other_inodes third_inodes : ℕ → Bool) (node : ℕ) → Agree first history n cut other inodes other_inodes node → Agree first history n other third other_inodes third_inodes node
+pub agree_on : (first : TreeState) (history : List Entry) (n : ℕ) (cut other third : Cut) (inodes other_inodes third_inodes : ℕ → Bool) (node : ℕ)
+    → Agree first history n cut other inodes other_inodes node → Agree first history n other third other_inodes third_inodes node
     → Agree first history n cut third inodes third_inodes node
 agree_on first history n cut other third inodes other_inodes third_inodes node a b = record {
   cuts = a.cuts ∙ b.cuts;
@@ -50,7 +57,9 @@ parted a b t there lt = elim (below_or t a) [ inl less ↦ less | inr le ↦ abs
 module _ (first : TreeState) (history : List Entry) (n : ℕ) (is : IsSoundTree first) (legal : IsLegal first history) where
   module _ (cut other : Cut) (node : ℕ) (same : LeaveTheSame first history n cut other node) where
     -- a node's rows at the one cut are those at the other
-    pub rows_same : (directory : ℕ) (name : List ℕ) → (get (counted_rows_at_cut first history (below n) cut) (directory, name) ≡ Some node) ↔ (get (counted_rows_at_cut first history (below n) other) (directory, name) ≡ Some node)
+    pub rows_same : (directory : ℕ) (name : List ℕ)
+        → (get (counted_rows_at_cut first history (below n) cut) (directory, name) ≡ Some node) ↔
+        (get (counted_rows_at_cut first history (below n) other) (directory, name) ≡ Some node)
     rows_same directory name = names_decide_rows first history n cut other node directory name is legal (λ x one lt child dir.
         let both = same x one lt child in
         (parted _ _ _ both.1, parted _ _ _ both.0))
@@ -76,14 +85,16 @@ module _ (first : TreeState) (history : List Entry) (n : ℕ) (is : IsSoundTree 
     ]
 
   -- and whether it is dead
-  pub dead_same : (cut other : Cut) (node : ℕ) → LeaveTheSame first history n cut other node → IsDead first history (below n) cut node → IsDead first history (below n) other node
+  pub dead_same : (cut other : Cut) (node : ℕ) → LeaveTheSame first history n cut other node → IsDead first history (below n) cut node
+      → IsDead first history (below n) other node
   dead_same cut other node same dead = record {
     no_root = dead.no_root;
     unnamed = λ row. dead.unnamed (named_same other cut node (same_back first history n cut other node same) row);
     flushed = λ x one counted child. parted _ _ _ (same x one (ltb-true _ _ counted) child).1 (dead.flushed x one counted child);
   }
 
-  module _ (flush : Flush) (cut other : Cut) (inodes other_inodes : ℕ → Bool) (agree : (node : ℕ) → IsConcerned first history (below n) cut inodes flush node → Agree first history n cut other inodes other_inodes node) where
+  module _ (flush : Flush) (cut other : Cut) (inodes other_inodes : ℕ → Bool)
+      (agree : (node : ℕ) → IsConcerned first history (below n) cut inodes flush node → Agree first history n cut other inodes other_inodes node) where
     abbrev IsMember : ℕ → Type 0
     IsMember node = Closure first history (below n) cut inodes flush node
 
@@ -108,7 +119,8 @@ module _ (first : TreeState) (history : List Entry) (n : ℕ) (is : IsSoundTree 
       span = λ x own _ span. span_there x own span;
       moves = λ x span move. move;
       stands = λ x above span way. way;
-      births = λ birth own _ l. let a = agree_member own in record { one = l.one; lacks = sym a.inode ∙ l.lacks; naming = naming_same cut other birth.node a.unflushed l.naming };
+      births = λ birth own _ l. let a = agree_member own in
+          record { one = l.one; lacks = sym a.inode ∙ l.lacks; naming = naming_same cut other birth.node a.unflushed l.naming };
     }
 
     back : Carries first flush other_view view
@@ -116,7 +128,12 @@ module _ (first : TreeState) (history : List Entry) (n : ℕ) (is : IsSoundTree 
       span = λ x _ own span. span_back x own span;
       moves = λ x span move. move;
       stands = λ x above span way. way;
-      births = λ birth _ own l. let a = agree_member own in record { one = l.one; lacks = a.inode ∙ l.lacks; naming = naming_same other cut birth.node (same_back first history n cut other birth.node a.unflushed) l.naming };
+      births = λ birth _ own l. let a = agree_member own in
+          record {
+            one = l.one;
+            lacks = a.inode ∙ l.lacks;
+            naming = naming_same other cut birth.node (same_back first history n cut other birth.node a.unflushed) l.naming;
+          };
     }
 
     -- the members are the same
@@ -133,9 +150,11 @@ module _ (first : TreeState) (history : List Entry) (n : ℕ) (is : IsSoundTree 
     pub concerned_back : (node : ℕ) → Concerns first flush other_view node → Concerns first flush view node
     concerned_back = concerned_carried first flush back
 
-    module _ (raised other_raised : Cut) (raise : IsRaised first history (below n) cut inodes flush raised) (other_raise : IsRaised first history (below n) other other_inodes flush other_raised) where
+    module _ (raised other_raised : Cut) (raise : IsRaised first history (below n) cut inodes flush raised)
+        (other_raise : IsRaised first history (below n) other other_inodes flush other_raised) where
       member_stamp : {node : ℕ} → IsMember node → cut_of raised node ≡ cut_of other_raised node
-      member_stamp {node} own = raise.member node own ∙ ap (λ (k : ℕ). max k flush.stamp) (agree_member own).cuts ∙ sym (other_raise.member node (member_there own))
+      member_stamp {node} own =
+          raise.member node own ∙ ap (λ (k : ℕ). max k flush.stamp) (agree_member own).cuts ∙ sym (other_raise.member node (member_there own))
 
       -- on what the cuts agree, the raised ones have one stamp
       pub stamp_same : (node : ℕ) → cut_of cut node ≡ cut_of other node → cut_of raised node ≡ cut_of other_raised node
@@ -159,28 +178,66 @@ module _ (first : TreeState) (history : List Entry) (n : ℕ) (is : IsSoundTree 
         ]
       ]
         where
-          equal : cut_of raised x.directory ≡ cut_of other_raised x.directory → (cut_of raised x.directory ≤ x.stamp) ↔ (cut_of other_raised x.directory ≤ x.stamp)
+          equal : cut_of raised x.directory ≡ cut_of other_raised x.directory
+              → (cut_of raised x.directory ≤ x.stamp) ↔ (cut_of other_raised x.directory ≤ x.stamp)
           equal e = (λ le. rw e at le, λ le. rw e le)
 
 pub agrees : Agrees
 agrees first history n flush cut other inodes other_inodes is legal agree = record {
-  members = λ node. (λ own. member_there first history n is legal flush cut other inodes other_inodes agree own, λ own. member_back first history n is legal flush cut other inodes other_inodes agree own);
-  concerned = λ node. (concerned_there first history n is legal flush cut other inodes other_inodes agree node, concerned_back first history n is legal flush cut other inodes other_inodes agree node);
-  stamps = λ raised other_raised raise other_raise node concerned. stamp_same first history n is legal flush cut other inodes other_inodes agree raised other_raised raise other_raise node (agree node concerned).cuts;
-  rows = λ raised other_raised raise other_raise node directory name concerned. rows_same first history n is legal raised other_raised node (leave raised other_raised raise other_raise node concerned) directory name;
+  members =
+      λ node. (
+        λ own. member_there first history n is legal flush cut other inodes other_inodes agree own,
+        λ own. member_back first history n is legal flush cut other inodes other_inodes agree own,
+      );
+  concerned =
+      λ node. (
+        concerned_there first history n is legal flush cut other inodes other_inodes agree node,
+        concerned_back first history n is legal flush cut other inodes other_inodes agree node,
+      );
+  stamps =
+      λ raised other_raised raise other_raise node concerned. stamp_same first history n is legal flush cut other inodes other_inodes agree raised other_raised
+      raise other_raise node
+      (agree node concerned).cuts;
+  rows =
+      λ raised other_raised raise other_raise node directory name concerned. rows_same first history n is legal raised other_raised node
+      (leave raised other_raised raise other_raise node concerned) directory name;
   enters = λ raised other_raised raise other_raise node. (
-    λ e. (sym (agree node e.1).inode ∙ e.0, concerned_there first history n is legal flush cut other inodes other_inodes agree node e.1, reached_same first history n is legal raised other_raised node (leave raised other_raised raise other_raise node e.1) flush e.2),
+    λ e. (
+      sym (agree node e.1).inode
+          ∙ e.0,
+      concerned_there first history n is legal flush cut other inodes other_inodes agree node e.1,
+      reached_same first history n is legal raised other_raised node (leave raised other_raised raise other_raise node e.1) flush e.2,
+    ),
     λ e.
-        let own = concerned_back first history n is legal flush cut other inodes other_inodes agree node e.1 in
-        ((agree node own).inode ∙ e.0, own, reached_same first history n is legal other_raised raised node (same_back first history n raised other_raised node (leave raised other_raised raise other_raise node own)) flush e.2),
+        let own = concerned_back first history n is legal flush cut other inodes other_inodes agree node e.1 in (
+          (agree node own).inode
+              ∙ e.0,
+          own,
+          reached_same first history n is legal other_raised raised node
+              (same_back first history n raised other_raised node (leave raised other_raised raise other_raise node own)) flush e.2,
+        ),
   );
   leaves = λ raised other_raised raise other_raise node. (
-    λ e. (sym (agree node e.1).inode ∙ e.0, concerned_there first history n is legal flush cut other inodes other_inodes agree node e.1, dead_same first history n is legal raised other_raised node (leave raised other_raised raise other_raise node e.1) e.2),
+    λ e. (
+      sym (agree node e.1).inode
+          ∙ e.0,
+      concerned_there first history n is legal flush cut other inodes other_inodes agree node e.1,
+      dead_same first history n is legal raised other_raised node (leave raised other_raised raise other_raise node e.1) e.2,
+    ),
     λ e.
-        let own = concerned_back first history n is legal flush cut other inodes other_inodes agree node e.1 in
-        ((agree node own).inode ∙ e.0, own, dead_same first history n is legal other_raised raised node (same_back first history n raised other_raised node (leave raised other_raised raise other_raise node own)) e.2),
+        let own = concerned_back first history n is legal flush cut other inodes other_inodes agree node e.1 in (
+          (agree node own).inode
+              ∙ e.0,
+          own,
+          dead_same first history n is legal other_raised raised node
+              (same_back first history n raised other_raised node (leave raised other_raised raise other_raise node own)) e.2,
+        ),
   );
 }
   where
-    leave : (raised other_raised : Cut) → IsRaised first history (below n) cut inodes flush raised → IsRaised first history (below n) other other_inodes flush other_raised → (node : ℕ) → IsConcerned first history (below n) cut inodes flush node → LeaveTheSame first history n raised other_raised node
-    leave raised other_raised raise other_raise node concerned = leave_same first history n is legal flush cut other inodes other_inodes agree raised other_raised raise other_raise node (agree node concerned).unflushed
+    leave : (raised other_raised : Cut) → IsRaised first history (below n) cut inodes flush raised
+        → IsRaised first history (below n) other other_inodes flush other_raised → (node : ℕ) → IsConcerned first history (below n) cut inodes flush node
+        → LeaveTheSame first history n raised other_raised node
+    leave raised other_raised raise other_raise node concerned =
+        leave_same first history n is legal flush cut other inodes other_inodes agree raised other_raised raise other_raise node
+        (agree node concerned).unflushed

@@ -32,7 +32,9 @@ module _ (first : TreeState) (flush : Flush) where
   pub record Carries (view other : CommitView) : Type 0 where
     pub span : (change : RowChange) → IsMember view change.directory → IsMember other change.directory → IsSpanned view change → IsSpanned other change
     pub moves : (change : RowChange) → IsSpanned view change → IsMove first view.history change → IsMove first other.history change
-    pub stands : (change : RowChange) (above : List ℕ) → IsSpanned view change → Above (tree_after first (take change.stamp view.history)) change.directory above → Above (tree_after first (take change.stamp other.history)) change.directory above
+    pub stands : (change : RowChange) (above : List ℕ) → IsSpanned view change
+        → Above (tree_after first (take change.stamp view.history)) change.directory above
+        → Above (tree_after first (take change.stamp other.history)) change.directory above
     pub births : (birth : Birth) → IsMember view birth.node → IsMember other birth.node → IsLacking view birth → IsLacking other birth
 
   -- members are carried
@@ -40,7 +42,8 @@ module _ (first : TreeState) (flush : Flush) where
   member_carried c itself = itself
   member_carried c (other_side change node own span two) = let there = member_carried c own in other_side change node there (c.span change own there span) two
   member_carried c (ended change own span ends) = let there = member_carried c own in ended change there (c.span change own there span) ends
-  member_carried c (ancestor change above node own span move way among) = let there = member_carried c own in ancestor change above node there (c.span change own there span) (c.moves change span move) (c.stands change above span way) among
+  member_carried c (ancestor change above node own span move way among) = let there = member_carried c own in
+      ancestor change above node there (c.span change own there span) (c.moves change span move) (c.stands change above span way) among
   member_carried c (birth_place birth own one none naming) =
       let there = member_carried c own in
       let found = c.births birth own there (record { one = one; lacks = none; naming = naming }) in
@@ -52,20 +55,26 @@ module _ (first : TreeState) (flush : Flush) where
   concerned_carried c _ (named change own span) = let there = member_carried c own in named change there (c.span change own there span)
 
   -- and where they are carried both ways, raised cuts are the same
-  pub raise_carried : (view other : CommitView) → view.cut ≡ other.cut → Carries view other → Carries other view → (raised : Cut) → Raises first flush view raised → Raises first flush other raised
+  pub raise_carried : (view other : CommitView) → view.cut ≡ other.cut → Carries view other → Carries other view → (raised : Cut)
+      → Raises first flush view raised → Raises first flush other raised
   raise_carried view other same there back raised raise = record {
     member = λ node own. raise.member node (member_carried back own) ∙ ap (λ (c : Cut). max (cut_of c node) flush.stamp) same;
     other = λ node. elim (raise.other node) [ inl own ↦ inl (member_carried there own) | inr e ↦ inr (e ∙ ap (λ (c : Cut). cut_of c node) same) ];
   }
 
 -- What else two ways to count have to give alike.
-pub record GiveAlike (first : TreeState) (history : List Entry) (counts : Counts) (other : List Entry) (other_counts : Counts) (cut : Cut) (inodes : ℕ → Bool) (flush : Flush) (raised : Cut) : Type 0 where
+pub record GiveAlike (first : TreeState) (history : List Entry) (counts : Counts) (other : List Entry) (other_counts : Counts) (cut : Cut) (inodes : ℕ → Bool)
+    (flush : Flush) (raised : Cut) : Type 0 where
   pub rows : counted_rows_at_cut first history counts raised ≡ counted_rows_at_cut first other other_counts raised
-  pub reached : (node : ℕ) → IsConcerned first history counts cut inodes flush node → IsReached first history counts flush raised node ↔ IsReached first other other_counts flush raised node
-  pub dead : (node : ℕ) → IsConcerned first history counts cut inodes flush node → IsDead first history counts raised node ↔ IsDead first other other_counts raised node
+  pub reached : (node : ℕ) → IsConcerned first history counts cut inodes flush node
+      → IsReached first history counts flush raised node ↔ IsReached first other other_counts flush raised node
+  pub dead : (node : ℕ) → IsConcerned first history counts cut inodes flush node
+      → IsDead first history counts raised node ↔ IsDead first other other_counts raised node
 
 -- the two make two views alike
-pub are_alike : (first : TreeState) (history : List Entry) (counts : Counts) (other : List Entry) (other_counts : Counts) (cut : Cut) (inodes : ℕ → Bool) (flush : Flush) → Carries first flush (view_by history counts cut inodes) (view_by other other_counts cut inodes)
+pub are_alike : (first : TreeState) (history : List Entry) (counts : Counts) (other : List Entry) (other_counts : Counts) (cut : Cut) (inodes : ℕ → Bool)
+    (flush : Flush)
+    → Carries first flush (view_by history counts cut inodes) (view_by other other_counts cut inodes)
     → Carries first flush (view_by other other_counts cut inodes) (view_by history counts cut inodes)
     → ((raised : Cut) → IsRaised first history counts cut inodes flush raised → GiveAlike first history counts other other_counts cut inodes flush raised)
     → AreAlike first flush (view_by history counts cut inodes) (view_by other other_counts cut inodes)
@@ -81,13 +90,23 @@ are_alike first history counts other other_counts cut inodes flush there back gi
 }
 
 -- views that are alike leave the same inodes
-pub inodes_alike : (first : TreeState) (flush : Flush) (view other : CommitView) (raised : Cut) (after : ℕ → Bool) → AreAlike first flush view other → IsRaised first view.history view.counts view.cut view.inodes flush raised → AreInodesAfter first view.history view.counts view.cut view.inodes flush raised after
+pub inodes_alike : (first : TreeState) (flush : Flush) (view other : CommitView) (raised : Cut) (after : ℕ → Bool) → AreAlike first flush view other
+    → IsRaised first view.history view.counts view.cut view.inodes flush raised
+    → AreInodesAfter first view.history view.counts view.cut view.inodes flush raised after
     → AreInodesAfter first other.history other.counts other.cut other.inodes flush raised after
 inodes_alike first flush view other raised after alike raise sets = record {
   enters = λ node none.
-      let own = sets.enters node (alike.inodes node ∙ none) in
-      (λ has. let now = own.0 has in ((alike.concerned node).0 now.0, (alike.reached raised raise node now.0).0 now.1), λ now. let concerned = (alike.concerned node).1 now.0 in own.1 (concerned, (alike.reached raised raise node concerned).1 now.1));
+      let own = sets.enters node (alike.inodes node ∙ none) in (
+        λ has. let now = own.0 has in
+            ((alike.concerned node).0 now.0, (alike.reached raised raise node now.0).0 now.1),
+        λ now. let concerned = (alike.concerned node).1 now.0 in
+            own.1 (concerned, (alike.reached raised raise node concerned).1 now.1),
+      );
   leaves = λ node has.
-      let own = sets.leaves node (alike.inodes node ∙ has) in
-      (λ gone. let now = own.0 gone in ((alike.concerned node).0 now.0, (alike.dead raised raise node now.0).0 now.1), λ now. let concerned = (alike.concerned node).1 now.0 in own.1 (concerned, (alike.dead raised raise node concerned).1 now.1));
+      let own = sets.leaves node (alike.inodes node ∙ has) in (
+        λ gone. let now = own.0 gone in
+            ((alike.concerned node).0 now.0, (alike.dead raised raise node now.0).0 now.1),
+        λ now. let concerned = (alike.concerned node).1 now.0 in
+            own.1 (concerned, (alike.dead raised raise node concerned).1 now.1),
+      );
 }

@@ -19,14 +19,20 @@ use Rattle.flush_core.proofs.Flying.{flight_before}
 use Rattle.flush_core.proofs.Stays.{Stays, StayApart}
 use Rattle.flush_core.proofs.Flights.{stay_apart}
 
-module _ (first : TreeState) (events : List Event) (states : ℕ → MachineState) (is : IsSoundTree first) (run : IsRun first events states) (alive : AreAlive first events states) (within : length events ≤ length events) where
+module _ (first : TreeState) (events : List Event) (states : ℕ → MachineState) (is : IsSoundTree first) (run : IsRun first events states)
+    (alive : AreAlive first events states) (within : length events ≤ length events) where
   -- what a commit concerned as it began, its flight concerns
-  began_concerned : (flight : Flight) (cut : Cut) (inodes : ℕ → Bool) → Stays first events states is run alive (length events) within flight cut inodes → (begin : ℕ) (flush : Flush) → IsBegun events begin flight.commit flush → (node : ℕ) → Concerns first flush (view_of (states begin)) node → flight.concerned node ≡ true
+  began_concerned : (flight : Flight) (cut : Cut) (inodes : ℕ → Bool) → Stays first events states is run alive (length events) within flight cut inodes
+      → (begin : ℕ) (flush : Flush) → IsBegun events begin flight.commit flush → (node : ℕ) → Concerns first flush (view_of (states begin)) node
+      → flight.concerned node ≡ true
   began_concerned flight cut inodes s begin flush begun node concerned =
-      (s.at.theirs node).1 (rw (begun_once first events states run begin s.begin flight.commit flush flight.flush begun s.at.begun) at (rw (one_flush first events states run begin s.begin flight.commit flush flight.flush begun s.at.begun) at concerned))
+      (s.at.theirs node).1
+      (rw (begun_once first events states run begin s.begin flight.commit flush flight.flush begun s.at.begun) at
+      (rw (one_flush first events states run begin s.begin flight.commit flush flight.flush begun s.at.begun) at concerned))
 
   -- a commit that becomes durable is a flight till then
-  pub durable_flies : (place commit : ℕ) → slice_get events place ≡ Some (event.Durable commit) → (flight : Flight) × IsOneOf (states place).flights flight × (flight.commit ≡ commit)
+  pub durable_flies : (place commit : ℕ) → slice_get events place ≡ Some (event.Durable commit)
+      → (flight : Flight) × IsOneOf (states place).flights flight × (flight.commit ≡ commit)
   durable_flies place commit stands =
       let takes = run.steps place (event.Durable commit) stands in
       let found = flight_found (states place) commit takes.moves.0 takes.moves.2 in
@@ -36,7 +42,8 @@ module _ (first : TreeState) (events : List Event) (states : ℕ → MachineStat
   none_begins : (place commit other : ℕ) (flush : Flush) → slice_get events place ≡ Some (event.Durable commit) → IsBegun events place other flush → ⊥
   none_begins place commit other flush stands begun = none_some (ap flush_by (some_same (sym stands ∙ begun.stands)) ∙ begun.begins)
 
-  module _ (place commit : ℕ) (flush : Flush) (tied : ℕ → Bool) (begun : IsBegun events place commit flush) (tied_are : AreTied first events states commit tied) where
+  module _ (place commit : ℕ) (flush : Flush) (tied : ℕ → Bool) (begun : IsBegun events place commit flush)
+      (tied_are : AreTied first events states commit tied) where
     -- A tied commit that becomes durable from a place on, before the commit begins.
     pub record IsToCome (from other : ℕ) : Type 0 where
       pub ties : tied other ≡ true
@@ -66,11 +73,21 @@ module _ (first : TreeState) (events : List Event) (states : ℕ → MachineStat
       concerned = w.concerned;
       when = elim w.when [
         | inl own ↦ inl own
-        | inr come ↦ inr (record { ties = come.ties; durable = come.durable; not_before = let le = come.not_before in omega arith; earlier = come.earlier; stands = come.stands })
+        | inr come ↦
+            inr
+            (record {
+              ties = come.ties;
+              durable = come.durable;
+              not_before = let le = come.not_before in
+                  omega arith;
+              earlier = come.earlier;
+              stands = come.stands;
+            })
       ];
     }
 
-    module _ (from : ℕ) (lt : from < place) (raiser : Flight) (there : IsOneOf (states from).flights raiser) (stands : slice_get events from ≡ Some (event.Durable raiser.commit)) where
+    module _ (from : ℕ) (lt : from < place) (raiser : Flight) (there : IsOneOf (states from).flights raiser)
+        (stands : slice_get events from ≡ Some (event.Durable raiser.commit)) where
       from_within : from ≤ length events
       from_within = let less = begun_within first events states run place commit flush begun in omega arith
 
@@ -91,7 +108,8 @@ module _ (first : TreeState) (events : List Event) (states : ℕ → MachineStat
         when = inr (record { ties = ties; durable = from; not_before = omega arith; earlier = lt; stands = stands });
       }
 
-      share : (node : ℕ) → raiser.concerned node ≡ true → (other begin : ℕ) (own : Flush) → IsBegun events begin other own → Concerns first own (view_of (states begin)) node → ShareANode first events states raiser.commit other
+      share : (node : ℕ) → raiser.concerned node ≡ true → (other begin : ℕ) (own : Flush) → IsBegun events begin other own
+          → Concerns first own (view_of (states begin)) node → ShareANode first events states raiser.commit other
       share node theirs other begin own begins concerned = record {
         node = node;
         place = its.begin;
@@ -108,14 +126,17 @@ module _ (first : TreeState) (events : List Event) (states : ℕ → MachineStat
       comes other later own begins before = record { place = from; durable = stands; later = later; flush = own; begun = begins; before = before }
 
       -- a tied commit that has begun shares no node with another flight
-      begun_shares_none : tied raiser.commit ≡ false → (node : ℕ) (w : IsAwaited (suc from) node) → IsToCome (suc from) w.other → w.begin ≤ from → raiser.concerned node ≡ true → ⊥
+      begun_shares_none : tied raiser.commit ≡ false → (node : ℕ) (w : IsAwaited (suc from) node) → IsToCome (suc from) w.other → w.begin ≤ from
+          → raiser.concerned node ≡ true → ⊥
       begun_shares_none untied node w come before theirs =
           let fly = durable_flies come.durable w.other come.stands in
-          elim (flight_before first events states run from come.durable (let le = come.not_before in omega arith) (let less = come.earlier in let more = begun_within first events states run place commit flush begun in omega arith) fly.0 fly.1) [
+          elim (flight_before first events states run from come.durable (let le = come.not_before in omega arith)
+          (let less = come.earlier in let more = begun_within first events states run place commit flush begun in omega arith) fly.0 fly.1) [
             | inl among ↦
                 let number = among.commit ∙ fly.2 in
                 kept.apart raiser among.was there among.there (λ e. not_both come.ties (rw (e ∙ number) at untied)) node theirs
-                (began_concerned among.was (states from).cut (states from).inodes (kept.each among.was among.there) w.begin w.fsync (rw number w.begins) node w.concerned)
+                (began_concerned among.was (states from).cut (states from).inodes (kept.each among.was among.there) w.begin w.fsync
+                (rw number w.begins) node w.concerned)
             | inr late ↦
                 let again = begun_once first events states run late.0 w.begin w.other fly.0.flush w.fsync (rw fly.2 at late.3) w.begins in
                 let same = at_once late.0 again late.1 in
@@ -128,9 +149,16 @@ module _ (first : TreeState) (events : List Event) (states : ℕ → MachineStat
       -- a commit that isn't tied concerns nothing that is still awaited
       pub untied_apart : tied raiser.commit ≡ false → (node : ℕ) → IsAwaited (suc from) node → raiser.concerned node ≡ true → ⊥
       untied_apart untied node w theirs = elim w.when [
-        | inl own ↦ not_both (tied_are.own raiser.commit (comes commit place flush begun lt) (rw own at (share node theirs w.other w.begin w.fsync w.begins w.concerned))) untied
+        | inl own ↦
+            not_both
+            (tied_are.own raiser.commit (comes commit place flush begun lt) (rw own at (share node theirs w.other w.begin w.fsync w.begins w.concerned)))
+            untied
         | inr come ↦ elim (below_or from w.begin) [
-          | inl less ↦ not_both (tied_are.theirs w.other raiser.commit come.ties (comes w.other w.begin w.fsync w.begins less) (share node theirs w.other w.begin w.fsync w.begins w.concerned)) untied
+          | inl less ↦
+              not_both
+              (tied_are.theirs w.other raiser.commit come.ties (comes w.other w.begin w.fsync w.begins less)
+              (share node theirs w.other w.begin w.fsync w.begins w.concerned))
+              untied
           | inr le ↦ begun_shares_none untied node w come le theirs
         ]
       ]

@@ -56,4 +56,5 @@ filter_none w (x ∷ xs) h = ap (λ b. cond b (x ∷ filter w xs) (filter w xs))
 -- tests that give one answer for each of a list pass the same
 pub filter_same : {X : Type 0} (w v : X → Bool) (xs : List X) → ((x : X) → IsOneOf xs x → w x ≡ v x) → filter w xs ≡ filter v xs
 filter_same w v [] h = refl
-filter_same w v (x ∷ xs) h = ap (λ b. cond b (x ∷ filter w xs) (filter w xs)) (h x (inl refl)) ∙ ap (λ l. cond (v x) (x ∷ l) l) (filter_same w v xs (λ y one. h y (inr one)))
+filter_same w v (x ∷ xs) h =
+    ap (λ b. cond b (x ∷ filter w xs) (filter w xs)) (h x (inl refl)) ∙ ap (λ l. cond (v x) (x ∷ l) l) (filter_same w v xs (λ y one. h y (inr one)))

@@ -35,7 +35,8 @@ module _ (old : KeptState) (commit : ℕ) (node : NodeId) (stamp : Stamp) (runni
   pub used_before : IsOneOf old.used commit → IsRefused (machine_of old) (event.CutAt commit node stamp) (refused.Used commit)
   used_before one = record { holds = (one, refl); first = first_used }
 
-  module _ (unused : IsOneOf old.used commit → ⊥) (flight : InFlight) (begins : BeginsFlight (machine_of old) commit flush (flight_as flight)) (least : Option ℕ) (is_least : IsLeastTaken (map flight_as old.flights) flight.concerned least) where
+  module _ (unused : IsOneOf old.used commit → ⊥) (flight : InFlight) (begins : BeginsFlight (machine_of old) commit flush (flight_as flight))
+      (least : Option ℕ) (is_least : IsLeastTaken (map flight_as old.flights) flight.concerned least) where
     -- what flights share with the commit is what they concern of its nodes
     shared : (other : ℕ) → IsShared (machine_of old) flush other → (has_node flight.concerned other ≡ true) × IsTaken (map flight_as old.flights) other
     shared other is = ((begins.concerned other).1 is.concerned, record { flight = is.flight; flies = is.flies; concerned = is.theirs })
@@ -58,7 +59,11 @@ module _ (old : KeptState) (commit : ℕ) (node : NodeId) (stamp : Stamp) (runni
 
     pub meets : (met : NodeId) → least ≡ Some met.0 → IsRefused (machine_of old) (event.CutAt commit node stamp) (refused.Meets met)
     meets met is = record {
-      holds = (share met.0 (is_least.is_in met.0 is) (is_least.taken met.0 is), λ other common. let both = shared other common in is_least.least_of met.0 other is both.0 both.1);
+      holds = (
+        share met.0 (is_least.is_in met.0 is) (is_least.taken met.0 is),
+        λ other common. let both = shared other common in
+            is_least.least_of met.0 other is both.0 both.1,
+      );
       first = first_meets;
     }
 
@@ -98,8 +103,15 @@ module _ (old : KeptState) (commit : ℕ) (node : NodeId) (stamp : Stamp) (runni
       none_holds low (refused.AlreadyOpened other) holds = holds
       none_holds low refused.NoMemory holds = holds
 
-      pub takes_begun : stamp.0 ≤ length old.entries → (new : KeptState) → new ≡ record old { flights = old.flights ++ flight ∷ []; used = old.used ++ commit ∷ [] } → Accepts (machine_of old) (event.CutAt commit node stamp) (machine_of new)
+      pub takes_begun : stamp.0 ≤ length old.entries → (new : KeptState)
+          → new ≡ record old { flights = old.flights ++ flight ∷ []; used = old.used ++ commit ∷ [] }
+          → Accepts (machine_of old) (event.CutAt commit node stamp) (machine_of new)
       takes_begun low new is = record {
         free = none_holds low;
-        moves = (flight_as flight, begins, ap machine_of is ∙ ap (λ l. record (machine_of old) { flights = l; used = old.used ++ commit ∷ [] }) (map-append flight_as old.flights (flight ∷ [])));
+        moves = (
+          flight_as flight,
+          begins,
+          ap machine_of is
+              ∙ ap (λ l. record (machine_of old) { flights = l; used = old.used ++ commit ∷ [] }) (map-append flight_as old.flights (flight ∷ [])),
+        );
       }

@@ -24,7 +24,13 @@ pub record IsCutAt (e : Event) (commit : ℕ) (flush : Flush) : Type 0 where
   pub own : record { node = node.0; stamp = stamp.0 } ≡ flush
 
 pub cut_at : (e : Event) (commit : ℕ) (flush : Flush) → flush_by e ≡ Some (commit, flush) → IsCutAt e commit flush
-cut_at (event.CutAt other node stamp) commit flush e = record { node = node; stamp = stamp; same = ap (λ (c : ℕ). event.CutAt c node stamp) (ap (λ (begun : ℕ × Flush). begun.0) (some_same e)); own = ap (λ (begun : ℕ × Flush). begun.1) (some_same e) }
+cut_at (event.CutAt other node stamp) commit flush e =
+    record {
+      node = node;
+      stamp = stamp;
+      same = ap (λ (c : ℕ). event.CutAt c node stamp) (ap (λ (begun : ℕ × Flush). begun.0) (some_same e));
+      own = ap (λ (begun : ℕ × Flush). begun.1) (some_same e);
+    }
 cut_at (event.Call entry) commit flush e = cc
 cut_at (event.Opened other) commit flush e = cc
 cut_at (event.Durable other) commit flush e = cc
@@ -34,7 +40,8 @@ cut_at (event.Crash kept) commit flush e = cc
 -- a number that was used stays so
 used_step : (old : MachineState) (e : Event) (new : MachineState) (commit : ℕ) → Accepts old e new → IsOneOf old.used commit → IsOneOf new.used commit
 used_step old (event.Call entry) new commit takes used = subst (λ (s : MachineState). IsOneOf s.used commit) (sym takes.moves.1) used
-used_step old (event.CutAt other node stamp) new commit takes used = subst (λ (s : MachineState). IsOneOf s.used commit) (sym takes.moves.2) (in_left old.used (other ∷ []) commit used)
+used_step old (event.CutAt other node stamp) new commit takes used =
+    subst (λ (s : MachineState). IsOneOf s.used commit) (sym takes.moves.2) (in_left old.used (other ∷ []) commit used)
 used_step old (event.Opened other) new commit takes used = subst (λ (s : MachineState). IsOneOf s.used commit) (sym takes.moves) used
 used_step old (event.Durable other) new commit takes used =
     rw takes.moves.4 (rw (ap (λ (s : MachineState). s.used) takes.moves.3.others) used)
@@ -43,7 +50,8 @@ used_step old (event.Crash kept) new commit takes used =
     rw takes.moves.2 (rw (ap (λ (s : MachineState). s.used) takes.moves.1.others) used)
 
 -- no flight concerns what a commit concerns that begins
-none_shared : (old : MachineState) (commit : ℕ) (node : NodeId) (stamp : Stamp) (new : MachineState) → Accepts old (event.CutAt commit node stamp) new → (bound x : ℕ) → x < bound → IsShared old (record { node = node.0; stamp = stamp.0 }) x → ⊥
+none_shared : (old : MachineState) (commit : ℕ) (node : NodeId) (stamp : Stamp) (new : MachineState) → Accepts old (event.CutAt commit node stamp) new
+    → (bound x : ℕ) → x < bound → IsShared old (record { node = node.0; stamp = stamp.0 }) x → ⊥
 none_shared old commit node stamp new takes zero x lt shared = absurd (omega arith)
 none_shared old commit node stamp new takes (suc bound) x lt shared =
     takes.free (refused.Meets (record { 0 = x })) (
@@ -60,7 +68,8 @@ module _ (first : TreeState) (events : List Event) (states : ℕ → MachineStat
   begun_within place commit flush begun = slice_get_within events place begun.event begun.stands
 
   -- a state takes the event that begins a commit
-  pub takes_cut : (place commit : ℕ) (flush : Flush) (begun : IsBegun events place commit flush) → let cut = cut_at begun.event commit flush begun.begins in Accepts (states place) (event.CutAt commit cut.node cut.stamp) (states (suc place))
+  pub takes_cut : (place commit : ℕ) (flush : Flush) (begun : IsBegun events place commit flush) → let cut = cut_at begun.event commit flush begun.begins in
+      Accepts (states place) (event.CutAt commit cut.node cut.stamp) (states (suc place))
   takes_cut place commit flush begun =
       let cut = cut_at begun.event commit flush begun.begins in
       run.steps place (event.CutAt commit cut.node cut.stamp) (begun.stands ∙ ap Some cut.same)
@@ -92,7 +101,8 @@ module _ (first : TreeState) (events : List Event) (states : ℕ → MachineStat
   never_again : (place later commit : ℕ) (flush other : Flush) → place < later → IsBegun events place commit flush → IsBegun events later commit other → ⊥
   never_again place later commit flush other lt begun again =
       let within = begun_within later commit other again in
-      (takes_cut later commit other again).free (refused.Used commit) (used_later (suc place) later commit (omega arith) (omega arith) (begun_used place commit flush begun), refl)
+      (takes_cut later commit other again).free (refused.Used commit)
+      (used_later (suc place) later commit (omega arith) (omega arith) (begun_used place commit flush begun), refl)
 
   -- a commit begins once
   pub begun_once : (place later commit : ℕ) (flush other : Flush) → IsBegun events place commit flush → IsBegun events later commit other → place ≡ later
@@ -108,15 +118,18 @@ module _ (first : TreeState) (events : List Event) (states : ℕ → MachineStat
   pub one_flush : (place later commit : ℕ) (flush other : Flush) → IsBegun events place commit flush → IsBegun events later commit other → flush ≡ other
   one_flush place later commit flush other begun again =
       let e = begun_once place later commit flush other begun again in
-      ap (λ (pair : ℕ × Flush). pair.1) (some_same (sym begun.begins ∙ ap flush_by (some_same (sym begun.stands ∙ ap (slice_get events) e ∙ again.stands)) ∙ again.begins))
+      ap (λ (pair : ℕ × Flush). pair.1)
+      (some_same (sym begun.begins ∙ ap flush_by (some_same (sym begun.stands ∙ ap (slice_get events) e ∙ again.stands)) ∙ again.begins))
 
   -- at one place one commit begins
-  pub one_begun : (place commit other : ℕ) (flush other_flush : Flush) → IsBegun events place commit flush → IsBegun events place other other_flush → commit ≡ other
+  pub one_begun : (place commit other : ℕ) (flush other_flush : Flush) → IsBegun events place commit flush → IsBegun events place other other_flush
+      → commit ≡ other
   one_begun place commit other flush other_flush begun also =
       ap (λ (pair : ℕ × Flush). pair.0) (some_same (sym begun.begins ∙ ap flush_by (some_same (sym begun.stands ∙ also.stands)) ∙ also.begins))
 
   -- it concerns no node that a flight concerns
-  pub begun_apart : (place commit : ℕ) (flush : Flush) → IsBegun events place commit flush → (flight : Flight) → IsOneOf (states place).flights flight → (node : ℕ) → flight.concerned node ≡ true → Concerns first flush (view_of (states place)) node → ⊥
+  pub begun_apart : (place commit : ℕ) (flush : Flush) → IsBegun events place commit flush → (flight : Flight) → IsOneOf (states place).flights flight
+      → (node : ℕ) → flight.concerned node ≡ true → Concerns first flush (view_of (states place)) node → ⊥
   begun_apart place commit flush begun flight one node theirs concerned =
       let cut = cut_at begun.event commit flush begun.begins in
       let within = begun_within place commit flush begun in

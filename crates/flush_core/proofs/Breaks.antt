@@ -28,7 +28,8 @@ use Rattle.flush_core.proofs.Ways.{row_on_way, next_on_way}
 
 -- a rule is the first that is broken, where those before it hold
 pub first_broken : (first : TreeState) (history : List Entry) (cut : Cut) (broken : Rule) → (CutKeeps first history cut broken → ⊥)
-    → (1 < rule_place broken → RenamesWhole first history cut) → (2 < rule_place broken → RemovalsWhole first history cut) → (3 < rule_place broken → BirthsKept first history cut) → IsFirstBroken first history cut broken
+    → (1 < rule_place broken → RenamesWhole first history cut) → (2 < rule_place broken → RemovalsWhole first history cut)
+    → (3 < rule_place broken → BirthsKept first history cut) → IsFirstBroken first history cut broken
 first_broken first history cut broken breaks renames removals births = record { breaks = breaks; before = before }
   where
     most : (r : Rule) → rule_place r ≤ 4
@@ -44,14 +45,18 @@ first_broken first history cut broken breaks renames removals births = record { 
     before rule.Ancestors lt = let le = most broken in absurd (omega arith)
 
 -- what changes is a directory of the tree before
-changed_kind : (first : TreeState) (history : List Entry) → IsSoundTree first → IsLegal first history → (change : RowChange) → IsChange first history change → is_directory (tree_after first (take change.stamp history)) change.directory ≡ true
+changed_kind : (first : TreeState) (history : List Entry) → IsSoundTree first → IsLegal first history → (change : RowChange) → IsChange first history change
+    → is_directory (tree_after first (take change.stamp history)) change.directory ≡ true
 changed_kind first history sound legal change one =
     let t = change.stamp in
-    let live = live_own (tree_at first history t) (core_at first history t) t (sound_at first history 0 t sound legal) (effect_at first history t) (makes_at first history t) (fits_at first history 0 t sound legal) change (change_of first history change legal one) in
+    let live =
+    live_own (tree_at first history t) (core_at first history t) t (sound_at first history 0 t sound legal) (effect_at first history t)
+    (makes_at first history t) (fits_at first history 0 t sound legal) change (change_of first history change legal one) in
     ap (λ (tree : TreeState). is_directory tree change.directory) (sym (tree_at-after first history t)) ∙ live.kind
 
 -- where the directories above are kept they are a list
-kept_list : (kept : Option (Vec ℕ Global)) (place : ℕ) → place < length (option_map_or (λ (above : Vec ℕ Global). above.items) kept []) → (v : Vec ℕ Global) × (kept ≡ Some v) × (v.items ≡ option_map_or (λ (above : Vec ℕ Global). above.items) kept [])
+kept_list : (kept : Option (Vec ℕ Global)) (place : ℕ) → place < length (option_map_or (λ (above : Vec ℕ Global). above.items) kept [])
+    → (v : Vec ℕ Global) × (kept ≡ Some v) × (v.items ≡ option_map_or (λ (above : Vec ℕ Global). above.items) kept [])
 kept_list None place lt = absurd (omega arith)
 kept_list (Some v) place lt = (v, refl, refl)
 
@@ -63,10 +68,12 @@ module _ (first : TreeState) (history : List Entry) (past : Past) (is : IsPast f
   kept = kept_change first history past is
 
   -- what holds of each change that is kept holds of each of the history's
-  over_changes : (P : RowChange → Type 0) → ((own : OwnChange) → IsOneOf changes own → P (row_change_of own)) → (change : RowChange) → IsChange first history change → P change
+  over_changes : (P : RowChange → Type 0) → ((own : OwnChange) → IsOneOf changes own → P (row_change_of own)) → (change : RowChange)
+      → IsChange first history change → P change
   over_changes P all change one = let own = change_kept first history past is change one in rw own.2 at (all own.0 own.1)
 
-  over_births : (P : Birth → Type 0) → ((born : BornNode) → IsOneOf past.births.items born → P (birth_of born)) → (birth : Birth) → IsOneOf (births_of first history) birth → P birth
+  over_births : (P : Birth → Type 0) → ((born : BornNode) → IsOneOf past.births.items born → P (birth_of born)) → (birth : Birth)
+      → IsOneOf (births_of first history) birth → P birth
   over_births P all birth one =
       let born = from_map birth_of past.births.items birth (rw is.births one) in rw born.2 at (all born.0 born.1)
 
@@ -77,7 +84,8 @@ module _ (first : TreeState) (history : List Entry) (past : Past) (is : IsPast f
 
   pub renames_hold : (SomeIs changes (IsSplit cut) → ⊥) → RenamesWhole first history cut
   renames_hold none = λ change other one.
-      over_changes (λ c. c.other ≡ Some other → IsWithin cut c → c.stamp < cut_of cut other) (λ own in_past two within. elim (below_or own.stamp (cut_of cut other)) [
+      over_changes (λ c. c.other ≡ Some other → IsWithin cut c → c.stamp < cut_of cut other)
+      (λ own in_past two within. elim (below_or own.stamp (cut_of cut other)) [
         | inl lt ↦ lt
         | inr le ↦ absurd (none (own, in_past, record { other = other; two = two; flushed = within; late = le }))
       ]) change one
@@ -91,35 +99,62 @@ module _ (first : TreeState) (history : List Entry) (past : Past) (is : IsPast f
 
   pub removals_hold : (SomeIs changes (LeavesChange changes cut) → ⊥) → RemovalsWhole first history cut
   removals_hold none = λ change own one ends within own_one.
-      over_changes (λ c. c.ends ≡ true → IsWithin cut c → (o : RowChange) → IsChange first history o → o.directory ≡ c.child → IsWithin cut o) (λ ended ended_in ends_it flushed.
+      over_changes (λ c. c.ends ≡ true → IsWithin cut c → (o : RowChange) → IsChange first history o → o.directory ≡ c.child → IsWithin cut o)
+      (λ ended ended_in ends_it flushed.
       over_changes (λ o. o.directory ≡ ended.child → IsWithin cut o) (λ left left_in own_is. elim (below_or left.stamp (cut_of cut left.directory)) [
         | inl lt ↦ lt
-        | inr le ↦ absurd (none (ended, ended_in, record { ends = ends_it; flushed = flushed; left = (left, left_in, record { own = own_is; late = subst (λ (d : ℕ). cut_of cut d ≤ left.stamp) own_is le }) }))
+        | inr le ↦
+            absurd
+            (none (
+              ended,
+              ended_in,
+              record {
+                ends = ends_it;
+                flushed = flushed;
+                left = (left, left_in, record { own = own_is; late = subst (λ (d : ℕ). cut_of cut d ≤ left.stamp) own_is le });
+              },
+            ))
       ])) change one ends within own own_one
 
   pub births_broken : SomeIs past.births.items (IsBornLate changes cut) → BirthsKept first history cut → ⊥
   births_broken (born, one, late) births =
       let own = late.flushed in
       let within : own.0.stamp < cut_of cut own.0.directory = rw own.2.own own.2.flushed in
-      let lt = births (birth_of born) (row_change_of own.0) (rw is.births at (to_map birth_of past.births.items born one)) (kept own.0 own.1) own.2.own within in
+      let lt =
+      births (birth_of born) (row_change_of own.0) (rw is.births at (to_map birth_of past.births.items born one)) (kept own.0 own.1) own.2.own within in
       let le = late.late in omega arith
 
   pub births_hold : (SomeIs past.births.items (IsBornLate changes cut) → ⊥) → BirthsKept first history cut
   births_hold none = λ birth own one own_one.
       over_births (λ b. (o : RowChange) → IsChange first history o → o.directory ≡ b.node → IsWithin cut o → b.stamp < cut_of cut b.directory) (λ born born_in.
-      over_changes (λ o. o.directory ≡ born.node → IsWithin cut o → born.stamp < cut_of cut born.directory) (λ flushed flushed_in own_is within. elim (below_or born.stamp (cut_of cut born.directory)) [
+      over_changes (λ o. o.directory ≡ born.node → IsWithin cut o → born.stamp < cut_of cut born.directory)
+      (λ flushed flushed_in own_is within. elim (below_or born.stamp (cut_of cut born.directory)) [
         | inl lt ↦ lt
-        | inr le ↦ absurd (none (born, born_in, record { late = le; flushed = (flushed, flushed_in, record { own = own_is; flushed = subst (λ (d : ℕ). flushed.stamp < cut_of cut d) own_is within }) }))
+        | inr le ↦
+            absurd
+            (none (
+              born,
+              born_in,
+              record {
+                late = le;
+                flushed =
+                    (flushed, flushed_in, record { own = own_is; flushed = subst (λ (d : ℕ). flushed.stamp < cut_of cut d) own_is within });
+              },
+            ))
       ])) birth one own own_one
 
   -- a last placing, of the changes that are kept and of the history's
-  last_is : (node stamp : ℕ) (own : OwnChange) → IsOneOf changes own → PlacesBelow node stamp own → ((other : OwnChange) → IsOneOf changes other → PlacesBelow node stamp other → other.stamp ≤ own.stamp) → IsLastPlacing first history node stamp (row_change_of own)
+  last_is : (node stamp : ℕ) (own : OwnChange) → IsOneOf changes own → PlacesBelow node stamp own
+      → ((other : OwnChange) → IsOneOf changes other → PlacesBelow node stamp other → other.stamp ≤ own.stamp)
+      → IsLastPlacing first history node stamp (row_change_of own)
   last_is node stamp own one places latest = record {
     is_change = kept own one;
     places = places.places;
     child = places.child;
     below = places.below;
-    latest = over_changes (λ o. o.places ≡ true → o.child ≡ node → o.stamp < stamp → o.stamp ≤ own.stamp) (λ other other_in p c b. latest other other_in (record { places = p; child = c; below = b }));
+    latest =
+        over_changes (λ o. o.places ≡ true → o.child ≡ node → o.stamp < stamp → o.stamp ≤ own.stamp)
+        (λ other other_in p c b. latest other other_in (record { places = p; child = c; below = b }));
   }
 
   is_last : (node stamp : ℕ) (last : RowChange) → IsLastPlacing first history node stamp last → IsLatest changes node stamp (Some last.stamp)
@@ -147,23 +182,35 @@ module _ (first : TreeState) (history : List Entry) (past : Past) (is : IsPast f
       let list = kept_list own.above next.place next.within in
       let keeps = is.above own one in
       let stand : Above (tree_after first (take own.stamp history)) own.directory (above_of own) = rw list.2 at (keeps.stand list.0 list.1) in
-      let row = row_on_way (tree_after first (take own.stamp history)) own.directory (above_of own) stand next.place node holder next.within next.node_is next.holder_is in
+      let row =
+      row_on_way (tree_after first (take own.stamp history)) own.directory
+      (above_of own) stand next.place node holder next.within next.node_is next.holder_is in
       let last = unplaced.latest.0 in
       let same : last.0.stamp ≡ unplaced.last = last.3 in
-      let latest = λ (other : OwnChange) (other_in : IsOneOf changes other) (places : PlacesBelow node own.stamp other). subst (λ (t : ℕ). other.stamp ≤ t) (sym same) (unplaced.latest.1 other other_in places) in
-      let lt = whole (row_change_of own) (above_of own) node holder row.1.0 (row_change_of last.0) (record { is_change = kept own one; moves = keeps.moves list.0 list.1 }) lacks.flushed stand row.0 row.1.1 (last_is node own.stamp last.0 last.1 last.2 latest) in
+      let latest =
+      λ (other : OwnChange) (other_in : IsOneOf changes other) (places : PlacesBelow node own.stamp other). subst (λ (t : ℕ). other.stamp ≤ t) (sym same)
+      (unplaced.latest.1 other other_in places) in
+      let lt =
+      whole (row_change_of own) (above_of own) node holder row.1.0 (row_change_of last.0)
+      (record { is_change = kept own one; moves = keeps.moves list.0 list.1 }) lacks.flushed stand row.0 row.1.1
+      (last_is node own.stamp last.0 last.1 last.2 latest) in
       let le = unplaced.late in omega arith
 
   module _ (sound : IsSoundTree first) (legal : IsLegal first history) where
     -- one change, by which a directory moved
-    kept_above : (SomeIs changes (LacksAncestor changes cut) → ⊥) → (own : OwnChange) → IsOneOf changes own → (above : List ℕ) (node holder : ℕ) (name : List ℕ) (last : RowChange) → IsMove first history (row_change_of own) → IsWithin cut (row_change_of own)
-        → Above (tree_after first (take own.stamp history)) own.directory above → IsOneOf (own.directory ∷ above) node → row_of (tree_after first (take own.stamp history)) holder name ≡ Some node → IsLastPlacing first history node own.stamp last → last.stamp < cut_of cut holder
+    kept_above : (SomeIs changes (LacksAncestor changes cut) → ⊥) → (own : OwnChange) → IsOneOf changes own
+        → (above : List ℕ) (node holder : ℕ) (name : List ℕ) (last : RowChange) → IsMove first history (row_change_of own) → IsWithin cut (row_change_of own)
+        → Above (tree_after first (take own.stamp history)) own.directory above → IsOneOf (own.directory ∷ above) node
+        → row_of (tree_after first (take own.stamp history)) holder name ≡ Some node → IsLastPlacing first history node own.stamp last
+        → last.stamp < cut_of cut holder
     kept_above none own one above node holder name last move within stand on_way row is_it = elim (below_or last.stamp (cut_of cut holder)) [
       | inl lt ↦ lt
       | inr le ↦
           let found = (is.above own one).all move.moves above stand in
           let tree = tree_after first (take own.stamp history) in
-          let next = next_on_way tree (histories_keep_sound first history own.stamp sound legal).sound own.directory above stand (changed_kind first history sound legal (row_change_of own) (kept own one)) node holder name on_way row in
+          let next =
+          next_on_way tree (histories_keep_sound first history own.stamp sound legal).sound own.directory above stand
+          (changed_kind first history sound legal (row_change_of own) (kept own one)) node holder name on_way row in
           let same : above_of own ≡ above = ap (λ (o : Option (Vec ℕ Global)). option_map_or (λ (v : Vec ℕ Global). v.items) o []) found.1 ∙ found.2 in
           absurd (none (
             own,
@@ -182,11 +229,15 @@ module _ (first : TreeState) (history : List Entry) (past : Past) (is : IsPast f
 
     pub ancestors_hold : (SomeIs changes (LacksAncestor changes cut) → ⊥) → AncestorsKept first history cut
     ancestors_hold none = λ change above node holder name last move.
-        over_changes (λ c. IsMove first history c → IsWithin cut c → Above (tree_after first (take c.stamp history)) c.directory above → IsOneOf (c.directory ∷ above) node → row_of (tree_after first (take c.stamp history)) holder name ≡ Some node → IsLastPlacing first history node c.stamp last → last.stamp < cut_of cut holder)
+        over_changes
+        (λ c. IsMove first history c → IsWithin cut c → Above (tree_after first (take c.stamp history)) c.directory above
+        → IsOneOf (c.directory ∷ above) node → row_of (tree_after first (take c.stamp history)) holder name ≡ Some node
+        → IsLastPlacing first history node c.stamp last → last.stamp < cut_of cut holder)
         (λ own one. kept_above none own one above node holder name last) change move.is_change move
 
 -- what searches through the same changes and births have found
-module _ (first : TreeState) (history : List Entry) (past : Past) (is : IsPast first history past) (cut : Cut) (changes : List OwnChange) (births : List BornNode) (same : changes ≡ past.changes.items) (same_births : births ≡ past.births.items) (result : Bool) where
+module _ (first : TreeState) (history : List Entry) (past : Past) (is : IsPast first history past) (cut : Cut) (changes : List OwnChange)
+    (births : List BornNode) (same : changes ≡ past.changes.items) (same_births : births ≡ past.births.items) (result : Bool) where
   abbrev Tells : Type 0 → Type 0
   Tells What = (result ≡ true) ↔ What
 
@@ -221,5 +272,7 @@ module _ (first : TreeState) (history : List Entry) (past : Past) (is : IsPast f
   pub ancestors_found : Tells (SomeIs changes (LacksAncestor changes cut)) → result ≡ true → AncestorsKept first history cut → ⊥
   ancestors_found tells = by_search (kept_search (λ cs bs. SomeIs cs (LacksAncestor cs cut)) tells) (ancestors_broken first history past is cut)
 
-  pub ancestors_not_found : IsSoundTree first → IsLegal first history → Tells (SomeIs changes (LacksAncestor changes cut)) → result ≡ false → AncestorsKept first history cut
-  ancestors_not_found sound legal tells = by_no_search (kept_search (λ cs bs. SomeIs cs (LacksAncestor cs cut)) tells) (ancestors_hold first history past is cut sound legal)
+  pub ancestors_not_found : IsSoundTree first → IsLegal first history → Tells (SomeIs changes (LacksAncestor changes cut)) → result ≡ false
+      → AncestorsKept first history cut
+  ancestors_not_found sound legal tells =
+      by_no_search (kept_search (λ cs bs. SomeIs cs (LacksAncestor cs cut)) tells) (ancestors_hold first history past is cut sound legal)

@@ -19,7 +19,9 @@ module _ (old : KeptState) (past : Past) (ready : IsReadyPast old.first old.entr
   abbrev tree : TreeState
   tree = tree_after old.first old.entries
 
-  module _ (entry : Entry) (running : old.crashed ≡ false) (stamped : entry.stamp.0 ≡ length old.entries) (core : entry.core.0 < length old.first.made) (is_flush : Bool) (flushing : is_flush ≡ flushes past.tree entry.call) (reply : Reply) (due : reply ≡ (verdict past.tree entry.core.0 entry.call).reply) where
+  module _ (entry : Entry) (running : old.crashed ≡ false) (stamped : entry.stamp.0 ≡ length old.entries) (core : entry.core.0 < length old.first.made)
+      (is_flush : Bool) (flushing : is_flush ≡ flushes past.tree entry.call) (reply : Reply)
+      (due : reply ≡ (verdict past.tree entry.core.0 entry.call).reply) where
     due_now : reply ≡ (verdict tree entry.core.0 entry.call).reply
     due_now = due ∙ ap (λ (t : TreeState). (verdict t entry.core.0 entry.call).reply) ready.is_past.tree
 
@@ -69,7 +71,8 @@ module _ (old : KeptState) (past : Past) (ready : IsReadyPast old.first old.entr
     none_holds right (refused.AlreadyOpened commit) holds = holds
     none_holds right refused.NoMemory holds = holds
 
-    pub takes_call : HasDueAnswer is_flush reply entry → (new : KeptState) → new ≡ record old { entries = old.entries ++ entry ∷ [] } → Accepts (machine_of old) (event.Call entry) (machine_of new)
+    pub takes_call : HasDueAnswer is_flush reply entry → (new : KeptState) → new ≡ record old { entries = old.entries ++ entry ∷ [] }
+        → Accepts (machine_of old) (event.Call entry) (machine_of new)
     takes_call right new is = record {
       free = none_holds right;
       moves = (may_come right, ap machine_of is);

@@ -46,11 +46,15 @@ remove_absent rows name none =
     ∙ sym (get-remove nat_list_cmp_total rows name q))
 
 -- one more change is made where it is the directory's own and lies below the stamp
-one_made : (own : RowChange → Bool) (rows : FinMap name_cmp ℕ) (change : RowChange) → fold with_change rows (filter own (change ∷ [])) ≡ cond (own change) (with_change rows change) rows
-one_made own rows change = elim (own change) as (λ b. fold with_change rows (cond b (change ∷ []) []) ≡ cond b (with_change rows change) rows) [ true ↦ refl | false ↦ refl ]
+one_made : (own : RowChange → Bool) (rows : FinMap name_cmp ℕ) (change : RowChange)
+    → fold with_change rows (filter own (change ∷ [])) ≡ cond (own change) (with_change rows change) rows
+one_made own rows change =
+    elim (own change) as (λ b. fold with_change rows (cond b (change ∷ []) []) ≡ cond b (with_change rows change) rows) [ true ↦ refl | false ↦ refl ]
 
-pub kept_more : (first : TreeState) (changes : List OwnChange) (i : ℕ) (directory stamp : ℕ) (change : OwnChange) (rows made : FinMap name_cmp ℕ) → i < length changes → change ≡ get_or changes i change → rows ≡ kept_rows first (take i changes) directory stamp
-    → made ≡ cond (is_own_below directory stamp (row_change_of change)) (with_change rows (row_change_of change)) rows → made ≡ kept_rows first (take (i + 1) changes) directory stamp
+pub kept_more : (first : TreeState) (changes : List OwnChange) (i : ℕ) (directory stamp : ℕ) (change : OwnChange) (rows made : FinMap name_cmp ℕ)
+    → i < length changes → change ≡ get_or changes i change → rows ≡ kept_rows first (take i changes) directory stamp
+    → made ≡ cond (is_own_below directory stamp (row_change_of change)) (with_change rows (row_change_of change)) rows
+    → made ≡ kept_rows first (take (i + 1) changes) directory stamp
 kept_more first changes i directory stamp change rows made lt is before step =
     let own = is_own_below directory stamp in
     let base = names_of directory first.rows in
@@ -64,7 +68,8 @@ kept_more first changes i directory stamp change rows made lt is before step =
     ∙ ap (λ l. fold with_change base (filter own (map row_change_of l))) (sym (take_more changes i change lt))
 
 -- an entry of sorted ones is found
-below_one : (name : List ℕ) (es : List (List ℕ × ℕ)) → T (below_all name_cmp name es) → (e : List ℕ × ℕ) → IsOneOf es e → T (Rattle.std.specs.Ordering.is_lt (name_cmp name e.0))
+below_one : (name : List ℕ) (es : List (List ℕ × ℕ)) → T (below_all name_cmp name es) → (e : List ℕ × ℕ) → IsOneOf es e
+    → T (Rattle.std.specs.Ordering.is_lt (name_cmp name e.0))
 below_one name [] below e one = absurd one
 below_one name (f ∷ es) below e one = elim one [
   | inl same ↦ subst (λ (x : List ℕ × ℕ). T (Rattle.std.specs.Ordering.is_lt (name_cmp name x.0))) same (both_first _ _ below)
@@ -74,7 +79,9 @@ below_one name (f ∷ es) below e one = elim one [
 found_sorted : (es : List (List ℕ × ℕ)) → T (is_sorted name_cmp es) → (e : List ℕ × ℕ) → IsOneOf es e → find name_cmp e.0 es ≡ Some e.1
 found_sorted [] sorted e one = absurd one
 found_sorted (f ∷ es) sorted e one = elim one [
-  | inl same ↦ subst (λ (x : List ℕ × ℕ). find name_cmp x.0 (f ∷ es) ≡ Some x.1) same (ap (λ r. cond (is_eq r) (Some f.1) (find name_cmp f.0 es)) (tied_itself nat_list_cmp_total f.0))
+  | inl same ↦
+      subst (λ (x : List ℕ × ℕ). find name_cmp x.0 (f ∷ es) ≡ Some x.1) same
+      (ap (λ r. cond (is_eq r) (Some f.1) (find name_cmp f.0 es)) (tied_itself nat_list_cmp_total f.0))
   | inr rest ↦
       ap (λ r. cond (is_eq r) (Some f.1) (find name_cmp e.0 es))
       (nat_list_cmp_total.antisymm e.0 f.0 ∙ ap ordering_reverse (is_less _ (below_one f.0 es (both_first _ _ sorted) e rest)))
@@ -94,7 +101,8 @@ found_entry (f ∷ es) name node here =
     some_same is = cc
 
 -- the children of rows are those of their list
-pub listed_child : (rows : List NameRow) (names : FinMap name_cmp ℕ) → map name_and_child rows ≡ entries names → (node : ℕ) → OfSome rows IsChildOf node → IsChild names node
+pub listed_child : (rows : List NameRow) (names : FinMap name_cmp ℕ) → map name_and_child rows ≡ entries names → (node : ℕ) → OfSome rows IsChildOf node
+    → IsChild names node
 listed_child rows names same node (row, one, e) = (
   row.name,
   get-entries names row.name
@@ -102,23 +110,33 @@ listed_child rows names same node (row, one, e) = (
       ∙ ap (λ x. Some x) e,
 )
 
-pub child_listed : (rows : List NameRow) (names : FinMap name_cmp ℕ) → map name_and_child rows ≡ entries names → (node : ℕ) → IsChild names node → OfSome rows IsChildOf node
+pub child_listed : (rows : List NameRow) (names : FinMap name_cmp ℕ) → map name_and_child rows ≡ entries names → (node : ℕ) → IsChild names node
+    → OfSome rows IsChildOf node
 child_listed rows names same node (name, is) =
     let found = found_entry (entries names) name node (sym (get-entries names name) ∙ is) in
     let row = from_map name_and_child rows found.0 (rw same found.1) in
     (row.0, row.1, ap (λ (e : List ℕ × ℕ). e.1) row.2 ∙ found.2)
 
-pub children_join : (rows : List NameRow) (names kept : FinMap name_cmp ℕ) (set joined : NodeSet) → map name_and_child rows ≡ entries names → names ≡ kept → Joins (OfSome rows IsChildOf) set joined → Joins (IsChild kept) set joined
+pub children_join : (rows : List NameRow) (names kept : FinMap name_cmp ℕ) (set joined : NodeSet) → map name_and_child rows ≡ entries names → names ≡ kept
+    → Joins (OfSome rows IsChildOf) set joined → Joins (IsChild kept) set joined
 children_join rows names kept set joined listed same joins node = (
   λ has. elim ((joins node).0 has) [ inl old ↦ inl old | inr some ↦ inr (rw same at (listed_child rows names listed node some)) ],
   λ from. (joins node).1 (elim from [ inl old ↦ inl old | inr child ↦ inr (child_listed rows names listed node (rw same child)) ]),
 )
 
 -- a row at a stamp stood in the tree, or a change stands in its directory
-came : (d stamp : ℕ) (n : List ℕ) (node : ℕ) (rows : FinMap name_cmp ℕ) (cs : List OwnChange) → get (fold with_change rows (filter (is_own_below d stamp) (map row_change_of cs))) n ≡ Some node → (get rows n ≡ Some node) ⊎ ((change : OwnChange) × IsOneOf cs change × (change.directory ≡ d))
+came : (d stamp : ℕ) (n : List ℕ) (node : ℕ) (rows : FinMap name_cmp ℕ) (cs : List OwnChange)
+    → get (fold with_change rows (filter (is_own_below d stamp) (map row_change_of cs))) n ≡ Some node
+    → (get rows n ≡ Some node) ⊎ ((change : OwnChange) × IsOneOf cs change × (change.directory ≡ d))
 came d stamp n node rows [] is = inl is
 came d stamp n node rows (x ∷ cs) is =
-    elim (is_own_below d stamp (row_change_of x)) as (λ b. is_own_below d stamp (row_change_of x) ≡ b → get (fold with_change rows (cond b (row_change_of x ∷ filter (is_own_below d stamp) (map row_change_of cs)) (filter (is_own_below d stamp) (map row_change_of cs)))) n ≡ Some node → (get rows n ≡ Some node) ⊎ ((change : OwnChange) × IsOneOf (x ∷ cs) change × (change.directory ≡ d))) [
+    elim (is_own_below d stamp (row_change_of x)) as (λ b. is_own_below d stamp (row_change_of x) ≡ b
+    → get
+    (fold with_change rows
+    (cond b (row_change_of x ∷ filter (is_own_below d stamp) (map row_change_of cs)) (filter (is_own_below d stamp) (map row_change_of cs))))
+    n
+    ≡ Some node
+    → (get rows n ≡ Some node) ⊎ ((change : OwnChange) × IsOneOf (x ∷ cs) change × (change.directory ≡ d))) [
       | true ↦ λ own _. inr (x, inl refl, eqb-true _ _ (and_second _ _ own))
       | false ↦ λ _ here. elim (came d stamp n node rows cs here) [ inl stood ↦ inl stood | inr (change, one, same) ↦ inr (change, inr one, same) ]
     ] refl is
@@ -129,7 +147,9 @@ directory_there None is = absurd (not_both is refl)
 directory_there (Some node) is = refl
 
 -- the children of some directories' rows are those of all, where all that may have rows are among them
-pub are_children : (first : TreeState) (changes : List OwnChange) (cut : Cut) (directories listed : List ℕ) (named : NodeSet) → IsSound first → ((node : ℕ) → IsSome (get first.nodes node) → IsOneOf directories node) → ((change : OwnChange) → IsOneOf changes change → IsOneOf directories change.directory) → listed ≡ directories
+pub are_children : (first : TreeState) (changes : List OwnChange) (cut : Cut) (directories listed : List ℕ) (named : NodeSet) → IsSound first
+    → ((node : ℕ) → IsSome (get first.nodes node) → IsOneOf directories node)
+    → ((change : OwnChange) → IsOneOf changes change → IsOneOf directories change.directory) → listed ≡ directories
     → ((node : ℕ) → (has_node named node ≡ true) ↔ OfSome listed (IsChildIn first changes cut) node) → AreChildren first changes cut named
 are_children first changes cut directories listed named sound nodes changed same gathered node = (
   λ has. let some = (gathered node).0 has in (some.0, some.2),
@@ -143,7 +163,8 @@ are_children first changes cut directories listed named sound nodes changed same
     ]
 
 -- they are the nodes that the rows at the cut name
-pub are_named : (first : TreeState) (history : List Entry) (past : Past) (cut : Cut) (changes : List OwnChange) (named : NodeSet) → IsPast first history past → changes ≡ past.changes.items → AreChildren first changes cut named → AreNamed first history cut named
+pub are_named : (first : TreeState) (history : List Entry) (past : Past) (cut : Cut) (changes : List OwnChange) (named : NodeSet) → IsPast first history past
+    → changes ≡ past.changes.items → AreChildren first changes cut named → AreNamed first history cut named
 are_named first history past cut changes named is same children node = (
   λ has. let child = (children node).0 has in record { directory = child.0; name = child.1.0; row = kept child.0 child.1.0 ∙ child.1.1 },
   λ names. (children node).1 (names.directory, (names.name, sym (kept names.directory names.name) ∙ names.row)),
@@ -153,4 +174,5 @@ are_named first history past cut changes named is same children node = (
     kept d n =
         sym (get-names_where d (λ _. true) (counted_rows_at_cut first history every_entry cut) n)
         ∙ ap (λ m. get m n) (names_of-cut d cut first.rows (changes_of first history))
-        ∙ ap (λ l. get (fold with_change (names_of d first.rows) (filter (is_own_below d (cut_of cut d)) l)) n) (sym is.changes ∙ ap (map row_change_of) (sym same))
+        ∙ ap (λ l. get (fold with_change (names_of d first.rows) (filter (is_own_below d (cut_of cut d)) l)) n)
+        (sym is.changes ∙ ap (map row_change_of) (sym same))

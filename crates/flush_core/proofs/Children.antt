@@ -26,11 +26,18 @@ pub data OfMove (tree : TreeState) (q : ℕ) (m : List ℕ) (c : ℕ) (x : RowCh
   replaces : x.directory ≡ q → row_of tree q m ≡ Some x.child → OfMove tree q m c x
   moves : x.child ≡ c → OfMove tree q m c x
 
-pub of_move : (tree : TreeState) (t p : ℕ) (n : List ℕ) (q : ℕ) (m : List ℕ) (c : ℕ) (x : RowChange) → IsOneOf (changes_by tree t (Moves p n q m c)) x → OfMove tree q m c x
+pub of_move : (tree : TreeState) (t p : ℕ) (n : List ℕ) (q : ℕ) (m : List ℕ) (c : ℕ) (x : RowChange) → IsOneOf (changes_by tree t (Moves p n q m c)) x
+    → OfMove tree q m c x
 of_move tree t p n q m c x one =
-    elim (row_of tree q m) as (λ o. row_of tree q m ≡ o → IsOneOf (replaced tree t p q m o ++ removed t p n c (other_side p q) false ∷ added t q m c (other_side q p) ∷ []) x → OfMove tree q m c x) [
+    elim (row_of tree q m) as (λ o. row_of tree q m ≡ o
+    → IsOneOf (replaced tree t p q m o ++ removed t p n c (other_side p q) false ∷ added t q m c (other_side q p) ∷ []) x → OfMove tree q m c x) [
       | None ↦ λ _ h. two h
-      | Some there ↦ λ row h. elim h [ inl e ↦ replaces (sym (ap (λ (y : RowChange). y.directory) e)) (row ∙ ap (λ (y : RowChange). Some y.child) e) | inr rest ↦ two rest ]
+      | Some there ↦
+          λ row h. elim h [
+            | inl e ↦ replaces (sym (ap (λ (y : RowChange). y.directory) e)) (row ∙ ap (λ (y : RowChange). Some y.child) e)
+            | inr rest ↦
+                two rest
+          ]
     ] refl one
   where
     two : IsOneOf (removed t p n c (other_side p q) false ∷ added t q m c (other_side q p) ∷ []) x → OfMove tree q m c x
@@ -48,12 +55,15 @@ module _ (tree : TreeState) (core t : ℕ) (s : IsSound tree) where
   same_child P y x h one = elim one [ inl e ↦ rw e at h | inr none ↦ absurd none ]
 
   -- a change's child is a node after it
-  pub child_there : (effect : Effect) (makes : Option Kind) → Fits tree core effect makes → (x : RowChange) → IsOneOf (changes_by tree t effect) x → IsSome (get (tree_with tree core effect makes).nodes x.child)
+  pub child_there : (effect : Effect) (makes : Option Kind) → Fits tree core effect makes → (x : RowChange) → IsOneOf (changes_by tree t effect) x
+      → IsSome (get (tree_with tree core effect makes).nodes x.child)
   child_there Stays makes f x one = absurd one
   child_there (Edits file edit) makes f x one = absurd one
   child_there (Adds d n c) None f x one = same_child (λ y. IsSome (get tree.nodes y.child)) (added t d n c None) x f.node one
-  child_there (Adds d n c) (Some kind) f x one = same_child (λ y. IsSome (get (tree_with tree core (Adds d n c) (Some kind)).nodes y.child)) (added t d n c None) x (made_node tree core d n c kind f) one
-  child_there (Removes d n c) None f x one = same_child (λ y. IsSome (get tree.nodes y.child)) (removed t d n c None (is_directory tree c)) x (s.node d n c f.row) one
+  child_there (Adds d n c) (Some kind) f x one =
+      same_child (λ y. IsSome (get (tree_with tree core (Adds d n c) (Some kind)).nodes y.child)) (added t d n c None) x (made_node tree core d n c kind f) one
+  child_there (Removes d n c) None f x one =
+      same_child (λ y. IsSome (get tree.nodes y.child)) (removed t d n c None (is_directory tree c)) x (s.node d n c f.row) one
   child_there (Moves p n q m c) None f x one = elim (of_move tree t p n q m c x one) [
     | replaces _ row ↦ s.node q m x.child row
     | moves e ↦ rw e (s.node p n c f.row)
@@ -62,12 +72,15 @@ module _ (tree : TreeState) (core t : ℕ) (s : IsSound tree) where
   child_there (Moves p n q m c) (Some kind) f x one = absurd f
 
   -- it was named before, or is made
-  pub child_named : (effect : Effect) (makes : Option Kind) → Fits tree core effect makes → LinksNamed tree effect makes → (x : RowChange) → IsOneOf (changes_by tree t effect) x → IsNamed tree.rows x.child ⊎ IsBorn tree core s effect makes x.child
+  pub child_named : (effect : Effect) (makes : Option Kind) → Fits tree core effect makes → LinksNamed tree effect makes → (x : RowChange)
+      → IsOneOf (changes_by tree t effect) x → IsNamed tree.rows x.child ⊎ IsBorn tree core s effect makes x.child
   child_named Stays makes f links x one = absurd one
   child_named (Edits file edit) makes f links x one = absurd one
   child_named (Adds d n c) None f links x one = inl (same_child (λ y. IsNamed tree.rows y.child) (added t d n c None) x (links d n c refl refl) one)
   child_named (Adds d n c) (Some kind) f links x one =
-      inr (same_child (λ y. IsBorn tree core s (Adds d n c) (Some kind) y.child) (added t d n c None) x (record { directory = d; name = n; kind = kind; adds = refl; made = refl }) one)
+      inr
+      (same_child (λ y. IsBorn tree core s (Adds d n c) (Some kind) y.child) (added t d n c None) x
+      (record { directory = d; name = n; kind = kind; adds = refl; made = refl }) one)
   child_named (Removes d n c) None f links x one =
       inl (same_child (λ y. IsNamed tree.rows y.child) (removed t d n c None (is_directory tree c)) x (record { directory = d; name = n; row = f.row }) one)
   child_named (Moves p n q m c) None f links x one = elim (of_move tree t p n q m c x one) [
@@ -78,7 +91,8 @@ module _ (tree : TreeState) (core t : ℕ) (s : IsSound tree) where
   child_named (Moves p n q m c) (Some kind) f links x one = absurd f
 
   -- what a row names after an effect was named before, or is made
-  pub named_was : (effect : Effect) (makes : Option Kind) → Fits tree core effect makes → LinksNamed tree effect makes → (d : ℕ) (n : List ℕ) (x : ℕ) → row_of (tree_with tree core effect makes) d n ≡ Some x → IsNamed tree.rows x ⊎ IsBorn tree core s effect makes x
+  pub named_was : (effect : Effect) (makes : Option Kind) → Fits tree core effect makes → LinksNamed tree effect makes → (d : ℕ) (n : List ℕ) (x : ℕ)
+      → row_of (tree_with tree core effect makes) d n ≡ Some x → IsNamed tree.rows x ⊎ IsBorn tree core s effect makes x
   named_was Stays None f links d n x row = inl (record { directory = d; name = n; row = row })
   named_was (Edits file edit) None f links d n x row = inl (record { directory = d; name = n; row = row })
   named_was (Removes e k c) None f links d n x row = inl (record { directory = d; name = n; row = (removed_cases tree.rows d e n k x row).1 })
@@ -104,7 +118,8 @@ module _ (tree : TreeState) (core t : ℕ) (s : IsSound tree) where
   HasChange effect h a = (x : RowChange) × IsOneOf (changes_by tree t effect) x × (x.directory ≡ h) × (x.child ≡ a)
 
   -- a row after an effect was there, or a change of its directory names its child
-  pub row_came : (effect : Effect) (makes : Option Kind) (h : ℕ) (k : List ℕ) (a : ℕ) → row_of (tree_with tree core effect makes) h k ≡ Some a → (row_of tree h k ≡ Some a) ⊎ HasChange effect h a
+  pub row_came : (effect : Effect) (makes : Option Kind) (h : ℕ) (k : List ℕ) (a : ℕ) → row_of (tree_with tree core effect makes) h k ≡ Some a
+      → (row_of tree h k ≡ Some a) ⊎ HasChange effect h a
   row_came Stays makes h k a row = inl row
   row_came (Edits file edit) makes h k a row = inl row
   row_came (Removes d n c) makes h k a row = inl (removed_cases tree.rows h d k n a row).1
@@ -132,10 +147,12 @@ module _ (r : Run) where
     named_since u zero x le some named = rw (none_below u le) named
     named_since u (suc t) x le some named = elim (below_or t u) [
       | inl lt ↦ rw (is_next u t le lt) named
-      | inr less ↦ elim (named_was (r.tree t) (r.core t) t (r.sound t) (r.effect t) (r.makes t) (r.fits t) (links t) named.directory named.name x (sym (ap (λ (tree : TreeState). row_of tree named.directory named.name) (r.next t)) ∙ named.row)) [
-        | inl was ↦ named_since u t x less some was
-        | inr born ↦ absurd (no_node_yet r t born.directory born.name x born.kind born.adds born.made u less some)
-      ]
+      | inr less ↦
+          elim (named_was (r.tree t) (r.core t) t (r.sound t) (r.effect t) (r.makes t) (r.fits t) (links t) named.directory named.name x
+          (sym (ap (λ (tree : TreeState). row_of tree named.directory named.name) (r.next t)) ∙ named.row)) [
+            | inl was ↦ named_since u t x less some was
+            | inr born ↦ absurd (no_node_yet r t born.directory born.name x born.kind born.adds born.made u less some)
+          ]
     ]
 
     -- a node that is there and that a later change names is named
@@ -155,17 +172,38 @@ pub record IsOpen (r : Run) (cut : ℕ → ℕ) (t a : ℕ) : Type 0 where
   pub unflushed : cut change.directory ≤ stamp
 
 -- a row of a tree is one at the cut, or its child has an unflushed change below the stamp
-pub flushed_or_open : (r : Run) (cut : ℕ → ℕ) (s : Seen r cut) (t h : ℕ) (k : List ℕ) (a : ℕ) → row_of (r.tree t) h k ≡ Some a → (get (s.rows t) (h, k) ≡ Some a) ⊎ IsOpen r cut t a
+pub flushed_or_open : (r : Run) (cut : ℕ → ℕ) (s : Seen r cut) (t h : ℕ) (k : List ℕ) (a : ℕ) → row_of (r.tree t) h k ≡ Some a
+    → (get (s.rows t) (h, k) ≡ Some a) ⊎ IsOpen r cut t a
 flushed_or_open r cut s zero h k a row = inl (ahead r cut s zero h k (omega arith) ∙ row)
 flushed_or_open r cut s (suc t) h k a row = elim (below_or t (cut h)) [
   | inl lt ↦ inl (ahead r cut s (suc t) h k (omega arith) ∙ row)
-  | inr le ↦ elim (row_came (r.tree t) (r.core t) t (r.sound t) (r.effect t) (r.makes t) h k a (sym (ap (λ (tree : TreeState). row_of tree h k) (r.next t)) ∙ row)) [
-    | inl was ↦ elim (flushed_or_open r cut s t h k a was) [
-      | inl there ↦ inl (behind r cut s t h k le ∙ there)
-      | inr o ↦ inr (record { stamp = o.stamp; change = o.change; made = o.made; before = let lt = o.before in omega arith; child = o.child; unflushed = o.unflushed })
-    ]
-    | inr came ↦ inr (record { stamp = t; change = came.0; made = came.1; before = omega arith; child = came.3; unflushed = subst (λ (d : ℕ). cut d ≤ t) (sym came.2) le })
-  ]
+  | inr le ↦
+      elim (row_came (r.tree t) (r.core t) t (r.sound t) (r.effect t) (r.makes t) h k a (sym (ap (λ (tree : TreeState). row_of tree h k) (r.next t)) ∙ row)) [
+        | inl was ↦ elim (flushed_or_open r cut s t h k a was) [
+          | inl there ↦ inl (behind r cut s t h k le ∙ there)
+          | inr o ↦
+              inr
+              (record {
+                stamp = o.stamp;
+                change = o.change;
+                made = o.made;
+                before = let lt = o.before in
+                    omega arith;
+                child = o.child;
+                unflushed = o.unflushed;
+              })
+        ]
+        | inr came ↦
+            inr
+            (record {
+              stamp = t;
+              change = came.0;
+              made = came.1;
+              before = omega arith;
+              child = came.3;
+              unflushed = subst (λ (d : ℕ). cut d ≤ t) (sym came.2) le;
+            })
+      ]
 ]
 
 -- in the run of a legal history links add rows of nodes that are named

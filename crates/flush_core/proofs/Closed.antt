@@ -28,7 +28,8 @@ use Rattle.flush_core.proofs.Along.{node_first, tree_at, effect_at, makes_at, tr
 use Rattle.flush_core.proofs.CutNodes.{still_node, still_kind}
 
 -- a change that places a child, where an effect places one
-pub placing : (tree : TreeState) (t : ℕ) (effect : Effect) (node : ℕ) → placed effect ≡ Some node → (x : RowChange) × IsOneOf (changes_by tree t effect) x × (x.places ≡ true) × (x.child ≡ node)
+pub placing : (tree : TreeState) (t : ℕ) (effect : Effect) (node : ℕ) → placed effect ≡ Some node
+    → (x : RowChange) × IsOneOf (changes_by tree t effect) x × (x.places ≡ true) × (x.child ≡ node)
 placing tree t Stays node e = cc
 placing tree t (Edits file edit) node e = cc
 placing tree t (Removes d n c) node e = cc
@@ -39,13 +40,16 @@ no_place : {P : Type 0} (x y : RowChange) → x ≡ y → y.places ≡ true → 
 no_place x y e places not = absurd (not_both (ap (λ (z : RowChange). z.places) e ∙ places) not)
 
 -- where a change places a child, its effect does
-pub placed_by : (tree : TreeState) (t : ℕ) (effect : Effect) (x : RowChange) → IsOneOf (changes_by tree t effect) x → x.places ≡ true → placed effect ≡ Some x.child
+pub placed_by : (tree : TreeState) (t : ℕ) (effect : Effect) (x : RowChange) → IsOneOf (changes_by tree t effect) x → x.places ≡ true
+    → placed effect ≡ Some x.child
 placed_by tree t Stays x one places = absurd one
 placed_by tree t (Edits file edit) x one places = absurd one
-placed_by tree t (Removes d n c) x one places = elim one [ inl e ↦ no_place (removed t d n c None (is_directory tree c)) x e places refl | inr none ↦ absurd none ]
+placed_by tree t (Removes d n c) x one places =
+    elim one [ inl e ↦ no_place (removed t d n c None (is_directory tree c)) x e places refl | inr none ↦ absurd none ]
 placed_by tree t (Adds d n c) x one places = elim one [ inl e ↦ ap (λ (y : RowChange). Some y.child) e | inr none ↦ absurd none ]
 placed_by tree t (Moves p n q m c) x one places =
-    elim (row_of tree q m) as (λ o. IsOneOf (replaced tree t p q m o ++ removed t p n c (other_side p q) false ∷ added t q m c (other_side q p) ∷ []) x → Some c ≡ Some x.child) [
+    elim (row_of tree q m) as (λ o. IsOneOf (replaced tree t p q m o ++ removed t p n c (other_side p q) false ∷ added t q m c (other_side q p) ∷ []) x
+    → Some c ≡ Some x.child) [
       | None ↦ λ h. two h
       | Some there ↦ λ h. elim h [ inl e ↦ no_place (removed t q m there (other_side q p) (is_directory tree there)) x e places refl | inr rest ↦ two rest ]
     ] one
@@ -77,7 +81,12 @@ module _ (first : TreeState) (history : List Entry) (is : IsSoundTree first) (le
           places = found.2;
           child = found.3;
           below = rw e last.below;
-          latest = λ other one places child lt. rw e (last.latest other.stamp lt (placed_by (tree_at first history other.stamp) other.stamp (effect_at first history other.stamp) other (change_of first history other legal one) places ∙ ap Some child));
+          latest =
+              λ other one places child lt. rw e
+              (last.latest other.stamp lt
+              (placed_by (tree_at first history other.stamp) other.stamp (effect_at first history other.stamp) other
+              (change_of first history other legal one) places
+              ∙ ap Some child));
         },
         e,
       )
@@ -86,11 +95,17 @@ module _ (first : TreeState) (history : List Entry) (is : IsSoundTree first) (le
   pub keeps_of : IsClosed first history cut → Keeps run (cut_of cut)
   keeps_of closed = record {
     renames = λ t x other one two lt. rw (at_stamp t x one) at (closed.renames x other (in_history t x one) two (rw (at_stamp t x one) lt));
-    removals = λ t x u y one ends lt own same. rw (at_stamp u y own) at (closed.removals x y (in_history t x one) ends (rw (at_stamp t x one) lt) (in_history u y own) same);
-    births = λ b d n kind c u x adds makes one same lt. closed.births (record { stamp = b; directory = d; node = c }) x (birth_in first history b (record { stamp = b; directory = d; node = c }) legal (born b d n kind c adds makes)) (in_history u x one) same (rw (at_stamp u x one) (rw same lt));
+    removals =
+        λ t x u y one ends lt own same. rw (at_stamp u y own) at
+        (closed.removals x y (in_history t x one) ends (rw (at_stamp t x one) lt) (in_history u y own) same);
+    births =
+        λ b d n kind c u x adds makes one same lt. closed.births (record { stamp = b; directory = d; node = c }) x
+        (birth_in first history b (record { stamp = b; directory = d; node = c }) legal (born b d n kind c adds makes)) (in_history u x one) same
+        (rw (at_stamp u x one) (rw same lt));
     ancestors = λ t x above node holder name s one places other kind lt way among row last.
         let e = at_stamp t x one in
-        let tree : tree_at first history t ≡ tree_after first (take x.stamp history) = tree_at-after first history t ∙ ap (λ (k : ℕ). tree_after first (take k history)) (sym e) in
+        let tree : tree_at first history t ≡ tree_after first (take x.stamp history) =
+        tree_at-after first history t ∙ ap (λ (k : ℕ). tree_after first (take k history)) (sym e) in
         let found = last_change node t s last in
         subst (λ (k : ℕ). k < cut_of cut holder) found.2 (closed.ancestors x above node holder name found.0 (record {
           is_change = in_history t x one;
@@ -98,7 +113,8 @@ module _ (first : TreeState) (history : List Entry) (is : IsSoundTree first) (le
         }) (rw e lt) (rw tree at way) among (rw tree at row) (rw e found.1));
   }
     where
-      born : (b d : ℕ) (n : List ℕ) (kind : Kind) (c : ℕ) → effect_at first history b ≡ Adds d n c → makes_at first history b ≡ Some kind → IsOneOf (births_by b (effect_at first history b) (makes_at first history b)) (record { stamp = b; directory = d; node = c })
+      born : (b d : ℕ) (n : List ℕ) (kind : Kind) (c : ℕ) → effect_at first history b ≡ Adds d n c → makes_at first history b ≡ Some kind
+          → IsOneOf (births_by b (effect_at first history b) (makes_at first history b)) (record { stamp = b; directory = d; node = c })
       born b d n kind c adds makes = rw makes (rw adds (inl refl))
 
   -- the rows at the cut, stamp by stamp
@@ -111,8 +127,10 @@ module _ (first : TreeState) (history : List Entry) (is : IsSoundTree first) (le
     begin = nothing history;
     more = λ t.
         ap (λ cs. fold with_own first.rows (filter (is_within cut) cs)) (changes_till-more first history t legal)
-        ∙ ap (fold with_own first.rows) (filter-append (is_within cut) (changes_till first history t) (changes_by (tree_at first history t) t (effect_at first history t)))
-        ∙ fold-append with_own first.rows (filter (is_within cut) (changes_till first history t)) (filter (is_within cut) (changes_by (tree_at first history t) t (effect_at first history t)));
+        ∙ ap (fold with_own first.rows)
+        (filter-append (is_within cut) (changes_till first history t) (changes_by (tree_at first history t) t (effect_at first history t)))
+        ∙ fold-append with_own first.rows (filter (is_within cut) (changes_till first history t))
+        (filter (is_within cut) (changes_by (tree_at first history t) t (effect_at first history t)));
   }
     where
       nothing : (h : List Entry) → fold with_own first.rows (filter (is_within cut) (changes_till first h 0)) ≡ (tree_at first h 0).rows
@@ -148,7 +166,9 @@ module _ (first : TreeState) (history : List Entry) (is : IsSoundTree first) (le
   begins : IsSound (with_rows whole first.rows)
   begins = IsSound-nodes first (nodes_at_cut first history cut) (tree_after first history).made is.sound (record {
     node = λ x some. still_node cut_bytes (tree_after first history).nodes x (nodes_at first history 0 is legal x (node_first first history x some)).0;
-    kind = λ x some. still_kind cut_bytes (tree_after first history).nodes x ∙ (nodes_at first history 0 is legal x (node_first first history x some)).1 ∙ kind_first history x;
+    kind =
+        λ x some. still_kind cut_bytes (tree_after first history).nodes x ∙ (nodes_at first history 0 is legal x (node_first first history x some)).1
+        ∙ kind_first history x;
   })
     where
       kind_first : (h : List Entry) (x : ℕ) → is_directory (tree_at first h 0) x ≡ is_directory first x

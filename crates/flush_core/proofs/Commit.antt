@@ -33,7 +33,8 @@ pub record IsBornAt (first : TreeState) (history : List Entry) (birth : Birth) (
   pub adds : effect_at first history t ≡ Adds birth.directory name birth.node
   pub made : makes_at first history t ≡ Some kind
 
-birth_by : (effect : Effect) (makes : Option Kind) (t : ℕ) (birth : Birth) → IsOneOf (births_by t effect makes) birth → (name : List ℕ) × (kind : Kind) × (effect ≡ Adds birth.directory name birth.node) × (makes ≡ Some kind) × (birth.stamp ≡ t)
+birth_by : (effect : Effect) (makes : Option Kind) (t : ℕ) (birth : Birth) → IsOneOf (births_by t effect makes) birth
+    → (name : List ℕ) × (kind : Kind) × (effect ≡ Adds birth.directory name birth.node) × (makes ≡ Some kind) × (birth.stamp ≡ t)
 birth_by Stays None t birth one = absurd one
 birth_by Stays (Some kind) t birth one = absurd one
 birth_by (Adds d n c) None t birth one = absurd one
@@ -48,7 +49,8 @@ birth_by (Adds d n c) (Some kind) t birth one = elim one [
   | inr none ↦ absurd none
 ]
 
-birth_from : (first : TreeState) (history : List Entry) (stamp : ℕ) (birth : Birth) → IsLegalFrom first stamp history → IsOneOf (births_of first history) birth → (t : ℕ) × (birth.stamp ≡ stamp + t) × IsBornAt first history birth t
+birth_from : (first : TreeState) (history : List Entry) (stamp : ℕ) (birth : Birth) → IsLegalFrom first stamp history → IsOneOf (births_of first history) birth
+    → (t : ℕ) × (birth.stamp ≡ stamp + t) × IsBornAt first history birth t
 birth_from first [] stamp birth legal one = absurd one
 birth_from first (entry ∷ history) stamp birth legal one = elim (in_either _ _ birth one) [
   | inl here ↦
@@ -59,12 +61,14 @@ birth_from first (entry ∷ history) stamp birth legal one = elim (in_either _ _
       (suc found.0, found.1 ∙ suc_plus stamp found.0, record { name = found.2.name; kind = found.2.kind; adds = found.2.adds; made = found.2.made })
 ]
 
-pub birth_at : (first : TreeState) (history : List Entry) (birth : Birth) → IsLegal first history → IsOneOf (births_of first history) birth → IsBornAt first history birth birth.stamp
+pub birth_at : (first : TreeState) (history : List Entry) (birth : Birth) → IsLegal first history → IsOneOf (births_of first history) birth
+    → IsBornAt first history birth birth.stamp
 birth_at first history birth legal one =
     let found = birth_from first history 0 birth legal one in
     subst (λ (t : ℕ). IsBornAt first history birth t) (sym (found.1 ∙ zero_plus found.0)) found.2
 
-module _ (first : TreeState) (history : List Entry) (is : IsSoundTree first) (legal : IsLegal first history) (cut : Cut) (inodes : ℕ → Bool) (flush : Flush) (raised : Cut) (kept : KeepsCut first history cut inodes) (raise : IsRaised first history every_entry cut inodes flush raised) where
+module _ (first : TreeState) (history : List Entry) (is : IsSoundTree first) (legal : IsLegal first history) (cut : Cut) (inodes : ℕ → Bool) (flush : Flush)
+    (raised : Cut) (kept : KeepsCut first history cut inodes) (raise : IsRaised first history every_entry cut inodes flush raised) where
   abbrev run : Run
   run = run_of first history is legal
 
@@ -83,7 +87,8 @@ module _ (first : TreeState) (history : List Entry) (is : IsSoundTree first) (le
   split : (t d : ℕ) → t < cut_of raised d → (t < cut_of cut d) ⊎ (Member d × (cut_of cut d ≤ t) × (t < flush.stamp))
   split = was_or_spanned first history every_entry cut inodes flush raised raise
 
-  span : (x : RowChange) → IsChange first history x → cut_of cut x.directory ≤ x.stamp → x.stamp < flush.stamp → InSpan first history every_entry cut flush.stamp x
+  span : (x : RowChange) → IsChange first history x → cut_of cut x.directory ≤ x.stamp → x.stamp < flush.stamp
+      → InSpan first history every_entry cut flush.stamp x
   span x one from lt = record { is_change = one; counted = refl; from = from; below = lt }
 
   earlier : (a b : ℕ) → a < b → b < flush.stamp → a < flush.stamp
@@ -96,11 +101,18 @@ module _ (first : TreeState) (history : List Entry) (is : IsSoundTree first) (le
       (nodes_at first history own.stamp is legal own.directory (directory_node (tree_at first history own.stamp) own.directory live.kind)).1 ∙ live.kind
 
   -- the making of a member without an inode that has a change below the stamp
-  makes_up : (birth : Birth) (own : RowChange) → IsOneOf (births_of first history) birth → IsChange first history own → own.directory ≡ birth.node → Member birth.node → inodes birth.node ≡ false → own.stamp < flush.stamp → birth.stamp < cut_of raised birth.directory
+  makes_up : (birth : Birth) (own : RowChange) → IsOneOf (births_of first history) birth → IsChange first history own → own.directory ≡ birth.node
+      → Member birth.node → inodes birth.node ≡ false → own.stamp < flush.stamp → birth.stamp < cut_of raised birth.directory
   makes_up birth own one own_is same member none lt =
       elim (below_or birth.stamp (cut_of cut birth.directory)) [
         | inl less ↦ up birth.stamp birth.directory less
-        | inr le ↦ member_up birth.stamp birth.directory (birth_place birth member one none (record { change = naming; is_change = naming_is; counted = refl; child = refl; unflushed = le })) (earlier birth.stamp own.stamp (born_before run birth.stamp birth.directory born.name birth.node born.kind born.adds born.made own.stamp own (made_at first history is legal own own_is) same) lt)
+        | inr le ↦
+            member_up birth.stamp birth.directory
+            (birth_place birth member one none (record { change = naming; is_change = naming_is; counted = refl; child = refl; unflushed = le }))
+            (earlier birth.stamp own.stamp
+            (born_before run birth.stamp birth.directory born.name birth.node born.kind born.adds born.made own.stamp own
+            (made_at first history is legal own own_is) same)
+            lt)
       ]
     where
       born : IsBornAt first history birth birth.stamp
@@ -112,7 +124,8 @@ module _ (first : TreeState) (history : List Entry) (is : IsSoundTree first) (le
       naming_is : IsChange first history naming
       naming_is = change_in first history birth.stamp naming legal (rw born.adds (inl refl))
 
-  births_raised : (birth : Birth) (own : RowChange) → IsOneOf (births_of first history) birth → IsChange first history own → own.directory ≡ birth.node → IsWithin raised own → birth.stamp < cut_of raised birth.directory
+  births_raised : (birth : Birth) (own : RowChange) → IsOneOf (births_of first history) birth → IsChange first history own → own.directory ≡ birth.node
+      → IsWithin raised own → birth.stamp < cut_of raised birth.directory
   births_raised birth own one own_is same within = elim (split own.stamp own.directory within) [
     | inl lt ↦ up birth.stamp birth.directory (kept.closed.births birth own one own_is same lt)
     | inr more ↦
@@ -122,14 +135,21 @@ module _ (first : TreeState) (history : List Entry) (is : IsSoundTree first) (le
         ] refl
   ]
 
-  ancestors_raised : (change : RowChange) (above : List ℕ) (node holder : ℕ) (name : List ℕ) (last : RowChange) → IsMove first history change → IsWithin raised change → Above (tree_after first (take change.stamp history)) change.directory above → IsOneOf (change.directory ∷ above) node → row_of (tree_after first (take change.stamp history)) holder name ≡ Some node → IsLastPlacing first history node change.stamp last → last.stamp < cut_of raised holder
+  ancestors_raised : (change : RowChange) (above : List ℕ) (node holder : ℕ) (name : List ℕ) (last : RowChange) → IsMove first history change
+      → IsWithin raised change → Above (tree_after first (take change.stamp history)) change.directory above → IsOneOf (change.directory ∷ above) node
+      → row_of (tree_after first (take change.stamp history)) holder name ≡ Some node → IsLastPlacing first history node change.stamp last
+      → last.stamp < cut_of raised holder
   ancestors_raised change above node holder name last move within way among row placing = elim (split change.stamp change.directory within) [
     | inl lt ↦ up last.stamp holder (kept.closed.ancestors change above node holder name last move lt way among row placing)
     | inr more ↦
         let live = live_at run change.stamp change (made_at first history is legal change move.is_change) in
         let sound = histories_keep_sound first history change.stamp is legal in
-        let kind : is_directory (tree_after first (take change.stamp history)) change.directory ≡ true = rw (tree_at-after first history change.stamp) at live.kind in
-        member_up last.stamp holder (ancestor change above holder more.0 (span change move.is_change more.1 more.2) move way (holder_above (tree_after first (take change.stamp history)) 0 0 sound.sound way kind node holder name among row)) (earlier last.stamp change.stamp placing.below more.2)
+        let kind : is_directory (tree_after first (take change.stamp history)) change.directory ≡ true =
+        rw (tree_at-after first history change.stamp) at live.kind in
+        member_up last.stamp holder
+        (ancestor change above holder more.0 (span change move.is_change more.1 more.2) move way
+        (holder_above (tree_after first (take change.stamp history)) 0 0 sound.sound way kind node holder name among row))
+        (earlier last.stamp change.stamp placing.below more.2)
   ]
 
   pub closed_raised : IsClosed first history raised
@@ -141,7 +161,9 @@ module _ (first : TreeState) (history : List Entry) (is : IsSoundTree first) (le
     removals = λ change own one ends within own_is same. elim (split change.stamp change.directory within) [
       | inl lt ↦ up own.stamp own.directory (kept.closed.removals change own one ends lt own_is same)
       | inr more ↦
-          let before = ended_before run change.stamp change own.stamp own (made_at first history is legal change one) ends (made_at first history is legal own own_is) same in
+          let before =
+          ended_before run change.stamp change own.stamp own (made_at first history is legal change one) ends
+          (made_at first history is legal own own_is) same in
           member_up own.stamp own.directory (rw same (ended change more.0 (span change one more.1 more.2) ends)) (earlier own.stamp change.stamp before more.2)
     ];
     births = births_raised;
@@ -149,10 +171,13 @@ module _ (first : TreeState) (history : List Entry) (is : IsSoundTree first) (le
   }
 
   -- a directory that a row at the raised cut names was made below its birth place's cut
-  named_raised : (birth : Birth) → IsOneOf (births_of first history) birth → is_directory (tree_after first history) birth.node ≡ true → (d : ℕ) (n : List ℕ) → get (rows_at_cut first history raised) (d, n) ≡ Some birth.node → birth.stamp < cut_of raised birth.directory
+  named_raised : (birth : Birth) → IsOneOf (births_of first history) birth → is_directory (tree_after first history) birth.node ≡ true → (d : ℕ) (n : List ℕ)
+      → get (rows_at_cut first history raised) (d, n) ≡ Some birth.node → birth.stamp < cut_of raised birth.directory
   named_raised birth one kind d n row =
       let born = birth_at first history birth legal one in
-      named_born run (cut_of raised) (seen_of first history is legal raised) (keeps_of first history is legal raised closed_raised) birth.node birth.stamp birth.directory born.name born.kind born.adds born.made (λ t some. sym (nodes_at first history t is legal birth.node some).1 ∙ kind) (length history) d n
+      named_born run (cut_of raised) (seen_of first history is legal raised)
+      (keeps_of first history is legal raised closed_raised) birth.node birth.stamp birth.directory born.name born.kind born.adds born.made
+      (λ t some. sym (nodes_at first history t is legal birth.node some).1 ∙ kind) (length history) d n
       (ap (λ (rows : FinMap key_cmp ℕ). get rows (d, n)) (seen_end first history is legal raised) ∙ row)
 
   pub born_raised : (after : ℕ → Bool) → AreInodesAfter first history every_entry cut inodes flush raised after → AreBorn first history raised after

@@ -24,11 +24,13 @@ same_count nodes others (suc n) same =
     ∙ ap (λ k. cond (nodes n) (suc k) k) (same_count nodes others n (λ x lt. same x (omega arith)))
 
 -- one more node below the number counts one more
-pub count_more : (nodes others : ℕ → Bool) (node n : ℕ) → node < n → nodes node ≡ false → ((x : ℕ) → others x ≡ with_member node true nodes x) → count_below others n ≡ suc (count_below nodes n)
+pub count_more : (nodes others : ℕ → Bool) (node n : ℕ) → node < n → nodes node ≡ false → ((x : ℕ) → others x ≡ with_member node true nodes x)
+    → count_below others n ≡ suc (count_below nodes n)
 unfolding count_below
 count_more nodes others node zero lt out more = absurd (omega arith)
 count_more nodes others node (suc n) lt out more =
-    elim (nat_eq n node) as (λ b. nat_eq n node ≡ b → cond (others n) (suc (count_below others n)) (count_below others n) ≡ suc (cond (nodes n) (suc (count_below nodes n)) (count_below nodes n))) [
+    elim (nat_eq n node) as (λ b. nat_eq n node ≡ b
+    → cond (others n) (suc (count_below others n)) (count_below others n) ≡ suc (cond (nodes n) (suc (count_below nodes n)) (count_below nodes n))) [
       | true ↦ λ e.
           ap (λ b. cond b (suc (count_below others n)) (count_below others n)) (more n ∙ ap (λ b. cond b true (nodes n)) e)
           ∙ ap suc (same_count nodes others n (λ x less. more x ∙ ap (λ b. cond b true (nodes x)) (apart x (let same = eqb-true _ _ e in omega arith))))
@@ -47,7 +49,8 @@ count_more nodes others node (suc n) lt out more =
     rest false = refl
 
 -- so fewer are out
-pub one_more_less : (nodes others : ℕ → Bool) (node n : ℕ) → node < n → nodes node ≡ false → ((x : ℕ) → others x ≡ with_member node true nodes x) → n - count_below others n < n - count_below nodes n
+pub one_more_less : (nodes others : ℕ → Bool) (node n : ℕ) → node < n → nodes node ≡ false → ((x : ℕ) → others x ≡ with_member node true nodes x)
+    → n - count_below others n < n - count_below nodes n
 one_more_less nodes others node n lt out more =
     let counted = count_more nodes others node n lt out more in
     let within = count_within others n in

@@ -34,13 +34,16 @@ module _ (bytes : ℕ → List ℕ) where
 
   given : (q : ℕ) (es : List (ℕ × Node)) → find nat_cmp q (map with_bytes es) ≡ option_map (own_bytes_of q) (find nat_cmp q es)
   given q [] = refl
-  given q (e ∷ es) = elim (eq_by_cmp nat_cmp q e.0) as (λ b. eq_by_cmp nat_cmp q e.0 ≡ b → cond b (Some (own_bytes_of e.0 e.1)) (find nat_cmp q (map with_bytes es)) ≡ option_map (own_bytes_of q) (cond b (Some e.1) (find nat_cmp q es))) [
-    | true ↦ λ t. ap (λ k. Some (own_bytes_of k e.1)) (sym (eqb-true q e.0 (unsigned_ties q e.0 ∙ t)))
-    | false ↦ λ _. given q es
-  ] refl
+  given q (e ∷ es) =
+      elim (eq_by_cmp nat_cmp q e.0) as (λ b. eq_by_cmp nat_cmp q e.0 ≡ b
+      → cond b (Some (own_bytes_of e.0 e.1)) (find nat_cmp q (map with_bytes es)) ≡ option_map (own_bytes_of q) (cond b (Some e.1) (find nat_cmp q es))) [
+        | true ↦ λ t. ap (λ k. Some (own_bytes_of k e.1)) (sym (eqb-true q e.0 (unsigned_ties q e.0 ∙ t)))
+        | false ↦ λ _. given q es
+      ] refl
 
   -- each node is there, with its own bytes
-  pub node_kept : (nodes : FinMap nat_cmp Node) (x : ℕ) → get (from_sorted {R = nat_cmp} (map with_bytes (entries nodes))) x ≡ option_map (own_bytes_of x) (get nodes x)
+  pub node_kept : (nodes : FinMap nat_cmp Node) (x : ℕ)
+      → get (from_sorted {R = nat_cmp} (map with_bytes (entries nodes))) x ≡ option_map (own_bytes_of x) (get nodes x)
   node_kept nodes x =
       get-from_sorted nat_cmp (map with_bytes (entries nodes)) x (rw (sorted_kept (entries nodes)) (entries_sorted nodes))
       ∙ given x (entries nodes)
@@ -53,10 +56,14 @@ module _ (bytes : ℕ → List ℕ) where
       mapped (Some n) e = refl
       mapped None e = e
 
-  pub still_kind : (nodes : FinMap nat_cmp Node) (x : ℕ) → option_map_or (λ (n : Node). is_directory_kind n.kind) (get (from_sorted {R = nat_cmp} (map with_bytes (entries nodes))) x) false ≡ option_map_or (λ (n : Node). is_directory_kind n.kind) (get nodes x) false
+  pub still_kind : (nodes : FinMap nat_cmp Node) (x : ℕ)
+      → option_map_or (λ (n : Node). is_directory_kind n.kind) (get (from_sorted {R = nat_cmp} (map with_bytes (entries nodes))) x) false
+      ≡ option_map_or (λ (n : Node). is_directory_kind n.kind) (get nodes x) false
   still_kind nodes x = ap (λ (o : Option Node). option_map_or (λ (n : Node). is_directory_kind n.kind) o false) (node_kept nodes x) ∙ mapped (get nodes x)
     where
-      mapped : (o : Option Node) → option_map_or (λ (n : Node). is_directory_kind n.kind) (option_map (own_bytes_of x) o) false ≡ option_map_or (λ (n : Node). is_directory_kind n.kind) o false
+      mapped : (o : Option Node)
+          → option_map_or (λ (n : Node). is_directory_kind n.kind) (option_map (own_bytes_of x) o) false
+          ≡ option_map_or (λ (n : Node). is_directory_kind n.kind) o false
       mapped (Some n) = refl
       mapped None = refl
 
@@ -65,25 +72,33 @@ module _ (first : TreeState) (history : List Entry) (cut : Cut) where
   last = tree_after first history
 
   -- a node at a cut is that of the tree after the history, with its bytes at its own stamp
-  pub node_at_cut_is : (x : ℕ) → get (tree_at_cut first history cut).nodes x ≡ option_map (λ (n : Node). record n { bytes = bytes_at first history x (cut_of cut x) }) (get last.nodes x)
+  pub node_at_cut_is : (x : ℕ)
+      → get (tree_at_cut first history cut).nodes x ≡ option_map (λ (n : Node). record n { bytes = bytes_at first history x (cut_of cut x) }) (get last.nodes x)
   node_at_cut_is x = node_kept (λ (y : ℕ). bytes_at first history y (cut_of cut y)) last.nodes x
 
   own_bytes : (x : ℕ) → IsSome (get last.nodes x) → bytes_of (tree_at_cut first history cut) x ≡ bytes_at first history x (cut_of cut x)
   own_bytes x some = ap (λ (o : Option Node). option_map_or (λ (n : Node). n.bytes) o []) (node_at_cut_is x) ∙ mapped (get last.nodes x) some
     where
-      mapped : (o : Option Node) → IsSome o → option_map_or (λ (n : Node). n.bytes) (option_map (λ (n : Node). record n { bytes = bytes_at first history x (cut_of cut x) }) o) [] ≡ bytes_at first history x (cut_of cut x)
+      mapped : (o : Option Node) → IsSome o
+          → option_map_or (λ (n : Node). n.bytes) (option_map (λ (n : Node). record n { bytes = bytes_at first history x (cut_of cut x) }) o) []
+          ≡ bytes_at first history x (cut_of cut x)
       mapped (Some n) e = refl
       mapped None e = cc
 
   own_kind : (x : ℕ) → kind_of (tree_at_cut first history cut) x ≡ kind_of last x
   own_kind x = ap (λ (o : Option Node). option_map_or (λ (n : Node). n.kind) o File) (node_at_cut_is x) ∙ mapped (get last.nodes x)
     where
-      mapped : (o : Option Node) → option_map_or (λ (n : Node). n.kind) (option_map (λ (n : Node). record n { bytes = bytes_at first history x (cut_of cut x) }) o) File ≡ option_map_or (λ (n : Node). n.kind) o File
+      mapped : (o : Option Node)
+          → option_map_or (λ (n : Node). n.kind) (option_map (λ (n : Node). record n { bytes = bytes_at first history x (cut_of cut x) }) o) File
+          ≡ option_map_or (λ (n : Node). n.kind) o File
       mapped (Some n) = refl
       mapped None = refl
 
   same_nodes : (x : ℕ) → IsSome (get (tree_at_cut first history cut).nodes x) ↔ IsSome (get last.nodes x)
-  same_nodes x = (λ some. back (get last.nodes x) (rw (node_at_cut_is x) at some), λ some. still_node (λ (y : ℕ). bytes_at first history y (cut_of cut y)) last.nodes x some)
+  same_nodes x = (
+    λ some. back (get last.nodes x) (rw (node_at_cut_is x) at some),
+    λ some. still_node (λ (y : ℕ). bytes_at first history y (cut_of cut y)) last.nodes x some,
+  )
     where
       back : (o : Option Node) → IsSome (option_map (λ (n : Node). record n { bytes = bytes_at first history x (cut_of cut x) }) o) → IsSome o
       back (Some n) e = refl

@@ -24,8 +24,10 @@ same_stamp u t lt le = omega arith
 
 module _ (tree : TreeState) (core t : ℕ) (s : IsSound tree) where
   -- a change that names a directory is one of the directory that holds it, or of that to which it moves
-  names_placed : (effect : Effect) (makes : Option Kind) → Fits tree core effect makes → ((d : ℕ) (n : List ℕ) (c : ℕ) → effect ≡ Adds d n c → makes ≡ None → is_directory tree c ≡ false)
-      → (d : ℕ) (name : List ℕ) (x : ℕ) → is_directory tree x ≡ true → row_of tree d name ≡ Some x → (y : RowChange) → IsOneOf (changes_by tree t effect) y → y.child ≡ x
+  names_placed : (effect : Effect) (makes : Option Kind) → Fits tree core effect makes
+      → ((d : ℕ) (n : List ℕ) (c : ℕ) → effect ≡ Adds d n c → makes ≡ None → is_directory tree c ≡ false)
+      → (d : ℕ) (name : List ℕ) (x : ℕ) → is_directory tree x ≡ true → row_of tree d name ≡ Some x → (y : RowChange) → IsOneOf (changes_by tree t effect) y
+      → y.child ≡ x
       → (y.directory ≡ d) ⊎ ((m : IsMoved tree core s effect d name x) × (y.directory ≡ m.to_directory))
   names_placed Stays makes f files d name x kind row y one child = absurd one
   names_placed (Edits file edit) makes f files d name x kind row y one child = absurd one
@@ -38,7 +40,8 @@ module _ (tree : TreeState) (core t : ℕ) (s : IsSound tree) where
     | inr none ↦ absurd none
   ]
   names_placed (Removes e k c) None f files d name x kind row y one child = elim one [
-    | inl same ↦ inl (sym (ap (λ (z : RowChange). z.directory) same) ∙ (s.once e d k name x (f.row ∙ ap Some (ap (λ (z : RowChange). z.child) same ∙ child)) row kind).0)
+    | inl same ↦
+        inl (sym (ap (λ (z : RowChange). z.directory) same) ∙ (s.once e d k name x (f.row ∙ ap Some (ap (λ (z : RowChange). z.child) same ∙ child)) row kind).0)
     | inr none ↦ absurd none
   ]
   names_placed (Moves p n q m c) None f files d name x kind row y one child = elim (of_move tree t p n q m c y one) [
@@ -61,7 +64,8 @@ module _ (tree : TreeState) (core t : ℕ) (s : IsSound tree) where
   names_placed (Removes e k c) (Some mk) f files d name x kind row y one child = absurd f
   names_placed (Moves p n q m c) (Some mk) f files d name x kind row y one child = absurd f
 
-module _ (r : Run) (cut : ℕ → ℕ) (s : Seen r cut) (keeps : Keeps r cut) (links : AreNamed r) (x : ℕ) (settled : IsSettled r cut s x) (kinds : (t : ℕ) → IsSome (get (r.tree t).nodes x) → is_directory (r.tree t) x ≡ true) where
+module _ (r : Run) (cut : ℕ → ℕ) (s : Seen r cut) (keeps : Keeps r cut) (links : AreNamed r) (x : ℕ) (settled : IsSettled r cut s x)
+    (kinds : (t : ℕ) → IsSome (get (r.tree t).nodes x) → is_directory (r.tree t) x ≡ true) where
   -- each change below a stamp that names the directory lies below the cut of its own
   abbrev pub AreFlushedTill : ℕ → Type 0
   AreFlushedTill t = (u : ℕ) (y : RowChange) → u < t → Made r u y → y.child ≡ x → u < cut y.directory
@@ -110,12 +114,17 @@ module _ (r : Run) (cut : ℕ → ℕ) (s : Seen r cut) (keeps : Keeps r cut) (l
       name = named.name;
       row = named.row;
       seen = ahead r cut s 0 named.directory named.name (omega arith) ∙ named.row;
-      only = λ e k row. ((r.sound 0).once e named.directory k named.name x (sym (ahead r cut s 0 e k (omega arith)) ∙ row) named.row (kind_at 0 named.directory named.name named.row)).0;
+      only =
+          λ e k row.
+          ((r.sound 0).once e named.directory k named.name x (sym (ahead r cut s 0 e k (omega arith)) ∙ row) named.row
+          (kind_at 0 named.directory named.name named.row)).0;
       flushed = λ u y lt. absurd (omega arith);
     })
     | inr none ↦ gone (record {
       unnamed = none;
-      unseen = λ named. none (record { directory = named.directory; name = named.name; row = sym (ahead r cut s 0 named.directory named.name (omega arith)) ∙ named.row });
+      unseen =
+          λ named. none
+          (record { directory = named.directory; name = named.name; row = sym (ahead r cut s 0 named.directory named.name (omega arith)) ∙ named.row });
       flushed = λ u y lt. absurd (omega arith);
     })
   ]
@@ -128,7 +137,8 @@ module _ (r : Run) (cut : ℕ → ℕ) (s : Seen r cut) (keeps : Keeps r cut) (l
   ]
 
   -- a row at the cut after a stamp is one of the tree, or was there before
-  came_or_was : (t e : ℕ) (k : List ℕ) → get (s.rows (suc t)) (e, k) ≡ Some x → (row_of (r.tree (suc t)) e k ≡ Some x) ⊎ ((get (s.rows t) (e, k) ≡ Some x) × (cut e ≤ t))
+  came_or_was : (t e : ℕ) (k : List ℕ) → get (s.rows (suc t)) (e, k) ≡ Some x
+      → (row_of (r.tree (suc t)) e k ≡ Some x) ⊎ ((get (s.rows t) (e, k) ≡ Some x) × (cut e ≤ t))
   came_or_was t e k row = elim (below_or t (cut e)) [
     | inl lt ↦ inl (sym (ahead r cut s (suc t) e k (omega arith)) ∙ row)
     | inr le ↦ inr (sym (behind r cut s t e k le) ∙ row, le)
@@ -164,14 +174,31 @@ module _ (r : Run) (cut : ℕ → ℕ) (s : Seen r cut) (keeps : Keeps r cut) (l
 
   from_gone : (t : ℕ) → IsGone t → Place (suc t)
   from_gone t g = elim (named_or_not (suc t)) [
-    | inl named ↦ elim (named_before (r.tree t) (r.core t) (r.sound t) (r.effect t) (r.makes t) (r.fits t) (r.files t) named.directory named.name x (sym (ap (λ (tree : TreeState). is_directory tree x) (r.next t)) ∙ kind_at (suc t) named.directory named.name named.row) (sym (ap (λ (tree : TreeState). row_of tree named.directory named.name) (r.next t)) ∙ named.row)) [
-      | inl was ↦ absurd (g.unnamed was.1)
-      | inr born ↦ now (now_there t born.directory born.name (lt born) (row_added r t born.directory born.name x born.adds) unseen (flushed_more t g.flushed (λ y one child. own born y one)))
-    ]
-    | inr none ↦ gone (gone_there t none unseen (flushed_more t g.flushed (λ y one child. elim (child_named (r.tree t) (r.core t) t (r.sound t) (r.effect t) (r.makes t) (r.fits t) (links t) y one) [
-      | inl named ↦ absurd (g.unnamed (rw child at named))
-      | inr born ↦ absurd (none (record { directory = born.directory; name = born.name; row = row_added r t born.directory born.name x (born.adds ∙ ap (Adds born.directory born.name) child) }))
-    ])))
+    | inl named ↦
+        elim (named_before (r.tree t) (r.core t) (r.sound t) (r.effect t) (r.makes t) (r.fits t) (r.files t) named.directory named.name x
+        (sym (ap (λ (tree : TreeState). is_directory tree x) (r.next t)) ∙ kind_at (suc t) named.directory named.name named.row)
+        (sym (ap (λ (tree : TreeState). row_of tree named.directory named.name) (r.next t)) ∙ named.row)) [
+          | inl was ↦ absurd (g.unnamed was.1)
+          | inr born ↦
+              now
+              (now_there t born.directory born.name (lt born) (row_added r t born.directory born.name x born.adds) unseen
+              (flushed_more t g.flushed (λ y one child. own born y one)))
+        ]
+    | inr none ↦
+        gone
+        (gone_there t none unseen
+        (flushed_more t g.flushed
+        (λ y one child. elim (child_named (r.tree t) (r.core t) t (r.sound t) (r.effect t) (r.makes t) (r.fits t) (links t) y one) [
+          | inl named ↦ absurd (g.unnamed (rw child at named))
+          | inr born ↦
+              absurd
+              (none
+              (record {
+                directory = born.directory;
+                name = born.name;
+                row = row_added r t born.directory born.name x (born.adds ∙ ap (Adds born.directory born.name) child);
+              }))
+        ])))
   ]
     where
       unseen : NoneStays t
@@ -188,17 +215,27 @@ module _ (r : Run) (cut : ℕ → ℕ) (s : Seen r cut) (keeps : Keeps r cut) (l
 
   from_now : (t : ℕ) → IsNow t → Place (suc t)
   from_now t p = elim (below_or t (cut p.directory)) [
-    | inr le ↦ left (record { seen = record { directory = p.directory; name = p.name; row = behind r cut s t p.directory p.name le ∙ p.seen }; past = omega arith })
+    | inr le ↦
+        left (record { seen = record { directory = p.directory; name = p.name; row = behind r cut s t p.directory p.name le ∙ p.seen }; past = omega arith })
     | inl lt ↦ below lt
   ]
     where
       below : t < cut p.directory → Place (suc t)
       below lt = elim (named_or_not (suc t)) [
         | inr none ↦ gone (gone_there t none other flushed)
-        | inl named ↦ elim (row_stays (r.tree t) (r.core t) (r.sound t) (r.effect t) (r.makes t) (r.fits t) p.directory p.name x kind p.row (record { directory = named.directory; name = named.name; row = sym (ap (λ (tree : TreeState). row_of tree named.directory named.name) (r.next t)) ∙ named.row })) [
-          | inl stays ↦ now (now_there t p.directory p.name lt (ap (λ (tree : TreeState). row_of tree p.directory p.name) (r.next t) ∙ stays) other flushed)
-          | inr moved ↦ now (now_there t moved.to_directory moved.to_name (other_end r cut s keeps t p.directory p.name moved.to_directory moved.to_name x moved.moves lt) (row_moved r t p.directory p.name moved.to_directory moved.to_name x moved.moves) other flushed)
-        ]
+        | inl named ↦
+            elim (row_stays (r.tree t) (r.core t) (r.sound t) (r.effect t) (r.makes t) (r.fits t) p.directory p.name x kind p.row
+            (record {
+              directory = named.directory;
+              name = named.name;
+              row = sym (ap (λ (tree : TreeState). row_of tree named.directory named.name) (r.next t)) ∙ named.row;
+            })) [
+              | inl stays ↦ now (now_there t p.directory p.name lt (ap (λ (tree : TreeState). row_of tree p.directory p.name) (r.next t) ∙ stays) other flushed)
+              | inr moved ↦
+                  now
+                  (now_there t moved.to_directory moved.to_name (other_end r cut s keeps t p.directory p.name moved.to_directory moved.to_name x moved.moves lt)
+                  (row_moved r t p.directory p.name moved.to_directory moved.to_name x moved.moves) other flushed)
+            ]
       ]
         where
           kind : is_directory (r.tree t) x ≡ true
@@ -211,10 +248,13 @@ module _ (r : Run) (cut : ℕ → ℕ) (s : Seen r cut) (keeps : Keeps r cut) (l
               no_less more = omega arith
 
           flushed : AreFlushedTill (suc t)
-          flushed = flushed_more t p.flushed (λ y one child. elim (names_placed (r.tree t) (r.core t) t (r.sound t) (r.effect t) (r.makes t) (r.fits t) (r.files t) p.directory p.name x kind p.row y one child) [
-            | inl at ↦ rw at lt
-            | inr to ↦ rw to.1 (other_end r cut s keeps t p.directory p.name to.0.to_directory to.0.to_name x to.0.moves lt)
-          ])
+          flushed =
+              flushed_more t p.flushed
+              (λ y one child. elim (names_placed (r.tree t) (r.core t) t (r.sound t) (r.effect t) (r.makes t) (r.fits t)
+              (r.files t) p.directory p.name x kind p.row y one child) [
+                | inl at ↦ rw at lt
+                | inr to ↦ rw to.1 (other_end r cut s keeps t p.directory p.name to.0.to_directory to.0.to_name x to.0.moves lt)
+              ])
 
   -- at each stamp the directory has its place
   pub place_at : (t : ℕ) → Place t
@@ -222,5 +262,15 @@ module _ (r : Run) (cut : ℕ → ℕ) (s : Seen r cut) (keeps : Keeps r cut) (l
   place_at (suc t) = elim (place_at t) [
     | now p ↦ from_now t p
     | gone g ↦ from_gone t g
-    | left l ↦ left (record { seen = record { directory = l.seen.directory; name = l.seen.name; row = behind r cut s t l.seen.directory l.seen.name l.past ∙ l.seen.row }; past = let le = l.past in omega arith })
+    | left l ↦
+        left
+        (record {
+          seen = record {
+            directory = l.seen.directory;
+            name = l.seen.name;
+            row = behind r cut s t l.seen.directory l.seen.name l.past ∙ l.seen.row;
+          };
+          past = let le = l.past in
+              omega arith;
+        })
   ]

@@ -66,35 +66,56 @@ is_given {X} {Y} f (z ∷ xs) x y one e = elim one [
   | inr more ↦ elim (f z) as (λ o. IsOneOf (cons_option o (filter_map f xs)) y) [ None ↦ is_given f xs x y more e | Some w ↦ inr (is_given f xs x y more e) ]
 ]
 
-begun_behind : (e : Event) (events : List Event) (place commit : ℕ) (flush : Flush) → IsBegun events place commit flush → IsBegun (e ∷ events) (suc place) commit flush
+begun_behind : (e : Event) (events : List Event) (place commit : ℕ) (flush : Flush) → IsBegun events place commit flush
+    → IsBegun (e ∷ events) (suc place) commit flush
 begun_behind e events place commit flush begun = record { event = begun.event; stands = begun.stands; begins = begun.begins }
 
 -- the fsync of a commit is that of a commit that begins
 of_begun : (events : List Event) (commit : ℕ) (flush : Flush) → flush_of events commit ≡ Some flush → (place : ℕ) × IsBegun events place commit flush
 of_begun [] commit flush found = none_some found
 of_begun (e ∷ events) commit flush found =
-    elim (flush_by e) as (λ o. flush_by e ≡ o → flush_or o commit (flush_of events commit) ≡ Some flush → (place : ℕ) × IsBegun (e ∷ events) place commit flush) [
+    elim (flush_by e) as (λ o. flush_by e ≡ o → flush_or o commit (flush_of events commit) ≡ Some flush
+    → (place : ℕ) × IsBegun (e ∷ events) place commit flush) [
       | None ↦ λ _ h. onward (of_begun events commit flush h)
-      | Some begun ↦ λ by h. elim (nat_eq begun.0 commit) as (λ b. nat_eq begun.0 commit ≡ b → cond b (Some begun.1) (flush_of events commit) ≡ Some flush → (place : ℕ) × IsBegun (e ∷ events) place commit flush) [
-        | true ↦ λ t it. (0, record { event = e; stands = refl; begins = by ∙ ap (λ (c : ℕ). Some (c, begun.1)) (eqb-true begun.0 commit t) ∙ ap (λ (f : Flush). Some (commit, f)) (some_same it) })
-        | false ↦ λ _ it. onward (of_begun events commit flush it)
-      ] refl h
+      | Some begun ↦
+          λ by h. elim (nat_eq begun.0 commit) as (λ b. nat_eq begun.0 commit ≡ b → cond b (Some begun.1) (flush_of events commit) ≡ Some flush
+          → (place : ℕ) × IsBegun (e ∷ events) place commit flush) [
+            | true ↦
+                λ t it. (
+                  0,
+                  record {
+                    event = e;
+                    stands = refl;
+                    begins = by ∙ ap (λ (c : ℕ). Some (c, begun.1)) (eqb-true begun.0 commit t) ∙ ap (λ (f : Flush). Some (commit, f)) (some_same it);
+                  },
+                )
+            | false ↦ λ _ it. onward (of_begun events commit flush it)
+          ] refl h
     ] refl found
   where
     onward : (place : ℕ) × IsBegun events place commit flush → (place : ℕ) × IsBegun (e ∷ events) place commit flush
     onward rest = (suc rest.0, begun_behind e events rest.0 commit flush rest.1)
 
 -- a commit that begins has an fsync
-has_flush : (events : List Event) (place commit : ℕ) (flush : Flush) → IsBegun events place commit flush → (other : Flush) × (flush_of events commit ≡ Some other)
+has_flush : (events : List Event) (place commit : ℕ) (flush : Flush) → IsBegun events place commit flush
+    → (other : Flush) × (flush_of events commit ≡ Some other)
 has_flush [] place commit flush begun = none_some begun.stands
 has_flush (e ∷ events) zero commit flush begun =
-    let by : flush_by e ≡ Some (commit, flush) = ap flush_by (some_same begun.stands) ∙ begun.begins in
-    (flush, ap (λ (o : Option (ℕ × Flush)). flush_or o commit (flush_of events commit)) by ∙ ap (λ b. cond b (Some flush) (flush_of events commit)) (eq-eqb commit commit refl))
+    let by : flush_by e ≡ Some (commit, flush) = ap flush_by (some_same begun.stands) ∙ begun.begins in (
+      flush,
+      ap (λ (o : Option (ℕ × Flush)). flush_or o commit (flush_of events commit)) by
+          ∙ ap (λ b. cond b (Some flush) (flush_of events commit)) (eq-eqb commit commit refl),
+    )
 has_flush (e ∷ events) (suc place) commit flush begun =
     let rest = has_flush events place commit flush (record { event = begun.event; stands = begun.stands; begins = begun.begins }) in
     elim (flush_by e) as (λ o. (other : Flush) × (flush_or o commit (flush_of events commit) ≡ Some other)) [
       | None ↦ rest
-      | Some first ↦ elim (nat_eq first.0 commit) as (λ b. (other : Flush) × (cond b (Some first.1) (flush_of events commit) ≡ Some other)) [ true ↦ (first.1, refl) | false ↦ rest ]
+      | Some first ↦
+          elim (nat_eq first.0 commit) as (λ b. (other : Flush) × (cond b (Some first.1) (flush_of events commit) ≡ Some other)) [
+            | true ↦
+                (first.1, refl)
+            | false ↦ rest
+          ]
     ]
 
 -- A commit that is one of some, with its fsync.
@@ -108,14 +129,16 @@ record IsDurableBy (events : List Event) (chosen : ℕ → Bool) (e : Event) (fl
   pub same : e ≡ event.Durable commit
   pub fsync : IsFsyncOf events chosen commit flush
 
-is_durable_by : (events : List Event) (chosen : ℕ → Bool) (e : Event) (flush : Flush) → durable_by events chosen e ≡ Some flush → IsDurableBy events chosen e flush
+is_durable_by : (events : List Event) (chosen : ℕ → Bool) (e : Event) (flush : Flush) → durable_by events chosen e ≡ Some flush
+    → IsDurableBy events chosen e flush
 is_durable_by events chosen (event.Call entry) flush e = none_some e
 is_durable_by events chosen (event.CutAt commit node stamp) flush e = none_some e
 is_durable_by events chosen (event.Opened commit) flush e = none_some e
 is_durable_by events chosen (event.Fail commit) flush e = none_some e
 is_durable_by events chosen (event.Crash kept) flush e = none_some e
 is_durable_by events chosen (event.Durable commit) flush e =
-    elim (chosen commit) as (λ b. chosen commit ≡ b → cond b (flush_of events commit) None ≡ Some flush → IsDurableBy events chosen (event.Durable commit) flush) [
+    elim (chosen commit) as (λ b. chosen commit ≡ b → cond b (flush_of events commit) None ≡ Some flush
+    → IsDurableBy events chosen (event.Durable commit) flush) [
       | true ↦ λ t own. record { commit = commit; same = refl; fsync = record { is_chosen = t; own = own } }
       | false ↦ λ _ none. none_some none
     ] refl e
@@ -153,7 +176,9 @@ module _ (first : TreeState) (events : List Event) (states : ℕ → MachineStat
 
   own_flush_before : (begin commit : ℕ) (flush : Flush) → begin < place → IsBegun events begin commit flush → flush_of (take place events) commit ≡ Some flush
   own_flush_before begin commit flush lt begun =
-      let has = has_flush (take place events) begin commit flush (record { event = begun.event; stands = at_taken events place begin begun.event lt begun.stands; begins = begun.begins }) in
+      let has =
+      has_flush (take place events) begin commit flush
+      (record { event = begun.event; stands = at_taken events place begin begun.event lt begun.stands; begins = begun.begins }) in
       let there = of_begun (take place events) commit has.0 has.1 in
       has.1 ∙ ap Some (one_flush first events states run there.0 begin commit has.0 flush (begun_before there.0 commit has.0 there.1).1 begun)
 
@@ -166,7 +191,16 @@ module _ (first : TreeState) (events : List Event) (states : ℕ → MachineStat
       let begun = begun_before there.0 by.commit flush there.1 in
       let place_of = place_of_one (take so_many events) given.0 given.1 in
       let at = taken_at events so_many place_of.0 given.0 place_of.1 in
-      record { commit = by.commit; fsync = record { is_chosen = by.fsync.is_chosen; own = own_flush there.0 by.commit flush begun.1 }; durable = place_of.0; stands = at.1 ∙ ap Some by.same; earlier = at.0; begin = there.0; before = begun.0; begun = begun.1 }
+      record {
+        commit = by.commit;
+        fsync = record { is_chosen = by.fsync.is_chosen; own = own_flush there.0 by.commit flush begun.1 };
+        durable = place_of.0;
+        stands = at.1 ∙ ap Some by.same;
+        earlier = at.0;
+        begin = there.0;
+        before = begun.0;
+        begun = begun.1;
+      }
 
   -- with more events there are more of them
   pub more_so_far : (few many : ℕ) → few ≤ many → (flush : Flush) → IsOneOf (so_far few) flush → IsOneOf (so_far many) flush
@@ -174,19 +208,24 @@ module _ (first : TreeState) (events : List Event) (states : ℕ → MachineStat
       let given = given_by (durable_by (take place events) chosen) (take few events) flush one in
       is_given (durable_by (take place events) chosen) (take many events) given.0 flush (in_taken events few many given.0 le given.1) given.2
 
-  next_so_far : (so_many : ℕ) (e : Event) → slice_get events so_many ≡ Some e → so_far (suc so_many) ≡ so_far so_many ++ cons_option (durable_by (take place events) chosen e) []
+  next_so_far : (so_many : ℕ) (e : Event) → slice_get events so_many ≡ Some e
+      → so_far (suc so_many) ≡ so_far so_many ++ cons_option (durable_by (take place events) chosen e) []
   next_so_far so_many e stands =
-      ap (filter_map (durable_by (take place events) chosen)) (take_next events so_many e stands) ∙ filter_map-append (durable_by (take place events) chosen) (take so_many events) (e ∷ [])
+      ap (filter_map (durable_by (take place events) chosen)) (take_next events so_many e stands)
+      ∙ filter_map-append (durable_by (take place events) chosen) (take so_many events) (e ∷ [])
 
   -- an event by which none of them becomes durable leaves them
-  pub none_more : (so_many : ℕ) (e : Event) → slice_get events so_many ≡ Some e → durable_by (take place events) chosen e ≡ None → so_far (suc so_many) ≡ so_far so_many
+  pub none_more : (so_many : ℕ) (e : Event) → slice_get events so_many ≡ Some e → durable_by (take place events) chosen e ≡ None
+      → so_far (suc so_many) ≡ so_far so_many
   none_more so_many e stands none = next_so_far so_many e stands ∙ ap (λ o. so_far so_many ++ cons_option o []) none ∙ append-nil (so_far so_many)
 
   -- and the fsync of one that does comes behind them
-  pub one_durable : (so_many commit begin : ℕ) (flush : Flush) → slice_get events so_many ≡ Some (event.Durable commit) → chosen commit ≡ true → begin < place → IsBegun events begin commit flush → so_far (suc so_many) ≡ so_far so_many ++ flush ∷ []
+  pub one_durable : (so_many commit begin : ℕ) (flush : Flush) → slice_get events so_many ≡ Some (event.Durable commit) → chosen commit ≡ true → begin < place
+      → IsBegun events begin commit flush → so_far (suc so_many) ≡ so_far so_many ++ flush ∷ []
   one_durable so_many commit begin flush stands is lt begun =
       next_so_far so_many (event.Durable commit) stands
-      ∙ ap (λ o. so_far so_many ++ cons_option o []) (ap (λ b. cond b (flush_of (take place events) commit) None) is ∙ own_flush_before begin commit flush lt begun)
+      ∙ ap (λ o. so_far so_many ++ cons_option o [])
+      (ap (λ b. cond b (flush_of (take place events) commit) None) is ∙ own_flush_before begin commit flush lt begun)
 
 -- the greatest stamp of some fsyncs
 abbrev pub greatest : List Flush → ℕ

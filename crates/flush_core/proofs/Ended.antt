@@ -24,7 +24,8 @@ module _ (old : KeptState) (commit : ℕ) (running : old.crashed ≡ false) (goi
   not_found : (test : ℕ → Bool) (n : ℕ) → test commit ≡ true → find (λ named. not (test named)) (commit ∷ []) ≡ Some n → ⊥
   not_found test n passes found = none_some (sym (ap (λ b. cond (not b) (Some commit) None) passes) ∙ found)
 
-  none_holds : is_flying (machine_of old) commit ≡ true → is_opened (machine_of old) commit ≡ true → (why : Refused) → Refuses (machine_of old) (event.Durable commit) why → ⊥
+  none_holds : is_flying (machine_of old) commit ≡ true → is_opened (machine_of old) commit ≡ true → (why : Refused)
+      → Refuses (machine_of old) (event.Durable commit) why → ⊥
   none_holds flies opened refused.Crashed holds = no_true (sym running ∙ holds)
   none_holds flies opened (refused.NotNext want) holds = holds
   none_holds flies opened (refused.NotLegal reply) holds = holds
@@ -37,8 +38,11 @@ module _ (old : KeptState) (commit : ℕ) (running : old.crashed ≡ false) (goi
   none_holds flies opened (refused.AlreadyOpened other) holds = holds
   none_holds flies opened refused.NoMemory holds = holds
 
-  pub takes_durable : (flush : Flush) (found : Option Flight) → flight_of (machine_of old) commit ≡ found → option_map flush_in found ≡ Some flush → is_opened (machine_of old) commit ≡ true → (raise : Raise) → IsRaisedTo old flush raise
-      → (new : KeptState) (flights : List InFlight) → map flight_as flights ≡ filter (λ (flight : Flight). not (flight.commit == commit)) (map flight_as old.flights) → new ≡ record (raised_to old raise) { flights = flights } → Accepts (machine_of old) (event.Durable commit) (machine_of new)
+  pub takes_durable : (flush : Flush) (found : Option Flight) → flight_of (machine_of old) commit ≡ found → option_map flush_in found ≡ Some flush
+      → is_opened (machine_of old) commit ≡ true → (raise : Raise) → IsRaisedTo old flush raise
+      → (new : KeptState) (flights : List InFlight)
+      → map flight_as flights ≡ filter (λ (flight : Flight). not (flight.commit == commit)) (map flight_as old.flights)
+      → new ≡ record (raised_to old raise) { flights = flights } → Accepts (machine_of old) (event.Durable commit) (machine_of new)
   takes_durable flush None is mapped opened raise raised new flights left same = no_flush mapped
     where
       no_flush : {P : Type 0} → None ≡ Some flush → P
@@ -77,7 +81,8 @@ module _ (old : KeptState) (kept : List ℕ) (spare : ℕ) (running : old.crashe
   first_not_flying (refused.AlreadyOpened other) holds = omega arith
   first_not_flying refused.NoMemory holds = omega arith
 
-  pub keeps_not_flying : (commit : ℕ) → find (λ named. not (is_flying (machine_of old) named)) kept ≡ Some commit → IsRefused (machine_of old) e (refused.NotFlying commit)
+  pub keeps_not_flying : (commit : ℕ) → find (λ named. not (is_flying (machine_of old) named)) kept ≡ Some commit
+      → IsRefused (machine_of old) e (refused.NotFlying commit)
   keeps_not_flying commit found = record { holds = found; first = first_not_flying }
 
   module _ (flying : find (λ named. not (is_flying (machine_of old) named)) kept ≡ None) where
@@ -94,7 +99,8 @@ module _ (old : KeptState) (kept : List ℕ) (spare : ℕ) (running : old.crashe
     first_not_opened (refused.AlreadyOpened other) holds = omega arith
     first_not_opened refused.NoMemory holds = omega arith
 
-    pub keeps_not_opened : (commit : ℕ) → find (λ named. not (is_opened (machine_of old) named)) kept ≡ Some commit → IsRefused (machine_of old) e (refused.NotOpened commit)
+    pub keeps_not_opened : (commit : ℕ) → find (λ named. not (is_opened (machine_of old) named)) kept ≡ Some commit
+        → IsRefused (machine_of old) e (refused.NotOpened commit)
     keeps_not_opened commit found = record { holds = (refl, found); first = first_not_opened }
 
     module _ (opened : find (λ named. not (is_opened (machine_of old) named)) kept ≡ None) where
@@ -111,7 +117,9 @@ module _ (old : KeptState) (kept : List ℕ) (spare : ℕ) (running : old.crashe
       none_refuses (refused.AlreadyOpened other) holds = holds
       none_refuses refused.NoMemory holds = holds
 
-      pub takes_crash : (raise : Raise) → AreRaised old.first old.entries every_entry old.cut (inodes_of old.first old.inodes) (kept_flushes (map flight_as old.flights) kept) raise.cut (has_node raise.inodes)
+      pub takes_crash : (raise : Raise)
+          → AreRaised old.first old.entries every_entry old.cut (inodes_of old.first old.inodes) (kept_flushes (map flight_as old.flights) kept) raise.cut
+          (has_node raise.inodes)
           → (new : KeptState) → new ≡ record (raised_to old raise) { flights = []; crashed = true } → Accepts (machine_of old) e (machine_of new)
       takes_crash raise raised new same = record {
         free = none_refuses;

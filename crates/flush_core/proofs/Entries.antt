@@ -17,13 +17,15 @@ use Rattle.sfs_base.proofs.BasicNumbers.{suc_plus, zero_plus, plus_zero}
 use Rattle.flush_core.proofs.Durables.{place_of_one, take_next}
 
 -- what stands at a place of a legal history may come there
-may_from : (first : TreeState) (stamp : ℕ) (history : List Entry) (place : ℕ) (entry : Entry) → IsLegalFrom first stamp history → slice_get history place ≡ Some entry → MayCome (tree_after first (take place history)) (stamp + place) entry
+may_from : (first : TreeState) (stamp : ℕ) (history : List Entry) (place : ℕ) (entry : Entry) → IsLegalFrom first stamp history
+    → slice_get history place ≡ Some entry → MayCome (tree_after first (take place history)) (stamp + place) entry
 may_from first stamp [] place entry legal stands = none_some stands
 may_from first stamp (next ∷ history) zero entry legal stands = rw (plus_zero stamp) (rw (some_same stands) at legal.0)
 may_from first stamp (next ∷ history) (suc place) entry legal stands =
     rw (suc_plus stamp place) at (may_from (tree_after_entry first next) (suc stamp) history place entry legal.1 stands)
 
-may_at : (first : TreeState) (history : List Entry) (place : ℕ) (entry : Entry) → IsLegal first history → slice_get history place ≡ Some entry → MayCome (tree_after first (take place history)) place entry
+may_at : (first : TreeState) (history : List Entry) (place : ℕ) (entry : Entry) → IsLegal first history → slice_get history place ≡ Some entry
+    → MayCome (tree_after first (take place history)) place entry
 may_at first history place entry legal stands = rw (zero_plus place) at (may_from first 0 history place entry legal stands)
 
 pub entries_may_come : EntriesMayCome
@@ -37,10 +39,12 @@ entries_may_come first history entry legal one =
 
 pub stamps_are_once : StampsAreOnce
 stamps_are_once first history entry other legal one also same =
-    some_same (sym (entries_may_come first history entry legal one).stands ∙ ap (slice_get history) same ∙ (entries_may_come first history other legal also).stands)
+    some_same
+    (sym (entries_may_come first history entry legal one).stands ∙ ap (slice_get history) same ∙ (entries_may_come first history other legal also).stands)
 
 -- an entry behind a map to calls
-called_at : (history : List Entry) (place : ℕ) (e : Event) → slice_get (map event.Call history) place ≡ Some e → (entry : Entry) × (slice_get history place ≡ Some entry) × (event.Call entry ≡ e)
+called_at : (history : List Entry) (place : ℕ) (e : Event) → slice_get (map event.Call history) place ≡ Some e
+    → (entry : Entry) × (slice_get history place ≡ Some entry) × (event.Call entry ≡ e)
 called_at [] place e stands = none_some stands
 called_at (entry ∷ history) zero e stands = (entry, refl, some_same stands)
 called_at (entry ∷ history) (suc place) e stands = called_at history place e stands
@@ -50,7 +54,8 @@ taken_length [] place entry stands = none_some stands
 taken_length (next ∷ history) zero entry stands = refl
 taken_length (next ∷ history) (suc place) entry stands = ap suc (taken_length history place entry stands)
 
-module _ (first : TreeState) (history : List Entry) (legal : IsLegal first history) (place : ℕ) (entry : Entry) (stands : slice_get history place ≡ Some entry) where
+module _ (first : TreeState) (history : List Entry) (legal : IsLegal first history) (place : ℕ) (entry : Entry)
+    (stands : slice_get history place ≡ Some entry) where
   may : MayCome (tree_after first (take place history)) (length (take place history)) entry
   may = rw (taken_length history place entry stands) (may_at first history place entry legal stands)
 

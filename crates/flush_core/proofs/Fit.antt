@@ -50,7 +50,10 @@ module _ (r : Run) (cut : ℕ → ℕ) (s : Seen r cut) (keeps : Keeps r cut) (w
     kind = kind_seen t d may.kind;
     alive = elim (alive_named (r.tree t) d may.alive) [
       | inl root ↦ root_alive (seen_tree t) d root
-      | inr named ↦ named_alive (seen_tree t) d (stays_named r cut s keeps d (λ b e n kind adds makes. keeps.births b e n kind d t x adds makes one same lt) t named.directory named.name may.kind named.row)
+      | inr named ↦
+          named_alive (seen_tree t) d
+          (stays_named r cut s keeps d
+          (λ b e n kind adds makes. keeps.births b e n kind d t x adds makes one same lt) t named.directory named.name may.kind named.row)
     ];
   }
 
@@ -63,17 +66,22 @@ module _ (r : Run) (cut : ℕ → ℕ) (s : Seen r cut) (keeps : Keeps r cut) (w
   ]
 
   -- a way up whose placings lie below the cuts of the holders is there
-  above_seen : (t : ℕ) {node : ℕ} {above : List ℕ} → Above (r.tree t) node above → is_directory (r.tree t) node ≡ true → ((x holder : ℕ) (name : List ℕ) (u : ℕ) → IsOneOf (node ∷ above) x → row_of (r.tree t) holder name ≡ Some x → IsLast r x t u → u < cut holder) → Above (seen_tree t) node above
+  above_seen : (t : ℕ) {node : ℕ} {above : List ℕ} → Above (r.tree t) node above → is_directory (r.tree t) node ≡ true
+      → ((x holder : ℕ) (name : List ℕ) (u : ℕ) → IsOneOf (node ∷ above) x → row_of (r.tree t) holder name ≡ Some x → IsLast r x t u → u < cut holder)
+      → Above (seen_tree t) node above
   above_seen t at_root kind h = at_root
   above_seen t (below node holder name above row rest) kind h =
-      below node holder name above (held r cut s t holder name node kind row (λ u last. h node holder name u (inl refl) row last)) (above_seen t rest ((r.sound t).holds holder name node row).0 (λ x other n u one. h x other n u (inr one)))
+      below node holder name above (held r cut s t holder name node kind row (λ u last. h node holder name u (inl refl) row last))
+      (above_seen t rest ((r.sound t).holds holder name node row).0 (λ x other n u one. h x other n u (inr one)))
 
   -- a directory that a change below its cut ends has no rows
-  bare_seen : (t : ℕ) (x : RowChange) (child : ℕ) → Made r t x → x.ends ≡ true → x.child ≡ child → t < cut x.directory → HasNoRows (r.tree t) child → HasNoRows (seen_tree t) child
+  bare_seen : (t : ℕ) (x : RowChange) (child : ℕ) → Made r t x → x.ends ≡ true → x.child ≡ child → t < cut x.directory → HasNoRows (r.tree t) child
+      → HasNoRows (seen_tree t) child
   bare_seen t x child one ends same lt bare n =
       all_seen r cut s child (λ u y own dir. rw dir at (keeps.removals t x u y one ends lt own (dir ∙ sym same))) t n ∙ bare n
 
-  adds_seen : (t d : ℕ) (n : List ℕ) (c : ℕ) (makes : Option Kind) → r.effect t ≡ Adds d n c → r.makes t ≡ makes → Fits (r.tree t) (r.core t) (Adds d n c) makes → t < cut d → FitsAdds (seen_tree t) d n c
+  adds_seen : (t d : ℕ) (n : List ℕ) (c : ℕ) (makes : Option Kind) → r.effect t ≡ Adds d n c → r.makes t ≡ makes → Fits (r.tree t) (r.core t) (Adds d n c) makes
+      → t < cut d → FitsAdds (seen_tree t) d n c
   adds_seen t d n c None e mk f lt = record {
     holder = may_hold t d f.holder (added t d n c None) (made t (Adds d n c) (added t d n c None) e (inl refl)) refl lt;
     free = ahead r cut s t d n (omega arith) ∙ f.free;
@@ -86,10 +94,14 @@ module _ (r : Run) (cut : ℕ → ℕ) (s : Seen r cut) (keeps : Keeps r cut) (w
     free = ahead r cut s t d n (omega arith) ∙ f.free;
     no_root = λ root. some_is_no_none (directory_node (r.tree t) 0 (r.sound t).root) (ap (get (r.tree t).nodes) (sym root) ∙ f.fresh);
     placeless = λ dir k m row. some_is_no_none (node_seen t k m c row) f.fresh;
-    node = nodes.node (suc t) c (subst (λ (tree : TreeState). IsSome (get tree.nodes c)) (sym (r.next t ∙ ap (λ (g : Effect). tree_with (r.tree t) (r.core t) g (r.makes t)) e ∙ ap (tree_with (r.tree t) (r.core t) (Adds d n c)) mk)) (elim (node_cases (r.tree t).nodes (next_number (r.tree t) (r.core t)) (record { kind = kind; bytes = [] }) c) [
-      | inl here ↦ rw here.1 refl
-      | inr other ↦ absurd (other.0 f.number)
-    ]));
+    node =
+        nodes.node (suc t) c
+        (subst (λ (tree : TreeState). IsSome (get tree.nodes c))
+        (sym (r.next t ∙ ap (λ (g : Effect). tree_with (r.tree t) (r.core t) g (r.makes t)) e ∙ ap (tree_with (r.tree t) (r.core t) (Adds d n c)) mk))
+        (elim (node_cases (r.tree t).nodes (next_number (r.tree t) (r.core t)) (record { kind = kind; bytes = [] }) c) [
+          | inl here ↦ rw here.1 refl
+          | inr other ↦ absurd (other.0 f.number)
+        ]));
   }
 
   removes_seen : (t d : ℕ) (n : List ℕ) (c : ℕ) → r.effect t ≡ Removes d n c → FitsRemoves (r.tree t) d n c → t < cut d → FitsRemoves (seen_tree t) d n c
@@ -101,7 +113,8 @@ module _ (r : Run) (cut : ℕ → ℕ) (s : Seen r cut) (keeps : Keeps r cut) (w
         bare_seen t x c (made t (Removes d n c) x e (inl refl)) dir refl lt (f.bare dir);
   }
 
-  moves_seen : (t p : ℕ) (n : List ℕ) (q : ℕ) (m : List ℕ) (c : ℕ) → r.effect t ≡ Moves p n q m c → FitsMoves (r.tree t) p n q m c → t < cut p → t < cut q → FitsMoves (seen_tree t) p n q m c
+  moves_seen : (t p : ℕ) (n : List ℕ) (q : ℕ) (m : List ℕ) (c : ℕ) → r.effect t ≡ Moves p n q m c → FitsMoves (r.tree t) p n q m c → t < cut p → t < cut q
+      → FitsMoves (seen_tree t) p n q m c
   moves_seen t p n q m c e f lp lq = record {
     row = ahead r cut s t p n (omega arith) ∙ f.row;
     holder = may_hold t q f.holder comes (made t (Moves p n q m c) comes e (comes_in (r.tree t) t p n q m c)) refl lq;
@@ -113,8 +126,13 @@ module _ (r : Run) (cut : ℕ → ℕ) (s : Seen r cut) (keeps : Keeps r cut) (w
         bare_seen t x other (made t (Moves p n q m c) x e (replaced_in (r.tree t) t p n q m c other was)) dir refl lq (f.bare other was dir);
     away = λ kind apart.
         let dir = kind_was t c ((r.sound t).node p n c f.row) kind in
-        let way = f.away dir apart in
-        (way.0, above_seen t way.1 f.holder.kind (λ x holder name u one row last. keeps.ancestors t comes way.0 x holder name u (made t (Moves p n q m c) comes e (comes_in (r.tree t) t p n q m c)) refl (two_sided apart) dir lq way.1 one row last), way.2);
+        let way = f.away dir apart in (
+          way.0,
+          above_seen t way.1 f.holder.kind
+              (λ x holder name u one row last. keeps.ancestors t comes way.0 x holder name u
+              (made t (Moves p n q m c) comes e (comes_in (r.tree t) t p n q m c)) refl (two_sided apart) dir lq way.1 one row last),
+          way.2,
+        );
   }
     where
       comes : RowChange
@@ -130,41 +148,55 @@ module _ (r : Run) (cut : ℕ → ℕ) (s : Seen r cut) (keeps : Keeps r cut) (w
       ] refl
 
   -- all changes of a stamp are made in the tree at the cut, or none is
-  all_made : (t : ℕ) (effect : Effect) → ((x : RowChange) → IsOneOf (changes_by (r.tree t) t effect) x → t < cut x.directory) → fold with_own (s.rows t) (filter (below_cut cut) (changes_by (r.tree t) t effect)) ≡ Rattle.sfs_tree.specs.Effect.rows_after (s.rows t) effect
+  all_made : (t : ℕ) (effect : Effect) → ((x : RowChange) → IsOneOf (changes_by (r.tree t) t effect) x → t < cut x.directory)
+      → fold with_own (s.rows t) (filter (below_cut cut) (changes_by (r.tree t) t effect)) ≡ Rattle.sfs_tree.specs.Effect.rows_after (s.rows t) effect
   all_made t effect h =
-      ap (fold with_own (s.rows t)) (filter_all (below_cut cut) (changes_by (r.tree t) t effect) (λ x one. lt-ltb x.stamp (cut x.directory) (rw (stamp_of (r.tree t) t effect x one) (h x one))))
+      ap (fold with_own (s.rows t))
+      (filter_all (below_cut cut) (changes_by (r.tree t) t effect)
+      (λ x one. lt-ltb x.stamp (cut x.directory) (rw (stamp_of (r.tree t) t effect x one) (h x one))))
       ∙ folds (s.rows t) (r.tree t) t effect
 
-  none_made : (t : ℕ) (effect : Effect) → ((x : RowChange) → IsOneOf (changes_by (r.tree t) t effect) x → cut x.directory ≤ t) → fold with_own (s.rows t) (filter (below_cut cut) (changes_by (r.tree t) t effect)) ≡ s.rows t
+  none_made : (t : ℕ) (effect : Effect) → ((x : RowChange) → IsOneOf (changes_by (r.tree t) t effect) x → cut x.directory ≤ t)
+      → fold with_own (s.rows t) (filter (below_cut cut) (changes_by (r.tree t) t effect)) ≡ s.rows t
   none_made t effect h =
-      ap (fold with_own (s.rows t)) (filter_none (below_cut cut) (changes_by (r.tree t) t effect) (λ x one. not_below x.stamp (cut x.directory) (rw (stamp_of (r.tree t) t effect x one) (h x one))))
+      ap (fold with_own (s.rows t))
+      (filter_none (below_cut cut) (changes_by (r.tree t) t effect)
+      (λ x one. not_below x.stamp (cut x.directory) (rw (stamp_of (r.tree t) t effect x one) (h x one))))
 
   abbrev Next : ℕ → Effect → Type 0
   Next t effect = IsSound (with_rows whole (fold with_own (s.rows t) (filter (below_cut cut) (changes_by (r.tree t) t effect))))
 
-  spared : (t : ℕ) (effect : Effect) → IsSound (seen_tree t) → ((x : RowChange) → IsOneOf (changes_by (r.tree t) t effect) x → cut x.directory ≤ t) → Next t effect
+  spared : (t : ℕ) (effect : Effect) → IsSound (seen_tree t) → ((x : RowChange) → IsOneOf (changes_by (r.tree t) t effect) x → cut x.directory ≤ t)
+      → Next t effect
   spared t effect sound h = rw (none_made t effect h) sound
 
   one_dir : (P : ℕ → Type 0) (x : RowChange) (y : RowChange) → P x.directory → IsOneOf (x ∷ []) y → P y.directory
   one_dir P x y h one = elim one [ inl e ↦ rw e at h | inr none ↦ absurd none ]
 
-  adds_next : (t d : ℕ) (n : List ℕ) (c : ℕ) (makes : Option Kind) → r.effect t ≡ Adds d n c → r.makes t ≡ makes → Fits (r.tree t) (r.core t) (Adds d n c) makes → IsSound (seen_tree t) → Next t (Adds d n c)
+  adds_next : (t d : ℕ) (n : List ℕ) (c : ℕ) (makes : Option Kind) → r.effect t ≡ Adds d n c → r.makes t ≡ makes → Fits (r.tree t) (r.core t) (Adds d n c) makes
+      → IsSound (seen_tree t) → Next t (Adds d n c)
   adds_next t d n c makes e mk f sound = elim (below_or t (cut d)) [
-    | inl lt ↦ rw (all_made t (Adds d n c) (λ y one. one_dir (λ k. t < cut k) (added t d n c None) y lt one)) (IsSound-adds (seen_tree t) sound d n c (adds_seen t d n c makes e mk f lt))
+    | inl lt ↦
+        rw (all_made t (Adds d n c) (λ y one. one_dir (λ k. t < cut k) (added t d n c None) y lt one))
+        (IsSound-adds (seen_tree t) sound d n c (adds_seen t d n c makes e mk f lt))
     | inr le ↦ spared t (Adds d n c) sound (λ y one. one_dir (λ k. cut k ≤ t) (added t d n c None) y le one)
   ]
 
   removes_next : (t d : ℕ) (n : List ℕ) (c : ℕ) → r.effect t ≡ Removes d n c → FitsRemoves (r.tree t) d n c → IsSound (seen_tree t) → Next t (Removes d n c)
   removes_next t d n c e f sound = elim (below_or t (cut d)) [
-    | inl lt ↦ rw (all_made t (Removes d n c) (λ y one. one_dir (λ k. t < cut k) (removed t d n c None (is_directory (r.tree t) c)) y lt one)) (IsSound-removes (seen_tree t) sound d n c (removes_seen t d n c e f lt))
+    | inl lt ↦
+        rw (all_made t (Removes d n c) (λ y one. one_dir (λ k. t < cut k) (removed t d n c None (is_directory (r.tree t) c)) y lt one))
+        (IsSound-removes (seen_tree t) sound d n c (removes_seen t d n c e f lt))
     | inr le ↦ spared t (Removes d n c) sound (λ y one. one_dir (λ k. cut k ≤ t) (removed t d n c None (is_directory (r.tree t) c)) y le one)
   ]
 
-  moves_next : (t p : ℕ) (n : List ℕ) (q : ℕ) (m : List ℕ) (c : ℕ) → r.effect t ≡ Moves p n q m c → FitsMoves (r.tree t) p n q m c → IsSound (seen_tree t) → Next t (Moves p n q m c)
+  moves_next : (t p : ℕ) (n : List ℕ) (q : ℕ) (m : List ℕ) (c : ℕ) → r.effect t ≡ Moves p n q m c → FitsMoves (r.tree t) p n q m c → IsSound (seen_tree t)
+      → Next t (Moves p n q m c)
   moves_next t p n q m c e f sound = elim (below_or t (cut p)) [
     | inl lp ↦
         let lq = other_end r cut s keeps t p n q m c e lp in
-        subst (λ (rows : FinMap key_cmp ℕ). IsSound (with_rows whole rows)) (sym (all_made t (Moves p n q m c) (λ y one. elim (sides (r.tree t) t p n q m c y one) [
+        subst (λ (rows : FinMap key_cmp ℕ). IsSound (with_rows whole rows))
+        (sym (all_made t (Moves p n q m c) (λ y one. elim (sides (r.tree t) t p n q m c y one) [
           | inl same ↦ rw same lp
           | inr same ↦ rw same lq
         ]))) (IsSound-moves (seen_tree t) sound p n q m c (moves_seen t p n q m c e f lp lq))
@@ -177,7 +209,8 @@ module _ (r : Run) (cut : ℕ → ℕ) (s : Seen r cut) (keeps : Keeps r cut) (w
     ])
   ]
 
-  next_sound : (t : ℕ) (effect : Effect) (makes : Option Kind) → r.effect t ≡ effect → r.makes t ≡ makes → Fits (r.tree t) (r.core t) effect makes → IsSound (seen_tree t) → Next t effect
+  next_sound : (t : ℕ) (effect : Effect) (makes : Option Kind) → r.effect t ≡ effect → r.makes t ≡ makes → Fits (r.tree t) (r.core t) effect makes
+      → IsSound (seen_tree t) → Next t effect
   next_sound t Stays makes e mk f sound = sound
   next_sound t (Edits file edit) makes e mk f sound = sound
   next_sound t (Adds d n c) makes e mk f sound = adds_next t d n c makes e mk f sound

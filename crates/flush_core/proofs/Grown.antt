@@ -22,23 +22,34 @@ use Rattle.flush_core.proofs.Lives.{live_own}
 use Rattle.flush_core.proofs.Prefix.{take_take, change_below}
 
 -- the changes and births of a history with an entry more
-pub changes_of-push : (first : TreeState) (history : List Entry) (entry : Entry) → changes_of first (history ++ entry ∷ []) ≡ changes_of first history ++ changes_by (tree_after first history) entry.stamp.0 (verdict (tree_after first history) entry.core.0 entry.call).effect
+pub changes_of-push : (first : TreeState) (history : List Entry) (entry : Entry)
+    → changes_of first (history ++ entry ∷ [])
+    ≡ changes_of first history ++ changes_by (tree_after first history) entry.stamp.0 (verdict (tree_after first history) entry.core.0 entry.call).effect
 changes_of-push first [] entry = append-nil (changes_by first entry.stamp.0 (verdict first entry.core.0 entry.call).effect)
 changes_of-push first (e ∷ history) entry =
     ap (λ l. changes_by first e.stamp.0 (verdict first e.core.0 e.call).effect ++ l) (changes_of-push (tree_after_entry first e) history entry)
     ∙ sym (append_assoc (changes_by first e.stamp.0 (verdict first e.core.0 e.call).effect) (changes_of (tree_after_entry first e) history) _)
 
-pub births_of-push : (first : TreeState) (history : List Entry) (entry : Entry) → births_of first (history ++ entry ∷ []) ≡ births_of first history ++ births_by entry.stamp.0 (verdict (tree_after first history) entry.core.0 entry.call).effect (verdict (tree_after first history) entry.core.0 entry.call).makes
-births_of-push first [] entry = append-nil (births_by entry.stamp.0 (verdict first entry.core.0 entry.call).effect (verdict first entry.core.0 entry.call).makes)
+pub births_of-push : (first : TreeState) (history : List Entry) (entry : Entry)
+    → births_of first (history ++ entry ∷ [])
+    ≡ births_of first history
+    ++ births_by entry.stamp.0 (verdict (tree_after first history) entry.core.0 entry.call).effect
+    (verdict (tree_after first history) entry.core.0 entry.call).makes
+births_of-push first [] entry =
+    append-nil (births_by entry.stamp.0 (verdict first entry.core.0 entry.call).effect (verdict first entry.core.0 entry.call).makes)
 births_of-push first (e ∷ history) entry =
-    ap (λ l. births_by e.stamp.0 (verdict first e.core.0 e.call).effect (verdict first e.core.0 e.call).makes ++ l) (births_of-push (tree_after_entry first e) history entry)
-    ∙ sym (append_assoc (births_by e.stamp.0 (verdict first e.core.0 e.call).effect (verdict first e.core.0 e.call).makes) (births_of (tree_after_entry first e) history) _)
+    ap (λ l. births_by e.stamp.0 (verdict first e.core.0 e.call).effect (verdict first e.core.0 e.call).makes ++ l)
+    (births_of-push (tree_after_entry first e) history entry)
+    ∙ sym
+    (append_assoc (births_by e.stamp.0 (verdict first e.core.0 e.call).effect (verdict first e.core.0 e.call).makes)
+    (births_of (tree_after_entry first e) history) _)
 
 take_length : {X : Type 0} (xs ys : List X) → take (length xs) (xs ++ ys) ≡ xs
 take_length [] ys = refl
 take_length (x ∷ xs) ys = ap (λ l. x ∷ l) (take_length xs ys)
 
-module _ (first : TreeState) (history : List Entry) (entry : Entry) (is : IsSoundTree first) (legal : IsLegal first (history ++ entry ∷ [])) (stamped : entry.stamp.0 ≡ length history) (core : entry.core.0 < length (tree_after first history).made) where
+module _ (first : TreeState) (history : List Entry) (entry : Entry) (is : IsSoundTree first) (legal : IsLegal first (history ++ entry ∷ []))
+    (stamped : entry.stamp.0 ≡ length history) (core : entry.core.0 < length (tree_after first history).made) where
   abbrev whole : List Entry
   whole = history ++ entry ∷ []
 
@@ -64,10 +75,12 @@ module _ (first : TreeState) (history : List Entry) (entry : Entry) (is : IsSoun
   same_take s le = ap (take s) (sym prefix) ∙ take_take whole s n le
 
   -- what is kept of a change by the tree at its stamp is kept in the longer history
-  still_kept : (change : OwnChange) → IsChange first history (row_change_of change) → KeepsAbove (tree_after first (take change.stamp history)) change → KeepsAbove (tree_after first (take change.stamp whole)) change
+  still_kept : (change : OwnChange) → IsChange first history (row_change_of change) → KeepsAbove (tree_after first (take change.stamp history)) change
+      → KeepsAbove (tree_after first (take change.stamp whole)) change
   still_kept change one keeps = let lt = before prefix (row_change_of change) one in rw (same_take change.stamp (omega arith)) at keeps
 
-  newly_kept : (change : OwnChange) → IsOneOf (changes_by tree entry.stamp.0 effect) (row_change_of change) → KeepsAbove tree change → KeepsAbove (tree_after first (take change.stamp whole)) change
+  newly_kept : (change : OwnChange) → IsOneOf (changes_by tree entry.stamp.0 effect) (row_change_of change) → KeepsAbove tree change
+      → KeepsAbove (tree_after first (take change.stamp whole)) change
   newly_kept change one keeps = rw there keeps
     where
       there : take change.stamp whole ≡ history
@@ -76,15 +89,23 @@ module _ (first : TreeState) (history : List Entry) (entry : Entry) (is : IsSoun
   pub grown_past : (old new : Past) → IsPast first history old → Grows old entry new → IsPast first whole new
   grown_past old new past grows = record {
     tree = grows.tree ∙ ap (λ (t : TreeState). tree_after_entry t entry) past.tree ∙ sym (tree_after-push first history entry);
-    changes = ap (map row_change_of) grows.changes ∙ map-append row_change_of old.changes.items grows.more ∙ ap (λ l. l ++ map row_change_of grows.more) past.changes ∙ ap (λ l. changes_of first history ++ l) own ∙ sym (changes_of-push first history entry);
-    births = grows.births ∙ ap (λ l. l ++ births_by entry.stamp.0 (verdict old.tree entry.core.0 entry.call).effect (verdict old.tree entry.core.0 entry.call).makes) past.births
-        ∙ ap (λ (t : TreeState). births_of first history ++ births_by entry.stamp.0 (verdict t entry.core.0 entry.call).effect (verdict t entry.core.0 entry.call).makes) past.tree
+    changes =
+        ap (map row_change_of) grows.changes ∙ map-append row_change_of old.changes.items grows.more ∙ ap (λ l. l ++ map row_change_of grows.more) past.changes
+        ∙ ap (λ l. changes_of first history ++ l) own ∙ sym (changes_of-push first history entry);
+    births =
+        grows.births
+        ∙ ap (λ l. l ++ births_by entry.stamp.0 (verdict old.tree entry.core.0 entry.call).effect (verdict old.tree entry.core.0 entry.call).makes)
+        past.births
+        ∙ ap (λ (t : TreeState). births_of first history
+        ++ births_by entry.stamp.0 (verdict t entry.core.0 entry.call).effect (verdict t entry.core.0 entry.call).makes)
+        past.tree
         ∙ sym (births_of-push first history entry);
     above = λ change one. elim (in_either old.changes.items grows.more change (rw grows.changes at one)) [
       | inl was ↦ still_kept change (rw past.changes at (in_mapped old.changes.items change was)) (past.above change was)
       | inr more ↦
           let row = rw own at (in_mapped grows.more change more) in
-          let live = live_own tree entry.core.0 entry.stamp.0 sound.sound effect _ (calls_fit tree entry.core.0 entry.call sound core) (row_change_of change) row in
+          let live =
+          live_own tree entry.core.0 entry.stamp.0 sound.sound effect _ (calls_fit tree entry.core.0 entry.call sound core) (row_change_of change) row in
           newly_kept change row (subst (λ (t : TreeState). KeepsAbove t change) past.tree
           (grows.noted change more (rw past.tree live.kind) (rw past.tree live.alive)))
     ];

@@ -35,7 +35,8 @@ module _ (first : TreeState) (history : List Entry) (is : IsSoundTree first) (le
   at_end : (t x : ℕ) → IsSome (get (tree_at first history t).nodes x) → IsSome (get (tree_after first history).nodes x)
   at_end t x some = (nodes_at first history t is legal x some).0
 
-  module _ (n : ℕ) (cut : Cut) (inodes : ℕ → Bool) (low : (node : ℕ) → cut_of cut node ≤ n) (nodes : AreNodes first (take n history) inodes) (kept : KeepsCut first (take n history) cut inodes) where
+  module _ (n : ℕ) (cut : Cut) (inodes : ℕ → Bool) (low : (node : ℕ) → cut_of cut node ≤ n) (nodes : AreNodes first (take n history) inodes)
+      (kept : KeepsCut first (take n history) cut inodes) where
     -- what lies below the cut lies below the count
     within_low : (t d : ℕ) → t < cut_of cut d → t < n
     within_low t d lt = let le = low d in omega arith
@@ -43,7 +44,8 @@ module _ (first : TreeState) (history : List Entry) (is : IsSoundTree first) (le
     within_prefix : (x : RowChange) → IsChange first history x → x.stamp < cut_of cut x.directory → IsChange first (take n history) x
     within_prefix x one lt = change_prefix first history n legal x one (within_low x.stamp x.directory lt)
 
-    last_prefix : (node stamp : ℕ) (last : RowChange) → stamp < n → IsLastPlacing first history node stamp last → IsLastPlacing first (take n history) node stamp last
+    last_prefix : (node stamp : ℕ) (last : RowChange) → stamp < n → IsLastPlacing first history node stamp last
+        → IsLastPlacing first (take n history) node stamp last
     last_prefix node stamp last lt placing = record {
       is_change = change_prefix first history n legal last placing.is_change (let less = placing.below in omega arith);
       places = placing.places;
@@ -56,18 +58,23 @@ module _ (first : TreeState) (history : List Entry) (is : IsSoundTree first) (le
     closed_whole = record {
       renames = λ change other one two within. kept.closed.renames change other (within_prefix change one within) two within;
       removals = λ change own one ends within own_is same.
-          let before = ended_before run change.stamp change own.stamp own (made_at first history is legal change one) ends (made_at first history is legal own own_is) same in
+          let before =
+          ended_before run change.stamp change own.stamp own (made_at first history is legal change one) ends
+          (made_at first history is legal own own_is) same in
           let lt = within_low change.stamp change.directory within in
           kept.closed.removals change own (within_prefix change one within) ends within (change_prefix first history n legal own own_is (omega arith)) same;
       births = λ birth own one own_is same within.
           let born = birth_at first history birth legal one in
-          let before = born_before run birth.stamp birth.directory born.name birth.node born.kind born.adds born.made own.stamp own (made_at first history is legal own own_is) same in
+          let before =
+          born_before run birth.stamp birth.directory born.name birth.node born.kind born.adds born.made own.stamp own
+          (made_at first history is legal own own_is) same in
           let lt = within_low own.stamp own.directory within in
           kept.closed.births birth own (birth_prefix first history n legal birth one (omega arith)) (within_prefix own own_is within) same within;
       ancestors = λ change above node holder name last move within way among row placing.
           let lt = within_low change.stamp change.directory within in
           let tree = sym (same_tree first history is legal n change.stamp lt) in
-          kept.closed.ancestors change above node holder name last (move_prefix first history is legal n change lt move) within (rw tree at way) among (rw tree at row) (last_prefix node change.stamp last lt placing);
+          kept.closed.ancestors change above node holder name last (move_prefix first history is legal n change lt move) within (rw tree at way) among
+          (rw tree at row) (last_prefix node change.stamp last lt placing);
     }
 
     born_whole : AreBorn first history cut inodes
@@ -97,7 +104,8 @@ module _ (first : TreeState) (history : List Entry) (is : IsSoundTree first) (le
   child_at_end x one = at_end (suc x.stamp) x.child (child_node run x.stamp x (made_at first history is legal x one) (suc x.stamp) (omega arith))
 
   -- a node that is reached is one of the tree after the history
-  reached_node : (flush : Flush) (raised : Cut) (node : ℕ) → IsReached first history every_entry flush raised node → IsSome (get (tree_after first history).nodes node)
+  reached_node : (flush : Flush) (raised : Cut) (node : ℕ) → IsReached first history every_entry flush raised node
+      → IsSome (get (tree_after first history).nodes node)
   reached_node flush raised node reached = elim reached [
     | inl named ↦ elim (from_rows (is_within raised) (changes_of first history) named.directory named.name first.rows node named.row) [
       | inl before ↦ at_end 0 node (node_first first history node (is.sound.node named.directory named.name node before))
@@ -107,22 +115,28 @@ module _ (first : TreeState) (history : List Entry) (is : IsSoundTree first) (le
   ]
 
   -- an fsync gives inodes to nodes alone
-  nodes_raised : (cut : Cut) (inodes : ℕ → Bool) (flush : Flush) (raised : Cut) (after : ℕ → Bool) → AreInodesAfter first history every_entry cut inodes flush raised after → AreNodes first history inodes → AreNodes first history after
-  nodes_raised cut inodes flush raised after sets nodes node has = elim (inodes node) as (λ b. inodes node ≡ b → IsSome (get (tree_after first history).nodes node)) [
-    | true ↦ λ e. nodes node e
-    | false ↦ λ e. reached_node flush raised node ((sets.enters node e).0 has).1
-  ] refl
+  nodes_raised : (cut : Cut) (inodes : ℕ → Bool) (flush : Flush) (raised : Cut) (after : ℕ → Bool)
+      → AreInodesAfter first history every_entry cut inodes flush raised after → AreNodes first history inodes → AreNodes first history after
+  nodes_raised cut inodes flush raised after sets nodes node has =
+      elim (inodes node) as (λ b. inodes node ≡ b → IsSome (get (tree_after first history).nodes node)) [
+        | true ↦ λ e. nodes node e
+        | false ↦ λ e. reached_node flush raised node ((sets.enters node e).0 has).1
+      ] refl
 
 -- The rows at a cut that has no stamp above a count of first entries are those by these entries.
-pub rows_at_cut-take : (first : TreeState) (history : List Entry) (n : ℕ) (cut : Cut) → IsLegal first history → ((node : ℕ) → cut_of cut node ≤ n) → rows_at_cut first (take n history) cut ≡ rows_at_cut first history cut
-rows_at_cut-take first history n cut legal low = counted_rows-take first history n cut legal ∙ counted_rows-low first history n (below n) cut (λ t lt. lt-ltb t n lt) low
+pub rows_at_cut-take : (first : TreeState) (history : List Entry) (n : ℕ) (cut : Cut) → IsLegal first history → ((node : ℕ) → cut_of cut node ≤ n)
+    → rows_at_cut first (take n history) cut ≡ rows_at_cut first history cut
+rows_at_cut-take first history n cut legal low =
+    counted_rows-take first history n cut legal ∙ counted_rows-low first history n (below n) cut (λ t lt. lt-ltb t n lt) low
 
 -- what any fsyncs keep
 pub record IsKeptWell (first : TreeState) (history : List Entry) (cut : Cut) (inodes : ℕ → Bool) : Type 0 where
   pub held : IsHeld first history cut inodes
   pub nodes : AreNodes first history inodes
 
-pub flushes_keep : (first : TreeState) (history : List Entry) → IsSoundTree first → IsLegal first history → {cut : Cut} {inodes : ℕ → Bool} {flushes : List Flush} {raised : Cut} {after : ℕ → Bool} → AreRaised first history every_entry cut inodes flushes raised after → IsKeptWell first history cut inodes → IsKeptWell first history raised after
+pub flushes_keep : (first : TreeState) (history : List Entry) → IsSoundTree first → IsLegal first history
+    → {cut : Cut} {inodes : ℕ → Bool} {flushes : List Flush} {raised : Cut} {after : ℕ → Bool}
+    → AreRaised first history every_entry cut inodes flushes raised after → IsKeptWell first history cut inodes → IsKeptWell first history raised after
 flushes_keep first history is legal none was = was
 flushes_keep first history is legal (one_more flushes flush before raised inodes_before after earlier raise sets) was =
     let now = flushes_keep first history is legal earlier was in
@@ -130,6 +144,7 @@ flushes_keep first history is legal (one_more flushes flush before raised inodes
       nodes = nodes_raised first history is legal before inodes_before flush raised after sets now.nodes;
       held = record {
         kept = fsyncs_keep first history before raised inodes_before after flush is legal now.held.kept raise sets;
-        named = named_after first history every_entry flush before raised inodes_before is legal (λ t lt. refl) raise after sets (λ node row. row) now.held.named;
+        named =
+            named_after first history every_entry flush before raised inodes_before is legal (λ t lt. refl) raise after sets (λ node row. row) now.held.named;
       };
     }

@@ -24,7 +24,9 @@ module _ {X : Type 0} (f : X → X) (old xs : List X) (i : ℕ) (x : X) (changed
 
   pub changed_more : IsChanged f old (i + 1) (set xs i (f x))
   changed_more = record {
-    done = take_more_set xs i (f x) less ∙ ap (λ l. l ++ f x ∷ []) changed.done ∙ ap (λ y. map f (take i old) ++ f y ∷ []) (is ∙ same_head head_is) ∙ sym (map_more f old i x (rw changed.as_long at less));
+    done =
+        take_more_set xs i (f x) less ∙ ap (λ l. l ++ f x ∷ []) changed.done ∙ ap (λ y. map f (take i old) ++ f y ∷ []) (is ∙ same_head head_is)
+        ∙ sym (map_more f old i x (rw changed.as_long at less));
     rest = drop-set-lt (i + 1) xs i (f x) (omega arith) ∙ ap (λ n. drop n xs) one_more ∙ same_rest head_is ∙ ap (λ n. drop n old) (sym one_more);
     as_long = length-set xs i (f x) ∙ changed.as_long;
   }

@@ -21,21 +21,29 @@ noted_none tree change still none = record {
 }
 
 -- a row that goes moves nothing
-pub noted_taken : (tree : TreeState) (change : OwnChange) (stamp directory : ℕ) (name : List ℕ) (child : ℕ) (other : Option ℕ) (ends : Bool) → row_change_of change ≡ removed stamp directory name child other ends → change.above ≡ None → KeepsAbove tree change
-noted_taken tree change stamp directory name child other ends row none = noted_none tree change (λ moves. no_true (sym (ap (λ (c : RowChange). c.places) row) ∙ moves.places)) none
+pub noted_taken : (tree : TreeState) (change : OwnChange) (stamp directory : ℕ) (name : List ℕ) (child : ℕ) (other : Option ℕ) (ends : Bool)
+    → row_change_of change ≡ removed stamp directory name child other ends → change.above ≡ None → KeepsAbove tree change
+noted_taken tree change stamp directory name child other ends row none =
+    noted_none tree change (λ moves. no_true (sym (ap (λ (c : RowChange). c.places) row) ∙ moves.places)) none
 
 -- a row that comes by a rename
-pub noted_put : (tree : TreeState) (change : OwnChange) (stamp directory to_directory : ℕ) (name : List ℕ) (child : ℕ) → IsSound tree → row_change_of change ≡ added stamp to_directory name child (other_side to_directory directory)
-    → IsAboveNew tree directory to_directory child change.above → is_directory tree to_directory ≡ true → is_alive tree to_directory ≡ true → KeepsAbove tree change
+pub noted_put : (tree : TreeState) (change : OwnChange) (stamp directory to_directory : ℕ) (name : List ℕ) (child : ℕ) → IsSound tree
+    → row_change_of change ≡ added stamp to_directory name child (other_side to_directory directory)
+    → IsAboveNew tree directory to_directory child change.above → is_directory tree to_directory ≡ true → is_alive tree to_directory ≡ true
+    → KeepsAbove tree change
 noted_put tree change stamp directory to_directory name child s row new kind alive = record {
   moves = λ v e. record {
     places = ap (λ (c : RowChange). c.places) row;
     other = λ none. two_sides to_directory directory (λ same. new.two v e (sym same)) (sym (ap (λ (c : RowChange). c.other) row) ∙ none);
     kind = ap (λ (c : RowChange). is_directory tree c.child) row ∙ new.kind v e;
   };
-  stand = λ v e. subst (λ (d : ℕ). Above tree d v.items) (sym (ap (λ (c : RowChange). c.directory) row)) (subst (λ l. Above tree to_directory l) (sym (walk_is tree s way.1 kind) ∙ sym (new.walk v e)) way.1);
+  stand =
+      λ v e. subst (λ (d : ℕ). Above tree d v.items) (sym (ap (λ (c : RowChange). c.directory) row))
+      (subst (λ l. Above tree to_directory l) (sym (walk_is tree s way.1 kind) ∙ sym (new.walk v e)) way.1);
   all = λ moves above up.
-      let some = new.there (λ same. one_side to_directory directory (sym same) (λ none. moves.other (ap (λ (c : RowChange). c.other) row ∙ none))) (ap (λ (c : RowChange). is_directory tree c.child) (sym row) ∙ moves.kind) kind in
+      let some =
+      new.there (λ same. one_side to_directory directory (sym same) (λ none. moves.other (ap (λ (c : RowChange). c.other) row ∙ none)))
+      (ap (λ (c : RowChange). is_directory tree c.child) (sym row) ∙ moves.kind) kind in
       noted_all change.above refl some (rw (ap (λ (c : RowChange). c.directory) row) at up);
 }
   where
@@ -57,12 +65,14 @@ noted_put tree change stamp directory to_directory name child s row new kind ali
       | false ↦ λ t. absurd (eqb-false _ _ t same)
     ] refl))
 
-    noted_all : {above : List ℕ} (o : Option (Vec ℕ Global)) → change.above ≡ o → IsSome o → Above tree to_directory above → (v : Vec ℕ Global) × (change.above ≡ Some v) × (v.items ≡ above)
+    noted_all : {above : List ℕ} (o : Option (Vec ℕ Global)) → change.above ≡ o → IsSome o → Above tree to_directory above
+        → (v : Vec ℕ Global) × (change.above ≡ Some v) × (v.items ≡ above)
     noted_all None e some up = cc
     noted_all (Some v) e some up = (v, e, new.walk v e ∙ walk_is tree s up kind)
 
 -- some are noted, and one more is
-pub noted_more : (tree : TreeState) (changes more : List OwnChange) (change : OwnChange) → more ≡ changes ++ change ∷ [] → KeepAllAbove tree changes → (is_directory tree change.directory ≡ true → is_alive tree change.directory ≡ true → KeepsAbove tree change) → KeepAllAbove tree more
+pub noted_more : (tree : TreeState) (changes more : List OwnChange) (change : OwnChange) → more ≡ changes ++ change ∷ [] → KeepAllAbove tree changes
+    → (is_directory tree change.directory ≡ true → is_alive tree change.directory ≡ true → KeepsAbove tree change) → KeepAllAbove tree more
 noted_more tree changes more change is noted one other among kind alive = elim (in_either changes (change ∷ []) other (rw is at among)) [
   | inl old ↦ noted other old kind alive
   | inr new ↦ elim new [
@@ -72,5 +82,6 @@ noted_more tree changes more change is noted one other among kind alive = elim (
 ]
 
 -- a row that comes by no rename
-pub noted_plain : (tree : TreeState) (change : OwnChange) (stamp directory : ℕ) (name : List ℕ) (child : ℕ) → row_change_of change ≡ added stamp directory name child None → change.above ≡ None → KeepsAbove tree change
+pub noted_plain : (tree : TreeState) (change : OwnChange) (stamp directory : ℕ) (name : List ℕ) (child : ℕ)
+    → row_change_of change ≡ added stamp directory name child None → change.above ≡ None → KeepsAbove tree change
 noted_plain tree change stamp directory name child row none = noted_none tree change (λ moves. moves.other (ap (λ (c : RowChange). c.other) row)) none

@@ -27,7 +27,8 @@ least_none flights = record {
 }
 
 -- a node that no flight concerns
-pub least_passed : (flights : List Flight) (nodes : List ℕ) (node : ℕ) (least : Option ℕ) → IsLeastOf flights nodes least → (IsTaken flights node → ⊥) → IsLeastOf flights (nodes ++ node ∷ []) least
+pub least_passed : (flights : List Flight) (nodes : List ℕ) (node : ℕ) (least : Option ℕ) → IsLeastOf flights nodes least → (IsTaken flights node → ⊥)
+    → IsLeastOf flights (nodes ++ node ∷ []) least
 least_passed flights nodes node least is free = record {
   is_in = λ n e. in_left nodes (node ∷ []) n (is.is_in n e);
   taken = is.taken;
@@ -97,7 +98,8 @@ module _ (flights : List Flight) (nodes : List ℕ) (node : ℕ) (taken : IsTake
       is_above t = let lt = leb-false _ _ t in omega arith
 
 -- of all nodes of a set
-pub least_in : (flights : List Flight) (nodes : NodeSet) (list : List ℕ) (least : Option ℕ) → ((node : ℕ) → IsOneOf list node ↔ (has_node nodes node ≡ true)) → IsLeastOf flights list least → IsLeastTaken flights nodes least
+pub least_in : (flights : List Flight) (nodes : NodeSet) (list : List ℕ) (least : Option ℕ) → ((node : ℕ) → IsOneOf list node ↔ (has_node nodes node ≡ true))
+    → IsLeastOf flights list least → IsLeastTaken flights nodes least
 least_in flights nodes list least lists is = record {
   is_in = λ node e. (lists node).0 (is.is_in node e);
   taken = is.taken;

@@ -17,7 +17,8 @@ one_of_take (suc i) [] x one = absurd one
 one_of_take (suc i) (y ∷ xs) x one = elim one [ inl e ↦ inl e | inr rest ↦ inr (one_of_take i xs x rest) ]
 
 -- one of the first and the next is one of the first or the next
-pub one_more : {X : Type 0} (xs : List X) (i : ℕ) (d v x : X) → i < length xs → v ≡ get_or xs i d → IsOneOf (take (i + 1) xs) x → IsOneOf (take i xs) x ⊎ (v ≡ x)
+pub one_more : {X : Type 0} (xs : List X) (i : ℕ) (d v x : X) → i < length xs → v ≡ get_or xs i d → IsOneOf (take (i + 1) xs) x
+    → IsOneOf (take i xs) x ⊎ (v ≡ x)
 one_more xs i d v x lt is one =
     elim (in_either (take i xs) (get_or xs i d ∷ []) x (rw (take_more xs i d lt) at one)) [
       | inl first ↦ inl first
@@ -33,7 +34,8 @@ pub next_one : {X : Type 0} (xs : List X) (i : ℕ) (d v : X) → i < length xs 
 next_one xs i d v lt is = rw (take_more xs i d lt) (in_right (take i xs) (get_or xs i d ∷ []) v (inl (sym is)))
 
 -- what holds of the first and of the next holds of both
-pub more_hold : {X : Type 0} (P : X → Type 0) (xs : List X) (i : ℕ) (d v : X) → i < length xs → v ≡ get_or xs i d → ((x : X) → IsOneOf (take i xs) x → P x) → P v → (x : X) → IsOneOf (take (i + 1) xs) x → P x
+pub more_hold : {X : Type 0} (P : X → Type 0) (xs : List X) (i : ℕ) (d v : X) → i < length xs → v ≡ get_or xs i d → ((x : X) → IsOneOf (take i xs) x → P x)
+    → P v → (x : X) → IsOneOf (take (i + 1) xs) x → P x
 more_hold P xs i d v lt is first next x one = elim (one_more xs i d v x lt is one) [ inl before ↦ first x before | inr e ↦ rw e at next ]
 
 -- what holds of as many of the first as there are holds of all

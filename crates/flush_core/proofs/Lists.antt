@@ -37,12 +37,15 @@ empty_closed first history = record {
   ancestors = λ change above node holder name last move within way among row placing. nothing_within change.stamp change.directory within;
 }
 
-pub first_kept : (first : TreeState) (history : List Entry) (inodes : ℕ → Bool) → IsSoundTree first → IsLegal first history → ((node : ℕ) → inodes node ≡ is_some (get first.nodes node)) → KeepsCut first history empty inodes
+pub first_kept : (first : TreeState) (history : List Entry) (inodes : ℕ → Bool) → IsSoundTree first → IsLegal first history
+    → ((node : ℕ) → inodes node ≡ is_some (get first.nodes node)) → KeepsCut first history empty inodes
 first_kept first history inodes is legal same = record {
   closed = empty_closed first history;
   born = λ birth one has kind.
       let born = birth_at first history birth legal one in
-      absurd (no_node_yet (run_of first history is legal) birth.stamp birth.directory born.name birth.node born.kind born.adds born.made 0 (omega arith) (node_first first history birth.node (some_if (get first.nodes birth.node) (sym (same birth.node) ∙ has))));
+      absurd
+      (no_node_yet (run_of first history is legal) birth.stamp birth.directory born.name birth.node born.kind born.adds born.made 0 (omega arith)
+      (node_first first history birth.node (some_if (get first.nodes birth.node) (sym (same birth.node) ∙ has))));
 }
 
 -- a row at the cut 0 is one of the first tree
@@ -53,11 +56,14 @@ first_row first history node row = elim (from_rows (is_within empty) _ row.direc
 ]
 
 -- so what it names is a node of that
-first_named : (first : TreeState) (history : List Entry) → IsSoundTree first → (node : ℕ) → IsNamedIn (rows_at_cut first history empty) node → is_some (get first.nodes node) ≡ true
-first_named first history is node named = let row = first_row first history node named in some_true (get first.nodes node) (is.sound.node row.directory row.name node row.row)
+first_named : (first : TreeState) (history : List Entry) → IsSoundTree first → (node : ℕ) → IsNamedIn (rows_at_cut first history empty) node
+    → is_some (get first.nodes node) ≡ true
+first_named first history is node named = let row = first_row first history node named in
+    some_true (get first.nodes node) (is.sound.node row.directory row.name node row.row)
 
 -- at the cut 0, with the nodes of the first tree, all is kept
-pub first_kept_well : (first : TreeState) (history : List Entry) → IsSoundTree first → IsLegal first history → IsKeptWell first history empty (λ node. is_some (get first.nodes node))
+pub first_kept_well : (first : TreeState) (history : List Entry) → IsSoundTree first → IsLegal first history
+    → IsKeptWell first history empty (λ node. is_some (get first.nodes node))
 first_kept_well first history is legal = record {
   nodes = λ node has. (first_nodes first history 0 is legal node (some_if (get first.nodes node) has)).0;
   held = record { kept = first_kept first history (λ node. is_some (get first.nodes node)) is legal (λ _. refl); named = first_named first history is };
@@ -68,21 +74,29 @@ lists_keep first history flushes cut inodes is legal flushed =
     let all = flushes_keep first history is legal flushed (first_kept_well first history is legal) in
     record { kept = all.held.kept; sound = closed_cuts_are_sound first history cut is legal all.held.kept.closed; named = all.held.named; nodes = all.nodes }
 
-first_placed : (first : TreeState) (history : List Entry) (inodes : ℕ → Bool) → IsSoundTree first → IsLegal first history → ((node : ℕ) → inodes node ≡ is_some (get first.nodes node)) → ArePlaced first history empty inodes
+first_placed : (first : TreeState) (history : List Entry) (inodes : ℕ → Bool) → IsSoundTree first → IsLegal first history
+    → ((node : ℕ) → inodes node ≡ is_some (get first.nodes node)) → ArePlaced first history empty inodes
 first_placed first history inodes is legal same birth one has =
     let born = birth_at first history birth legal one in
-    absurd (no_node_yet (run_of first history is legal) birth.stamp birth.directory born.name birth.node born.kind born.adds born.made 0 (omega arith) (node_first first history birth.node (some_if (get first.nodes birth.node) (sym (same birth.node) ∙ has))))
+    absurd
+    (no_node_yet (run_of first history is legal) birth.stamp birth.directory born.name birth.node born.kind born.adds born.made 0 (omega arith)
+    (node_first first history birth.node (some_if (get first.nodes birth.node) (sym (same birth.node) ∙ has))))
 
 -- what a list of fsyncs leaves: nodes with an inode are placed, and each fsync of the list is covered
 record AreCovered (first : TreeState) (history : List Entry) (flushes : List Flush) (cut : Cut) (inodes : ℕ → Bool) : Type 0 where
   placed : ArePlaced first history cut inodes
   each : (flush : Flush) → IsOneOf flushes flush → IsCovered first history cut flush
 
-all_covered : (first : TreeState) (history : List Entry) → IsSoundTree first → IsLegal first history → {flushes : List Flush} {cut : Cut} {inodes : ℕ → Bool} → AreFlushed first history every_entry flushes cut inodes → ((flush : Flush) → IsOneOf flushes flush → HasNode first history flush) → AreCovered first history flushes cut inodes
-all_covered first history is legal none there = record { placed = first_placed first history (λ node. is_some (get first.nodes node)) is legal (λ _. refl); each = λ flush one. absurd one }
+all_covered : (first : TreeState) (history : List Entry) → IsSoundTree first → IsLegal first history → {flushes : List Flush} {cut : Cut} {inodes : ℕ → Bool}
+    → AreFlushed first history every_entry flushes cut inodes → ((flush : Flush) → IsOneOf flushes flush → HasNode first history flush)
+    → AreCovered first history flushes cut inodes
+all_covered first history is legal none there =
+    record { placed = first_placed first history (λ node. is_some (get first.nodes node)) is legal (λ _. refl); each = λ flush one. absurd one }
 all_covered first history is legal (one_more flushes flush cut raised inodes after before raise sets) there =
     let was = all_covered first history is legal before (λ other one. there other (in_left flushes (flush ∷ []) other one)) in
-    let now = fsyncs_cover first history cut raised inodes after flush is legal was.placed (there flush (in_right flushes (flush ∷ []) flush (inl refl))) raise sets in
+    let now =
+    fsyncs_cover first history cut raised inodes after flush is legal was.placed
+    (there flush (in_right flushes (flush ∷ []) flush (inl refl))) raise sets in
     record {
       placed = now.placed;
       each = λ other one. elim (in_either flushes (flush ∷ []) other one) [
@@ -98,4 +112,5 @@ pub lists_cover : ListsCover
 lists_cover first history flushes cut inodes is legal flushed there flush one = (all_covered first history is legal flushed there).each flush one
 
 pub histories_are_covered : HistoriesAreCovered
-histories_are_covered first history flushes cut inodes moment is legal flushed there all flush ack acknowledged le = (all_covered first history is legal flushed there).each flush (all flush ack acknowledged le)
+histories_are_covered first history flushes cut inodes moment is legal flushed there all flush ack acknowledged le =
+    (all_covered first history is legal flushed there).each flush (all flush ack acknowledged le)

@@ -40,12 +40,24 @@ module _ (tree : TreeState) (core t : ℕ) (s : IsSound tree) where
   live_row d n c row = let h = s.holds d n c row in record { kind = h.0; alive = h.1 }
 
   -- what changes is a live directory
-  pub live_own : (effect : Effect) (makes : Option Kind) → Fits tree core effect makes → (x : RowChange) → IsOneOf (changes_by tree t effect) x → IsLive tree x.directory
+  pub live_own : (effect : Effect) (makes : Option Kind) → Fits tree core effect makes → (x : RowChange) → IsOneOf (changes_by tree t effect) x
+      → IsLive tree x.directory
   live_own Stays makes f x one = absurd one
   live_own (Edits file edit) makes f x one = absurd one
-  live_own (Adds d n c) None f x one = elim one [ inl e ↦ subst (λ (y : RowChange). IsLive tree y.directory) e (record { kind = f.holder.kind; alive = f.holder.alive }) | inr none ↦ absurd none ]
-  live_own (Adds d n c) (Some kind) f x one = elim one [ inl e ↦ subst (λ (y : RowChange). IsLive tree y.directory) e (record { kind = f.holder.kind; alive = f.holder.alive }) | inr none ↦ absurd none ]
-  live_own (Removes d n c) None f x one = elim one [ inl e ↦ subst (λ (y : RowChange). IsLive tree y.directory) e (live_row d n c f.row) | inr none ↦ absurd none ]
+  live_own (Adds d n c) None f x one =
+      elim one [
+        | inl e ↦ subst (λ (y : RowChange). IsLive tree y.directory) e (record { kind = f.holder.kind; alive = f.holder.alive })
+        | inr none ↦
+            absurd none
+      ]
+  live_own (Adds d n c) (Some kind) f x one =
+      elim one [
+        | inl e ↦ subst (λ (y : RowChange). IsLive tree y.directory) e (record { kind = f.holder.kind; alive = f.holder.alive })
+        | inr none ↦
+            absurd none
+      ]
+  live_own (Removes d n c) None f x one =
+      elim one [ inl e ↦ subst (λ (y : RowChange). IsLive tree y.directory) e (live_row d n c f.row) | inr none ↦ absurd none ]
   live_own (Moves p n q m c) None f x one = elim (sides tree t p n q m c x one) [
     | inl e ↦ rw e (live_row p n c f.row)
     | inr e ↦ rw e (record { kind = f.holder.kind; alive = f.holder.alive })
@@ -54,7 +66,8 @@ module _ (tree : TreeState) (core t : ℕ) (s : IsSound tree) where
   live_own (Moves p n q m c) (Some kind) f x one = absurd f
 
   -- what a change ends has come to its end
-  has_ended : (effect : Effect) (makes : Option Kind) → Fits tree core effect makes → (x : RowChange) → IsOneOf (changes_by tree t effect) x → x.ends ≡ true → IsEnded tree (tree_with tree core effect makes) (changes_by tree t effect) x
+  has_ended : (effect : Effect) (makes : Option Kind) → Fits tree core effect makes → (x : RowChange) → IsOneOf (changes_by tree t effect) x → x.ends ≡ true
+      → IsEnded tree (tree_with tree core effect makes) (changes_by tree t effect) x
   has_ended Stays makes f x one ends = absurd one
   has_ended (Edits file edit) makes f x one ends = absurd one
   has_ended (Adds d n c) makes f x one ends = elim one [ inl e ↦ no_end (added t d n c None) x e ends refl | inr none ↦ absurd none ]
@@ -78,7 +91,9 @@ module _ (tree : TreeState) (core t : ℕ) (s : IsSound tree) where
         })
   ]
   has_ended (Moves p n q m c) None f x one ends =
-      elim (row_of tree q m) as (λ o. row_of tree q m ≡ o → IsOneOf (replaced tree t p q m o ++ removed t p n c (other_side p q) false ∷ added t q m c (other_side q p) ∷ []) x → IsEnded tree (tree_with tree core (Moves p n q m c) None) (changes_by tree t (Moves p n q m c)) x) [
+      elim (row_of tree q m) as (λ o. row_of tree q m ≡ o
+      → IsOneOf (replaced tree t p q m o ++ removed t p n c (other_side p q) false ∷ added t q m c (other_side q p) ∷ []) x
+      → IsEnded tree (tree_with tree core (Moves p n q m c) None) (changes_by tree t (Moves p n q m c)) x) [
         | None ↦ λ _ h. two h
         | Some there ↦ λ row h. elim h [
           | inr rest ↦ two rest
@@ -86,13 +101,16 @@ module _ (tree : TreeState) (core t : ℕ) (s : IsSound tree) where
         ]
       ] refl one
     where
-      two : IsOneOf (removed t p n c (other_side p q) false ∷ added t q m c (other_side q p) ∷ []) x → IsEnded tree (tree_with tree core (Moves p n q m c) None) (changes_by tree t (Moves p n q m c)) x
+      two : IsOneOf (removed t p n c (other_side p q) false ∷ added t q m c (other_side q p) ∷ []) x
+          → IsEnded tree (tree_with tree core (Moves p n q m c) None) (changes_by tree t (Moves p n q m c)) x
       two h = elim h [
         | inl e ↦ no_end (removed t p n c (other_side p q) false) x e ends refl
         | inr rest ↦ elim rest [ inl e ↦ no_end (added t q m c (other_side q p)) x e ends refl | inr none ↦ absurd none ]
       ]
 
-      replaces : (there : ℕ) → row_of tree q m ≡ Some there → is_directory tree there ≡ true → IsEnded tree (tree_with tree core (Moves p n q m c) None) (changes_by tree t (Moves p n q m c)) (removed t q m there (other_side q p) (is_directory tree there))
+      replaces : (there : ℕ) → row_of tree q m ≡ Some there → is_directory tree there ≡ true
+          → IsEnded tree (tree_with tree core (Moves p n q m c) None) (changes_by tree t (Moves p n q m c))
+          (removed t q m there (other_side q p) (is_directory tree there))
       replaces there row kind = record {
         row = row;
         kind = kind;
@@ -115,7 +133,9 @@ module _ (tree : TreeState) (core t : ℕ) (s : IsSound tree) where
     birth : (kind : Kind) → effect ≡ Adds h k x → makes ≡ Some kind → CameFrom effect makes h k x
     move : (p : ℕ) (n : List ℕ) → effect ≡ Moves p n h k x → row_of tree p n ≡ Some x → CameFrom effect makes h k x
 
-  came_from : (effect : Effect) (makes : Option Kind) → Fits tree core effect makes → ((d : ℕ) (n : List ℕ) (c : ℕ) → effect ≡ Adds d n c → makes ≡ None → is_directory tree c ≡ false) → (h : ℕ) (k : List ℕ) (x : ℕ) → is_directory (tree_with tree core effect makes) x ≡ true → row_of (tree_with tree core effect makes) h k ≡ Some x → CameFrom effect makes h k x
+  came_from : (effect : Effect) (makes : Option Kind) → Fits tree core effect makes
+      → ((d : ℕ) (n : List ℕ) (c : ℕ) → effect ≡ Adds d n c → makes ≡ None → is_directory tree c ≡ false) → (h : ℕ) (k : List ℕ) (x : ℕ)
+      → is_directory (tree_with tree core effect makes) x ≡ true → row_of (tree_with tree core effect makes) h k ≡ Some x → CameFrom effect makes h k x
   came_from Stays None f files h k x kind row = before row
   came_from (Edits file edit) None f files h k x kind row = before row
   came_from (Removes d n c) None f files h k x kind row = before (removed_cases tree.rows h d k n x row).1
@@ -128,7 +148,9 @@ module _ (tree : TreeState) (core t : ℕ) (s : IsSound tree) where
     | inr old ↦ before old.1
   ]
   came_from (Moves p n q m c) None f files h k x kind row = elim (added_cases (remove tree.rows (p, n)) h q k m c x row) [
-    | inl new ↦ move p n (ap (λ (y : ℕ). Moves p n y m c) (sym new.0) ∙ ap (λ (y : List ℕ). Moves p n h y c) (sym new.1) ∙ ap (Moves p n h k) (sym new.2)) (f.row ∙ ap Some (sym new.2))
+    | inl new ↦
+        move p n (ap (λ (y : ℕ). Moves p n y m c) (sym new.0) ∙ ap (λ (y : List ℕ). Moves p n h y c) (sym new.1) ∙ ap (Moves p n h k) (sym new.2))
+        (f.row ∙ ap Some (sym new.2))
     | inr old ↦ before (removed_cases tree.rows h p k n x old.1).1
   ]
   came_from Stays (Some mk) f files h k x kind row = absurd f
@@ -137,7 +159,8 @@ module _ (tree : TreeState) (core t : ℕ) (s : IsSound tree) where
   came_from (Moves p n q m c) (Some mk) f files h k x kind row = absurd f
 
   -- the holder of a directory or of one above it is above that directory
-  pub holder_above : {node : ℕ} {above : List ℕ} → Above tree node above → is_directory tree node ≡ true → (a holder : ℕ) (name : List ℕ) → IsOneOf (node ∷ above) a → row_of tree holder name ≡ Some a → IsOneOf above holder
+  pub holder_above : {node : ℕ} {above : List ℕ} → Above tree node above → is_directory tree node ≡ true → (a holder : ℕ) (name : List ℕ)
+      → IsOneOf (node ∷ above) a → row_of tree holder name ≡ Some a → IsOneOf above holder
   holder_above at_root kind a holder name one row = elim one [
     | inl e ↦ absurd (s.unnamed holder name (row ∙ ap Some (sym e)))
     | inr none ↦ absurd none
@@ -151,7 +174,8 @@ module _ (tree : TreeState) (core t : ℕ) (s : IsSound tree) where
 made_fresh : (tree : TreeState) (core : ℕ) (d : ℕ) (n : List ℕ) (x : ℕ) (kind : Kind) → Fits tree core (Adds d n x) (Some kind) → get tree.nodes x ≡ None
 made_fresh tree core d n x kind f = f.fresh
 
-pub made_node : (tree : TreeState) (core : ℕ) (d : ℕ) (n : List ℕ) (x : ℕ) (kind : Kind) → Fits tree core (Adds d n x) (Some kind) → IsSome (get (tree_with tree core (Adds d n x) (Some kind)).nodes x)
+pub made_node : (tree : TreeState) (core : ℕ) (d : ℕ) (n : List ℕ) (x : ℕ) (kind : Kind) → Fits tree core (Adds d n x) (Some kind)
+    → IsSome (get (tree_with tree core (Adds d n x) (Some kind)).nodes x)
 made_node tree core d n x kind f = elim (node_cases tree.nodes (next_number tree core) (record { kind = kind; bytes = [] }) x) [
   | inl here ↦ rw here.1 refl
   | inr other ↦ absurd (other.0 f.number)
@@ -161,7 +185,8 @@ module _ (r : Run) where
   pub live_at : (t : ℕ) (x : RowChange) → Made r t x → IsLive (r.tree t) x.directory
   live_at t x one = live_own (r.tree t) (r.core t) t (r.sound t) (r.effect t) (r.makes t) (r.fits t) x one
 
-  pub ended_at : (t : ℕ) (x : RowChange) → Made r t x → x.ends ≡ true → IsEnded (r.tree t) (tree_with (r.tree t) (r.core t) (r.effect t) (r.makes t)) (changes_by (r.tree t) t (r.effect t)) x
+  pub ended_at : (t : ℕ) (x : RowChange) → Made r t x → x.ends ≡ true
+      → IsEnded (r.tree t) (tree_with (r.tree t) (r.core t) (r.effect t) (r.makes t)) (changes_by (r.tree t) t (r.effect t)) x
   ended_at t x one ends = has_ended (r.tree t) (r.core t) t (r.sound t) (r.effect t) (r.makes t) (r.fits t) x one ends
 
   -- a node stays one
@@ -173,18 +198,23 @@ module _ (r : Run) where
   ]
 
   -- a making: its number is no node's before, and one's after
-  fits_made : (b d : ℕ) (n : List ℕ) (x : ℕ) (kind : Kind) → r.effect b ≡ Adds d n x → r.makes b ≡ Some kind → Fits (r.tree b) (r.core b) (Adds d n x) (Some kind)
+  fits_made : (b d : ℕ) (n : List ℕ) (x : ℕ) (kind : Kind) → r.effect b ≡ Adds d n x → r.makes b ≡ Some kind
+      → Fits (r.tree b) (r.core b) (Adds d n x) (Some kind)
   fits_made b d n x kind adds makes = rw makes at (rw adds at (r.fits b))
 
-  pub no_node_yet : (b d : ℕ) (n : List ℕ) (x : ℕ) (kind : Kind) → r.effect b ≡ Adds d n x → r.makes b ≡ Some kind → (u : ℕ) → u ≤ b → IsSome (get (r.tree u).nodes x) → ⊥
-  no_node_yet b d n x kind adds makes u le some = some_is_no_none (later u b x le some) (made_fresh (r.tree b) (r.core b) d n x kind (fits_made b d n x kind adds makes))
+  pub no_node_yet : (b d : ℕ) (n : List ℕ) (x : ℕ) (kind : Kind) → r.effect b ≡ Adds d n x → r.makes b ≡ Some kind → (u : ℕ) → u ≤ b
+      → IsSome (get (r.tree u).nodes x) → ⊥
+  no_node_yet b d n x kind adds makes u le some =
+      some_is_no_none (later u b x le some) (made_fresh (r.tree b) (r.core b) d n x kind (fits_made b d n x kind adds makes))
 
   pub is_node_now : (b d : ℕ) (n : List ℕ) (x : ℕ) (kind : Kind) → r.effect b ≡ Adds d n x → r.makes b ≡ Some kind → IsSome (get (r.tree (suc b)).nodes x)
   is_node_now b d n x kind adds makes =
-      rw (r.next b ∙ ap (λ (f : Effect). tree_with (r.tree b) (r.core b) f (r.makes b)) adds ∙ ap (tree_with (r.tree b) (r.core b) (Adds d n x)) makes) (made_node (r.tree b) (r.core b) d n x kind (fits_made b d n x kind adds makes))
+      rw (r.next b ∙ ap (λ (f : Effect). tree_with (r.tree b) (r.core b) f (r.makes b)) adds ∙ ap (tree_with (r.tree b) (r.core b) (Adds d n x)) makes)
+      (made_node (r.tree b) (r.core b) d n x kind (fits_made b d n x kind adds makes))
 
   -- a node is made once
-  pub made_once : (b d : ℕ) (n : List ℕ) (x : ℕ) (kind : Kind) → r.effect b ≡ Adds d n x → r.makes b ≡ Some kind → (t h : ℕ) (k : List ℕ) (other : Kind) → r.effect t ≡ Adds h k x → r.makes t ≡ Some other → b ≡ t
+  pub made_once : (b d : ℕ) (n : List ℕ) (x : ℕ) (kind : Kind) → r.effect b ≡ Adds d n x → r.makes b ≡ Some kind → (t h : ℕ) (k : List ℕ) (other : Kind)
+      → r.effect t ≡ Adds h k x → r.makes t ≡ Some other → b ≡ t
   made_once b d n x kind adds makes t h k other also too = elim (below_or b t) [
     | inl lt ↦ absurd (no_node_yet t h k x other also too (suc b) (omega arith) (is_node_now b d n x kind adds makes))
     | inr le ↦ elim (below_or t b) [
@@ -194,21 +224,26 @@ module _ (r : Run) where
   ]
 
   -- a directory is made before it changes
-  pub born_before : (b d : ℕ) (n : List ℕ) (x : ℕ) (kind : Kind) → r.effect b ≡ Adds d n x → r.makes b ≡ Some kind → (u : ℕ) (own : RowChange) → Made r u own → own.directory ≡ x → b < u
+  pub born_before : (b d : ℕ) (n : List ℕ) (x : ℕ) (kind : Kind) → r.effect b ≡ Adds d n x → r.makes b ≡ Some kind → (u : ℕ) (own : RowChange) → Made r u own
+      → own.directory ≡ x → b < u
   born_before b d n x kind adds makes u own one same = elim (below_or b u) [
     | inl lt ↦ lt
     | inr le ↦ absurd (no_node_yet b d n x kind adds makes u le (directory_node (r.tree u) x (rw same at (live_at u own one).kind)))
   ]
 
   -- a directory that no row names is named no more
-  pub stays_gone : (u x : ℕ) → IsSome (get (r.tree u).nodes x) → (IsNamed (r.tree u).rows x → ⊥) → (t : ℕ) → u ≤ t → is_directory (r.tree t) x ≡ true → IsNamed (r.tree t).rows x → ⊥
+  pub stays_gone : (u x : ℕ) → IsSome (get (r.tree u).nodes x) → (IsNamed (r.tree u).rows x → ⊥) → (t : ℕ) → u ≤ t → is_directory (r.tree t) x ≡ true
+      → IsNamed (r.tree t).rows x → ⊥
   stays_gone u x some none zero le kind named = none (rw (none_below u le) named)
   stays_gone u x some none (suc t) le kind named = elim (below_or t u) [
     | inl lt ↦ none (rw (is_next u t le lt) named)
-    | inr less ↦ elim (named_before (r.tree t) (r.core t) (r.sound t) (r.effect t) (r.makes t) (r.fits t) (r.files t) named.directory named.name x (sym (ap (λ (tree : TreeState). is_directory tree x) (r.next t)) ∙ kind) (sym (ap (λ (tree : TreeState). row_of tree named.directory named.name) (r.next t)) ∙ named.row)) [
-      | inl was ↦ stays_gone u x some none t less was.0 was.1
-      | inr born ↦ no_node_yet t born.directory born.name x born.kind born.adds born.made u less some
-    ]
+    | inr less ↦
+        elim (named_before (r.tree t) (r.core t) (r.sound t) (r.effect t) (r.makes t) (r.fits t) (r.files t) named.directory named.name x
+        (sym (ap (λ (tree : TreeState). is_directory tree x) (r.next t)) ∙ kind)
+        (sym (ap (λ (tree : TreeState). row_of tree named.directory named.name) (r.next t)) ∙ named.row)) [
+          | inl was ↦ stays_gone u x some none t less was.0 was.1
+          | inr born ↦ no_node_yet t born.directory born.name x born.kind born.adds born.made u less some
+        ]
   ]
 
   -- a directory that a change ends has own changes only before it
@@ -240,7 +275,8 @@ module _ (r : Run) where
       next_below a b lt = omega arith
 
   -- a directory that a row at a cut names was made below the cut of its birth place
-  pub named_born : (cut : ℕ → ℕ) (s : Seen r cut) → Keeps r cut → (x b d : ℕ) (n : List ℕ) (kind : Kind) → r.effect b ≡ Adds d n x → r.makes b ≡ Some kind → ((t : ℕ) → IsSome (get (r.tree t).nodes x) → is_directory (r.tree t) x ≡ true) → (t h : ℕ) (k : List ℕ) → get (s.rows t) (h, k) ≡ Some x → b < cut d
+  pub named_born : (cut : ℕ → ℕ) (s : Seen r cut) → Keeps r cut → (x b d : ℕ) (n : List ℕ) (kind : Kind) → r.effect b ≡ Adds d n x → r.makes b ≡ Some kind
+      → ((t : ℕ) → IsSome (get (r.tree t).nodes x) → is_directory (r.tree t) x ≡ true) → (t h : ℕ) (k : List ℕ) → get (s.rows t) (h, k) ≡ Some x → b < cut d
   named_born cut s keeps x b d n kind adds makes dir zero h k row =
       absurd (no_node_yet b d n x kind adds makes 0 (omega arith) ((r.sound 0).node h k x (sym (ahead r cut s 0 h k (omega arith)) ∙ row)))
   named_born cut s keeps x b d n kind adds makes dir (suc t) h k row = elim (below_or t (cut h)) [
@@ -252,7 +288,9 @@ module _ (r : Run) where
       came lt again =
           let now : row_of (r.tree (suc t)) h k ≡ Some x = sym (ahead r cut s (suc t) h k (omega arith)) ∙ row in
           let kind_now = dir (suc t) ((r.sound (suc t)).node h k x now) in
-          elim (came_from (r.tree t) (r.core t) t (r.sound t) (r.effect t) (r.makes t) (r.fits t) (r.files t) h k x (sym (ap (λ (tree : TreeState). is_directory tree x) (r.next t)) ∙ kind_now) (sym (ap (λ (tree : TreeState). row_of tree h k) (r.next t)) ∙ now)) [
+          elim (came_from (r.tree t) (r.core t) t (r.sound t) (r.effect t) (r.makes t) (r.fits t) (r.files t) h k x
+          (sym (ap (λ (tree : TreeState). is_directory tree x) (r.next t)) ∙ kind_now)
+          (sym (ap (λ (tree : TreeState). row_of tree h k) (r.next t)) ∙ now)) [
             | before was ↦ again h k (ahead r cut s t h k (omega arith) ∙ was)
             | birth other also too ↦ born other also too
             | move p m moves was ↦

@@ -29,7 +29,8 @@ pub empty_runs : EmptyRuns
 empty_runs first = record { begins = refl; steps = λ place e stands. none_some stands }
 
 -- what stands in a list with one more is one of it, or that one
-stands_or_last : {X : Type 0} (xs : List X) (x : X) (place : ℕ) (y : X) → slice_get (xs ++ x ∷ []) place ≡ Some y → ((place < length xs) × (slice_get xs place ≡ Some y)) ⊎ ((place ≡ length xs) × (x ≡ y))
+stands_or_last : {X : Type 0} (xs : List X) (x : X) (place : ℕ) (y : X) → slice_get (xs ++ x ∷ []) place ≡ Some y
+    → ((place < length xs) × (slice_get xs place ≡ Some y)) ⊎ ((place ≡ length xs) × (x ≡ y))
 stands_or_last [] x zero y stands = inr (refl, some_same stands)
 stands_or_last [] x (suc place) y stands = none_some stands
 stands_or_last (z ∷ xs) x zero y stands = inl (omega arith, stands)
@@ -54,17 +55,22 @@ runs_lengthen first events states e new run takes = record {
   ];
 }
   where
-    between : (place : ℕ) (f : Event) → Accepts (states place) f (states (suc place)) → place < length events → Accepts (then_state states (length events) new place) f (then_state states (length events) new (suc place))
+    between : (place : ℕ) (f : Event) → Accepts (states place) f (states (suc place)) → place < length events
+        → Accepts (then_state states (length events) new place) f (then_state states (length events) new (suc place))
     between place f step lt =
-        subst (λ (s : MachineState). Accepts s f (then_state states (length events) new (suc place))) (sym (up_to states (length events) new place (omega arith)))
+        subst (λ (s : MachineState). Accepts s f (then_state states (length events) new (suc place)))
+        (sym (up_to states (length events) new place (omega arith)))
         (rw (up_to states (length events) new (suc place) (omega arith)) step)
 
-    last : (place : ℕ) (f : Event) → place ≡ length events → e ≡ f → Accepts (then_state states (length events) new place) f (then_state states (length events) new (suc place))
+    last : (place : ℕ) (f : Event) → place ≡ length events → e ≡ f
+        → Accepts (then_state states (length events) new place) f (then_state states (length events) new (suc place))
     last place f at same =
-        subst (λ (s : MachineState). Accepts s f (then_state states (length events) new (suc place))) (sym (up_to states (length events) new place (omega arith) ∙ ap states at))
+        subst (λ (s : MachineState). Accepts s f (then_state states (length events) new (suc place)))
+        (sym (up_to states (length events) new place (omega arith) ∙ ap states at))
         (rw (behind states (length events) new (suc place) (omega arith)) (rw same at takes))
 
-module _ (state : MachineState) (commit : ℕ) (node : NodeId) (stamp : Stamp) (flight : Flight) (may : MayCommit state commit stamp) (begins : BeginsFlight state commit (record { node = node.0; stamp = stamp.0 }) flight) where
+module _ (state : MachineState) (commit : ℕ) (node : NodeId) (stamp : Stamp) (flight : Flight) (may : MayCommit state commit stamp)
+    (begins : BeginsFlight state commit (record { node = node.0; stamp = stamp.0 }) flight) where
   abbrev flush : Flush
   flush = record { node = node.0; stamp = stamp.0 }
 
@@ -150,7 +156,8 @@ module _ (state : MachineState) (commit : ℕ) (node : NodeId) (stamp : Stamp) (
   end_free (refused.AlreadyOpened other) r = absurd r
   end_free refused.NoMemory r = absurd r
 
-  module _ (raised : Cut) (after : ℕ → Bool) (raise : IsRaised state.first state.history every_entry state.cut state.inodes flush raised) (sets : AreInodesAfter state.first state.history every_entry state.cut state.inodes flush raised after) where
+  module _ (raised : Cut) (after : ℕ → Bool) (raise : IsRaised state.first state.history every_entry state.cut state.inodes flush raised)
+      (sets : AreInodesAfter state.first state.history every_entry state.cut state.inodes flush raised after) where
     abbrev lifted : MachineState
     lifted = record (now true) { cut = raised; inodes = after }
 

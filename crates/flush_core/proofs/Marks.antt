@@ -16,7 +16,8 @@ same_or_below node place lt = elim (nat_eq node place) as (λ b. nat_eq node pla
   | false ↦ λ e. inl (let differ : node ≢ place = eqb-false _ _ e in omega arith)
 ] refl
 
-pub marked_more : (marks : List Bool) (place : ℕ) (list : List ℕ) → AreMarkedBelow marks place list → get_or marks place false ≡ true → AreMarkedBelow marks (place + 1) (list ++ place ∷ [])
+pub marked_more : (marks : List Bool) (place : ℕ) (list : List ℕ) → AreMarkedBelow marks place list → get_or marks place false ≡ true
+    → AreMarkedBelow marks (place + 1) (list ++ place ∷ [])
 marked_more marks place list below mark node = (
   λ one. elim (in_either list (place ∷ []) node one) [
     | inl left ↦ let h = (below node).0 left in (let lt = h.0 in omega arith, h.1)
@@ -28,7 +29,8 @@ marked_more marks place list below mark node = (
   ],
 )
 
-pub marked_skip : (marks : List Bool) (place : ℕ) (list : List ℕ) → AreMarkedBelow marks place list → get_or marks place false ≡ false → AreMarkedBelow marks (place + 1) list
+pub marked_skip : (marks : List Bool) (place : ℕ) (list : List ℕ) → AreMarkedBelow marks place list → get_or marks place false ≡ false
+    → AreMarkedBelow marks (place + 1) list
 marked_skip marks place list below mark node = (
   λ one. let h = (below node).0 one in (let lt = h.0 in omega arith, h.1),
   λ (lt, is). elim (same_or_below node place lt) [
@@ -67,7 +69,8 @@ pub marked_none : (marks : List Bool) (list : List ℕ) → list ≡ [] → AreM
 marked_none marks list none node = (λ one. absurd (rw none at one), λ (lt, is). absurd (omega arith))
 
 -- all places have
-pub marked_all : (marks : List Bool) (place : ℕ) (list : List ℕ) → length marks ≤ place → AreMarkedBelow marks place list → (node : ℕ) → IsOneOf list node ↔ (get_or marks node false ≡ true)
+pub marked_all : (marks : List Bool) (place : ℕ) (list : List ℕ) → length marks ≤ place → AreMarkedBelow marks place list → (node : ℕ)
+    → IsOneOf list node ↔ (get_or marks node false ≡ true)
 marked_all marks place list le below node = (
   λ one. ((below node).0 one).1,
   λ is. let lt = marked_within marks node is in (below node).1 (omega arith, is),

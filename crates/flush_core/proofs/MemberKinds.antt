@@ -47,15 +47,21 @@ module _ (first : TreeState) (history : List Entry) (is : IsSoundTree first) (le
   -- and the other side of a rename, what a change ends, and those above what changes
   other_directory : (change : RowChange) (other : ℕ) → IsChange first history change → change.other ≡ Some other → IsDirectory other
   other_directory change other one two =
-      let own = other_changes (tree_at first history change.stamp) change.stamp (effect_at first history change.stamp) change other (made_at first history is legal change one) two in
+      let own =
+      other_changes (tree_at first history change.stamp) change.stamp (effect_at first history change.stamp) change other
+      (made_at first history is legal change one) two in
       rw own.2 at (own_directory change.stamp own.0 own.1)
 
   ended_directory : (change : RowChange) → IsChange first history change → change.ends ≡ true → IsDirectory change.child
-  ended_directory change one ends = still_directory change.stamp change.child (ended_at run change.stamp change (made_at first history is legal change one) ends).kind
+  ended_directory change one ends =
+      still_directory change.stamp change.child (ended_at run change.stamp change (made_at first history is legal change one) ends).kind
 
-  directory_above : (change : RowChange) (above : List ℕ) (node : ℕ) → Above (tree_after first (take change.stamp history)) change.directory above → IsOneOf above node → IsDirectory node
+  directory_above : (change : RowChange) (above : List ℕ) (node : ℕ) → Above (tree_after first (take change.stamp history)) change.directory above
+      → IsOneOf above node → IsDirectory node
   directory_above change above node way among =
-      still_directory change.stamp node (above_directory (tree_at first history change.stamp) (sound_at first history 0 change.stamp is legal) (subst (λ (tree : TreeState). Above tree change.directory above) (sym (tree_at-after first history change.stamp)) way) node among)
+      still_directory change.stamp node
+      (above_directory (tree_at first history change.stamp) (sound_at first history 0 change.stamp is legal)
+      (subst (λ (tree : TreeState). Above tree change.directory above) (sym (tree_at-after first history change.stamp)) way) node among)
 
   module _ (counts : Counts) (cut : Cut) (inodes : ℕ → Bool) (flush : Flush) where
     pub member_directory : {node : ℕ} → Closure first history counts cut inodes flush node → (node ≡ flush.node) ⊎ IsDirectory node
@@ -85,4 +91,5 @@ pub members_are_directories : MembersAreDirectories
 members_are_directories first history counts cut inodes flush node is legal own = member_directory first history is legal counts cut inodes flush own
 
 pub files_flush_themselves : FilesFlushThemselves
-files_flush_themselves first history counts cut inodes flush node is legal file has concerned = concerned_alone first history is legal counts cut inodes flush file has node concerned
+files_flush_themselves first history counts cut inodes flush node is legal file has concerned =
+    concerned_alone first history is legal counts cut inodes flush file has node concerned

@@ -34,13 +34,15 @@ abbrev pub HasOwn : TreeState → ℕ → Effect → ℕ → Type 0
 HasOwn tree t effect d = (y : RowChange) × IsOneOf (changes_by tree t effect) y × (y.directory ≡ d)
 
 -- the other directory of a rename has a change, too
-pub other_changes : (tree : TreeState) (t : ℕ) (effect : Effect) (x : RowChange) (o : ℕ) → IsOneOf (changes_by tree t effect) x → x.other ≡ Some o → HasOwn tree t effect o
+pub other_changes : (tree : TreeState) (t : ℕ) (effect : Effect) (x : RowChange) (o : ℕ) → IsOneOf (changes_by tree t effect) x → x.other ≡ Some o
+    → HasOwn tree t effect o
 other_changes tree t Stays x o one two = absurd one
 other_changes tree t (Edits file edit) x o one two = absurd one
 other_changes tree t (Adds d n c) x o one two = elim one [ inl e ↦ absurd (none_some (ap (λ (y : RowChange). y.other) e ∙ two)) | inr none ↦ absurd none ]
 other_changes tree t (Removes d n c) x o one two = elim one [ inl e ↦ absurd (none_some (ap (λ (y : RowChange). y.other) e ∙ two)) | inr none ↦ absurd none ]
 other_changes tree t (Moves p n q m c) x o one two =
-    elim (row_of tree q m) as (λ r. IsOneOf (replaced tree t p q m r ++ removed t p n c (other_side p q) false ∷ added t q m c (other_side q p) ∷ []) x → HasOwn tree t (Moves p n q m c) o) [
+    elim (row_of tree q m) as (λ r. IsOneOf (replaced tree t p q m r ++ removed t p n c (other_side p q) false ∷ added t q m c (other_side q p) ∷ []) x
+    → HasOwn tree t (Moves p n q m c) o) [
       | None ↦ λ h. both h
       | Some there ↦ λ h. elim h [ inl e ↦ first (ap (λ (y : RowChange). y.other) e ∙ two) | inr rest ↦ both rest ]
     ] one
@@ -79,12 +81,18 @@ module _ (first : TreeState) (history : List Entry) (is : IsSoundTree first) (le
 
     other_then : (change : RowChange) (o : ℕ) → IsChange first history change → change.stamp < flush.stamp → change.other ≡ Some o → IsThen o
     other_then change o one lt two =
-        let own = other_changes (tree_at first history change.stamp) change.stamp (effect_at first history change.stamp) change o (made_at first history is legal change one) two in
+        let own =
+        other_changes (tree_at first history change.stamp) change.stamp (effect_at first history change.stamp) change o
+        (made_at first history is legal change one) two in
         rw own.2 at (own_node own.0 change.stamp own.1 flush.stamp (omega arith))
 
-    above_then : (change : RowChange) (above : List ℕ) (node : ℕ) → change.stamp < flush.stamp → Above (tree_after first (take change.stamp history)) change.directory above → IsOneOf above node → IsThen node
+    above_then : (change : RowChange) (above : List ℕ) (node : ℕ) → change.stamp < flush.stamp
+        → Above (tree_after first (take change.stamp history)) change.directory above → IsOneOf above node → IsThen node
     above_then change above node lt way among =
-        later run change.stamp flush.stamp node (omega arith) (directory_node (tree_at first history change.stamp) node (above_directory (tree_at first history change.stamp) (sound_at first history 0 change.stamp is legal) (subst (λ (tree : TreeState). Above tree change.directory above) (sym (tree_at-after first history change.stamp)) way) node among))
+        later run change.stamp flush.stamp node (omega arith)
+        (directory_node (tree_at first history change.stamp) node
+        (above_directory (tree_at first history change.stamp) (sound_at first history 0 change.stamp is legal)
+        (subst (λ (tree : TreeState). Above tree change.directory above) (sym (tree_at-after first history change.stamp)) way) node among))
 
     place_then : (birth : Birth) → IsOneOf (births_of first history) birth → IsThen birth.node → IsThen birth.directory
     place_then birth one there = elim (below_or birth.stamp flush.stamp) [
@@ -102,11 +110,13 @@ module _ (first : TreeState) (history : List Entry) (is : IsSoundTree first) (le
     pub member_then : {node : ℕ} → Closure first history counts cut inodes flush node → IsThen node
     member_then closure.itself = live_node first history is legal flush live flush.stamp (omega arith)
     member_then (closure.other_side change o own span two) = other_then change o span.is_change span.below two
-    member_then (closure.ended change own span ends) = child_node run change.stamp change (made_at first history is legal change span.is_change) flush.stamp span.below
+    member_then (closure.ended change own span ends) =
+        child_node run change.stamp change (made_at first history is legal change span.is_change) flush.stamp span.below
     member_then (closure.ancestor change above node own span move way among) = above_then change above node span.below way among
     member_then (closure.birth_place birth own one none naming) = place_then birth one (member_then own)
 
     -- so are all nodes that are concerned
     pub concerned_then : (node : ℕ) → IsConcerned first history counts cut inodes flush node → IsThen node
     concerned_then node (closure.member _ own) = member_then own
-    concerned_then _ (closure.named change own span) = child_node run change.stamp change (made_at first history is legal change span.is_change) flush.stamp span.below
+    concerned_then _ (closure.named change own span) =
+        child_node run change.stamp change (made_at first history is legal change span.is_change) flush.stamp span.below

@@ -34,8 +34,12 @@ module _ (first : TreeState) (flush : Flush) where
     concerned = λ node. onward (a.concerned node) (b.concerned node);
     raises = λ raised. onward (a.raises raised) (b.raises raised);
     rows = λ raised raise directory name. a.rows raised raise directory name ∙ b.rows raised ((a.raises raised).0 raise) directory name;
-    reached = λ raised raise node concerned. onward (a.reached raised raise node concerned) (b.reached raised ((a.raises raised).0 raise) node ((a.concerned node).0 concerned));
-    dead = λ raised raise node concerned. onward (a.dead raised raise node concerned) (b.dead raised ((a.raises raised).0 raise) node ((a.concerned node).0 concerned));
+    reached =
+        λ raised raise node concerned. onward (a.reached raised raise node concerned)
+        (b.reached raised ((a.raises raised).0 raise) node ((a.concerned node).0 concerned));
+    dead =
+        λ raised raise node concerned. onward (a.dead raised raise node concerned)
+        (b.dead raised ((a.raises raised).0 raise) node ((a.concerned node).0 concerned));
   }
 
   -- so is one commit
@@ -44,7 +48,9 @@ module _ (first : TreeState) (flush : Flush) where
     members = λ node. turned (c.members node);
     concerned = λ node. turned (c.concerned node);
     stamps = λ raised other_raised raise other_raise node concerned. sym (c.stamps other_raised raised other_raise raise node ((c.concerned node).1 concerned));
-    rows = λ raised other_raised raise other_raise node directory name concerned. turned (c.rows other_raised raised other_raise raise node directory name ((c.concerned node).1 concerned));
+    rows =
+        λ raised other_raised raise other_raise node directory name concerned. turned
+        (c.rows other_raised raised other_raise raise node directory name ((c.concerned node).1 concerned));
     enters = λ raised other_raised raise other_raise node. turned (c.enters other_raised raised other_raise raise node);
     leaves = λ raised other_raised raise other_raise node. turned (c.leaves other_raised raised other_raise raise node);
   }

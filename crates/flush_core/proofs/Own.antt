@@ -23,9 +23,11 @@ with_own-other d n rows x other =
     ]
 
 -- what a change makes of a place hangs on what stands there alone
-pub with_own-same : (d : ℕ) (n : List ℕ) (rows other : FinMap key_cmp ℕ) (x : RowChange) → get rows (d, n) ≡ get other (d, n) → get (with_own rows x) (d, n) ≡ get (with_own other x) (d, n)
+pub with_own-same : (d : ℕ) (n : List ℕ) (rows other : FinMap key_cmp ℕ) (x : RowChange) → get rows (d, n) ≡ get other (d, n)
+    → get (with_own rows x) (d, n) ≡ get (with_own other x) (d, n)
 with_own-same d n rows other x e =
-    elim x.places as (λ b. get (cond b (insert rows (x.directory, x.name) x.child) (remove rows (x.directory, x.name))) (d, n) ≡ get (cond b (insert other (x.directory, x.name) x.child) (remove other (x.directory, x.name))) (d, n)) [
+    elim x.places as (λ b. get (cond b (insert rows (x.directory, x.name) x.child) (remove rows (x.directory, x.name))) (d, n)
+    ≡ get (cond b (insert other (x.directory, x.name) x.child) (remove other (x.directory, x.name))) (d, n)) [
       | true ↦
           get-insert key_cmp_total rows (x.directory, x.name) x.child (d, n)
           ∙ ap (cond (eq_by_cmp key_cmp (d, n) (x.directory, x.name)) (Some x.child)) e
@@ -37,7 +39,8 @@ with_own-same d n rows other x e =
     ]
 
 -- changes of which none of a directory passes a test leave its rows
-pub skip : (w : RowChange → Bool) (d : ℕ) (n : List ℕ) (rows : FinMap key_cmp ℕ) (cs : List RowChange) → ((x : RowChange) → IsOneOf cs x → x.directory ≡ d → w x ≡ false) → get (fold with_own rows (filter w cs)) (d, n) ≡ get rows (d, n)
+pub skip : (w : RowChange → Bool) (d : ℕ) (n : List ℕ) (rows : FinMap key_cmp ℕ) (cs : List RowChange)
+    → ((x : RowChange) → IsOneOf cs x → x.directory ≡ d → w x ≡ false) → get (fold with_own rows (filter w cs)) (d, n) ≡ get rows (d, n)
 skip w d n rows [] h = refl
 skip w d n rows (x ∷ cs) h =
     elim (w x) as (λ b. w x ≡ b → get (fold with_own rows (cond b (x ∷ filter w cs) (filter w cs))) (d, n) ≡ get rows (d, n)) [
@@ -46,12 +49,15 @@ skip w d n rows (x ∷ cs) h =
     ] refl
 
 -- changes of which all of a directory pass a test are made in its rows
-pub keep : (w : RowChange → Bool) (d : ℕ) (n : List ℕ) (rows other : FinMap key_cmp ℕ) (cs : List RowChange) → ((x : RowChange) → IsOneOf cs x → x.directory ≡ d → w x ≡ true) → get rows (d, n) ≡ get other (d, n) → get (fold with_own rows (filter w cs)) (d, n) ≡ get (fold with_own other cs) (d, n)
+pub keep : (w : RowChange → Bool) (d : ℕ) (n : List ℕ) (rows other : FinMap key_cmp ℕ) (cs : List RowChange)
+    → ((x : RowChange) → IsOneOf cs x → x.directory ≡ d → w x ≡ true) → get rows (d, n) ≡ get other (d, n)
+    → get (fold with_own rows (filter w cs)) (d, n) ≡ get (fold with_own other cs) (d, n)
 keep w d n rows other [] h e = e
 keep w d n rows other (x ∷ cs) h e =
     elim (w x) as (λ b. w x ≡ b → get (fold with_own rows (cond b (x ∷ filter w cs) (filter w cs))) (d, n) ≡ get (fold with_own (with_own other x) cs) (d, n)) [
       | true ↦ λ t. keep w d n (with_own rows x) (with_own other x) cs (λ y one. h y (inr one)) (with_own-same d n rows other x e)
-      | false ↦ λ t. keep w d n rows (with_own other x) cs (λ y one. h y (inr one)) (e ∙ sym (with_own-other d n other x (λ same. not_both (h x (inl refl) same) t)))
+      | false ↦
+          λ t. keep w d n rows (with_own other x) cs (λ y one. h y (inr one)) (e ∙ sym (with_own-other d n other x (λ same. not_both (h x (inl refl) same) t)))
     ] refl
 
 -- the changes of an effect make what it makes
@@ -61,7 +67,8 @@ folds rows tree t (Adds d n c) = refl
 folds rows tree t (Removes d n c) = refl
 folds rows tree t (Edits file edit) = refl
 folds rows tree t (Moves p n q m c) =
-    elim (row_of tree q m) as (λ o. fold with_own rows (replaced tree t p q m o ++ removed t p n c (other_side p q) false ∷ added t q m c (other_side q p) ∷ []) ≡ insert (remove rows (p, n)) (q, m) c) [
+    elim (row_of tree q m) as (λ o. fold with_own rows (replaced tree t p q m o ++ removed t p n c (other_side p q) false ∷ added t q m c (other_side q p) ∷ [])
+    ≡ insert (remove rows (p, n)) (q, m) c) [
       | None ↦ refl
       | Some there ↦ moved.replaced rows (p, n) (q, m) c
     ]
@@ -73,7 +80,8 @@ stamp_of tree t (Edits file edit) x one = absurd one
 stamp_of tree t (Adds d n c) x one = elim one [ inl e ↦ ap (λ (y : RowChange). y.stamp) (sym e) | inr none ↦ absurd none ]
 stamp_of tree t (Removes d n c) x one = elim one [ inl e ↦ ap (λ (y : RowChange). y.stamp) (sym e) | inr none ↦ absurd none ]
 stamp_of tree t (Moves p n q m c) x one =
-    elim (row_of tree q m) as (λ o. IsOneOf (replaced tree t p q m o ++ removed t p n c (other_side p q) false ∷ added t q m c (other_side q p) ∷ []) x → x.stamp ≡ t) [
+    elim (row_of tree q m) as (λ o. IsOneOf (replaced tree t p q m o ++ removed t p n c (other_side p q) false ∷ added t q m c (other_side q p) ∷ []) x
+    → x.stamp ≡ t) [
       | None ↦ λ h. two h
       | Some there ↦ λ h. elim h [ inl e ↦ ap (λ (y : RowChange). y.stamp) (sym e) | inr rest ↦ two rest ]
     ] one
@@ -85,9 +93,11 @@ stamp_of tree t (Moves p n q m c) x one =
     ]
 
 -- the changes of a move are those of its two directories
-pub sides : (tree : TreeState) (t p : ℕ) (n : List ℕ) (q : ℕ) (m : List ℕ) (c : ℕ) (x : RowChange) → IsOneOf (changes_by tree t (Moves p n q m c)) x → (x.directory ≡ p) ⊎ (x.directory ≡ q)
+pub sides : (tree : TreeState) (t p : ℕ) (n : List ℕ) (q : ℕ) (m : List ℕ) (c : ℕ) (x : RowChange) → IsOneOf (changes_by tree t (Moves p n q m c)) x
+    → (x.directory ≡ p) ⊎ (x.directory ≡ q)
 sides tree t p n q m c x one =
-    elim (row_of tree q m) as (λ o. IsOneOf (replaced tree t p q m o ++ removed t p n c (other_side p q) false ∷ added t q m c (other_side q p) ∷ []) x → (x.directory ≡ p) ⊎ (x.directory ≡ q)) [
+    elim (row_of tree q m) as (λ o. IsOneOf (replaced tree t p q m o ++ removed t p n c (other_side p q) false ∷ added t q m c (other_side q p) ∷ []) x
+    → (x.directory ≡ p) ⊎ (x.directory ≡ q)) [
       | None ↦ λ h. two h
       | Some there ↦ λ h. elim h [ inl e ↦ inr (ap (λ (y : RowChange). y.directory) (sym e)) | inr rest ↦ two rest ]
     ] one
@@ -99,23 +109,30 @@ sides tree t p n q m c x one =
     ]
 
 -- the two changes of a move, and that by which what is replaced goes
-pub goes_in : (tree : TreeState) (t p : ℕ) (n : List ℕ) (q : ℕ) (m : List ℕ) (c : ℕ) → IsOneOf (changes_by tree t (Moves p n q m c)) (removed t p n c (other_side p q) false)
+pub goes_in : (tree : TreeState) (t p : ℕ) (n : List ℕ) (q : ℕ) (m : List ℕ) (c : ℕ)
+    → IsOneOf (changes_by tree t (Moves p n q m c)) (removed t p n c (other_side p q) false)
 goes_in tree t p n q m c =
-    elim (row_of tree q m) as (λ o. IsOneOf (replaced tree t p q m o ++ removed t p n c (other_side p q) false ∷ added t q m c (other_side q p) ∷ []) (removed t p n c (other_side p q) false)) [
+    elim (row_of tree q m) as (λ o. IsOneOf (replaced tree t p q m o ++ removed t p n c (other_side p q) false ∷ added t q m c (other_side q p) ∷ [])
+    (removed t p n c (other_side p q) false)) [
       | None ↦ inl refl
       | Some there ↦ inr (inl refl)
     ]
 
-pub comes_in : (tree : TreeState) (t p : ℕ) (n : List ℕ) (q : ℕ) (m : List ℕ) (c : ℕ) → IsOneOf (changes_by tree t (Moves p n q m c)) (added t q m c (other_side q p))
+pub comes_in : (tree : TreeState) (t p : ℕ) (n : List ℕ) (q : ℕ) (m : List ℕ) (c : ℕ)
+    → IsOneOf (changes_by tree t (Moves p n q m c)) (added t q m c (other_side q p))
 comes_in tree t p n q m c =
-    elim (row_of tree q m) as (λ o. IsOneOf (replaced tree t p q m o ++ removed t p n c (other_side p q) false ∷ added t q m c (other_side q p) ∷ []) (added t q m c (other_side q p))) [
+    elim (row_of tree q m) as (λ o. IsOneOf (replaced tree t p q m o ++ removed t p n c (other_side p q) false ∷ added t q m c (other_side q p) ∷ [])
+    (added t q m c (other_side q p))) [
       | None ↦ inr (inl refl)
       | Some there ↦ inr (inr (inl refl))
     ]
 
-pub replaced_in : (tree : TreeState) (t p : ℕ) (n : List ℕ) (q : ℕ) (m : List ℕ) (c there : ℕ) → row_of tree q m ≡ Some there → IsOneOf (changes_by tree t (Moves p n q m c)) (removed t q m there (other_side q p) (is_directory tree there))
+pub replaced_in : (tree : TreeState) (t p : ℕ) (n : List ℕ) (q : ℕ) (m : List ℕ) (c there : ℕ) → row_of tree q m ≡ Some there
+    → IsOneOf (changes_by tree t (Moves p n q m c)) (removed t q m there (other_side q p) (is_directory tree there))
 replaced_in tree t p n q m c there row =
-    elim (row_of tree q m) as (λ o. o ≡ Some there → IsOneOf (replaced tree t p q m o ++ removed t p n c (other_side p q) false ∷ added t q m c (other_side q p) ∷ []) (removed t q m there (other_side q p) (is_directory tree there))) [
+    elim (row_of tree q m) as (λ o. o ≡ Some there
+    → IsOneOf (replaced tree t p q m o ++ removed t p n c (other_side p q) false ∷ added t q m c (other_side q p) ∷ [])
+    (removed t q m there (other_side q p) (is_directory tree there))) [
       | None ↦ λ e. cc
       | Some other ↦ λ e. inl (ap (λ (y : ℕ). removed t q m y (other_side q p) (is_directory tree y)) (same other e))
     ] row

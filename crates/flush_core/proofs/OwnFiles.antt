@@ -20,7 +20,8 @@ use Rattle.flush_core.proofs.KeptInodes.{dead_unnamed}
 
 module _ (first : TreeState) (history : List Entry) (is : IsSoundTree first) (legal : IsLegal first history) where
   -- what is alive at a stamp is the root, or something names it
-  live_named : (t node : ℕ) → is_directory (tree_after first history) node ≡ false → is_alive (tree_at first history t) node ≡ true → is_directory (tree_after first history) 0 ≡ true → IsNeverNamed first history node → ⊥
+  live_named : (t node : ℕ) → is_directory (tree_after first history) node ≡ false → is_alive (tree_at first history t) node ≡ true
+      → is_directory (tree_after first history) 0 ≡ true → IsNeverNamed first history node → ⊥
   live_named t node file alive root never = elim (alive_named (tree_at first history t) node alive) [
     | inl same ↦ not_both root (rw same at file)
     | inr named ↦ elim (named_or_open first history is legal t empty (none_above t) node named) [
@@ -29,7 +30,9 @@ module _ (first : TreeState) (history : List Entry) (is : IsSoundTree first) (le
     ]
   ]
 
-  module _ (cut raised : Cut) (inodes after : ℕ → Bool) (flush : Flush) (raise : IsRaised first history every_entry cut inodes flush raised) (sets : AreInodesAfter first history every_entry cut inodes flush raised after) (file : is_directory (tree_after first history) flush.node ≡ false) (has : inodes flush.node ≡ true) where
+  module _ (cut raised : Cut) (inodes after : ℕ → Bool) (flush : Flush) (raise : IsRaised first history every_entry cut inodes flush raised)
+      (sets : AreInodesAfter first history every_entry cut inodes flush raised after) (file : is_directory (tree_after first history) flush.node ≡ false)
+      (has : inodes flush.node ≡ true) where
     -- no directory's stamp moves
     same_stamp : (d : ℕ) → is_directory (tree_after first history) d ≡ true → cut_of raised d ≡ cut_of cut d
     same_stamp d kind = elim (raise.other d) [
@@ -41,10 +44,14 @@ module _ (first : TreeState) (history : List Entry) (is : IsSoundTree first) (le
     was_dead : IsDead first history every_entry raised flush.node → IsDead first history every_entry cut flush.node
     was_dead dead = record {
       no_root = dead.no_root;
-      unnamed = λ named. elim (row_before first history every_entry flush cut raised inodes is legal (λ t lt. refl) raise named.directory named.name flush.node named.row) [
-        | inl still ↦ dead.unnamed (record { directory = named.directory; name = named.name; row = still })
-        | inr b ↦ no_less (cut_of cut b.change.directory) (cut_of raised b.change.directory) b.stamp (same_stamp b.change.directory (own_directory first history is legal b.stamp b.change b.made)) b.from b.below
-      ];
+      unnamed =
+          λ named. elim (row_before first history every_entry flush cut raised inodes is legal
+          (λ t lt. refl) raise named.directory named.name flush.node named.row) [
+            | inl still ↦ dead.unnamed (record { directory = named.directory; name = named.name; row = still })
+            | inr b ↦
+                no_less (cut_of cut b.change.directory) (cut_of raised b.change.directory) b.stamp
+                (same_stamp b.change.directory (own_directory first history is legal b.stamp b.change b.made)) b.from b.below
+          ];
       flushed = λ change one counted child.
           let lt = dead.flushed change one counted child in
           rw (same_stamp change.directory (own_directory first history is legal change.stamp change (made_at first history is legal change one))) at lt;
@@ -71,4 +78,6 @@ module _ (first : TreeState) (history : List Entry) (is : IsSoundTree first) (le
 pub files_keep_inodes : FilesKeepInodes
 files_keep_inodes first history flushes cut raised inodes after flush node is legal flushed raise sets live file has =
     keeps_inodes first history is legal cut raised inodes after flush raise sets file has (λ dead.
-    live_named first history is legal flush.stamp flush.node file (rw (tree_at-after first history flush.stamp) live) (root_directory first history is legal) (dead_unnamed first history is legal flushed flush.node has dead)) node
+    live_named first history is legal flush.stamp flush.node file (rw (tree_at-after first history flush.stamp) live) (root_directory first history is legal)
+    (dead_unnamed first history is legal flushed flush.node has dead))
+    node

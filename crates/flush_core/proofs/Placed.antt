@@ -23,7 +23,9 @@ row_at tree d e k l x same names row = rw same at (rw names at row)
 
 module _ (tree : TreeState) (core : ℕ) (s : IsSound tree) where
   -- a directory's row after an effect was there and the effect places another child, or it places this one
-  pub came : (effect : Effect) (makes : Option Kind) → Fits tree core effect makes → (h : ℕ) (k : List ℕ) (a : ℕ) → is_directory (tree_with tree core effect makes) a ≡ true → row_of (tree_with tree core effect makes) h k ≡ Some a → ((row_of tree h k ≡ Some a) × (placed effect ≢ Some a)) ⊎ (placed effect ≡ Some a)
+  pub came : (effect : Effect) (makes : Option Kind) → Fits tree core effect makes → (h : ℕ) (k : List ℕ) (a : ℕ)
+      → is_directory (tree_with tree core effect makes) a ≡ true → row_of (tree_with tree core effect makes) h k ≡ Some a
+      → ((row_of tree h k ≡ Some a) × (placed effect ≢ Some a)) ⊎ (placed effect ≡ Some a)
   came Stays None f h k a kind row = inl (row, none_some)
   came (Edits file edit) None f h k a kind row = inl (row, none_some)
   came (Removes d n c) None f h k a kind row = inl ((removed_cases tree.rows h d k n a row).1, none_some)
@@ -57,10 +59,14 @@ module _ (tree : TreeState) (core : ℕ) (s : IsSound tree) where
   abbrev pub WasNamed : ℕ → Type 0
   WasNamed x = (is_directory tree x ≡ true) × IsNamed tree.rows x
 
-  was_named : (effect : Effect) (makes : Option Kind) → Fits tree core effect makes → (d : ℕ) (n : List ℕ) (x : ℕ) → is_directory (tree_with tree core effect makes) x ≡ true → row_of tree d n ≡ Some x → WasNamed x
-  was_named effect makes f d n x kind row = (sym (directory_stays tree core effect makes x f (s.node d n x row)) ∙ kind, record { directory = d; name = n; row = row })
+  was_named : (effect : Effect) (makes : Option Kind) → Fits tree core effect makes → (d : ℕ) (n : List ℕ) (x : ℕ)
+      → is_directory (tree_with tree core effect makes) x ≡ true → row_of tree d n ≡ Some x → WasNamed x
+  was_named effect makes f d n x kind row =
+      (sym (directory_stays tree core effect makes x f (s.node d n x row)) ∙ kind, record { directory = d; name = n; row = row })
 
-  pub named_before : (effect : Effect) (makes : Option Kind) → Fits tree core effect makes → ((d : ℕ) (n : List ℕ) (c : ℕ) → effect ≡ Adds d n c → makes ≡ None → is_directory tree c ≡ false) → (d : ℕ) (n : List ℕ) (x : ℕ) → is_directory (tree_with tree core effect makes) x ≡ true → row_of (tree_with tree core effect makes) d n ≡ Some x → WasNamed x ⊎ IsBorn effect makes x
+  pub named_before : (effect : Effect) (makes : Option Kind) → Fits tree core effect makes
+      → ((d : ℕ) (n : List ℕ) (c : ℕ) → effect ≡ Adds d n c → makes ≡ None → is_directory tree c ≡ false) → (d : ℕ) (n : List ℕ) (x : ℕ)
+      → is_directory (tree_with tree core effect makes) x ≡ true → row_of (tree_with tree core effect makes) d n ≡ Some x → WasNamed x ⊎ IsBorn effect makes x
   named_before Stays None f files d n x kind row = inl (was_named Stays None f d n x kind row)
   named_before (Edits file edit) None f files d n x kind row = inl (was_named (Edits file edit) None f d n x kind row)
   named_before (Removes e k c) None f files d n x kind row = inl (was_named (Removes e k c) None f d n x kind (removed_cases tree.rows d e n k x row).1)
@@ -87,13 +93,16 @@ module _ (tree : TreeState) (core : ℕ) (s : IsSound tree) where
     pub to_name : List ℕ
     pub moves : effect ≡ Moves d n to_directory to_name x
 
-  added_stays : (e : ℕ) (k : List ℕ) (c d : ℕ) (n : List ℕ) (x : ℕ) → row_of tree e k ≡ None → row_of tree d n ≡ Some x → get (insert tree.rows (e, k) c) (d, n) ≡ Some x
+  added_stays : (e : ℕ) (k : List ℕ) (c d : ℕ) (n : List ℕ) (x : ℕ) → row_of tree e k ≡ None → row_of tree d n ≡ Some x
+      → get (insert tree.rows (e, k) c) (d, n) ≡ Some x
   added_stays e k c d n x free row = elim (is_here d e n k) [
     | inl same ↦ absurd (some_not_none (row_of tree e k) x (row_at tree d e n k x same.0 same.1 row) free)
     | inr other ↦ added_other tree.rows d e n k c other ∙ row
   ]
 
-  pub row_stays : (effect : Effect) (makes : Option Kind) → Fits tree core effect makes → (d : ℕ) (n : List ℕ) (x : ℕ) → is_directory tree x ≡ true → row_of tree d n ≡ Some x → IsNamed (tree_with tree core effect makes).rows x → (row_of (tree_with tree core effect makes) d n ≡ Some x) ⊎ IsMoved effect d n x
+  pub row_stays : (effect : Effect) (makes : Option Kind) → Fits tree core effect makes → (d : ℕ) (n : List ℕ) (x : ℕ) → is_directory tree x ≡ true
+      → row_of tree d n ≡ Some x → IsNamed (tree_with tree core effect makes).rows x
+      → (row_of (tree_with tree core effect makes) d n ≡ Some x) ⊎ IsMoved effect d n x
   row_stays Stays None f d n x kind row named = inl row
   row_stays (Edits file edit) None f d n x kind row named = inl row
   row_stays (Adds e k c) None f d n x kind row named = inl (added_stays e k c d n x f.free row)

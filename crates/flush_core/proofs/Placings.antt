@@ -9,7 +9,8 @@ same_stamp : (change other : OwnChange) → change ≡ other → other.stamp ≡
 same_stamp change other e = ap (λ (c : OwnChange). c.stamp) (sym e)
 
 -- one more change places the node
-pub latest_more : (changes : List OwnChange) (i : ℕ) (node below : ℕ) (d v : OwnChange) → i < length changes → v ≡ get_or changes i d → (last : Option ℕ) → IsLatest (take i changes) node below last → PlacesBelow node below v → IsLatest (take (i + 1) changes) node below (Some (later last v.stamp))
+pub latest_more : (changes : List OwnChange) (i : ℕ) (node below : ℕ) (d v : OwnChange) → i < length changes → v ≡ get_or changes i d → (last : Option ℕ)
+    → IsLatest (take i changes) node below last → PlacesBelow node below v → IsLatest (take (i + 1) changes) node below (Some (later last v.stamp))
 latest_more changes i node below d v lt is None none places = (
   (v, next_one changes i d v lt is, places, refl),
   λ other one other_places. elim (one_more changes i d v other lt is one) [
@@ -29,7 +30,8 @@ latest_more changes i node below d v lt is (Some stamp) latest places = (
 )
 
 -- one more change does not
-pub latest_skip : (changes : List OwnChange) (i : ℕ) (node below : ℕ) (d v : OwnChange) → i < length changes → v ≡ get_or changes i d → (last : Option ℕ) → IsLatest (take i changes) node below last → (PlacesBelow node below v → ⊥) → IsLatest (take (i + 1) changes) node below last
+pub latest_skip : (changes : List OwnChange) (i : ℕ) (node below : ℕ) (d v : OwnChange) → i < length changes → v ≡ get_or changes i d → (last : Option ℕ)
+    → IsLatest (take i changes) node below last → (PlacesBelow node below v → ⊥) → IsLatest (take (i + 1) changes) node below last
 latest_skip changes i node below d v lt is None none not = λ other one places. elim (one_more changes i d v other lt is one) [
   | inl before ↦ none other before places
   | inr e ↦ not (rw e places)

@@ -42,15 +42,18 @@ follows_done tree stamp effect = record { ok = λ _. refl; other = λ differ. ab
 follows_edits : (tree : TreeState) (stamp file : ℕ) (edit : Edit) → Follows tree stamp Stays (done (Edits file edit))
 follows_edits tree stamp file edit = record { ok = λ _. refl; other = λ _. refl; makes = refl }
 
-follows_else : (tree : TreeState) (stamp : ℕ) (plan : Effect) (fault : Option Code) (line : Verdict) → Follows tree stamp plan line → Follows tree stamp plan (or_else fault line)
+follows_else : (tree : TreeState) (stamp : ℕ) (plan : Effect) (fault : Option Code) (line : Verdict) → Follows tree stamp plan line
+    → Follows tree stamp plan (or_else fault line)
 follows_else tree stamp plan (Some code) line follows = follows_refused tree stamp plan code
 follows_else tree stamp plan None line follows = follows
 
-follows_if : (tree : TreeState) (stamp : ℕ) (plan other : Effect) (test : Bool) (line second : Verdict) → Follows tree stamp plan line → Follows tree stamp other second → Follows tree stamp (cond test plan other) (cond test line second)
+follows_if : (tree : TreeState) (stamp : ℕ) (plan other : Effect) (test : Bool) (line second : Verdict) → Follows tree stamp plan line
+    → Follows tree stamp other second → Follows tree stamp (cond test plan other) (cond test line second)
 follows_if tree stamp plan other true line second one two = one
 follows_if tree stamp plan other false line second one two = two
 
-follows_one : (tree : TreeState) (stamp : ℕ) (plan : Effect) (test : Bool) (line second : Verdict) → Follows tree stamp plan line → Follows tree stamp plan second → Follows tree stamp plan (cond test line second)
+follows_one : (tree : TreeState) (stamp : ℕ) (plan : Effect) (test : Bool) (line second : Verdict) → Follows tree stamp plan line
+    → Follows tree stamp plan second → Follows tree stamp plan (cond test line second)
 follows_one tree stamp plan true line second one two = one
 follows_one tree stamp plan false line second one two = two
 
@@ -58,37 +61,55 @@ follows_look : (tree : TreeState) (stamp : ℕ) (row : Option ℕ) → Follows t
 follows_look tree stamp None = follows_refused tree stamp Stays _
 follows_look tree stamp (Some child) = follows_answered tree stamp _
 
-follows_unlink : (tree : TreeState) (stamp directory : ℕ) (name : List ℕ) (row : Option ℕ) → Follows tree stamp (removal directory name row) (unlink_row tree directory name row)
+follows_unlink : (tree : TreeState) (stamp directory : ℕ) (name : List ℕ) (row : Option ℕ)
+    → Follows tree stamp (removal directory name row) (unlink_row tree directory name row)
 follows_unlink tree stamp directory name None = follows_refused tree stamp Stays _
 follows_unlink tree stamp directory name (Some child) =
-    follows_one tree stamp (Removes directory name child) (is_directory tree child) _ _ (follows_refused tree stamp (Removes directory name child) _) (follows_done tree stamp (Removes directory name child))
+    follows_one tree stamp (Removes directory name child) (is_directory tree child) _ _ (follows_refused tree stamp (Removes directory name child) _)
+    (follows_done tree stamp (Removes directory name child))
 
-follows_rmdir : (tree : TreeState) (stamp directory : ℕ) (name : List ℕ) (row : Option ℕ) → Follows tree stamp (removal directory name row) (rmdir_row tree directory name row)
+follows_rmdir : (tree : TreeState) (stamp directory : ℕ) (name : List ℕ) (row : Option ℕ)
+    → Follows tree stamp (removal directory name row) (rmdir_row tree directory name row)
 follows_rmdir tree stamp directory name None = follows_refused tree stamp Stays _
 follows_rmdir tree stamp directory name (Some child) =
     follows_one tree stamp (Removes directory name child) (not (is_directory tree child)) _ _ (follows_refused tree stamp (Removes directory name child) NotDir)
-    (follows_one tree stamp (Removes directory name child) (not (row_count tree child == 0)) _ _ (follows_refused tree stamp (Removes directory name child) NotEmpty) (follows_done tree stamp (Removes directory name child)))
+    (follows_one tree stamp (Removes directory name child) (not (row_count tree child == 0)) _ _
+    (follows_refused tree stamp (Removes directory name child) NotEmpty) (follows_done tree stamp (Removes directory name child)))
 
-follows_move : (tree : TreeState) (stamp directory : ℕ) (name : List ℕ) (to_directory : ℕ) (to_name : List ℕ) (row : Option ℕ) → Follows tree stamp (moving tree directory name to_directory to_name row) (move_row tree directory name to_directory to_name row)
+follows_move : (tree : TreeState) (stamp directory : ℕ) (name : List ℕ) (to_directory : ℕ) (to_name : List ℕ) (row : Option ℕ)
+    → Follows tree stamp (moving tree directory name to_directory to_name row) (move_row tree directory name to_directory to_name row)
 follows_move tree stamp directory name to_directory to_name None = follows_refused tree stamp Stays _
 follows_move tree stamp directory name to_directory to_name (Some child) =
-    follows_if tree stamp Stays (Moves directory name to_directory to_name child) (names_child (row_of tree to_directory to_name) child) _ _ (follows_answered tree stamp reply.Ok)
-    (follows_else tree stamp (Moves directory name to_directory to_name child) (move_fault tree child to_directory to_name) _ (follows_done tree stamp (Moves directory name to_directory to_name child)))
+    follows_if tree stamp Stays (Moves directory name to_directory to_name child) (names_child (row_of tree to_directory to_name) child) _ _
+    (follows_answered tree stamp reply.Ok)
+    (follows_else tree stamp (Moves directory name to_directory to_name child) (move_fault tree child to_directory to_name) _
+    (follows_done tree stamp (Moves directory name to_directory to_name child)))
 
 -- each call but one that makes a node
 pub follows_plan : (tree : TreeState) (core stamp : ℕ) (c : Call) → MakesNone c → Follows tree stamp (plan_of tree c) (verdict tree core c)
 follows_plan tree core stamp (call.Look directory name) none = follows_else tree stamp Stays _ _ (follows_look tree stamp (row_of tree directory.0 name))
 follows_plan tree core stamp (call.Make directory name kind) none = absurd (none directory name kind refl)
 follows_plan tree core stamp (call.Link file directory name) none = follows_else tree stamp _ _ _ (follows_done tree stamp (Adds directory.0 name file.0))
-follows_plan tree core stamp (call.Unlink directory name) none = follows_else tree stamp _ _ _ (follows_unlink tree stamp directory.0 name (row_of tree directory.0 name))
-follows_plan tree core stamp (call.Rmdir directory name) none = follows_else tree stamp _ _ _ (follows_rmdir tree stamp directory.0 name (row_of tree directory.0 name))
-follows_plan tree core stamp (call.Rename directory name to_directory to_name) none = follows_else tree stamp _ _ _ (follows_move tree stamp directory.0 name to_directory.0 to_name (row_of tree directory.0 name))
+follows_plan tree core stamp (call.Unlink directory name) none =
+    follows_else tree stamp _ _ _ (follows_unlink tree stamp directory.0 name (row_of tree directory.0 name))
+follows_plan tree core stamp (call.Rmdir directory name) none =
+    follows_else tree stamp _ _ _ (follows_rmdir tree stamp directory.0 name (row_of tree directory.0 name))
+follows_plan tree core stamp (call.Rename directory name to_directory to_name) none =
+    follows_else tree stamp _ _ _ (follows_move tree stamp directory.0 name to_directory.0 to_name (row_of tree directory.0 name))
 follows_plan tree core stamp (call.Write file at bytes) none =
-    follows_else tree stamp Stays _ _ (follows_one tree stamp Stays _ _ _ (follows_answered tree stamp reply.Ok) (follows_one tree stamp Stays _ _ _ (follows_refused tree stamp Stays _) (follows_edits tree stamp file.0 _)))
-follows_plan tree core stamp (call.Read file at count) none = follows_else tree stamp Stays (file_fault tree file.0) _ (follows_answered tree stamp (reply.Bytes (take count (drop at (bytes_of tree file.0)))))
-follows_plan tree core stamp (call.Trunc file size) none = follows_else tree stamp Stays _ _ (follows_one tree stamp Stays _ _ _ (follows_refused tree stamp Stays _) (follows_edits tree stamp file.0 _))
-follows_plan tree core stamp (call.Stat node) none = follows_else tree stamp Stays (node_fault tree node.0) _ (follows_answered tree stamp (reply.Stat (kind_of tree node.0) (links_of tree node.0) (size_of tree node.0)))
-follows_plan tree core stamp (call.List directory) none = follows_else tree stamp Stays (directory_fault tree directory.0) _ (follows_answered tree stamp (reply.Names (with_kinds tree (names_of directory.0 tree.rows))))
+    follows_else tree stamp Stays _ _
+    (follows_one tree stamp Stays _ _ _ (follows_answered tree stamp reply.Ok)
+    (follows_one tree stamp Stays _ _ _ (follows_refused tree stamp Stays _) (follows_edits tree stamp file.0 _)))
+follows_plan tree core stamp (call.Read file at count) none =
+    follows_else tree stamp Stays (file_fault tree file.0) _ (follows_answered tree stamp (reply.Bytes (take count (drop at (bytes_of tree file.0)))))
+follows_plan tree core stamp (call.Trunc file size) none =
+    follows_else tree stamp Stays _ _ (follows_one tree stamp Stays _ _ _ (follows_refused tree stamp Stays _) (follows_edits tree stamp file.0 _))
+follows_plan tree core stamp (call.Stat node) none =
+    follows_else tree stamp Stays (node_fault tree node.0) _
+    (follows_answered tree stamp (reply.Stat (kind_of tree node.0) (links_of tree node.0) (size_of tree node.0)))
+follows_plan tree core stamp (call.List directory) none =
+    follows_else tree stamp Stays (directory_fault tree directory.0) _
+    (follows_answered tree stamp (reply.Names (with_kinds tree (names_of directory.0 tree.rows))))
 follows_plan tree core stamp (call.Fsync node) none = follows_else tree stamp Stays _ _ (follows_answered tree stamp reply.Ok)
 
 -- where no node is made, none is born
@@ -101,13 +122,16 @@ none_born stamp (Edits file edit) None e = refl
 none_born stamp effect (Some kind) e = cc
 
 -- a making that answers a node, and one that does not
-pub makes_node : (tree : TreeState) (core stamp : ℕ) (directory node : NodeId) (name : List ℕ) (kind given : Kind) → (verdict tree core (call.Make directory name kind)).reply ≡ reply.Node node given
+pub makes_node : (tree : TreeState) (core stamp : ℕ) (directory node : NodeId) (name : List ℕ) (kind given : Kind)
+    → (verdict tree core (call.Make directory name kind)).reply ≡ reply.Node node given
     → (changes_by tree stamp (verdict tree core (call.Make directory name kind)).effect ≡ added stamp directory.0 name node.0 None ∷ [])
-    × (births_by stamp (verdict tree core (call.Make directory name kind)).effect (verdict tree core (call.Make directory name kind)).makes ≡ record { stamp = stamp; directory = directory.0; node = node.0 } ∷ [])
+    × (births_by stamp (verdict tree core (call.Make directory name kind)).effect (verdict tree core (call.Make directory name kind)).makes
+    ≡ record { stamp = stamp; directory = directory.0; node = node.0 } ∷ [])
 makes_node tree core stamp directory node name kind given is =
     elim (make_fault tree core directory.0 name) as (λ fault. (or_else fault (make_node tree core directory.0 name kind)).reply ≡ reply.Node node given
     → (changes_by tree stamp (or_else fault (make_node tree core directory.0 name kind)).effect ≡ added stamp directory.0 name node.0 None ∷ [])
-    × (births_by stamp (or_else fault (make_node tree core directory.0 name kind)).effect (or_else fault (make_node tree core directory.0 name kind)).makes ≡ record { stamp = stamp; directory = directory.0; node = node.0 } ∷ [])) [
+    × (births_by stamp (or_else fault (make_node tree core directory.0 name kind)).effect (or_else fault (make_node tree core directory.0 name kind)).makes
+    ≡ record { stamp = stamp; directory = directory.0; node = node.0 } ∷ [])) [
       | Some code ↦ λ e. no_node code e
       | None ↦ λ e.
           let same : next_number tree core ≡ node.0 = number e in
@@ -123,13 +147,16 @@ makes_node tree core stamp directory node name kind given is =
     number : reply.Node (record { 0 = next_number tree core }) kind ≡ reply.Node node given → next_number tree core ≡ node.0
     number e = cc
 
-pub makes_nothing : (tree : TreeState) (core stamp : ℕ) (directory : NodeId) (name : List ℕ) (kind : Kind) → ((node : NodeId) (given : Kind) → (verdict tree core (call.Make directory name kind)).reply ≡ reply.Node node given → ⊥)
+pub makes_nothing : (tree : TreeState) (core stamp : ℕ) (directory : NodeId) (name : List ℕ) (kind : Kind)
+    → ((node : NodeId) (given : Kind) → (verdict tree core (call.Make directory name kind)).reply ≡ reply.Node node given → ⊥)
     → (changes_by tree stamp (verdict tree core (call.Make directory name kind)).effect ≡ [])
     × (births_by stamp (verdict tree core (call.Make directory name kind)).effect (verdict tree core (call.Make directory name kind)).makes ≡ [])
 makes_nothing tree core stamp directory name kind none =
-    elim (make_fault tree core directory.0 name) as (λ fault. ((node : NodeId) (given : Kind) → (or_else fault (make_node tree core directory.0 name kind)).reply ≡ reply.Node node given → ⊥)
+    elim (make_fault tree core directory.0 name) as (λ fault.
+    ((node : NodeId) (given : Kind) → (or_else fault (make_node tree core directory.0 name kind)).reply ≡ reply.Node node given → ⊥)
     → (changes_by tree stamp (or_else fault (make_node tree core directory.0 name kind)).effect ≡ [])
-    × (births_by stamp (or_else fault (make_node tree core directory.0 name kind)).effect (or_else fault (make_node tree core directory.0 name kind)).makes ≡ [])) [
+    × (births_by stamp (or_else fault (make_node tree core directory.0 name kind)).effect (or_else fault (make_node tree core directory.0 name kind)).makes
+    ≡ [])) [
       | Some code ↦ λ _. (refl, refl)
       | None ↦ λ differ. absurd (differ (record { 0 = next_number tree core }) kind refl)
     ] none

@@ -81,7 +81,8 @@ module _ (first : TreeState) (history : List Entry) (n : ℕ) (legal : IsLegal f
 
   pub change_whole : (x : RowChange) → IsChange first (take n history) x → IsChange first history x
   change_whole x one =
-      change_in first history x.stamp x legal (rw (same_changes x.stamp (change_below x one)) at (change_of first (take n history) x (legal_take first history n legal) one))
+      change_in first history x.stamp x legal
+      (rw (same_changes x.stamp (change_below x one)) at (change_of first (take n history) x (legal_take first history n legal) one))
 
   pub change_prefix : (x : RowChange) → IsChange first history x → x.stamp < n → IsChange first (take n history) x
   change_prefix x one lt =
@@ -126,7 +127,8 @@ module _ (first : TreeState) (history : List Entry) (n : ℕ) (legal : IsLegal f
       })
 
   -- a node of their tree has its kind in the whole history's
-  pub kind_whole : (x : ℕ) → IsSoundTree first → IsSome (get (tree_at first history n).nodes x) → is_directory (tree_after first history) x ≡ is_directory (tree_after first (take n history)) x
+  pub kind_whole : (x : ℕ) → IsSoundTree first → IsSome (get (tree_at first history n).nodes x)
+      → is_directory (tree_after first history) x ≡ is_directory (tree_after first (take n history)) x
   kind_whole x is some = (nodes_at first history n is legal x some).1 ∙ ap (λ (tree : TreeState). is_directory tree x) (tree_at-after first history n)
 
 -- a change of a legal history lies below its length
@@ -134,7 +136,8 @@ pub stamp_below : (first : TreeState) (history : List Entry) (x : RowChange) →
 stamp_below first history x legal one = change_below first history (length history) legal x (rw (take-length history) one)
 
 -- each change of a legal history from a stamp on has that stamp at least
-stamps_from : (first : TreeState) (history : List Entry) (stamp : ℕ) (x : RowChange) → IsLegalFrom first stamp history → IsOneOf (changes_of first history) x → stamp ≤ x.stamp
+stamps_from : (first : TreeState) (history : List Entry) (stamp : ℕ) (x : RowChange) → IsLegalFrom first stamp history → IsOneOf (changes_of first history) x
+    → stamp ≤ x.stamp
 stamps_from first [] stamp x legal one = absurd one
 stamps_from first (entry ∷ history) stamp x legal one = elim (in_either _ _ x one) [
   | inl here ↦ let e = stamp_of first entry.stamp.0 (verdict first entry.core.0 entry.call).effect x here ∙ legal.0.stamped in omega arith
@@ -147,13 +150,17 @@ counted_none n cut x le = ap (λ b. b && is_within cut x) (not_below x.stamp n l
 counted_all : (n : ℕ) (cut : Cut) (x : RowChange) → x.stamp < n → is_counted_within (below n) cut x ≡ is_counted_within every_entry cut x
 counted_all n cut x lt = ap (λ b. b && is_within cut x) (lt-ltb x.stamp n lt)
 
-counted_from : (first : TreeState) (history : List Entry) (stamp m n : ℕ) (cut : Cut) → stamp + m ≡ n → IsLegalFrom first stamp history → filter (is_counted_within (below n) cut) (changes_of first history) ≡ filter (is_counted_within every_entry cut) (changes_of first (take m history))
+counted_from : (first : TreeState) (history : List Entry) (stamp m n : ℕ) (cut : Cut) → stamp + m ≡ n → IsLegalFrom first stamp history
+    → filter (is_counted_within (below n) cut) (changes_of first history) ≡ filter (is_counted_within every_entry cut) (changes_of first (take m history))
 counted_from first history stamp zero n cut e legal =
-    filter_none (is_counted_within (below n) cut) (changes_of first history) (λ x one. counted_none n cut x (let le = stamps_from first history stamp x legal one in omega arith))
+    filter_none (is_counted_within (below n) cut) (changes_of first history)
+    (λ x one. counted_none n cut x (let le = stamps_from first history stamp x legal one in omega arith))
 counted_from first [] stamp (suc m) n cut e legal = refl
 counted_from first (entry ∷ history) stamp (suc m) n cut e legal =
     filter-append (is_counted_within (below n) cut) own (changes_of next history)
-    ∙ ap (λ l. l ++ filter (is_counted_within (below n) cut) (changes_of next history)) (filter_same (is_counted_within (below n) cut) (is_counted_within every_entry cut) own (λ x one. counted_all n cut x (lower x (stamp_of first entry.stamp.0 effect x one))))
+    ∙ ap (λ l. l ++ filter (is_counted_within (below n) cut) (changes_of next history))
+    (filter_same (is_counted_within (below n) cut) (is_counted_within every_entry cut) own
+    (λ x one. counted_all n cut x (lower x (stamp_of first entry.stamp.0 effect x one))))
     ∙ ap (λ l. filter (is_counted_within every_entry cut) own ++ l) (counted_from next history (suc stamp) m n cut (omega arith) legal.1)
     ∙ sym (filter-append (is_counted_within every_entry cut) own (changes_of next (take m history)))
   where
@@ -170,5 +177,6 @@ counted_from first (entry ∷ history) stamp (suc m) n cut e legal =
     lower x same = let there = legal.0.stamped in omega arith
 
 -- the rows at a cut of the first entries are those of the history where these count
-pub counted_rows-take : (first : TreeState) (history : List Entry) (n : ℕ) (cut : Cut) → IsLegal first history → counted_rows_at_cut first (take n history) every_entry cut ≡ counted_rows_at_cut first history (below n) cut
+pub counted_rows-take : (first : TreeState) (history : List Entry) (n : ℕ) (cut : Cut) → IsLegal first history
+    → counted_rows_at_cut first (take n history) every_entry cut ≡ counted_rows_at_cut first history (below n) cut
 counted_rows-take first history n cut legal = ap (fold with_own first.rows) (sym (counted_from first history 0 n n cut (omega arith) legal))

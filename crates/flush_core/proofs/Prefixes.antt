@@ -36,18 +36,23 @@ module _ (first : TreeState) (history : List Entry) (is : IsSoundTree first) (le
   run = run_of first history is legal
 
   -- a node is made before a change names it
-  pub born_by : (birth : Birth) (x : RowChange) → IsOneOf (births_of first history) birth → IsChange first history x → x.child ≡ birth.node → birth.stamp ≤ x.stamp
+  pub born_by : (birth : Birth) (x : RowChange) → IsOneOf (births_of first history) birth → IsChange first history x → x.child ≡ birth.node
+      → birth.stamp ≤ x.stamp
   born_by birth x one is_change same = elim (below_or x.stamp birth.stamp) [
     | inr le ↦ le
     | inl lt ↦
         let born = birth_at first history birth legal one in
-        absurd (no_node_yet run birth.stamp birth.directory born.name birth.node born.kind born.adds born.made (suc x.stamp) (omega arith) (rw same at (child_node run x.stamp x (made_at first history is legal x is_change) (suc x.stamp) (omega arith))))
+        absurd
+        (no_node_yet run birth.stamp birth.directory born.name birth.node born.kind born.adds born.made (suc x.stamp) (omega arith)
+        (rw same at (child_node run x.stamp x (made_at first history is legal x is_change) (suc x.stamp) (omega arith))))
   ]
 
   -- an fsync's node is one from its stamp on
   pub live_node : (flush : Flush) → HasLiveNode first history flush → (u : ℕ) → flush.stamp ≤ u → IsSome (get (tree_at first history u).nodes flush.node)
   live_node flush live u le =
-      later run flush.stamp u flush.node le (alive_node (tree_at first history flush.stamp) flush.node (sound_at first history 0 flush.stamp is legal) (rw (tree_at-after first history flush.stamp) live))
+      later run flush.stamp u flush.node le
+      (alive_node (tree_at first history flush.stamp) flush.node (sound_at first history 0 flush.stamp is legal)
+      (rw (tree_at-after first history flush.stamp) live))
 
   module _ (n : ℕ) where
     abbrev prefix : List Entry
@@ -115,7 +120,8 @@ module _ (first : TreeState) (history : List Entry) (is : IsSoundTree first) (le
         span = λ x own there span. span_whole cut flush.stamp x span;
         moves = λ x span move. move_whole x move;
         stands = λ x above span way. rw (same_tree x.stamp (change_below first history n legal x span.is_change)) at way;
-        births = λ birth own there l. record { one = birth_whole first history n legal birth l.one; lacks = l.lacks; naming = naming_whole cut birth.node l.naming };
+        births =
+            λ birth own there l. record { one = birth_whole first history n legal birth l.one; lacks = l.lacks; naming = naming_whole cut birth.node l.naming };
       }
 
       to_prefix : Carries first flush whole short
@@ -124,17 +130,22 @@ module _ (first : TreeState) (history : List Entry) (is : IsSoundTree first) (le
         moves = λ x span move. move_prefix x (ltb-true x.stamp n span.counted) move;
         stands = λ x above span way. rw (same_tree x.stamp (ltb-true x.stamp n span.counted)) way;
         births = λ birth own there l. record {
-          one = birth_prefix first history n legal birth l.one (let le = born_by birth l.naming.change l.one l.naming.is_change l.naming.child in let lt = ltb-true l.naming.change.stamp n l.naming.counted in omega arith);
+          one =
+              birth_prefix first history n legal birth l.one
+              (let le = born_by birth l.naming.change l.one l.naming.is_change l.naming.child in
+              let lt = ltb-true l.naming.change.stamp n l.naming.counted in omega arith);
           lacks = l.lacks;
           naming = naming_prefix cut birth.node l.naming;
         };
       }
 
       module _ (raised : Cut) where
-        rows_whole : (node : ℕ) → IsNamedIn (counted_rows_at_cut first prefix every_entry raised) node → IsNamedIn (counted_rows_at_cut first history (below n) raised) node
+        rows_whole : (node : ℕ) → IsNamedIn (counted_rows_at_cut first prefix every_entry raised) node
+            → IsNamedIn (counted_rows_at_cut first history (below n) raised) node
         rows_whole node named = rw (counted_rows-take first history n raised legal) at named
 
-        rows_prefix : (node : ℕ) → IsNamedIn (counted_rows_at_cut first history (below n) raised) node → IsNamedIn (counted_rows_at_cut first prefix every_entry raised) node
+        rows_prefix : (node : ℕ) → IsNamedIn (counted_rows_at_cut first history (below n) raised) node
+            → IsNamedIn (counted_rows_at_cut first prefix every_entry raised) node
         rows_prefix node named = rw (counted_rows-take first history n raised legal) named
 
         own_kind : (node : ℕ) → node ≡ flush.node → is_directory (tree_after first history) node ≡ is_directory (tree_after first prefix) node
@@ -163,7 +174,9 @@ module _ (first : TreeState) (history : List Entry) (is : IsSoundTree first) (le
         dead_prefix node dead = record {
           no_root = dead.no_root;
           unnamed = λ named. dead.unnamed (rows_whole node named);
-          flushed = λ x one counted child. dead.flushed x (change_whole first history n legal x one) (lt-ltb x.stamp n (change_below first history n legal x one)) child;
+          flushed =
+              λ x one counted child. dead.flushed x (change_whole first history n legal x one)
+              (lt-ltb x.stamp n (change_below first history n legal x one)) child;
         }
 
         gives : GiveAlike first prefix every_entry history (below n) cut inodes flush raised
@@ -175,4 +188,5 @@ module _ (first : TreeState) (history : List Entry) (is : IsSoundTree first) (le
 
 pub prefixes_count : PrefixesCount
 prefixes_count first history n flush cut inodes is legal le low live =
-    are_alike first (take n history) every_entry history (below n) cut inodes flush (to_whole first history is legal n flush cut inodes low live) (to_prefix first history is legal n flush cut inodes low live) (λ raised raise. gives first history is legal n flush cut inodes low live raised)
+    are_alike first (take n history) every_entry history (below n) cut inodes flush (to_whole first history is legal n flush cut inodes low live)
+    (to_prefix first history is legal n flush cut inodes low live) (λ raised raise. gives first history is legal n flush cut inodes low live raised)

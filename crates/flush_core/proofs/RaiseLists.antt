@@ -51,7 +51,8 @@ map_last {X} {Y} f (x ∷ (w ∷ xs)) (z ∷ ys) y e =
     }
 
 -- The last of some fsyncs raised what those before it left.
-pub record RaisedLast (first : TreeState) (history : List Entry) (counts : Counts) (cut : Cut) (inodes : ℕ → Bool) (flushes : List Flush) (flush : Flush) (raised : Cut) (after : ℕ → Bool) : Type 0 where
+pub record RaisedLast (first : TreeState) (history : List Entry) (counts : Counts) (cut : Cut) (inodes : ℕ → Bool) (flushes : List Flush) (flush : Flush)
+    (raised : Cut) (after : ℕ → Bool) : Type 0 where
   pub before : Cut
   pub inodes_before : ℕ → Bool
   pub earlier : AreRaised first history counts cut inodes flushes before inodes_before
@@ -59,7 +60,8 @@ pub record RaisedLast (first : TreeState) (history : List Entry) (counts : Count
   pub sets : AreInodesAfter first history counts before inodes_before flush raised after
 
 module _ (first : TreeState) (history : List Entry) (counts : Counts) (cut : Cut) (inodes : ℕ → Bool) where
-  pub raised_last : {all : List Flush} {raised : Cut} {after : ℕ → Bool} → AreRaised first history counts cut inodes all raised after → (flushes : List Flush) (flush : Flush) → all ≡ flushes ++ flush ∷ [] → RaisedLast first history counts cut inodes flushes flush raised after
+  pub raised_last : {all : List Flush} {raised : Cut} {after : ℕ → Bool} → AreRaised first history counts cut inodes all raised after
+      → (flushes : List Flush) (flush : Flush) → all ≡ flushes ++ flush ∷ [] → RaisedLast first history counts cut inodes flushes flush raised after
   raised_last none flushes flush e = absurd (no_last flushes flush (sym e))
   raised_last (one_more others other before raised inodes_before after was raise sets) flushes flush e =
       let same = last_same others flushes other flush e in
@@ -72,15 +74,19 @@ module _ (first : TreeState) (history : List Entry) (counts : Counts) (cut : Cut
       }
 
   -- no fsyncs raise nothing
-  pub nothing_raised : {all : List Flush} {raised : Cut} {after : ℕ → Bool} → AreRaised first history counts cut inodes all raised after → all ≡ [] → (cut ≡ raised) × (inodes ≡ after)
+  pub nothing_raised : {all : List Flush} {raised : Cut} {after : ℕ → Bool} → AreRaised first history counts cut inodes all raised after → all ≡ []
+      → (cut ≡ raised) × (inodes ≡ after)
   nothing_raised none e = (refl, refl)
   nothing_raised (one_more others other before raised inodes_before after was raise sets) e = absurd (no_last others other e)
 
   -- one fsync raises the cut itself
-  pub raised_once : (flush : Flush) (raised : Cut) (after : ℕ → Bool) → AreRaised first history counts cut inodes (flush ∷ []) raised after → IsRaised first history counts cut inodes flush raised × AreInodesAfter first history counts cut inodes flush raised after
+  pub raised_once : (flush : Flush) (raised : Cut) (after : ℕ → Bool) → AreRaised first history counts cut inodes (flush ∷ []) raised after
+      → IsRaised first history counts cut inodes flush raised × AreInodesAfter first history counts cut inodes flush raised after
   raised_once flush raised after are =
       let last = raised_last are [] flush refl in
       let same = nothing_raised last.earlier refl in (
-        subst (λ (c : Cut). IsRaised first history counts c inodes flush raised) (sym same.0) (subst (λ (i : ℕ → Bool). IsRaised first history counts last.before i flush raised) (sym same.1) last.raise),
-        subst (λ (c : Cut). AreInodesAfter first history counts c inodes flush raised after) (sym same.0) (subst (λ (i : ℕ → Bool). AreInodesAfter first history counts last.before i flush raised after) (sym same.1) last.sets),
+        subst (λ (c : Cut). IsRaised first history counts c inodes flush raised) (sym same.0)
+            (subst (λ (i : ℕ → Bool). IsRaised first history counts last.before i flush raised) (sym same.1) last.raise),
+        subst (λ (c : Cut). AreInodesAfter first history counts c inodes flush raised after) (sym same.0)
+            (subst (λ (i : ℕ → Bool). AreInodesAfter first history counts last.before i flush raised after) (sym same.1) last.sets),
       )

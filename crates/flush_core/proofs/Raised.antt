@@ -25,7 +25,8 @@ use Rattle.flush_core.proofs.Required.{naming_is, is_naming}
 
 -- a number is another one or not
 same_or_not : (x y : ℕ) → (y ≡ x) ⊎ (x ≢ y)
-same_or_not x y = elim (nat_eq x y) as (λ b. nat_eq x y ≡ b → (y ≡ x) ⊎ (x ≢ y)) [ true ↦ λ e. inl (sym (eqb-true _ _ e)) | false ↦ λ e. inr (eqb-false _ _ e) ] refl
+same_or_not x y =
+    elim (nat_eq x y) as (λ b. nat_eq x y ≡ b → (y ≡ x) ⊎ (x ≢ y)) [ true ↦ λ e. inl (sym (eqb-true _ _ e)) | false ↦ λ e. inr (eqb-false _ _ e) ] refl
 
 -- one more node's stamp is raised
 raised_here : (x stamp : ℕ) (nodes : ℕ → ℕ) → at_least x stamp nodes x ≡ max (nodes x) stamp
@@ -40,7 +41,9 @@ raised_there x node stamp nodes differ = elim (nat_eq x node) as (λ b. nat_eq x
   | false ↦ λ _. refl
 ] refl
 
-pub raise_more : (cut before after : Cut) (nodes : List ℕ) (i d v stamp : ℕ) → i < length nodes → v ≡ get_or nodes i d → RaisesThose cut (take i nodes) stamp before → ((x : ℕ) → cut_of after x ≡ at_least v stamp (cut_of before) x) → RaisesThose cut (take (i + 1) nodes) stamp after
+pub raise_more : (cut before after : Cut) (nodes : List ℕ) (i d v stamp : ℕ) → i < length nodes → v ≡ get_or nodes i d
+    → RaisesThose cut (take i nodes) stamp before → ((x : ℕ) → cut_of after x ≡ at_least v stamp (cut_of before) x)
+    → RaisesThose cut (take (i + 1) nodes) stamp after
 raise_more cut before after nodes i d v stamp lt is raises step = record { one = one; other = other }
   where
     here : (x : ℕ) → v ≡ x → cut_of after x ≡ max (cut_of before x) stamp
@@ -76,7 +79,8 @@ raise_more cut before after nodes i d v stamp lt is raises step = record { one =
 pub raise_none : (cut : Cut) (nodes : List ℕ) (stamp : ℕ) → RaisesThose cut (take 0 nodes) stamp cut
 raise_none cut nodes stamp = record { one = λ x none. absurd none; other = λ x. inr refl }
 
-pub raise_whole : (cut raised : Cut) (nodes : List ℕ) (i stamp : ℕ) → length nodes ≤ i → RaisesThose cut (take i nodes) stamp raised → RaisesThose cut nodes stamp raised
+pub raise_whole : (cut raised : Cut) (nodes : List ℕ) (i stamp : ℕ) → length nodes ≤ i → RaisesThose cut (take i nodes) stamp raised
+    → RaisesThose cut nodes stamp raised
 raise_whole cut raised nodes i stamp le raises = rw (take_all i nodes le) at raises
 
 -- the nodes that are settled so far, and no others have changed
@@ -84,11 +88,15 @@ pub record AreSettled (past : Past) (raised : Cut) (inodes named : NodeSet) (own
   pub settled : (node : ℕ) → IsOneOf nodes node → Settles past raised inodes named own node (has_node after node)
   pub others : (node : ℕ) → (has_node after node ≢ has_node inodes node) → IsOneOf nodes node
 
-pub settle_more : (past : Past) (raised : Cut) (inodes named : NodeSet) (own : ℕ) (nodes : List ℕ) (i d v : ℕ) (has : Bool) (before after : NodeSet) → i < length nodes → v ≡ get_or nodes i d → AreSettled past raised inodes named own (take i nodes) before
-    → Settles past raised inodes named own v has → ((x : ℕ) → has_node after x ≡ with_member v has (has_node before) x) → AreSettled past raised inodes named own (take (i + 1) nodes) after
+pub settle_more : (past : Past) (raised : Cut) (inodes named : NodeSet) (own : ℕ) (nodes : List ℕ) (i d v : ℕ) (has : Bool) (before after : NodeSet)
+    → i < length nodes → v ≡ get_or nodes i d → AreSettled past raised inodes named own (take i nodes) before
+    → Settles past raised inodes named own v has → ((x : ℕ) → has_node after x ≡ with_member v has (has_node before) x)
+    → AreSettled past raised inodes named own (take (i + 1) nodes) after
 settle_more past raised inodes named own nodes i d v has before after lt is so_far settles step = record {
   settled = λ x in_list. elim (same_or_not x v) [
-    | inl e ↦ subst (λ y. Settles past raised inodes named own y (has_node after y)) e (subst (Settles past raised inodes named own v) (sym (step v ∙ with_in v has (has_node before))) settles)
+    | inl e ↦
+        subst (λ y. Settles past raised inodes named own y (has_node after y)) e
+        (subst (Settles past raised inodes named own v) (sym (step v ∙ with_in v has (has_node before))) settles)
     | inr differ ↦ elim (one_more nodes i d v x lt is in_list) [
       | inl earlier ↦ rw (step x ∙ with_other v x has (has_node before) differ) (so_far.settled x earlier)
       | inr e ↦ absurd (differ (sym e))
@@ -100,34 +108,44 @@ settle_more past raised inodes named own nodes i d v has before after lt is so_f
   ];
 }
 
-pub settle_none : (past : Past) (raised : Cut) (inodes named : NodeSet) (own : ℕ) (nodes : List ℕ) (after : NodeSet) → ((x : ℕ) → has_node after x ≡ has_node inodes x) → AreSettled past raised inodes named own (take 0 nodes) after
+pub settle_none : (past : Past) (raised : Cut) (inodes named : NodeSet) (own : ℕ) (nodes : List ℕ) (after : NodeSet)
+    → ((x : ℕ) → has_node after x ≡ has_node inodes x) → AreSettled past raised inodes named own (take 0 nodes) after
 settle_none past raised inodes named own nodes after same = record { settled = λ x none. absurd none; others = λ x changed. absurd (changed (same x)) }
 
-pub settle_whole : (past : Past) (raised : Cut) (inodes named : NodeSet) (own : ℕ) (nodes : List ℕ) (i : ℕ) (after : NodeSet) → length nodes ≤ i → AreSettled past raised inodes named own (take i nodes) after → AreSettled past raised inodes named own nodes after
+pub settle_whole : (past : Past) (raised : Cut) (inodes named : NodeSet) (own : ℕ) (nodes : List ℕ) (i : ℕ) (after : NodeSet) → length nodes ≤ i
+    → AreSettled past raised inodes named own (take i nodes) after → AreSettled past raised inodes named own nodes after
 settle_whole past raised inodes named own nodes i after le settled = rw (take_all i nodes le) at settled
 
-module _ (first : TreeState) (history : List Entry) (past : Past) (is : IsPast first history past) (raised : Cut) (named : NodeSet) (are_named : AreNamed first history raised named) where
+module _ (first : TreeState) (history : List Entry) (past : Past) (is : IsPast first history past) (raised : Cut) (named : NodeSet)
+    (are_named : AreNamed first history raised named) where
   -- a node that gets an inode is reached
   reached : (flush : Flush) (node : ℕ) → GetsInode past raised named flush.node node → IsReached first history every_entry flush raised node
   reached flush node (inl has) = inl ((are_named node).0 has)
-  reached flush node (inr (own, file, naming)) = inr (own, sym (ap (λ (t : TreeState). is_directory t node) is.tree) ∙ file, naming_is first history past is raised node naming)
+  reached flush node (inr (own, file, naming)) =
+      inr (own, sym (ap (λ (t : TreeState). is_directory t node) is.tree) ∙ file, naming_is first history past is raised node naming)
 
   gets : (flush : Flush) (node : ℕ) → IsReached first history every_entry flush raised node → GetsInode past raised named flush.node node
   gets flush node (inl names) = inl ((are_named node).1 names)
-  gets flush node (inr (own, file, naming)) = inr (own, ap (λ (t : TreeState). is_directory t node) is.tree ∙ file, is_naming first history past is raised node naming)
+  gets flush node (inr (own, file, naming)) =
+      inr (own, ap (λ (t : TreeState). is_directory t node) is.tree ∙ file, is_naming first history past is raised node naming)
 
   -- one that loses it is dead
   within : (change : RowChange) → (cut_of raised change.directory ≤ change.stamp → ⊥) → IsWithin raised change
-  within change not_above = elim (nat_lt change.stamp (cut_of raised change.directory)) as (λ b. nat_lt change.stamp (cut_of raised change.directory) ≡ b → IsWithin raised change) [
-    | true ↦ λ e. ltb-true _ _ e
-    | false ↦ λ e. absurd (not_above (ltb-false _ _ e))
-  ] refl
+  within change not_above =
+      elim (nat_lt change.stamp (cut_of raised change.directory)) as (λ b. nat_lt change.stamp (cut_of raised change.directory) ≡ b → IsWithin raised change) [
+        | true ↦ λ e. ltb-true _ _ e
+        | false ↦ λ e. absurd (not_above (ltb-false _ _ e))
+      ] refl
 
   dead : (node : ℕ) → LosesInode past raised named node → IsDead first history every_entry raised node
   dead node loses = record {
     no_root = loses.no_root;
     unnamed = λ names. not_both ((are_named node).1 names) loses.unnamed;
-    flushed = λ change one counted child. within change (λ above. loses.flushed (is_naming first history past is raised node (record { change = change; is_change = one; counted = counted; child = child; unflushed = above })));
+    flushed =
+        λ change one counted child. within change
+        (λ above. loses.flushed
+        (is_naming first history past is raised node
+        (record { change = change; is_change = one; counted = counted; child = child; unflushed = above })));
   }
 
   out_of : (has : Bool) → (has ≡ true → ⊥) → has ≡ false
@@ -146,8 +164,11 @@ module _ (first : TreeState) (history : List Entry) (past : Past) (is : IsPast f
   }
 
   -- the concerned nodes are settled, and the others have what they had
-  pub are_inodes : (cut : Cut) (inodes concerned after : NodeSet) (flush : Flush) (nodes listed : List ℕ) → AreConcerned first history cut inodes flush concerned → ((node : ℕ) → IsOneOf nodes node ↔ (has_node concerned node ≡ true)) → listed ≡ nodes
-      → ((node : ℕ) → IsOneOf listed node → Settles past raised inodes named flush.node node (has_node after node)) → ((node : ℕ) → (has_node after node ≢ has_node inodes node) → IsOneOf listed node) → AreInodesAfter first history every_entry cut (has_node inodes) flush raised (has_node after)
+  pub are_inodes : (cut : Cut) (inodes concerned after : NodeSet) (flush : Flush) (nodes listed : List ℕ)
+      → AreConcerned first history cut inodes flush concerned → ((node : ℕ) → IsOneOf nodes node ↔ (has_node concerned node ≡ true)) → listed ≡ nodes
+      → ((node : ℕ) → IsOneOf listed node → Settles past raised inodes named flush.node node (has_node after node))
+      → ((node : ℕ) → (has_node after node ≢ has_node inodes node) → IsOneOf listed node)
+      → AreInodesAfter first history every_entry cut (has_node inodes) flush raised (has_node after)
   are_inodes cut inodes concerned after flush nodes listed are list same settled others = record {
     enters = λ node out. (
       λ has. let one = others node (λ e. not_both has (e ∙ out)) in (is_concerned node one, reached flush node (((settled node one).enters out).0 has)),

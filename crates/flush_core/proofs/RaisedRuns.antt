@@ -24,7 +24,8 @@ use Rattle.flush_core.proofs.Begun.{begun_low}
 use Rattle.flush_core.proofs.Durables.{so_far, each_chosen, none_more, one_durable}
 use Rattle.flush_core.proofs.WholeHistory.{raised_whole, none_above}
 
-module _ (first : TreeState) (events : List Event) (states : ℕ → MachineState) (is : IsSoundTree first) (run : IsRun first events states) (alive : AreAlive first events states) (last : ℕ) (within : last ≤ length events) where
+module _ (first : TreeState) (events : List Event) (states : ℕ → MachineState) (is : IsSoundTree first) (run : IsRun first events states)
+    (alive : AreAlive first events states) (last : ℕ) (within : last ≤ length events) where
   abbrev whole : List Entry
   whole = (states last).history
 
@@ -39,18 +40,26 @@ module _ (first : TreeState) (events : List Event) (states : ℕ → MachineStat
   abbrev AreRaisedAt : ℕ → Type 0
   AreRaisedAt so_many = AreFlushed first whole every_entry (durable_till so_many) (states so_many).cut (states so_many).inodes
 
-  pub begin_before : (so_many : ℕ) → so_many ≤ length events → (flight : Flight) → IsOneOf (states so_many).flights flight → (begin : ℕ) × (begin < so_many) × IsBegun events begin flight.commit flight.flush
+  pub begin_before : (so_many : ℕ) → so_many ≤ length events → (flight : Flight) → IsOneOf (states so_many).flights flight
+      → (begin : ℕ) × (begin < so_many) × IsBegun events begin flight.commit flight.flush
   begin_before so_many le flight one = elim (flight_before first events states run 0 so_many (omega arith) le flight one) [
     | inl among ↦ absurd (rw run.begins at among.there)
     | inr later ↦ (later.0, later.2, later.3)
   ]
 
   -- a flight's raise over the state's history is one over the whole
-  raise_on : (so_many : ℕ) (flight : Flight) (raised : Cut) (after : ℕ → Bool) → so_many < last → IsOneOf (states so_many).flights flight → AreRaised first (states so_many).history every_entry (states so_many).cut (states so_many).inodes (flight.flush ∷ []) raised after → AreRaised first whole every_entry (states so_many).cut (states so_many).inodes (flight.flush ∷ []) raised after
+  raise_on : (so_many : ℕ) (flight : Flight) (raised : Cut) (after : ℕ → Bool) → so_many < last → IsOneOf (states so_many).flights flight
+      → AreRaised first (states so_many).history every_entry (states so_many).cut (states so_many).inodes (flight.flush ∷ []) raised after
+      → AreRaised first whole every_entry (states so_many).cut (states so_many).inodes (flight.flush ∷ []) raised after
   raise_on so_many flight raised after lt one are =
       raised_whole first whole (length (states so_many).history) is legal prefix.shorter (rw prefix.first_part are) (record {
         low = λ flush own. elim own [ inl same ↦ rw same at (steady.stamps flight one) | inr nothing ↦ absurd nothing ];
-        live = λ flush own. elim own [ inl same ↦ rw same at (flights_live first events states is run alive last within so_many (omega arith) flight one) | inr nothing ↦ absurd nothing ];
+        live =
+            λ flush own. elim own [
+              | inl same ↦
+                  rw same at (flights_live first events states is run alive last within so_many (omega arith) flight one)
+              | inr nothing ↦ absurd nothing
+            ];
       }) steady.cuts (held_at first events states is run alive last within so_many (omega arith))
     where
       prefix : IsPrefix (states so_many).history whole
@@ -59,15 +68,23 @@ module _ (first : TreeState) (events : List Event) (states : ℕ → MachineStat
       steady : IsSteady first (states so_many)
       steady = steady_at first events states run so_many (omega arith)
 
-  flushed_step : (so_many : ℕ) (e : Event) → so_many < last → slice_get events so_many ≡ Some e → ((states (suc so_many)).crashed ≡ true → ⊥) → CutStep first (states so_many) (states (suc so_many)) e → AreRaisedAt so_many → AreRaisedAt (suc so_many)
+  flushed_step : (so_many : ℕ) (e : Event) → so_many < last → slice_get events so_many ≡ Some e → ((states (suc so_many)).crashed ≡ true → ⊥)
+      → CutStep first (states so_many) (states (suc so_many)) e → AreRaisedAt so_many → AreRaisedAt (suc so_many)
   flushed_step so_many e lt stands goes (stays cuts inodes_are no_durable) was =
-      subst (λ (c : Cut). AreFlushed first whole every_entry (durable_till (suc so_many)) c (states (suc so_many)).inodes) cuts (subst (λ (i : ℕ → Bool). AreFlushed first whole every_entry (durable_till (suc so_many)) (states so_many).cut i) inodes_are
+      subst (λ (c : Cut). AreFlushed first whole every_entry (durable_till (suc so_many)) c (states (suc so_many)).inodes) cuts
+      (subst (λ (i : ℕ → Bool). AreFlushed first whole every_entry (durable_till (suc so_many)) (states so_many).cut i) inodes_are
       (rw (none_more first events states run last every_commit so_many e stands (no_durable (take last events) every_commit)) was))
   flushed_step so_many e lt stands goes (raises durable raiser same there number are others) was =
-      let whole_raise = raised_once first whole every_entry (states so_many).cut (states so_many).inodes raiser.flush (states (suc so_many)).cut (states (suc so_many)).inodes (raise_on so_many raiser (states (suc so_many)).cut (states (suc so_many)).inodes lt there are) in
+      let whole_raise =
+      raised_once first whole every_entry (states so_many).cut (states so_many).inodes raiser.flush (states (suc so_many)).cut (states (suc so_many)).inodes
+      (raise_on so_many raiser (states (suc so_many)).cut (states (suc so_many)).inodes lt there are) in
       let began = begin_before so_many (omega arith) raiser there in
-      subst (λ (l : List Flush). AreFlushed first whole every_entry l (states (suc so_many)).cut (states (suc so_many)).inodes) (sym (one_durable first events states run last every_commit so_many raiser.commit began.0 raiser.flush (stands ∙ ap Some (same ∙ ap event.Durable (sym number))) refl (let less = began.1 in omega arith) began.2))
-      (one_more (durable_till so_many) raiser.flush (states so_many).cut (states (suc so_many)).cut (states so_many).inodes (states (suc so_many)).inodes was whole_raise.0 whole_raise.1)
+      subst (λ (l : List Flush). AreFlushed first whole every_entry l (states (suc so_many)).cut (states (suc so_many)).inodes)
+      (sym
+      (one_durable first events states run last every_commit so_many raiser.commit began.0 raiser.flush
+      (stands ∙ ap Some (same ∙ ap event.Durable (sym number))) refl (let less = began.1 in omega arith) began.2))
+      (one_more (durable_till so_many) raiser.flush (states so_many).cut (states (suc so_many)).cut (states so_many).inodes
+      (states (suc so_many)).inodes was whole_raise.0 whole_raise.1)
   flushed_step so_many e lt stands goes (ends gone ended) was = absurd (goes ended)
 
   -- a state that accepts an event has not crashed
@@ -78,7 +95,9 @@ module _ (first : TreeState) (events : List Event) (states : ℕ → MachineStat
   flushed_at zero le goes = rw run.begins none
   flushed_at (suc so_many) le goes =
       let there = event_there events so_many (omega arith) in
-      flushed_step so_many there.0 (omega arith) there.1 goes (cut_step first (states so_many) there.0 (states (suc so_many)) (steady_at first events states run so_many (omega arith)).start (run.steps so_many there.0 there.1))
+      flushed_step so_many there.0 (omega arith) there.1 goes
+      (cut_step first (states so_many) there.0 (states (suc so_many)) (steady_at first events states run so_many (omega arith)).start
+      (run.steps so_many there.0 there.1))
       (flushed_at so_many (omega arith) (goes_on_at so_many (omega arith)))
 
 pub runs_are_flushed : RunsAreFlushed

@@ -8,7 +8,8 @@ use Rattle.flush_core.specs.Closure.{Counts, Flush, Closure, IsRaised}
 use Rattle.flush_core.proofs.Basics.{below_or}
 use Rattle.sfs_base.proofs.BasicNumbers.{not_less}
 
-module _ (first : TreeState) (history : List Entry) (counts : Counts) (cut : Cut) (inodes : ℕ → Bool) (flush : Flush) (raised : Cut) (raise : IsRaised first history counts cut inodes flush raised) where
+module _ (first : TreeState) (history : List Entry) (counts : Counts) (cut : Cut) (inodes : ℕ → Bool) (flush : Flush) (raised : Cut)
+    (raise : IsRaised first history counts cut inodes flush raised) where
   -- no stamp falls
   pub cuts_rise : (d : ℕ) → cut_of cut d ≤ cut_of raised d
   cuts_rise d = elim (raise.other d) [
@@ -21,11 +22,21 @@ module _ (first : TreeState) (history : List Entry) (counts : Counts) (cut : Cut
   members_rise d own = let e = raise.member d own in let le = le-max_right (cut_of cut d) flush.stamp in omega arith
 
   -- a stamp below the raised cut was below the cut, or lies in a member's span
-  pub was_or_spanned : (t d : ℕ) → t < cut_of raised d → (t < cut_of cut d) ⊎ (Closure first history counts cut inodes flush d × (cut_of cut d ≤ t) × (t < flush.stamp))
+  pub was_or_spanned : (t d : ℕ) → t < cut_of raised d
+      → (t < cut_of cut d) ⊎ (Closure first history counts cut inodes flush d × (cut_of cut d ≤ t) × (t < flush.stamp))
   was_or_spanned t d lt = elim (below_or t (cut_of cut d)) [
     | inl less ↦ inl less
     | inr le ↦ elim (raise.other d) [
-      | inl own ↦ inr (own, le, elim (below_or t flush.stamp) [ inl less ↦ less | inr more ↦ absurd (let most = max-le le more in let e = raise.member d own in not_less (same_below e) most) ])
+      | inl own ↦
+          inr (
+            own,
+            le,
+            elim (below_or t flush.stamp) [
+              | inl less ↦ less
+              | inr more ↦
+                  absurd (let most = max-le le more in let e = raise.member d own in not_less (same_below e) most)
+            ],
+          )
       | inr e ↦ absurd (not_less (same_below e) le)
     ]
   ]

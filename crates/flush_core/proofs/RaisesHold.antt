@@ -15,14 +15,27 @@ use Rattle.flush_core.proofs.Alike.{inodes_alike}
 use Rattle.flush_core.proofs.Recount.{counted_named, recounts}
 use Rattle.flush_core.proofs.NamedKept.{named_after}
 
-module _ (first : TreeState) (history : List Entry) (n : ℕ) (flush : Flush) (cut raised : Cut) (inodes after : ℕ → Bool) (is : IsSoundTree first) (legal : IsLegal first history) (low : (node : ℕ) → cut_of cut node ≤ n) (stamp : flush.stamp ≤ n) (live : HasLiveNode first history flush) (held : IsHeld first history cut inodes) (raise : IsRaised first history (below n) cut inodes flush raised) (sets : AreInodesAfter first history (below n) cut inodes flush raised after) where
+module _ (first : TreeState) (history : List Entry) (n : ℕ) (flush : Flush) (cut raised : Cut) (inodes after : ℕ → Bool) (is : IsSoundTree first)
+    (legal : IsLegal first history) (low : (node : ℕ) → cut_of cut node ≤ n) (stamp : flush.stamp ≤ n) (live : HasLiveNode first history flush)
+    (held : IsHeld first history cut inodes) (raise : IsRaised first history (below n) cut inodes flush raised)
+    (sets : AreInodesAfter first history (below n) cut inodes flush raised after) where
   kept_after : KeepsCut first history raised after
   kept_after =
       let alike = recounts first history n (below n) every_entry flush cut inodes is legal (λ t lt. lt-ltb t n lt) (λ t lt. refl) low stamp live held in
-      fsyncs_keep first history cut raised inodes after flush is legal held.kept ((alike.raises raised).0 raise) (inodes_alike first flush (view_by history (below n) cut inodes) (view_by history every_entry cut inodes) raised after alike raise sets)
+      fsyncs_keep first history cut raised inodes after flush is legal held.kept ((alike.raises raised).0 raise)
+      (inodes_alike first flush (view_by history (below n) cut inodes) (view_by history every_entry cut inodes) raised after alike raise sets)
 
   holds_after : IsHeld first history raised after
-  holds_after = record { kept = kept_after; named = named_after first history (below n) flush cut raised inodes is legal (λ t lt. lt-ltb t n (omega arith)) raise after sets (counted_named first history n (below n) raised (λ t lt. lt-ltb t n lt) (raised_low first history (below n) cut inodes flush raised n raise low stamp)) held.named }
+  holds_after =
+      record {
+        kept = kept_after;
+        named =
+            named_after first history (below n) flush cut raised inodes is legal (λ t lt. lt-ltb t n (omega arith)) raise after sets
+            (counted_named first history n (below n) raised (λ t lt. lt-ltb t n lt)
+            (raised_low first history (below n) cut inodes flush raised n raise low stamp))
+            held.named;
+      }
 
 pub raises_hold : RaisesHold
-raises_hold first history n flush cut raised inodes after is legal low stamp live held raise sets = holds_after first history n flush cut raised inodes after is legal low stamp live held raise sets
+raises_hold first history n flush cut raised inodes after is legal low stamp live held raise sets =
+    holds_after first history n flush cut raised inodes after is legal low stamp live held raise sets

@@ -28,17 +28,26 @@ false_alike true false there back = back refl
 false_alike true true there back = refl
 
 -- a raise is agreed with on each node that it does not concern
-module _ (first : TreeState) (history : List Entry) (n : ℕ) (flush : Flush) (cut raised : Cut) (inodes after : ℕ → Bool) (raise : IsRaised first history (below n) cut inodes flush raised) (sets : AreInodesAfter first history (below n) cut inodes flush raised after) (node : ℕ) (none : IsConcerned first history (below n) cut inodes flush node → ⊥) where
+module _ (first : TreeState) (history : List Entry) (n : ℕ) (flush : Flush) (cut raised : Cut) (inodes after : ℕ → Bool)
+    (raise : IsRaised first history (below n) cut inodes flush raised) (sets : AreInodesAfter first history (below n) cut inodes flush raised after) (node : ℕ)
+    (none : IsConcerned first history (below n) cut inodes flush node → ⊥) where
   same_stamp : cut_of cut node ≡ cut_of raised node
   same_stamp = elim (raise.other node) [ inl own ↦ absurd (none (member node own)) | inr e ↦ sym e ]
 
   same_inode : inodes node ≡ after node
   same_inode = elim (inodes node) as (λ b. inodes node ≡ b → b ≡ after node) [
-    | true ↦ λ has. elim (after node) as (λ b. after node ≡ b → true ≡ b) [ true ↦ λ _. refl | false ↦ λ gone. absurd (none ((sets.leaves node has).0 gone).0) ] refl
-    | false ↦ λ lacks. elim (after node) as (λ b. after node ≡ b → false ≡ b) [ true ↦ λ came. absurd (none ((sets.enters node lacks).0 came).0) | false ↦ λ _. refl ] refl
+    | true ↦
+        λ has. elim (after node) as (λ b. after node ≡ b → true ≡ b) [ true ↦ λ _. refl | false ↦ λ gone. absurd (none ((sets.leaves node has).0 gone).0) ] refl
+    | false ↦
+        λ lacks. elim (after node) as (λ b. after node ≡ b → false ≡ b) [
+          | true ↦ λ came. absurd (none ((sets.enters node lacks).0 came).0)
+          | false ↦
+              λ _. refl
+        ] refl
   ] refl
 
-  same_unflushed : (x : RowChange) → IsChange first history x → x.stamp < n → x.child ≡ node → (cut_of cut x.directory ≤ x.stamp) ↔ (cut_of raised x.directory ≤ x.stamp)
+  same_unflushed : (x : RowChange) → IsChange first history x → x.stamp < n → x.child ≡ node
+      → (cut_of cut x.directory ≤ x.stamp) ↔ (cut_of raised x.directory ≤ x.stamp)
   same_unflushed x one lt child = elim (raise.other x.directory) [
     | inl own ↦ (past_span own, below_raised own)
     | inr e ↦ (λ le. rw e le, λ le. rw e at le)
@@ -57,9 +66,14 @@ module _ (first : TreeState) (history : List Entry) (n : ℕ) (flush : Flush) (c
   raise_apart = record { cuts = same_stamp; inode = same_inode; unflushed = same_unflushed }
 
 -- where cuts agree on what an fsync concerns, it keeps what else they agree on, when it raises both
-module _ (first : TreeState) (history : List Entry) (n : ℕ) (is : IsSoundTree first) (legal : IsLegal first history) (flush : Flush) (cut other : Cut) (inodes other_inodes : ℕ → Bool) (agree : (node : ℕ) → IsConcerned first history (below n) cut inodes flush node → Agree first history n cut other inodes other_inodes node)
-    (raised other_raised : Cut) (after other_after : ℕ → Bool) (raise : IsRaised first history (below n) cut inodes flush raised) (other_raise : IsRaised first history (below n) other other_inodes flush other_raised)
-    (sets : AreInodesAfter first history (below n) cut inodes flush raised after) (other_sets : AreInodesAfter first history (below n) other other_inodes flush other_raised other_after) (node : ℕ) (a : Agree first history n cut other inodes other_inodes node) where
+module _ (first : TreeState) (history : List Entry) (n : ℕ) (is : IsSoundTree first) (legal : IsLegal first history) (flush : Flush) (cut other : Cut)
+    (inodes other_inodes : ℕ → Bool)
+    (agree : (node : ℕ) → IsConcerned first history (below n) cut inodes flush node → Agree first history n cut other inodes other_inodes node)
+    (raised other_raised : Cut) (after other_after : ℕ → Bool) (raise : IsRaised first history (below n) cut inodes flush raised)
+    (other_raise : IsRaised first history (below n) other other_inodes flush other_raised)
+    (sets : AreInodesAfter first history (below n) cut inodes flush raised after)
+    (other_sets : AreInodesAfter first history (below n) other other_inodes flush other_raised other_after) (node : ℕ)
+    (a : Agree first history n cut other inodes other_inodes node) where
   abbrev view : CommitView
   view = view_by history (below n) cut inodes
 
@@ -79,7 +93,8 @@ module _ (first : TreeState) (history : List Entry) (n : ℕ) (is : IsSoundTree 
   both_lack lacks =
       let also = sym a.inode ∙ lacks in
       true_alike (after node) (other_after node)
-      (λ came. let now = (sets.enters node lacks).0 came in let there = enter_both.0 (lacks, now.0, now.1) in (other_sets.enters node also).1 (there.1, there.2))
+      (λ came. let now = (sets.enters node lacks).0 came in let there = enter_both.0 (lacks, now.0, now.1) in
+      (other_sets.enters node also).1 (there.1, there.2))
       (λ came. let now = (other_sets.enters node also).0 came in let back = enter_both.1 (also, now.0, now.1) in (sets.enters node lacks).1 (back.1, back.2))
 
   both_have : inodes node ≡ true → after node ≡ other_after node

@@ -19,7 +19,8 @@ use Rattle.flush_core.specs.Engine.{Spans, IsNaming, RequiresNode, IsRequired}
 use Rattle.flush_core.proofs.Listed.{from_map, to_map}
 
 -- one of those that are kept as above is kept in a list
-kept_above : (kept : Option (Vec ℕ Global)) (node : ℕ) → IsOneOf (option_map_or (λ (above : Vec ℕ Global). above.items) kept []) node → (v : Vec ℕ Global) × (kept ≡ Some v) × IsOneOf v.items node
+kept_above : (kept : Option (Vec ℕ Global)) (node : ℕ) → IsOneOf (option_map_or (λ (above : Vec ℕ Global). above.items) kept []) node
+    → (v : Vec ℕ Global) × (kept ≡ Some v) × IsOneOf v.items node
 kept_above None node one = absurd one
 kept_above (Some v) node one = (v, refl, one)
 
@@ -38,17 +39,20 @@ module _ (first : TreeState) (history : List Entry) (past : Past) (is : IsPast f
   birth_kept birth one = from_map birth_of past.births.items birth (rw is.births one)
 
   -- a span and a naming, of a change and of the one that is kept
-  pub in_span : (cut : Cut) (stamp : ℕ) (own : OwnChange) → IsOneOf past.changes.items own → Spans cut stamp own → InSpan first history every_entry cut stamp (row_change_of own)
+  pub in_span : (cut : Cut) (stamp : ℕ) (own : OwnChange) → IsOneOf past.changes.items own → Spans cut stamp own
+      → InSpan first history every_entry cut stamp (row_change_of own)
   in_span cut stamp own one spans = record { is_change = kept_change own one; counted = refl; from = spans.from; below = spans.below }
 
-  pub spans_of : (cut : Cut) (stamp : ℕ) (own : OwnChange) (change : RowChange) → row_change_of own ≡ change → InSpan first history every_entry cut stamp change → Spans cut stamp own
+  pub spans_of : (cut : Cut) (stamp : ℕ) (own : OwnChange) (change : RowChange) → row_change_of own ≡ change → InSpan first history every_entry cut stamp change
+      → Spans cut stamp own
   spans_of cut stamp own change e span = record {
     from = subst (λ (c : RowChange). cut_of cut c.directory ≤ c.stamp) (sym e) span.from;
     below = subst (λ (c : RowChange). c.stamp < stamp) (sym e) span.below;
   }
 
   pub naming_is : (cut : Cut) (node : ℕ) → IsNaming past.changes.items cut node → HasNaming first history every_entry cut node
-  naming_is cut node (own, one, names) = record { change = row_change_of own; is_change = kept_change own one; counted = refl; child = names.child; unflushed = names.unflushed }
+  naming_is cut node (own, one, names) =
+      record { change = row_change_of own; is_change = kept_change own one; counted = refl; child = names.child; unflushed = names.unflushed }
 
   pub is_naming : (cut : Cut) (node : ℕ) → HasNaming first history every_entry cut node → IsNaming past.changes.items cut node
   is_naming cut node naming =
@@ -71,16 +75,20 @@ module _ (first : TreeState) (history : List Entry) (past : Past) (is : IsPast f
     brought own node one member spans (inr (inr above)) =
         let kept = kept_above own.above node above in
         let keeps = is.above own one in
-        ancestor (row_change_of own) kept.0.items node member (in_span cut flush.stamp own one spans) (record { is_change = kept_change own one; moves = keeps.moves kept.0 kept.1 }) (keeps.stand kept.0 kept.1) kept.2
+        ancestor (row_change_of own) kept.0.items node member (in_span cut flush.stamp own one spans)
+        (record { is_change = kept_change own one; moves = keeps.moves kept.0 kept.1 }) (keeps.stand kept.0 kept.1) kept.2
 
     -- what the members bring in is in the closure where they are
     pub required_is_in : ((node : ℕ) → has_node members node ≡ true → IsIn node) → (node : ℕ) → IsRequired past cut inodes flush.stamp members node → IsIn node
     required_is_in all node (inl (own, one, b)) = brought own node one (all own.directory b.member) b.spans b.requires_it
-    required_is_in all node (inr (born, one, b)) = rw b.place at (birth_place (birth_of born) (all born.node b.member) (kept_birth born one) b.no_inode (naming_is cut born.node b.naming))
+    required_is_in all node (inr (born, one, b)) =
+        rw b.place at (birth_place (birth_of born) (all born.node b.member) (kept_birth born one) b.no_inode (naming_is cut born.node b.naming))
 
     -- members that bring in no others are the closure
-    module _ (own : has_node members flush.node ≡ true) (closed : (node : ℕ) → IsRequired past cut inodes flush.stamp members node → has_node members node ≡ true) where
-      by_change : (change : RowChange) (node : ℕ) → has_node members change.directory ≡ true → InSpan first history every_entry cut flush.stamp change → ((kept : OwnChange) → IsOneOf past.changes.items kept → row_change_of kept ≡ change → RequiresNode kept node) → has_node members node ≡ true
+    module _ (own : has_node members flush.node ≡ true)
+        (closed : (node : ℕ) → IsRequired past cut inodes flush.stamp members node → has_node members node ≡ true) where
+      by_change : (change : RowChange) (node : ℕ) → has_node members change.directory ≡ true → InSpan first history every_entry cut flush.stamp change
+          → ((kept : OwnChange) → IsOneOf past.changes.items kept → row_change_of kept ≡ change → RequiresNode kept node) → has_node members node ≡ true
       by_change change node member span brings =
           let kept = change_kept change span.is_change in
           closed node (inl (
@@ -93,7 +101,8 @@ module _ (first : TreeState) (history : List Entry) (past : Past) (is : IsPast f
             },
           ))
 
-      by_birth : (birth : Birth) → has_node members birth.node ≡ true → IsOneOf (births_of first history) birth → has_node inodes birth.node ≡ false → HasNaming first history every_entry cut birth.node → has_node members birth.directory ≡ true
+      by_birth : (birth : Birth) → has_node members birth.node ≡ true → IsOneOf (births_of first history) birth → has_node inodes birth.node ≡ false
+          → HasNaming first history every_entry cut birth.node → has_node members birth.directory ≡ true
       by_birth birth member one none naming =
           let kept = birth_kept birth one in
           closed birth.directory (inr (
@@ -107,14 +116,22 @@ module _ (first : TreeState) (history : List Entry) (past : Past) (is : IsPast f
             },
           ))
 
-      those_above : (change : RowChange) (above : List ℕ) (node : ℕ) → IsMove first history change → Above (tree_after first (take change.stamp history)) change.directory above → IsOneOf above node → (kept : OwnChange) → IsOneOf past.changes.items kept → row_change_of kept ≡ change → RequiresNode kept node
+      those_above : (change : RowChange) (above : List ℕ) (node : ℕ) → IsMove first history change
+          → Above (tree_after first (take change.stamp history)) change.directory above → IsOneOf above node → (kept : OwnChange)
+          → IsOneOf past.changes.items kept → row_change_of kept ≡ change → RequiresNode kept node
       those_above change above node move stand one kept in_past e =
-          let found = (is.above kept in_past).all (subst (λ (c : RowChange). MovesDirectory (tree_after first (take c.stamp history)) c) (sym e) move.moves) above (subst (λ (c : RowChange). Above (tree_after first (take c.stamp history)) c.directory above) (sym e) stand) in
+          let found =
+          (is.above kept in_past).all (subst (λ (c : RowChange). MovesDirectory (tree_after first (take c.stamp history)) c) (sym e) move.moves) above
+          (subst (λ (c : RowChange). Above (tree_after first (take c.stamp history)) c.directory above) (sym e) stand) in
           inr (inr (rw found.1 (rw found.2 one)))
 
       pub in_members : (node : ℕ) → IsIn node → has_node members node ≡ true
       in_members _ itself = own
-      in_members _ (other_side change other member span e) = by_change change other (in_members change.directory member) span (λ kept _ same. inl (ap (λ (c : RowChange). c.other) same ∙ e))
-      in_members _ (ended change member span ends) = by_change change change.child (in_members change.directory member) span (λ kept _ same. inr (inl (ap (λ (c : RowChange). c.ends) same ∙ ends, ap (λ (c : RowChange). c.child) same)))
-      in_members _ (ancestor change above node member span move stand one) = by_change change node (in_members change.directory member) span (those_above change above node move stand one)
+      in_members _ (other_side change other member span e) =
+          by_change change other (in_members change.directory member) span (λ kept _ same. inl (ap (λ (c : RowChange). c.other) same ∙ e))
+      in_members _ (ended change member span ends) =
+          by_change change change.child (in_members change.directory member) span
+          (λ kept _ same. inr (inl (ap (λ (c : RowChange). c.ends) same ∙ ends, ap (λ (c : RowChange). c.child) same)))
+      in_members _ (ancestor change above node member span move stand one) =
+          by_change change node (in_members change.directory member) span (those_above change above node move stand one)
       in_members _ (birth_place birth member one none naming) = by_birth birth (in_members birth.node member) one none naming

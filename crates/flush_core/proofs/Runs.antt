@@ -40,9 +40,13 @@ pub record IsLast (r : Run) (node t s : ℕ) : Type 0 where
 -- the rules of a cut
 pub record Keeps (r : Run) (cut : ℕ → ℕ) : Type 0 where
   pub renames : (t : ℕ) (x : RowChange) (other : ℕ) → Made r t x → x.other ≡ Some other → t < cut x.directory → t < cut other
-  pub removals : (t : ℕ) (x : RowChange) (u : ℕ) (y : RowChange) → Made r t x → x.ends ≡ true → t < cut x.directory → Made r u y → y.directory ≡ x.child → u < cut y.directory
-  pub births : (b d : ℕ) (n : List ℕ) (kind : Kind) (c u : ℕ) (x : RowChange) → r.effect b ≡ Adds d n c → r.makes b ≡ Some kind → Made r u x → x.directory ≡ c → u < cut c → b < cut d
-  pub ancestors : (t : ℕ) (x : RowChange) (above : List ℕ) (node holder : ℕ) (name : List ℕ) (s : ℕ) → Made r t x → x.places ≡ true → x.other ≢ None → is_directory (r.tree t) x.child ≡ true → t < cut x.directory → Above (r.tree t) x.directory above → IsOneOf (x.directory ∷ above) node → row_of (r.tree t) holder name ≡ Some node → IsLast r node t s → s < cut holder
+  pub removals : (t : ℕ) (x : RowChange) (u : ℕ) (y : RowChange) → Made r t x → x.ends ≡ true → t < cut x.directory → Made r u y → y.directory ≡ x.child
+      → u < cut y.directory
+  pub births : (b d : ℕ) (n : List ℕ) (kind : Kind) (c u : ℕ) (x : RowChange) → r.effect b ≡ Adds d n c → r.makes b ≡ Some kind → Made r u x → x.directory ≡ c
+      → u < cut c → b < cut d
+  pub ancestors : (t : ℕ) (x : RowChange) (above : List ℕ) (node holder : ℕ) (name : List ℕ) (s : ℕ) → Made r t x → x.places ≡ true → x.other ≢ None
+      → is_directory (r.tree t) x.child ≡ true → t < cut x.directory → Above (r.tree t) x.directory above → IsOneOf (x.directory ∷ above) node
+      → row_of (r.tree t) holder name ≡ Some node → IsLast r node t s → s < cut holder
 
 -- whether a change lies below the cut of its directory
 abbrev pub below_cut : (ℕ → ℕ) → RowChange → Bool

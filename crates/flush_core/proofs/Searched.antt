@@ -10,7 +10,8 @@ pub found : {X : Type 0} (Is : X → Type 0) (xs : List X) (i : ℕ) (d x : X) �
 found Is xs i d x lt is such = (x, one_at xs i d x lt is, such)
 
 -- where none of the first is such, nor is the next, none of both is
-pub none_more : {X : Type 0} (Is : X → Type 0) (xs : List X) (i : ℕ) (d v : X) → i < length xs → v ≡ get_or xs i d → (SomeIs (take i xs) Is → ⊥) → (Is v → ⊥) → SomeIs (take (i + 1) xs) Is → ⊥
+pub none_more : {X : Type 0} (Is : X → Type 0) (xs : List X) (i : ℕ) (d v : X) → i < length xs → v ≡ get_or xs i d → (SomeIs (take i xs) Is → ⊥) → (Is v → ⊥)
+    → SomeIs (take (i + 1) xs) Is → ⊥
 none_more Is xs i d v lt is none not (x, one, such) = elim (one_more xs i d v x lt is one) [
   | inl before ↦ none (x, before, such)
   | inr e ↦ not (rw e such)

@@ -42,7 +42,8 @@ module _ (r : Run) (cut : ℕ → ℕ) (s : Seen r cut) where
   ahead zero d n le = ap (λ (rows : FinMap key_cmp ℕ). get rows (d, n)) s.begin
   ahead (suc t) d n le =
       ap (λ (rows : FinMap key_cmp ℕ). get rows (d, n)) (s.more t)
-      ∙ keep (below_cut cut) d n (s.rows t) (r.tree t).rows (changes_at r t) (λ x one same. within x (stamp_of (r.tree t) t (r.effect t) x one) same) (ahead t d n (omega arith))
+      ∙ keep (below_cut cut) d n (s.rows t) (r.tree t).rows (changes_at r t) (λ x one same. within x (stamp_of (r.tree t) t (r.effect t) x one) same)
+      (ahead t d n (omega arith))
       ∙ ap (λ (rows : FinMap key_cmp ℕ). get rows (d, n)) (folds (r.tree t).rows (r.tree t) t (r.effect t))
       ∙ ap (λ (tree : TreeState). row_of tree d n) (sym (r.next t))
     where
@@ -61,13 +62,18 @@ module _ (r : Run) (cut : ℕ → ℕ) (s : Seen r cut) where
   -- the kind that a named node has at the next stamp it has at this one
   kind_before : (t d : ℕ) (n : List ℕ) (x : ℕ) → row_of (r.tree t) d n ≡ Some x → is_directory (r.tree (suc t)) x ≡ true → is_directory (r.tree t) x ≡ true
   kind_before t d n x row kind =
-      sym (ap (λ (tree : TreeState). is_directory tree x) (r.next t) ∙ directory_stays (r.tree t) (r.core t) (r.effect t) (r.makes t) x (r.fits t) ((r.sound t).node d n x row)) ∙ kind
+      sym
+      (ap (λ (tree : TreeState). is_directory tree x) (r.next t)
+      ∙ directory_stays (r.tree t) (r.core t) (r.effect t) (r.makes t) x (r.fits t) ((r.sound t).node d n x row))
+      ∙ kind
 
   -- a directory's row whose last placing lies below its holder's cut is there
-  pub held : (t h : ℕ) (k : List ℕ) (a : ℕ) → is_directory (r.tree t) a ≡ true → row_of (r.tree t) h k ≡ Some a → ((u : ℕ) → IsLast r a t u → u < cut h) → get (s.rows t) (h, k) ≡ Some a
+  pub held : (t h : ℕ) (k : List ℕ) (a : ℕ) → is_directory (r.tree t) a ≡ true → row_of (r.tree t) h k ≡ Some a → ((u : ℕ) → IsLast r a t u → u < cut h)
+      → get (s.rows t) (h, k) ≡ Some a
   held zero h k a kind row last = ahead zero h k (omega arith) ∙ row
   held (suc t) h k a kind row last =
-      elim (came (r.tree t) (r.core t) (r.sound t) (r.effect t) (r.makes t) (r.fits t) h k a (sym (ap (λ (tree : TreeState). is_directory tree a) (r.next t)) ∙ kind) (sym (ap (λ (tree : TreeState). row_of tree h k) (r.next t)) ∙ row)) [
+      elim (came (r.tree t) (r.core t) (r.sound t) (r.effect t) (r.makes t) (r.fits t) h k a
+      (sym (ap (λ (tree : TreeState). is_directory tree a) (r.next t)) ∙ kind) (sym (ap (λ (tree : TreeState). row_of tree h k) (r.next t)) ∙ row)) [
         | inl old ↦ elim (below_or t (cut h)) [
           | inl lt ↦ ahead (suc t) h k (omega arith) ∙ row
           | inr le ↦ behind t h k le ∙ held t h k a (kind_before t h k a old.0 kind) old.0 (λ u is. last u (longer u is old.1))
@@ -102,7 +108,8 @@ module _ (r : Run) (cut : ℕ → ℕ) (s : Seen r cut) where
   IsSettled x = (b d : ℕ) (n : List ℕ) (kind : Kind) → r.effect b ≡ Adds d n x → r.makes b ≡ Some kind → b < cut d
 
   -- a directory whose changes all lie below its cut has all rows of the tree
-  pub all_seen : (y : ℕ) → ((u : ℕ) (x : RowChange) → Made r u x → x.directory ≡ y → u < cut y) → (t : ℕ) (n : List ℕ) → get (s.rows t) (y, n) ≡ row_of (r.tree t) y n
+  pub all_seen : (y : ℕ) → ((u : ℕ) (x : RowChange) → Made r u x → x.directory ≡ y → u < cut y) → (t : ℕ) (n : List ℕ)
+      → get (s.rows t) (y, n) ≡ row_of (r.tree t) y n
   all_seen y all zero n = ahead zero y n (omega arith)
   all_seen y all (suc t) n = elim (below_or t (cut y)) [
     | inl lt ↦ ahead (suc t) y n (omega arith)
@@ -115,7 +122,9 @@ module _ (r : Run) (cut : ℕ → ℕ) (s : Seen r cut) where
     other_end t p n q m c e lt =
         elim (nat_eq p q) as (λ b. nat_eq p q ≡ b → t < cut q) [
           | true ↦ λ same. rw (eqb-true _ _ same) at lt
-          | false ↦ λ apart. keeps.renames t (removed t p n c (other_side p q) false) q (rw e (goes_in (r.tree t) t p n q m c)) (ap (λ b. Rattle.std.proofs.Common.cond b None (Some q)) apart) lt
+          | false ↦
+              λ apart. keeps.renames t (removed t p n c (other_side p q) false) q (rw e (goes_in (r.tree t) t p n q m c))
+              (ap (λ b. Rattle.std.proofs.Common.cond b None (Some q)) apart) lt
         ] refl
 
     -- a move below the cut of its new directory lies below that of the old one
@@ -123,18 +132,25 @@ module _ (r : Run) (cut : ℕ → ℕ) (s : Seen r cut) where
     first_end t p n q m c e lt =
         elim (nat_eq q p) as (λ b. nat_eq q p ≡ b → t < cut p) [
           | true ↦ λ same. rw (eqb-true _ _ same) at lt
-          | false ↦ λ apart. keeps.renames t (added t q m c (other_side q p)) p (rw e (comes_in (r.tree t) t p n q m c)) (ap (λ b. Rattle.std.proofs.Common.cond b None (Some p)) apart) lt
+          | false ↦
+              λ apart. keeps.renames t (added t q m c (other_side q p)) p (rw e (comes_in (r.tree t) t p n q m c))
+              (ap (λ b. Rattle.std.proofs.Common.cond b None (Some p)) apart) lt
         ] refl
 
     -- a directory that was made below the cut of its birth place is named where the tree names it
     pub stays_named : (x : ℕ) → IsSettled x → (t d : ℕ) (n : List ℕ) → is_directory (r.tree t) x ≡ true → row_of (r.tree t) d n ≡ Some x → IsNamed (s.rows t) x
     stays_named x settled zero d n kind row = record { directory = d; name = n; row = ahead zero d n (omega arith) ∙ row }
     stays_named x settled (suc t) d n kind row =
-        elim (named_before (r.tree t) (r.core t) (r.sound t) (r.effect t) (r.makes t) (r.fits t) (r.files t) d n x (sym (ap (λ (tree : TreeState). is_directory tree x) (r.next t)) ∙ kind) now) [
+        elim (named_before (r.tree t) (r.core t) (r.sound t) (r.effect t) (r.makes t) (r.fits t) (r.files t) d n x
+        (sym (ap (λ (tree : TreeState). is_directory tree x) (r.next t)) ∙ kind) now) [
           | inl was ↦ onward was.0 (stays_named x settled t was.1.directory was.1.name was.0 was.1.row)
           | inr born ↦
               let lt = settled t born.directory born.name born.kind born.adds born.made in
-              record { directory = born.directory; name = born.name; row = ahead (suc t) born.directory born.name (omega arith) ∙ row_added r t born.directory born.name x born.adds }
+              record {
+                directory = born.directory;
+                name = born.name;
+                row = ahead (suc t) born.directory born.name (omega arith) ∙ row_added r t born.directory born.name x born.adds;
+              }
         ]
       where
         now : row_of (tree_with (r.tree t) (r.core t) (r.effect t) (r.makes t)) d n ≡ Some x
@@ -144,10 +160,24 @@ module _ (r : Run) (cut : ℕ → ℕ) (s : Seen r cut) where
         onward was named = elim (below_or t (cut named.directory)) [
           | inr le ↦ record { directory = named.directory; name = named.name; row = behind t named.directory named.name le ∙ named.row }
           | inl lt ↦
-              elim (row_stays (r.tree t) (r.core t) (r.sound t) (r.effect t) (r.makes t) (r.fits t) named.directory named.name x was (sym (ahead t named.directory named.name (omega arith)) ∙ named.row) (record { directory = d; name = n; row = now })) [
-                | inl stays ↦ record { directory = named.directory; name = named.name; row = ahead (suc t) named.directory named.name (omega arith) ∙ ap (λ (tree : TreeState). row_of tree named.directory named.name) (r.next t) ∙ stays }
+              elim (row_stays (r.tree t) (r.core t) (r.sound t) (r.effect t) (r.makes t) (r.fits t) named.directory named.name x was
+              (sym (ahead t named.directory named.name (omega arith)) ∙ named.row) (record { directory = d; name = n; row = now })) [
+                | inl stays ↦
+                    record {
+                      directory = named.directory;
+                      name = named.name;
+                      row =
+                          ahead (suc t) named.directory named.name (omega arith)
+                          ∙ ap (λ (tree : TreeState). row_of tree named.directory named.name) (r.next t) ∙ stays;
+                    }
                 | inr moves ↦
                     let less = other_end t named.directory named.name moves.to_directory moves.to_name x moves.moves lt in
-                    record { directory = moves.to_directory; name = moves.to_name; row = ahead (suc t) moves.to_directory moves.to_name (omega arith) ∙ row_moved r t named.directory named.name moves.to_directory moves.to_name x moves.moves }
+                    record {
+                      directory = moves.to_directory;
+                      name = moves.to_name;
+                      row =
+                          ahead (suc t) moves.to_directory moves.to_name (omega arith)
+                          ∙ row_moved r t named.directory named.name moves.to_directory moves.to_name x moves.moves;
+                    }
               ]
         ]

@@ -24,10 +24,12 @@ pub cut_of-by_nodes : (stamps : List ℕ) (x : ℕ) → cut_of (by_nodes stamps)
 cut_of-by_nodes stamps x = ap (λ o. unwrap_or o 0) (get-from_entries nat_cmp_total (stamps_from 0 stamps) x) ∙ find_stamp 0 stamps x x (omega arith)
 
 -- stamps of which one is raised
-pub raised_stamps : (old grown : List ℕ) (node stamp : ℕ) → ((x : ℕ) → get_or grown x 0 ≡ get_or old x 0) → node < length grown → (x : ℕ) → cut_of (by_nodes (set grown node (max (get_or grown node 0) stamp))) x ≡ at_least node stamp (cut_of (by_nodes old)) x
+pub raised_stamps : (old grown : List ℕ) (node stamp : ℕ) → ((x : ℕ) → get_or grown x 0 ≡ get_or old x 0) → node < length grown → (x : ℕ)
+    → cut_of (by_nodes (set grown node (max (get_or grown node 0) stamp))) x ≡ at_least node stamp (cut_of (by_nodes old)) x
 raised_stamps old grown node stamp same lt x =
     cut_of-by_nodes (set grown node (max (get_or grown node 0) stamp)) x
-    ∙ elim (nat_eq x node) as (λ b. nat_eq x node ≡ b → get_or (set grown node (max (get_or grown node 0) stamp)) x 0 ≡ cond b (max (cut_of (by_nodes old) x) stamp) (cut_of (by_nodes old) x)) [
+    ∙ elim (nat_eq x node) as (λ b. nat_eq x node ≡ b
+    → get_or (set grown node (max (get_or grown node 0) stamp)) x 0 ≡ cond b (max (cut_of (by_nodes old) x) stamp) (cut_of (by_nodes old) x)) [
       | true ↦ λ e.
           ap (λ k. get_or (set grown node (max (get_or grown node 0) stamp)) k 0) (eqb-true _ _ e)
           ∙ get_or-set_same grown node (max (get_or grown node 0) stamp) 0 lt

@@ -44,7 +44,8 @@ module _ (first : TreeState) (entries : List Entry) (past : Past) (ready : IsRea
   past_core core less = rw (ap (λ (t : TreeState). length t.made) ready.is_past.tree ∙ cores_stay first entries) less
 
   -- with an entry that may come it is that of one call more
-  pub joined_ready : (entry : Entry) → MayCome (tree_after first entries) (length entries) entry → (new : Past) → Grows past entry new → IsReadyPast first (entries ++ entry ∷ []) new
+  pub joined_ready : (entry : Entry) → MayCome (tree_after first entries) (length entries) entry → (new : Past) → Grows past entry new
+      → IsReadyPast first (entries ++ entry ∷ []) new
   joined_ready entry may new grows = record {
     is_past = grown_past first entries entry ready.sound whole may.stamped may.core past new ready.is_past grows;
     sound = ready.sound;
@@ -55,7 +56,8 @@ module _ (first : TreeState) (entries : List Entry) (past : Past) (ready : IsRea
       whole = IsLegal-push first entries entry ready.legal may
 
 -- the past of the first of the calls goes on by the next
-module _ (first : TreeState) (entries : List Entry) (i : ℕ) (entry d : Entry) (legal : IsLegal first entries) (less : i < length entries) (is : entry ≡ get_or entries i d) where
+module _ (first : TreeState) (entries : List Entry) (i : ℕ) (entry d : Entry) (legal : IsLegal first entries) (less : i < length entries)
+    (is : entry ≡ get_or entries i d) where
   next_may : MayCome (tree_after first (take i entries)) i entry
   next_may = comes_at first entries i entry d legal less is
 
@@ -107,13 +109,15 @@ may_come tree stamp core c within = record {
     known false e = (λ some. some, λ is. is)
 
 -- so may the next call of a story
-pub called : (story : StoryState) (past : Past) → IsReadyPast story.first story.history past → (core : CoreId) (c : Call) → core.0 < length story.first.made → (entry : Entry) → entry ≡ answered_entry past.tree (length story.history) core c → MayCome (end_of story) (length story.history) entry
+pub called : (story : StoryState) (past : Past) → IsReadyPast story.first story.history past → (core : CoreId) (c : Call) → core.0 < length story.first.made
+    → (entry : Entry) → entry ≡ answered_entry past.tree (length story.history) core c → MayCome (end_of story) (length story.history) entry
 called story past ready core c within entry is =
     subst (MayCome (end_of story) (length story.history)) (sym (is ∙ ap (λ (t : TreeState). answered_entry t (length story.history) core c) ready.is_past.tree))
     (may_come (end_of story) (length story.history) core c (rw (cores_stay story.first story.history) within))
 
 -- an entry that may come joins what a story keeps
-pub still_standing : (first : TreeState) (entries : List Entry) (kept : Option Past) (entry : Entry) (new : Past) → IsStanding first entries kept → IsReadable entry.call → IsReadyPast first (entries ++ entry ∷ []) new → IsStanding first (entries ++ entry ∷ []) (Some new)
+pub still_standing : (first : TreeState) (entries : List Entry) (kept : Option Past) (entry : Entry) (new : Past) → IsStanding first entries kept
+    → IsReadable entry.call → IsReadyPast first (entries ++ entry ∷ []) new → IsStanding first (entries ++ entry ∷ []) (Some new)
 still_standing first entries kept entry new stands own ready = record {
   sound = stands.sound;
   legal = ready.legal;
@@ -128,7 +132,8 @@ still_standing first entries kept entry new stands own ready = record {
     same_some e = cc
 
 -- the rows of a directory by the changes that are kept are those of the tree at a cut
-pub kept_rows_cut : (first : TreeState) (history : List Entry) (past : Past) (changes : List OwnChange) (cut : Cut) (directory : ℕ) → IsPast first history past → changes ≡ past.changes.items → kept_rows first changes directory (cut_of cut directory) ≡ names_of directory (tree_at_cut first history cut).rows
+pub kept_rows_cut : (first : TreeState) (history : List Entry) (past : Past) (changes : List OwnChange) (cut : Cut) (directory : ℕ) → IsPast first history past
+    → changes ≡ past.changes.items → kept_rows first changes directory (cut_of cut directory) ≡ names_of directory (tree_at_cut first history cut).rows
 kept_rows_cut first history past changes cut directory is same =
     ap (λ (l : List OwnChange). kept_rows first l directory (cut_of cut directory)) same
     ∙ ap (λ (l : List RowChange). fold with_change (names_of directory first.rows) (filter (is_own_below directory (cut_of cut directory)) l)) is.changes

@@ -6,7 +6,9 @@ use Rattle.flush_core.specs.Broken.{IsNext}
 use Rattle.flush_core.specs.Rules.{IsOneOf}
 
 -- the next directory has a row that names the node
-pub row_on_way : (tree : TreeState) (start : ℕ) (above : List ℕ) → Above tree start above → (place node holder : ℕ) → place < length above → node ≡ slice_index (start ∷ above) place → holder ≡ slice_index above place → IsOneOf (start ∷ above) node × ((name : List ℕ) × (row_of tree holder name ≡ Some node))
+pub row_on_way : (tree : TreeState) (start : ℕ) (above : List ℕ) → Above tree start above → (place node holder : ℕ) → place < length above
+    → node ≡ slice_index (start ∷ above) place → holder ≡ slice_index above place
+    → IsOneOf (start ∷ above) node × ((name : List ℕ) × (row_of tree holder name ≡ Some node))
 row_on_way tree _ _ at_root place node holder lt node_is holder_is = absurd (omega arith)
 row_on_way tree _ _ (below start h name above row rest) zero node holder lt node_is holder_is =
     (inl (sym node_is), (name, ap (λ (d : ℕ). row_of tree d name) holder_is ∙ row ∙ ap (λ (n : ℕ). Some n) (sym node_is)))
@@ -14,7 +16,8 @@ row_on_way tree _ _ (below start h name above row rest) (suc place) node holder 
     let up = row_on_way tree h above rest place node holder (omega arith) node_is holder_is in (inr up.0, up.1)
 
 -- a row that names a node of the way stands in the next directory
-pub next_on_way : (tree : TreeState) → IsSound tree → (start : ℕ) (above : List ℕ) → Above tree start above → is_directory tree start ≡ true → (node holder : ℕ) (name : List ℕ) → IsOneOf (start ∷ above) node → row_of tree holder name ≡ Some node → IsNext start above node holder
+pub next_on_way : (tree : TreeState) → IsSound tree → (start : ℕ) (above : List ℕ) → Above tree start above → is_directory tree start ≡ true
+    → (node holder : ℕ) (name : List ℕ) → IsOneOf (start ∷ above) node → row_of tree holder name ≡ Some node → IsNext start above node holder
 next_on_way tree s _ _ at_root kind node holder name one row = elim one [
   | inl e ↦ absurd (s.unnamed holder name (row ∙ ap (λ (n : ℕ). Some n) (sym e)))
   | inr none ↦ absurd none
@@ -29,6 +32,8 @@ next_on_way tree s _ _ (below start h up_name above up rest) kind node holder na
 ]
 
 -- where no place of the way has what is looked for, no directory and the next have it
-pub none_on_way : (Is : ℕ → ℕ → Type 0) (start : ℕ) (above : List ℕ) (i : ℕ) → length above ≤ i → ((place : ℕ) → place < i → Is (slice_index (start ∷ above) place) (slice_index above place) → ⊥) → (node holder : ℕ) → IsNext start above node holder → Is node holder → ⊥
+pub none_on_way : (Is : ℕ → ℕ → Type 0) (start : ℕ) (above : List ℕ) (i : ℕ) → length above ≤ i
+    → ((place : ℕ) → place < i → Is (slice_index (start ∷ above) place) (slice_index above place) → ⊥) → (node holder : ℕ) → IsNext start above node holder
+    → Is node holder → ⊥
 none_on_way Is start above i le none node holder next is =
     none next.place (let lt = next.within in omega arith) (rw next.node_is at (rw next.holder_is at is))

@@ -41,7 +41,9 @@ module _ (first : TreeState) (history : List Entry) (n : ℕ) (is : IsSoundTree 
   }
 
   -- fsyncs do the same over the whole history, from a cut that is held there
-  pub raised_whole : {cut : Cut} {inodes : ℕ → Bool} {flushes : List Flush} {raised : Cut} {after : ℕ → Bool} → AreRaised first (take n history) every_entry cut inodes flushes raised after → AreAmongFirst first history n flushes → ((node : ℕ) → cut_of cut node ≤ n)
+  pub raised_whole : {cut : Cut} {inodes : ℕ → Bool} {flushes : List Flush} {raised : Cut} {after : ℕ → Bool}
+      → AreRaised first (take n history) every_entry cut inodes flushes raised after → AreAmongFirst first history n flushes
+      → ((node : ℕ) → cut_of cut node ≤ n)
       → IsHeld first history cut inodes
       → AreRaised first history every_entry cut inodes flushes raised after
   raised_whole none are low held = none
@@ -50,15 +52,21 @@ module _ (first : TreeState) (history : List Entry) (n : ℕ) (is : IsSoundTree 
       let old = earlier flushes flush are in
       let low_before = cuts_stay_low first (take n history) every_entry n was low old.low in
       let held_before = flushes_hold first history n is legal within was low old.low old.live held in
-      let alike = alike_on first flush (view_by (take n history) every_entry before inodes_before) (view_by history (below n) before inodes_before) (view_by history every_entry before inodes_before)
+      let alike =
+      alike_on first flush (view_by (take n history) every_entry before inodes_before) (view_by history (below n) before inodes_before)
+      (view_by history every_entry before inodes_before)
       (prefixes_count first history n flush before inodes_before is legal within (are.low flush own) (are.live flush own))
-      (recounts first history n (below n) every_entry flush before inodes_before is legal (λ t lt. lt-ltb t n lt) (λ t lt. refl) low_before (are.low flush own) (are.live flush own) held_before) in
-      one_more flushes flush before raised inodes_before after (raised_whole was old low held) ((alike.raises raised).0 raise) (inodes_alike first flush _ _ raised after alike raise sets)
+      (recounts first history n (below n) every_entry flush before inodes_before is legal (λ t lt. lt-ltb t n lt) (λ t lt. refl) low_before (are.low flush own)
+      (are.live flush own) held_before) in
+      one_more flushes flush before raised inodes_before after (raised_whole was old low held) ((alike.raises raised).0 raise)
+      (inodes_alike first flush _ _ raised after alike raise sets)
 
 pub flushes_grow : FlushesGrow
-flushes_grow first history count flushes cut inodes is legal within are flushed = raised_whole first history count is legal within flushed are (none_above count) (first_held first history is legal)
+flushes_grow first history count flushes cut inodes is legal within are flushed =
+    raised_whole first history count is legal within flushed are (none_above count) (first_held first history is legal)
 
-module _ (first : TreeState) (history : List Entry) (n : ℕ) (cut : Cut) (is : IsSoundTree first) (legal : IsLegal first history) (low : (node : ℕ) → cut_of cut node ≤ n) where
+module _ (first : TreeState) (history : List Entry) (n : ℕ) (cut : Cut) (is : IsSoundTree first) (legal : IsLegal first history)
+    (low : (node : ℕ) → cut_of cut node ≤ n) where
   abbrev short : List Entry
   short = take n history
 
@@ -72,8 +80,11 @@ module _ (first : TreeState) (history : List Entry) (n : ℕ) (cut : Cut) (is : 
   with_bytes bytes node = record node { bytes = bytes }
 
   -- nodes of one kind that get the same bytes are one node
-  one_node : (a b : Option Node) (bytes : List ℕ) → IsSome a → IsSome b → option_map_or (λ (n : Node). is_directory_kind n.kind) b false ≡ option_map_or (λ (n : Node). is_directory_kind n.kind) a false → option_map (with_bytes bytes) b ≡ option_map (with_bytes bytes) a
-  one_node (Some a) (Some b) bytes some also same = ap (λ (k : Kind). Some (record { kind = k; bytes = bytes })) (sym (kind_again b.kind) ∙ ap kind_if same ∙ kind_again a.kind)
+  one_node : (a b : Option Node) (bytes : List ℕ) → IsSome a → IsSome b
+      → option_map_or (λ (n : Node). is_directory_kind n.kind) b false ≡ option_map_or (λ (n : Node). is_directory_kind n.kind) a false
+      → option_map (with_bytes bytes) b ≡ option_map (with_bytes bytes) a
+  one_node (Some a) (Some b) bytes some also same =
+      ap (λ (k : Kind). Some (record { kind = k; bytes = bytes })) (sym (kind_again b.kind) ∙ ap kind_if same ∙ kind_again a.kind)
   one_node None b bytes some also same = cc
   one_node (Some a) None bytes some also same = cc
 
@@ -90,7 +101,9 @@ module _ (first : TreeState) (history : List Entry) (n : ℕ) (cut : Cut) (is : 
   more_nodes : HasMoreNodes (tree_at_cut first short cut) (tree_at_cut first history cut)
   more_nodes = record {
     rows = sym (rows_at_cut-take first history n cut legal low);
-    nodes = λ x some. same_node x (was_there (get (tree_after first short).nodes x) (bytes_at first short x (cut_of cut x)) (rw (node_at_cut_is first short cut x) at some));
+    nodes =
+        λ x some. same_node x
+        (was_there (get (tree_after first short).nodes x) (bytes_at first short x (cut_of cut x)) (rw (node_at_cut_is first short cut x) at some));
   }
     where
       was_there : (o : Option Node) (bytes : List ℕ) → IsSome (option_map (with_bytes bytes) o) → IsSome o

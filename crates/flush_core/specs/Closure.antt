@@ -50,14 +50,18 @@ pub record HasNaming (first : TreeState) (history : List Entry) (counts : Counts
 pub data Closure (first : TreeState) (history : List Entry) (counts : Counts) (cut : Cut) (inodes : ℕ → Bool) (flush : Flush) : ℕ → Type 0 where
   itself : Closure first history counts cut inodes flush flush.node
   -- for a change in its span by a rename between two directories, the other one
-  other_side : (change : RowChange) (other : ℕ) → Closure first history counts cut inodes flush change.directory → InSpan first history counts cut flush.stamp change → change.other ≡ Some other → Closure first history counts cut inodes flush other
+  other_side : (change : RowChange) (other : ℕ) → Closure first history counts cut inodes flush change.directory
+      → InSpan first history counts cut flush.stamp change → change.other ≡ Some other → Closure first history counts cut inodes flush other
   -- a directory that a change in its span ends
-  ended : (change : RowChange) → Closure first history counts cut inodes flush change.directory → InSpan first history counts cut flush.stamp change → change.ends ≡ true → Closure first history counts cut inodes flush change.child
+  ended : (change : RowChange) → Closure first history counts cut inodes flush change.directory → InSpan first history counts cut flush.stamp change
+      → change.ends ≡ true → Closure first history counts cut inodes flush change.child
   -- for a change in its span that places a directory by a rename between two, each of its ancestors at that stamp
-  ancestor : (change : RowChange) (above : List ℕ) (node : ℕ) → Closure first history counts cut inodes flush change.directory → InSpan first history counts cut flush.stamp change → IsMove first history change
+  ancestor : (change : RowChange) (above : List ℕ) (node : ℕ) → Closure first history counts cut inodes flush change.directory
+      → InSpan first history counts cut flush.stamp change → IsMove first history change
       → Above (tree_after first (take change.stamp history)) change.directory above → IsOneOf above node → Closure first history counts cut inodes flush node
   -- where it was made in the history, has no inode, and has a naming that is not flushed, the directory in which it was made
-  birth_place : (birth : Birth) → Closure first history counts cut inodes flush birth.node → IsOneOf (births_of first history) birth → inodes birth.node ≡ false → HasNaming first history counts cut birth.node → Closure first history counts cut inodes flush birth.directory
+  birth_place : (birth : Birth) → Closure first history counts cut inodes flush birth.node → IsOneOf (births_of first history) birth → inodes birth.node ≡ false
+      → HasNaming first history counts cut birth.node → Closure first history counts cut inodes flush birth.directory
 
 -- A row names a node.
 pub record IsNamedIn (rows : FinMap key_cmp ℕ) (node : ℕ) : Type 0 where
@@ -68,7 +72,8 @@ pub record IsNamedIn (rows : FinMap key_cmp ℕ) (node : ℕ) : Type 0 where
 -- A node that an fsync concerns: a member, or the child of a change in a member's span.
 pub data IsConcerned (first : TreeState) (history : List Entry) (counts : Counts) (cut : Cut) (inodes : ℕ → Bool) (flush : Flush) : ℕ → Type 0 where
   member : (node : ℕ) → Closure first history counts cut inodes flush node → IsConcerned first history counts cut inodes flush node
-  named : (change : RowChange) → Closure first history counts cut inodes flush change.directory → InSpan first history counts cut flush.stamp change → IsConcerned first history counts cut inodes flush change.child
+  named : (change : RowChange) → Closure first history counts cut inodes flush change.directory → InSpan first history counts cut flush.stamp change
+      → IsConcerned first history counts cut inodes flush change.child
 
 -- A cut raised by an fsync: each member's is its stamp at least, and no other moves.
 pub record IsRaised (first : TreeState) (history : List Entry) (counts : Counts) (cut : Cut) (inodes : ℕ → Bool) (flush : Flush) (raised : Cut) : Type 0 where
@@ -90,13 +95,18 @@ pub record IsDead (first : TreeState) (history : List Entry) (counts : Counts) (
   pub flushed : (change : RowChange) → IsChange first history change → counts change.stamp ≡ true → change.child ≡ node → IsWithin raised change
 
 -- The nodes that have an inode after an fsync: those that enter come, and those that leave go.
-pub record AreInodesAfter (first : TreeState) (history : List Entry) (counts : Counts) (cut : Cut) (inodes : ℕ → Bool) (flush : Flush) (raised : Cut) (after : ℕ → Bool) : Type 0 where
-  pub enters : (node : ℕ) → inodes node ≡ false → (after node ≡ true) ↔ (IsConcerned first history counts cut inodes flush node × IsReached first history counts flush raised node)
-  pub leaves : (node : ℕ) → inodes node ≡ true → (after node ≡ false) ↔ (IsConcerned first history counts cut inodes flush node × IsDead first history counts raised node)
+pub record AreInodesAfter (first : TreeState) (history : List Entry) (counts : Counts) (cut : Cut) (inodes : ℕ → Bool) (flush : Flush) (raised : Cut)
+    (after : ℕ → Bool) : Type 0 where
+  pub enters : (node : ℕ) → inodes node ≡ false
+      → (after node ≡ true) ↔ (IsConcerned first history counts cut inodes flush node × IsReached first history counts flush raised node)
+  pub leaves : (node : ℕ) → inodes node ≡ true
+      → (after node ≡ false) ↔ (IsConcerned first history counts cut inodes flush node × IsDead first history counts raised node)
 
 -- Each directory with an inode has its making below the cut of the directory in which it was made.
 abbrev pub AreBorn : TreeState → List Entry → Cut → (ℕ → Bool) → Type 0
-AreBorn first history cut inodes = (birth : Birth) → IsOneOf (births_of first history) birth → inodes birth.node ≡ true → is_directory (tree_after first history) birth.node ≡ true → birth.stamp < cut_of cut birth.directory
+AreBorn first history cut inodes =
+    (birth : Birth) → IsOneOf (births_of first history) birth → inodes birth.node ≡ true → is_directory (tree_after first history) birth.node ≡ true
+    → birth.stamp < cut_of cut birth.directory
 
 -- A cut and the nodes with an inode, as the fsyncs of a history leave them.
 pub record KeepsCut (first : TreeState) (history : List Entry) (cut : Cut) (inodes : ℕ → Bool) : Type 0 where
@@ -106,8 +116,10 @@ pub record KeepsCut (first : TreeState) (history : List Entry) (cut : Cut) (inod
 -- The cut and the nodes with an inode after a list of fsyncs, one after the other.
 pub data AreRaised (first : TreeState) (history : List Entry) (counts : Counts) (cut : Cut) (inodes : ℕ → Bool) : List Flush → Cut → (ℕ → Bool) → Type 0 where
   none : AreRaised first history counts cut inodes [] cut inodes
-  one_more : (flushes : List Flush) (flush : Flush) (before raised : Cut) (inodes_before after : ℕ → Bool) → AreRaised first history counts cut inodes flushes before inodes_before → IsRaised first history counts before inodes_before flush raised
-      → AreInodesAfter first history counts before inodes_before flush raised after → AreRaised first history counts cut inodes (flushes ++ flush ∷ []) raised after
+  one_more : (flushes : List Flush) (flush : Flush) (before raised : Cut) (inodes_before after : ℕ → Bool)
+      → AreRaised first history counts cut inodes flushes before inodes_before → IsRaised first history counts before inodes_before flush raised
+      → AreInodesAfter first history counts before inodes_before flush raised after
+      → AreRaised first history counts cut inodes (flushes ++ flush ∷ []) raised after
 
 -- The same from the cut 0 and the nodes of the first tree.
 abbrev pub AreFlushed : TreeState → List Entry → Counts → List Flush → Cut → (ℕ → Bool) → Type 0

@@ -26,7 +26,8 @@ pub record IsCovered (first : TreeState) (history : List Entry) (cut : Cut) (flu
 
 -- Each node with an inode that was made in the history is placed by a change below its directory's cut.
 abbrev pub ArePlaced : TreeState → List Entry → Cut → (ℕ → Bool) → Type 0
-ArePlaced first history cut inodes = (birth : Birth) → IsOneOf (births_of first history) birth → inodes birth.node ≡ true → IsPlacedByCut first history cut birth.node
+ArePlaced first history cut inodes =
+    (birth : Birth) → IsOneOf (births_of first history) birth → inodes birth.node ≡ true → IsPlacedByCut first history cut birth.node
 
 -- What an fsync leaves: it is covered, so is what was covered before, and each node with an inode is placed.
 pub record CoversMore (first : TreeState) (history : List Entry) (cut raised : Cut) (after : ℕ → Bool) (flush : Flush) : Type 0 where

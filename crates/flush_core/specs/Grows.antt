@@ -18,7 +18,9 @@ pub record Grows (old : Past) (entry : Entry) (new : Past) : Type 0 where
   pub changes : new.changes.items ≡ old.changes.items ++ more
   pub own : map row_change_of more ≡ changes_by old.tree entry.stamp.0 (verdict old.tree entry.core.0 entry.call).effect
   pub noted : KeepAllAbove old.tree more
-  pub births : map birth_of new.births.items ≡ map birth_of old.births.items ++ births_by entry.stamp.0 (verdict old.tree entry.core.0 entry.call).effect (verdict old.tree entry.core.0 entry.call).makes
+  pub births : map birth_of new.births.items
+      ≡ map birth_of old.births.items
+      ++ births_by entry.stamp.0 (verdict old.tree entry.core.0 entry.call).effect (verdict old.tree entry.core.0 entry.call).makes
 
 -- A past with the making of a node more.
 pub record HasBirth (old new : Past) (stamp directory : ℕ) (name : List ℕ) (node : ℕ) : Type 0 where

@@ -91,7 +91,9 @@ RunsKeep = (first : TreeState) (events : List Event) (states : ℕ → MachineSt
 
 -- Whichever of the other flights have raised the cut, in whatever order, a flight makes the commit that it would have made as it began.
 abbrev pub FlightsStay : Type 0
-FlightsStay = (first : TreeState) (events : List Event) (states : ℕ → MachineState) (place later commit : ℕ) (flush : Flush) (others : List Flight) (cut : Cut) (inodes : ℕ → Bool)
+FlightsStay =
+    (first : TreeState) (events : List Event) (states : ℕ → MachineState) (place later commit : ℕ) (flush : Flush) (others : List Flight) (cut : Cut)
+    (inodes : ℕ → Bool)
     → IsSoundTree first → IsRun first events states → AreAlive first events states
     → Flies events states place later commit flush
     → AreApart others
@@ -102,7 +104,9 @@ FlightsStay = (first : TreeState) (events : List Event) (states : ℕ → Machin
 -- A commit is the one that it would have been, had only those commits come before it to which it is tied, and counted only some of
 -- the whole history's entries.
 abbrev pub CommitsAreTied : Type 0
-CommitsAreTied = (first : TreeState) (events : List Event) (states : ℕ → MachineState) (place commit : ℕ) (flush : Flush) (tied : ℕ → Bool) (counts : Counts) (cut : Cut) (inodes : ℕ → Bool)
+CommitsAreTied =
+    (first : TreeState) (events : List Event) (states : ℕ → MachineState) (place commit : ℕ) (flush : Flush) (tied : ℕ → Bool) (counts : Counts) (cut : Cut)
+    (inodes : ℕ → Bool)
     → IsSoundTree first → IsRun first events states → AreAlive first events states
     → IsBegun events place commit flush
     → AreTied first events states commit tied

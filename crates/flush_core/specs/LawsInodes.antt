@@ -30,7 +30,8 @@ pub record StaysAsItWas (first : TreeState) (history : List Entry) (cut raised :
   pub stamp : cut_of raised node ≡ cut_of cut node
   pub inode : after node ≡ inodes node
   pub flushed : (change : RowChange) → IsChange first history change → change.child ≡ node → IsWithin raised change ↔ IsWithin cut change
-  pub rows : (directory : ℕ) (name : List ℕ) → (get (rows_at_cut first history raised) (directory, name) ≡ Some node) ↔ (get (rows_at_cut first history cut) (directory, name) ≡ Some node)
+  pub rows : (directory : ℕ) (name : List ℕ)
+      → (get (rows_at_cut first history raised) (directory, name) ≡ Some node) ↔ (get (rows_at_cut first history cut) (directory, name) ≡ Some node)
 
 -- So is each node that the fsync does not concern.
 abbrev pub OthersStay : Type 0
@@ -65,7 +66,8 @@ AreAllAlive tree = (node : ℕ) → IsSome (get tree.nodes node) → is_alive tr
 
 -- Where each node of the first tree is alive, the root is the only node with an inode, after a list of fsyncs, that nothing ever names.
 abbrev pub InodesAreNamed : Type 0
-InodesAreNamed = (first : TreeState) (history : List Entry) (flushes : List Flush) (cut : Cut) (inodes : ℕ → Bool) (node : ℕ) → IsSoundTree first → IsLegal first history
+InodesAreNamed =
+    (first : TreeState) (history : List Entry) (flushes : List Flush) (cut : Cut) (inodes : ℕ → Bool) (node : ℕ) → IsSoundTree first → IsLegal first history
     → AreAllAlive first
     → AreFlushed first history every_entry flushes cut inodes → inodes node ≡ true
     → IsNeverNamed first history node → node ≡ 0

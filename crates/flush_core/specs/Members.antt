@@ -9,8 +9,10 @@ use Rattle.flush_core.specs.Closure.{every_entry, Flush, Closure, IsConcerned}
 
 -- A set is the closure of an fsync.
 abbrev pub AreMembers : TreeState → List Entry → Cut → NodeSet → Flush → NodeSet → Type 0
-AreMembers first history cut inodes flush members = (node : ℕ) → (has_node members node ≡ true) ↔ Closure first history every_entry cut (has_node inodes) flush node
+AreMembers first history cut inodes flush members =
+    (node : ℕ) → (has_node members node ≡ true) ↔ Closure first history every_entry cut (has_node inodes) flush node
 
 -- A set is the nodes that an fsync concerns.
 abbrev pub AreConcerned : TreeState → List Entry → Cut → NodeSet → Flush → NodeSet → Type 0
-AreConcerned first history cut inodes flush concerned = (node : ℕ) → (has_node concerned node ≡ true) ↔ IsConcerned first history every_entry cut (has_node inodes) flush node
+AreConcerned first history cut inodes flush concerned =
+    (node : ℕ) → (has_node concerned node ≡ true) ↔ IsConcerned first history every_entry cut (has_node inodes) flush node

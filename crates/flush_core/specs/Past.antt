@@ -31,7 +31,8 @@ birth_of born = record { stamp = born.stamp; directory = born.directory; node = 
 pub record KeepsAbove (tree : TreeState) (change : OwnChange) : Type 0 where
   pub moves : (v : _) → change.above ≡ Some v → MovesDirectory tree (row_change_of change)
   pub stand : (v : _) → change.above ≡ Some v → Above tree change.directory v.items
-  pub all : MovesDirectory tree (row_change_of change) → (above : List ℕ) → Above tree change.directory above → (v : _) × (change.above ≡ Some v) × (v.items ≡ above)
+  pub all : MovesDirectory tree (row_change_of change) → (above : List ℕ) → Above tree change.directory above
+      → (v : _) × (change.above ≡ Some v) × (v.items ≡ above)
 
 -- The past of a history: its tree, its changes and its births; of each change the directories above are kept as they stood at its stamp.
 pub record IsPast (first : TreeState) (history : List Entry) (past : Past) : Type 0 where

@@ -32,7 +32,8 @@ plan_of tree _ = Stays
 
 -- Of each of some changes whose directory is a live one the directories above are kept.
 abbrev pub KeepAllAbove : TreeState → List OwnChange → Type 0
-KeepAllAbove tree changes = (change : OwnChange) → IsOneOf changes change → is_directory tree change.directory ≡ true → is_alive tree change.directory ≡ true → KeepsAbove tree change
+KeepAllAbove tree changes =
+    (change : OwnChange) → IsOneOf changes change → is_directory tree change.directory ≡ true → is_alive tree change.directory ≡ true → KeepsAbove tree change
 
 -- The directories above the new directory of a child are there exactly where the child is a directory that moves between two.
 pub record IsAboveNew (tree : TreeState) (directory to_directory child : ℕ) (above : Option (Vec ℕ Global)) : Type 0 where

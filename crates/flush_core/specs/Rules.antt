@@ -40,16 +40,21 @@ births_of first (entry ∷ history) =
 -- A rename between two directories changes both, and lies below the cuts of both or of neither: where it lies below that of one, it
 -- lies below that of the other.
 abbrev pub RenamesWhole : TreeState → List Entry → Cut → Type 0
-RenamesWhole first history cut = (change : RowChange) (other : ℕ) → IsChange first history change → change.other ≡ Some other → IsWithin cut change → change.stamp < cut_of cut other
+RenamesWhole first history cut =
+    (change : RowChange) (other : ℕ) → IsChange first history change → change.other ≡ Some other → IsWithin cut change → change.stamp < cut_of cut other
 
 -- Where a change that ends a directory lies below its own directory's cut, all own changes of the ended one lie below its cut.
 abbrev pub RemovalsWhole : TreeState → List Entry → Cut → Type 0
-RemovalsWhole first history cut = (change own : RowChange) → IsChange first history change → change.ends ≡ true → IsWithin cut change → IsChange first history own → own.directory ≡ change.child → IsWithin cut own
+RemovalsWhole first history cut =
+    (change own : RowChange) → IsChange first history change → change.ends ≡ true → IsWithin cut change → IsChange first history own
+    → own.directory ≡ change.child → IsWithin cut own
 
 -- Where an own change of a directory that was made in the history lies below its cut, its making lies below the cut of the
 -- directory in which it was made.
 abbrev pub BirthsKept : TreeState → List Entry → Cut → Type 0
-BirthsKept first history cut = (birth : Birth) (own : RowChange) → IsOneOf (births_of first history) birth → IsChange first history own → own.directory ≡ birth.node → IsWithin cut own → birth.stamp < cut_of cut birth.directory
+BirthsKept first history cut =
+    (birth : Birth) (own : RowChange) → IsOneOf (births_of first history) birth → IsChange first history own → own.directory ≡ birth.node → IsWithin cut own
+    → birth.stamp < cut_of cut birth.directory
 
 -- The last change below a stamp that places a node.
 pub record IsLastPlacing (first : TreeState) (history : List Entry) (node stamp : ℕ) (last : RowChange) : Type 0 where
@@ -74,7 +79,8 @@ pub record IsMove (first : TreeState) (history : List Entry) (change : RowChange
 -- one, then for it and each of its ancestors at that stamp except the root: the last change below the stamp that places it lies
 -- below the cut of its holder at that stamp. One that no change below the stamp places is excepted.
 abbrev pub AncestorsKept : TreeState → List Entry → Cut → Type 0
-AncestorsKept first history cut = (change : RowChange) (above : List ℕ) (node holder : ℕ) (name : List ℕ) (last : RowChange) → IsMove first history change → IsWithin cut change
+AncestorsKept first history cut =
+    (change : RowChange) (above : List ℕ) (node holder : ℕ) (name : List ℕ) (last : RowChange) → IsMove first history change → IsWithin cut change
     → Above (tree_after first (take change.stamp history)) change.directory above
     → IsOneOf (change.directory ∷ above) node
     → row_of (tree_after first (take change.stamp history)) holder name ≡ Some node

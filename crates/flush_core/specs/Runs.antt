@@ -29,7 +29,9 @@ pub record IsBegun (events : List Event) (place commit : ℕ) (flush : Flush) : 
 
 -- The node of each commit is alive at its stamp.
 abbrev pub AreAlive : TreeState → List Event → (ℕ → MachineState) → Type 0
-AreAlive first events states = (place commit : ℕ) (flush : Flush) → IsBegun events place commit flush → is_alive (tree_after first (take flush.stamp (states place).history)) flush.node ≡ true
+AreAlive first events states =
+    (place commit : ℕ) (flush : Flush) → IsBegun events place commit flush
+    → is_alive (tree_after first (take flush.stamp (states place).history)) flush.node ≡ true
 
 -- Flights with different numbers.
 abbrev pub AreApart : List Flight → Type 0
@@ -77,13 +79,19 @@ LosesInodeInView first flush view raised node = (view.inodes node ≡ true) × C
 -- An fsync makes the same commit by two views: it has the same members and concerns the same nodes; at the cuts that it leaves these
 -- have the same stamps, the same rows name them, and the same of them get an inode and lose it.
 pub record IsOneCommit (first : TreeState) (flush : Flush) (view other : CommitView) : Type 0 where
-  pub members : (node : ℕ) → Closure first view.history view.counts view.cut view.inodes flush node ↔ Closure first other.history other.counts other.cut other.inodes flush node
+  pub members : (node : ℕ)
+      → Closure first view.history view.counts view.cut view.inodes flush node ↔ Closure first other.history other.counts other.cut other.inodes flush node
   pub concerned : (node : ℕ) → Concerns first flush view node ↔ Concerns first flush other node
-  pub stamps : (raised other_raised : Cut) → Raises first flush view raised → Raises first flush other other_raised → (node : ℕ) → Concerns first flush view node → cut_of raised node ≡ cut_of other_raised node
-  pub rows : (raised other_raised : Cut) → Raises first flush view raised → Raises first flush other other_raised → (node directory : ℕ) (name : List ℕ) → Concerns first flush view node
-      → (get (counted_rows_at_cut first view.history view.counts raised) (directory, name) ≡ Some node) ↔ (get (counted_rows_at_cut first other.history other.counts other_raised) (directory, name) ≡ Some node)
-  pub enters : (raised other_raised : Cut) → Raises first flush view raised → Raises first flush other other_raised → (node : ℕ) → Enters first flush view raised node ↔ Enters first flush other other_raised node
-  pub leaves : (raised other_raised : Cut) → Raises first flush view raised → Raises first flush other other_raised → (node : ℕ) → LosesInodeInView first flush view raised node ↔ LosesInodeInView first flush other other_raised node
+  pub stamps : (raised other_raised : Cut) → Raises first flush view raised → Raises first flush other other_raised → (node : ℕ)
+      → Concerns first flush view node → cut_of raised node ≡ cut_of other_raised node
+  pub rows : (raised other_raised : Cut) → Raises first flush view raised → Raises first flush other other_raised → (node directory : ℕ) (name : List ℕ)
+      → Concerns first flush view node
+      → (get (counted_rows_at_cut first view.history view.counts raised) (directory, name) ≡ Some node) ↔
+      (get (counted_rows_at_cut first other.history other.counts other_raised) (directory, name) ≡ Some node)
+  pub enters : (raised other_raised : Cut) → Raises first flush view raised → Raises first flush other other_raised → (node : ℕ)
+      → Enters first flush view raised node ↔ Enters first flush other other_raised node
+  pub leaves : (raised other_raised : Cut) → Raises first flush view raised → Raises first flush other other_raised → (node : ℕ)
+      → LosesInodeInView first flush view raised node ↔ LosesInodeInView first flush other other_raised node
 
 -- A commit comes before another: its fsync has raised the cut before the other begins.
 pub record ComesBefore (events : List Event) (commit other : ℕ) : Type 0 where
@@ -135,4 +143,5 @@ durable_of events chosen = filter_map (durable_by events chosen) events
 -- before it.
 pub record CountEnough (events : List Event) (commit : ℕ) (flush : Flush) (tied : ℕ → Bool) (counts : Counts) : Type 0 where
   pub own : (stamp : ℕ) → stamp < flush.stamp → counts stamp ≡ true
-  pub theirs : (other : ℕ) (fsync : Flush) (stamp : ℕ) → tied other ≡ true → ComesBefore events other commit → flush_of events other ≡ Some fsync → stamp < fsync.stamp → counts stamp ≡ true
+  pub theirs : (other : ℕ) (fsync : Flush) (stamp : ℕ) → tied other ≡ true → ComesBefore events other commit → flush_of events other ≡ Some fsync
+      → stamp < fsync.stamp → counts stamp ≡ true

@@ -21,7 +21,8 @@ pub record StoryState : Type 0 where
 
 -- how a story is stored
 abbrev pub story_code : Coded (List Entry) → Coded StoryState
-story_code entries_code = code_by (TreeState × List Entry) (coded× tree_code entries_code) (λ s. (s.first, s.history)) (λ p. record { first = p.0; history = p.1 }) (λ _. refl)
+story_code entries_code =
+    code_by (TreeState × List Entry) (coded× tree_code entries_code) (λ s. (s.first, s.history)) (λ p. record { first = p.0; history = p.1 }) (λ _. refl)
 
 -- a story without calls
 abbrev pub story_of : TreeState → StoryState

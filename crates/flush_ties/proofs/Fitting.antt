@@ -14,7 +14,8 @@ use Rattle.flush_ties.specs.Look.{Noted, Look, InSight, SeesNaming, Gathers, its
 use Rattle.flush_ties.specs.Fit.{KnowsEnough}
 use Rattle.flush_ties.specs.Laws.{FitsHistory, LooksFit, LateEntriesMayBeMissing}
 
-module _ (first : TreeState) (history : List Entry) (counts : Counts) (cut : Cut) (inodes : ℕ → Bool) (look : Look) (knows : KnowsEnough first history counts cut inodes look) where
+module _ (first : TreeState) (history : List Entry) (counts : Counts) (cut : Cut) (inodes : ℕ → Bool) (look : Look)
+    (knows : KnowsEnough first history counts cut inodes look) where
   -- a change in sight of a member is in its span
   span_of : (noted : Noted) → Gathers look noted.change.directory → InSight look noted → InSpan first history counts cut look.flush.stamp noted.change
   span_of noted own sight =
@@ -27,13 +28,16 @@ module _ (first : TreeState) (history : List Entry) (counts : Counts) (cut : Cut
       }
 
   -- and one in its span is in sight
-  sight_of : (change : RowChange) → Gathers look change.directory → InSpan first history counts cut look.flush.stamp change → (noted : Noted) × InSight look noted × (noted.change ≡ change)
+  sight_of : (change : RowChange) → Gathers look change.directory → InSpan first history counts cut look.flush.stamp change
+      → (noted : Noted) × InSight look noted × (noted.change ≡ change)
   sight_of change own span =
       let found = knows.spans change own span in (
         found.0,
         record {
           is_noted = found.1;
-          from = subst (λ (c : RowChange). look.cut c.directory ≤ c.stamp) (sym found.2) (subst (λ n. n ≤ change.stamp) (sym (knows.cuts change.directory (member change.directory own))) span.from);
+          from =
+              subst (λ (c : RowChange). look.cut c.directory ≤ c.stamp) (sym found.2)
+              (subst (λ n. n ≤ change.stamp) (sym (knows.cuts change.directory (member change.directory own))) span.from);
           below = subst (λ (c : RowChange). c.stamp < look.flush.stamp) (sym found.2) span.below;
         },
         found.2,
@@ -59,7 +63,9 @@ module _ (first : TreeState) (history : List Entry) (counts : Counts) (cut : Cut
         noted = found.0;
         is_noted = found.1;
         child = ap (λ (c : RowChange). c.child) found.2 ∙ naming.child;
-        unflushed = subst (λ (c : RowChange). look.cut c.directory ≤ c.stamp) (sym found.2) (let low = knows.cuts_low naming.change.directory in let from = naming.unflushed in omega arith);
+        unflushed =
+            subst (λ (c : RowChange). look.cut c.directory ≤ c.stamp) (sym found.2)
+            (let low = knows.cuts_low naming.change.directory in let from = naming.unflushed in omega arith);
       }
 
   -- what is gathered are members
@@ -69,11 +75,13 @@ module _ (first : TreeState) (history : List Entry) (counts : Counts) (cut : Cut
   gathered_member (ended noted own sight ends) = closure.ended noted.change (gathered_member own) (span_of noted own sight) ends
   gathered_member (ancestor noted node own sight among) =
       let true_one = knows.truths noted sight.is_noted in
-      closure.ancestor noted.change noted.above node (gathered_member own) (span_of noted own sight) (true_one.moves node among) (true_one.stands node among) among
+      closure.ancestor noted.change noted.above node (gathered_member own) (span_of noted own sight) (true_one.moves node among)
+      (true_one.stands node among) among
   gathered_member (birth_place born own one lacks sees) =
       let touched = member born.node own in
       let birth = (knows.born born.node born.directory touched).0 one in
-      closure.birth_place (record { stamp = birth.0; directory = born.directory; node = born.node }) (gathered_member own) birth.1 (sym (knows.same_inodes born.node touched) ∙ lacks) (naming_of born.node touched sees)
+      closure.birth_place (record { stamp = birth.0; directory = born.directory; node = born.node }) (gathered_member own) birth.1
+      (sym (knows.same_inodes born.node touched) ∙ lacks) (naming_of born.node touched sees)
 
   -- and members are gathered
   member_gathered : {node : ℕ} → Closure first history counts cut inodes look.flush node → Gathers look node
@@ -85,16 +93,21 @@ module _ (first : TreeState) (history : List Entry) (counts : Counts) (cut : Cut
   member_gathered (closure.ended change own span ends) =
       let there = member_gathered own in
       let seen = sight_of change there span in
-      subst (λ (c : RowChange). Gathers look c.child) seen.2 (ended seen.0 (subst (λ (c : RowChange). Gathers look c.directory) (sym seen.2) there) seen.1 (ap (λ (c : RowChange). c.ends) seen.2 ∙ ends))
+      subst (λ (c : RowChange). Gathers look c.child) seen.2
+      (ended seen.0 (subst (λ (c : RowChange). Gathers look c.directory) (sym seen.2) there) seen.1 (ap (λ (c : RowChange). c.ends) seen.2 ∙ ends))
   member_gathered (closure.ancestor change above node own span move way among) =
       let there = member_gathered own in
       let seen = sight_of change there span in
-      let told = (knows.truths seen.0 seen.1.is_noted).told above (subst (IsMove first history) (sym seen.2) move) (subst (λ (c : RowChange). Above (tree_after first (take c.stamp history)) c.directory above) (sym seen.2) way) in
-      ancestor seen.0 node (subst (λ (c : RowChange). Gathers look c.directory) (sym seen.2) there) seen.1 (subst (λ (l : List ℕ). IsOneOf l node) (sym told) among)
+      let told =
+      (knows.truths seen.0 seen.1.is_noted).told above (subst (IsMove first history) (sym seen.2) move)
+      (subst (λ (c : RowChange). Above (tree_after first (take c.stamp history)) c.directory above) (sym seen.2) way) in
+      ancestor seen.0 node (subst (λ (c : RowChange). Gathers look c.directory) (sym seen.2) there) seen.1
+      (subst (λ (l : List ℕ). IsOneOf l node) (sym told) among)
   member_gathered (closure.birth_place birth own one lacks naming) =
       let there = member_gathered own in
       let touched = member birth.node there in
-      birth_place (record { node = birth.node; directory = birth.directory }) there ((knows.born birth.node birth.directory touched).1 (birth.stamp, one)) (knows.same_inodes birth.node touched ∙ lacks) (seen_of_naming birth.node touched naming)
+      birth_place (record { node = birth.node; directory = birth.directory }) there ((knows.born birth.node birth.directory touched).1 (birth.stamp, one))
+      (knows.same_inodes birth.node touched ∙ lacks) (seen_of_naming birth.node touched naming)
 
   touched_concerned : (node : ℕ) → Touches look node → IsConcerned first history counts cut inodes look.flush node
   touched_concerned node (member _ own) = closure.member node (gathered_member own)
@@ -115,7 +128,9 @@ looks_fit first history counts cut inodes look knows = fits first history counts
 
 pub late_entries_may_be_missing : LateEntriesMayBeMissing
 late_entries_may_be_missing first history late counts cut inodes look sound legal kept live all low stamp knows =
-    let alike = recounts first history late counts every_entry look.flush cut inodes sound legal all (λ t less. refl) low stamp live (record { kept = kept.kept; named = kept.named }) in
+    let alike =
+    recounts first history late counts every_entry look.flush cut inodes sound legal all (λ t less. refl) low stamp live
+    (record { kept = kept.kept; named = kept.named }) in
     let fit = fits first history counts cut inodes look knows in
     record {
       members = λ node. (λ own. (alike.members node).0 ((fit.members node).0 own), λ own. (fit.members node).1 ((alike.members node).1 own));

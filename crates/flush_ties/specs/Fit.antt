@@ -20,7 +20,8 @@ IsNoted look change = (noted : Noted) × IsOneOf look.noted noted × (noted.chan
 pub record IsTrue (first : TreeState) (history : List Entry) (counts : Counts) (noted : Noted) : Type 0 where
   pub is_change : IsChange first history noted.change
   pub counted : counts noted.change.stamp ≡ true
-  pub told : (above : List ℕ) → IsMove first history noted.change → Above (tree_after first (take noted.change.stamp history)) noted.change.directory above → noted.above ≡ above
+  pub told : (above : List ℕ) → IsMove first history noted.change → Above (tree_after first (take noted.change.stamp history)) noted.change.directory above
+      → noted.above ≡ above
   pub moves : (node : ℕ) → IsOneOf noted.above node → IsMove first history noted.change
   pub stands : (node : ℕ) → IsOneOf noted.above node → Above (tree_after first (take noted.change.stamp history)) noted.change.directory noted.above
 
@@ -31,11 +32,15 @@ pub record KnowsEnough (first : TreeState) (history : List Entry) (counts : Coun
   pub cuts : (node : ℕ) → Touches look node → look.cut node ≡ cut_of cut node
   pub cuts_low : (node : ℕ) → look.cut node ≤ cut_of cut node
   pub same_inodes : (node : ℕ) → Touches look node → look.inodes node ≡ inodes node
-  pub born : (node directory : ℕ) → Touches look node → IsOneOf look.born (record { node = node; directory = directory }) ↔ ((stamp : ℕ) × IsOneOf (births_of first history) (record { stamp = stamp; directory = directory; node = node }))
+  pub born : (node directory : ℕ) → Touches look node
+      → IsOneOf look.born (record { node = node; directory = directory }) ↔
+      ((stamp : ℕ) × IsOneOf (births_of first history) (record { stamp = stamp; directory = directory; node = node }))
   pub truths : (noted : Noted) → IsOneOf look.noted noted → IsTrue first history counts noted
   pub spans : (change : RowChange) → Gathers look change.directory → InSpan first history counts cut look.flush.stamp change → IsNoted look change
-  pub namings : (change : RowChange) → Touches look change.child → IsChange first history change → counts change.stamp ≡ true → cut_of cut change.directory ≤ change.stamp → IsNoted look change
-  pub unflushed : (noted : Noted) → IsOneOf look.noted noted → Touches look noted.change.child → look.cut noted.change.directory ≤ noted.change.stamp → cut_of cut noted.change.directory ≤ noted.change.stamp
+  pub namings : (change : RowChange) → Touches look change.child → IsChange first history change → counts change.stamp ≡ true
+      → cut_of cut change.directory ≤ change.stamp → IsNoted look change
+  pub unflushed : (noted : Noted) → IsOneOf look.noted noted → Touches look noted.change.child → look.cut noted.change.directory ≤ noted.change.stamp
+      → cut_of cut noted.change.directory ≤ noted.change.stamp
 
 -- What was found is so: of each node that the look touches, whether a row at the raised cut names it; and the own node's kind.
 pub record FindsRight (first : TreeState) (history : List Entry) (counts : Counts) (raised : Cut) (look : Look) (found : Found) : Type 0 where

@@ -46,7 +46,8 @@ pub data Gathers (look : Look) : ℕ → Type 0 where
   -- the directories that were recorded with a change in its span
   ancestor : (noted : Noted) (node : ℕ) → Gathers look noted.change.directory → InSight look noted → IsOneOf noted.above node → Gathers look node
   -- where it was made, has no inode, and has a naming that is not flushed, the directory in which it was made
-  birth_place : (born : Born) → Gathers look born.node → IsOneOf look.born born → look.inodes born.node ≡ false → SeesNaming look look.cut born.node → Gathers look born.directory
+  birth_place : (born : Born) → Gathers look born.node → IsOneOf look.born born → look.inodes born.node ≡ false → SeesNaming look look.cut born.node
+      → Gathers look born.directory
 
 -- The nodes that the fsync touches by what was gathered: the members, and the children of the changes in their spans.
 pub data Touches (look : Look) : ℕ → Type 0 where

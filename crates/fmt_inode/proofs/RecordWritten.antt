@@ -9,7 +9,8 @@ use borrow.Rule.Slice.PartMut.{put_mid}
 
 -- the pieces of a record
 pub record_written : (inode : Inode) (raw a b c d e : List ℕ) → length raw ≡ 512 → length inode.direct ≡ 108 →
-    a ≡ inode.kind ∷ 0 ∷ 0 ∷ 0 ∷ [] → b ≡ u32_bytes inode.links ++ drop 4 (part 4 4 (a ++ drop 4 raw)) → c ≡ u64_bytes inode.size ++ drop 8 (part 8 8 (put_mid 4 4 (a ++ drop 4 raw) b)) →
+    a ≡ inode.kind ∷ 0 ∷ 0 ∷ 0 ∷ [] → b ≡ u32_bytes inode.links ++ drop 4 (part 4 4 (a ++ drop 4 raw))
+    → c ≡ u64_bytes inode.size ++ drop 8 (part 8 8 (put_mid 4 4 (a ++ drop 4 raw) b)) →
     d ≡ u32s_bytes inode.direct → e ≡ u32s_bytes inode.indirect →
     put_mid 448 64 (put_mid 16 432 (put_mid 8 8 (put_mid 4 4 (a ++ drop 4 raw) b) c) d) e ≡ inode_bytes inode
 record_written inode raw a b c d e len count is_a is_b is_c is_d is_e =

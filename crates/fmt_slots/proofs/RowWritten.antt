@@ -59,7 +59,8 @@ slot_written row bytes kind long is fits =
     let named : List ℕ = named_bytes bytes (u32_bytes row.inode ++ drop 4 (take 4 bytes)) head row.name in
     let len : length named ≡ 264 = length-behind_name bytes (u32_bytes row.inode ++ drop 4 (take 4 bytes)) head row.name long (ap length four) refl fits in
     let rest : length (take (length named - (8 + length row.name)) (drop (8 + length row.name) named)) ≡ 256 - length row.name =
-    length-take-le (length named - (8 + length row.name)) (drop (8 + length row.name) named) (omega (arith, length-drop (8 + length row.name) named)) ∙ omega arith in
+    length-take-le (length named - (8 + length row.name)) (drop (8 + length row.name) named) (omega (arith, length-drop (8 + length row.name) named))
+    ∙ omega arith in
     row_written bytes (u32_bytes row.inode ++ drop 4 (take 4 bytes)) head row.name _ long (ap length four) refl fits
     ∙ ap (λ (xs : List ℕ). xs ++ head ++ row.name ++ zeros (length (take (length named - (8 + length row.name)) (drop (8 + length row.name) named)))) four
     ∙ ap (λ (n : ℕ). u32_bytes row.inode ++ head ++ row.name ++ zeros n) rest

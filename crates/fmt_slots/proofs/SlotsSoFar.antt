@@ -19,7 +19,8 @@ pub record SlotsSoFar (block : List ℕ) (slots : List (Option Row)) (n : ℕ) :
 pub no_slots : (block : List ℕ) → SlotsSoFar block [] 0
 no_slots block = record { slots_are = refl; sound = refl }
 
-pub one_more : (block : List ℕ) (slots more : List (Option Row)) (n : ℕ) (slot : Option Row) → SlotsSoFar block slots n → fault_in block n ≡ None → slot ≡ slot_in block n → more ≡ slots ++ slot ∷ [] →
+pub one_more : (block : List ℕ) (slots more : List (Option Row)) (n : ℕ) (slot : Option Row) → SlotsSoFar block slots n → fault_in block n ≡ None
+    → slot ≡ slot_in block n → more ≡ slots ++ slot ∷ [] →
     SlotsSoFar block more (n + 1)
 one_more block slots more n slot before none is grown =
     record {
@@ -29,7 +30,8 @@ one_more block slots more n slot before none is grown =
     }
 
 -- the fault of the next slot is the block's
-pub next_fault : (block : List ℕ) (slots : List (Option Row)) (k : ℕ) (fault : SlotFault) → SlotsSoFar block slots k → k < 15 → Names fault (fault_in block k) → Names fault (slots_fault block)
+pub next_fault : (block : List ℕ) (slots : List (Option Row)) (k : ℕ) (fault : SlotFault) → SlotsSoFar block slots k → k < 15 → Names fault (fault_in block k)
+    → Names fault (slots_fault block)
 unfolding slots_fault
 next_fault block slots k (Bad at) before within names =
     ap (λ (o : Option ℕ). option_or o (nonzero_in 3960 136 block)) (first_of-at 15 k (fault_in block) at before.sound names within)

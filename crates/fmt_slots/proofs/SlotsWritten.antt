@@ -18,7 +18,8 @@ pub record SlotsWritten (slots : List (Option Row)) (block : List ℕ) (n : ℕ)
   pub front : take (264 * n) block ≡ flat_map slot_bytes (take n slots)
   pub sound : All IsSlot (take n slots)
 
-pub one_written : (slots : List (Option Row)) (block bytes : List ℕ) (n k : ℕ) (slot : Option Row) → length slots ≡ 15 → n < 15 → k ≡ 264 → SlotsWritten slots block n →
+pub one_written : (slots : List (Option Row)) (block bytes : List ℕ) (n k : ℕ) (slot : Option Row) → length slots ≡ 15 → n < 15 → k ≡ 264
+    → SlotsWritten slots block n →
     slot ≡ get_or slots n slot → IsSlot slot → bytes ≡ slot_bytes slot → SlotsWritten slots (put_mid (264 * n) k block bytes) (n + 1)
 one_written slots block bytes n k slot count within size before read fits is =
     let one : length bytes ≡ 264 = ap length is ∙ length-slot_bytes slot fits in
@@ -40,7 +41,8 @@ pub all_written : (slots : List (Option Row)) (block tail : List ℕ) (k : ℕ) 
 unfolding slots_bytes
 all_written slots block tail k count long done is =
     let len = done.len in
-    put_mid-last block (take 3960 block) (drop 3960 block) tail 3960 k (sym (take-append-drop 3960 block)) (length-take-le 3960 block (omega arith)) (omega (arith, length-drop 3960 block))
+    put_mid-last block (take 3960 block) (drop 3960 block) tail 3960 k (sym (take-append-drop 3960 block)) (length-take-le 3960 block (omega arith))
+    (omega (arith, length-drop 3960 block))
     ∙ ap (λ (xs : List ℕ). xs ++ tail) (done.front ∙ ap (flat_map slot_bytes) (take_all 15 slots (omega arith)))
     ∙ ap (λ (xs : List ℕ). flat_map slot_bytes slots ++ xs) is
 

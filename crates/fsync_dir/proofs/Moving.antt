@@ -63,13 +63,18 @@ was_false false e = refl
 was_false true e = absurd (cc)
 
 -- a number is among those of picked nodes where it is one of theirs and passes the test
-listed_picked : (test : ℕ → Bool) (nodes : List NodeId) (number : ℕ) → is_listed (map node_number (filter (λ node. test node.0) nodes)) number ≡ (is_listed (map node_number nodes) number && test number)
+listed_picked : (test : ℕ → Bool) (nodes : List NodeId) (number : ℕ)
+    → is_listed (map node_number (filter (λ node. test node.0) nodes)) number ≡ (is_listed (map node_number nodes) number && test number)
 listed_picked test [] number = refl
 listed_picked test (node ∷ nodes) number = by (test node.0) (nat_eq node.0 number) refl refl (listed_picked test nodes number)
   where
-    by : (passes same : Bool) → test node.0 ≡ passes → nat_eq node.0 number ≡ same → is_listed (map node_number (filter (λ one. test one.0) nodes)) number ≡ (is_listed (map node_number nodes) number && test number)
-        → is_listed (map node_number (cond passes (node ∷ filter (λ one. test one.0) nodes) (filter (λ one. test one.0) nodes))) number ≡ ((same || is_listed (map node_number nodes) number) && test number)
-    by true true passes same rest = ap (λ b. b || is_listed (map node_number (filter (λ one. test one.0) nodes)) number) same ∙ sym (subst (λ n. test n ≡ true) (eqb-true node.0 number same) passes)
+    by : (passes same : Bool) → test node.0 ≡ passes → nat_eq node.0 number ≡ same
+        → is_listed (map node_number (filter (λ one. test one.0) nodes)) number ≡ (is_listed (map node_number nodes) number && test number)
+        → is_listed (map node_number (cond passes (node ∷ filter (λ one. test one.0) nodes) (filter (λ one. test one.0) nodes))) number
+        ≡ ((same || is_listed (map node_number nodes) number) && test number)
+    by true true passes same rest =
+        ap (λ b. b || is_listed (map node_number (filter (λ one. test one.0) nodes)) number) same
+        ∙ sym (subst (λ n. test n ≡ true) (eqb-true node.0 number same) passes)
     by true false passes same rest = ap (λ b. b || is_listed (map node_number (filter (λ one. test one.0) nodes)) number) same ∙ rest
     by false false passes same rest = rest
     by false true passes same rest =
@@ -81,7 +86,8 @@ listed_picked test (node ∷ nodes) number = by (test node.0) (nat_eq node.0 num
         and_no false = refl
 
 -- what enters has the numbers of its nodes
-entered_numbers : (start : NodeId) (is_file : Bool) (facts : Facts) (nodes : List NodeId) → map enter_node (map (enter_by start is_file facts) nodes) ≡ map node_number nodes
+entered_numbers : (start : NodeId) (is_file : Bool) (facts : Facts) (nodes : List NodeId)
+    → map enter_node (map (enter_by start is_file facts) nodes) ≡ map node_number nodes
 entered_numbers start is_file facts [] = refl
 entered_numbers start is_file facts (node ∷ nodes) = ap (λ l. node.0 ∷ l) (entered_numbers start is_file facts nodes)
 
@@ -131,18 +137,24 @@ module _ (start : NodeId) (below : Stamp) (gathered : Gathered) (concern : Conce
   -- the members' cuts are lifted, and no others
   lifts : Lifts look lifted
   lifts = record {
-    members = λ node gathers. cond-true (is_listed (map node_number concern.members.items) node) (max (cut_in gathered.cuts.items node) below.0) (cut_in gathered.cuts.items node) ((are.members.each node).1 gathers);
+    members =
+        λ node gathers. cond-true (is_listed (map node_number concern.members.items) node) (max (cut_in gathered.cuts.items node) below.0)
+        (cut_in gathered.cuts.items node) ((are.members.each node).1 gathers);
     others = λ node. by node (is_listed (map node_number concern.members.items) node) refl;
   }
     where
-      by : (node : ℕ) (b : Bool) → is_listed (map node_number concern.members.items) node ≡ b → Gathers look node ⊎ (cond b (max (cut_in gathered.cuts.items node) below.0) (cut_in gathered.cuts.items node) ≡ cut_in gathered.cuts.items node)
+      by : (node : ℕ) (b : Bool) → is_listed (map node_number concern.members.items) node ≡ b
+          → Gathers look node ⊎ (cond b (max (cut_in gathered.cuts.items node) below.0) (cut_in gathered.cuts.items node) ≡ cut_in gathered.cuts.items node)
       by node true listed = inl ((are.members.each node).0 listed)
       by node false listed = inr refl
 
   -- a node gets an inode
-  gets_there : (node : ℕ) → is_listed (map node_number concern.nodes.items) node ≡ true → gets_inode start (is_some file) gathered facts node ≡ true → (look.inodes node ≡ false) × Touches look node × SeesReached look lifted found node
+  gets_there : (node : ℕ) → is_listed (map node_number concern.nodes.items) node ≡ true → gets_inode start (is_some file) gathered facts node ≡ true
+      → (look.inodes node ≡ false) × Touches look node × SeesReached look lifted found node
   gets_there node listed gets =
-      let both = two (not (look.inodes node)) (contains nat_cmp facts.named node || (nat_eq node start.0 && is_some file && contains nat_cmp facts.unflushed node)) gets in (
+      let both =
+      two (not (look.inodes node))
+      (contains nat_cmp facts.named node || (nat_eq node start.0 && is_some file && contains nat_cmp facts.unflushed node)) gets in (
         was_false (look.inodes node) both.0,
         (are.nodes.each node).0 listed,
         elim (either (contains nat_cmp facts.named node) (nat_eq node start.0 && is_some file && contains nat_cmp facts.unflushed node) both.1) [
@@ -153,7 +165,8 @@ module _ (start : NodeId) (below : Stamp) (gathered : Gathered) (concern : Conce
         ],
       )
 
-  gets_back : (node : ℕ) → is_listed (map node_number concern.nodes.items) node ≡ true → look.inodes node ≡ false → SeesReached look lifted found node → gets_inode start (is_some file) gathered facts node ≡ true
+  gets_back : (node : ℕ) → is_listed (map node_number concern.nodes.items) node ≡ true → look.inodes node ≡ false → SeesReached look lifted found node
+      → gets_inode start (is_some file) gathered facts node ≡ true
   gets_back node listed none reached =
       ap (λ b. not b && (contains nat_cmp facts.named node || (nat_eq node start.0 && is_some file && contains nat_cmp facts.unflushed node))) none
       ∙ elim reached [
@@ -166,38 +179,51 @@ module _ (start : NodeId) (below : Stamp) (gathered : Gathered) (concern : Conce
       same one = subst (λ n. nat_eq node n ≡ true) one (same_number node)
 
   -- a node loses its inode
-  loses_there : (node : ℕ) → is_listed (map node_number concern.nodes.items) node ≡ true → loses_inode gathered facts node ≡ true → (look.inodes node ≡ true) × Touches look node × SeesDead look lifted found node
+  loses_there : (node : ℕ) → is_listed (map node_number concern.nodes.items) node ≡ true → loses_inode gathered facts node ≡ true
+      → (look.inodes node ≡ true) × Touches look node × SeesDead look lifted found node
   loses_there node listed loses =
       let all = four (look.inodes node) (not (nat_eq node 0)) (not (contains nat_cmp facts.named node)) (not (contains nat_cmp facts.unflushed node)) loses in (
         all.0,
         (are.nodes.each node).0 listed,
         record {
-          no_root = λ root. let zero_is = subst (λ n. nat_eq n 0 ≡ true) (sym root) (same_number 0) in let other = was_false (nat_eq node 0) all.1 in absurd (cc);
+          no_root = λ root. let zero_is = subst (λ n. nat_eq n 0 ≡ true) (sym root) (same_number 0) in let other = was_false (nat_eq node 0) all.1 in
+              absurd (cc);
           unnamed = sym (known.named node listed) ∙ was_false (contains nat_cmp facts.named node) all.2;
-          flushed = λ sees. let there = (known.unflushed start below node).1 sees in let none = was_false (contains nat_cmp facts.unflushed node) all.3 in absurd (cc);
+          flushed = λ sees. let there = (known.unflushed start below node).1 sees in let none = was_false (contains nat_cmp facts.unflushed node) all.3 in
+              absurd (cc);
         },
       )
 
-  loses_back : (node : ℕ) → is_listed (map node_number concern.nodes.items) node ≡ true → look.inodes node ≡ true → SeesDead look lifted found node → loses_inode gathered facts node ≡ true
+  loses_back : (node : ℕ) → is_listed (map node_number concern.nodes.items) node ≡ true → look.inodes node ≡ true → SeesDead look lifted found node
+      → loses_inode gathered facts node ≡ true
   loses_back node listed has dead = λ i. has i && not (no_root i) && not (unnamed i) && not (flushed i)
     where
       no_root : nat_eq node 0 ≡ false
-      no_root = elim (nat_eq node 0) as (λ b. nat_eq node 0 ≡ b → b ≡ false) [ true ↦ λ same. absurd (dead.no_root (eqb-true node 0 same)) | false ↦ λ _. refl ] refl
+      no_root =
+          elim (nat_eq node 0) as (λ b. nat_eq node 0 ≡ b → b ≡ false) [ true ↦ λ same. absurd (dead.no_root (eqb-true node 0 same)) | false ↦ λ _. refl ] refl
 
       unnamed : contains nat_cmp facts.named node ≡ false
       unnamed = known.named node listed ∙ dead.unnamed
 
       flushed : contains nat_cmp facts.unflushed node ≡ false
-      flushed = elim (contains nat_cmp facts.unflushed node) as (λ b. contains nat_cmp facts.unflushed node ≡ b → b ≡ false) [ true ↦ λ has_one. absurd (dead.flushed ((known.unflushed start below node).0 has_one)) | false ↦ λ _. refl ] refl
+      flushed =
+          elim (contains nat_cmp facts.unflushed node) as (λ b. contains nat_cmp facts.unflushed node ≡ b → b ≡ false) [
+            | true ↦
+                λ has_one. absurd (dead.flushed ((known.unflushed start below node).0 has_one))
+            | false ↦ λ _. refl
+          ] refl
 
   -- what is picked by the facts moves
   module _ (enter : List Enter) (leave : List NodeId)
-      (enter_is : enter ≡ map (enter_by start (is_some file) facts) (filter (λ node. gets_inode start (is_some file) gathered facts node.0) concern.nodes.items))
+      (enter_is : enter
+      ≡ map (enter_by start (is_some file) facts) (filter (λ node. gets_inode start (is_some file) gathered facts node.0) concern.nodes.items))
       (leave_is : leave ≡ filter (λ node. loses_inode gathered facts node.0) concern.nodes.items) where
-    entering_is : (node : ℕ) → is_listed (map enter_node enter) node ≡ (is_listed (map node_number concern.nodes.items) node && gets_inode start (is_some file) gathered facts node)
+    entering_is : (node : ℕ)
+        → is_listed (map enter_node enter) node ≡ (is_listed (map node_number concern.nodes.items) node && gets_inode start (is_some file) gathered facts node)
     entering_is node =
         ap (λ l. is_listed (map enter_node l) node) enter_is
-        ∙ ap (λ l. is_listed l node) (entered_numbers start (is_some file) facts (filter (λ one. gets_inode start (is_some file) gathered facts one.0) concern.nodes.items))
+        ∙ ap (λ l. is_listed l node)
+        (entered_numbers start (is_some file) facts (filter (λ one. gets_inode start (is_some file) gathered facts one.0) concern.nodes.items))
         ∙ listed_picked (gets_inode start (is_some file) gathered facts) concern.nodes.items node
 
     leaving_is : (node : ℕ) → is_listed (map node_number leave) node ≡ (is_listed (map node_number concern.nodes.items) node && loses_inode gathered facts node)
@@ -206,25 +232,34 @@ module _ (start : NodeId) (below : Stamp) (gathered : Gathered) (concern : Conce
     moved : AreMoved look lifted found (is_listed (map enter_node enter)) (is_listed (map node_number leave))
     moved = record {
       enters = λ node. (
-        λ has. let both = two (is_listed (map node_number concern.nodes.items) node) (gets_inode start (is_some file) gathered facts node) (sym (entering_is node) ∙ has) in gets_there node both.0 both.1,
+        λ has. let both =
+            two (is_listed (map node_number concern.nodes.items) node) (gets_inode start (is_some file) gathered facts node) (sym (entering_is node) ∙ has) in
+            gets_there node both.0 both.1,
         λ (none, touches, reached). let listed = (are.nodes.each node).1 touches in entering_is node ∙ (λ i. listed i && gets_back node listed none reached i),
       );
       leaves = λ node. (
-        λ has. let both = two (is_listed (map node_number concern.nodes.items) node) (loses_inode gathered facts node) (sym (leaving_is node) ∙ has) in loses_there node both.0 both.1,
+        λ has. let both = two (is_listed (map node_number concern.nodes.items) node) (loses_inode gathered facts node) (sym (leaving_is node) ∙ has) in
+            loses_there node both.0 both.1,
         λ (one, touches, dead). let listed = (are.nodes.each node).1 touches in leaving_is node ∙ (λ i. listed i && loses_back node listed one dead i),
       );
     }
 
     kinds : All (λ one. one.kind ≡ kind_entering start (is_some file) (spans_in gathered below concern.members.items) one.node.0) enter
     kinds = subst (All (λ one. one.kind ≡ kind_entering start (is_some file) (spans_in gathered below concern.members.items) one.node.0)) (sym enter_is)
-        (All-map (λ one. one.kind ≡ kind_entering start (is_some file) (spans_in gathered below concern.members.items) one.node.0) (enter_by start (is_some file) facts) (filter (λ node. gets_inode start (is_some file) gathered facts node.0) concern.nodes.items)
+        (All-map (λ one. one.kind ≡ kind_entering start (is_some file) (spans_in gathered below concern.members.items) one.node.0)
+        (enter_by start (is_some file) facts) (filter (λ node. gets_inode start (is_some file) gathered facts node.0) concern.nodes.items)
         (λ k d within. let node = get_or (filter (λ one. gets_inode start (is_some file) gathered facts one.0) concern.nodes.items) k d in
         ap (λ told. cond (nat_eq node.0 start.0) (kind_of_own_node (is_some file)) (unwrap_or told Directory)) (known.kinds node.0)))
 
     pub moves : MovesInodes start below gathered concern old file enter leave
     moves = record {
-      enter_ascends = subst (AscendBy enter_node) (sym enter_is) (picked_ascend concern.nodes.items are.nodes.ascending (λ node. gets_inode start (is_some file) gathered facts node.0) (enter_by start (is_some file) facts) (λ node. refl));
-      leave_ascends = subst (λ (l : List NodeId). IsStrictlyIncreasing (map node_number l)) (sym leave_is) (picked_increase concern.nodes.items are.nodes.ascending (λ node. loses_inode gathered facts node.0));
+      enter_ascends =
+          subst (AscendBy enter_node) (sym enter_is)
+          (picked_ascend concern.nodes.items are.nodes.ascending (λ node. gets_inode start (is_some file) gathered facts node.0)
+          (enter_by start (is_some file) facts) (λ node. refl));
+      leave_ascends =
+          subst (λ (l : List NodeId). IsStrictlyIncreasing (map node_number l)) (sym leave_is)
+          (picked_increase concern.nodes.items are.nodes.ascending (λ node. loses_inode gathered facts node.0));
       lifts = lifts;
       moved = moved;
       kinds = kinds;

@@ -24,7 +24,8 @@ module _ {X : Type 0} (test : X → Bool) (xs : List X) (i : ℕ) (d : X) (withi
   picked before new was after = after ∙ (λ j. was j ++ cond (is j) (get_or xs i d ∷ []) []) ∙ sym (filter_more test xs i d within)
 
   -- and what a function makes of it
-  pub picked_as : {Y : Type 0} (f : X → Y) (before new : List Y) → before ≡ map f (filter test (take i xs)) → new ≡ before ++ cond b (f (get_or xs i d) ∷ []) [] → new ≡ map f (filter test (take (i + 1) xs))
+  pub picked_as : {Y : Type 0} (f : X → Y) (before new : List Y) → before ≡ map f (filter test (take i xs)) → new ≡ before ++ cond b (f (get_or xs i d) ∷ []) []
+      → new ≡ map f (filter test (take (i + 1) xs))
   picked_as f before new was after =
       after ∙ (λ j. was j ++ cond (is j) (f (get_or xs i d) ∷ []) [])
       ∙ ap (λ l. map f (filter test (take i xs)) ++ l) (one (test (get_or xs i d)))
@@ -36,14 +37,16 @@ module _ {X : Type 0} (test : X → Bool) (xs : List X) (i : ℕ) (d : X) (withi
       one false = refl
 
 -- what is pushed where a test passes
-pub pushed_if : {X : Type 0} (b : Bool) (before reserved new : List X) (one : X) → b ≡ true → reserved ≡ before → new ≡ reserved ++ one ∷ [] → new ≡ before ++ cond b (one ∷ []) []
+pub pushed_if : {X : Type 0} (b : Bool) (before reserved new : List X) (one : X) → b ≡ true → reserved ≡ before → new ≡ reserved ++ one ∷ []
+    → new ≡ before ++ cond b (one ∷ []) []
 pushed_if b before reserved new one is same after = after ∙ ap (λ l. l ++ one ∷ []) same ∙ ap (λ t. before ++ cond t (one ∷ []) []) (sym is)
 
 pub kept_if : {X : Type 0} (b : Bool) (before new : List X) (one : X) → b ≡ false → new ≡ before → new ≡ before ++ cond b (one ∷ []) []
 kept_if b before new one is same = same ∙ sym (append-nil before) ∙ ap (λ t. before ++ cond t (one ∷ []) []) (sym is)
 
 -- nodes that ascend lie below the next one
-pub below_next : (nodes : List NodeId) → IsStrictlyIncreasing (map node_number nodes) → (i : ℕ) (d : NodeId) → i < length nodes → All (λ node. node.0 < (get_or nodes i d).0) (take i nodes)
+pub below_next : (nodes : List NodeId) → IsStrictlyIncreasing (map node_number nodes) → (i : ℕ) (d : NodeId) → i < length nodes
+    → All (λ node. node.0 < (get_or nodes i d).0) (take i nodes)
 below_next nodes up i d within k e inside =
     let short = length-take i nodes in
     let less : k < i = omega arith in
@@ -53,12 +56,15 @@ below_next nodes up i d within k e inside =
     omega arith
 
 -- and so does what is made of those that are picked
-pub picked_below : {Y : Type 0} (number : Y → ℕ) (f : NodeId → Y) → ((node : NodeId) → number (f node) ≡ node.0) → (test : NodeId → Bool) (nodes : List NodeId) (b : ℕ) → All (λ node. node.0 < b) nodes → All (λ one. number one < b) (map f (filter test nodes))
+pub picked_below : {Y : Type 0} (number : Y → ℕ) (f : NodeId → Y) → ((node : NodeId) → number (f node) ≡ node.0)
+    → (test : NodeId → Bool) (nodes : List NodeId) (b : ℕ) → All (λ node. node.0 < b) nodes → All (λ one. number one < b) (map f (filter test nodes))
 picked_below number f own test nodes b below =
-    All-map (λ one. number one < b) f (filter test nodes) (λ k d within. let low = All-filter test (λ node. node.0 < b) nodes below k d within in let same = own (get_or (filter test nodes) k d) in omega arith)
+    All-map (λ one. number one < b) f (filter test nodes)
+    (λ k d within. let low = All-filter test (λ node. node.0 < b) nodes below k d within in let same = own (get_or (filter test nodes) k d) in omega arith)
 
 -- the next of nodes that ascend is none of those before it
-pub unlisted_next : (nodes : List NodeId) → IsStrictlyIncreasing (map node_number nodes) → (i : ℕ) (d : NodeId) → i < length nodes → is_listed (map node_number (take i nodes)) (get_or nodes i d).0 ≡ false
+pub unlisted_next : (nodes : List NodeId) → IsStrictlyIncreasing (map node_number nodes) → (i : ℕ) (d : NodeId) → i < length nodes
+    → is_listed (map node_number (take i nodes)) (get_or nodes i d).0 ≡ false
 unlisted_next nodes up i d within = by (take i nodes) (below_next nodes up i d within)
   where
     by : (earlier : List NodeId) → All (λ node. node.0 < (get_or nodes i d).0) earlier → is_listed (map node_number earlier) (get_or nodes i d).0 ≡ false

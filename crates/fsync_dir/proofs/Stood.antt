@@ -53,7 +53,8 @@ no_first : (name : List ℕ) (changes : List Change) → last_change name change
 no_first name changes none = ap (first_change name) (sym (reverse-reverse changes)) ∙ none_reversed (λ change. bytes_eq name change.name) (reverse changes) none
 
 -- what one change leaves a name with
-one_made : (rows : FinMap name_cmp ℕ) (change : Change) (name : List ℕ) → get (rows_with_changes rows (change ∷ [])) name ≡ cond (bytes_eq name change.name) (number_of (child_after change.act change.child)) (get rows name)
+one_made : (rows : FinMap name_cmp ℕ) (change : Change) (name : List ℕ)
+    → get (rows_with_changes rows (change ∷ [])) name ≡ cond (bytes_eq name change.name) (number_of (child_after change.act change.child)) (get rows name)
 one_made rows change name = get-rows_after rows (change ∷ []) name ∙ by (bytes_eq name change.name)
   where
     by : (b : Bool) → left_by (cond b (Some change) None) (get rows name) ≡ cond b (number_of (child_after change.act change.child)) (get rows name)
@@ -61,7 +62,8 @@ one_made rows change name = get-rows_after rows (change ∷ []) name ∙ by (byt
     by false = refl
 
 -- a name that has a child before some changes where their first change of it tells one has afterwards what the last one leaves
-left_is : (rows : FinMap name_cmp ℕ) (changes : List Change) (name : List ℕ) → get rows name ≡ before_by changes name → get (rows_with_changes rows changes) name ≡ after_by changes name
+left_is : (rows : FinMap name_cmp ℕ) (changes : List Change) (name : List ℕ) → get rows name ≡ before_by changes name
+    → get (rows_with_changes rows changes) name ≡ after_by changes name
 left_is rows changes name before = get-rows_after rows changes name ∙ by (last_change name changes) refl
   where
     by : (o : Option Change) → last_change name changes ≡ o → left_by o (get rows name) ≡ number_of (left_by_change o)
@@ -93,12 +95,15 @@ get-stood (change ∷ changes) name =
     undoes Add child = refl
     undoes Remove child = refl
 
-    by : (b : Bool) → cond b (number_of (child_after (undone_act change.act) change.child)) (before_by changes name) ≡ number_of (stood_before (cond b (Some change) (first_change name changes)))
+    by : (b : Bool)
+        → cond b (number_of (child_after (undone_act change.act) change.child)) (before_by changes name)
+        ≡ number_of (stood_before (cond b (Some change) (first_change name changes)))
     by true = undoes change.act change.child
     by false = refl
 
 -- the net of the rows that changes tell is their net by the changes alone
-pub IsNetBy-from_stood : (changes : List Change) (net : List NetRow) → IsNet (stood changes) (rows_with_changes (stood changes) changes) net → IsNetBy changes net
+pub IsNetBy-from_stood : (changes : List Change) (net : List NetRow) → IsNet (stood changes) (rows_with_changes (stood changes) changes) net
+    → IsNetBy changes net
 IsNetBy-from_stood changes net h = record {
   ascending = h.ascending;
   each = λ k d within. let row = h.each k d within in record {
@@ -106,18 +111,22 @@ IsNetBy-from_stood changes net h = record {
     after = row.after ∙ left_is (stood changes) changes _ (get-stood changes _);
     differs = row.differs;
   };
-  complete = λ name differ. h.complete name (λ same. differ (sym (get-stood changes name) ∙ same ∙ left_is (stood changes) changes name (get-stood changes name)));
+  complete =
+      λ name differ. h.complete name (λ same. differ (sym (get-stood changes name) ∙ same ∙ left_is (stood changes) changes name (get-stood changes name)));
 }
 
 -- What changes tell of the names that they have is so in rows that they fit.
-stands : (act : Act) (rows : FinMap name_cmp ℕ) (name : List ℕ) (child : NodeId) → FitsRows act rows name child.0 → get rows name ≡ number_of (child_before act child)
+stands : (act : Act) (rows : FinMap name_cmp ℕ) (name : List ℕ) (child : NodeId) → FitsRows act rows name child.0
+    → get rows name ≡ number_of (child_before act child)
 stands Add rows name child fits = fits
 stands Remove rows name child fits = fits
 
-first_stands : (rows : FinMap name_cmp ℕ) (changes : List Change) → FitRows rows changes → (name : List ℕ) (first : Change) → first_change name changes ≡ Some first → get rows name ≡ before_by changes name
+first_stands : (rows : FinMap name_cmp ℕ) (changes : List Change) → FitRows rows changes → (name : List ℕ) (first : Change)
+    → first_change name changes ≡ Some first → get rows name ≡ before_by changes name
 first_stands rows [] fit name first is = absurd (none_some is)
 first_stands rows (change ∷ changes) fit name first is =
-    elim (bytes_eq name change.name) as (λ b. bytes_eq name change.name ≡ b → cond b (Some change) (first_change name changes) ≡ Some first → get rows name ≡ number_of (stood_before (cond b (Some change) (first_change name changes)))) [
+    elim (bytes_eq name change.name) as (λ b. bytes_eq name change.name ≡ b → cond b (Some change) (first_change name changes) ≡ Some first
+    → get rows name ≡ number_of (stood_before (cond b (Some change) (first_change name changes)))) [
       | true ↦ λ same _.
           let one : name ≡ change.name = name_cmp-IsAntisymmetric name change.name (is_equal _ (is_eq-slice_cmp name change.name ∙ same)) in
           ap (get rows) one ∙ stands change.act rows change.name change.child fit.0
@@ -148,19 +157,27 @@ nets_need_no_rows rows changes net fit h = record {
             let before = first_stands rows changes fit row.name first found in
             record { before = is.before ∙ sym before; after = is.after ∙ sym (left_is rows changes row.name before); differs = is.differs }
         by None none =
-            absurd (is.differs (same_nodes row.before row.after (is.before ∙ ap (λ o. number_of (stood_before o)) none) (is.after ∙ ap (λ o. number_of (left_by_change o)) (no_last row.name changes none))))
+            absurd
+            (is.differs
+            (same_nodes row.before row.after (is.before ∙ ap (λ o. number_of (stood_before o)) none)
+            (is.after ∙ ap (λ o. number_of (left_by_change o)) (no_last row.name changes none))))
 
-    by_first : (name : List ℕ) → get rows name ≢ get (rows_with_changes rows changes) name → (o : Option Change) → first_change name changes ≡ o → Contains (map (λ (row : NetRow). row.name) net) name
+    by_first : (name : List ℕ) → get rows name ≢ get (rows_with_changes rows changes) name → (o : Option Change) → first_change name changes ≡ o
+        → Contains (map (λ (row : NetRow). row.name) net) name
     by_first name differ (Some first) found =
         let before = first_stands rows changes fit name first found in
         h.complete name (λ same. differ (before ∙ same ∙ sym (left_is rows changes name before)))
     by_first name differ None none = absurd (differ (sym (get-rows_after rows changes name ∙ ap (λ o. left_by o (get rows name)) (no_last name changes none))))
 
 -- a look-up among what is lent
-found_lent : (entries : List (Bor (List ℕ) × Bor Change)) (name : List ℕ) → option_map (λ (change : Bor Change). change.now) (lookup (is_at (λ (key : Bor (List ℕ)). slice_cmp nat_cmp name key.now)) entries) ≡ finmap.find name_cmp name (lent entries)
+found_lent : (entries : List (Bor (List ℕ) × Bor Change)) (name : List ℕ)
+    → option_map (λ (change : Bor Change). change.now) (lookup (is_at (λ (key : Bor (List ℕ)). slice_cmp nat_cmp name key.now)) entries)
+    ≡ finmap.find name_cmp name (lent entries)
 found_lent [] name = refl
 found_lent (e ∷ es) name =
-    elim (is_eq (slice_cmp nat_cmp name e.0.now)) as (λ b. option_map (λ (change : Bor Change). change.now) (cond b (Some e.1) (lookup (is_at (λ (key : Bor (List ℕ)). slice_cmp nat_cmp name key.now)) es)) ≡ cond b (Some e.1.now) (finmap.find name_cmp name (lent es))) [
+    elim (is_eq (slice_cmp nat_cmp name e.0.now)) as (λ b. option_map (λ (change : Bor Change). change.now)
+    (cond b (Some e.1) (lookup (is_at (λ (key : Bor (List ℕ)). slice_cmp nat_cmp name key.now)) es))
+    ≡ cond b (Some e.1.now) (finmap.find name_cmp name (lent es))) [
       | true ↦ refl
       | false ↦ found_lent es name
     ]
@@ -182,6 +199,7 @@ module _ (changes : List Change) (first : LentChanges) (are : AreLast (reverse c
   rows_same (e ∷ es) = (λ i. cons_option (net_row e.1.now.name (child_stood e.1.now.name i) (child_after e.1.now.act e.1.now.child)) (rows_same es i))
 
   -- the rows by the first and the last changes are the net by the changes
-  pub IsNetBy-from_lent : (last : List (Bor (List ℕ) × Bor Change)) (net : List NetRow) → AreLast changes (lent last) → net ≡ filter_map (lent_between first) last → IsNetBy changes net
+  pub IsNetBy-from_lent : (last : List (Bor (List ℕ) × Bor Change)) (net : List NetRow) → AreLast changes (lent last)
+      → net ≡ filter_map (lent_between first) last → IsNetBy changes net
   IsNetBy-from_lent last net are_last is =
       IsNetBy-from_stood changes net (IsNet-from_lent (stood changes) changes changes last net refl (is ∙ rows_same last) are_last)

@@ -26,19 +26,24 @@ told_append xs ys node =
     names : Change → Bool
     names change = nat_eq change.child.0 node
 
-    either : (late early : Option Change) → option_map (λ (change : Change). change.kind) (option_or late early) ≡ option_or (option_map (λ change. change.kind) late) (option_map (λ change. change.kind) early)
+    either : (late early : Option Change)
+        → option_map (λ (change : Change). change.kind) (option_or late early)
+        ≡ option_or (option_map (λ change. change.kind) late) (option_map (λ change. change.kind) early)
     either None early = refl
     either (Some change) early = refl
 
 -- of one change more
 pub told_more : (changes : List Change) (i : ℕ) (change : Change) (node : ℕ) (old : Option Kind) → i < length changes → change ≡ get_or changes i change
-    → option_or (kind_told (take (i + 1) changes) node) old ≡ cond (nat_eq change.child.0 node) (Some change.kind) (option_or (kind_told (take i changes) node) old)
+    → option_or (kind_told (take (i + 1) changes) node) old
+    ≡ cond (nat_eq change.child.0 node) (Some change.kind) (option_or (kind_told (take i changes) node) old)
 told_more changes i change node old within is =
     ap (λ l. option_or (kind_told l node) old) (take_more changes i change within ∙ ap (λ (c : Change). take i changes ++ c ∷ []) (sym is))
     ∙ ap (λ o. option_or o old) (told_append (take i changes) (change ∷ []) node)
     ∙ by (nat_eq change.child.0 node)
   where
-    by : (b : Bool) → option_or (option_or (option_map (λ (c : Change). c.kind) (cond b (Some change) None)) (kind_told (take i changes) node)) old ≡ cond b (Some change.kind) (option_or (kind_told (take i changes) node) old)
+    by : (b : Bool)
+        → option_or (option_or (option_map (λ (c : Change). c.kind) (cond b (Some change) None)) (kind_told (take i changes) node)) old
+        ≡ cond b (Some change.kind) (option_or (kind_told (take i changes) node) old)
     by true = refl
     by false = refl
 

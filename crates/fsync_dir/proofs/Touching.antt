@@ -14,7 +14,8 @@ use Rattle.dep_closure.proofs.Closed.{listed_one}
 use Rattle.dep_closure.proofs.Tying.{sight_there, sight_back}
 use Rattle.fsync_dir.specs.Concerned.{IsTouchedBy}
 
-module _ (gathered : Gathered) (orderly : IsOrderly gathered) (start : NodeId) (below : Stamp) (members : List NodeId) (are : (node : ℕ) → (is_listed (map node_number members) node ≡ true) ↔ Gathers (look_of start below gathered) node) where
+module _ (gathered : Gathered) (orderly : IsOrderly gathered) (start : NodeId) (below : Stamp) (members : List NodeId)
+    (are : (node : ℕ) → (is_listed (map node_number members) node ≡ true) ↔ Gathers (look_of start below gathered) node) where
   abbrev look : Look
   look = look_of start below gathered
 
@@ -35,5 +36,7 @@ module _ (gathered : Gathered) (orderly : IsOrderly gathered) (start : NodeId) (
   touches_back _ (Touches.member node gathers) = let member = member_of node gathers in (member.0, member.1, inl member.2)
   touches_back _ (Touches.named noted gathers in_sight) =
       let member = member_of noted.change.directory gathers in
-      let back = sight_back gathered orderly start below member.0.0 noted.change.child (record { noted = noted; in_sight = in_sight; own = sym member.2; child = refl }) in
+      let back =
+      sight_back gathered orderly start below member.0.0 noted.change.child
+      (record { noted = noted; in_sight = in_sight; own = sym member.2; child = refl }) in
       (member.0, member.1, inr back)

@@ -21,4 +21,6 @@ FitRows rows (change ∷ changes) = FitsRows change.act rows change.name change.
 
 -- The net of changes by the changes alone is the net of the rows before and after them, where each change fits the rows that it finds.
 abbrev pub NetsNeedNoRows : Type 0
-NetsNeedNoRows = (rows : FinMap name_cmp ℕ) (changes : List Change) (net : List NetRow) → FitRows rows changes → IsNetBy changes net → IsNet rows (rows_with_changes rows changes) net
+NetsNeedNoRows =
+    (rows : FinMap name_cmp ℕ) (changes : List Change) (net : List NetRow) → FitRows rows changes → IsNetBy changes net
+    → IsNet rows (rows_with_changes rows changes) net

@@ -43,8 +43,10 @@ kind_entering start is_file changes node = if node == start.0 then kind_of_own_n
 -- What is known of the nodes that an fsync touches once its members' cuts are lifted: which are named, which have a naming that is not
 -- flushed, and which kinds the changes tell.
 pub record AreFacts (below : Stamp) (gathered : Gathered) (concern : Concern) (old : List OldEntry) (facts : Facts) : Type 0 where
-  pub named : (node : ℕ) → is_listed (map node_number concern.nodes.items) node ≡ true → contains nat_cmp facts.named node ≡ is_named_after old concern.nets.items node
-  pub unflushed : (start : NodeId) (late : Stamp) (node : ℕ) → (contains nat_cmp facts.unflushed node ≡ true) ↔ SeesNaming (look_of start late gathered) (cuts_after below gathered concern) node
+  pub named : (node : ℕ) → is_listed (map node_number concern.nodes.items) node ≡ true
+      → contains nat_cmp facts.named node ≡ is_named_after old concern.nets.items node
+  pub unflushed : (start : NodeId) (late : Stamp) (node : ℕ)
+      → (contains nat_cmp facts.unflushed node ≡ true) ↔ SeesNaming (look_of start late gathered) (cuts_after below gathered concern) node
   pub kinds : (node : ℕ) → get nat_cmp facts.kinds node ≡ kind_told (spans_in gathered below concern.members.items) node
 
 -- whether a node gets an inode, by the facts: it has none, and is named, or it is the fsync's own file and has a naming that is not flushed

@@ -33,16 +33,19 @@ AreFileChanges start cut None held files = files ≡ []
 
 -- The nodes that get an inode, with their kinds, and those that lose theirs: each list ascends, and they are those that the rule of an
 -- fsync moves at the lifted cuts.
-pub record MovesInodes (start : NodeId) (below : Stamp) (gathered : Gathered) (concern : Concern) (old : List OldEntry) (file : Option File) (enter : List Enter) (leave : List NodeId) : Type 0 where
+pub record MovesInodes (start : NodeId) (below : Stamp) (gathered : Gathered) (concern : Concern) (old : List OldEntry) (file : Option File)
+    (enter : List Enter) (leave : List NodeId) : Type 0 where
   pub enter_ascends : AscendBy enter_node enter
   pub leave_ascends : IsStrictlyIncreasing (map node_number leave)
   pub lifts : Lifts (look_of start below gathered) (cuts_after below gathered concern)
-  pub moved : AreMoved (look_of start below gathered) (cuts_after below gathered concern) (found_by old concern.nets.items file) (is_listed (map enter_node enter)) (is_listed (map node_number leave))
+  pub moved : AreMoved (look_of start below gathered) (cuts_after below gathered concern) (found_by old concern.nets.items file)
+      (is_listed (map enter_node enter)) (is_listed (map node_number leave))
   pub kinds : All (λ one. one.kind ≡ kind_entering start (is_some file) (spans_in gathered below concern.members.items) one.node.0) enter
 
 -- What an fsync of a node at a stamp comes to, by what was gathered and what the disk has of the concerned nodes: the members and the
 -- nodes that it touches, the nodes that get and lose an inode, and the change of the disk.
-pub record IsPlanOf (start : NodeId) (below : Stamp) (gathered : Gathered) (concern : Concern) (old : List OldEntry) (file : Option File) (plan : FsyncPlan) : Type 0 where
+pub record IsPlanOf (start : NodeId) (below : Stamp) (gathered : Gathered) (concern : Concern) (old : List OldEntry) (file : Option File)
+    (plan : FsyncPlan) : Type 0 where
   pub enter : List Enter
   pub files : List FileChange
   pub members : plan.members.items ≡ concern.members.items

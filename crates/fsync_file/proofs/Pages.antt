@@ -13,7 +13,8 @@ use Rattle.disk_change.specs.declared.pages.Page.{Page}
 use Rattle.fsync_file.specs.Touched.{page_of, is_marked_from}
 
 -- of one number more there is one thing more, where it passes the test
-pub one_more : {X : Type 0} (test : ℕ → Bool) (f : ℕ → X) (n : ℕ) → map f (filter test (range_with_len 0 (n + 1))) ≡ map f (filter test (range_with_len 0 n)) ++ cond (test n) (f n ∷ []) []
+pub one_more : {X : Type 0} (test : ℕ → Bool) (f : ℕ → X) (n : ℕ)
+    → map f (filter test (range_with_len 0 (n + 1))) ≡ map f (filter test (range_with_len 0 n)) ++ cond (test n) (f n ∷ []) []
 one_more test f n =
     ap (λ l. map f (filter test l)) (range_more 0 n ∙ ap (λ m. range_with_len 0 n ++ m ∷ []) (alone n))
     ∙ ap (map f) (filter-append test (range_with_len 0 n) (n ∷ []))
@@ -51,8 +52,10 @@ filled count size xs is = elim (cases_lt size (length xs)) [
     gone n = omega arith
 
 -- one block more, of which there is a page where it was touched
-module _ (cut : ℕ) (file : File) (block : ℕ) (touched : Bool) (is : touched ≡ is_marked_from cut file block) (pages new : List Page) (grows : new ≡ pages ++ cond touched (page_of file.bytes block ∷ []) []) where
-  pub pages_more : pages ≡ map (page_of file.bytes) (filter (is_marked_from cut file) (range_with_len 0 block)) → new ≡ map (page_of file.bytes) (filter (is_marked_from cut file) (range_with_len 0 (block + 1)))
+module _ (cut : ℕ) (file : File) (block : ℕ) (touched : Bool) (is : touched ≡ is_marked_from cut file block) (pages new : List Page)
+    (grows : new ≡ pages ++ cond touched (page_of file.bytes block ∷ []) []) where
+  pub pages_more : pages ≡ map (page_of file.bytes) (filter (is_marked_from cut file) (range_with_len 0 block))
+      → new ≡ map (page_of file.bytes) (filter (is_marked_from cut file) (range_with_len 0 (block + 1)))
   pages_more are =
       grows ∙ ap (λ l. l ++ cond touched (page_of file.bytes block ∷ []) []) are
       ∙ ap (λ b. map (page_of file.bytes) (filter (is_marked_from cut file) (range_with_len 0 block)) ++ cond b (page_of file.bytes block ∷ []) []) is
@@ -61,7 +64,8 @@ module _ (cut : ℕ) (file : File) (block : ℕ) (touched : Bool) (is : touched 
   pub below_more : All (λ page. page_block page < block) pages → All (λ page. page_block page < block + 1) new
   below_more below =
       subst (All (λ page. page_block page < block + 1)) (sym grows)
-      (All-append (λ page. page_block page < block + 1) pages (cond touched (page_of file.bytes block ∷ []) []) (λ k d within. let low = below k d within in omega arith) (last touched))
+      (All-append (λ page. page_block page < block + 1) pages (cond touched (page_of file.bytes block ∷ []) [])
+      (λ k d within. let low = below k d within in omega arith) (last touched))
     where
       one : All (λ page. page_block page < block + 1) (page_of file.bytes block ∷ [])
       one = All-cons (λ page. page_block page < block + 1) (page_of file.bytes block) [] (omega arith) (All-nil (λ page. page_block page < block + 1))

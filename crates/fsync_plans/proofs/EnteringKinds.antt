@@ -73,7 +73,8 @@ module _ (first : TreeState) (history : List Entry) (cut : Cut) (inodes : ℕ �
     (sound : IsSoundTree first) (legal : IsLegal first history) (orderly : IsOrderly gathered)
     (spans : (node : ℕ) → Gathers (look_of start below gathered) node → span_in gathered below node ≡ logged_span first history cut below node)
     (are : (node : ℕ) → (is_listed (map node_number members) node ≡ true) ↔ Gathers (look_of start below gathered) node)
-    (closed : (node : ℕ) → Gathers (look_of start below gathered) node → Closure first history every_entry cut inodes (record { node = start.0; stamp = below.0 }) node)
+    (closed : (node : ℕ) → Gathers (look_of start below gathered) node
+    → Closure first history every_entry cut inodes (record { node = start.0; stamp = below.0 }) node)
     (own_kind : is_directory (tree_after first history) start.0 ≡ (cond is_file false true)) where
   abbrev last : TreeState
   last = tree_after first history
@@ -98,14 +99,19 @@ module _ (first : TreeState) (history : List Entry) (cut : Cut) (inodes : ℕ �
       → find (λ (change : Change). nat_eq change.child.0 node) (reverse changes) ≡ None → kind_of last node ≡ Directory
   untold node other touches none = by (touches_back gathered orderly start below members are node touches)
     where
-      by : (member : NodeId) × IsOneOf members member × ((member.0 ≡ node) ⊎ ((change : Change) × IsOneOf (span_in gathered below member.0) change × (change.child.0 ≡ node))) → kind_of last node ≡ Directory
+      by : (member : NodeId) × IsOneOf members member
+          × ((member.0 ≡ node) ⊎ ((change : Change) × IsOneOf (span_in gathered below member.0) change × (change.child.0 ≡ node)))
+          → kind_of last node ≡ Directory
       by (member, one, inr (change, among, child)) =
           let passes : nat_eq change.child.0 node ≡ true = subst (λ n. nat_eq change.child.0 n ≡ true) child (same_number change.child.0) in
           let found = ap (find (λ (change : Change). nat_eq change.child.0 node)) (sym (reverse-reverse changes))
           ∙ none_reversed (λ (change : Change). nat_eq change.child.0 node) (reverse changes) none in
-          absurd (none_passes (λ (change : Change). nat_eq change.child.0 node) changes found change (to_flat (λ (node : NodeId). span_in gathered below node.0) members member change one among) passes)
+          absurd
+          (none_passes (λ (change : Change). nat_eq change.child.0 node) changes found change
+          (to_flat (λ (node : NodeId). span_in gathered below node.0) members member change one among) passes)
       by (member, one, inl same) =
-          elim (members_are_directories first history every_entry cut inodes (record { node = start.0; stamp = below.0 }) node sound legal (closed node (subst (Gathers (look_of start below gathered)) same (gathers member one)))) [
+          elim (members_are_directories first history every_entry cut inodes (record { node = start.0; stamp = below.0 }) node sound legal
+          (closed node (subst (Gathers (look_of start below gathered)) same (gathers member one)))) [
             | inl own ↦ absurd (not_both (subst (λ n. nat_eq n start.0 ≡ true) (sym own) (same_number start.0)) other)
             | inr directory ↦ directory_kind last node directory
           ]

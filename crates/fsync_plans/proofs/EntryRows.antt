@@ -65,7 +65,8 @@ lead_first : (d : ℕ) (change : Change) (rest : List Change) (rows : FinMap key
     → LeadRows (names_of d (act_made change.act rows (change.dir.0, change.name) change.child.0)) (filter (is_logged_in d) rest) later
     → LeadRows (names_of d rows) (filter (is_logged_in d) (change ∷ rest)) later
 lead_first d change rest rows later fits lead =
-    elim (nat_eq change.dir.0 d) as (λ b. nat_eq change.dir.0 d ≡ b → LeadRows (cond b (with_act change.act (names_of d rows) change.name change.child.0) (names_of d rows)) (filter (is_logged_in d) rest) later
+    elim (nat_eq change.dir.0 d) as (λ b. nat_eq change.dir.0 d ≡ b
+    → LeadRows (cond b (with_act change.act (names_of d rows) change.name change.child.0) (names_of d rows)) (filter (is_logged_in d) rest) later
     → LeadRows (names_of d rows) (cond b (change ∷ filter (is_logged_in d) rest) (filter (is_logged_in d) rest)) later) [
       | true ↦ λ same own. record { fit = (own_fits change.act d change.dir.0 change.name change.child.0 rows same fits, own.fit); make = own.make }
       | false ↦ λ other own. own
@@ -81,22 +82,33 @@ still_none rows key other none =
 covered : (rows : FinMap key_cmp ℕ) (key other : Key) (child : ℕ) → insert (remove (remove rows key) other) key child ≡ insert (remove rows other) key child
 covered rows key other child = same_rows _ _ (λ k.
     get-insert key_cmp_total (remove (remove rows key) other) key child k
-    ∙ ap (cond (eq_by_cmp key_cmp k key) (Some child)) (get-remove key_cmp_total (remove rows key) other k ∙ ap (cond (eq_by_cmp key_cmp k other) None) (get-remove key_cmp_total rows key k))
-    ∙ elim (eq_by_cmp key_cmp k key) as (λ b. cond b (Some child) (cond (eq_by_cmp key_cmp k other) None (cond b None (get rows k))) ≡ cond b (Some child) (cond (eq_by_cmp key_cmp k other) None (get rows k))) [ true ↦ refl | false ↦ refl ]
+    ∙ ap (cond (eq_by_cmp key_cmp k key) (Some child))
+    (get-remove key_cmp_total (remove rows key) other k ∙ ap (cond (eq_by_cmp key_cmp k other) None) (get-remove key_cmp_total rows key k))
+    ∙ elim (eq_by_cmp key_cmp k key) as (λ b. cond b (Some child) (cond (eq_by_cmp key_cmp k other) None (cond b None (get rows k)))
+    ≡ cond b (Some child) (cond (eq_by_cmp key_cmp k other) None (get rows k))) [
+      | true ↦
+          refl
+      | false ↦ refl
+    ]
     ∙ ap (cond (eq_by_cmp key_cmp k key) (Some child)) (sym (get-remove key_cmp_total rows other k))
     ∙ sym (get-insert key_cmp_total (remove rows other) key child k))
 
 module _ (tree : TreeState) (core stamp d : ℕ) where
   abbrev Leads : Effect → Option Kind → Type 0
-  Leads effect makes = LeadRows (names_of d tree.rows) (filter (is_logged_in d) (logged_by tree core stamp effect makes)) (names_of d (rows_after tree.rows effect))
+  Leads effect makes =
+      LeadRows (names_of d tree.rows) (filter (is_logged_in d) (logged_by tree core stamp effect makes)) (names_of d (rows_after tree.rows effect))
 
   -- a row that comes
   of_addition : (e : ℕ) (name : List ℕ) (child : ℕ) (makes : Option Kind) → row_of tree e name ≡ None → Leads (Adds e name child) makes
-  of_addition e name child makes free = lead_first d (log_entry stamp e name child (kind_after tree core makes child) Add None []) [] tree.rows _ free (no_changes (names_of d (insert tree.rows (e, name) child)))
+  of_addition e name child makes free =
+      lead_first d (log_entry stamp e name child (kind_after tree core makes child) Add None []) [] tree.rows _ free
+      (no_changes (names_of d (insert tree.rows (e, name) child)))
 
   -- a row that goes
   of_removal : (e : ℕ) (name : List ℕ) (child : ℕ) (makes : Option Kind) → row_of tree e name ≡ Some child → Leads (Removes e name child) makes
-  of_removal e name child makes there = lead_first d (log_entry stamp e name child (kind_of tree child) Remove None []) [] tree.rows _ there (no_changes (names_of d (remove tree.rows (e, name))))
+  of_removal e name child makes there =
+      lead_first d (log_entry stamp e name child (kind_of tree child) Remove None []) [] tree.rows _ there
+      (no_changes (names_of d (remove tree.rows (e, name))))
 
   -- a row that moves, in place of what stands there
   module _ (p : ℕ) (n : List ℕ) (q : ℕ) (m : List ℕ) (x : ℕ) (makes : Option Kind) (row : row_of tree p n ≡ Some x) (apart : row_of tree q m ≢ Some x) where
@@ -115,12 +127,20 @@ module _ (tree : TreeState) (core stamp d : ℕ) where
 
     of_move : Leads (Moves p n q m x) makes
     of_move =
-        elim (row_of tree q m) as (λ o. row_of tree q m ≡ o → LeadRows (names_of d tree.rows) (filter (is_logged_in d) (logged_replaced tree stamp p q m o ++ goes ∷ comes ∷ [])) (names_of d (rows_after tree.rows (Moves p n q m x)))) [
+        elim (row_of tree q m) as (λ o. row_of tree q m ≡ o
+        → LeadRows (names_of d tree.rows) (filter (is_logged_in d) (logged_replaced tree stamp p q m o ++ goes ∷ comes ∷ []))
+        (names_of d (rows_after tree.rows (Moves p n q m x)))) [
           | None ↦ λ free. both tree.rows row free
           | Some there ↦ λ stands.
               lead_first d (log_entry stamp q m there (kind_of tree there) Remove (other_side q p) []) (goes ∷ comes ∷ []) tree.rows _ stands
-              (subst (λ (r : FinMap key_cmp ℕ). LeadRows (names_of d (remove tree.rows (q, m))) (filter (is_logged_in d) (goes ∷ comes ∷ [])) (names_of d r)) (covered tree.rows (q, m) (p, n) x)
-              (both (remove tree.rows (q, m)) (removed_other tree.rows p q n m (λ same_directory same_name. let same : row_of tree p n ≡ row_of tree q m = λ i. row_of tree (same_directory i) (same_name i) in apart (sym same ∙ row)) ∙ row) (none_removed tree.rows (q, m))))
+              (subst (λ (r : FinMap key_cmp ℕ). LeadRows (names_of d (remove tree.rows (q, m))) (filter (is_logged_in d) (goes ∷ comes ∷ [])) (names_of d r))
+              (covered tree.rows (q, m) (p, n) x)
+              (both (remove tree.rows (q, m))
+              (removed_other tree.rows p q n m
+              (λ same_directory same_name. let same : row_of tree p n ≡ row_of tree q m = λ i. row_of tree (same_directory i) (same_name i) in
+              apart (sym same ∙ row))
+              ∙ row)
+              (none_removed tree.rows (q, m))))
         ] refl
 
   -- what an entry logs leads from the rows of the tree at its call to those of the next tree

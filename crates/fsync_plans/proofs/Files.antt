@@ -43,8 +43,12 @@ bytes_are_cut first history cut node is legal = by (get (tree_after first histor
     by (Some n) e = files_are_cut first history cut node (subst IsSome (sym e) refl)
     by None e =
         none_no_bytes (tree_at_cut first history cut) node (none_there _ (λ some. lacks (((cuts_keep_kinds first history cut).nodes node).0 some)))
-        ∙ sym (bytes_at-tree_after first history node (cut_of cut node) is legal ∙ none_no_bytes (tree_after first (take (cut_of cut node) history)) node (none_there _ (λ some.
-        lacks (nodes_at first history (cut_of cut node) is legal node (subst (λ (t : TreeState). IsSome (get t.nodes node)) (sym (tree_at-after first history (cut_of cut node))) some)).0)))
+        ∙ sym
+        (bytes_at-tree_after first history node (cut_of cut node) is legal
+        ∙ none_no_bytes (tree_after first (take (cut_of cut node) history)) node (none_there _ (λ some.
+        lacks
+        (nodes_at first history (cut_of cut node) is legal node
+        (subst (λ (t : TreeState). IsSome (get t.nodes node)) (sym (tree_at-after first history (cut_of cut node))) some)).0)))
       where
         lacks : IsSome (get (tree_after first history).nodes node) → ⊥
         lacks some = some_is_no_none some e
@@ -107,7 +111,9 @@ module _ (old new : TreeState) (nodes : List ℕ) (plan : CommitPlan) (short : H
     still : (node n : ℕ) → has_page plan.files node n ≡ false → bytes_in_block n (bytes_of new node) ≡ bytes_in_block n (bytes_of old node)
     still node n none = elim (which node) [
       | inr apart ↦ ap (bytes_in_block n) (same node apart)
-      | inl here ↦ subst (λ m. bytes_in_block n (bytes_of new m) ≡ bytes_in_block n (bytes_of old m)) (sym here) (changes.untouched n (sym (own_pages n) ∙ ap (λ m. has_page plan.files m n) (sym here) ∙ none))
+      | inl here ↦
+          subst (λ m. bytes_in_block n (bytes_of new m) ≡ bytes_in_block n (bytes_of old m)) (sym here)
+          (changes.untouched n (sym (own_pages n) ∙ ap (λ m. has_page plan.files m n) (sym here) ∙ none))
     ]
 
     cut_off : (node n : ℕ) → BLOCK_BYTES * n < length (bytes_of old node) → length (bytes_of new node) ≤ BLOCK_BYTES * n → has_page plan.files node n ≡ true
@@ -120,10 +126,13 @@ module _ (old new : TreeState) (nodes : List ℕ) (plan : CommitPlan) (short : H
 
     pub own_file_leads : HasFiles nodes old new plan
     own_file_leads = record {
-      sizes = λ x there. subst (λ (c : FileChange). c.size ≡ length (bytes_of new c.node.0)) (only x there) (changes.size ∙ ap (λ n. length (bytes_of new n)) (sym own));
+      sizes =
+          λ x there. subst (λ (c : FileChange). c.size ≡ length (bytes_of new c.node.0)) (only x there)
+          (changes.size ∙ ap (λ n. length (bytes_of new n)) (sym own));
       others = other_bytes;
       ascend = λ x there. subst (λ (c : FileChange). AscendBy page_block c.pages.items) (only x there) changes.ascend;
-      pages = λ x there page on. subst (λ n. page.bytes ≡ bytes_in_block page.block (bytes_of new n)) (sym own ∙ ap (λ (c : FileChange). c.node.0) (only x there))
+      pages =
+          λ x there page on. subst (λ n. page.bytes ≡ bytes_in_block page.block (bytes_of new n)) (sym own ∙ ap (λ (c : FileChange). c.node.0) (only x there))
           (changes.pages page (subst (λ (c : FileChange). Contains c.pages.items page) (sym (only x there)) on));
       untouched = λ node n _ none. still node n none;
       ends = λ node n _ had gone. cut_off node n had gone;

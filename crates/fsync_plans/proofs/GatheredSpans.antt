@@ -47,7 +47,8 @@ filter_kept p q xs all = pass_both q p (λ x. q x && p x) (λ x. refl) xs ∙ fi
 
 module _ (first : TreeState) (history : List Entry) (counts : Counts) (cut : Cut) (inodes : ℕ → Bool) (gathered : Gathered) (start : NodeId) (below : Stamp)
     (sound : IsSoundTree first) (legal : IsLegal first history) (orderly : IsOrderly gathered)
-    (logs : (log : DirectoryChanges) → IsOneOf gathered.logs.items log → IsLogOf first history counts log) (knows : KnowsEnough first history counts cut inodes (look_of start below gathered)) (counted : (stamp : ℕ) → stamp < below.0 → counts stamp ≡ true)
+    (logs : (log : DirectoryChanges) → IsOneOf gathered.logs.items log → IsLogOf first history counts log)
+    (knows : KnowsEnough first history counts cut inodes (look_of start below gathered)) (counted : (stamp : ℕ) → stamp < below.0 → counts stamp ≡ true)
     (d : ℕ) (own_member : Gathers (look_of start below gathered) d) where
   abbrev own : List Change
   own = filter (is_logged_in d) (logged_of first history)
@@ -70,15 +71,21 @@ module _ (first : TreeState) (history : List Entry) (counts : Counts) (cut : Cut
       let log = in_log.0 in
       let other = from_map (noted_as log.changes.items) log.changes.items noted in_log.2 in
       let directory : log.dir.0 ≡ d =
-      sym (one_of_all (λ (c : Change). c.dir.0 ≡ log.dir.0) log.changes.items other.0 (one_of_all IsOwnLog gathered.logs.items log orderly.own_logs in_log.1).own other.1) ∙ ap (λ (n : Noted). n.change.directory) other.2 ∙ same_directory in
+      sym
+      (one_of_all (λ (c : Change). c.dir.0 ≡ log.dir.0) log.changes.items other.0
+      (one_of_all IsOwnLog gathered.logs.items log orderly.own_logs in_log.1).own other.1)
+      ∙ ap (λ (n : Noted). n.change.directory) other.2 ∙ same_directory in
       let is : IsLogOf first history counts log = logs log in_log.1 in
-      let kept : is.keeps other.0.stamp.0 ≡ true = (in_filter (λ (c : Change). is.keeps c.stamp.0) (filter (is_logged_in log.dir.0) (logged_of first history)) other.0 (subst (λ l. IsOneOf l other.0) is.changes other.1)).1 in
+      let kept : is.keeps other.0.stamp.0 ≡ true =
+      (in_filter (λ (c : Change). is.keeps c.stamp.0) (filter (is_logged_in log.dir.0) (logged_of first history)) other.0
+      (subst (λ l. IsOneOf l other.0) is.changes other.1)).1 in
       let keeps : is.keeps change.stamp.0 ≡ true = subst (λ s. is.keeps s ≡ true) (ap (λ (n : Noted). n.change.stamp) other.2 ∙ same_stamp) kept in
       let there = to_filter (λ (c : Change). is.keeps c.stamp.0) own change one keeps in (
         log,
         (
           only_one log_directory gathered.logs.items orderly.logs d log in_log.1 directory,
-          subst (λ l. IsOneOf l change) (sym (is.changes ∙ ap (λ n. filter (λ (c : Change). is.keeps c.stamp.0) (filter (is_logged_in n) (logged_of first history))) directory)) there,
+          subst (λ l. IsOneOf l change)
+              (sym (is.changes ∙ ap (λ n. filter (λ (c : Change). is.keeps c.stamp.0) (filter (is_logged_in n) (logged_of first history))) directory)) there,
         ),
       )
 
@@ -87,10 +94,14 @@ module _ (first : TreeState) (history : List Entry) (counts : Counts) (cut : Cut
   in_log change one inside =
       let logged = in_filter (is_logged_in d) (logged_of first history) change one in
       let directory : change.dir.0 ≡ d = eqb-true change.dir.0 d logged.1 in
-      let low : cut_of cut d ≤ change.stamp.0 = subst (λ n. n ≤ change.stamp.0) same_cut (leb-true from change.stamp.0 (and_first (nat_le from change.stamp.0) (nat_lt change.stamp.0 below.0) inside)) in
+      let low : cut_of cut d ≤ change.stamp.0 =
+      subst (λ n. n ≤ change.stamp.0) same_cut
+      (leb-true from change.stamp.0 (and_first (nat_le from change.stamp.0) (nat_lt change.stamp.0 below.0) inside)) in
       let early : change.stamp.0 < below.0 = ltb-true change.stamp.0 below.0 (and_second (nat_le from change.stamp.0) (nat_lt change.stamp.0 below.0) inside) in
       let count = counted change.stamp.0 early in
-      let noted = knows.spans (erased (logged_at first history change.stamp.0 change.stamp.0) change) (subst (Gathers (look_of start below gathered)) (sym directory) own_member) (record {
+      let noted =
+      knows.spans (erased (logged_at first history change.stamp.0 change.stamp.0) change)
+      (subst (Gathers (look_of start below gathered)) (sym directory) own_member) (record {
         is_change = logged_row_is first history counts sound legal change count (logged_once first history change legal logged.0);
         counted = count;
         from = subst (λ n. cut_of cut n ≤ change.stamp.0) (sym directory) low;
@@ -114,7 +125,8 @@ module _ (first : TreeState) (history : List Entry) (counts : Counts) (cut : Cut
       ∙ filter_kept (is_in_span from below.0) (λ (c : Change). is.keeps c.stamp.0) own (λ change one inside.
       let its = in_log change one inside in
       let same : its.0 ≡ log = some_same (sym its.1.0 ∙ found) in
-      (in_filter (λ (c : Change). is.keeps c.stamp.0) own change (subst (λ l. IsOneOf l change) changes (subst (λ (l : DirectoryChanges). IsOneOf l.changes.items change) same its.1.1))).1)
+      (in_filter (λ (c : Change). is.keeps c.stamp.0) own change
+      (subst (λ l. IsOneOf l change) changes (subst (λ (l : DirectoryChanges). IsOneOf l.changes.items change) same its.1.1))).1)
 
   pub spans_are_logged : span_in gathered below d ≡ logged_span first history cut below d
   spans_are_logged = of_log (find (λ (log : DirectoryChanges). nat_eq (log_directory log) d) gathered.logs.items) refl

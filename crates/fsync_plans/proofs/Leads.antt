@@ -129,7 +129,9 @@ module _ (first : TreeState) (history : List Entry) (flushes : List Flush) (cut 
   legal = is.ready.history_is.legal
 
   sees : SeesCommit first history cut inodes start below gathered
-  sees = sees_enough first history cut inodes start below gathered sound legal is.orderly (lists_keep first history flushes cut inodes sound legal is.ready.flushed) is.gathers
+  sees =
+      sees_enough first history cut inodes start below gathered sound legal is.orderly
+      (lists_keep first history flushes cut inodes sound legal is.ready.flushed) is.gathers
 
   closed : (node : ℕ) → (is_listed members node ≡ true) ↔ Closure first history every_entry cut inodes flush node
   closed node =
@@ -155,7 +157,8 @@ module _ (first : TreeState) (history : List Entry) (flushes : List Flush) (cut 
   root_unnamed : IsNamedIn (rows_at_cut first history raised) 0 → ⊥
   root_unnamed there =
       let stamp = cut_of raised there.directory in
-      let same : names_of there.directory later.rows ≡ names_of there.directory (tree_after first (take stamp history)).rows = directories_are_cut first history raised there.directory ∙ rows_at-tree_after first history there.directory stamp legal in
+      let same : names_of there.directory later.rows ≡ names_of there.directory (tree_after first (take stamp history)).rows =
+      directories_are_cut first history raised there.directory ∙ rows_at-tree_after first history there.directory stamp legal in
       let row : row_of (tree_after first (take stamp history)) there.directory there.name ≡ Some 0 =
       sym (get-names_where there.directory (λ _. true) (tree_after first (take stamp history)).rows there.name)
       ∙ ap (λ (m : FinMap name_cmp ℕ). get m there.name) (sym same)
@@ -169,15 +172,18 @@ module _ (first : TreeState) (history : List Entry) (flushes : List Flush) (cut 
   named_there : (node : ℕ) → node ≢ 0 → Touches look node
       → (is_named_after old concern.nets.items node ≡ true) ↔ IsNamedIn (rows_at_cut first history raised) node
   named_there node apart touches =
-      named_by_nets first history flushes cut inodes num layout store parts entries is.ready is.keeps nodes old is.old_is later concern.nets.items same_kinds is.concern_is.ascend
-      (each_net first history cut gathered below concern.members.items concern.nets.items sound legal member_spans is.concern_is.nets) node apart ((is.concern_is.nodes.each node).1 touches)
+      named_by_nets first history flushes cut inodes num layout store parts entries is.ready is.keeps nodes old is.old_is later concern.nets.items same_kinds
+      is.concern_is.ascend
+      (each_net first history cut gathered below concern.members.items concern.nets.items sound legal member_spans is.concern_is.nets) node apart
+      ((is.concern_is.nodes.each node).1 touches)
 
   -- so what is found is right, with the root apart
   right : FindsRight first history every_entry raised look (but_root found)
   right = record {
     named = λ node touches. (
       λ named. let one = (named_but_root found node).0 named in (named_there node one.0 touches).0 one.1,
-      λ there. let apart : node ≢ 0 = λ same. root_unnamed (subst (IsNamedIn (rows_at_cut first history raised)) same there) in (named_but_root found node).1 (apart, (named_there node apart touches).1 there),
+      λ there. let apart : node ≢ 0 = λ same. root_unnamed (subst (IsNamedIn (rows_at_cut first history raised)) same there) in
+          (named_but_root found node).1 (apart, (named_there node apart touches).1 there),
     );
     directory = sym (own_kind first history start below file is.file_is);
   }
@@ -195,7 +201,8 @@ module _ (first : TreeState) (history : List Entry) (flushes : List Flush) (cut 
   makes = sees.makes raised (cuts_after below gathered concern) (but_root found) gets loses raises is.plans.moves.lifts right moved
 
   inodes_after : AreInodesAfter first history every_entry cut inodes flush raised after
-  inodes_after = sets first history cut raised inodes look (cuts_after below gathered concern) (but_root found) gets loses sees.same_inodes sees.fits moved makes
+  inodes_after =
+      sets first history cut raised inodes look (cuts_after below gathered concern) (but_root found) gets loses sees.same_inodes sees.fits moved makes
 
   -- the tree at the raised cut is sound, and an image may stand for it
   more : AreFlushed first history every_entry (flushes ++ flush ∷ []) raised after
@@ -221,7 +228,9 @@ module _ (first : TreeState) (history : List Entry) (flushes : List Flush) (cut 
   stored_before = cut_trees_are_storable first history flushes cut inodes num is.ready.history_is is.ready.flushed is.ready.numbers
 
   nets : HasNets before later concern.nets.items
-  nets = nets_lead first history cut gathered below concern.members.items concern.nets.items sound legal member_spans is.concern_is.nets is.concern_is.ascend stored_before.sound stored_later.sound same_kinds
+  nets =
+      nets_lead first history cut gathered below concern.members.items concern.nets.items sound legal member_spans is.concern_is.nets is.concern_is.ascend
+      stored_before.sound stored_later.sound same_kinds
 
   abbrev commit : CommitPlan
   commit = record { old = old; nets = concern.nets.items; files = is.plans.files; enter = is.plans.enter; leave = plan.leave.items }
@@ -231,8 +240,11 @@ module _ (first : TreeState) (history : List Entry) (flushes : List Flush) (cut 
   kinds one there =
       let listed = in_is_among (map enter_node is.plans.enter) one.node.0 (in_mapped enter_node is.plans.enter one there) in
       let touches = ((moved.enters one.node.0).0 listed).1 in
-      of_all (λ (one : Enter). one.kind ≡ kind_entering start (is_some file) (spans_in gathered below concern.members.items) one.node.0) is.plans.enter is.plans.moves.kinds one there
-      ∙ entering_kind first history cut inodes gathered start below concern.members.items (is_some file) sound legal is.orderly sees.spans is.concern_is.members.each (λ node gathers. (sees.fits.members node).0 gathers)
+      of_all
+      (λ (one : Enter). one.kind ≡ kind_entering start (is_some file) (spans_in gathered below concern.members.items) one.node.0) is.plans.enter
+      is.plans.moves.kinds one there
+      ∙ entering_kind first history cut inodes gathered start below concern.members.items
+      (is_some file) sound legal is.orderly sees.spans is.concern_is.members.each (λ node gathers. (sees.fits.members node).0 gathers)
       (own_kind first history start below file is.file_is ∙ not_some file) one.node.0 touches
       ∙ sym ((cuts_keep_kinds first history raised).kinds one.node.0)
     where
@@ -262,7 +274,9 @@ module _ (first : TreeState) (history : List Entry) (flushes : List Flush) (cut 
   ]
 
   short : HasShortFiles later
-  short node = subst (λ l. length l ≤ BLOCK_BYTES * FILE_BLOCKS) (sym (bytes_are_cut first history raised node sound legal)) (files_stay_short first history is.ready.history_is is.short node (cut_of raised node))
+  short node =
+      subst (λ l. length l ≤ BLOCK_BYTES * FILE_BLOCKS) (sym (bytes_are_cut first history raised node sound legal))
+      (files_stay_short first history is.ready.history_is is.short node (cut_of raised node))
 
   files : (is_some file ≡ true → IsInTime cut start below (is_held gathered is.plans.enter start.0)) → HasFiles nodes before later commit
   files in_time = by file refl is.file_is is.plans.are_files
@@ -273,10 +287,13 @@ module _ (first : TreeState) (history : List Entry) (flushes : List Flush) (cut 
       by : (o : Option File) → file ≡ o → HasFileOf first history start below o
           → AreFileChanges start (cut_in gathered.cuts.items start.0) o (is_held gathered is.plans.enter start.0) is.plans.files
           → HasFiles nodes before later commit
-      by None e directory none = no_file_leads before later nodes commit short none (λ node. elim (which node) [ inl same ↦ directory_bytes node (ap (is_directory last) same ∙ directory) | inr apart ↦ other_bytes node apart ])
+      by None e directory none =
+          no_file_leads before later nodes commit short none
+          (λ node. elim (which node) [ inl same ↦ directory_bytes node (ap (is_directory last) same ∙ directory) | inr apart ↦ other_bytes node apart ])
         where
           which : (node : ℕ) → (node ≡ start.0) ⊎ (node ≢ start.0)
-          which node = elim (true_or_false (nat_eq node start.0)) [ inl same ↦ inl (eqb-true node start.0 same) | inr other ↦ inr (eqb-false node start.0 other) ]
+          which node =
+              elim (true_or_false (nat_eq node start.0)) [ inl same ↦ inl (eqb-true node start.0 same) | inr other ↦ inr (eqb-false node start.0 other) ]
       by (Some f) e own made =
           let timely = in_time (ap is_some e) in
           held timely.not_later (is_held gathered is.plans.enter start.0) timely.holds made
@@ -287,15 +304,21 @@ module _ (first : TreeState) (history : List Entry) (flushes : List Flush) (cut 
           held low true _ (one, files_are, changed) =
               own_file_leads before later nodes commit short start.0 one files_are (ap (λ (n : NodeId). n.0) changed.own)
               (subst (λ l. ChangesFile l (bytes_of later start.0) one) (sym (bytes_are_cut first history cut start.0 sound legal))
-              (subst (λ l. ChangesFile (bytes_at first history start.0 (cut_of cut start.0)) l one) (sym (bytes_are_cut first history raised start.0 sound legal ∙ ap (bytes_at first history start.0) (own_stamp low)))
-              (marks_make_files first history start (cut_of cut start.0) below.0 f one is.ready.history_is is.short low own.1 (subst (λ n. IsFileChange start n f one) (sees.cuts start.0 own_touches) changed))))
+              (subst (λ l. ChangesFile (bytes_at first history start.0 (cut_of cut start.0)) l one)
+              (sym (bytes_are_cut first history raised start.0 sound legal ∙ ap (bytes_at first history start.0) (own_stamp low)))
+              (marks_make_files first history start (cut_of cut start.0) below.0 f one is.ready.history_is is.short low own.1
+              (subst (λ n. IsFileChange start n f one) (sees.cuts start.0 own_touches) changed))))
               other_bytes
 
   -- all of it
   leads : (is_some file ≡ true → IsInTime cut start below (is_held gathered is.plans.enter start.0))
       → IsPlanAt first history cut inodes flush raised after nodes entries commit
   leads in_time = record {
-    concerns = λ node. (λ among. (sees.fits.concerned node).0 ((is.concern_is.nodes.each node).0 among), λ concerned. (is.concern_is.nodes.each node).1 ((sees.fits.concerned node).1 concerned));
+    concerns =
+        λ node. (
+          λ among. (sees.fits.concerned node).0 ((is.concern_is.nodes.each node).0 among),
+          λ concerned. (is.concern_is.nodes.each node).1 ((sees.fits.concerned node).1 concerned),
+        );
     old = is.old_is;
     nets = nets;
     moves = moves;
@@ -311,7 +334,9 @@ module _ (first : TreeState) (history : List Entry) (flushes : List Flush) (cut 
     raises = raises;
     inodes_after = inodes_after;
     made = is.plans.made;
-    leads = subst (λ (l : List NodeId). IsPlanAt first history cut inodes flush raised after (map node_number l) entries commit) (sym is.plans.nodes) (leads in_time);
+    leads =
+        subst (λ (l : List NodeId). IsPlanAt first history cut inodes flush raised after (map node_number l) entries commit) (sym is.plans.nodes)
+        (leads in_time);
     names = is.concern_is.names;
   }
 
@@ -325,23 +350,38 @@ module _ (first : TreeState) (history : List Entry) (flushes : List Flush) (cut 
         by None e = absurd (true_not_false (sym e))
 
     not_dead : IsDead first history every_entry raised start.0 → ⊥
-    not_dead dead = elim (alive_named (tree_at first history below.0) start.0 (subst (λ (t : TreeState). is_alive t start.0 ≡ true) (sym (tree_at-after first history below.0)) live)) [
-      | inl root ↦ dead.no_root root
-      | inr named ↦ elim (named_or_open first history sound legal below.0 raised (raised_low first history every_entry cut inodes flush raised below.0 raises low (le_itself below.0)) start.0 named) [
-        | inl there ↦ dead.unnamed there
-        | inr o ↦
-            let same : o.change.stamp ≡ o.stamp = stamp_of (tree_at first history o.stamp) o.stamp (effect_at first history o.stamp) o.change o.made in
-            let flushed = dead.flushed o.change (change_in first history o.stamp o.change legal o.made) refl o.child in
-            let open_one = o.unflushed in
-            omega arith
-      ]
-    ]
+    not_dead dead =
+        elim (alive_named (tree_at first history below.0) start.0
+        (subst (λ (t : TreeState). is_alive t start.0 ≡ true) (sym (tree_at-after first history below.0)) live)) [
+          | inl root ↦ dead.no_root root
+          | inr named ↦
+              elim (named_or_open first history sound legal below.0 raised
+              (raised_low first history every_entry cut inodes flush raised below.0 raises low (le_itself below.0)) start.0 named) [
+                | inl there ↦ dead.unnamed there
+                | inr o ↦
+                    let same : o.change.stamp ≡ o.stamp = stamp_of (tree_at first history o.stamp) o.stamp (effect_at first history o.stamp) o.change o.made in
+                    let flushed = dead.flushed o.change (change_in first history o.stamp o.change legal o.made) refl o.child in
+                    let open_one = o.unflushed in
+                    omega arith
+              ]
+        ]
 
     pub live_held : IsInTime cut start below (is_held gathered is.plans.enter start.0)
-    live_held = record { not_later = low start.0; holds = elim (files_settle first history cut raised inodes after flush sound legal raises inodes_after no_directory) [ inl has ↦ by has | inr dead ↦ absurd (not_dead dead) ] }
+    live_held =
+        record {
+          not_later = low start.0;
+          holds =
+              elim (files_settle first history cut raised inodes after flush sound legal raises inodes_after no_directory) [
+                | inl has ↦ by has
+                | inr dead ↦
+                    absurd (not_dead dead)
+              ];
+        }
       where
         by : after start.0 ≡ true → is_held gathered is.plans.enter start.0 ≡ true
-        by has = held_by (is_listed (map node_number gathered.inodes.items) start.0) (inodes start.0) (gets start.0) (loses start.0) (sees.same_inodes start.0 own_touches) has
+        by has =
+            held_by (is_listed (map node_number gathered.inodes.items) start.0) (inodes start.0) (gets start.0) (loses start.0)
+            (sees.same_inodes start.0 own_touches) has
           where
             held_by : (l i g o : Bool) → l ≡ i → ((i && not o) || g) ≡ true → (l || g) ≡ true
             held_by true i g o same has = refl

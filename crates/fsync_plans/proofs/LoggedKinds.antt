@@ -42,7 +42,9 @@ module _ (tree : TreeState) (core stamp : ℕ) (is : IsSound tree) where
       → TellsKind (tree_with tree core effect makes) change
   still_told effect makes fits change told = record {
     child = node_stays tree core effect makes change.child.0 fits told.child;
-    kind = told.kind ∙ sym (same_kinds (tree_with tree core effect makes) tree change.child.0 (directory_stays tree core effect makes change.child.0 fits told.child));
+    kind =
+        told.kind
+        ∙ sym (same_kinds (tree_with tree core effect makes) tree change.child.0 (directory_stays tree core effect makes change.child.0 fits told.child));
   }
 
   -- what an entry logs tells kinds of the next tree
@@ -51,7 +53,9 @@ module _ (tree : TreeState) (core stamp : ℕ) (is : IsSound tree) where
   logged_tell Stays makes fits change one = absurd one
   logged_tell (Edits file edit) makes fits change one = absurd one
   logged_tell (Adds directory name child) None fits change one = elim one [
-    | inl same ↦ subst (TellsKind (tree_with tree core (Adds directory name child) None)) same (still_told (Adds directory name child) None fits _ (record { child = fits.node; kind = refl }))
+    | inl same ↦
+        subst (TellsKind (tree_with tree core (Adds directory name child) None)) same
+        (still_told (Adds directory name child) None fits _ (record { child = fits.node; kind = refl }))
     | inr none ↦ absurd none
   ]
   logged_tell (Adds directory name child) (Some kind) fits change one = elim one [
@@ -64,19 +68,22 @@ module _ (tree : TreeState) (core stamp : ℕ) (is : IsSound tree) where
   logged_tell (Removes directory name child) (Some kind) fits change one = absurd fits
   logged_tell (Moves p n q m x) (Some kind) fits change one = absurd fits
   logged_tell (Removes directory name child) None fits change one = elim one [
-    | inl same ↦ subst (TellsKind (tree_with tree core (Removes directory name child) None)) same (still_told (Removes directory name child) None fits _ (record { child = is.node directory name child fits.row; kind = refl }))
+    | inl same ↦
+        subst (TellsKind (tree_with tree core (Removes directory name child) None)) same
+        (still_told (Removes directory name child) None fits _ (record { child = is.node directory name child fits.row; kind = refl }))
     | inr none ↦ absurd none
   ]
-  logged_tell (Moves p n q m x) None fits change one = still_told (Moves p n q m x) None fits change (elim (in_either (logged_replaced tree stamp p q m (row_of tree q m)) _ change one) [
-    | inl over ↦ of_replaced (row_of tree q m) refl over
-    | inr moved ↦ elim moved [
-      | inl same ↦ subst (TellsKind tree) same (record { child = is.node p n x fits.row; kind = refl })
-      | inr put ↦ elim put [
-        | inl same ↦ subst (TellsKind tree) same (record { child = is.node p n x fits.row; kind = refl })
-        | inr none ↦ absurd none
-      ]
-    ]
-  ])
+  logged_tell (Moves p n q m x) None fits change one =
+      still_told (Moves p n q m x) None fits change (elim (in_either (logged_replaced tree stamp p q m (row_of tree q m)) _ change one) [
+        | inl over ↦ of_replaced (row_of tree q m) refl over
+        | inr moved ↦ elim moved [
+          | inl same ↦ subst (TellsKind tree) same (record { child = is.node p n x fits.row; kind = refl })
+          | inr put ↦ elim put [
+            | inl same ↦ subst (TellsKind tree) same (record { child = is.node p n x fits.row; kind = refl })
+            | inr none ↦ absurd none
+          ]
+        ]
+      ])
     where
       of_replaced : (there : Option ℕ) → row_of tree q m ≡ there → IsOneOf (logged_replaced tree stamp p q m there) change → TellsKind tree change
       of_replaced None row one = absurd one
@@ -95,6 +102,9 @@ kinds_logged first k (entry ∷ history) is legal change one =
     elim (in_either (own_log first entry) (logged_of next history) change one) [
       | inr later ↦ kinds_logged next (suc k) history sound legal.1 change later
       | inl own ↦
-          let told = logged_tell first entry.core.0 entry.stamp.0 is.sound (verdict first entry.core.0 entry.call).effect (verdict first entry.core.0 entry.call).makes (calls_fit first entry.core.0 entry.call is legal.0.core) change own in
-          told.kind ∙ sym (same_kinds (tree_after next history) next change.child.0 (first_nodes next history (suc k) sound legal.1 change.child.0 told.child).1)
+          let told =
+          logged_tell first entry.core.0 entry.stamp.0 is.sound (verdict first entry.core.0 entry.call).effect (verdict first entry.core.0 entry.call).makes
+          (calls_fit first entry.core.0 entry.call is legal.0.core) change own in
+          told.kind
+          ∙ sym (same_kinds (tree_after next history) next change.child.0 (first_nodes next history (suc k) sound legal.1 change.child.0 told.child).1)
     ]

@@ -30,7 +30,10 @@ but_root found = record { named = λ node. not (nat_eq node 0) && found.named no
 
 pub named_but_root : (found : Found) (node : ℕ) → ((but_root found).named node ≡ true) ↔ ((node ≢ 0) × (found.named node ≡ true))
 named_but_root found node = (
-  λ named. (eqb-false node 0 (not_true (nat_eq node 0) (and_first (not (nat_eq node 0)) (found.named node) named)), and_second (not (nat_eq node 0)) (found.named node) named),
+  λ named. (
+    eqb-false node 0 (not_true (nat_eq node 0) (and_first (not (nat_eq node 0)) (found.named node) named)),
+    and_second (not (nat_eq node 0)) (found.named node) named,
+  ),
   λ (apart, named). ap (λ b. not b && found.named node) (not_same node 0 apart) ∙ named,
 )
 
@@ -47,13 +50,16 @@ module _ (look : Look) (lifted : ℕ → ℕ) (found : Found) (gets loses : ℕ 
   pub moved_but_root : AreMoved look lifted (but_root found) gets loses
   moved_but_root = record {
     enters = λ node. (
-      λ one. let is = (moved.enters node).0 one in (is.0, is.1, elim is.2 [ inl named ↦ inl (alike node (not_root node is.1 is.0) ∙ named) | inr own ↦ inr own ]),
-      λ (none, touches, sees). (moved.enters node).1 (none, touches, elim sees [ inl named ↦ inl (and_second (not (nat_eq node 0)) (found.named node) named) | inr own ↦ inr own ]),
+      λ one. let is = (moved.enters node).0 one in
+          (is.0, is.1, elim is.2 [ inl named ↦ inl (alike node (not_root node is.1 is.0) ∙ named) | inr own ↦ inr own ]),
+      λ (none, touches, sees). (moved.enters node).1
+          (none, touches, elim sees [ inl named ↦ inl (and_second (not (nat_eq node 0)) (found.named node) named) | inr own ↦ inr own ]),
     );
     leaves = λ node. (
       λ one. let is = (moved.leaves node).0 one in
           (is.0, is.1, record { no_root = is.2.no_root; unnamed = alike node (not_same node 0 is.2.no_root) ∙ is.2.unnamed; flushed = is.2.flushed }),
-      λ (some, touches, dead). (moved.leaves node).1 (some, touches, record { no_root = dead.no_root; unnamed = sym (alike node (not_same node 0 dead.no_root)) ∙ dead.unnamed; flushed = dead.flushed }),
+      λ (some, touches, dead). (moved.leaves node).1
+          (some, touches, record { no_root = dead.no_root; unnamed = sym (alike node (not_same node 0 dead.no_root)) ∙ dead.unnamed; flushed = dead.flushed }),
     );
   }
 
@@ -82,14 +88,20 @@ not_when false = (λ e. absurd (true_not_false e), λ e. absurd (false_not_true 
 
 module _ (first : TreeState) (history : List Entry) (cut raised : Cut) (inodes : ℕ → Bool) (look : Look) (lifted : ℕ → ℕ) (found : Found)
     (gets loses : ℕ → Bool)
-    (alike_inodes : (node : ℕ) → Touches look node → look.inodes node ≡ inodes node) (fits : FitsHistory first history every_entry cut inodes look) (moved : AreMoved look lifted found gets loses)
+    (alike_inodes : (node : ℕ) → Touches look node → look.inodes node ≡ inodes node) (fits : FitsHistory first history every_entry cut inodes look)
+    (moved : AreMoved look lifted found gets loses)
     (makes : MakesCommit first history every_entry inodes look raised lifted gets loses) where
   abbrev after : ℕ → Bool
   after = inodes_then inodes gets loses
 
   -- a node with an inode gets none
   pub no_gain : (node : ℕ) → inodes node ≡ true → gets node ≡ false
-  no_gain node some = elim (true_or_false (gets node)) [ inl one ↦ let is = (moved.enters node).0 one in absurd (not_both (alike_inodes node is.1 ∙ some) is.0) | inr none ↦ none ]
+  no_gain node some =
+      elim (true_or_false (gets node)) [
+        | inl one ↦ let is = (moved.enters node).0 one in
+            absurd (not_both (alike_inodes node is.1 ∙ some) is.0)
+        | inr none ↦ none
+      ]
 
   pub lost_then : (node : ℕ) → (loses node ≡ true) ↔ ((inodes node ≡ true) × (after node ≡ false))
   lost_then node = (
@@ -139,7 +151,8 @@ pub moves_are : (new : TreeState) (inodes after : ℕ → Bool) (plan : CommitPl
     → HasMoves new inodes after plan
 moves_are new inodes after plan up enters all leaves kinds = record {
   ascend = up;
-  entering = λ one there. let is = enters one.node.0 (in_is_among (map enter_node plan.enter) one.node.0 (in_mapped enter_node plan.enter one there)) in (is.0, is.1, kinds one there);
+  entering = λ one there. let is = enters one.node.0 (in_is_among (map enter_node plan.enter) one.node.0 (in_mapped enter_node plan.enter one there)) in
+      (is.0, is.1, kinds one there);
   all_entering = λ node none has. mapped_is_in enter_node plan.enter node (among_is_in (map enter_node plan.enter) node (all node none has));
   leaving = λ node. let same = times_among (map node_number plan.leave) node in ((λ one. (leaves node).0 (sym same ∙ one)), (λ is. same ∙ (leaves node).1 is));
 }

@@ -105,7 +105,8 @@ named_count tree node = (forth, λ there. count_some (names_it node) tree.rows (
 
 module _ (first : TreeState) (history : List Entry) (flushes : List Flush) (cut : Cut) (inodes : ℕ → Bool) (num : Numbering) (layout : Layout)
     (store : ℕ → List ℕ) (parts : ℕ → Part) (entries : List OldEntry)
-    (ready : IsBetweenCommits first history flushes cut inodes num layout store parts) (keeps : KeepsEntries num parts entries) (nodes : List ℕ) (old : List OldEntry) (has : HasOldEntries nodes entries old) where
+    (ready : IsBetweenCommits first history flushes cut inodes num layout store parts) (keeps : KeepsEntries num parts entries) (nodes : List ℕ)
+    (old : List OldEntry) (has : HasOldEntries nodes entries old) where
   abbrev tree : TreeState
   tree = tree_at_cut first history cut
 
@@ -121,7 +122,9 @@ module _ (first : TreeState) (history : List Entry) (flushes : List Flush) (cut 
   entry_shows entry there =
       let own = keeps.each entry there in
       let low = ready.stands.within entry.node.0 entry.old.number own.0 in
-      let kept = subst (λ k. KeepsSeen k (seen_of (parts entry.old.number))) (sym own.1) (kept_parts_show store (parts entry.old.number) (ready.sound.gathered entry.old.number low)) in
+      let kept =
+      subst (λ k. KeepsSeen k (seen_of (parts entry.old.number))) (sym own.1)
+      (kept_parts_show store (parts entry.old.number) (ready.sound.gathered entry.old.number low)) in
       let shows = ready.stands.each entry.node.0 entry.old.number own.0 in
       (kept.kind ∙ shows.kind, kept.links ∙ shows.links)
 
@@ -157,7 +160,8 @@ module _ (first : TreeState) (history : List Entry) (flushes : List Flush) (cut 
       let number = (ready.numbers.each node).0 inode in
       let entry = keeps.all node number.0 number.1 in
       let there = has.all entry.0 entry.1 (subst (λ n. is_among nodes n ≡ true) (sym entry.2) among) in
-      let found : item_with entry_node node old ≡ Some entry.0 = subst (λ n. item_with entry_node n old ≡ Some entry.0) entry.2 (own_item entry_node old has.ascend entry.0 there) in
+      let found : item_with entry_node node old ≡ Some entry.0 =
+      subst (λ n. item_with entry_node n old ≡ Some entry.0) entry.2 (own_item entry_node old has.ascend entry.0 there) in
       let shows = entry_shows entry.0 entry.1 in
       ap (λ (o : Option OldEntry). option_map_or names_by_record o 0) found
       ∙ by (kind_of tree node) refl (shows.0 ∙ ap (λ n. kind_byte (kind_of tree n)) entry.2) (shows.1 ∙ ap (links_of tree) entry.2) number.0 number.1
@@ -169,7 +173,8 @@ module _ (first : TreeState) (history : List Entry) (flushes : List Flush) (cut 
           ∙ sym (named_once node i number other (directory_by_kind tree node ∙ ap is_directory_kind e))
       by {kind} {links} File e is_kind is_links i number =
           ap (λ n. cond (nat_eq n 2) 1 links) (is_kind ∙ ap kind_byte e) ∙ is_links
-          ∙ ap (λ b. cond b (2 + count_by (holds_directory tree node) (listed_rows tree.rows)) (count_of tree.rows node)) (directory_by_kind tree node ∙ ap is_directory_kind e)
+          ∙ ap (λ b. cond b (2 + count_by (holds_directory tree node) (listed_rows tree.rows)) (count_of tree.rows node))
+          (directory_by_kind tree node ∙ ap is_directory_kind e)
 
   on_disk : (node : ℕ) → node ≢ 0 → is_among nodes node ≡ true → names_on_disk old node ≡ count_of tree.rows node
   on_disk node other among = by (inodes node) refl
@@ -198,6 +203,8 @@ module _ (first : TreeState) (history : List Entry) (flushes : List Flush) (cut 
     named_by_nets node other among =
         let disk = on_disk node other among in
         let sum = balance node in (
-          λ after. let more = ltb-true (times_in (named_going nets) node) (names_on_disk old node + times_in (named_coming nets) node) after in (named_count new node).0 (omega arith),
-          λ there. let some = (named_count new node).1 there in lt-ltb (times_in (named_going nets) node) (names_on_disk old node + times_in (named_coming nets) node) (omega arith),
+          λ after. let more = ltb-true (times_in (named_going nets) node) (names_on_disk old node + times_in (named_coming nets) node) after in
+              (named_count new node).0 (omega arith),
+          λ there. let some = (named_count new node).1 there in
+              lt-ltb (times_in (named_going nets) node) (names_on_disk old node + times_in (named_coming nets) node) (omega arith),
         )

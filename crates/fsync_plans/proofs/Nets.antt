@@ -62,7 +62,9 @@ some_row (Some node) after differ = (node.0, inl refl)
 some_row None (Some node) differ = (node.0, inr refl)
 
 module _ (first : TreeState) (history : List Entry) (cut : Cut) (gathered : Gathered) (below : Stamp) (members : List NodeId) (nets : List DirectoryNet)
-    (sound : IsSoundTree first) (legal : IsLegal first history) (spans : (node : ℕ) → is_listed (map node_number members) node ≡ true → span_in gathered below node ≡ logged_span first history cut below node) (are : AreNetsOf gathered below members nets) where
+    (sound : IsSoundTree first) (legal : IsLegal first history)
+    (spans : (node : ℕ) → is_listed (map node_number members) node ≡ true → span_in gathered below node ≡ logged_span first history cut below node)
+    (are : AreNetsOf gathered below members nets) where
   abbrev raised : Cut
   raised = raised_cut cut (map node_number members) below.0
 
@@ -80,10 +82,13 @@ module _ (first : TreeState) (history : List Entry) (cut : Cut) (gathered : Gath
       ∙ ap (λ b. cond b (max (cut_of cut d) below.0) (cut_of cut d)) listed in
       let span : span_in gathered below d ≡ filter (is_in_span (cut_of cut d) (cut_of raised d)) logged =
       spans d listed
-      ∙ filter_same (is_in_span (cut_of cut d) below.0) (is_in_span (cut_of cut d) (cut_of raised d)) logged (λ change one. span_raised (cut_of cut d) below.0 change ∙ ap (λ n. is_in_span (cut_of cut d) n change) (sym stamp)) in
+      ∙ filter_same (is_in_span (cut_of cut d) below.0) (is_in_span (cut_of cut d) (cut_of raised d)) logged
+      (λ change one. span_raised (cut_of cut d) below.0 change ∙ ap (λ n. is_in_span (cut_of cut d) n change) (sym stamp)) in
       let lead : LeadRows (names_of d old.rows) (span_in gathered below d) (names_of d new.rows) =
-      subst (λ l. LeadRows (names_of d old.rows) l (names_of d new.rows)) (sym span) (lead_cuts first history cut raised d sound legal (let most = le-max_left (cut_of cut d) below.0 in omega arith)) in
-      subst (λ rows. IsNet (names_of d old.rows) rows (net_of_node nets d)) lead.make (nets_need_no_rows (names_of d old.rows) (span_in gathered below d) (net_of_node nets d) lead.fit (are.own_nets d listed))
+      subst (λ l. LeadRows (names_of d old.rows) l (names_of d new.rows)) (sym span)
+      (lead_cuts first history cut raised d sound legal (let most = le-max_left (cut_of cut d) below.0 in omega arith)) in
+      subst (λ rows. IsNet (names_of d old.rows) rows (net_of_node nets d)) lead.make
+      (nets_need_no_rows (names_of d old.rows) (span_in gathered below d) (net_of_node nets d) lead.fit (are.own_nets d listed))
 
   -- and of a node that is none
   other_net : (d : ℕ) → is_listed (map node_number members) d ≡ false → IsNet (names_of d old.rows) (names_of d new.rows) (net_of_node nets d)
@@ -92,7 +97,8 @@ module _ (first : TreeState) (history : List Entry) (cut : Cut) (gathered : Gath
       ∙ ap (λ b. cond b (max (cut_of cut d) below.0) (cut_of cut d)) unlisted in
       let same = (same_stamps_keep first history cut raised d stamp).rows in
       let none : net_of_node nets d ≡ [] = ap (λ (o : Option DirectoryNet). option_map_or (λ one. one.net.items) o []) (are.others d unlisted) in
-      subst (IsNet (names_of d old.rows) (names_of d new.rows)) (sym none) (subst (λ rows. IsNet (names_of d old.rows) rows []) (sym same) (no_net (names_of d old.rows)))
+      subst (IsNet (names_of d old.rows) (names_of d new.rows)) (sym none)
+      (subst (λ rows. IsNet (names_of d old.rows) rows []) (sym same) (no_net (names_of d old.rows)))
 
   pub each_net : (d : ℕ) → IsNet (names_of d old.rows) (names_of d new.rows) (net_of_node nets d)
   each_net d = by (is_listed (map node_number members) d) refl
@@ -108,7 +114,9 @@ module _ (first : TreeState) (history : List Entry) (cut : Cut) (gathered : Gath
       where
         net_there : IsNet (names_of one.node.0 old.rows) (names_of one.node.0 new.rows) (net_of_node nets one.node.0)
             → IsNet (names_of one.node.0 old.rows) (names_of one.node.0 new.rows) one.net.items
-        net_there = subst (IsNet (names_of one.node.0 old.rows) (names_of one.node.0 new.rows)) (ap (λ (o : Option DirectoryNet). option_map_or (λ one. one.net.items) o []) (own_item net_node nets up one there))
+        net_there =
+            subst (IsNet (names_of one.node.0 old.rows) (names_of one.node.0 new.rows))
+            (ap (λ (o : Option DirectoryNet). option_map_or (λ one. one.net.items) o []) (own_item net_node nets up one there))
 
         row_there : (tree : TreeState) (name : List ℕ) (child : ℕ) → get (names_of one.node.0 tree.rows) name ≡ Some child
             → row_of tree one.node.0 name ≡ Some child
@@ -119,7 +127,8 @@ module _ (first : TreeState) (history : List Entry) (cut : Cut) (gathered : Gath
         by [] e net = absurd (are.some_row there.0 one there.1 (ap (λ (it : DirectoryNet). it.net.items) there.2 ∙ e))
         by (row ∷ rows) e net =
             let is : IsNetRow (names_of one.node.0 old.rows) (names_of one.node.0 new.rows) row =
-            All-head (IsNetRow (names_of one.node.0 old.rows) (names_of one.node.0 new.rows)) row rows (subst (All (IsNetRow (names_of one.node.0 old.rows) (names_of one.node.0 new.rows))) e net.each) in
+            All-head (IsNetRow (names_of one.node.0 old.rows) (names_of one.node.0 new.rows)) row rows
+            (subst (All (IsNetRow (names_of one.node.0 old.rows) (names_of one.node.0 new.rows))) e net.each) in
             let named = some_row row.before row.after is.differs in
             elim named.1 [
               | inl before ↦

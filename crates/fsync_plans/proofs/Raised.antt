@@ -31,7 +31,9 @@ stamp_raised cut (node ∷ nodes) to x =
     let found = get-insert nat_cmp_total (raised_cut cut nodes to) node (max (cut_of cut node) to) x
     ∙ ap (λ b. cond b (Some (max (cut_of cut node) to)) (get (raised_cut cut nodes to) x)) (sym (unsigned_ties x node)) in
     ap (λ (o : Option ℕ). unwrap_or o 0) found
-    ∙ elim (nat_eq x node) as (λ b. nat_eq x node ≡ b → unwrap_or (cond b (Some (max (cut_of cut node) to)) (get (raised_cut cut nodes to) x)) 0 ≡ cond (nat_eq node x || is_listed nodes x) (max (cut_of cut x) to) (cut_of cut x)) [
+    ∙ elim (nat_eq x node) as (λ b. nat_eq x node ≡ b
+    → unwrap_or (cond b (Some (max (cut_of cut node) to)) (get (raised_cut cut nodes to) x)) 0
+    ≡ cond (nat_eq node x || is_listed nodes x) (max (cut_of cut x) to) (cut_of cut x)) [
       | true ↦ λ t.
           let same : x ≡ node = eqb-true x node t in
           ap (λ n. max (cut_of cut n) to) (sym same)

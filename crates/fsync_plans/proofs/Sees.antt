@@ -31,7 +31,8 @@ use Rattle.fsync_plans.proofs.GatheredSpans.{logged_span, spans_are_logged}
 
 -- What was gathered tells what the fsync makes: of each touched node its stamp and whether it has an inode, which nodes are members and which
 -- are touched, what is logged in the members' spans, and which of the touched nodes get and lose an inode.
-pub record SeesCommit (first : TreeState) (history : List Entry) (cut : Cut) (inodes : ℕ → Bool) (start : NodeId) (below : Stamp) (gathered : Gathered) : Type 0 where
+pub record SeesCommit (first : TreeState) (history : List Entry) (cut : Cut) (inodes : ℕ → Bool) (start : NodeId) (below : Stamp)
+    (gathered : Gathered) : Type 0 where
   pub cuts : (node : ℕ) → Touches (look_of start below gathered) node → cut_in gathered.cuts.items node ≡ cut_of cut node
   pub same_inodes : (node : ℕ) → Touches (look_of start below gathered) node → is_listed (map node_number gathered.inodes.items) node ≡ inodes node
   pub fits : FitsHistory first history every_entry cut inodes (look_of start below gathered)
@@ -49,19 +50,24 @@ module _ (first : TreeState) (history : List Entry) (cut : Cut) (inodes : ℕ �
   -- where all was gathered that is not flushed
   sees_whole : HasUnflushed first history every_entry cut inodes gathered → SeesCommit first history cut inodes start below gathered
   sees_whole has =
-      let knows : KnowsEnough first history every_entry cut inodes look = unflushed_is_enough first history every_entry cut inodes gathered start below sound legal has in
+      let knows : KnowsEnough first history every_entry cut inodes look =
+      unflushed_is_enough first history every_entry cut inodes gathered start below sound legal has in
       record {
         cuts = knows.cuts;
         same_inodes = knows.same_inodes;
         fits = looks_fit first history every_entry cut inodes look knows;
         spans = spans_are_logged first history every_entry cut inodes gathered start below sound legal orderly has.logs knows (λ stamp low. refl);
-        makes = λ raised lifted found gets loses raise lifts right moved. looks_are_made first history every_entry cut raised inodes look lifted found gets loses knows raise lifts right moved;
+        makes =
+            λ raised lifted found gets loses raise lifts right moved. looks_are_made first history every_entry cut raised inodes look lifted found gets loses
+            knows raise lifts right moved;
       }
 
   -- and where enough was gathered of the entries below a stamp that no cut is above
   module _ (kept : KeepsAll first history cut inodes) (has : HasEarly first history cut inodes start below gathered) where
     alike : AreAlike first look.flush (view_by history has.counts cut inodes) (view_by history every_entry cut inodes)
-    alike = recounts first history has.late has.counts every_entry look.flush cut inodes sound legal has.counted (λ t low. refl) has.cuts has.stamp has.live (record { kept = kept.kept; named = kept.named })
+    alike =
+        recounts first history has.late has.counts every_entry look.flush cut inodes sound legal has.counted (λ t low. refl) has.cuts has.stamp has.live
+        (record { kept = kept.kept; named = kept.named })
 
     made : (raised : Cut) (lifted : ℕ → ℕ) (found : Found) (gets loses : ℕ → Bool) → IsRaised first history every_entry cut inodes look.flush raised
         → Lifts look lifted
@@ -69,9 +75,14 @@ module _ (first : TreeState) (history : List Entry) (cut : Cut) (inodes : ℕ �
         → MakesCommit first history every_entry inodes look raised lifted gets loses
     made raised lifted found gets loses raise lifts right moved =
         let own_raise = (alike.raises raised).1 raise in
-        let rows = counted_rows-low first history has.late has.counts raised has.counted (raised_low first history every_entry cut inodes look.flush raised has.late raise has.cuts has.stamp) in
+        let rows =
+        counted_rows-low first history has.late has.counts raised has.counted
+        (raised_low first history every_entry cut inodes look.flush raised has.late raise has.cuts has.stamp) in
         let own_right : FindsRight first history has.counts raised look found =
-        record { named = λ node touches. subst (λ r. (found.named node ≡ true) ↔ IsNamedIn r node) (sym rows) (right.named node touches); directory = right.directory } in
+        record {
+          named = λ node touches. subst (λ r. (found.named node ≡ true) ↔ IsNamedIn r node) (sym rows) (right.named node touches);
+          directory = right.directory;
+        } in
         let own = looks_are_made first history has.counts cut raised inodes look lifted found gets loses has.knows own_raise lifts own_right moved in
         let concerned = (looks_fit first history has.counts cut inodes look has.knows).concerned in
         record {
@@ -89,12 +100,16 @@ module _ (first : TreeState) (history : List Entry) (cut : Cut) (inodes : ℕ �
       cuts = has.knows.cuts;
       same_inodes = has.knows.same_inodes;
       fits = late_entries_may_be_missing first history has.late has.counts cut inodes look sound legal kept has.live has.counted has.cuts has.stamp has.knows;
-      spans = spans_are_logged first history has.counts cut inodes gathered start below sound legal orderly has.logs has.knows (λ stamp low. has.counted stamp (let most = has.stamp in omega arith));
+      spans =
+          spans_are_logged first history has.counts cut inodes gathered start below sound legal orderly has.logs has.knows
+          (λ stamp low. has.counted stamp (let most = has.stamp in omega arith));
       makes = made;
     }
 
 pub sees_enough : (first : TreeState) (history : List Entry) (cut : Cut) (inodes : ℕ → Bool) (start : NodeId) (below : Stamp) (gathered : Gathered)
     → IsSoundTree first → IsLegal first history → IsOrderly gathered
     → KeepsAll first history cut inodes → GathersEnough first history cut inodes start below gathered → SeesCommit first history cut inodes start below gathered
-sees_enough first history cut inodes start below gathered sound legal orderly kept (whole has) = sees_whole first history cut inodes start below gathered sound legal orderly has
-sees_enough first history cut inodes start below gathered sound legal orderly kept (early has) = sees_early first history cut inodes start below gathered sound legal orderly kept has
+sees_enough first history cut inodes start below gathered sound legal orderly kept (whole has) =
+    sees_whole first history cut inodes start below gathered sound legal orderly has
+sees_enough first history cut inodes start below gathered sound legal orderly kept (early has) =
+    sees_early first history cut inodes start below gathered sound legal orderly kept has

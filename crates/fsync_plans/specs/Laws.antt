@@ -20,7 +20,9 @@ use Rattle.fsync_plans.specs.Plans.{planned_flush, PlansFsync, IsInTime}
 
 -- What an fsync plans of what it has gathered leads to the cut that it raises, where it comes in time for its own file.
 abbrev pub PlansLeadToCuts : Type 0
-PlansLeadToCuts = (first : TreeState) (history : List Entry) (flushes : List Flush) (cut : Cut) (inodes : ℕ → Bool) (num : Numbering) (layout : Layout) (store : ℕ → List ℕ) (parts : ℕ → Part) (entries : List OldEntry)
+PlansLeadToCuts =
+    (first : TreeState) (history : List Entry) (flushes : List Flush) (cut : Cut) (inodes : ℕ → Bool) (num : Numbering) (layout : Layout) (store : ℕ → List ℕ)
+    (parts : ℕ → Part) (entries : List OldEntry)
     (start : NodeId) (below : Stamp) (gathered : Gathered) (concern : Concern) (old : List OldEntry) (file : Option File) (plan : FsyncPlan)
     → (is : PlansFsync first history flushes cut inodes num layout store parts entries start below gathered concern old file plan)
     → (is_some file ≡ true → IsInTime cut start below (is_held gathered is.plans.enter start.0))
@@ -28,7 +30,9 @@ PlansLeadToCuts = (first : TreeState) (history : List Entry) (flushes : List Flu
 
 -- It does so where the node is alive at the fsync's stamp and no cut is above that.
 abbrev pub LiveFilesAreHeld : Type 0
-LiveFilesAreHeld = (first : TreeState) (history : List Entry) (flushes : List Flush) (cut : Cut) (inodes : ℕ → Bool) (num : Numbering) (layout : Layout) (store : ℕ → List ℕ) (parts : ℕ → Part) (entries : List OldEntry)
+LiveFilesAreHeld =
+    (first : TreeState) (history : List Entry) (flushes : List Flush) (cut : Cut) (inodes : ℕ → Bool) (num : Numbering) (layout : Layout) (store : ℕ → List ℕ)
+    (parts : ℕ → Part) (entries : List OldEntry)
     (start : NodeId) (below : Stamp) (gathered : Gathered) (concern : Concern) (old : List OldEntry) (file : Option File) (plan : FsyncPlan)
     → (is : PlansFsync first history flushes cut inodes num layout store parts entries start below gathered concern old file plan)
     → HasLiveNode first history (planned_flush start below) → ((node : ℕ) → cut_of cut node ≤ below.0)

@@ -13,7 +13,8 @@ use Rattle.fsync_dir.specs.declared.plans.FsyncPlan.{FsyncPlan}
 
 -- The plan of an fsync leads to the cut that the fsync raises and to the nodes with an inode after it: its change of the disk is that of a
 -- commit's plan, which leads there and whose nets have rows with names.
-pub record LeadsToCut (first : TreeState) (history : List Entry) (cut : Cut) (inodes : ℕ → Bool) (flush : Flush) (entries : List OldEntry) (plan : FsyncPlan) : Type 0 where
+pub record LeadsToCut (first : TreeState) (history : List Entry) (cut : Cut) (inodes : ℕ → Bool) (flush : Flush) (entries : List OldEntry)
+    (plan : FsyncPlan) : Type 0 where
   pub raised : Cut
   pub after : ℕ → Bool
   pub commit : CommitPlan

@@ -39,7 +39,8 @@ HasFileOf first history start below (Some file) = (is_directory (tree_after firs
 
 -- What was gathered is enough of the entries below a stamp: all of these count, and no cut nor the fsync's stamp is above it; each log has what
 -- the history logs at stamps that count; the look knows enough of what counts; and the fsync's node is alive.
-pub record HasEarly (first : TreeState) (history : List Entry) (cut : Cut) (inodes : ℕ → Bool) (start : NodeId) (below : Stamp) (gathered : Gathered) : Type 0 where
+pub record HasEarly (first : TreeState) (history : List Entry) (cut : Cut) (inodes : ℕ → Bool) (start : NodeId) (below : Stamp)
+    (gathered : Gathered) : Type 0 where
   pub late : ℕ
   pub counts : Counts
   pub counted : (stamp : ℕ) → stamp < late → counts stamp ≡ true
@@ -51,13 +52,15 @@ pub record HasEarly (first : TreeState) (history : List Entry) (cut : Cut) (inod
 
 -- What was gathered is enough for an fsync: all of the history that is not flushed; or enough of the entries below a stamp, though later ones
 -- may be missing, and so may nodes that the fsync does not concern.
-pub data GathersEnough (first : TreeState) (history : List Entry) (cut : Cut) (inodes : ℕ → Bool) (start : NodeId) (below : Stamp) (gathered : Gathered) : Type 0 where
+pub data GathersEnough (first : TreeState) (history : List Entry) (cut : Cut) (inodes : ℕ → Bool) (start : NodeId) (below : Stamp)
+    (gathered : Gathered) : Type 0 where
   whole : HasUnflushed first history every_entry cut inodes gathered → GathersEnough first history cut inodes start below gathered
   early : HasEarly first history cut inodes start below gathered → GathersEnough first history cut inodes start below gathered
 
 -- What an fsync was planned from: two commits have left disk and memory as they are between them; what was gathered is enough of the
 -- history; the disk's entries are those of the nodes that it concerns; and the file is the node's, where it is one.
-pub record PlansFsync (first : TreeState) (history : List Entry) (flushes : List Flush) (cut : Cut) (inodes : ℕ → Bool) (num : Numbering) (layout : Layout) (store : ℕ → List ℕ) (parts : ℕ → Part) (entries : List OldEntry)
+pub record PlansFsync (first : TreeState) (history : List Entry) (flushes : List Flush) (cut : Cut) (inodes : ℕ → Bool) (num : Numbering) (layout : Layout)
+    (store : ℕ → List ℕ) (parts : ℕ → Part) (entries : List OldEntry)
     (start : NodeId) (below : Stamp) (gathered : Gathered) (concern : Concern) (old : List OldEntry) (file : Option File) (plan : FsyncPlan) : Type 0 where
   pub ready : IsBetweenCommits first history flushes cut inodes num layout store parts
   pub keeps : KeepsEntries num parts entries

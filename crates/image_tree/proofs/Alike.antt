@@ -18,7 +18,8 @@ use Rattle.image_tree.specs.Slots.{name_count}
 -- whether an inode breaks a rule across inodes, by what it shows, by which rows are misplaced, and by the rows and the tree of the image
 abbrev tested : ℕ → ℕ → Seen → (Row → Bool) → FinMap key_cmp ℕ → TreeState → Bool
 tested rule i seen misplaced rows tree =
-    cond (nat_eq rule 8) (shows_directory seen && list_any (λ slot. option_map_or (λ (row : Row). nat_lt 1 (name_count row.name seen.slots)) slot false) seen.slots)
+    cond (nat_eq rule 8)
+    (shows_directory seen && list_any (λ slot. option_map_or (λ (row : Row). nat_lt 1 (name_count row.name seen.slots)) slot false) seen.slots)
     (cond (nat_eq rule 9) (shows_directory seen && list_any (λ number. nat_lt BUCKET_ROWS (len (bucket_rows i number rows))) (range_with_len 0 8))
     (cond (nat_eq rule 10) (shows_directory seen && list_any (λ slot. option_map_or misplaced slot false) seen.slots)
     (cond (nat_eq rule 11) (shows_directory seen && list_any (λ slot. option_map_or (λ (row : Row). nat_eq row.inode 0) slot false) seen.slots)
@@ -34,7 +35,11 @@ module _ (count : ℕ) (shown others : ℕ → Seen) (same : (i : ℕ) → i < c
   other = record { count = count; seen = others }
 
   rows_alike : image_rows image ≡ image_rows other
-  rows_alike = ap from_entries (pieces_same (rows_in image) (rows_in other) 0 count (λ i low high. ap (λ (seen : Seen). cond {A = List (Key × ℕ)} (shows_directory seen) (filter_map (tree_row i) seen.slots) []) (same i (omega arith))))
+  rows_alike =
+      ap from_entries
+      (pieces_same (rows_in image) (rows_in other) 0 count
+      (λ i low high. ap (λ (seen : Seen). cond {A = List (Key × ℕ)} (shows_directory seen) (filter_map (tree_row i) seen.slots) [])
+      (same i (omega arith))))
 
   node_alike : (i : ℕ) → i < count → is_node image i ≡ is_node other i
   node_alike i within =
@@ -59,7 +64,9 @@ module _ (count : ℕ) (shown others : ℕ → Seen) (same : (i : ℕ) → i < c
   misplaced_alike : (row : Row) → is_misplaced image row ≡ is_misplaced other row
   misplaced_alike row = elim (cases_Bool (ltb row.inode count)) [
     | inl within ↦ ap (λ (seen : Seen). not (ltb row.inode count) || not (nat_eq seen.kind (kind_byte row.kind))) (same row.inode (ltb-true _ _ within))
-    | inr beyond ↦ ap (λ b. not b || not (nat_eq (shown row.inode).kind (kind_byte row.kind))) beyond ∙ sym (ap (λ b. not b || not (nat_eq (others row.inode).kind (kind_byte row.kind))) beyond)
+    | inr beyond ↦
+        ap (λ b. not b || not (nat_eq (shown row.inode).kind (kind_byte row.kind))) beyond
+        ∙ sym (ap (λ b. not b || not (nat_eq (others row.inode).kind (kind_byte row.kind))) beyond)
   ]
 
   pub tree_rule_alike : (rule i : ℕ) → i < count → breaks_tree_rule image rule i ≡ breaks_tree_rule other rule i

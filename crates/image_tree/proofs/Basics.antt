@@ -7,5 +7,6 @@ pub same_test : (a b c d : ℕ) → (a ≡ b → c ≡ d) → (c ≡ d → a ≡
 same_test a b c d to from =
     elim (nat_eq a b) as (λ t. nat_eq a b ≡ t → nat_eq c d ≡ t) [
       | true ↦ λ t. eq-eqb c d (to (eqb-true _ _ t))
-      | false ↦ λ t. elim (nat_eq c d) as (λ u. nat_eq c d ≡ u → u ≡ false) [ true ↦ λ u. absurd (eqb-false _ _ t (from (eqb-true _ _ u))) | false ↦ λ _. refl ] refl
+      | false ↦
+          λ t. elim (nat_eq c d) as (λ u. nat_eq c d ≡ u → u ≡ false) [ true ↦ λ u. absurd (eqb-false _ _ t (from (eqb-true _ _ u))) | false ↦ λ _. refl ] refl
     ] refl

@@ -60,7 +60,8 @@ padded_further (suc a) b [] =
 padded_further (suc a) b (slot ∷ slots) = ap (λ l. slot ∷ l) (padded_further a b slots) ∙ ap (λ n. padded n (slot ∷ slots)) (suc_joins a b)
 
 -- the slots of the first blocks
-first_blocks : (part : Part) (slots : List (Option Row)) → HasSlotBlocks part slots → (k : ℕ) → k ≤ blocks_up_to_last slots → flat_map slots_of (take k part.blocks) ≡ padded (BLOCK_SLOTS * k) slots
+first_blocks : (part : Part) (slots : List (Option Row)) → HasSlotBlocks part slots → (k : ℕ) → k ≤ blocks_up_to_last slots
+    → flat_map slots_of (take k part.blocks) ≡ padded (BLOCK_SLOTS * k) slots
 unfolding padded
 first_blocks part slots h zero le = ap (flat_map slots_of) (take_none part.blocks)
 first_blocks part slots h (suc k) le =
@@ -71,7 +72,8 @@ first_blocks part slots h (suc k) le =
     ∙ ap (flat_map slots_of) (take_more part.blocks k [] lt)
     ∙ flat_map-append slots_of (take k part.blocks) (slice_index_or part.blocks k [] ∷ [])
     ∙ ap (λ l. l ++ (slots_of (slice_index_or part.blocks k []) ++ [])) (first_blocks part slots h k (omega arith))
-    ∙ ap (λ l. padded (BLOCK_SLOTS * k) slots ++ l) (append-nil (slots_of (slice_index_or part.blocks k [])) ∙ h.each k (omega arith) ∙ at_length_is BLOCK_SLOTS (drop (BLOCK_SLOTS * k) slots))
+    ∙ ap (λ l. padded (BLOCK_SLOTS * k) slots ++ l)
+    (append-nil (slots_of (slice_index_or part.blocks k [])) ∙ h.each k (omega arith) ∙ at_length_is BLOCK_SLOTS (drop (BLOCK_SLOTS * k) slots))
     ∙ padded_further (BLOCK_SLOTS * k) BLOCK_SLOTS slots
     ∙ ap (λ n. padded n slots) (sum k)
   where
@@ -109,10 +111,13 @@ all_empty (Some row ∷ slots) e = absurd (cc)
 
 -- a slot of zeros is empty
 zero_slot : (k : ℕ) → slot_in (zeros 4096) k ≡ None
-zero_slot k = empty (part (264 * k) 264 (zeros 4096)) (zero_take 264 (drop (264 * k) (zeros 4096)) (λ j _. zero_drop (264 * k) (zeros 4096) (zeros-byte 4096) j) 5)
+zero_slot k =
+    empty (part (264 * k) 264 (zeros 4096)) (zero_take 264 (drop (264 * k) (zeros 4096)) (λ j _. zero_drop (264 * k) (zeros 4096) (zeros-byte 4096) j) 5)
   where
     empty : (bytes : List ℕ) → slice_index bytes 5 ≡ 0 → slot_of bytes ≡ None
-    empty bytes zero_length = ap (λ b. cond b None (Some (record { inode = u32_at 0 bytes; kind = slot_kind (slice_index bytes 4); name = part 8 (slice_index bytes 5) bytes }))) (eq-eqb _ _ zero_length)
+    empty bytes zero_length =
+        ap (λ b. cond b None (Some (record { inode = u32_at 0 bytes; kind = slot_kind (slice_index bytes 4); name = part 8 (slice_index bytes 5) bytes })))
+        (eq-eqb _ _ zero_length)
 
 zero_slots : (a n : ℕ) → map (slot_in (zeros 4096)) (range_with_len a n) ≡ replicate n None
 zero_slots a zero = refl

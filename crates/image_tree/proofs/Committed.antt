@@ -44,7 +44,8 @@ pub record HasSlots (num : Numbering) (tree : TreeState) (node : ℕ) (slots : L
   pub once : (name : List ℕ) → name_count name slots ≤ 1
 
 -- the slots of a directory after its net
-module _ (num after : Numbering) (old new : TreeState) (x : ℕ) (net : List NetRow) (is_net : IsNet (names_of x old.rows) (names_of x new.rows) net) (alike : (n : List ℕ) (y : ℕ) → row_of old x n ≡ Some y → row_of new x n ≡ Some y → ◌≡◌ {A = Row} (row_on num old n y) (row_on after new n y)) where
+module _ (num after : Numbering) (old new : TreeState) (x : ℕ) (net : List NetRow) (is_net : IsNet (names_of x old.rows) (names_of x new.rows) net)
+    (alike : (n : List ℕ) (y : ℕ) → row_of old x n ≡ Some y → row_of new x n ≡ Some y → ◌≡◌ {A = Row} (row_on num old n y) (row_on after new n y)) where
   abbrev new_row : NetRow → Option Row
   new_row row = cond (is_none row.before) (brought_row after new row) None
 
@@ -149,7 +150,9 @@ module _ (num after : Numbering) (old new : TreeState) (x : ℕ) (net : List Net
             at_most (Some row) = omega arith
         by_before (Some y) e =
             let made = is_made new_row new_named n net names_once in
-            let zero : name_count n (map Some (new_rows after new net)) ≡ 0 = made.counted ∙ ap (λ o. one_if_some (option_and_then new_row o)) is ∙ ap (λ o. one_if_some (cond (is_none o) (brought_row after new row) None)) e in
+            let zero : name_count n (map Some (new_rows after new net)) ≡ 0 =
+            made.counted ∙ ap (λ o. one_if_some (option_and_then new_row o)) is
+            ∙ ap (λ o. one_if_some (cond (is_none o) (brought_row after new row) None)) e in
             let c = count_filled n (changed slots) (new_rows after new net) in
             let d = count_changed (slot_after after new net) refl slot_named n slots in
             let f = h.once n in
@@ -178,7 +181,8 @@ module _ (num after : Numbering) (old new : TreeState) (x : ℕ) (net : List Net
     }
 
 -- a node has one link count in two trees that agree on its rows, on the rows that name it, and on kinds
-module _ (old new : TreeState) (kinds : (x : ℕ) → kind_of new x ≡ kind_of old x) (x : ℕ) (rows : (n : List ℕ) → row_of new x n ≡ row_of old x n) (naming : (d : ℕ) (n : List ℕ) → (row_of new d n ≡ Some x) ↔ (row_of old d n ≡ Some x)) where
+module _ (old new : TreeState) (kinds : (x : ℕ) → kind_of new x ≡ kind_of old x) (x : ℕ) (rows : (n : List ℕ) → row_of new x n ≡ row_of old x n)
+    (naming : (d : ℕ) (n : List ℕ) → (row_of new d n ≡ Some x) ↔ (row_of old d n ≡ Some x)) where
   same_directory : (y : ℕ) → is_directory new y ≡ is_directory old y
   same_directory y = directory_by_kind new y ∙ ap is_directory_kind (kinds y) ∙ sym (directory_by_kind old y)
 
@@ -262,7 +266,9 @@ module _ (commit : Commit) (old new : TreeState) (image next : SeenInodes) (step
   shows_built : (x i : ℕ) → commit.after x ≡ Some i → commit.concerns x ≡ true → ShowsNode commit.after new x (next.seen i)
   shows_built x i is concerned =
       let b = step.commits.built x i is concerned in
-      let h = has_slots_after commit.before commit.after old new x (commit.nets x) (step.commits.nets x) (same_row x) (seen_before commit image x).slots (slots_before x) in
+      let h =
+      has_slots_after commit.before commit.after old new x (commit.nets x) (step.commits.nets x) (same_row x) (seen_before commit image x).slots
+      (slots_before x) in
       record {
         kind = b.kind;
         links = b.links;
@@ -302,13 +308,16 @@ module _ (commit : Commit) (old new : TreeState) (image next : SeenInodes) (step
   held i p lt small some = elim (step.commits.rest i lt) as (λ _. HeldBy i p) [
     | inr free ↦ absurd (some (free.blocks p small))
     | inl node ↦ elim (commit.concerns node.0) as (λ b. commit.concerns node.0 ≡ b → HeldBy i p) [
-      | false ↦ λ t. let a = step.commits.stays node.0 i node.1 t in HeldAfter.before (number_within commit old image step.stands step.commits.numbers node.0 i node.1) (ap (λ (seen : Seen). seen.blocks p) (sym a.1))
+      | false ↦ λ t. let a = step.commits.stays node.0 i node.1 t in
+          HeldAfter.before (number_within commit old image step.stands step.commits.numbers node.0 i node.1) (ap (λ (seen : Seen). seen.blocks p) (sym a.1))
       | true ↦ λ t. by_block node.0 node.1 (step.commits.blocks.has node.0 i p small node.1 t)
     ] refl
   ]
     where
       by_number : (x : ℕ) → commit.after x ≡ Some i → ComesBy commit image x i → (next.seen i).blocks p ≡ (seen_before commit image x).blocks p → HeldBy i p
-      by_number x is (had was) same = HeldAfter.before (number_within commit old image step.stands step.commits.numbers x i is) (sym (same ∙ ap (λ (o : Option ℕ). (option_map_or image.seen o blank).blocks p) was))
+      by_number x is (had was) same =
+          HeldAfter.before (number_within commit old image step.stands step.commits.numbers x i is)
+          (sym (same ∙ ap (λ (o : Option ℕ). (option_map_or image.seen o blank).blocks p) was))
       by_number x is (enters none _ _) same = absurd (some (same ∙ ap (λ (o : Option ℕ). (option_map_or image.seen o blank).blocks p) none))
 
       by_block : (x : ℕ) → commit.after x ≡ Some i → HasBlock commit i p (seen_before commit image x) (next.seen i) → HeldBy i p
@@ -339,7 +348,10 @@ module _ (commit : Commit) (old new : TreeState) (image next : SeenInodes) (step
 pub commits_keep_standing : CommitsKeepStanding
 commits_keep_standing commit old new image next making step =
     let stands = stands_after commit old new image next step in
-    record { stands = stands; shows = standing_images_show commit.after new next making (record { sound = step.next_sound; storable = step.storable; stands = stands }) }
+    record {
+      stands = stands;
+      shows = standing_images_show commit.after new next making (record { sound = step.next_sound; storable = step.storable; stands = stands });
+    }
 
 pub commits_hold_their_blocks : CommitsHoldTheirBlocks
 commits_hold_their_blocks = held

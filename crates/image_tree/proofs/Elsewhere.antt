@@ -35,14 +35,18 @@ no_net rows = record { ascending = tt; each = All-nil (IsNetRow rows rows); comp
 
 -- directories with the same rows
 same_names : (tree other : TreeState) (x : ℕ) → ((n : List ℕ) → row_of other x n ≡ row_of tree x n) → names_of x other.rows ≡ names_of x tree.rows
-same_names tree other x rows = same_map nat_list_cmp_total name_cmp-IsAntisymmetric (names_of x other.rows) (names_of x tree.rows) (λ n. get-names_where x (λ _. true) other.rows n ∙ rows n ∙ sym (get-names_where x (λ _. true) tree.rows n))
+same_names tree other x rows =
+    same_map nat_list_cmp_total name_cmp-IsAntisymmetric (names_of x other.rows) (names_of x tree.rows)
+    (λ n. get-names_where x (λ _. true) other.rows n ∙ rows n ∙ sym (get-names_where x (λ _. true) tree.rows n))
 
 -- slots after a net, under numbers and in trees that agree on the children that it brings
-module _ (num other_num : Numbering) (tree other : TreeState) (earlier later : FinMap name_cmp ℕ) (alike : (n : List ℕ) (row : NetRow) → IsNetRow earlier later row → brought_row other_num other row ≡ brought_row num tree row) where
+module _ (num other_num : Numbering) (tree other : TreeState) (earlier later : FinMap name_cmp ℕ)
+    (alike : (n : List ℕ) (row : NetRow) → IsNetRow earlier later row → brought_row other_num other row ≡ brought_row num tree row) where
   new_rows_alike : (net : List NetRow) → All (IsNetRow earlier later) net → new_rows other_num other net ≡ new_rows num tree net
   new_rows_alike [] all = refl
   new_rows_alike (row ∷ rows) all =
-      ap (λ o. cons_option (cond (is_none row.before) o None) (new_rows other_num other rows)) (alike row.name row (All-head (IsNetRow earlier later) row rows all))
+      ap (λ o. cons_option (cond (is_none row.before) o None) (new_rows other_num other rows))
+      (alike row.name row (All-head (IsNetRow earlier later) row rows all))
       ∙ ap (cons_option (cond (is_none row.before) (brought_row num tree row) None)) (new_rows_alike rows (All-tail (IsNetRow earlier later) row rows all))
 
   module _ (net : List NetRow) (is : IsNet earlier later net) where
@@ -57,12 +61,15 @@ module _ (num other_num : Numbering) (tree other : TreeState) (earlier later : F
 
     changed_alike : (slots : List (Option Row)) → map (slot_after other_num other net) slots ≡ map (slot_after num tree net) slots
     changed_alike [] = refl
-    changed_alike (slot ∷ slots) = ap (λ s. s ∷ map (slot_after other_num other net) slots) (slot_alike slot) ∙ ap (λ l. slot_after num tree net slot ∷ l) (changed_alike slots)
+    changed_alike (slot ∷ slots) =
+        ap (λ s. s ∷ map (slot_after other_num other net) slots) (slot_alike slot) ∙ ap (λ l. slot_after num tree net slot ∷ l) (changed_alike slots)
 
     slots_alike : (slots : List (Option Row)) → slots_after other_num other net slots ≡ slots_after num tree net slots
-    slots_alike slots = ap (λ l. filled l (new_rows other_num other net)) (changed_alike slots) ∙ ap (filled (map (slot_after num tree net) slots)) (new_rows_alike net is.each)
+    slots_alike slots =
+        ap (λ l. filled l (new_rows other_num other net)) (changed_alike slots) ∙ ap (filled (map (slot_after num tree net) slots)) (new_rows_alike net is.each)
 
-module _ (commit : Commit) (old new : TreeState) (image next : SeenInodes) (there : Elsewhere) (plan : IsPlanned commit old new image next) (suits : Suits commit old new image next there) where
+module _ (commit : Commit) (old new : TreeState) (image next : SeenInodes) (there : Elsewhere) (plan : IsPlanned commit old new image next)
+    (suits : Suits commit old new image next there) where
   -- rows of a directory that the commit does not concern stay
   rows_stay : (d : ℕ) → commit.concerns d ≡ false → (n : List ℕ) → row_of old d n ≡ row_of new d n
   rows_stay d other n =
@@ -74,10 +81,12 @@ module _ (commit : Commit) (old new : TreeState) (image next : SeenInodes) (ther
   nets_there x = elim (commit.concerns x) as (λ b. commit.concerns x ≡ b → IsNet (names_of x there.old.rows) (names_of x there.new.rows) (commit.nets x)) [
     | true ↦ λ t.
         subst (λ (rows : FinMap name_cmp ℕ). IsNet rows (names_of x there.new.rows) (commit.nets x)) (sym (same_names old there.old x (suits.agrees.rows x t)))
-        (subst (λ (rows : FinMap name_cmp ℕ). IsNet (names_of x old.rows) rows (commit.nets x)) (sym (same_names new there.new x (suits.follows.nodes x t).0)) (plan.commits.nets x))
+        (subst (λ (rows : FinMap name_cmp ℕ). IsNet (names_of x old.rows) rows (commit.nets x)) (sym (same_names new there.new x (suits.follows.nodes x t).0))
+        (plan.commits.nets x))
     | false ↦ λ t.
         subst (IsNet (names_of x there.old.rows) (names_of x there.new.rows)) (sym (plan.concerns.nets x t))
-        (subst (λ (rows : FinMap name_cmp ℕ). IsNet (names_of x there.old.rows) rows []) (sym (same_names there.old there.new x (suits.follows.other_nodes x t).0)) (no_net (names_of x there.old.rows)))
+        (subst (λ (rows : FinMap name_cmp ℕ). IsNet (names_of x there.old.rows) rows [])
+        (sym (same_names there.old there.new x (suits.follows.other_nodes x t).0)) (no_net (names_of x there.old.rows)))
   ] refl
 
   -- a row that names a concerned node there, after the commit, is a planned one
@@ -150,7 +159,12 @@ module _ (commit : Commit) (old new : TreeState) (image next : SeenInodes) (ther
         links = b.links ∙ links_there x concerned;
         size = b.size;
         bytes = b.bytes ∙ sym (suits.follows.nodes x concerned).1;
-        slots = b.slots ∙ ap in_blocks (sym (slots_alike commit.after there.after new there.new (names_of x old.rows) (names_of x new.rows) (after_there x) (commit.nets x) (plan.commits.nets x) (seen_before commit image x).slots));
+        slots =
+            b.slots
+            ∙ ap in_blocks
+            (sym
+            (slots_alike commit.after there.after new there.new (names_of x old.rows) (names_of x new.rows) (after_there x) (commit.nets x)
+            (plan.commits.nets x) (seen_before commit image x).slots));
       }))
 
   comes_there : (x i : ℕ) → there.after x ≡ Some i → ComesBy (commit_there commit there) there.image x i
@@ -161,7 +175,8 @@ module _ (commit : Commit) (old new : TreeState) (image next : SeenInodes) (ther
     where
       by_way : commit.concerns x ≡ true → commit.after x ≡ Some i → ComesBy commit image x i → ComesBy (commit_there commit there) there.image x i
       by_way t planned (had was) = had (suits.agrees.numbers x t ∙ was)
-      by_way t planned (enters none lt _) = enters (suits.agrees.numbers x t ∙ none) (subst (λ (n : ℕ). i < n) (sym suits.agrees.count) lt) (suits.agrees.entering x i t none planned)
+      by_way t planned (enters none lt _) =
+          enters (suits.agrees.numbers x t ∙ none) (subst (λ (n : ℕ). i < n) (sym suits.agrees.count) lt) (suits.agrees.entering x i t none planned)
 
   concerned_if_entering : (x i : ℕ) → there.before x ≡ None → there.after x ≡ Some i → commit.concerns x ≡ true
   concerned_if_entering x i none is = elim (commit.concerns x) as (λ b. commit.concerns x ≡ b → b ≡ true) [
@@ -181,7 +196,8 @@ module _ (commit : Commit) (old new : TreeState) (image next : SeenInodes) (ther
 
       by_way : commit.after t.node ≡ Some i → ComesBy commit image t.node i → ⊥
       by_way now (had was) = apart t.node t.concerned (suits.agrees.numbers t.node t.concerned ∙ was)
-      by_way now (enters none _ _) = not_used (kind_of there.old x) (sym (suits.stands.each x i is).kind ∙ (suits.agrees.entering t.node i t.concerned none now).kind)
+      by_way now (enters none _ _) =
+          not_used (kind_of there.old x) (sym (suits.stands.each x i is).kind ∙ (suits.agrees.entering t.node i t.concerned none now).kind)
 
   aside_there : (x : ℕ) → commit.concerns x ≡ false → IsAside there.old there.new x
   aside_there x other = record {
@@ -197,10 +213,12 @@ module _ (commit : Commit) (old new : TreeState) (image next : SeenInodes) (ther
   }
     where
       stayed : (d : ℕ) (n : List ℕ) → row_of new d n ≡ Some x → row_of old d n ≡ Some x
-      stayed d n row = elim (same_option (row_of old d n) (Some x)) [ inl same ↦ same | inr differ ↦ absurd (not_both (plan.concerns.comes d n x row differ) other) ]
+      stayed d n row =
+          elim (same_option (row_of old d n) (Some x)) [ inl same ↦ same | inr differ ↦ absurd (not_both (plan.concerns.comes d n x row differ) other) ]
 
       stays : (d : ℕ) (n : List ℕ) → row_of old d n ≡ Some x → row_of new d n ≡ Some x
-      stays d n row = elim (same_option (row_of new d n) (Some x)) [ inl same ↦ same | inr differ ↦ absurd (not_both (plan.concerns.goes d n x row differ) other) ]
+      stays d n row =
+          elim (same_option (row_of new d n) (Some x)) [ inl same ↦ same | inr differ ↦ absurd (not_both (plan.concerns.goes d n x row differ) other) ]
 
   stays_there : (x i : ℕ) → there.after x ≡ Some i → commit.concerns x ≡ false →
       (there.before x ≡ Some i) × (there.next.seen i ≡ there.image.seen i) × IsAside there.old there.new x
@@ -280,7 +298,8 @@ module _ (commit : Commit) (old new : TreeState) (image next : SeenInodes) (ther
       once = λ x y i p q is twin.
           let cx = concerned_if_entering x i p is in
           let cy = concerned_if_entering y i q twin in
-          plan.commits.numbers.once x y i (sym (suits.agrees.numbers x cx) ∙ p) (sym (suits.agrees.numbers y cy) ∙ q) (sym (suits.follows.numbers x cx) ∙ is) (sym (suits.follows.numbers y cy) ∙ twin);
+          plan.commits.numbers.once x y i (sym (suits.agrees.numbers x cx) ∙ p) (sym (suits.agrees.numbers y cy) ∙ q) (sym (suits.follows.numbers x cx) ∙ is)
+          (sym (suits.follows.numbers y cy) ∙ twin);
     };
     built = built_there;
     stays = stays_there;
@@ -299,7 +318,15 @@ unconcerned_nodes_stay commit old new node nets w other bytes = record {
       ∙ get-names_where node (λ _. true) new.rows name);
   bytes = bytes;
   naming = λ d n. (
-    λ row. elim (same_option (row_of old d n) (Some node)) as (λ _. row_of old d n ≡ Some node) [ inl same ↦ same | inr differ ↦ absurd (not_both (w.comes d n node row differ) other) ],
-    λ row. elim (same_option (row_of new d n) (Some node)) as (λ _. row_of new d n ≡ Some node) [ inl same ↦ same | inr differ ↦ absurd (not_both (w.goes d n node row differ) other) ],
+    λ row. elim (same_option (row_of old d n) (Some node)) as (λ _. row_of old d n ≡ Some node) [
+      | inl same ↦ same
+      | inr differ ↦
+          absurd (not_both (w.comes d n node row differ) other)
+    ],
+    λ row. elim (same_option (row_of new d n) (Some node)) as (λ _. row_of new d n ≡ Some node) [
+      | inl same ↦ same
+      | inr differ ↦
+          absurd (not_both (w.goes d n node row differ) other)
+    ],
   );
 }

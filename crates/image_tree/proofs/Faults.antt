@@ -34,7 +34,9 @@ either_false false x y e f = f
 module _ (p : ℕ → Bool) where
   find_none : (a n : ℕ) → ((k : ℕ) → a ≤ k → k < a + n → p k ≡ false) → find p (range_with_len a n) ≡ None
   find_none a zero h = refl
-  find_none a (suc n) h = ap (λ b. cond b (Some a) (find p (range_with_len (a + 1) n))) (h a (omega arith) (omega arith)) ∙ find_none (a + 1) n (λ k le lt. h k (omega arith) (omega arith))
+  find_none a (suc n) h =
+      ap (λ b. cond b (Some a) (find p (range_with_len (a + 1) n))) (h a (omega arith) (omega arith))
+      ∙ find_none (a + 1) n (λ k le lt. h k (omega arith) (omega arith))
 
   pub none_found : (a n : ℕ) → find p (range_with_len a n) ≡ None → (k : ℕ) → a ≤ k → k < a + n → p k ≡ false
   none_found a zero e k le lt = absurd (omega arith)
@@ -49,7 +51,8 @@ module _ (p : ℕ → Bool) where
 
   any_none : (a n : ℕ) → ((k : ℕ) → a ≤ k → k < a + n → p k ≡ false) → list_any p (range_with_len a n) ≡ false
   any_none a zero h = refl
-  any_none a (suc n) h = ap (λ b. b || list_any p (range_with_len (a + 1) n)) (h a (omega arith) (omega arith)) ∙ any_none (a + 1) n (λ k le lt. h k (omega arith) (omega arith))
+  any_none a (suc n) h =
+      ap (λ b. b || list_any p (range_with_len (a + 1) n)) (h a (omega arith) (omega arith)) ∙ any_none (a + 1) n (λ k le lt. h k (omega arith) (omega arith))
 
   none_any : (a n : ℕ) → list_any p (range_with_len a n) ≡ false → (k : ℕ) → a ≤ k → k < a + n → p k ≡ false
   none_any a zero e k le lt = absurd (omega arith)
@@ -65,7 +68,9 @@ module _ (p : ℕ → Bool) where
 module _ (f : ℕ → Option TreeFault) where
   gather_none : (a n : ℕ) → ((k : ℕ) → a ≤ k → k < a + n → f k ≡ None) → filter_map f (range_with_len a n) ≡ []
   gather_none a zero h = refl
-  gather_none a (suc n) h = ap (λ o. cons_option o (filter_map f (range_with_len (a + 1) n))) (h a (omega arith) (omega arith)) ∙ gather_none (a + 1) n (λ k le lt. h k (omega arith) (omega arith))
+  gather_none a (suc n) h =
+      ap (λ o. cons_option o (filter_map f (range_with_len (a + 1) n))) (h a (omega arith) (omega arith))
+      ∙ gather_none (a + 1) n (λ k le lt. h k (omega arith) (omega arith))
 
   none_gathered : (a n : ℕ) → slice_get (filter_map f (range_with_len a n)) 0 ≡ None → (k : ℕ) → a ≤ k → k < a + n → f k ≡ None
   none_gathered a zero e k le lt = absurd (omega arith)
@@ -86,11 +91,18 @@ unmapped rule (Some i) e = absurd (none_some (sym e))
 module _ (breaks : ℕ → ℕ → Bool) (count : ℕ) where
   -- where no inode breaks a rule there is no first fault
   no_fault : ((rule i : ℕ) → 1 ≤ rule → i < count → breaks rule i ≡ false) → first_fault breaks count ≡ None
-  no_fault h = ap (λ (l : List TreeFault). slice_get l 0) (gather_none (fault_by breaks count) 1 RULES (λ rule le lt. ap (option_map (λ i. record { rule = rule; inode = i })) (find_none (breaks rule) 0 count (λ i _ less. h rule i le (omega arith)))))
+  no_fault h =
+      ap (λ (l : List TreeFault). slice_get l 0)
+      (gather_none (fault_by breaks count) 1 RULES
+      (λ rule le lt. ap (option_map (λ i. record { rule = rule; inode = i }))
+      (find_none (breaks rule) 0 count (λ i _ less. h rule i le (omega arith)))))
 
   -- and where there is none, no inode breaks one
   pub no_break : first_fault breaks count ≡ None → (rule i : ℕ) → 1 ≤ rule → rule < 15 → i < count → breaks rule i ≡ false
-  no_break none rule i le lt less = none_found (breaks rule) 0 count (unmapped rule (find (breaks rule) (range_with_len 0 count)) (none_gathered (fault_by breaks count) 1 RULES none rule le (omega arith))) i (omega arith) (omega arith)
+  no_break none rule i le lt less =
+      none_found (breaks rule) 0 count
+      (unmapped rule (find (breaks rule) (range_with_len 0 count)) (none_gathered (fault_by breaks count) 1 RULES none rule le (omega arith))) i
+      (omega arith) (omega arith)
 
 -- rows in slots of which none passes
 no_row_passes : (test : Row → Bool) (slots : List (Option Row)) → AllByRecursion (λ slot. option_map_or test slot false ≡ false) slots →
@@ -135,7 +147,8 @@ placed : (image : SeenInodes) (slots : List (Option Row)) → AllByRecursion (Ma
 placed image [] h = refl
 placed image (None ∷ slots) h = placed image slots h.1
 placed image (Some row ∷ slots) h =
-    ap (λ b. (not b || not (nat_eq (image.seen row.inode).kind (kind_byte row.kind))) || list_any (λ slot. option_map_or (is_misplaced image) slot false) slots) (lt-ltb _ _ h.0.within)
+    ap (λ b. (not b || not (nat_eq (image.seen row.inode).kind (kind_byte row.kind))) || list_any (λ slot. option_map_or (is_misplaced image) slot false) slots)
+    (lt-ltb _ _ h.0.within)
     ∙ ap (λ b. not b || list_any (λ slot. option_map_or (is_misplaced image) slot false) slots) (eq-eqb _ _ h.0.kind)
     ∙ placed image slots h.1
 
@@ -143,7 +156,9 @@ no_root_named : (image : SeenInodes) (slots : List (Option Row)) → AllByRecurs
     → list_any (λ slot. option_map_or (λ (row : Row). nat_eq row.inode 0) slot false) slots ≡ false
 no_root_named image [] h = refl
 no_root_named image (None ∷ slots) h = no_root_named image slots h.1
-no_root_named image (Some row ∷ slots) h = ap (λ b. b || list_any (λ slot. option_map_or (λ (row : Row). nat_eq row.inode 0) slot false) slots) (not_same _ _ h.0.no_root) ∙ no_root_named image slots h.1
+no_root_named image (Some row ∷ slots) h =
+    ap (λ b. b || list_any (λ slot. option_map_or (λ (row : Row). nat_eq row.inode 0) slot false) slots) (not_same _ _ h.0.no_root)
+    ∙ no_root_named image slots h.1
 
 -- a walk up that meets the root gives the directories above
 walked : (tree : TreeState) (steps x : ℕ) → list_any (λ above. nat_eq above 0) (walk_up steps tree x) ≡ true → (l : List ℕ) × Above tree x l
@@ -151,8 +166,10 @@ walked tree zero x e = absurd (not_both e refl)
 walked tree (suc steps) x e = elim (holder_found tree x) as (λ _. (l : List ℕ) × Above tree x l) [
   | inr none ↦ absurd (not_both e (ap (λ o. list_any (λ above. nat_eq above 0) (and_above (walk_up steps tree) o)) none.0))
   | inl f ↦
-      let met : (nat_eq f.0 0 || list_any (λ above. nat_eq above 0) (walk_up steps tree f.0)) ≡ true = sym (ap (λ o. list_any (λ above. nat_eq above 0) (and_above (walk_up steps tree) o)) f.1) ∙ e in
-      elim (nat_eq f.0 0) as (λ b. nat_eq f.0 0 ≡ b → (b || list_any (λ above. nat_eq above 0) (walk_up steps tree f.0)) ≡ true → (l : List ℕ) × Above tree x l) [
+      let met : (nat_eq f.0 0 || list_any (λ above. nat_eq above 0) (walk_up steps tree f.0)) ≡ true =
+      sym (ap (λ o. list_any (λ above. nat_eq above 0) (and_above (walk_up steps tree) o)) f.1) ∙ e in
+      elim (nat_eq f.0 0) as (λ b. nat_eq f.0 0 ≡ b → (b || list_any (λ above. nat_eq above 0) (walk_up steps tree f.0)) ≡ true
+      → (l : List ℕ) × Above tree x l) [
         | true ↦ λ t _. (f.0 ∷ [], below x f.0 f.2.0 [] f.2.1 (subst (λ (r : ℕ). Above tree r []) (sym (eqb-true _ _ t)) at_root))
         | false ↦ λ t m. let up = walked tree steps f.0 m in (f.0 ∷ up.0, below x f.0 f.2.0 up.0 f.2.1 up.1)
       ] refl met
@@ -173,26 +190,40 @@ module _ (image : SeenInodes) (breaks_byte_rule : ℕ → ℕ → Bool) (r : Kee
       root = r.root;
       apart = r.apart;
       once = λ i is n. once i n (directory_not i (has_name_twice image i) is (none 8 i (omega arith) (omega arith) is.0));
-      full = λ i number is lt. ltb-false _ _ (none_any (λ number. nat_lt BUCKET_ROWS (len (bucket_rows i number (image_rows image)))) 0 8 (directory_not i (has_overfull_bucket image i) is (none 9 i (omega arith) (omega arith) is.0)) number (omega arith) (omega arith));
-      children = λ i is. may_stand image (image.seen i).slots (directory_not i (has_misplaced_row image i) is (none 10 i (omega arith) (omega arith) is.0)) (directory_not i (names_root image i) is (none 11 i (omega arith) (omega arith) is.0));
+      full =
+          λ i number is lt. ltb-false _ _
+          (none_any (λ number. nat_lt BUCKET_ROWS (len (bucket_rows i number (image_rows image)))) 0 8
+          (directory_not i (has_overfull_bucket image i) is (none 9 i (omega arith) (omega arith) is.0)) number (omega arith) (omega arith));
+      children =
+          λ i is. may_stand image (image.seen i).slots (directory_not i (has_misplaced_row image i) is (none 10 i (omega arith) (omega arith) is.0))
+          (directory_not i (names_root image i) is (none 11 i (omega arith) (omega arith) is.0));
       named_once = λ i is. ltb-false _ _ (directory_not i (is_named_twice image i) is (none 12 i (omega arith) (omega arith) is.0));
-      links = λ i lt used. eqb-true _ _ (not_false _ (then_false (is_used image i) (has_wrong_links image i) (none 13 i (omega arith) (omega arith) lt) (ap not (not_same _ _ used))));
+      links =
+          λ i lt used. eqb-true _ _
+          (not_false _ (then_false (is_used image i) (has_wrong_links image i) (none 13 i (omega arith) (omega arith) lt) (ap not (not_same _ _ used))));
       reached = λ i is. reached i (not_false _ (directory_not i (is_unreached image i) is (none 14 i (omega arith) (omega arith) is.0)));
     }
       where
         once : (i : ℕ) (n : List ℕ) → has_name_twice image i ≡ false → name_count n (image.seen i).slots ≤ 1
-        once i n e = elim (nat_lt 1 (name_count n (image.seen i).slots)) as (λ b. nat_lt 1 (name_count n (image.seen i).slots) ≡ b → name_count n (image.seen i).slots ≤ 1) [
-          | false ↦ λ t. ltb-false _ _ t
-          | true ↦ λ t.
-              let lt = ltb-true _ _ t in
-              absurd (not_both (counted_row (λ (row : Row). nat_lt 1 (name_count row.name (image.seen i).slots)) n (λ row same. ap (λ m. nat_lt 1 (name_count m (image.seen i).slots)) same ∙ t) (image.seen i).slots (omega arith)) e)
-        ] refl
+        once i n e =
+            elim (nat_lt 1 (name_count n (image.seen i).slots)) as (λ b. nat_lt 1 (name_count n (image.seen i).slots) ≡ b
+            → name_count n (image.seen i).slots ≤ 1) [
+              | false ↦ λ t. ltb-false _ _ t
+              | true ↦ λ t.
+                  let lt = ltb-true _ _ t in
+                  absurd
+                  (not_both
+                  (counted_row (λ (row : Row). nat_lt 1 (name_count row.name (image.seen i).slots)) n
+                  (λ row same. ap (λ m. nat_lt 1 (name_count m (image.seen i).slots)) same ∙ t) (image.seen i).slots (omega arith))
+                  e)
+            ] refl
 
         reached : (i : ℕ) → (nat_eq i 0 || lies_below (ruled_tree image) i 0) ≡ true → (l : List ℕ) × Above (ruled_tree image) i l
-        reached i e = elim (nat_eq i 0) as (λ b. nat_eq i 0 ≡ b → (b || lies_below (ruled_tree image) i 0) ≡ true → (l : List ℕ) × Above (ruled_tree image) i l) [
-          | true ↦ λ t _. ([], subst (λ (j : ℕ). Above (ruled_tree image) j []) (sym (eqb-true _ _ t)) at_root)
-          | false ↦ λ t m. walked (ruled_tree image) (len (image_rows image)) i m
-        ] refl e
+        reached i e =
+            elim (nat_eq i 0) as (λ b. nat_eq i 0 ≡ b → (b || lies_below (ruled_tree image) i 0) ≡ true → (l : List ℕ) × Above (ruled_tree image) i l) [
+              | true ↦ λ t _. ([], subst (λ (j : ℕ). Above (ruled_tree image) j []) (sym (eqb-true _ _ t)) at_root)
+              | false ↦ λ t m. walked (ruled_tree image) (len (image_rows image)) i m
+            ] refl e
 
   module _ (k : KeepsRules image) where
     holds_of_directory : (i : ℕ) (p : Bool) → i < image.count → (IsDirectoryInode image i → p ≡ false) → (shows_directory (image.seen i) && p) ≡ false
@@ -206,20 +237,29 @@ module _ (image : SeenInodes) (breaks_byte_rule : ℕ → ℕ → Bool) (r : Kee
 
     tree_rules : (rule i : ℕ) → i < image.count → breaks_tree_rule image rule i ≡ false
     tree_rules rule i lt =
-        either_false (nat_eq rule 8) _ _ (holds_of_directory i (has_name_twice image i) lt (λ is. no_row_passes _ (image.seen i).slots (every_row (λ (row : Row). nat_lt 1 (name_count row.name (image.seen i).slots)) (λ row. not_below _ _ (k.once i is row.name)) (image.seen i).slots)))
-        (either_false (nat_eq rule 9) _ _ (holds_of_directory i (has_overfull_bucket image i) lt (λ is. any_none (λ number. nat_lt BUCKET_ROWS (len (bucket_rows i number (image_rows image)))) 0 8 (λ number _ less. not_below _ _ (k.full i number is (omega arith)))))
+        either_false (nat_eq rule 8) _ _
+        (holds_of_directory i (has_name_twice image i) lt
+        (λ is. no_row_passes _ (image.seen i).slots
+        (every_row (λ (row : Row). nat_lt 1 (name_count row.name (image.seen i).slots)) (λ row. not_below _ _ (k.once i is row.name))
+        (image.seen i).slots)))
+        (either_false (nat_eq rule 9) _ _
+        (holds_of_directory i (has_overfull_bucket image i) lt
+        (λ is. any_none (λ number. nat_lt BUCKET_ROWS (len (bucket_rows i number (image_rows image)))) 0 8
+        (λ number _ less. not_below _ _ (k.full i number is (omega arith)))))
         (either_false (nat_eq rule 10) _ _ (holds_of_directory i (has_misplaced_row image i) lt (λ is. placed image (image.seen i).slots (k.children i is)))
         (either_false (nat_eq rule 11) _ _ (holds_of_directory i (names_root image i) lt (λ is. no_root_named image (image.seen i).slots (k.children i is)))
         (either_false (nat_eq rule 12) _ _ (holds_of_directory i (is_named_twice image i) lt (λ is. not_below _ _ (k.named_once i is)))
-        (either_false (nat_eq rule 13) _ _ (asked (is_used image i) (has_wrong_links image i) (λ used. ap not (eq-eqb _ _ (k.links i lt (used_not_free image i used)))))
+        (either_false (nat_eq rule 13) _ _
+        (asked (is_used image i) (has_wrong_links image i) (λ used. ap not (eq-eqb _ _ (k.links i lt (used_not_free image i used)))))
         (either_false (nat_eq rule 14) _ _ (holds_of_directory i (is_unreached image i) lt (reached_test i)) refl))))))
 
     no_rule_broken : ((rule i : ℕ) → 1 ≤ rule → rule ≤ BYTE_RULES → i < image.count → breaks_byte_rule rule i ≡ false) → (rule i : ℕ) → 1 ≤ rule →
         i < image.count → breaks_rule breaks_byte_rule image rule i ≡ false
-    no_rule_broken bytes rule i le lt = elim (nat_lt BYTE_RULES rule) as (λ b. nat_lt BYTE_RULES rule ≡ b → cond b (breaks_tree_rule image rule i) (breaks_byte_rule rule i) ≡ false) [
-      | true ↦ λ t. tree_rules rule i lt
-      | false ↦ λ t. bytes rule i le (ltb-false _ _ t) lt
-    ] refl
+    no_rule_broken bytes rule i le lt =
+        elim (nat_lt BYTE_RULES rule) as (λ b. nat_lt BYTE_RULES rule ≡ b → cond b (breaks_tree_rule image rule i) (breaks_byte_rule rule i) ≡ false) [
+          | true ↦ λ t. tree_rules rule i lt
+          | false ↦ λ t. bytes rule i le (ltb-false _ _ t) lt
+        ] refl
 
 pub no_fault_is_rules_kept : NoFaultIsRulesKept
 no_fault_is_rules_kept image breaks_byte_rule r bytes = (
@@ -258,5 +298,6 @@ orphans_break_no_tree_rule image rule i lt orphan none =
 
     links : links_of (ruled_tree image) i ≡ 0
     links =
-        ap (λ b. cond b (2 + count_by (holds_directory (ruled_tree image) i) (entries (image_rows image))) (count_of (image_rows image) i)) (directory_shown image NOTHING_MADE i lt ∙ other)
+        ap (λ b. cond b (2 + count_by (holds_directory (ruled_tree image) i) (entries (image_rows image))) (count_of (image_rows image) i))
+        (directory_shown image NOTHING_MADE i lt ∙ other)
         ∙ eqb-true _ _ (and_second (shows_file (image.seen i)) _ orphan)

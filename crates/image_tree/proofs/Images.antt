@@ -21,7 +21,8 @@ use Rattle.sfs_base.proofs.BasicTruth.{or_true}
 use Rattle.sfs_base.proofs.BasicOptions.{or_none, none_some, some_same}
 
 -- entries that are gathered from numbers in turn, where those of other numbers have not the key that is looked for
-module _ {K X : Type 0} (R : K → K → Rattle.std.specs.declared.cmp.Ordering.Ordering) (f : ℕ → List (K × X)) (q : K) (j : ℕ) (others : (i : ℕ) → i ≢ j → find R q (f i) ≡ None) where
+module _ {K X : Type 0} (R : K → K → Rattle.std.specs.declared.cmp.Ordering.Ordering) (f : ℕ → List (K × X)) (q : K) (j : ℕ)
+    (others : (i : ℕ) → i ≢ j → find R q (f i) ≡ None) where
   find_outside : (a n : ℕ) → (j < a) ⊎ (a + n ≤ j) → find R q (flat_map f (range_with_len a n)) ≡ None
   find_outside a zero out = refl
   find_outside a (suc n) out =
@@ -56,7 +57,12 @@ key_test i n m = same_key i i n m ∙ ap (λ b. cond b (eq_by_cmp name_cmp n m) 
 
 key_apart : (d i : ℕ) (n m : List ℕ) → i ≢ d → eq_by_cmp key_cmp (d, n) (i, m) ≡ false
 key_apart d i n m other =
-    same_key d i n m ∙ elim (nat_eq d i) as (λ b. nat_eq d i ≡ b → cond b (eq_by_cmp name_cmp n m) false ≡ false) [ true ↦ λ t. absurd (other (sym (eqb-true _ _ t))) | false ↦ λ _. refl ] refl
+    same_key d i n m
+    ∙ elim (nat_eq d i) as (λ b. nat_eq d i ≡ b → cond b (eq_by_cmp name_cmp n m) false ≡ false) [
+      | true ↦
+          λ t. absurd (other (sym (eqb-true _ _ t)))
+      | false ↦ λ _. refl
+    ] refl
 
 find_slot : (i : ℕ) (n : List ℕ) (slots : List (Option Row)) →
     find key_cmp (i, n) (filter_map (tree_row i) slots) ≡ option_map (λ (row : Row). row.inode) (looked_up n slots)
@@ -64,7 +70,8 @@ find_slot i n [] = refl
 find_slot i n (None ∷ slots) = find_slot i n slots
 find_slot i n (Some row ∷ slots) =
     ap (λ b. cond b (Some row.inode) (find key_cmp (i, n) (filter_map (tree_row i) slots))) (key_test i n row.name)
-    ∙ elim (bytes_eq n row.name) as (λ b. cond b (Some row.inode) (find key_cmp (i, n) (filter_map (tree_row i) slots)) ≡ option_map (λ (row : Row). row.inode) (cond b (Some row) (looked_up n slots))) [
+    ∙ elim (bytes_eq n row.name) as (λ b. cond b (Some row.inode) (find key_cmp (i, n) (filter_map (tree_row i) slots))
+    ≡ option_map (λ (row : Row). row.inode) (cond b (Some row) (looked_up n slots))) [
       | true ↦ refl
       | false ↦ find_slot i n slots
     ]
@@ -72,7 +79,8 @@ find_slot i n (Some row ∷ slots) =
 find_other : (d i : ℕ) (n : List ℕ) (slots : List (Option Row)) → i ≢ d → find key_cmp (d, n) (filter_map (tree_row i) slots) ≡ None
 find_other d i n [] other = refl
 find_other d i n (None ∷ slots) other = find_other d i n slots other
-find_other d i n (Some row ∷ slots) other = ap (λ b. cond b (Some row.inode) (find key_cmp (d, n) (filter_map (tree_row i) slots))) (key_apart d i n row.name other) ∙ find_other d i n slots other
+find_other d i n (Some row ∷ slots) other =
+    ap (λ b. cond b (Some row.inode) (find key_cmp (d, n) (filter_map (tree_row i) slots))) (key_apart d i n row.name other) ∙ find_other d i n slots other
 
 pub kind_again : (kind : Kind) → kind_of (kind_byte kind) ≡ kind
 kind_again File = refl
@@ -99,12 +107,16 @@ module _ (image : SeenInodes) where
   -- a directory's rows are those of its slots
   pub row_shown : (i : ℕ) (n : List ℕ) → i < image.count → (image.seen i).kind ≡ kind_byte Directory →
       get (image_rows image) (i, n) ≡ option_map (λ (row : Row). row.inode) (looked_up n (image.seen i).slots)
-  row_shown i n lt kind = get_rows i n lt ∙ ap (λ b. find key_cmp (i, n) (cond b (filter_map (tree_row i) (image.seen i).slots) [])) (eq-eqb _ _ kind) ∙ find_slot i n (image.seen i).slots
+  row_shown i n lt kind =
+      get_rows i n lt ∙ ap (λ b. find key_cmp (i, n) (cond b (filter_map (tree_row i) (image.seen i).slots) [])) (eq-eqb _ _ kind)
+      ∙ find_slot i n (image.seen i).slots
 
   -- any other inode has none
   pub no_row_shown : (i : ℕ) (n : List ℕ) → i < image.count → (image.seen i).kind ≢ kind_byte Directory → get (image_rows image) (i, n) ≡ None
   no_row_shown i n lt kind =
-      get_rows i n lt ∙ elim (shows_directory (image.seen i)) as (λ b. shows_directory (image.seen i) ≡ b → find key_cmp (i, n) (cond b (filter_map (tree_row i) (image.seen i).slots) []) ≡ None) [
+      get_rows i n lt
+      ∙ elim (shows_directory (image.seen i)) as (λ b. shows_directory (image.seen i) ≡ b
+      → find key_cmp (i, n) (cond b (filter_map (tree_row i) (image.seen i).slots) []) ≡ None) [
         | true ↦ λ t. absurd (kind (eqb-true _ _ t))
         | false ↦ λ _. refl
       ] refl
@@ -127,7 +139,9 @@ module _ (image : SeenInodes) where
       elim (nat_lt i image.count) as (λ b. nat_lt i image.count ≡ b → SlotBack i n j) [
         | false ↦ λ t. absurd (none_some (sym (no_rows_outside i n (ltb-false _ _ t)) ∙ is))
         | true ↦ λ t. elim (shows_directory (image.seen i)) as (λ b. shows_directory (image.seen i) ≡ b → SlotBack i n j) [
-          | true ↦ λ u. slot_at i n j (looked_up n (image.seen i).slots) (ltb-true _ _ t) (eqb-true _ _ u) refl (sym (row_shown i n (ltb-true _ _ t) (eqb-true _ _ u)) ∙ is)
+          | true ↦
+              λ u. slot_at i n j (looked_up n (image.seen i).slots) (ltb-true _ _ t) (eqb-true _ _ u) refl
+              (sym (row_shown i n (ltb-true _ _ t) (eqb-true _ _ u)) ∙ is)
           | false ↦ λ u. absurd (none_some (sym (no_row_shown i n (ltb-true _ _ t) (eqb-false _ _ u)) ∙ is))
         ] refl
       ] refl
@@ -141,7 +155,9 @@ module _ (image : SeenInodes) where
         ]
       where
         number_apart : (d i : ℕ) → i ≢ d → eq_by_cmp nat_cmp d i ≡ false
-        number_apart d i other = sym (unsigned_ties d i) ∙ elim (nat_eq d i) as (λ b. nat_eq d i ≡ b → b ≡ false) [ true ↦ λ t. absurd (other (sym (eqb-true _ _ t))) | false ↦ λ _. refl ] refl
+        number_apart d i other =
+            sym (unsigned_ties d i)
+            ∙ elim (nat_eq d i) as (λ b. nat_eq d i ≡ b → b ≡ false) [ true ↦ λ t. absurd (other (sym (eqb-true _ _ t))) | false ↦ λ _. refl ] refl
 
     pub get_node : (i : ℕ) → i < image.count → get (nodes_where chosen image) i ≡ cond (chosen i) (Some (node_shown (image.seen i))) None
     get_node i lt =
@@ -165,7 +181,8 @@ module _ (image : SeenInodes) where
         is_directory (tree_where chosen image making) i ≡ shows_directory (image.seen i)
     directory_where making all i lt =
         ap (λ (o : Option Node). option_map_or (λ n. is_directory_kind n.kind) o false) (get_node i lt)
-        ∙ elim (shows_directory (image.seen i)) as (λ b. shows_directory (image.seen i) ≡ b → option_map_or (λ (n : Node). is_directory_kind n.kind) (cond (chosen i) (Some (node_shown (image.seen i))) None) false ≡ b) [
+        ∙ elim (shows_directory (image.seen i)) as (λ b. shows_directory (image.seen i) ≡ b
+        → option_map_or (λ (n : Node). is_directory_kind n.kind) (cond (chosen i) (Some (node_shown (image.seen i))) None) false ≡ b) [
           | true ↦ λ t.
               ap (λ b. option_map_or (λ (n : Node). is_directory_kind n.kind) (cond b (Some (node_shown (image.seen i))) None) false) (all i (eqb-true _ _ t))
               ∙ ap (λ k. is_directory_kind (kind_of k)) (eqb-true _ _ t)

@@ -11,8 +11,11 @@ use Rattle.sfs_base.proofs.BasicTruth.{and_first, and_second, false_not_true, an
 none_behind : (slots : List (Option Row)) (k : ℕ) → rows_end slots ≤ k → slice_index_or slots k None ≡ None
 none_behind [] k le = refl
 none_behind (slot ∷ slots) k le =
-    elim (is_none slot && nat_eq (rows_end slots) 0) as (λ b. (is_none slot && nat_eq (rows_end slots) 0) ≡ b → cond b 0 (suc (rows_end slots)) ≤ k → slice_index_or (slot ∷ slots) k None ≡ None) [
-      | true ↦ λ t _. by_place k (empty slot (and_first (is_none slot) _ t)) (λ j. none_behind slots j (let none = eqb-true _ _ (and_second (is_none slot) _ t) in omega arith))
+    elim (is_none slot && nat_eq (rows_end slots) 0) as (λ b. (is_none slot && nat_eq (rows_end slots) 0) ≡ b → cond b 0 (suc (rows_end slots)) ≤ k
+    → slice_index_or (slot ∷ slots) k None ≡ None) [
+      | true ↦
+          λ t _. by_place k (empty slot (and_first (is_none slot) _ t))
+          (λ j. none_behind slots j (let none = eqb-true _ _ (and_second (is_none slot) _ t) in omega arith))
       | false ↦ λ t h. behind k h (λ j less. none_behind slots j less)
     ] refl le
   where
@@ -52,7 +55,8 @@ last_of_rows (slot ∷ slots) some =
     further t rest = record {
       place = suc rest.place;
       row = rest.row;
-      is = ap (λ b. cond (is_none slot && b) 0 (suc (rows_end slots))) t ∙ ap (λ b. cond b 0 (suc (rows_end slots))) (and_false (is_none slot)) ∙ ap suc rest.is;
+      is =
+          ap (λ b. cond (is_none slot && b) 0 (suc (rows_end slots))) t ∙ ap (λ b. cond b 0 (suc (rows_end slots))) (and_false (is_none slot)) ∙ ap suc rest.is;
       there = rest.there;
     }
 

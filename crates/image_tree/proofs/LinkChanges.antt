@@ -103,11 +103,14 @@ module _ (p : Key × ℕ → Bool) where
     where
       moved : (cs : List NetChange) → NotAmong (key_of c) cs → Tells old new cs → Tells (with_child old (key_of c) (number_of c.1.after)) new cs
       moved [] apart tells = tt
-      moved (b ∷ bs) apart tells = ((tells.0.0 ∙ sym (other_child old (key_of c) (key_of b) (number_of c.1.after) apart.0), tells.0.1), moved bs apart.1 tells.1)
+      moved (b ∷ bs) apart tells =
+          ((tells.0.0 ∙ sym (other_child old (key_of c) (key_of b) (number_of c.1.after) apart.0), tells.0.1), moved bs apart.1 tells.1)
 
       others : (k : Key) → NotAmong k cs → get (with_child old (key_of c) (number_of c.1.after)) k ≡ get new k
       others k apart = elim (same_key k (key_of c)) [
-        | inl same ↦ ap (get (with_child old (key_of c) (number_of c.1.after))) same ∙ own_child old (key_of c) (number_of c.1.after) ∙ tells.0.1 ∙ ap (get new) (sym same)
+        | inl same ↦
+            ap (get (with_child old (key_of c) (number_of c.1.after))) same ∙ own_child old (key_of c) (number_of c.1.after) ∙ tells.0.1
+            ∙ ap (get new) (sym same)
         | inr other ↦ other_child old (key_of c) k (number_of c.1.after) other ∙ rest k (λ same. other (sym same), apart)
       ]
 
@@ -141,7 +144,8 @@ no_change : (d : ℕ) (n : List ℕ) (net : List NetRow) → row_in_net n net �
 unfolding NotAmong
 no_change d n [] none = tt
 no_change d n (row ∷ rows) none =
-    elim (bytes_eq n row.name) as (λ b. bytes_eq n row.name ≡ b → cond b (Some row) (row_in_net n rows) ≡ None → NotAmong (d, n) (in_directory d (row ∷ rows))) [
+    elim (bytes_eq n row.name) as (λ b. bytes_eq n row.name ≡ b → cond b (Some row) (row_in_net n rows) ≡ None
+    → NotAmong (d, n) (in_directory d (row ∷ rows))) [
       | true ↦ λ t e. absurd (none_some (sym e))
       | false ↦ λ t e. (λ same. not_both (ap (bytes_eq n) (ap (λ (z : Key). z.1) same) ∙ same_bytes n) t, no_change d n rows e)
     ] refl none
@@ -168,26 +172,32 @@ module _ (old new : TreeState) (nets : ℕ → List NetRow) (each : (d : ℕ) �
   later_apart : (k : Key) (members : List ℕ) → AllByRecursion (λ other. nat_cmp k.0 other ≡ Less) members → NotAmong k (net_changes nets members)
   unfolding NotAmong
   later_apart k [] all = tt
-  later_apart k (m ∷ members) all = not_among_append k (in_directory m (nets m)) (net_changes nets members) (elsewhere k m (nets m) (less_apart k.0 m all.0)) (later_apart k members all.1)
+  later_apart k (m ∷ members) all =
+      not_among_append k (in_directory m (nets m)) (net_changes nets members) (elsewhere k m (nets m) (less_apart k.0 m all.0)) (later_apart k members all.1)
 
   joined_keys : (d : ℕ) (net : List NetRow) (rest : List NetChange) → AtOwnKeys (in_directory d net) → AtOwnKeys rest →
       ((n : List ℕ) → NotAmong (d, n) rest) → AtOwnKeys (in_directory d net ++ rest)
   unfolding AtOwnKeys
   joined_keys d [] rest own others apart = others
-  joined_keys d (row ∷ rows) rest own others apart = (not_among_append (d, row.name) (in_directory d rows) rest own.0 (apart row.name), joined_keys d rows rest own.1 others apart)
+  joined_keys d (row ∷ rows) rest own others apart =
+      (not_among_append (d, row.name) (in_directory d rows) rest own.0 (apart row.name), joined_keys d rows rest own.1 others apart)
 
   all_keys : (members : List ℕ) → IsStrictlySortedBy nat_cmp members → AtOwnKeys (net_changes nets members)
   unfolding AtOwnKeys IsStrictlySortedBy
   all_keys [] up = tt
-  all_keys (m ∷ members) up = joined_keys m (nets m) (net_changes nets members) (own_keys m (nets m) (once_ascending (nets m) (each m).ascending)) (all_keys members up.1) (λ n. later_apart (m, n) members up.0)
+  all_keys (m ∷ members) up =
+      joined_keys m (nets m) (net_changes nets members) (own_keys m (nets m) (once_ascending (nets m) (each m).ascending)) (all_keys members up.1)
+      (λ n. later_apart (m, n) members up.0)
 
   tells_one : (d : ℕ) (net : List NetRow) (rest : List NetChange) → All (IsNetRow (names_of d old.rows) (names_of d new.rows)) net →
       Tells old.rows new.rows rest → Tells old.rows new.rows (in_directory d net ++ rest)
   unfolding Tells
   tells_one d [] rest all others = others
   tells_one d (row ∷ rows) rest all others =
-      let here = All-head (IsNetRow (names_of d old.rows) (names_of d new.rows)) row rows all in
-      ((here.before ∙ get-names_where d (λ _. true) old.rows row.name, here.after ∙ get-names_where d (λ _. true) new.rows row.name), tells_one d rows rest (All-tail (IsNetRow (names_of d old.rows) (names_of d new.rows)) row rows all) others)
+      let here = All-head (IsNetRow (names_of d old.rows) (names_of d new.rows)) row rows all in (
+        (here.before ∙ get-names_where d (λ _. true) old.rows row.name, here.after ∙ get-names_where d (λ _. true) new.rows row.name),
+        tells_one d rows rest (All-tail (IsNetRow (names_of d old.rows) (names_of d new.rows)) row rows all) others,
+      )
 
   tells_all : (members : List ℕ) → Tells old.rows new.rows (net_changes nets members)
   unfolding Tells
@@ -200,7 +210,9 @@ module _ (old new : TreeState) (nets : ℕ → List NetRow) (each : (d : ℕ) �
   own_net k [] has apart = absurd (not_both has refl)
   own_net k (m ∷ members) has apart =
       elim (nat_eq m k.0) as (λ b. nat_eq m k.0 ≡ b → (b || list_any (λ member. nat_eq member k.0) members) ≡ true → NotAmong k (in_directory k.0 (nets k.0))) [
-        | true ↦ λ t _. subst (λ (d : ℕ). NotAmong k (in_directory d (nets d))) (eqb-true _ _ t) (not_among_first k (in_directory m (nets m)) (net_changes nets members) apart)
+        | true ↦
+            λ t _. subst (λ (d : ℕ). NotAmong k (in_directory d (nets d))) (eqb-true _ _ t)
+            (not_among_first k (in_directory m (nets m)) (net_changes nets members) apart)
         | false ↦ λ t h. own_net k members h (not_among_second k (in_directory m (nets m)) (net_changes nets members) apart)
       ] refl has
 
@@ -212,20 +224,25 @@ module _ (old new : TreeState) (nets : ℕ → List NetRow) (each : (d : ℕ) �
       ∙ get-names_where k.0 (λ _. true) new.rows k.1
     where
       no_row : row_in_net k.1 (nets k.0) ≡ None
-      no_row = elim (list_any (λ member. nat_eq member k.0) members) as (λ b. list_any (λ member. nat_eq member k.0) members ≡ b → row_in_net k.1 (nets k.0) ≡ None) [
-        | true ↦ λ t. change_none k.0 k.1 (nets k.0) (own_net k members t apart)
-        | false ↦ λ t. ap (row_in_net k.1) (others k.0 t)
-      ] refl
+      no_row =
+          elim (list_any (λ member. nat_eq member k.0) members) as (λ b. list_any (λ member. nat_eq member k.0) members ≡ b
+          → row_in_net k.1 (nets k.0) ≡ None) [
+            | true ↦ λ t. change_none k.0 k.1 (nets k.0) (own_net k members t apart)
+            | false ↦ λ t. ap (row_in_net k.1) (others k.0 t)
+          ] refl
 
 -- rows that pass a test, with those that went, are those before with those that came
 pub counted_by_nets : (old new : TreeState) (nets : ℕ → List NetRow) (members : List ℕ) (p : Key × ℕ → Bool) → AreAllNets old new nets members →
     count_by p (entries new.rows) + lost p (net_changes nets members) ≡ count_by p (entries old.rows) + gained p (net_changes nets members)
 counted_by_nets old new nets members p h =
-    counted_changes p (net_changes nets members) old.rows new.rows (all_keys old new nets h.each members h.ascending) (tells_all old new nets h.each members) (unchanged old new nets h.each members h.others)
+    counted_changes p (net_changes nets members) old.rows new.rows (all_keys old new nets h.each members h.ascending) (tells_all old new nets h.each members)
+    (unchanged old new nets h.each members h.others)
 
 pub nets_give_links : NetsGiveLinks
 nets_give_links old new nets members x h =
-    elim (is_directory new x) as (λ b. is_directory new x ≡ b → links_of new x + lost (cond b (holds_directory new x) (names_it x)) (net_changes nets members) ≡ links_of old x + gained (cond b (holds_directory new x) (names_it x)) (net_changes nets members)) [
+    elim (is_directory new x) as (λ b. is_directory new x ≡ b
+    → links_of new x + lost (cond b (holds_directory new x) (names_it x)) (net_changes nets members)
+    ≡ links_of old x + gained (cond b (holds_directory new x) (names_it x)) (net_changes nets members)) [
       | true ↦ λ t.
           let a = links_if new true t in
           let b = links_if old true (same x ∙ t) in

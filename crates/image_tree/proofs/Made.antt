@@ -57,10 +57,11 @@ any_listed p (x ∷ nodes) e = elim (p x) as (λ b. p x ≡ b → (b || list_any
 -- a listed node that passes is found, or another one, and some node passes
 pub listed_found : (p : ℕ → Bool) (nodes : List ℕ) (node : ℕ) → list_any (λ other. nat_eq other node) nodes ≡ true → p node ≡ true → list_any p nodes ≡ true
 listed_found p [] node listed passes = listed
-listed_found p (x ∷ nodes) node listed passes = elim (nat_eq x node) as (λ b. nat_eq x node ≡ b → (b || list_any (λ other. nat_eq other node) nodes) ≡ true → (p x || list_any p nodes) ≡ true) [
-  | true ↦ λ t _. ap (λ b. b || list_any p nodes) (ap p (eqb-true _ _ t) ∙ passes)
-  | false ↦ λ t f. ap (λ b. p x || b) (listed_found p nodes node f passes) ∙ or_true (p x)
-] refl listed
+listed_found p (x ∷ nodes) node listed passes =
+    elim (nat_eq x node) as (λ b. nat_eq x node ≡ b → (b || list_any (λ other. nat_eq other node) nodes) ≡ true → (p x || list_any p nodes) ≡ true) [
+      | true ↦ λ t _. ap (λ b. b || list_any p nodes) (ap p (eqb-true _ _ t) ∙ passes)
+      | false ↦ λ t f. ap (λ b. p x || b) (listed_found p nodes node f passes) ∙ or_true (p x)
+    ] refl listed
 
 none_any : (p : ℕ → Bool) (nodes : List ℕ) → find p nodes ≡ None → list_any p nodes ≡ false
 none_any p [] e = refl
@@ -69,7 +70,8 @@ none_any p (x ∷ nodes) e = elim (p x) as (λ b. p x ≡ b → cond b (Some x) 
   | false ↦ λ t f. none_any p nodes f
 ] refl e
 
-module _ (commit : Commit) (old new : TreeState) (image : SeenInodes) (rewrites : ℕ → Rewrite) (concerned : List ℕ) (st : StandsForTree commit.before old image) (from : IsMadeFrom commit old new image rewrites concerned) where
+module _ (commit : Commit) (old new : TreeState) (image : SeenInodes) (rewrites : ℕ → Rewrite) (concerned : List ℕ) (st : StandsForTree commit.before old image)
+    (from : IsMadeFrom commit old new image rewrites concerned) where
   abbrev next : SeenInodes
   next = image_made commit new image rewrites concerned
 
@@ -81,11 +83,16 @@ module _ (commit : Commit) (old new : TreeState) (image : SeenInodes) (rewrites 
   built_seen node i is listed = by_found (find (has_number commit.after i) concerned) refl
     where
       by_found : (o : Option ℕ) → find (has_number commit.after i) concerned ≡ o → next.seen i ≡ seen_built commit new image rewrites i node
-      by_found None e = absurd (not_both (listed_found (has_number commit.after i) concerned node (sym (from.concerns node) ∙ listed) (is_number commit.after i node is)) (none_any (has_number commit.after i) concerned e))
+      by_found None e =
+          absurd
+          (not_both (listed_found (has_number commit.after i) concerned node (sym (from.concerns node) ∙ listed) (is_number commit.after i node is))
+          (none_any (has_number commit.after i) concerned e))
       by_found (Some other) e =
           let found = found_listed (has_number commit.after i) concerned other e in
           let same : other ≡ node = number_once commit old image st from.numbers other node i (number_is commit.after i other found.passes) is in
-          ap (λ (o : Option ℕ). option_map_or (seen_built commit new image rewrites i) o (cond (list_any (has_number commit.before i) concerned) blank (image.seen i))) e
+          ap (λ (o : Option ℕ). option_map_or (seen_built commit new image rewrites i) o
+          (cond (list_any (has_number commit.before i) concerned) blank (image.seen i)))
+          e
           ∙ ap (seen_built commit new image rewrites i) same
 
   -- the inode of any other node is as it was
@@ -104,7 +111,9 @@ module _ (commit : Commit) (old new : TreeState) (image : SeenInodes) (rewrites 
 
       by_found : (o : Option ℕ) → find (has_number commit.after i) concerned ≡ o → next.seen i ≡ image.seen i
       by_found None e =
-          ap (λ (o : Option ℕ). option_map_or (seen_built commit new image rewrites i) o (cond (list_any (has_number commit.before i) concerned) blank (image.seen i))) e
+          ap (λ (o : Option ℕ). option_map_or (seen_built commit new image rewrites i) o
+          (cond (list_any (has_number commit.before i) concerned) blank (image.seen i)))
+          e
           ∙ ap (λ b. cond b blank (image.seen i)) (none_before (list_any (has_number commit.before i) concerned) refl)
       by_found (Some x) e =
           let found = found_listed (has_number commit.after i) concerned x e in
@@ -118,12 +127,19 @@ module _ (commit : Commit) (old new : TreeState) (image : SeenInodes) (rewrites 
   rests i lt = by_found (find (has_number commit.after i) concerned) refl
     where
       left : (o : Option ℕ) → o ≡ None → (b : Bool) → list_any (has_number commit.before i) concerned ≡ b →
-          option_map_or (seen_built commit new image rewrites i) o (cond (list_any (has_number commit.before i) concerned) blank (image.seen i)) ≡ cond b blank (image.seen i)
-      left o none b e = ap (λ (p : Option ℕ). option_map_or (seen_built commit new image rewrites i) p (cond (list_any (has_number commit.before i) concerned) blank (image.seen i))) none ∙ ap (λ c. cond c blank (image.seen i)) e
+          option_map_or (seen_built commit new image rewrites i) o (cond (list_any (has_number commit.before i) concerned) blank (image.seen i))
+          ≡ cond b blank (image.seen i)
+      left o none b e =
+          ap (λ (p : Option ℕ). option_map_or (seen_built commit new image rewrites i) p
+          (cond (list_any (has_number commit.before i) concerned) blank (image.seen i)))
+          none
+          ∙ ap (λ c. cond c blank (image.seen i)) e
 
       of_node : (node : ℕ) → commit.before node ≡ Some i → list_any (has_number commit.before i) concerned ≡ false → Rests i
       of_node node was none = elim (commit.concerns node) as (λ b. commit.concerns node ≡ b → Rests i) [
-        | true ↦ λ t. absurd (not_both (listed_found (has_number commit.before i) concerned node (sym (from.concerns node) ∙ t) (is_number commit.before i node was)) none)
+        | true ↦
+            λ t. absurd
+            (not_both (listed_found (has_number commit.before i) concerned node (sym (from.concerns node) ∙ t) (is_number commit.before i node was)) none)
         | false ↦ λ t. inl (node, (from.others node t).0 ∙ was)
       ] refl
 
@@ -142,11 +158,16 @@ module _ (commit : Commit) (old new : TreeState) (image : SeenInodes) (rewrites 
     count = refl;
     nets = from.nets;
     numbers = from.numbers;
-    built = λ node i is listed. subst (IsBuiltAnew commit new node (seen_before commit image node)) (sym (built_seen node i is listed)) (record { kind = refl; links = refl; size = refl; bytes = refl; slots = refl });
+    built =
+        λ node i is listed. subst (IsBuiltAnew commit new node (seen_before commit image node)) (sym (built_seen node i is listed))
+        (record { kind = refl; links = refl; size = refl; bytes = refl; slots = refl });
     stays = λ node i is other. (sym (from.others node other).0 ∙ is, other_seen node i is other, (from.others node other).1);
     rest = rests;
     blocks = record {
-      has = λ node i place small is listed. pointer_has_block commit i place (rewrites node) (seen_before commit image node) (next.seen i) (ap (λ (seen : Seen). seen.blocks place) (built_seen node i is listed)) (from.takes node i place is listed small) (from.pointers node place listed small);
+      has =
+          λ node i place small is listed. pointer_has_block commit i place (rewrites node) (seen_before commit image node) (next.seen i)
+          (ap (λ (seen : Seen). seen.blocks place) (built_seen node i is listed)) (from.takes node i place is listed small)
+          (from.pointers node place listed small);
       unheld = from.unheld;
       once = from.once;
     };
@@ -162,7 +183,8 @@ no_commit_is_a_step num tree image is = record {
   commits = record {
     count = refl;
     nets = λ node. no_net (Rattle.sfs_tree.specs.Tree.names_of node tree.rows);
-    numbers = record { comes = λ node i has. Rattle.image_tree.specs.Commit.ComesBy.had has; once = λ node twin i none _ has _. absurd (none_some (sym none ∙ has)) };
+    numbers =
+        record { comes = λ node i has. Rattle.image_tree.specs.Commit.ComesBy.had has; once = λ node twin i none _ has _. absurd (none_some (sym none ∙ has)) };
     built = λ node i has listed. absurd (not_both listed refl);
     stays = λ node i has other. (has, refl, record { rows = λ _. refl; bytes = refl; naming = λ _ _. (λ row. row, λ row. row) });
     rest = is.stands.rest;

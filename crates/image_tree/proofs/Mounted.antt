@@ -48,7 +48,8 @@ pub file_is_no_directory : kind_byte File ≡ kind_byte Directory → ⊥
 file_is_no_directory e = cc
 
 -- an image that keeps the rules, with chosen inodes as nodes: directories, and files that a row names
-module _ (image : SeenInodes) (k : KeepsRules image) (chosen : ℕ → Bool) (directories : (i : ℕ) → (image.seen i).kind ≡ kind_byte Directory → chosen i ≡ true) (files : (i : ℕ) → (image.seen i).kind ≡ kind_byte File → count_of (image_rows image) i ≢ 0 → chosen i ≡ true) (making : Making) where
+module _ (image : SeenInodes) (k : KeepsRules image) (chosen : ℕ → Bool) (directories : (i : ℕ) → (image.seen i).kind ≡ kind_byte Directory → chosen i ≡ true)
+    (files : (i : ℕ) → (image.seen i).kind ≡ kind_byte File → count_of (image_rows image) i ≢ 0 → chosen i ≡ true) (making : Making) where
   abbrev tree : TreeState
   tree = tree_where chosen image making
 
@@ -132,10 +133,14 @@ module _ (image : SeenInodes) (chosen : ℕ → Bool) (directories : (i : ℕ) �
   Fits d number = len (bucket_rows d number (image_rows image)) ≤ BUCKET_ROWS
 
   empty_fits : (d number : ℕ) → ((n : List ℕ) → get (image_rows image) (d, n) ≡ None) → Fits d number
-  empty_fits d number none = subst (λ (c : ℕ). c ≤ BUCKET_ROWS) (sym (no_bucket d number (λ n. ap (λ o. cond (nat_eq (bucket n) number) o None) (none n) ∙ either_none (nat_eq (bucket n) number)))) (omega arith)
+  empty_fits d number none =
+      subst (λ (c : ℕ). c ≤ BUCKET_ROWS)
+      (sym (no_bucket d number (λ n. ap (λ o. cond (nat_eq (bucket n) number) o None) (none n) ∙ either_none (nat_eq (bucket n) number)))) (omega arith)
 
   late_fits : (d number : ℕ) → 8 ≤ number → Fits d number
-  late_fits d number le = subst (λ (c : ℕ). c ≤ BUCKET_ROWS) (sym (no_bucket d number (λ n. ap (λ b. cond b (get (image_rows image) (d, n)) None) (not_same (bucket n) number (apart n))))) (omega arith)
+  late_fits d number le =
+      subst (λ (c : ℕ). c ≤ BUCKET_ROWS)
+      (sym (no_bucket d number (λ n. ap (λ b. cond b (get (image_rows image) (d, n)) None) (not_same (bucket n) number (apart n))))) (omega arith)
     where
       apart : (n : List ℕ) → bucket n ≢ number
       apart n same = let small = bucket_small n in omega arith
@@ -224,8 +229,10 @@ module _ (image : SeenInodes) (making : Making) (k : KeepsRules image) (g : Show
   -- link counts are those of the tree that the rules speak of
   own_links : (x : ℕ) → x < image.count → links_of own x ≡ links_of (ruled_tree image) x
   own_links x lt =
-      ap (λ b. cond b (2 + count_by (holds_directory own x) (entries (image_rows image))) (count_of (image_rows image) x)) (own_directory x lt ∙ sym (directory_shown image NOTHING_MADE x lt))
-      ∙ ap (λ n. cond (is_directory (ruled_tree image) x) (2 + n) (count_of (image_rows image) x)) (count_agree (holds_directory own x) (holds_directory (ruled_tree image) x) (image_rows image) (λ q y row.
+      ap (λ b. cond b (2 + count_by (holds_directory own x) (entries (image_rows image))) (count_of (image_rows image) x))
+      (own_directory x lt ∙ sym (directory_shown image NOTHING_MADE x lt))
+      ∙ ap (λ n. cond (is_directory (ruled_tree image) x) (2 + n) (count_of (image_rows image) x))
+      (count_agree (holds_directory own x) (holds_directory (ruled_tree image) x) (image_rows image) (λ q y row.
       let r = shown_row q.0 q.1 y row in
       ap (λ b. nat_eq q.0 x && b) (own_directory y r.within ∙ sym (directory_shown image NOTHING_MADE y r.within))))
 
@@ -323,7 +330,9 @@ module _ (image : SeenInodes) (making : Making) (k : KeepsRules image) (g : Show
     where
       chosen : (x : ℕ) → x < image.count → is_used image x ≡ is_node image x
       chosen x lt = elim (nat_eq (image.seen x).kind 0) as (λ b. nat_eq (image.seen x).kind 0 ≡ b → not b ≡ is_node image x) [
-        | true ↦ λ t. sym (ap (λ n. nat_eq n (kind_byte Directory) || (nat_eq n (kind_byte File) && not (nat_eq (count_of (image_rows image) x) 0))) (eqb-true _ _ t))
+        | true ↦
+            λ t. sym
+            (ap (λ n. nat_eq n (kind_byte Directory) || (nat_eq n (kind_byte File) && not (nat_eq (count_of (image_rows image) x) 0))) (eqb-true _ _ t))
         | false ↦ λ t. elim (g.kinds x lt (eqb-false _ _ t)) as (λ _. true ≡ is_node image x) [
           | inl file ↦ sym (file_is_node image x file (none x lt file))
           | inr directory ↦ sym (directory_is_node image x directory)
@@ -331,12 +340,15 @@ module _ (image : SeenInodes) (making : Making) (k : KeepsRules image) (g : Show
       ] refl
 
       by_inode : (x : ℕ) → get (nodes_where (is_used image) image) x ≡ get (nodes_where (is_node image) image) x
-      by_inode x = elim (nat_lt x image.count) as (λ b. nat_lt x image.count ≡ b → get (nodes_where (is_used image) image) x ≡ get (nodes_where (is_node image) image) x) [
-        | true ↦ λ t.
-            let lt = ltb-true _ _ t in
-            get_node image (is_used image) x lt ∙ ap (λ b. cond b (Some (node_shown (image.seen x))) None) (chosen x lt) ∙ sym (get_node image (is_node image) x lt)
-        | false ↦ λ t. no_node_outside image (is_used image) x (ltb-false _ _ t) ∙ sym (no_node_outside image (is_node image) x (ltb-false _ _ t))
-      ] refl
+      by_inode x =
+          elim (nat_lt x image.count) as (λ b. nat_lt x image.count ≡ b
+          → get (nodes_where (is_used image) image) x ≡ get (nodes_where (is_node image) image) x) [
+            | true ↦ λ t.
+                let lt = ltb-true _ _ t in
+                get_node image (is_used image) x lt ∙ ap (λ b. cond b (Some (node_shown (image.seen x))) None) (chosen x lt)
+                ∙ sym (get_node image (is_node image) x lt)
+            | false ↦ λ t. no_node_outside image (is_used image) x (ltb-false _ _ t) ∙ sym (no_node_outside image (is_node image) x (ltb-false _ _ t))
+          ] refl
 
 pub rules_make_standing : RulesMakeStanding
 rules_make_standing image making k g = record {

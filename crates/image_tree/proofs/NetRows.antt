@@ -48,9 +48,12 @@ found_row P (first ∷ rows) name row h is =
 not_among : (net : List NetRow) (name : List ℕ) → row_in_net name net ≡ None → All (λ other. other ≢ name) (map net_name net)
 not_among [] name is = All-nil (λ other. other ≢ name)
 not_among (row ∷ rows) name is =
-    elim (bytes_eq name row.name) as (λ b. bytes_eq name row.name ≡ b → cond b (Some row) (row_in_net name rows) ≡ None → All (λ other. other ≢ name) (net_name row ∷ map net_name rows)) [
+    elim (bytes_eq name row.name) as (λ b. bytes_eq name row.name ≡ b → cond b (Some row) (row_in_net name rows) ≡ None
+    → All (λ other. other ≢ name) (net_name row ∷ map net_name rows)) [
       | true ↦ λ t none. absurd (none_some (sym none))
-      | false ↦ λ t none. All-cons (λ other. other ≢ name) row.name (map net_name rows) (λ same. not_both (ap (bytes_eq name) same ∙ same_bytes name) t) (not_among rows name none)
+      | false ↦
+          λ t none. All-cons (λ other. other ≢ name) row.name (map net_name rows) (λ same. not_both (ap (bytes_eq name) same ∙ same_bytes name) t)
+          (not_among rows name none)
     ] refl is
 
 module _ (earlier later : FinMap name_cmp ℕ) (net : List NetRow) (h : IsNet earlier later net) where
@@ -103,7 +106,8 @@ module _ (make : NetRow → Option Row) (named : (row : NetRow) (made : Row) →
     pub counted : name_count n (made_of net) ≡ one_if_some (made_at n net)
 
   absent : (n : List ℕ) (row : NetRow) (rows : List NetRow) (o : Option Row) → make row ≡ o → bytes_eq n row.name ≡ false → StandsOnce n rows →
-      (looked_up n (map Some (cons_option o (filter_map make rows))) ≡ made_at n rows) × (name_count n (map Some (cons_option o (filter_map make rows))) ≡ one_if_some (made_at n rows))
+      (looked_up n (map Some (cons_option o (filter_map make rows))) ≡ made_at n rows)
+      × (name_count n (map Some (cons_option o (filter_map make rows))) ≡ one_if_some (made_at n rows))
   absent n row rows None is other rest = (rest.looked, rest.counted)
   absent n row rows (Some made) is other rest =
       let test : bytes_eq n made.name ≡ false = ap (bytes_eq n) (named row made is) ∙ other in
@@ -114,7 +118,8 @@ module _ (make : NetRow → Option Row) (named : (row : NetRow) (made : Row) →
 
   present : (n : List ℕ) (row : NetRow) (rows : List NetRow) (o : Option Row) → make row ≡ o → bytes_eq n row.name ≡ true → row_in_net n rows ≡ None →
       StandsOnce n rows →
-      (looked_up n (map Some (cons_option o (filter_map make rows))) ≡ make row) × (name_count n (map Some (cons_option o (filter_map make rows))) ≡ one_if_some (make row))
+      (looked_up n (map Some (cons_option o (filter_map make rows))) ≡ make row)
+      × (name_count n (map Some (cons_option o (filter_map make rows))) ≡ one_if_some (make row))
   present n row rows None is here none rest =
       (rest.looked ∙ ap (option_and_then make) none ∙ sym is, rest.counted ∙ ap (λ o. one_if_some (option_and_then make o)) none ∙ sym (ap one_if_some is))
   present n row rows (Some made) is here none rest =

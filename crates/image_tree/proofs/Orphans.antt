@@ -80,13 +80,15 @@ module _ (image next : SeenInodes) (k : KeepsRules image) (g : ShowsByKind image
 
   is_node_same : (i : ℕ) → i < image.count → is_node next i ≡ is_node image i
   unfolding node_of_seen
-  is_node_same i lt = ap (λ n. node_of_seen n (next.seen i)) (count_same i) ∙ elim (freed_or i lt) as (λ _. node_of_seen (count_of (image_rows image) i) (next.seen i) ≡ is_node image i) [
-    | inl same ↦ ap (node_of_seen (count_of (image_rows image) i)) same
-    | inr freed ↦
-        ap (λ n. nat_eq n (kind_byte Directory) || (nat_eq n (kind_byte File) && not (nat_eq (count_of (image_rows image) i) 0))) freed.0.kind
-        ∙ sym (ap (λ n. nat_eq n (kind_byte Directory) || (nat_eq n (kind_byte File) && not (nat_eq (count_of (image_rows image) i) 0))) (orphan_file i freed.1)
-        ∙ ap (λ b. not b) (eq-eqb _ _ (orphan_unnamed i freed.1)))
-  ]
+  is_node_same i lt =
+      ap (λ n. node_of_seen n (next.seen i)) (count_same i)
+      ∙ elim (freed_or i lt) as (λ _. node_of_seen (count_of (image_rows image) i) (next.seen i) ≡ is_node image i) [
+        | inl same ↦ ap (node_of_seen (count_of (image_rows image) i)) same
+        | inr freed ↦
+            ap (λ n. nat_eq n (kind_byte Directory) || (nat_eq n (kind_byte File) && not (nat_eq (count_of (image_rows image) i) 0))) freed.0.kind
+            ∙ sym (ap (λ n. nat_eq n (kind_byte Directory) || (nat_eq n (kind_byte File) && not (nat_eq (count_of (image_rows image) i) 0))) (orphan_file i freed.1)
+            ∙ ap (λ b. not b) (eq-eqb _ _ (orphan_unnamed i freed.1)))
+      ]
 
   single : ℕ → Node → List (ℕ × Node)
   single i node = (i, node) ∷ []
@@ -100,9 +102,12 @@ module _ (image next : SeenInodes) (k : KeepsRules image) (g : ShowsByKind image
   unfolding single
   nodes_in_same i lt =
       ap (λ b. cond b (single i (node_shown (next.seen i))) []) (is_node_same i lt)
-      ∙ elim (freed_or i lt) as (λ _. cond (is_node image i) (single i (node_shown (next.seen i))) [] ≡ cond (is_node image i) (single i (node_shown (image.seen i))) []) [
+      ∙ elim (freed_or i lt) as (λ _. cond (is_node image i) (single i (node_shown (next.seen i))) []
+      ≡ cond (is_node image i) (single i (node_shown (image.seen i))) []) [
         | inl same ↦ ap (λ (seen : Seen). cond (is_node image i) (single i (node_shown seen)) []) same
-        | inr freed ↦ ap (λ b. cond b (single i (node_shown (next.seen i))) []) (orphan_no_node i freed.1) ∙ sym (ap (λ b. cond b (single i (node_shown (image.seen i))) []) (orphan_no_node i freed.1))
+        | inr freed ↦
+            ap (λ b. cond b (single i (node_shown (next.seen i))) []) (orphan_no_node i freed.1)
+            ∙ sym (ap (λ b. cond b (single i (node_shown (image.seen i))) []) (orphan_no_node i freed.1))
       ]
 
   nodes_same : nodes_where (is_node next) next ≡ nodes_where (is_node image) image
@@ -135,7 +140,9 @@ module _ (image next : SeenInodes) (k : KeepsRules image) (g : ShowsByKind image
       f.others row.inode may.within (not_orphan (is_orphan image row.inode) refl)
     where
       counts : 0 < count_of (image_rows image) row.inode
-      counts = count_some (names_it row.inode) (image_rows image) (d, row.name) row.inode (row_shown image d row.name is.0 is.1 ∙ ap (Rattle.std.specs.Prelude.option_map (λ (r : Row). r.inode)) found) (eq-eqb row.inode row.inode refl)
+      counts =
+          count_some (names_it row.inode) (image_rows image) (d, row.name) row.inode
+          (row_shown image d row.name is.0 is.1 ∙ ap (Rattle.std.specs.Prelude.option_map (λ (r : Row). r.inode)) found) (eq-eqb row.inode row.inode refl)
 
       not_orphan : (b : Bool) → is_orphan image row.inode ≡ b → is_orphan image row.inode ≡ false
       not_orphan false e = e
@@ -183,7 +190,8 @@ module _ (image next : SeenInodes) (k : KeepsRules image) (g : ShowsByKind image
     root = (subst (λ (n : ℕ). 0 < n) (sym f.count) k.root.0, ap (λ (seen : Seen). seen.kind) (directory_stays 0 k.root.0 k.root.1) ∙ k.root.1);
     apart = blocks_stay;
     once = λ i is n. let w = was_directory i is in subst (λ (seen : Seen). name_count n seen.slots ≤ 1) (sym w.same) (k.once i w.inode n);
-    full = λ i number is lt. let w = was_directory i is in subst (λ (rows : FinMap key_cmp ℕ). len (bucket_rows i number rows) ≤ BUCKET_ROWS) (sym all_rows_same) (k.full i number w.inode lt);
+    full = λ i number is lt. let w = was_directory i is in
+        subst (λ (rows : FinMap key_cmp ℕ). len (bucket_rows i number rows) ≤ BUCKET_ROWS) (sym all_rows_same) (k.full i number w.inode lt);
     children = λ i is. let w = was_directory i is in subst (λ (seen : Seen). AllByRecursion (MayStand next) seen.slots) (sym w.same) (children_stay i w.inode);
     named_once = λ i is. let w = was_directory i is in subst (λ (n : ℕ). n ≤ 1) (sym (count_same i)) (k.named_once i w.inode);
     links = λ i lt used.
@@ -199,10 +207,16 @@ module _ (image next : SeenInodes) (k : KeepsRules image) (g : ShowsByKind image
   kinds_stay = record {
     kinds = λ i lt used.
         let same = ap (λ (seen : Seen). seen.kind) (used_stays i (within_image i lt) used) in
-        elim (g.kinds i (within_image i lt) (λ free. used (same ∙ free))) as (λ _. ((next.seen i).kind ≡ kind_byte File) ⊎ ((next.seen i).kind ≡ kind_byte Directory)) [ inl file ↦ inl (same ∙ file) | inr directory ↦ inr (same ∙ directory) ];
+        elim (g.kinds i (within_image i lt) (λ free. used (same ∙ free))) as (λ _. ((next.seen i).kind ≡ kind_byte File)
+        ⊎ ((next.seen i).kind ≡ kind_byte Directory)) [
+          | inl file ↦
+              inl (same ∙ file)
+          | inr directory ↦ inr (same ∙ directory)
+        ];
     sizes = λ i lt used.
         let same = used_stays i (within_image i lt) used in
-        subst (λ (seen : Seen). seen.size ≡ Rattle.image_tree.specs.Stands.own_size seen) (sym same) (g.sizes i (within_image i lt) (λ free. used (ap (λ (seen : Seen). seen.kind) same ∙ free)));
+        subst (λ (seen : Seen). seen.size ≡ Rattle.image_tree.specs.Stands.own_size seen) (sym same)
+        (g.sizes i (within_image i lt) (λ free. used (ap (λ (seen : Seen). seen.kind) same ∙ free)));
     files = λ i lt file.
         let same = used_stays i (within_image i lt) (λ free. no_file (sym free ∙ file)) in
         subst (λ (seen : Seen). seen.slots ≡ []) (sym same) (g.files i (within_image i lt) (ap (λ (seen : Seen). seen.kind) (sym same) ∙ file));
@@ -222,7 +236,9 @@ module _ (image next : SeenInodes) (k : KeepsRules image) (g : ShowsByKind image
         | inr freed ↦ no_file (sym freed.0.kind ∙ file)
         | inl same ↦
             let orphan : is_orphan image i ≡ true =
-            ap (λ b. b && nat_eq (count_of (image_rows image) i) 0) (eq-eqb (image.seen i).kind (kind_byte File) (ap (λ (seen : Seen). seen.kind) (sym same) ∙ file)) ∙ eq-eqb (count_of (image_rows image) i) 0 (sym (count_same i) ∙ none) in
+            ap (λ b. b && nat_eq (count_of (image_rows image) i) 0)
+            (eq-eqb (image.seen i).kind (kind_byte File) (ap (λ (seen : Seen). seen.kind) (sym same) ∙ file))
+            ∙ eq-eqb (count_of (image_rows image) i) 0 (sym (count_same i) ∙ none) in
             no_file (sym (f.freed i within orphan).kind ∙ file)
       ]
 

@@ -32,7 +32,8 @@ module _ (p q : Key × ℕ → Bool) (to : Key × ℕ → Key × ℕ) where
     forth = λ k x is. h.forth k x (behind e es s k x is);
     back = λ l y is passes.
         let b = h.back l y is passes in
-        elim (found_cases key_cmp_total key_cmp-IsAntisymmetric b.0 b.1 e es b.2) as (λ _. (k : Key) × (x : ℕ) × (found_in es k ≡ Some x) × (p (k, x) ≡ true) × ((to (k, x)).0 ≡ l)) [
+        elim (found_cases key_cmp_total key_cmp-IsAntisymmetric b.0 b.1 e es b.2) as (λ _. (k : Key) × (x : ℕ) × (found_in es k ≡ Some x) × (p (k, x) ≡ true)
+        × ((to (k, x)).0 ≡ l)) [
           | inl same ↦ absurd (not_both (ap p (sym (same_entry b.0 b.1 e same.0 same.1)) ∙ b.3) fails)
           | inr found ↦ (b.0, b.1, found, b.3, b.4)
         ];
@@ -48,7 +49,8 @@ module _ (p q : Key × ℕ → Bool) (to : Key × ℕ → Key × ℕ) where
     back = λ l y is pass.
         let was = stayed rows (to e).0 l y is in
         let b = h.back l y was.1 pass in
-        elim (found_cases key_cmp_total key_cmp-IsAntisymmetric b.0 b.1 e es b.2) as (λ _. (k : Key) × (x : ℕ) × (found_in es k ≡ Some x) × (p (k, x) ≡ true) × ((to (k, x)).0 ≡ l)) [
+        elim (found_cases key_cmp_total key_cmp-IsAntisymmetric b.0 b.1 e es b.2) as (λ _. (k : Key) × (x : ℕ) × (found_in es k ≡ Some x) × (p (k, x) ≡ true)
+        × ((to (k, x)).0 ≡ l)) [
           | inl same ↦ absurd (was.0 (sym b.4 ∙ ap (λ (r : Key × ℕ). (to r).0) (same_entry b.0 b.1 e same.0 same.1)))
           | inr found ↦ (b.0, b.1, found, b.3, b.4)
         ];
@@ -75,7 +77,9 @@ module _ (p q : Key × ℕ → Bool) (to : Key × ℕ → Key × ℕ) where
             let rest = paired_list es (Rattle.sfs_base.proofs.BasicTruth.both_second _ _ s) (remove rows (to e).0) (without e es s t rows h) in
             let less = count-remove rows (to e).0 (to e).1 q f.0 in
             count-cons p e es ∙ ap (λ b. cond b 1 0 + count_by p es) t ∙ one_more _ _ _ (q (to e)) f.1 rest less
-        | false ↦ λ t. count-cons p e es ∙ ap (λ b. cond b 1 0 + count_by p es) t ∙ ap (λ n. 0 + n) (paired_list es (Rattle.sfs_base.proofs.BasicTruth.both_second _ _ s) rows (fewer e es s t rows h)) ∙ zero_plus _
+        | false ↦
+            λ t. count-cons p e es ∙ ap (λ b. cond b 1 0 + count_by p es) t
+            ∙ ap (λ n. 0 + n) (paired_list es (Rattle.sfs_base.proofs.BasicTruth.both_second _ _ s) rows (fewer e es s t rows h)) ∙ zero_plus _
       ] refl
     where
       one_more : (a b c : ℕ) (t : Bool) → t ≡ true → a ≡ b → c ≡ b + cond t 1 0 → 1 + a ≡ c

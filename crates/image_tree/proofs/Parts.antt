@@ -51,7 +51,10 @@ zero_take n bytes all k = elim (cases_lt k n) [
 
 zero_u32s : (at n : ℕ) (bytes : List ℕ) → ((k : ℕ) → k < 4 * n → slice_index bytes (at + k) ≡ 0) → (k : ℕ) → slice_index (u32s_at at n bytes) k ≡ 0
 zero_u32s at n bytes all k = elim (cases_lt k n) [
-  | inl lt ↦ get_or-u32s_at at n bytes k 0 lt ∙ zero_number (drop (4 * k) (part at (4 * n) bytes)) (zero_drop (4 * k) (part at (4 * n) bytes) (zero_take (4 * n) (drop at bytes) (λ j less. get_or-drop at bytes j 0 ∙ all j less))) 0 4
+  | inl lt ↦
+      get_or-u32s_at at n bytes k 0 lt
+      ∙ zero_number (drop (4 * k) (part at (4 * n) bytes))
+      (zero_drop (4 * k) (part at (4 * n) bytes) (zero_take (4 * n) (drop at bytes) (λ j less. get_or-drop at bytes j 0 ∙ all j less))) 0 4
   | inr le ↦ get_or_past (u32s_at at n bytes) k 0 (let a = length-u32s_at at n bytes in omega arith)
 ]
 
@@ -65,7 +68,8 @@ zero_behind raw none k lt =
 
 -- each indirect block of a part that has no pointer reads as holes
 abbrev pub HasEmptyHoles : Part → Type 0
-HasEmptyHoles part = (k : ℕ) → k < 16 → slice_index (inode_in part).indirect k ≡ 0 → (entry : ℕ) → slice_index (pointers_of (slice_index_or part.tables k [])) entry ≡ 0
+HasEmptyHoles part =
+    (k : ℕ) → k < 16 → slice_index (inode_in part).indirect k ≡ 0 → (entry : ℕ) → slice_index (pointers_of (slice_index_or part.tables k [])) entry ≡ 0
 
 -- A part has all its blocks, and each of its indirect blocks that has no pointer reads as holes.
 pub record IsWholePart (part : Part) : Type 0 where
@@ -81,7 +85,8 @@ pub gathered_whole : (store : ℕ → List ℕ) (raw : List ℕ) → IsWholePart
 gathered_whole store raw = record {
   blocks = gathered_blocks store raw;
   holes = λ k lt none entry.
-      ap (λ (block : List ℕ). slice_index (pointers_of block) entry) (table_is_read store raw k lt ∙ hole_is_read store (pointer_at (part_of store raw) (FILE_BLOCKS + k)) (pointer_of_table (part_of store raw) k ∙ none))
+      ap (λ (block : List ℕ). slice_index (pointers_of block) entry)
+      (table_is_read store raw k lt ∙ hole_is_read store (pointer_at (part_of store raw) (FILE_BLOCKS + k)) (pointer_of_table (part_of store raw) k ∙ none))
       ∙ pointers_of-zeros entry;
 }
 
@@ -100,15 +105,18 @@ module _ (part : Part) (whole : IsWholePart part) (none : nonzero_in 4 508 part.
       apart k = omega arith
 
   no_block : (n : ℕ) → n < FILE_BLOCKS → block_pointer (inode_in part) part.tables n ≡ 0
-  no_block n lt = elim (nat_lt n 108) as (λ b. nat_lt n 108 ≡ b → cond b (slice_index (inode_in part).direct n) (slice_index (pointers_of (slice_index_or part.tables (table_of n) [])) (entry_of n)) ≡ 0) [
-    | true ↦ λ t. no_direct n
-    | false ↦ λ t. let le = ltb-false _ _ t in whole.holes (table_of n) (omega arith) (no_indirect (table_of n)) (entry_of n)
-  ] refl
+  no_block n lt =
+      elim (nat_lt n 108) as (λ b. nat_lt n 108 ≡ b
+      → cond b (slice_index (inode_in part).direct n) (slice_index (pointers_of (slice_index_or part.tables (table_of n) [])) (entry_of n)) ≡ 0) [
+        | true ↦ λ t. no_direct n
+        | false ↦ λ t. let le = ltb-false _ _ t in whole.holes (table_of n) (omega arith) (no_indirect (table_of n)) (entry_of n)
+      ] refl
 
   pub no_pointer : (place : ℕ) → place < PLACES → pointer_at part place ≡ 0
   no_pointer place lt = elim (cases_lt place FILE_BLOCKS) [
     | inl below ↦ pointer_of_block part place below ∙ no_block place below
-    | inr behind ↦ subst (λ (p : ℕ). pointer_at part p ≡ 0) (again place behind) (pointer_of_table part (place - FILE_BLOCKS) ∙ no_indirect (place - FILE_BLOCKS))
+    | inr behind ↦
+        subst (λ (p : ℕ). pointer_at part p ≡ 0) (again place behind) (pointer_of_table part (place - FILE_BLOCKS) ∙ no_indirect (place - FILE_BLOCKS))
   ]
     where
       again : (place : ℕ) → FILE_BLOCKS ≤ place → FILE_BLOCKS + (place - FILE_BLOCKS) ≡ place
@@ -130,7 +138,8 @@ module _ (parts : ℕ → Part) (count : ℕ) (whole : (i : ℕ) → i < count �
     unused_shown : (i : ℕ) → i < count → (inode_in (parts i)).kind ≡ 0 → IsUnused (seen_of (parts i))
     unused_shown i lt free = record { kind = free; blocks = no_pointer (parts i) (whole i lt) ((facts i lt).free free) }
 
-    kinds_shown : (i : ℕ) → i < count → (inode_in (parts i)).kind ≢ 0 → ((inode_in (parts i)).kind ≡ kind_byte File) ⊎ ((inode_in (parts i)).kind ≡ kind_byte Directory)
+    kinds_shown : (i : ℕ) → i < count → (inode_in (parts i)).kind ≢ 0
+        → ((inode_in (parts i)).kind ≡ kind_byte File) ⊎ ((inode_in (parts i)).kind ≡ kind_byte Directory)
     kinds_shown i lt used = by_number (inode_in (parts i)).kind used (facts i lt).kind
       where
         by_number : (n : ℕ) → n ≢ 0 → n ≤ 2 → (n ≡ kind_byte File) ⊎ (n ≡ kind_byte Directory)
@@ -152,7 +161,8 @@ module _ (parts : ℕ → Part) (count : ℕ) (whole : (i : ℕ) → i < count �
             let whole_blocks = fits.whole is in
             let few = fits.few is in
             let blocks = (whole i lt).blocks in
-            let taken : length (take ((inode_in (parts i)).size / 4096) (parts i).blocks) ≡ (inode_in (parts i)).size / 4096 = length-take-le ((inode_in (parts i)).size / 4096) (parts i).blocks (omega arith) in
+            let taken : length (take ((inode_in (parts i)).size / 4096) (parts i).blocks) ≡ (inode_in (parts i)).size / 4096 =
+            length-take-le ((inode_in (parts i)).size / 4096) (parts i).blocks (omega arith) in
             let slots : length (shown_slots (parts i)) ≡ 15 * ((inode_in (parts i)).size / 4096) = (slots_shown (parts i) is).count ∙ ap (λ n. 15 * n) taken in
             let whole : (inode_in (parts i)).size ≡ 4096 * ((15 * ((inode_in (parts i)).size / 4096)) / 15) = omega arith in
             whole
@@ -165,7 +175,10 @@ module _ (parts : ℕ → Part) (count : ℕ) (whole : (i : ℕ) → i < count �
         kinds = kinds_shown;
         sizes = size_shown;
         files = λ i lt file. ap (λ n. cond (nat_eq n (kind_byte Directory)) (flat_map slots_of (directory_blocks (parts i))) []) file;
-        directories = λ i lt directory. ap (λ n. cond (nat_eq n (kind_byte File)) (tabulate (inode_in (parts i)).size (Rattle.sfs_image.specs.Part.file_byte (parts i))) []) directory;
+        directories =
+            λ i lt directory. ap (λ n. cond (nat_eq n (kind_byte File))
+            (tabulate (inode_in (parts i)).size (Rattle.sfs_image.specs.Part.file_byte (parts i))) [])
+            directory;
         unused = unused_shown;
       }
 

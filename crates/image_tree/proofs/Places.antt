@@ -53,8 +53,14 @@ filled_lowest (Some held ∷ slots) (row ∷ rows) (suc k) (suc j) is lt = fille
 
 pub nets_keep_places : NetsKeepPlaces
 nets_keep_places num tree net slots = record {
-  stays = λ place row is none. filled_stays (map (slot_after num tree net) slots) (new_rows num tree net) place row (slice_get-map (slot_after num tree net) slots place ∙ ap (option_map (slot_after num tree net)) is ∙ ap (λ o. Some (option_map_or (brought_row num tree) o (Some row))) none);
-  changes = λ place row brought change is found same. filled_stays (map (slot_after num tree net) slots) (new_rows num tree net) place brought (slice_get-map (slot_after num tree net) slots place ∙ ap (option_map (slot_after num tree net)) is ∙ ap (λ o. Some (option_map_or (brought_row num tree) o (Some row))) found ∙ ap Some same);
+  stays =
+      λ place row is none. filled_stays (map (slot_after num tree net) slots) (new_rows num tree net) place row
+      (slice_get-map (slot_after num tree net) slots place ∙ ap (option_map (slot_after num tree net)) is
+      ∙ ap (λ o. Some (option_map_or (brought_row num tree) o (Some row))) none);
+  changes =
+      λ place row brought change is found same. filled_stays (map (slot_after num tree net) slots) (new_rows num tree net) place brought
+      (slice_get-map (slot_after num tree net) slots place ∙ ap (option_map (slot_after num tree net)) is
+      ∙ ap (λ o. Some (option_map_or (brought_row num tree) o (Some row))) found ∙ ap Some same);
   lowest = λ place later is lt. filled_lowest (map (slot_after num tree net) slots) (new_rows num tree net) place later is lt;
 }
 
@@ -106,13 +112,21 @@ blocks_are_kept_or_rewritten old slots n = (kept, unwritten)
   where
     kept : rewrites_slots old slots n ≡ false → KeepsBlock old slots n
     kept e = record {
-      slots_kept = sym (slots_are (slots_in_block n old.slots) (slots_in_block n slots) (not_false _ (or_first (not (same_slots (slots_in_block n old.slots) (slots_in_block n slots))) _ e)));
-      gone = λ le. eqb-true _ _ (not_false _ (then_false (nat_le (blocks_up_to_last slots) n) _ (or_second (not (same_slots (slots_in_block n old.slots) (slots_in_block n slots))) _ e) (le_true _ _ le)));
+      slots_kept =
+          sym
+          (slots_are (slots_in_block n old.slots) (slots_in_block n slots)
+          (not_false _ (or_first (not (same_slots (slots_in_block n old.slots) (slots_in_block n slots))) _ e)));
+      gone =
+          λ le. eqb-true _ _
+          (not_false _
+          (then_false (nat_le (blocks_up_to_last slots) n) _ (or_second (not (same_slots (slots_in_block n old.slots) (slots_in_block n slots))) _ e)
+          (le_true _ _ le)));
     }
 
     unwritten : KeepsBlock old slots n → rewrites_slots old slots n ≡ false
     unwritten k =
-        ap (λ b. not b || (nat_le (blocks_up_to_last slots) n && not (nat_eq (old.blocks n) 0))) (ap (same_slots (slots_in_block n old.slots)) k.slots_kept ∙ slots_itself (slots_in_block n old.slots))
+        ap (λ b. not b || (nat_le (blocks_up_to_last slots) n && not (nat_eq (old.blocks n) 0)))
+        (ap (same_slots (slots_in_block n old.slots)) k.slots_kept ∙ slots_itself (slots_in_block n old.slots))
         ∙ elim (nat_le (blocks_up_to_last slots) n) as (λ b. nat_le (blocks_up_to_last slots) n ≡ b → (b && not (nat_eq (old.blocks n) 0)) ≡ false) [
           | true ↦ λ t. ap not (eq-eqb _ _ (k.gone (true_le _ _ t)))
           | false ↦ λ _. refl

@@ -90,7 +90,8 @@ ranks_go_on rewrites m place rewrite is le = go place le
         let rest = go place (omega arith) in
         let more = ap (rank (takes_in_row rewrites)) (next place) ∙ rank_more (takes_in_row rewrites) (PLACES * m + place) in
         let own = rank_more (takes_place rewrite) place in
-        let same : cond {A = ℕ} (takes_in_row rewrites (place_in_row m place)) 1 0 ≡ cond {A = ℕ} (takes_place rewrite place) 1 0 = ap (λ b. cond {A = ℕ} b 1 0) (place_takes rewrites m place rewrite is (omega arith)) in
+        let same : cond {A = ℕ} (takes_in_row rewrites (place_in_row m place)) 1 0 ≡ cond {A = ℕ} (takes_place rewrite place) 1 0 =
+        ap (λ b. cond {A = ℕ} b 1 0) (place_takes rewrites m place rewrite is (omega arith)) in
         omega arith
 
 listed_below : {A : Type 0} (xs : List A) (m : ℕ) (x : A) → slice_get xs m ≡ Some x → m < length xs
@@ -118,12 +119,18 @@ module _ (commit : Commit) (i place : ℕ) (r : Rewrite) (old new : Seen) where
   pub pointer_has_block : new.blocks place ≡ pointer_after r (commit.fresh i) place → commit.takes i place ≡ takes_place r place →
       r.pointers place ≡ old.blocks place → Has
   pointer_has_block after takes before =
-      elim (nat_lt place FILE_BLOCKS) as (λ b. new.blocks place ≡ cond b (cond (r.is_rewritten place) (cond (r.is_zero place) 0 (commit.fresh i place)) (r.pointers place)) (cond (rewrites_table r (place - FILE_BLOCKS)) (cond (table_has_pointer r (place - FILE_BLOCKS)) (commit.fresh i place) 0) (r.pointers place)) → commit.takes i place ≡ cond b (r.is_rewritten place && not (r.is_zero place)) (rewrites_table r (place - FILE_BLOCKS) && table_has_pointer r (place - FILE_BLOCKS)) → Has) [
+      elim (nat_lt place FILE_BLOCKS) as (λ b. new.blocks place
+      ≡ cond b (cond (r.is_rewritten place) (cond (r.is_zero place) 0 (commit.fresh i place)) (r.pointers place))
+      (cond (rewrites_table r (place - FILE_BLOCKS)) (cond (table_has_pointer r (place - FILE_BLOCKS)) (commit.fresh i place) 0) (r.pointers place))
+      → commit.takes i place
+      ≡ cond b (r.is_rewritten place && not (r.is_zero place)) (rewrites_table r (place - FILE_BLOCKS) && table_has_pointer r (place - FILE_BLOCKS))
+      → Has) [
         | true ↦ λ a k. at_block (r.is_rewritten place) (r.is_zero place) a k before
         | false ↦ λ a k. at_table (rewrites_table r (place - FILE_BLOCKS)) (table_has_pointer r (place - FILE_BLOCKS)) a k before
       ] after takes
 
-module _ (commit : Commit) (image next : SeenInodes) (inodes : List ℕ) (rewrites : List Rewrite) (grant : List ℕ) (g : GrantServes image rewrites grant) (t : TakesByRank commit image next inodes rewrites grant) where
+module _ (commit : Commit) (image next : SeenInodes) (inodes : List ℕ) (rewrites : List Rewrite) (grant : List ℕ) (g : GrantServes image rewrites grant)
+    (t : TakesByRank commit image next inodes rewrites grant) where
   -- a place that takes a block does so in the row, at its rank
   record InRow (i place : ℕ) : Type 0 where
     number : ℕ
@@ -143,7 +150,9 @@ module _ (commit : Commit) (image next : SeenInodes) (inodes : List ℕ) (rewrit
         inode = found.2.inode;
         small = found.3;
         takes = takes;
-        within = subst (λ (n : ℕ). rank (takes_in_row rewrites) (place_in_row found.0 place) < n) (sym g.enough) ((ranks_serve (takes_in_row rewrites)).below (place_in_row found.0 place) (PLACES * length rewrites) takes (row_below found.0 less found.3));
+        within =
+            subst (λ (n : ℕ). rank (takes_in_row rewrites) (place_in_row found.0 place) < n) (sym g.enough)
+            ((ranks_serve (takes_in_row rewrites)).below (place_in_row found.0 place) (PLACES * length rewrites) takes (row_below found.0 less found.3));
         block = t.fresh i found.0 place found.2.inode;
       }
     where
@@ -160,7 +169,8 @@ module _ (commit : Commit) (image next : SeenInodes) (inodes : List ℕ) (rewrit
       HasBlock commit i place (seen_before commit image node) (next.seen i)
   has_block node i place small is concerned =
       let l = t.listed node i is concerned in
-      pointer_has_block commit i place l.1 (seen_before commit image node) (next.seen i) (t.after i l.0 place l.1 l.2 small) (t.takes i l.0 place l.1 l.2 small) (t.before node i l.0 place l.1 is l.2 small)
+      pointer_has_block commit i place l.1 (seen_before commit image node) (next.seen i) (t.after i l.0 place l.1 l.2 small) (t.takes i l.0 place l.1 l.2 small)
+      (t.before node i l.0 place l.1 is l.2 small)
 
   pub taken_by_rank : TakesBlocks commit image next
   taken_by_rank = record {
@@ -171,7 +181,9 @@ module _ (commit : Commit) (image next : SeenInodes) (inodes : List ℕ) (rewrit
     once = λ i place j other taken also same.
         let r = in_row i place taken in
         let q = in_row j other also in
-        let ranks = g.once (rank (takes_in_row rewrites) (place_in_row r.number place)) (rank (takes_in_row rewrites) (place_in_row q.number other)) r.within q.within (sym r.block ∙ same ∙ q.block) in
+        let ranks =
+        g.once (rank (takes_in_row rewrites) (place_in_row r.number place)) (rank (takes_in_row rewrites) (place_in_row q.number other)) r.within q.within
+        (sym r.block ∙ same ∙ q.block) in
         let rows = (ranks_serve (takes_in_row rewrites)).once (place_in_row r.number place) (place_in_row q.number other) r.takes q.takes ranks in
         let numbers = same_number r.number q.number place other r.small q.small rows in
         (some_same (sym r.inode ∙ ap (slice_get inodes) numbers.0 ∙ q.inode), numbers.1);

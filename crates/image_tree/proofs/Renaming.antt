@@ -58,14 +58,23 @@ module _ (num : Numbering) (tree other : TreeState) (r : IsRenamed num tree othe
           let h = r.holder k.0 k.1 x is in
           let c = r.child k.0 k.1 x is in
           let hi = under_is num k.0 h.0 h.1 in
-          let ci = under_is num x c.0 c.1 in
-          (subst (λ (i : ℕ). get other.rows (i, k.1) ≡ Some (inode_under num x)) (sym hi) (row_forth k.0 h.0 x c.0 k.1 h.1 is c.1 ∙ ap Some (sym ci)), subst (λ (i : ℕ). q ((i, k.1), inode_under num x) ≡ true) (sym hi) (subst (λ (j : ℕ). q ((h.0, k.1), j) ≡ true) (sym ci) (alike k.0 h.0 x c.0 k.1 is h.1 c.1 ∙ passes)))
+          let ci = under_is num x c.0 c.1 in (
+            subst (λ (i : ℕ). get other.rows (i, k.1) ≡ Some (inode_under num x)) (sym hi) (row_forth k.0 h.0 x c.0 k.1 h.1 is c.1 ∙ ap Some (sym ci)),
+            subst (λ (i : ℕ). q ((i, k.1), inode_under num x) ≡ true) (sym hi)
+                (subst (λ (j : ℕ). q ((h.0, k.1), j) ≡ true) (sym ci) (alike k.0 h.0 x c.0 k.1 is h.1 c.1 ∙ passes)),
+          )
 
       back : (l : Key) (y : ℕ) → get other.rows l ≡ Some y → q (l, y) ≡ true →
           (k : Key) × (x : ℕ) × (get tree.rows k ≡ Some x) × (p (k, x) ≡ true) × ((renumbered (k, x)).0 ≡ l)
       back l y is passes =
-          let b = row_back l.0 y l.1 is in
-          ((b.directory, l.1), b.child, b.row, sym (alike b.directory l.0 b.child y l.1 b.row b.from b.to) ∙ passes, ap (λ (i : ℕ). (i, l.1)) (under_is num b.directory l.0 b.from))
+          let b = row_back l.0 y l.1 is in (
+            (b.directory, l.1),
+            b.child,
+            b.row,
+            sym (alike b.directory l.0 b.child y l.1 b.row b.from b.to)
+                ∙ passes,
+            ap (λ (i : ℕ). (i, l.1)) (under_is num b.directory l.0 b.from),
+          )
 
       once : (k l : Key) (x y : ℕ) → get tree.rows k ≡ Some x → p (k, x) ≡ true → get tree.rows l ≡ Some y → p (l, y) ≡ true →
           (renumbered (k, x)).0 ≡ (renumbered (l, y)).0 → k ≡ l
@@ -80,13 +89,15 @@ module _ (num : Numbering) (tree other : TreeState) (r : IsRenamed num tree othe
   -- a tree has as many rows under other numbers
   pub len_renamed : len other.rows ≡ len tree.rows
   len_renamed =
-      len-entries other.rows ∙ sym (count_all (entries other.rows)) ∙ sym (count_renamed (λ _. true) (λ _. true) (λ d i x j n _ _ _. refl)) ∙ count_all (entries tree.rows) ∙ sym (len-entries tree.rows)
+      len-entries other.rows ∙ sym (count_all (entries other.rows)) ∙ sym (count_renamed (λ _. true) (λ _. true) (λ d i x j n _ _ _. refl))
+      ∙ count_all (entries tree.rows) ∙ sym (len-entries tree.rows)
 
   pub directory_renamed : (x j : ℕ) → num x ≡ Some j → IsMet tree x → is_directory other j ≡ is_directory tree x
   directory_renamed x j is met = ap (λ (o : Option Node). option_map_or (λ n. is_directory_kind n.kind) o false) (r.nodes x j is met)
 
   pub kind_renamed : (x j : ℕ) → num x ≡ Some j → IsMet tree x → kind_of other j ≡ kind_of tree x
-  kind_renamed x j is met = ap (λ (o : Option Node). option_map_or (λ n. n.kind) o Rattle.sfs_base.specs.declared.numbers.Kind.TheVariants.File) (r.nodes x j is met)
+  kind_renamed x j is met =
+      ap (λ (o : Option Node). option_map_or (λ n. n.kind) o Rattle.sfs_base.specs.declared.numbers.Kind.TheVariants.File) (r.nodes x j is met)
 
   pub bytes_renamed : (x j : ℕ) → num x ≡ Some j → IsMet tree x → bytes_of other j ≡ bytes_of tree x
   bytes_renamed x j is met = ap (λ (o : Option Node). option_map_or (λ n. n.bytes) o []) (r.nodes x j is met)
@@ -141,16 +152,22 @@ module _ (num : Numbering) (tree other : TreeState) (r : IsRenamed num tree othe
     sound_renamed = record {
       root = directory_renamed 0 0 r.root root ∙ s.root;
       unnamed = λ i n row. let b = row_back i 0 n row in s.unnamed b.directory n (b.row ∙ ap Some (r.once b.child 0 0 b.to r.root));
-      node = λ i n j row. let b = row_back i j n row in subst IsSome (sym (r.nodes b.child j b.to (named b.directory n b.child b.row))) (s.node b.directory n b.child b.row);
+      node = λ i n j row. let b = row_back i j n row in
+          subst IsSome (sym (r.nodes b.child j b.to (named b.directory n b.child b.row))) (s.node b.directory n b.child b.row);
       once = λ i k n m j row twin kind.
           let b = row_back i j n row in
           let c = row_back k j m twin in
           let same : c.child ≡ b.child = r.once c.child b.child j c.to b.to in
-          let places = s.once b.directory c.directory n m b.child b.row (c.row ∙ ap Some same) (sym (directory_renamed b.child j b.to (named b.directory n b.child b.row)) ∙ kind) in
+          let places =
+          s.once b.directory c.directory n m b.child b.row (c.row ∙ ap Some same)
+          (sym (directory_renamed b.child j b.to (named b.directory n b.child b.row)) ∙ kind) in
           (some_same (sym b.from ∙ ap num places.0 ∙ c.from), places.1);
       holds = λ i n j row.
-          let b = row_back i j n row in
-          (directory_renamed b.directory i b.from (holder_met b.directory n b.child b.row) ∙ (s.holds b.directory n b.child b.row).0, alive_renamed b.directory i n b.child b.from b.row);
+          let b = row_back i j n row in (
+            directory_renamed b.directory i b.from (holder_met b.directory n b.child b.row)
+                ∙ (s.holds b.directory n b.child b.row).0,
+            alive_renamed b.directory i n b.child b.from b.row,
+          );
       climbs = λ i n j row kind.
           let b = row_back i j n row in
           let way = s.climbs b.directory n b.child b.row (sym (directory_renamed b.child j b.to (named b.directory n b.child b.row)) ∙ kind) in

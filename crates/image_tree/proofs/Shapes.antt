@@ -34,12 +34,21 @@ module _ (h : ℕ → ℕ) where
 
   find_changed : (k : List ℕ) (es : List (List ℕ × ℕ)) → find name_cmp k (map with_value es) ≡ option_map h (find name_cmp k es)
   find_changed k [] = refl
-  find_changed k (e ∷ es) = elim (eq_by_cmp name_cmp k e.0) as (λ b. cond b (Some (h e.1)) (find name_cmp k (map with_value es)) ≡ option_map h (cond b (Some e.1) (find name_cmp k es))) [ true ↦ refl | false ↦ find_changed k es ]
+  find_changed k (e ∷ es) =
+      elim (eq_by_cmp name_cmp k e.0) as (λ b. cond b (Some (h e.1)) (find name_cmp k (map with_value es))
+      ≡ option_map h (cond b (Some e.1) (find name_cmp k es))) [
+        | true ↦
+            refl
+        | false ↦ find_changed k es
+      ]
 
   -- maps that differ by a function on values have entries that do
   pub entries_changed : (m n : FinMap name_cmp ℕ) → ((k : List ℕ) → get n k ≡ option_map h (get m k)) → entries n ≡ map with_value (entries m)
   entries_changed m n alike =
-      ap entries (same_map nat_list_cmp_total name_cmp-IsAntisymmetric n (from_sorted (map with_value (entries m))) (λ k. alike k ∙ ap (option_map h) (get-entries m k) ∙ sym (find_changed k (entries m)) ∙ sym (get-from_sorted name_cmp (map with_value (entries m)) k sorted)))
+      ap entries
+      (same_map nat_list_cmp_total name_cmp-IsAntisymmetric n (from_sorted (map with_value (entries m)))
+      (λ k. alike k ∙ ap (option_map h) (get-entries m k) ∙ sym (find_changed k (entries m))
+      ∙ sym (get-from_sorted name_cmp (map with_value (entries m)) k sorted)))
       ∙ entries-from_sorted name_cmp (map with_value (entries m)) sorted
     where
       sorted : T (is_sorted name_cmp (map with_value (entries m)))
@@ -58,7 +67,9 @@ all_flat P Q f h (x ∷ xs) a = all_append P (f x) (flat_map f xs) (h x a.0) (al
 flat_alike : {X Y : Type 0} (P : X → Type 0) (h : X → X) (ren : Y → Y) (f g : X → List Y) → ((x : X) → P x → g (h x) ≡ map ren (f x)) → (xs : List X) →
     AllByRecursion P xs → flat_map g (map h xs) ≡ map ren (flat_map f xs)
 flat_alike P h ren f g alike [] a = refl
-flat_alike P h ren f g alike (x ∷ xs) a = ap (λ l. l ++ flat_map g (map h xs)) (alike x a.0) ∙ ap (λ l. map ren (f x) ++ l) (flat_alike P h ren f g alike xs a.1) ∙ sym (map-append ren (f x) (flat_map f xs))
+flat_alike P h ren f g alike (x ∷ xs) a =
+    ap (λ l. l ++ flat_map g (map h xs)) (alike x a.0) ∙ ap (λ l. map ren (f x) ++ l) (flat_alike P h ren f g alike xs a.1)
+    ∙ sym (map-append ren (f x) (flat_map f xs))
 
 map_alike : {X Y : Type 0} (P : X → Type 0) (h : X → X) (f g : X → Y) → ((x : X) → P x → g (h x) ≡ f x) → (xs : List X) → AllByRecursion P xs →
     map g (map h xs) ≡ map f xs
@@ -77,7 +88,8 @@ filter_alike P h p q alike (x ∷ xs) a =
 
 all_filtered : {X : Type 0} (P : X → Type 0) (p : X → Bool) (xs : List X) → AllByRecursion P xs → AllByRecursion P (filter p xs)
 all_filtered P p [] a = tt
-all_filtered P p (x ∷ xs) a = elim (p x) as (λ b. AllByRecursion P (cond b (x ∷ filter p xs) (filter p xs))) [ true ↦ (a.0, all_filtered P p xs a.1) | false ↦ all_filtered P p xs a.1 ]
+all_filtered P p (x ∷ xs) a =
+    elim (p x) as (λ b. AllByRecursion P (cond b (x ∷ filter p xs) (filter p xs))) [ true ↦ (a.0, all_filtered P p xs a.1) | false ↦ all_filtered P p xs a.1 ]
 
 all_mapped : {X Y : Type 0} (P : X → Type 0) (Q : Y → Type 0) (f : X → Y) → ((x : X) → P x → Q (f x)) → (xs : List X) → AllByRecursion P xs →
     AllByRecursion Q (map f xs)
@@ -111,12 +123,18 @@ module _ (num : Numbering) (tree other : TreeState) (r : IsRenamed num tree othe
   -- each child of a directory is met
   children_met : (x : ℕ) → AllByRecursion (λ (row : List ℕ × ℕ). IsMet tree row.1) (entries (names_of x tree.rows))
   children_met x =
-      each_entry nat_list_cmp_total name_cmp-IsAntisymmetric (λ (row : List ℕ × ℕ). IsMet tree row.1) (entries (names_of x tree.rows)) (entries_sorted _) (λ k c is.
+      each_entry nat_list_cmp_total name_cmp-IsAntisymmetric (λ (row : List ℕ × ℕ). IsMet tree row.1) (entries (names_of x tree.rows)) (entries_sorted _)
+      (λ k c is.
       named x k c (sym (get-names_where x (λ _. true) tree.rows k) ∙ get-entries (names_of x tree.rows) k ∙ is))
 
   met_list : (steps : ℕ) (path : List (List ℕ)) (x : ℕ) → IsMet tree x → AllByRecursion (λ (m : Met). IsMet tree m.node) (met_from steps tree path x)
   met_list zero path x m = (m, tt)
-  met_list (suc steps) path x m = (m, all_flat (λ (m : Met). IsMet tree m.node) (λ (row : List ℕ × ℕ). IsMet tree row.1) (λ (row : List ℕ × ℕ). met_from steps tree (path ++ row.0 ∷ []) row.1) (λ row is. met_list steps (path ++ row.0 ∷ []) row.1 is) _ (by_kind (is_directory tree x)))
+  met_list (suc steps) path x m = (
+    m,
+    all_flat (λ (m : Met). IsMet tree m.node) (λ (row : List ℕ × ℕ). IsMet tree row.1)
+        (λ (row : List ℕ × ℕ). met_from steps tree (path ++ row.0 ∷ []) row.1) (λ row is. met_list steps (path ++ row.0 ∷ []) row.1 is) _
+        (by_kind (is_directory tree x)),
+  )
     where
       by_kind : (b : Bool) → AllByRecursion (λ (row : List ℕ × ℕ). IsMet tree row.1) (cond b (entries (names_of x tree.rows)) [])
       by_kind true = children_met x
@@ -127,18 +145,21 @@ module _ (num : Numbering) (tree other : TreeState) (r : IsRenamed num tree othe
   met_renamed zero path x m = refl
   met_renamed (suc steps) path x m =
       ap (λ l. record { path = path; node = inode_under num x } ∷ l) (
-      ap (λ b. flat_map (walk other) (cond b (entries (names_of (inode_under num x) other.rows)) [])) (directory_renamed num tree other r x (inode_under num x) (number_of_met x m) m)
+      ap (λ b. flat_map (walk other) (cond b (entries (names_of (inode_under num x) other.rows)) []))
+      (directory_renamed num tree other r x (inode_under num x) (number_of_met x m) m)
       ∙ by_kind (λ row is. met_renamed steps (path ++ row.0 ∷ []) row.1 is) (is_directory tree x))
     where
       walk : TreeState → List ℕ × ℕ → List Met
       walk from row = met_from steps from (path ++ row.0 ∷ []) row.1
 
       by_kind : ((row : List ℕ × ℕ) → IsMet tree row.1 → walk other (with_value (inode_under num) row) ≡ map rename_met (walk tree row)) → (b : Bool) →
-          flat_map (walk other) (cond b (entries (names_of (inode_under num x) other.rows)) []) ≡ map rename_met (flat_map (walk tree) (cond b (entries (names_of x tree.rows)) []))
+          flat_map (walk other) (cond b (entries (names_of (inode_under num x) other.rows)) [])
+          ≡ map rename_met (flat_map (walk tree) (cond b (entries (names_of x tree.rows)) []))
       by_kind deeper false = refl
       by_kind deeper true =
           ap (flat_map (walk other)) (part_renamed (λ _. true) x (inode_under num x) (number_of_met x m))
-          ∙ flat_alike (λ (row : List ℕ × ℕ). IsMet tree row.1) (with_value (inode_under num)) rename_met (walk tree) (walk other) deeper (entries (names_of x tree.rows)) (children_met x)
+          ∙ flat_alike (λ (row : List ℕ × ℕ). IsMet tree row.1) (with_value (inode_under num)) rename_met (walk tree) (walk other) deeper
+          (entries (names_of x tree.rows)) (children_met x)
 
   met_same : met other ≡ map rename_met (met tree)
   met_same =
@@ -156,7 +177,9 @@ module _ (num : Numbering) (tree other : TreeState) (r : IsRenamed num tree othe
   any_same : (x : ℕ) → IsMet tree x → (files : List ℕ) → AllByRecursion (IsMet tree) files
       → list_any (λ b. nat_eq b (inode_under num x)) (map (inode_under num) files) ≡ list_any (λ b. nat_eq b x) files
   any_same x m [] a = refl
-  any_same x m (f ∷ files) a = ap (λ b. b || list_any (λ b. nat_eq b (inode_under num x)) (map (inode_under num) files)) (same_node x f m a.0) ∙ ap (λ b. nat_eq f x || b) (any_same x m files a.1)
+  any_same x m (f ∷ files) a =
+      ap (λ b. b || list_any (λ b. nat_eq b (inode_under num x)) (map (inode_under num) files)) (same_node x f m a.0)
+      ∙ ap (λ b. nat_eq f x || b) (any_same x m files a.1)
 
   with_file_same : (x : ℕ) → IsMet tree x → (files : List ℕ) → AllByRecursion (IsMet tree) files
       → with_file (map (inode_under num) files) (inode_under num x) ≡ map (inode_under num) (with_file files x)
@@ -170,7 +193,12 @@ module _ (num : Numbering) (tree other : TreeState) (r : IsRenamed num tree othe
       by_test false = sym (map-append (inode_under num) files (x ∷ []))
 
   with_file_met : (x : ℕ) → IsMet tree x → (files : List ℕ) → AllByRecursion (IsMet tree) files → AllByRecursion (IsMet tree) (with_file files x)
-  with_file_met x m files a = elim (list_any (λ b. nat_eq b x) files) as (λ b. AllByRecursion (IsMet tree) (cond b files (files ++ x ∷ []))) [ true ↦ a | false ↦ all_append (IsMet tree) files (x ∷ []) a (m, tt) ]
+  with_file_met x m files a =
+      elim (list_any (λ b. nat_eq b x) files) as (λ b. AllByRecursion (IsMet tree) (cond b files (files ++ x ∷ []))) [
+        | true ↦ a
+        | false ↦
+            all_append (IsMet tree) files (x ∷ []) a (m, tt)
+      ]
 
   fold_same : (xs files : List ℕ) → AllByRecursion (IsMet tree) xs → AllByRecursion (IsMet tree) files
       → fold with_file (map (inode_under num) files) (map (inode_under num) xs) ≡ map (inode_under num) (fold with_file files xs)
@@ -199,7 +227,9 @@ module _ (num : Numbering) (tree other : TreeState) (r : IsRenamed num tree othe
   files_same =
       ap (λ ms. fold with_file [] (filter (λ node. not (is_directory other node)) (map (λ (m : Met). m.node) ms))) met_same
       ∙ ap (λ xs. fold with_file [] (filter (λ node. not (is_directory other node)) xs)) nodes_same
-      ∙ ap (fold with_file []) (filter_alike (IsMet tree) (inode_under num) (λ node. not (is_directory tree node)) (λ node. not (is_directory other node)) not_directory_same _ nodes_met)
+      ∙ ap (fold with_file [])
+      (filter_alike (IsMet tree) (inode_under num) (λ node. not (is_directory tree node))
+      (λ node. not (is_directory other node)) not_directory_same _ nodes_met)
       ∙ fold_same _ [] (all_filtered (IsMet tree) _ _ nodes_met) tt
 
   files_are_met : AllByRecursion (IsMet tree) (files_met tree)
@@ -216,7 +246,8 @@ module _ (num : Numbering) (tree other : TreeState) (r : IsRenamed num tree othe
       → position (λ f. nat_eq f (inode_under num x)) (map (inode_under num) files) ≡ position (λ f. nat_eq f x) files
   position_same x m files a =
       ap (λ n. cond (nat_lt n (length (map (inode_under num) files))) (Some n) None) (place_same x m files a)
-      ∙ ap (λ n. cond (nat_lt (position_or_len (λ f. nat_eq f x) files) n) (Some (position_or_len (λ f. nat_eq f x) files)) None) (length-map files (inode_under num))
+      ∙ ap (λ n. cond (nat_lt (position_or_len (λ f. nat_eq f x) files) n) (Some (position_or_len (λ f. nat_eq f x) files)) None)
+      (length-map files (inode_under num))
 
   line_same : (m : Met) → IsMet tree m.node → line_of other (map (inode_under num) (files_met tree)) (rename_met m) ≡ line_of tree (files_met tree) m
   line_same m is =
@@ -230,16 +261,20 @@ module _ (num : Numbering) (tree other : TreeState) (r : IsRenamed num tree othe
         bytes = bytes_renamed num tree other r x (inode_under num x) j is i;
       }
     where
-      group_same : cond (is_directory other (inode_under num m.node)) None (position (λ f. nat_eq f (inode_under num m.node)) (map (inode_under num) (files_met tree))) ≡ cond (is_directory tree m.node) None (position (λ f. nat_eq f m.node) (files_met tree))
+      group_same : cond (is_directory other (inode_under num m.node)) None
+          (position (λ f. nat_eq f (inode_under num m.node)) (map (inode_under num) (files_met tree)))
+          ≡ cond (is_directory tree m.node) None (position (λ f. nat_eq f m.node) (files_met tree))
       group_same =
-          ap (λ b. cond b None (position (λ f. nat_eq f (inode_under num m.node)) (map (inode_under num) (files_met tree)))) (directory_renamed num tree other r m.node (inode_under num m.node) (number_of_met m.node is) is)
+          ap (λ b. cond b None (position (λ f. nat_eq f (inode_under num m.node)) (map (inode_under num) (files_met tree))))
+          (directory_renamed num tree other r m.node (inode_under num m.node) (number_of_met m.node is) is)
           ∙ ap (cond (is_directory tree m.node) None) (position_same m.node is (files_met tree) files_are_met)
 
   pub shape_renamed : shape_of other ≡ shape_of tree
   shape_renamed =
       ap (λ files. map (line_of other files) (met other)) files_same
       ∙ ap (map (line_of other (map (inode_under num) (files_met tree)))) met_same
-      ∙ map_alike (λ (m : Met). IsMet tree m.node) rename_met (line_of tree (files_met tree)) (line_of other (map (inode_under num) (files_met tree))) line_same (met tree) all_met
+      ∙ map_alike (λ (m : Met). IsMet tree m.node) rename_met (line_of tree (files_met tree)) (line_of other (map (inode_under num) (files_met tree))) line_same
+      (met tree) all_met
 
 pub renamed_trees_have_one_shape : RenamedTreesHaveOneShape
 renamed_trees_have_one_shape num tree other s r = (sound_renamed num tree other r s, shape_renamed num tree other r)

@@ -76,7 +76,8 @@ taken-le (Some first ∷ slots) names once there =
 
     alone : name_count first.name slots ≡ 0
     alone =
-        let c : name_count first.name (Some first ∷ slots) ≡ 1 + name_count first.name slots = count_slot first.name (Some first) slots ∙ ap (λ b. cond b 1 0 + name_count first.name slots) (same_bytes first.name) in
+        let c : name_count first.name (Some first ∷ slots) ≡ 1 + name_count first.name slots =
+        count_slot first.name (Some first) slots ∙ ap (λ b. cond b 1 0 + name_count first.name slots) (same_bytes first.name) in
         let d = once first.name in
         omega arith
 
@@ -92,18 +93,23 @@ taken-le (Some first ∷ slots) names once there =
 
     others : (row : Row) → looked_up row.name slots ≡ Some row → IsSome (get (remove names first.name) row.name)
     others row is =
-        subst IsSome (sym (get-remove nat_list_cmp_total names first.name row.name ∙ ap (λ b. cond b None (get names row.name)) (is_eq-slice_cmp row.name first.name ∙ apart row is)))
+        subst IsSome
+        (sym
+        (get-remove nat_list_cmp_total names first.name row.name
+        ∙ ap (λ b. cond b None (get names row.name)) (is_eq-slice_cmp row.name first.name ∙ apart row is)))
         (there row (ap (λ b. cond b (Some first) (looked_up row.name slots)) (apart row is) ∙ is))
 
     here : IsSome (get names first.name)
     here = there first (ap (λ b. cond b (Some first) (looked_up first.name slots)) (same_bytes first.name))
 
     some_names : len names ≢ 0
-    some_names none = none_not_some (get names first.name) (ap (λ (m : FinMap name_cmp ℕ). get m first.name) (empty_of_len names none) ∙ get-empty name_cmp first.name) here
+    some_names none =
+        none_not_some (get names first.name) (ap (λ (m : FinMap name_cmp ℕ). get m first.name) (empty_of_len names none) ∙ get-empty name_cmp first.name) here
 
     fewer_names : len names ≡ suc (len (remove names first.name))
     fewer_names =
-        let a : len (remove names first.name) ≡ len names - 1 = len-remove nat_list_cmp_total names first.name ∙ ap (λ b. cond b (len names - 1) (len names)) here in
+        let a : len (remove names first.name) ≡ len names - 1 =
+        len-remove nat_list_cmp_total names first.name ∙ ap (λ b. cond b (len names - 1) (len names)) here in
         let b = some_names in
         omega arith
 
@@ -155,7 +161,10 @@ module _ (d : ℕ) where
   all_in_buckets (e ∷ es) =
       let rest = all_in_buckets es in
       let all = more_or_not (nat_eq e.0.0 d) true (e.0.1, e.1) (filter_map (name_row d (λ _. true)) es) in
-      let each = sum_more (in_bucket (e ∷ es)) (λ number. cond (nat_eq e.0.0 d) (cond (nat_eq (bucket e.0.1) number) 1 0) 0) (in_bucket es) (λ number. more_or_not (nat_eq e.0.0 d) (nat_eq (bucket e.0.1) number) (e.0.1, e.1) (filter_map (name_row d (λ name. nat_eq (bucket name) number)) es)) in
+      let each =
+      sum_more (in_bucket (e ∷ es)) (λ number. cond (nat_eq e.0.0 d) (cond (nat_eq (bucket e.0.1) number) 1 0) 0) (in_bucket es)
+      (λ number. more_or_not (nat_eq e.0.0 d) (nat_eq (bucket e.0.1) number) (e.0.1, e.1)
+      (filter_map (name_row d (λ name. nat_eq (bucket name) number)) es)) in
       let own = own_bucket (nat_eq e.0.0 d) in
       omega arith
     where
@@ -180,7 +189,8 @@ module _ (d : ℕ) where
       omega arith
     where
       at_most : (number : ℕ) → number < 8 → in_bucket (entries rows) number ≤ 4096
-      at_most number lt = subst (λ (n : ℕ). n ≤ 4096) (len-entries _ ∙ ap length (entries-names_where d (λ name. nat_eq (bucket name) number) rows)) (full number lt)
+      at_most number lt =
+          subst (λ (n : ℕ). n ≤ 4096) (len-entries _ ∙ ap length (entries-names_where d (λ name. nat_eq (bucket name) number) rows)) (full number lt)
 
 module _ (commit : Commit) (old new : TreeState) (image next : SeenInodes) (step : IsCommitStep commit old new image next) (fit : DirectoriesFit image) where
   abbrev after_net : ℕ → List (Option Row)
@@ -191,14 +201,21 @@ module _ (commit : Commit) (old new : TreeState) (image next : SeenInodes) (step
   before-le x i is kind = by_way (step.commits.numbers.comes x i is)
     where
       by_way : ComesBy commit image x i → length (seen_before commit image x).slots ≤ BLOCK_SLOTS * DIRECTORY_BLOCKS
-      by_way (had was) = subst (λ (o : Option ℕ). length (option_map_or image.seen o blank).slots ≤ BLOCK_SLOTS * DIRECTORY_BLOCKS) (sym was) (fit i (step.stands.within x i was, (step.stands.each x i was).kind ∙ ap kind_byte (sym (step.follows.kinds x) ∙ kind)))
-      by_way (enters none _ _) = subst (λ (o : Option ℕ). length (option_map_or image.seen o blank).slots ≤ BLOCK_SLOTS * DIRECTORY_BLOCKS) (sym none) (omega arith)
+      by_way (had was) =
+          subst (λ (o : Option ℕ). length (option_map_or image.seen o blank).slots ≤ BLOCK_SLOTS * DIRECTORY_BLOCKS) (sym was)
+          (fit i (step.stands.within x i was, (step.stands.each x i was).kind ∙ ap kind_byte (sym (step.follows.kinds x) ∙ kind)))
+      by_way (enters none _ _) =
+          subst (λ (o : Option ℕ). length (option_map_or image.seen o blank).slots ≤ BLOCK_SLOTS * DIRECTORY_BLOCKS) (sym none) (omega arith)
 
   taken_after : (x i : ℕ) → commit.after x ≡ Some i → taken (after_net x) ≤ 8 * BUCKET_ROWS
   taken_after x i is =
-      let h = has_slots_after commit.before commit.after old new x (commit.nets x) (step.commits.nets x) (same_row commit old new image next step x) (seen_before commit image x).slots (slots_before commit old new image next step x) in
+      let h =
+      has_slots_after commit.before commit.after old new x (commit.nets x) (step.commits.nets x) (same_row commit old new image next step x)
+      (seen_before commit image x).slots (slots_before commit old new image next step x) in
       let rows = rows-le x new.rows (λ number lt. step.storable.limits.buckets x number) in
-      let few = taken-le (after_net x) (names_of x new.rows) (λ n. subst (λ (k : ℕ). k ≤ 1) (count_in_blocks n (after_net x)) (h.once n)) (λ row found. there row (sym (h.looked row.name) ∙ looked_in_blocks row.name (after_net x) ∙ found)) in
+      let few =
+      taken-le (after_net x) (names_of x new.rows) (λ n. subst (λ (k : ℕ). k ≤ 1) (count_in_blocks n (after_net x)) (h.once n))
+      (λ row found. there row (sym (h.looked row.name) ∙ looked_in_blocks row.name (after_net x) ∙ found)) in
       omega arith
     where
       there : (row : Row) → option_map (row_on commit.after new row.name) (row_of new x row.name) ≡ Some row → IsSome (get (names_of x new.rows) row.name)
@@ -215,7 +232,9 @@ module _ (commit : Commit) (old new : TreeState) (image next : SeenInodes) (step
       let d = before-le x i is kind in
       let e = taken_after x i is in
       let f = length-map (seen_before commit image x).slots (slot_after commit.after new (commit.nets x)) in
-      elim (length_filled (map (slot_after commit.after new (commit.nets x)) (seen_before commit image x).slots) (new_rows commit.after new (commit.nets x))) as (λ _. length (in_blocks (after_net x)) ≤ BLOCK_SLOTS * DIRECTORY_BLOCKS) [
+      elim (length_filled (map (slot_after commit.after new (commit.nets x)) (seen_before commit image x).slots)
+      (new_rows commit.after new (commit.nets x))) as (λ _. length (in_blocks (after_net x))
+      ≤ BLOCK_SLOTS * DIRECTORY_BLOCKS) [
         | inl le ↦ omega arith
         | inr le ↦ omega arith
       ]
@@ -226,10 +245,12 @@ module _ (commit : Commit) (old new : TreeState) (image next : SeenInodes) (step
     | inl node ↦ elim (commit.concerns node.0) as (λ b. commit.concerns node.0 ≡ b → length (next.seen i).slots ≤ BLOCK_SLOTS * DIRECTORY_BLOCKS) [
       | true ↦ λ t.
           let b = step.commits.built node.0 i node.1 t in
-          subst (λ (slots : List (Option Row)). length slots ≤ BLOCK_SLOTS * DIRECTORY_BLOCKS) (sym b.slots) (built-le node.0 i node.1 (same_kind (kind_of new node.0) (sym b.kind ∙ is.1)))
+          subst (λ (slots : List (Option Row)). length slots ≤ BLOCK_SLOTS * DIRECTORY_BLOCKS) (sym b.slots)
+          (built-le node.0 i node.1 (same_kind (kind_of new node.0) (sym b.kind ∙ is.1)))
       | false ↦ λ t.
           let a = step.commits.stays node.0 i node.1 t in
-          subst (λ (seen : Seen). length seen.slots ≤ BLOCK_SLOTS * DIRECTORY_BLOCKS) (sym a.1) (fit i (number_within commit old image step.stands step.commits.numbers node.0 i node.1, ap (λ (seen : Seen). seen.kind) (sym a.1) ∙ is.1))
+          subst (λ (seen : Seen). length seen.slots ≤ BLOCK_SLOTS * DIRECTORY_BLOCKS) (sym a.1)
+          (fit i (number_within commit old image step.stands step.commits.numbers node.0 i node.1, ap (λ (seen : Seen). seen.kind) (sym a.1) ∙ is.1))
     ] refl
   ]
     where

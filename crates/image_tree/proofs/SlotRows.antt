@@ -31,8 +31,10 @@ pub looked_counts : (n : List ℕ) (slots : List (Option Row)) (row : Row) → l
 looked_counts n [] row is = absurd (none_some is)
 looked_counts n (slot ∷ slots) row is =
     elim (has_name n slot) as (λ b. has_name n slot ≡ b → cond b slot (looked_up n slots) ≡ Some row → 0 < name_count n (slot ∷ slots)) [
-      | true ↦ λ t e. let c : name_count n (slot ∷ slots) ≡ 1 + name_count n slots = count_slot n slot slots ∙ ap (λ b. cond b 1 0 + name_count n slots) t in omega arith
-      | false ↦ λ t e. let c : name_count n (slot ∷ slots) ≡ 0 + name_count n slots = count_slot n slot slots ∙ ap (λ b. cond b 1 0 + name_count n slots) t in let d = looked_counts n slots row e in omega arith
+      | true ↦ λ t e. let c : name_count n (slot ∷ slots) ≡ 1 + name_count n slots = count_slot n slot slots ∙ ap (λ b. cond b 1 0 + name_count n slots) t in
+          omega arith
+      | false ↦ λ t e. let c : name_count n (slot ∷ slots) ≡ 0 + name_count n slots = count_slot n slot slots ∙ ap (λ b. cond b 1 0 + name_count n slots) t in
+          let d = looked_counts n slots row e in omega arith
     ] refl is
 
 -- a name that is counted nowhere is not found
@@ -65,7 +67,8 @@ each_found P (slot ∷ slots) once h = (first slot h, each_found P slots (λ n. 
     behind row is =
         elim (has_name row.name slot) as (λ b. has_name row.name slot ≡ b → cond b slot (looked_up row.name slots) ≡ Some row) [
           | true ↦ λ t.
-              let c : name_count row.name (slot ∷ slots) ≡ 1 + name_count row.name slots = count_slot row.name slot slots ∙ ap (λ b. cond b 1 0 + name_count row.name slots) t in
+              let c : name_count row.name (slot ∷ slots) ≡ 1 + name_count row.name slots =
+              count_slot row.name slot slots ∙ ap (λ b. cond b 1 0 + name_count row.name slots) t in
               let d = looked_counts row.name slots row is in
               let e = once row.name in
               absurd (omega arith)

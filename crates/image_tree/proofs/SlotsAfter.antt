@@ -17,7 +17,9 @@ none_counted n (None ∷ slots) is = let c = count_slot n None slots in let d = 
 none_counted n (Some row ∷ slots) is =
     elim (bytes_eq n row.name) as (λ b. bytes_eq n row.name ≡ b → cond b (Some row) (looked_up n slots) ≡ None → name_count n (Some row ∷ slots) ≡ 0) [
       | true ↦ λ t e. absurd (none_some (sym e))
-      | false ↦ λ t e. let c : name_count n (Some row ∷ slots) ≡ 0 + name_count n slots = count_slot n (Some row) slots ∙ ap (λ b. cond b 1 0 + name_count n slots) t in let d = none_counted n slots e in omega arith
+      | false ↦ λ t e. let c : name_count n (Some row ∷ slots) ≡ 0 + name_count n slots =
+          count_slot n (Some row) slots ∙ ap (λ b. cond b 1 0 + name_count n slots) t in
+          let d = none_counted n slots e in omega arith
     ] refl is
 
 -- slots that are each changed or emptied, a row keeping its name
@@ -33,8 +35,14 @@ module _ (change : Option Row → Option Row) (empty : change None ≡ None) (na
   count_changed n (slot ∷ slots) =
       let rest = count_changed n slots in
       elim (has_name n slot) as (λ b. has_name n slot ≡ b → name_count n (change slot ∷ map change slots) ≤ name_count n (slot ∷ slots)) [
-        | true ↦ λ t. more (has_name n (change slot)) (count_slot n (change slot) (map change slots)) (count_slot n slot slots ∙ ap (λ b. cond b 1 0 + name_count n slots) t) rest
-        | false ↦ λ t. same (count_slot n (change slot) (map change slots) ∙ ap (λ b. cond b 1 0 + name_count n (map change slots)) (changed_name n slot (change slot) refl t)) (count_slot n slot slots ∙ ap (λ b. cond b 1 0 + name_count n slots) t) rest
+        | true ↦
+            λ t. more (has_name n (change slot)) (count_slot n (change slot) (map change slots))
+            (count_slot n slot slots ∙ ap (λ b. cond b 1 0 + name_count n slots) t) rest
+        | false ↦
+            λ t. same
+            (count_slot n (change slot) (map change slots)
+            ∙ ap (λ b. cond b 1 0 + name_count n (map change slots)) (changed_name n slot (change slot) refl t))
+            (count_slot n slot slots ∙ ap (λ b. cond b 1 0 + name_count n slots) t) rest
       ] refl
     where
       more : {a b c d : ℕ} (t : Bool) → c ≡ cond t 1 0 + a → d ≡ 1 + b → a ≤ b → c ≤ d
@@ -48,8 +56,11 @@ module _ (change : Option Row → Option Row) (empty : change None ≡ None) (na
   pub looked_changed : (n : List ℕ) (slots : List (Option Row)) → name_count n slots ≤ 1 → looked_up n (map change slots) ≡ change (looked_up n slots)
   looked_changed n [] once = sym empty
   looked_changed n (slot ∷ slots) once =
-      elim (has_name n slot) as (λ b. has_name n slot ≡ b → cond (has_name n (change slot)) (change slot) (looked_up n (map change slots)) ≡ change (cond b slot (looked_up n slots))) [
-        | false ↦ λ t. ap (λ b. cond b (change slot) (looked_up n (map change slots))) (changed_name n slot (change slot) refl t) ∙ looked_changed n slots (fewer _ _ _ (count_slot n slot slots) once)
+      elim (has_name n slot) as (λ b. has_name n slot ≡ b
+      → cond (has_name n (change slot)) (change slot) (looked_up n (map change slots)) ≡ change (cond b slot (looked_up n slots))) [
+        | false ↦
+            λ t. ap (λ b. cond b (change slot) (looked_up n (map change slots))) (changed_name n slot (change slot) refl t)
+            ∙ looked_changed n slots (fewer _ _ _ (count_slot n slot slots) once)
         | true ↦ λ t.
             let alone : name_count n slots ≡ 0 = none_more (count_slot n slot slots ∙ ap (λ b. cond b 1 0 + name_count n slots) t) once in
             let le = count_changed n slots in
@@ -92,7 +103,11 @@ looked_filled_old n [] rows none = none_looked n (map Some rows) none
 looked_filled_old n (slot ∷ slots) [] none = refl
 looked_filled_old n (None ∷ slots) (row ∷ rows) none =
     elim (bytes_eq n row.name) as (λ b. bytes_eq n row.name ≡ b → cond b (Some row) (looked_up n (filled slots rows)) ≡ looked_up n slots) [
-      | true ↦ λ t. absurd (let c : name_count n (Some row ∷ map Some rows) ≡ 1 + name_count n (map Some rows) = count_slot n (Some row) (map Some rows) ∙ ap (λ b. cond b 1 0 + name_count n (map Some rows)) t in omega arith)
+      | true ↦
+          λ t. absurd
+          (let c : name_count n (Some row ∷ map Some rows) ≡ 1 + name_count n (map Some rows) = count_slot n (Some row) (map Some rows)
+          ∙ ap (λ b. cond b 1 0 + name_count n (map Some rows)) t in
+          omega arith)
       | false ↦ λ t. looked_filled_old n slots rows (let c = count_slot n (Some row) (map Some rows) in omega arith)
     ] refl
 looked_filled_old n (Some held ∷ slots) (row ∷ rows) none = ap (λ o. cond (bytes_eq n held.name) (Some held) o) (looked_filled_old n slots (row ∷ rows) none)
@@ -102,17 +117,24 @@ pub looked_filled_new : (n : List ℕ) (slots : List (Option Row)) (rows : List 
     looked_up n (filled slots rows) ≡ looked_up n (map Some rows)
 looked_filled_new n [] rows none = refl
 looked_filled_new n (slot ∷ slots) [] none = none_looked n (slot ∷ slots) none
-looked_filled_new n (None ∷ slots) (row ∷ rows) none = ap (λ o. cond (bytes_eq n row.name) (Some row) o) (looked_filled_new n slots rows (let c = count_slot n None slots in omega arith))
+looked_filled_new n (None ∷ slots) (row ∷ rows) none =
+    ap (λ o. cond (bytes_eq n row.name) (Some row) o) (looked_filled_new n slots rows (let c = count_slot n None slots in omega arith))
 looked_filled_new n (Some held ∷ slots) (row ∷ rows) none =
-    elim (bytes_eq n held.name) as (λ b. bytes_eq n held.name ≡ b → cond b (Some held) (looked_up n (filled slots (row ∷ rows))) ≡ looked_up n (Some row ∷ map Some rows)) [
-      | true ↦ λ t. absurd (let c : name_count n (Some held ∷ slots) ≡ 1 + name_count n slots = count_slot n (Some held) slots ∙ ap (λ b. cond b 1 0 + name_count n slots) t in omega arith)
+    elim (bytes_eq n held.name) as (λ b. bytes_eq n held.name ≡ b
+    → cond b (Some held) (looked_up n (filled slots (row ∷ rows))) ≡ looked_up n (Some row ∷ map Some rows)) [
+      | true ↦
+          λ t. absurd
+          (let c : name_count n (Some held ∷ slots) ≡ 1 + name_count n slots = count_slot n (Some held) slots
+          ∙ ap (λ b. cond b 1 0 + name_count n slots) t in
+          omega arith)
       | false ↦ λ t. looked_filled_new n slots (row ∷ rows) (let c = count_slot n (Some held) slots in omega arith)
     ] refl
 
 -- behind the last row there is none
 rows_end_step : (slot : Option Row) (slots : List (Option Row)) (k : ℕ) → rows_end (slot ∷ slots) ≤ suc k → rows_end slots ≤ k
 rows_end_step slot slots k le =
-    elim (is_none slot && nat_eq (rows_end slots) 0) as (λ b. (is_none slot && nat_eq (rows_end slots) 0) ≡ b → cond b 0 (suc (rows_end slots)) ≤ suc k → rows_end slots ≤ k) [
+    elim (is_none slot && nat_eq (rows_end slots) 0) as (λ b. (is_none slot && nat_eq (rows_end slots) 0) ≡ b → cond b 0 (suc (rows_end slots)) ≤ suc k
+    → rows_end slots ≤ k) [
       | true ↦ λ t _. let z : rows_end slots ≡ 0 = eqb-true _ _ (second (is_none slot) t) in omega arith
       | false ↦ λ t h. omega arith
     ] refl le
@@ -130,7 +152,12 @@ no_rows_left n (None ∷ slots) le =
     omega arith
   where
     within : (k : ℕ) → cond (nat_eq k 0) 0 (suc k) ≤ 0 → k ≤ 0
-    within k le = elim (nat_eq k 0) as (λ b. nat_eq k 0 ≡ b → cond b 0 (suc k) ≤ 0 → k ≤ 0) [ true ↦ λ t h. let z = eqb-true _ _ t in omega arith | false ↦ λ t h. omega arith ] refl le
+    within k le =
+        elim (nat_eq k 0) as (λ b. nat_eq k 0 ≡ b → cond b 0 (suc k) ≤ 0 → k ≤ 0) [
+          | true ↦ λ t h. let z = eqb-true _ _ t in
+              omega arith
+          | false ↦ λ t h. omega arith
+        ] refl le
 
 padding : (n : List ℕ) (k m : ℕ) → name_count n (take k (replicate m None)) ≡ 0
 padding n zero zero = refl
@@ -169,4 +196,5 @@ pub length_in_blocks : (slots : List (Option Row)) → length (in_blocks slots) 
 length_in_blocks slots =
     let k = BLOCK_SLOTS * blocks_up_to_last slots in
     length-take-le (BLOCK_SLOTS * blocks_up_to_last slots) (slots ++ replicate (BLOCK_SLOTS * blocks_up_to_last slots) None)
-    (let a = length-append slots (replicate (BLOCK_SLOTS * blocks_up_to_last slots) None) in let b = length-replicate {A = Option Row} (BLOCK_SLOTS * blocks_up_to_last slots) None in omega arith)
+    (let a = length-append slots (replicate (BLOCK_SLOTS * blocks_up_to_last slots) None) in
+    let b = length-replicate {A = Option Row} (BLOCK_SLOTS * blocks_up_to_last slots) None in omega arith)

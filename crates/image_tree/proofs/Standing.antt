@@ -41,7 +41,8 @@ counted_once p rows once = by_count (count_by p (entries rows)) refl
     by_count (suc n) e =
         let f = found p rows (omega arith) in
         let less = count-remove rows f.row.0 f.row.1 p f.there in
-        let rest : count_by p (entries (remove rows f.row.0)) ≡ 0 = count_none p (remove rows f.row.0) (λ k x is. alone f.row.0 f.row.1 f.there f.passes k x is (p (k, x)) refl) in
+        let rest : count_by p (entries (remove rows f.row.0)) ≡ 0 =
+        count_none p (remove rows f.row.0) (λ k x is. alone f.row.0 f.row.1 f.there f.passes k x is (p (k, x)) refl) in
         one_or_none (p (f.row.0, f.row.1)) (omega arith)
       where
         alone : (l : Key) (y : ℕ) → get rows l ≡ Some y → p (l, y) ≡ true → (k : Key) (x : ℕ) → get (remove rows l) k ≡ Some x → (b : Bool) →
@@ -121,7 +122,10 @@ module _ (num : Numbering) (tree : TreeState) (image : SeenInodes) (making : Mak
     where
       same : ◌≡◌ {A = Node} (node_shown (image.seen i)) nd
       same = λ j. record {
-        kind = (ap Rattle.sfs_image.specs.Slot.kind_of (st.each x i is).kind ∙ kind_again (kind_of tree x) ∙ ap (λ (o : Option Node). option_map_or (λ n. n.kind) o File) e) j;
+        kind =
+            (ap Rattle.sfs_image.specs.Slot.kind_of (st.each x i is).kind ∙ kind_again (kind_of tree x)
+            ∙ ap (λ (o : Option Node). option_map_or (λ n. n.kind) o File) e)
+            j;
         bytes = ((st.each x i is).bytes ∙ ap (λ (o : Option Node). option_map_or (λ n. n.bytes) o []) e) j;
       }
 
@@ -150,7 +154,9 @@ module _ (num : Numbering) (tree : TreeState) (image : SeenInodes) (making : Mak
       as_file x i is d n row Directory e = directory_is_node image i ((st.each x i is).kind ∙ ap kind_byte e)
       as_file x i is d n row File e =
           let h = holder_number num tree image s st d n x row in
-          file_is_node image i ((st.each x i is).kind ∙ ap kind_byte e) (some_counted (count_some (names_it i) (image_rows image) (h.0, n) i (rows_shown d h.0 h.1 n ∙ ap (option_and_then num) row ∙ is) (eq-eqb i i refl)))
+          file_is_node image i ((st.each x i is).kind ∙ ap kind_byte e)
+          (some_counted
+          (count_some (names_it i) (image_rows image) (h.0, n) i (rows_shown d h.0 h.1 n ∙ ap (option_and_then num) row ∙ is) (eq-eqb i i refl)))
 
       by_met : (x i : ℕ) → num x ≡ Some i → IsMet tree x → get shown.nodes i ≡ get tree.nodes x
       by_met _ i is root = node_shown_as 0 i is (get tree.nodes 0) refl (some_directory 0 s.root) (directory_is_node image i (directory_seen 0 i is s.root))
@@ -191,7 +197,8 @@ module _ (num : Numbering) (tree : TreeState) (image : SeenInodes) (making : Mak
     links_shown x i is = elim (is_directory tree x) as (λ b. is_directory tree x ≡ b → links_of shown i ≡ links_of tree x) [
       | true ↦ λ t. links_renamed num tree shown shown_renamed x i is (may.placed x i is t)
       | false ↦ λ t.
-          ap (λ b. cond b (2 + count_by (holds_directory shown i) (entries shown.rows)) (count_of shown.rows i)) (directory_shown image making i (st.within x i is) ∙ is_shown x i is ∙ t)
+          ap (λ b. cond b (2 + count_by (holds_directory shown i) (entries shown.rows)) (count_of shown.rows i))
+          (directory_shown image making i (st.within x i is) ∙ is_shown x i is ∙ t)
           ∙ naming_renamed num tree shown shown_renamed x i is
           ∙ sym (ap (λ b. cond b (2 + count_by (holds_directory tree x) (entries tree.rows)) (count_of tree.rows x)) t)
     ] refl
@@ -220,16 +227,23 @@ module _ (num : Numbering) (tree : TreeState) (image : SeenInodes) (s : IsSound 
     full = λ i number is lt.
         let x = node_of_directory num tree image NOTHING_MADE s st i is in
         subst (λ (k : ℕ). k ≤ 4096) (sym (len_part (λ name. nat_eq (bucket name) number) x.0 i x.1)) (may.limits.buckets x.0 number);
-    children = λ i is. let x = node_of_directory num tree image NOTHING_MADE s st i is in stand (image.seen i).slots (each_found (MayName image) (image.seen i).slots (st.each x.0 i x.1).once (λ row found. may_name num tree image NOTHING_MADE s st x.0 i x.1 row found));
-    named_once = λ i is. let x = node_of_directory num tree image NOTHING_MADE s st i is in subst (λ (k : ℕ). k ≤ 1) (sym (naming_renamed num tree (ruled_tree image) (shown_renamed num tree image NOTHING_MADE s st) x.0 i x.1)) (named_at_most_once num tree image NOTHING_MADE s st x.0 x.2);
-    links = λ i lt used. let x = node_of_used num tree image NOTHING_MADE s st i lt used in (st.each x.0 i x.1).links ∙ sym (links_shown num tree image NOTHING_MADE s st may x.0 i x.1);
+    children = λ i is. let x = node_of_directory num tree image NOTHING_MADE s st i is in
+        stand (image.seen i).slots
+        (each_found (MayName image) (image.seen i).slots (st.each x.0 i x.1).once
+        (λ row found. may_name num tree image NOTHING_MADE s st x.0 i x.1 row found));
+    named_once = λ i is. let x = node_of_directory num tree image NOTHING_MADE s st i is in
+        subst (λ (k : ℕ). k ≤ 1) (sym (naming_renamed num tree (ruled_tree image) (shown_renamed num tree image NOTHING_MADE s st) x.0 i x.1))
+        (named_at_most_once num tree image NOTHING_MADE s st x.0 x.2);
+    links = λ i lt used. let x = node_of_used num tree image NOTHING_MADE s st i lt used in
+        (st.each x.0 i x.1).links ∙ sym (links_shown num tree image NOTHING_MADE s st may x.0 i x.1);
     reached = λ i is. let x = node_of_directory num tree image NOTHING_MADE s st i is in reached_shown num tree image NOTHING_MADE s st may x.0 i x.1 x.2;
   }
     where
       len_part : (test : List ℕ → Bool) (x i : ℕ) → num x ≡ Some i
           → len (Rattle.sfs_tree.specs.Tree.names_where i test (image_rows image)) ≡ len (Rattle.sfs_tree.specs.Tree.names_where x test tree.rows)
       len_part test x i is =
-          len-entries _ ∙ ap length (part_renamed num tree (ruled_tree image) (shown_renamed num tree image NOTHING_MADE s st) test x i is) ∙ length-map (entries (Rattle.sfs_tree.specs.Tree.names_where x test tree.rows)) (with_value (inode_under num)) ∙ sym (len-entries _)
+          len-entries _ ∙ ap length (part_renamed num tree (ruled_tree image) (shown_renamed num tree image NOTHING_MADE s st) test x i is)
+          ∙ length-map (entries (Rattle.sfs_tree.specs.Tree.names_where x test tree.rows)) (with_value (inode_under num)) ∙ sym (len-entries _)
 
       stand_at : (slot : Option Row) → OnRow (MayName image) slot → MayStand image slot
       stand_at None h = tt

@@ -35,7 +35,8 @@ use Rattle.image_tree.proofs.Mounted.{sound_shown, limits_where, rules_make_stan
 use Rattle.image_tree.proofs.Parts.{gathered_whole, shows_by_kind, holds_apart, root_shown}
 
 -- the nodes of a tree of inodes have the numbers of these, and no core has made one
-pub numbered : (inodes : SeenInodes) (share cores : ℕ) → IsNumbered (image_tree inodes (record { first = inodes.count; share = share; made = replicate cores 0 }))
+pub numbered : (inodes : SeenInodes) (share cores : ℕ)
+    → IsNumbered (image_tree inodes (record { first = inodes.count; share = share; made = replicate cores 0 }))
 numbered inodes share cores = record {
   known = λ node some. inl (below node some);
   within = λ core lt. let z = zeros_read cores core in omega arith;
@@ -44,7 +45,8 @@ numbered inodes share cores = record {
     below : (node : ℕ) → IsSome (get (nodes_where (is_node inodes) inodes) node) → node < inodes.count
     below node some = elim (nat_lt node inodes.count) as (λ b. nat_lt node inodes.count ≡ b → node < inodes.count) [
       | true ↦ λ t. ltb-true _ _ t
-      | false ↦ λ t. absurd (none_not_some (get (nodes_where (is_node inodes) inodes) node) (no_node_outside inodes (is_node inodes) node (ltb-false _ _ t)) some)
+      | false ↦
+          λ t. absurd (none_not_some (get (nodes_where (is_node inodes) inodes) node) (no_node_outside inodes (is_node inodes) node (ltb-false _ _ t)) some)
     ] refl
 
 -- Neither the superblock nor a journal of an image has a fault.
@@ -69,19 +71,25 @@ module _ (image : List ℕ) where
 
   module _ (g : IsGood) where
     shows : ShowsByKind inodes
-    shows = shows_by_kind (parts_of layout image) layout.inodes (λ i lt. gathered_whole (image_block image) (settled layout image i)) (λ i lt. g.inodes_good 1 i (omega arith) (omega arith) lt) (λ i lt. g.inodes_good 3 i (omega arith) (omega arith) lt)
+    shows =
+        shows_by_kind (parts_of layout image) layout.inodes (λ i lt. gathered_whole (image_block image) (settled layout image i))
+        (λ i lt. g.inodes_good 1 i (omega arith) (omega arith) lt) (λ i lt. g.inodes_good 3 i (omega arith) (omega arith) lt)
 
     byte_rules : KeepsByteRules inodes
     byte_rules = record {
       root = (some_inodes g.start.super, root_shown (parts_of layout image 0) (g.inodes_good 2 0 (omega arith) (omega arith) (some_inodes g.start.super)));
-      apart = holds_apart (parts_of layout image) layout.inodes (λ i lt. gathered_whole (image_block image) (settled layout image i)) (λ i lt. g.inodes_good 1 i (omega arith) (omega arith) lt) (λ i lt. g.inodes_good 5 i (omega arith) (omega arith) lt);
+      apart =
+          holds_apart (parts_of layout image) layout.inodes (λ i lt. gathered_whole (image_block image) (settled layout image i))
+          (λ i lt. g.inodes_good 1 i (omega arith) (omega arith) lt) (λ i lt. g.inodes_good 5 i (omega arith) (omega arith) lt);
     }
 
     no_tree_fault : KeepsRules inodes → tree_fault (breaks_bytes_of image) inodes ≡ None
     no_tree_fault k = (no_fault_is_rules_kept inodes (breaks_bytes_of image) byte_rules g.inodes_good).1 k
 
     faultless : KeepsRules inodes → fault_of image ≡ None
-    faultless k = by_faults (super_fault_of image) (journal_fault_of layout image) (tree_fault (breaks_bytes_of image) inodes) g.start.super g.start.journals (no_tree_fault k)
+    faultless k =
+        by_faults (super_fault_of image) (journal_fault_of layout image) (tree_fault (breaks_bytes_of image) inodes) g.start.super g.start.journals
+        (no_tree_fault k)
       where
         by_faults : (super : Option ℕ) (journal : Option SlotFault) (tree : Option TreeFault) → super ≡ None → journal ≡ None → tree ≡ None →
             first_of_faults super journal tree ≡ None
@@ -110,14 +118,18 @@ module _ (image : List ℕ) where
       let f = parts_of_none e in
       record {
         start = f.start;
-        inodes_good = λ rule i low high lt. byte_rule rule i high (no_break (breaks_rule (breaks_bytes_of image) inodes) inodes.count f.tree rule i low (omega arith) lt);
+        inodes_good =
+            λ rule i low high lt. byte_rule rule i high (no_break (breaks_rule (breaks_bytes_of image) inodes) inodes.count f.tree rule i low (omega arith) lt);
       }
     where
       byte_rule : (rule i : ℕ) → rule ≤ 7 → breaks_rule (breaks_bytes_of image) inodes rule i ≡ false → breaks_bytes_of image rule i ≡ false
-      byte_rule rule i high e = elim (nat_lt 7 rule) as (λ b. nat_lt 7 rule ≡ b → cond b (Rattle.image_tree.specs.Rules.breaks_tree_rule inodes rule i) (breaks_bytes_of image rule i) ≡ false → breaks_bytes_of image rule i ≡ false) [
-        | true ↦ λ t _. absurd (let lt = ltb-true _ _ t in omega arith)
-        | false ↦ λ t h. h
-      ] refl e
+      byte_rule rule i high e =
+          elim (nat_lt 7 rule) as (λ b. nat_lt 7 rule ≡ b
+          → cond b (Rattle.image_tree.specs.Rules.breaks_tree_rule inodes rule i) (breaks_bytes_of image rule i) ≡ false
+          → breaks_bytes_of image rule i ≡ false) [
+            | true ↦ λ t _. absurd (let lt = ltb-true _ _ t in omega arith)
+            | false ↦ λ t h. h
+          ] refl e
 
   rules_kept : fault_of image ≡ None → KeepsRules inodes
   rules_kept e = let g = good_bytes e in (no_fault_is_rules_kept inodes (breaks_bytes_of image) (byte_rules g) g.inodes_good).0 (parts_of_none e).tree
@@ -133,7 +145,9 @@ module _ (image : List ℕ) where
     root_good : (i : ℕ) → breaks_root (parts_of layout image i) i ≡ false
     root_good i = elim (nat_eq i 0) as (λ b. nat_eq i 0 ≡ b → (b && not (is_directory_part (parts_of layout image i))) ≡ false) [
       | false ↦ λ _. refl
-      | true ↦ λ t. ap (λ (j : ℕ). not (is_directory_part (parts_of layout image j))) (eqb-true _ _ t) ∙ ap not (eq-eqb _ _ ((is.stands.each 0 0 is.stands.root).kind ∙ ap kind_byte (directory_kind tree 0 is.sound.root)))
+      | true ↦
+          λ t. ap (λ (j : ℕ). not (is_directory_part (parts_of layout image j))) (eqb-true _ _ t)
+          ∙ ap not (eq-eqb _ _ ((is.stands.each 0 0 is.stands.root).kind ∙ ap kind_byte (directory_kind tree 0 is.sound.root)))
     ] refl
 
     apart_good : (i : ℕ) → i < layout.inodes → breaks_apart (parts_of layout image) i ≡ false
@@ -156,8 +170,16 @@ trees_of_images_are_mounted image share tree is =
     let f = no_fault image share tree (fault_of image) refl is in
     let k = rules_kept image f.0 in
     record {
-      sound = subst IsSoundTree f.1 (record { sound = sound_shown (image_inodes image) (making_at_mount image share) k; numbered = numbered (image_inodes image) share (layout_of image).cores });
-      limits = subst IsWithinLimits f.1 (limits_where (image_inodes image) (is_node (image_inodes image)) (directory_is_node (image_inodes image)) (making_at_mount image share) (shows image (good_bytes image f.0)).directories k);
+      sound =
+          subst IsSoundTree f.1
+          (record {
+            sound = sound_shown (image_inodes image) (making_at_mount image share) k;
+            numbered = numbered (image_inodes image) share (layout_of image).cores;
+          });
+      limits =
+          subst IsWithinLimits f.1
+          (limits_where (image_inodes image) (is_node (image_inodes image)) (directory_is_node (image_inodes image)) (making_at_mount image share)
+          (shows image (good_bytes image f.0)).directories k);
       itself = rules_make_standing (image_inodes image) (making_at_mount image share) k (shows image (good_bytes image f.0));
     }
 
@@ -203,12 +225,18 @@ module _ (divided : Layout) (parts others : ℕ → Part) (i : ℕ) (same : part
       ∙ sym (ap (λ b. by_rule (others i) (breaks_apart others i) b) (not_same rule 5 other))
     where
       by_rule : Part → Bool → Bool → Bool
-      by_rule part apart fifth = cond (nat_eq rule 1) (breaks_record part) (cond (nat_eq rule 2) (breaks_root part i) (cond (nat_eq rule 3) (breaks_size part) (cond (nat_eq rule 4) (breaks_pointers divided part) (cond fifth apart (cond (nat_eq rule 6) (breaks_tail part) (nat_eq rule 7 && breaks_slots part))))))
+      by_rule part apart fifth =
+          cond (nat_eq rule 1) (breaks_record part)
+          (cond (nat_eq rule 2) (breaks_root part i)
+          (cond (nat_eq rule 3) (breaks_size part)
+          (cond (nat_eq rule 4) (breaks_pointers divided part)
+          (cond fifth apart (cond (nat_eq rule 6) (breaks_tail part) (nat_eq rule 7 && breaks_slots part))))))
 
 pub standing_parts_are_read : StandingPartsAreRead
 standing_parts_are_read divided opened parts image share num tree p =
     let read = read_as divided opened parts image p.image_of in
-    let settles : (i : ℕ) → i < (layout_of image).inodes → parts_of (layout_of image) image i ≡ with_opened divided opened parts i = subst (λ (l : Layout). (i : ℕ) → i < l.inodes → parts_of l image i ≡ with_opened divided opened parts i) (sym p.image_of.divided) read.settles in
+    let settles : (i : ℕ) → i < (layout_of image).inodes → parts_of (layout_of image) image i ≡ with_opened divided opened parts i =
+    subst (λ (l : Layout). (i : ℕ) → i < l.inodes → parts_of l image i ≡ with_opened divided opened parts i) (sym p.image_of.divided) read.settles in
     let count = ap (λ (l : Layout). l.inodes) p.image_of.divided in
     standing_images_are_read image share num tree (record {
       super = read.super;
@@ -220,5 +248,7 @@ standing_parts_are_read divided opened parts image share num tree p =
     }) (record {
       sound = p.stands.sound;
       storable = p.stands.storable;
-      stands = stands_alike num tree (inodes_shown divided (with_opened divided opened parts)) (image_inodes image) count (λ i lt. ap seen_of (settles i lt)) p.stands.stands;
+      stands =
+          stands_alike num tree (inodes_shown divided (with_opened divided opened parts)) (image_inodes image) count
+          (λ i lt. ap seen_of (settles i lt)) p.stands.stands;
     })

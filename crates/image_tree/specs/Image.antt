@@ -72,7 +72,8 @@ pub record HasGoodBytes (image : List ℕ) : Type 0 where
 
 -- An image stands for parts, with these journal slots open; and these parts, with what the open slots give, have good bytes and show
 -- inodes that stand for a sound tree.
-pub record PartsStandForTree (layout : Layout) (opened : ℕ → Option Transaction) (parts : ℕ → Part) (image : List ℕ) (num : Numbering) (tree : TreeState) : Type 0 where
+pub record PartsStandForTree (layout : Layout) (opened : ℕ → Option Transaction) (parts : ℕ → Part) (image : List ℕ) (num : Numbering)
+    (tree : TreeState) : Type 0 where
   pub image_of : IsImageOf layout opened parts image
   pub bytes : HaveGoodBytes layout (with_opened layout opened parts)
   pub stands : StandsForSoundTree num tree (inodes_shown layout (with_opened layout opened parts))

@@ -44,7 +44,8 @@ pub record ShowsTree (tree : TreeState) (image : SeenInodes) (making : Making) :
 
 -- An image that stands for a sound tree shows it.
 abbrev pub StandingImagesShow : Type 0
-StandingImagesShow = (num : Numbering) (tree : TreeState) (image : SeenInodes) (making : Making) → StandsForSoundTree num tree image → ShowsTree tree image making
+StandingImagesShow =
+    (num : Numbering) (tree : TreeState) (image : SeenInodes) (making : Making) → StandsForSoundTree num tree image → ShowsTree tree image making
 
 -- what a commit leaves where an image stood for a tree: it stands for the next tree, and shows it
 pub record LeavesTree (commit : Commit) (new : TreeState) (next : SeenInodes) (making : Making) : Type 0 where
@@ -74,7 +75,8 @@ no_commit num = record { before = num; after = num; concerns = λ _. false; nets
 
 -- A commit that concerns nothing is a step from each image that stands for a sound tree to itself.
 abbrev pub NoCommitIsAStep : Type 0
-NoCommitIsAStep = (num : Numbering) (tree : TreeState) (image : SeenInodes) → StandsForSoundTree num tree image → IsCommitStep (no_commit num) tree tree image image
+NoCommitIsAStep =
+    (num : Numbering) (tree : TreeState) (image : SeenInodes) → StandsForSoundTree num tree image → IsCommitStep (no_commit num) tree tree image image
 
 -- What a commit makes of an image is a commit.
 abbrev pub MadeImagesAreCommits : Type 0
@@ -89,7 +91,9 @@ GrantsGiveNumbers = (commit : Commit) (image : SeenInodes) (leaves : ℕ → Boo
 
 -- A node that a commit does not concern is left as it is, where the commit concerns all that its nets change and keeps its bytes.
 abbrev pub UnconcernedNodesStay : Type 0
-UnconcernedNodesStay = (commit : Commit) (old new : TreeState) (node : ℕ) → ((directory : ℕ) → IsNet (names_of directory old.rows) (names_of directory new.rows) (commit.nets directory))
+UnconcernedNodesStay =
+    (commit : Commit) (old new : TreeState) (node : ℕ)
+    → ((directory : ℕ) → IsNet (names_of directory old.rows) (names_of directory new.rows) (commit.nets directory))
     → ConcernsItsChanges commit old new → commit.concerns node ≡ false → bytes_of new node ≡ bytes_of old node → IsAside old new node
 
 -- A commit that was planned in one state is one in each other state that agrees with it on what it concerns.
@@ -136,7 +140,8 @@ SlotBlocksShow = (part : Part) (slots : List (Option Row)) → HasSlotBlocks par
 
 -- A block of a directory without rows is read from a hole, which reads as zeros.
 abbrev pub EmptyBlocksAreHoles : Type 0
-EmptyBlocksAreHoles = (n : ℕ) (slots : List (Option Row)) → list_all is_none (slots_in_block n slots) ≡ true → slots_of (zeros BLOCK_BYTES) ≡ slots_in_block n slots
+EmptyBlocksAreHoles =
+    (n : ℕ) (slots : List (Option Row)) → list_all is_none (slots_in_block n slots) ≡ true → slots_of (zeros BLOCK_BYTES) ≡ slots_in_block n slots
 
 -- The part of a file whose blocks have some bytes shows these.
 abbrev pub ByteBlocksShow : Type 0
@@ -168,7 +173,8 @@ FreeInodesBreakNoTreeRule = (image : SeenInodes) (rule i : ℕ) → (image.seen 
 
 -- An orphan of link count 0 breaks no rule across inodes.
 abbrev pub OrphansBreakNoTreeRule : Type 0
-OrphansBreakNoTreeRule = (image : SeenInodes) (rule i : ℕ) → i < image.count → is_orphan image i ≡ true → (image.seen i).links ≡ 0 → breaks_tree_rule image rule i ≡ false
+OrphansBreakNoTreeRule =
+    (image : SeenInodes) (rule i : ℕ) → i < image.count → is_orphan image i ≡ true → (image.seen i).links ≡ 0 → breaks_tree_rule image rule i ≡ false
 
 -- An image that has a tree is mounted: its tree is sound and within its limits, and it stands for it.
 abbrev pub TreesOfImagesAreMounted : Type 0

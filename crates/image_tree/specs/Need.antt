@@ -61,7 +61,8 @@ abbrev pub pointer_after : Rewrite → (ℕ → ℕ) → ℕ → ℕ
 pointer_after rewrite fresh place =
     if nat_lt place FILE_BLOCKS
     then (if rewrite.is_rewritten place then (if rewrite.is_zero place then 0 else fresh place) else rewrite.pointers place)
-    else (if rewrites_table rewrite (place - FILE_BLOCKS) then (if table_has_pointer rewrite (place - FILE_BLOCKS) then fresh place else 0) else rewrite.pointers place)
+    else (if rewrites_table rewrite (place - FILE_BLOCKS) then (if table_has_pointer rewrite (place - FILE_BLOCKS) then fresh place else 0)
+    else rewrite.pointers place)
 
 -- the places of several inodes in one row: those of the first, then those of the second, and so on
 abbrev pub place_in_row : ℕ → ℕ → ℕ

@@ -87,9 +87,11 @@ module _ (job : Job) (is : IsJob job) where
   fresh_from_body : (j k : ℕ) → j < length job.fresh → length job.fresh ≤ k → AreApart (fill_piece job j) (fill_piece job k)
   fresh_from_body j k lt le =
       let lies = body_lies job is (k - length job.fresh) in
-      subst (λ (p : Piece). AreApart (fill_piece job j) p) (sym (body_is job is k le)) (inr (omega (arith, data_behind j lt, lies.begins, lies.fits, slot_ends job is)))
+      subst (λ (p : Piece). AreApart (fill_piece job j) p) (sym (body_is job is k le))
+      (inr (omega (arith, data_behind j lt, lies.begins, lies.fits, slot_ends job is)))
 
-  fresh_from_fresh : (j k : ℕ) → j ≢ k → HaveOwnBlocks job.fresh → j < length job.fresh → k < length job.fresh → length (fill_piece job j).bytes ≡ 4096 → length (fill_piece job k).bytes ≡ 4096
+  fresh_from_fresh : (j k : ℕ) → j ≢ k → HaveOwnBlocks job.fresh → j < length job.fresh → k < length job.fresh → length (fill_piece job j).bytes ≡ 4096
+      → length (fill_piece job k).bytes ≡ 4096
       → AreApart (fill_piece job j) (fill_piece job k)
   fresh_from_fresh j k other own low high whole_j whole_k =
       let at_j : (fill_piece job j).at ≡ 4096 * (get_or job.fresh j no_block).block = ap (λ (p : Piece). p.at) (fresh_is job is j low) in

@@ -15,7 +15,8 @@ use Rattle.journal_one.specs.Laws.{job_body, HasPieces, HasBodyOf}
 use Rattle.journal_one.proofs.Places.{body_is, body_lies, length-numbers, length-records, length-head, entry_long, few_entries}
 
 -- a part of bytes that stand
-part_of_standing : (piece : Piece) (image : List ℕ) (off n : ℕ) → IsWrittenIn piece image → off + n ≤ length piece.bytes → part (piece.at + off) n image ≡ part off n piece.bytes
+part_of_standing : (piece : Piece) (image : List ℕ) (off n : ℕ) → IsWrittenIn piece image → off + n ≤ length piece.bytes
+    → part (piece.at + off) n image ≡ part off n piece.bytes
 part_of_standing piece image off n stands within = sym (part-part off n piece.at (length piece.bytes) image within) ∙ ap (part off n) stands
 
 module _ (job : Job) (image : List ℕ) (is : IsJob job) (has : HasPieces job image) where
@@ -29,7 +30,8 @@ module _ (job : Job) (image : List ℕ) (is : IsJob job) (has : HasPieces job im
       (subst (λ (p : Piece). IsWrittenIn p image) (body_is job is (length job.fresh + k) (omega arith)) (has (length job.fresh + k) (omega arith)))
 
   -- a part of the slot is one of the image
-  in_slot : (from n : ℕ) → from + n ≤ 4096 * slot_blocks job.place.layout.inodes → part from n slot ≡ part (slot_byte job.place.layout job.place.slot + from) n image
+  in_slot : (from n : ℕ) → from + n ≤ 4096 * slot_blocks job.place.layout.inodes
+      → part from n slot ≡ part (slot_byte job.place.layout job.place.slot + from) n image
   unfolding slot
   in_slot from n within = part-part from n (slot_byte job.place.layout job.place.slot) (4096 * slot_blocks job.place.layout.inodes) image within
 
@@ -40,7 +42,8 @@ module _ (job : Job) (image : List ℕ) (is : IsJob job) (has : HasPieces job im
       part-part (512 + from) n 0 4096 slot (omega arith)
       ∙ ap (λ (k : ℕ). part k n slot) (let e : 0 + (512 + from) ≡ 512 + from = omega arith in e)
       ∙ in_slot (512 + from) n (omega arith)
-      ∙ ap (λ (k : ℕ). part k n image) (let e : slot_byte job.place.layout job.place.slot + (512 + from) ≡ slot_byte job.place.layout job.place.slot + 512 + from = omega arith in e)
+      ∙ ap (λ (k : ℕ). part k n image)
+      (let e : slot_byte job.place.layout job.place.slot + (512 + from) ≡ slot_byte job.place.layout job.place.slot + 512 + from = omega arith in e)
       ∙ part_of_standing (head_piece job) image from n (body_stands 2 (omega arith)) (omega (arith, length-head job is))
 
   few : length job.entries ≤ job.place.layout.inodes
@@ -78,14 +81,17 @@ module _ (job : Job) (image : List ℕ) (is : IsJob job) (has : HasPieces job im
   pub body_read : HasBodyOf job image
   unfolding slot
   body_read =
-      let again = read_again job.place.layout.inodes job.entries slot (omega (arith, is.place.fits.ranges.inodes_high)) is.are (ranges_have job.place.layout.inodes job.entries slot ranges) in
+      let again =
+      read_again job.place.layout.inodes job.entries slot (omega (arith, is.place.fits.ranges.inodes_high)) is.are
+      (ranges_have job.place.layout.inodes job.entries slot ranges) in
       let entries = again.again in
       let stamp = stamp_read in
       record { count = again.count; numbers = again.sound; body = λ i. record { stamp = stamp i; entries = entries i } }
 
   -- what an open slot settles
   pub slot_settles : (i : ℕ) (ours : Stamped (List ℕ)) → IsOpenIn job.place image → record_in i (job_body job) ≡ Some ours
-      → ((k : ℕ) (other : Stamped (List ℕ)) → k < slot_count job.place.layout → k ≢ job.place.slot → record_at job.place.layout image i k ≡ Some other → other.stamp < ours.stamp)
+      → ((k : ℕ) (other : Stamped (List ℕ)) → k < slot_count job.place.layout → k ≢ job.place.slot → record_at job.place.layout image i k ≡ Some other
+      → other.stamp < ours.stamp)
       → settled job.place.layout image i ≡ ours.value
   slot_settles i ours opened gives others =
       let here : record_at job.place.layout image i job.place.slot ≡ Some ours =

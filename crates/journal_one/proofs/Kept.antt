@@ -53,7 +53,8 @@ module _ (piece : Piece) (old new : View) (large : piece.at + length piece.bytes
   -- a write touches its own bytes alone
   pub written_touches : {V E : Type 0} (result : Result V E) → IsWrite piece old new result → Touches piece old new
   written_touches (Ok value) is = record { left = is.torn; read = touched_ok is.ok }
-  written_touches (Err fault) is = record { left = is.torn; read = λ content told. told_before piece.at (length piece.bytes) old.content new.content content is.err told }
+  written_touches (Err fault) is =
+      record { left = is.torn; read = λ content told. told_before piece.at (length piece.bytes) old.content new.content content is.err told }
 
   -- and after Ok they stand
   pub written_stands : new.content ≡ option_map (put piece.at piece.bytes) old.content → Reads new (IsWrittenIn piece)
@@ -102,21 +103,25 @@ leaves_from_reads disk P calm knows content told image left =
     subst P (sym (sole image left)) (knows content told)
 
 -- bytes that stand go on standing through a write elsewhere
-pub stands_kept : (written piece : Piece) (was image : List ℕ) → AreApart written piece → SameOutside written.at (length written.bytes) was image → IsWrittenIn piece was → IsWrittenIn piece image
+pub stands_kept : (written piece : Piece) (was image : List ℕ) → AreApart written piece → SameOutside written.at (length written.bytes) was image
+    → IsWrittenIn piece was → IsWrittenIn piece image
 stands_kept written piece was image apart same stands = part_apart piece.at (length piece.bytes) written.at (length written.bytes) was image apart same ∙ stands
 
 -- the gate is one byte of the slot
-pub gate_is : (place : Place) (image : List ℕ) → (head_of (part 0 4096 (journal_slot place.layout image place.slot))).gate ≡ eqb (slice_index (part (slot_byte place.layout place.slot) 1 image) 0) 1
+pub gate_is : (place : Place) (image : List ℕ)
+    → (head_of (part 0 4096 (journal_slot place.layout image place.slot))).gate ≡ eqb (slice_index (part (slot_byte place.layout place.slot) 1 image) 0) 1
 gate_is place image =
     let size = 4096 * slot_blocks place.layout.inodes in
     let at = slot_byte place.layout place.slot in
-    let front : part 0 1 (part at size image) ≡ part at 1 image = part-part 0 1 at size image (omega arith) ∙ ap (λ (k : ℕ). part k 1 image) (let e : at + 0 ≡ at = omega arith in e) in
+    let front : part 0 1 (part at size image) ≡ part at 1 image =
+    part-part 0 1 at size image (omega arith) ∙ ap (λ (k : ℕ). part k 1 image) (let e : at + 0 ≡ at = omega arith in e) in
     let byte : slice_index (part at size image) 0 ≡ slice_index (part at 1 image) 0 =
     sym (get_or-take 1 (part at size image) 0 0 (omega arith)) ∙ ap (λ (l : List ℕ). slice_index l 0) front in
     ap (λ (b : ℕ). eqb b 1) (gate_byte (part at size image) ∙ byte)
 
 -- it stays through a write elsewhere
-pub gate_stays : (place : Place) (written : Piece) (byte : ℕ) (was image : List ℕ) → AreApart written (gate_piece place byte) → SameOutside written.at (length written.bytes) was image
+pub gate_stays : (place : Place) (written : Piece) (byte : ℕ) (was image : List ℕ) → AreApart written (gate_piece place byte)
+    → SameOutside written.at (length written.bytes) was image
     → (head_of (part 0 4096 (journal_slot place.layout image place.slot))).gate ≡ (head_of (part 0 4096 (journal_slot place.layout was place.slot))).gate
 gate_stays place written byte was image apart same =
     gate_is place image
@@ -124,11 +129,13 @@ gate_stays place written byte was image apart same =
     ∙ sym (gate_is place was)
 
 -- and is what was put there
-pub gate_put : (place : Place) (byte : ℕ) (image : List ℕ) → IsWrittenIn (gate_piece place byte) image → (head_of (part 0 4096 (journal_slot place.layout image place.slot))).gate ≡ eqb byte 1
+pub gate_put : (place : Place) (byte : ℕ) (image : List ℕ) → IsWrittenIn (gate_piece place byte) image
+    → (head_of (part 0 4096 (journal_slot place.layout image place.slot))).gate ≡ eqb byte 1
 gate_put place byte image stands = gate_is place image ∙ ap (λ (l : List ℕ). eqb (slice_index l 0) 1) stands
 
 -- a write that answered Ok is that write, whatever value comes with it
-pub write_ok : {V W E F : Type 0} (piece : Piece) (old new : View) (value : V) (other : W) → IsWrite {V = V} {E = E} piece old new (Ok value) → IsWrite {V = W} {E = F} piece old new (Ok other)
+pub write_ok : {V W E F : Type 0} (piece : Piece) (old new : View) (value : V) (other : W) → IsWrite {V = V} {E = E} piece old new (Ok value)
+    → IsWrite {V = W} {E = F} piece old new (Ok other)
 write_ok piece old new value other is = record {
   ok = is.ok;
   err = tt;

@@ -37,9 +37,18 @@ packing_more records one numbers bytes long before =
     let inodes : map inode_of_entry (map record_entry (records ++ one ∷ [])) ≡ map inode_of_entry (map record_entry records) ++ one.inode ∷ [] =
     ap (map inode_of_entry) more ∙ map-append inode_of_entry (map record_entry records) (record_entry one ∷ []) in
     record {
-      long = subst (All IsLong) (sym more) (All-append IsLong (map record_entry records) (record_entry one ∷ []) before.long (one_long (record_entry one) long));
-      numbered = ap (λ (l : List ℕ). l ++ u32_bytes one.inode) before.numbered ∙ sym (ap u32s_bytes inodes ∙ flat_map-append u32_bytes (map inode_of_entry (map record_entry records)) (one.inode ∷ []) ∙ ap (λ (l : List ℕ). u32s_bytes (map inode_of_entry (map record_entry records)) ++ l) (append-nil (u32_bytes one.inode)));
-      laid = ap (λ (l : List ℕ). l ++ one.bytes) before.laid ∙ sym (ap (flat_map bytes_of_entry) more ∙ flat_map-append bytes_of_entry (map record_entry records) (record_entry one ∷ []) ∙ ap (λ (l : List ℕ). flat_map bytes_of_entry (map record_entry records) ++ l) (append-nil one.bytes));
+      long =
+          subst (All IsLong) (sym more) (All-append IsLong (map record_entry records) (record_entry one ∷ []) before.long (one_long (record_entry one) long));
+      numbered =
+          ap (λ (l : List ℕ). l ++ u32_bytes one.inode) before.numbered
+          ∙ sym
+          (ap u32s_bytes inodes ∙ flat_map-append u32_bytes (map inode_of_entry (map record_entry records)) (one.inode ∷ [])
+          ∙ ap (λ (l : List ℕ). u32s_bytes (map inode_of_entry (map record_entry records)) ++ l) (append-nil (u32_bytes one.inode)));
+      laid =
+          ap (λ (l : List ℕ). l ++ one.bytes) before.laid
+          ∙ sym
+          (ap (flat_map bytes_of_entry) more ∙ flat_map-append bytes_of_entry (map record_entry records) (record_entry one ∷ [])
+          ∙ ap (λ (l : List ℕ). flat_map bytes_of_entry (map record_entry records) ++ l) (append-nil one.bytes));
     }
 
 map_inodes : (records : List TxRecord) → map inode_of_entry (map record_entry records) ≡ map (λ (one : TxRecord). one.inode) records
@@ -55,7 +64,8 @@ abbrev pub no_tx_block : TxBlock
 no_tx_block = record { block = 0; bytes = [] }
 
 -- a loop's turn
-pub packing_next : (items : List TxRecord) (i : ℕ) (numbers bytes new_numbers new_bytes : List ℕ) → i < length items → length (get_or items i no_record).bytes ≡ 512
+pub packing_next : (items : List TxRecord) (i : ℕ) (numbers bytes new_numbers new_bytes : List ℕ) → i < length items
+    → length (get_or items i no_record).bytes ≡ 512
     → new_numbers ≡ numbers ++ u32_bytes (get_or items i no_record).inode → new_bytes ≡ bytes ++ (get_or items i no_record).bytes
     → Packing (take i items) numbers bytes → Packing (take (i + 1) items) new_numbers new_bytes
 packing_next items i numbers bytes new_numbers new_bytes lt long added laid before =
@@ -63,7 +73,8 @@ packing_next items i numbers bytes new_numbers new_bytes lt long added laid befo
     let grown : take (i + 1) items ≡ take i items ++ one ∷ [] = take_more items i no_record lt in
     subst (λ (l : List TxRecord). Packing l new_numbers new_bytes) (sym grown)
     (subst (λ (l : List ℕ). Packing (take i items ++ one ∷ []) l new_bytes) (sym added)
-    (subst (λ (l : List ℕ). Packing (take i items ++ one ∷ []) (numbers ++ u32_bytes one.inode) l) (sym laid) (packing_more (take i items) one numbers bytes long before)))
+    (subst (λ (l : List ℕ). Packing (take i items ++ one ∷ []) (numbers ++ u32_bytes one.inode) l) (sym laid)
+    (packing_more (take i items) one numbers bytes long before)))
 
 -- all records are packed
 pub packed_all : (records : List TxRecord) (fresh : List FreshBlock) (numbers bytes : List ℕ) (i : ℕ) → length records ≤ i → 0 < length records

@@ -28,7 +28,8 @@ few_entries inodes entries are =
     let as_many : length (map inode entries) ≡ length entries = length-map entries inode in
     few_below (length entries) inodes (λ k. get_or (map inode entries) k 0)
     (λ k h. place_below (map inode entries) k are.ascend (omega (arith, as_many)))
-    (λ k h. subst (λ (i : ℕ). i < inodes) (sym (get_or-map inode entries k no_entry 0 h)) (All-get_or (λ (entry : Entry). entry.inode < inodes) entries k no_entry h are.below))
+    (λ k h. subst (λ (i : ℕ). i < inodes) (sym (get_or-map inode entries k no_entry 0 h))
+    (All-get_or (λ (entry : Entry). entry.inode < inodes) entries k no_entry h are.below))
 
 module _ (job : Job) (is : IsJob job) where
   layout : Layout
@@ -53,13 +54,22 @@ module _ (job : Job) (is : IsJob job) where
       ∙ ap (λ (n : ℕ). 4 * n) (length-map job.entries (λ (entry : Entry). entry.inode))
 
   pub length-records : length (records_piece job).bytes ≡ 512 * length job.entries
-  length-records = length-pieces (λ (entry : Entry). entry.bytes) 512 no_entry job.entries (λ j h. All-get_or (λ (entry : Entry). length entry.bytes ≡ 512) job.entries j no_entry h is.long)
+  length-records =
+      length-pieces (λ (entry : Entry). entry.bytes) 512 no_entry job.entries
+      (λ j h. All-get_or (λ (entry : Entry). length entry.bytes ≡ 512) job.entries j no_entry h is.long)
 
   pub length-head : length (head_piece job).bytes ≡ 16
-  length-head = omega (arith, length-append (u32_bytes (length job.entries) ++ zeros 4) (u64_bytes job.stamp), length-append (u32_bytes (length job.entries)) (zeros 4), length-zeros 4)
+  length-head =
+      omega (
+        arith,
+        length-append (u32_bytes (length job.entries) ++ zeros 4) (u64_bytes job.stamp),
+        length-append (u32_bytes (length job.entries)) (zeros 4),
+        length-zeros 4,
+      )
 
   pub head_lies : LiesInSlot job.place (head_piece job)
-  head_lies = record { from = 512; begins = refl; behind = omega arith; fits = omega (arith, length-head, last_number, last_record); some = omega (arith, length-head) }
+  head_lies =
+      record { from = 512; begins = refl; behind = omega arith; fits = omega (arith, length-head, last_number, last_record); some = omega (arith, length-head) }
 
   pub numbers_lie : LiesInSlot job.place (numbers_piece job)
   numbers_lie = record {
@@ -118,7 +128,8 @@ module _ (job : Job) (is : IsJob job) where
   entry_long k lt = All-get_or (λ (entry : Entry). length entry.bytes ≡ 512) job.entries k no_entry lt is.long
 
   -- a record of the table ends before the data
-  pub record_ends : (k : ℕ) → k < length job.entries → table_byte job.place.layout (get_or job.entries k no_entry).inode + 512 ≤ 4096 * data_start job.place.layout
+  pub record_ends : (k : ℕ) → k < length job.entries
+      → table_byte job.place.layout (get_or job.entries k no_entry).inode + 512 ≤ 4096 * data_start job.place.layout
   record_ends k lt = (divided job.place.layout).table (get_or job.entries k no_entry).inode (entry_below k lt)
 
   pub table_within : (k : ℕ) → k < length job.entries → (table_piece job k).at + length (table_piece job k).bytes ≤ 4096 * job.place.layout.blocks

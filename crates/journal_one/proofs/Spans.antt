@@ -58,16 +58,19 @@ module _ (at n : ℕ) (old mid new : View) (before : Span at n old mid) (fits : 
       one_more result is.call (λ content told. (content, is.content ∙ told))
       (λ content told image left. (image, rests.left content (is.content ∙ told) image left, SameOutside-refl at n image))
 
-  written_told : {V E : Type 0} (piece : Piece) (result : Result V E) → IsWrite piece mid new result → (content : List ℕ) → mid.content ≡ Some content → (now : List ℕ) × (new.content ≡ Some now)
+  written_told : {V E : Type 0} (piece : Piece) (result : Result V E) → IsWrite piece mid new result → (content : List ℕ) → mid.content ≡ Some content
+      → (now : List ℕ) × (new.content ≡ Some now)
   written_told piece (Ok value) is content told = (put piece.at piece.bytes content, is.ok ∙ ap (option_map (put piece.at piece.bytes)) told)
   written_told piece (Err fault) is content told =
       let torn = subst (λ (t : Option (List ℕ)). TornTold piece.at (length piece.bytes) t new.content) told is.err in
       (torn.0, torn.1)
 
-  pub span_write : {V E : Type 0} (piece : Piece) (result : Result V E) → piece.at ≡ at → length piece.bytes ≡ n → IsWrite piece mid new result → Span at n old new
+  pub span_write : {V E : Type 0} (piece : Piece) (result : Result V E) → piece.at ≡ at → length piece.bytes ≡ n → IsWrite piece mid new result
+      → Span at n old new
   span_write piece result same_at same_n is =
       one_more result is.call (written_told piece result is)
-      (λ content told. subst (λ (k : ℕ). Torn k n (images mid) (images new)) same_at (subst (λ (m : ℕ). Torn piece.at m (images mid) (images new)) same_n is.torn))
+      (λ content told. subst (λ (k : ℕ). Torn k n (images mid) (images new)) same_at
+      (subst (λ (m : ℕ). Torn piece.at m (images mid) (images new)) same_n is.torn))
 
 -- what a row of calls does, as the contracts say it
 pub span_tears : (at n : ℕ) (old new : View) → Span at n old new → TearsOnly at n old new

@@ -17,12 +17,14 @@ Rests-refl disk = record { content = refl; left = λ content told image left. le
 pub on_disk_kept : (n : ℕ) (piece : ℕ → Piece) (written : Piece) (old new : View) → Touches written old new → ((k : ℕ) → k < n → AreApart written (piece k))
     → AreOnDisk n piece old → AreOnDisk n piece new
 on_disk_kept n piece written old new touches apart knows k lt =
-    leaves_kept written old new (IsWrittenIn (piece k)) touches (λ was image same stands. stands_kept written (piece k) was image (apart k lt) same stands) (knows k lt)
+    leaves_kept written old new (IsWrittenIn (piece k)) touches (λ was image same stands. stands_kept written (piece k) was image (apart k lt) same stands)
+    (knows k lt)
 
 pub written_kept : (n : ℕ) (piece : ℕ → Piece) (written : Piece) (old new : View) → Touches written old new → ((k : ℕ) → k < n → AreApart written (piece k))
     → AreWritten n piece old → AreWritten n piece new
 written_kept n piece written old new touches apart knows k lt =
-    reads_kept written old new (IsWrittenIn (piece k)) touches (λ was image same stands. stands_kept written (piece k) was image (apart k lt) same stands) (knows k lt)
+    reads_kept written old new (IsWrittenIn (piece k)) touches (λ was image same stands. stands_kept written (piece k) was image (apart k lt) same stands)
+    (knows k lt)
 
 pub on_disk_rest : (n : ℕ) (piece : ℕ → Piece) (old new : View) → Rests old new → AreOnDisk n piece old → AreOnDisk n piece new
 on_disk_rest n piece old new rests knows k lt = leaves_rest old new (IsWrittenIn (piece k)) rests (knows k lt)
@@ -43,11 +45,13 @@ written_one n piece disk before here k lt =
     ]
 
 -- the gate stays closed, and open, through a write elsewhere
-shut_kept : (place : Place) (written : Piece) (old new : View) → Touches written old new → AreApart written (gate_piece place 0) → EachLeft old (IsShutIn place) → EachLeft new (IsShutIn place)
+shut_kept : (place : Place) (written : Piece) (old new : View) → Touches written old new → AreApart written (gate_piece place 0) → EachLeft old (IsShutIn place)
+    → EachLeft new (IsShutIn place)
 shut_kept place written old new touches apart =
     leaves_kept written old new (IsShutIn place) touches (λ was image same shut. gate_stays place written 0 was image apart same ∙ shut)
 
-open_kept : (place : Place) (written : Piece) (old new : View) → Touches written old new → AreApart written (gate_piece place 0) → EachLeft old (IsOpenIn place) → EachLeft new (IsOpenIn place)
+open_kept : (place : Place) (written : Piece) (old new : View) → Touches written old new → AreApart written (gate_piece place 0) → EachLeft old (IsOpenIn place)
+    → EachLeft new (IsOpenIn place)
 open_kept place written old new touches apart =
     leaves_kept written old new (IsOpenIn place) touches (λ was image same open_then. gate_stays place written 0 was image apart same ∙ open_then)
 
@@ -98,7 +102,8 @@ module _ (job : Job) (is : IsJob job) where
       on_disk_kept (fill_count job) (fill_piece job) (gate_piece job.place byte) old new touches
       (λ k lt. AreApart-swap (fill_piece job k) (gate_piece job.place byte) (apart_from_gate job is k byte))
 
-  copied_kept : (byte : ℕ) (old new : View) → Touches (gate_piece job.place byte) old new → AreOnDisk (length job.entries) (table_piece job) old → AreOnDisk (length job.entries) (table_piece job) new
+  copied_kept : (byte : ℕ) (old new : View) → Touches (gate_piece job.place byte) old new → AreOnDisk (length job.entries) (table_piece job) old
+      → AreOnDisk (length job.entries) (table_piece job) new
   copied_kept byte old new touches =
       on_disk_kept (length job.entries) (table_piece job) (gate_piece job.place byte) old new touches
       (λ k lt. AreApart-swap (table_piece job k) (gate_piece job.place byte) (table_from_gate job is k byte))
@@ -106,7 +111,8 @@ module _ (job : Job) (is : IsJob job) where
   pub opening_doubted : (old new : View) → Touches (gate_piece job.place 1) old new → IsSealed job old → AreFilled job new
   opening_doubted old new touches knows = filled_kept 1 old new touches knows.filled
 
-  pub opened_then : (old new : View) → Touches (gate_piece job.place 1) old new → Reads new (IsWrittenIn (gate_piece job.place 1)) → IsSealed job old → IsOpened job new
+  pub opened_then : (old new : View) → Touches (gate_piece job.place 1) old new → Reads new (IsWrittenIn (gate_piece job.place 1)) → IsSealed job old
+      → IsOpened job new
   opened_then old new touches stands knows = record {
     opened = λ content told. gate_put job.place 1 content (stands content told);
     filled = filled_kept 1 old new touches knows.filled;
@@ -124,12 +130,16 @@ module _ (job : Job) (is : IsJob job) where
       record { opened = leaves_from_reads new (IsOpenIn job.place) calm then.opened; filled = then.filled; placed = λ k lt. absurd (omega arith) }
 
   -- a record that is placed
-  module _ (done : ℕ) (old new : View) (touches : Touches (table_piece job done) old new) (within : done < length job.entries) (knows : IsDurable job done old) where
+  module _ (done : ℕ) (old new : View) (touches : Touches (table_piece job done) old new) (within : done < length job.entries)
+      (knows : IsDurable job done old) where
     pub durable_kept : IsDurable job done new
     durable_kept = record {
       opened = open_kept job.place (table_piece job done) old new touches (table_from_gate job is done 0) knows.opened;
-      filled = on_disk_kept (fill_count job) (fill_piece job) (table_piece job done) old new touches (λ k lt. table_from_fill job is done k within) knows.filled;
-      placed = written_kept done (table_piece job) (table_piece job done) old new touches (λ k lt. tables_apart job is done k (λ same. let e = same in omega arith) within (omega arith)) knows.placed;
+      filled =
+          on_disk_kept (fill_count job) (fill_piece job) (table_piece job done) old new touches (λ k lt. table_from_fill job is done k within) knows.filled;
+      placed =
+          written_kept done (table_piece job) (table_piece job done) old new touches
+          (λ k lt. tables_apart job is done k (λ same. let e = same in omega arith) within (omega arith)) knows.placed;
     }
 
     pub durable_more : Reads new (IsWrittenIn (table_piece job done)) → IsDurable job (done + 1) new
@@ -151,7 +161,8 @@ module _ (job : Job) (is : IsJob job) where
       let then = durable_rests (length job.entries) old new rests knows in
       record { opened = then.opened; filled = then.filled; copied = on_disk_by_sync (length job.entries) (table_piece job) new calm then.placed }
 
-  pub closing_then : (old new : View) → Touches (gate_piece job.place 0) old new → Reads new (IsWrittenIn (gate_piece job.place 0)) → IsCopied job old → IsClosing job new
+  pub closing_then : (old new : View) → Touches (gate_piece job.place 0) old new → Reads new (IsWrittenIn (gate_piece job.place 0)) → IsCopied job old
+      → IsClosing job new
   closing_then old new touches stands knows = record {
     shut = λ content told. gate_put job.place 0 content (stands content told);
     filled = filled_kept 0 old new touches knows.filled;
@@ -177,7 +188,8 @@ module _ (job : Job) (is : IsJob job) where
 
   pub closing_between : (old new : View) → Rests old new → IsClosing job old → IsBetween job new
   closing_between old new rests knows =
-      between_copied new (on_disk_rest (fill_count job) (fill_piece job) old new rests knows.filled) (on_disk_rest (length job.entries) (table_piece job) old new rests knows.copied)
+      between_copied new (on_disk_rest (fill_count job) (fill_piece job) old new rests knows.filled)
+      (on_disk_rest (length job.entries) (table_piece job) old new rests knows.copied)
 
   pub closing_rests : (old new : View) → Rests old new → IsClosing job old → IsClosing job new
   closing_rests old new rests knows = record {

@@ -11,13 +11,17 @@ use Rattle.log_merge.specs.Merge.{stands_at}
 use Rattle.log_merge.specs.Laws.{ThereIsOneMerge}
 
 at_own : (one : Change) (rest : List Change) → filter (stands_at (log_place one)) (one ∷ rest) ≡ one ∷ filter (stands_at (log_place one)) rest
-at_own one rest = cond-true (stands_at (log_place one) one) (one ∷ filter (stands_at (log_place one)) rest) (filter (stands_at (log_place one)) rest) (same_number (log_place one))
+at_own one rest =
+    cond-true (stands_at (log_place one) one) (one ∷ filter (stands_at (log_place one)) rest) (filter (stands_at (log_place one)) rest)
+    (same_number (log_place one))
 
 -- a list with a change at a place has one that stands there
-first_at : (place : ℕ) (change : Change) (changes rest : List Change) → filter (stands_at place) changes ≡ change ∷ rest → (low : ℕ) → All (λ one. low ≤ log_place one) changes → low ≤ log_place change
+first_at : (place : ℕ) (change : Change) (changes rest : List Change) → filter (stands_at place) changes ≡ change ∷ rest → (low : ℕ)
+    → All (λ one. low ≤ log_place one) changes → low ≤ log_place change
 first_at place change [] rest e low all = absurd (cc)
 first_at place change (one ∷ changes) rest e low all =
-    elim (stands_at place one) as (λ b. cond b (one ∷ filter (stands_at place) changes) (filter (stands_at place) changes) ≡ change ∷ rest → low ≤ log_place change) [
+    elim (stands_at place one) as (λ b. cond b (one ∷ filter (stands_at place) changes) (filter (stands_at place) changes) ≡ change ∷ rest
+    → low ≤ log_place change) [
       | true ↦ λ found. let same : one ≡ change = cc in subst (λ c. low ≤ log_place c) same (All-head (λ one. low ≤ log_place one) one changes all)
       | false ↦ λ found. first_at place change changes rest found low (All-tail (λ one. low ≤ log_place one) one changes all)
     ] e
@@ -32,10 +36,15 @@ SamePlaces changes other = (place : ℕ) → filter (stands_at place) changes �
 none_same : (change : Change) (rest : List Change) → SamePlaces [] (change ∷ rest) → ⊥
 none_same change rest same = let found = same (log_place change) ∙ at_own change rest in cc
 
-first_same : (one : Change) (rest : List Change) (other : Change) (others : List Change) → IsInOrder (one ∷ rest) → IsInOrder (other ∷ others) → SamePlaces (one ∷ rest) (other ∷ others) → one ≡ other
+first_same : (one : Change) (rest : List Change) (other : Change) (others : List Change) → IsInOrder (one ∷ rest) → IsInOrder (other ∷ others)
+    → SamePlaces (one ∷ rest) (other ∷ others) → one ≡ other
 first_same one rest other others order other_order same =
-    let low = first_at (log_place one) one (other ∷ others) (filter (stands_at (log_place one)) rest) (sym (same (log_place one)) ∙ at_own one rest) (log_place other) (all_from other others other_order) in
-    let high = first_at (log_place other) other (one ∷ rest) (filter (stands_at (log_place other)) others) (same (log_place other) ∙ at_own other others) (log_place one) (all_from one rest order) in
+    let low =
+    first_at (log_place one) one (other ∷ others) (filter (stands_at (log_place one)) rest) (sym (same (log_place one)) ∙ at_own one rest) (log_place other)
+    (all_from other others other_order) in
+    let high =
+    first_at (log_place other) other (one ∷ rest) (filter (stands_at (log_place other)) others) (same (log_place other) ∙ at_own other others)
+    (log_place one) (all_from one rest order) in
     let level : log_place one ≡ log_place other = omega arith in
     let both = sym (at_own one rest) ∙ same (log_place one) ∙ ap (λ n. filter (stands_at n) (other ∷ others)) level ∙ at_own other others in
     cc
@@ -54,8 +63,10 @@ in_order_once (one ∷ rest) [] order other_order same = absurd (none_same one r
 in_order_once (one ∷ rest) (other ∷ others) order other_order same =
     let first = first_same one rest other others order other_order same in
     let with_first = subst (λ c. SamePlaces (one ∷ rest) (c ∷ others)) (sym first) same in
-    let behind = in_order_once rest others (in_order-drop 1 (one ∷ rest) order) (in_order-drop 1 (other ∷ others) other_order) (rest_same one rest others with_first) in
+    let behind =
+    in_order_once rest others (in_order-drop 1 (one ∷ rest) order) (in_order-drop 1 (other ∷ others) other_order) (rest_same one rest others with_first) in
     cc
 
 pub there_is_one_merge : ThereIsOneMerge
-there_is_one_merge changes merged other is other_is = in_order_once merged other is.in_order other_is.in_order (λ place. is.same place ∙ sym (other_is.same place))
+there_is_one_merge changes merged other is other_is =
+    in_order_once merged other is.in_order other_is.in_order (λ place. is.same place ∙ sym (other_is.same place))

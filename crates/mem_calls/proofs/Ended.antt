@@ -361,7 +361,8 @@ module _ (given : ℕ → Option OldKept) (t : TableState) (nodes : ℕ) (before
               | inr not_here ↦ elim (of_changed nodes (length t.first.made) which mine x r.is_ready.out.0 before.held is_cell r.work.core not_here.1) [
                 | inl own ↦ absurd (not_mine (ap (cell_place nodes) (sym own.0)))
                 | inr last ↦ changed.kept given t nodes before c v number mid turn which x is_cell last.1
-                    (rmdir_keeps nodes (length t.first.made) S before.view.core dir name child which verdict_is row.0 kept_kind is_cell not_mine not_here.0 below)
+                    (rmdir_keeps nodes
+                    (length t.first.made) S before.view.core dir name child which verdict_is row.0 kept_kind is_cell not_mine not_here.0 below)
               ]
             ]
 

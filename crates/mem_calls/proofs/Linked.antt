@@ -75,7 +75,8 @@ or_false true is = is
 or_false false is = refl
 
 -- It keeps each cell but the bucket of the name, the file and the own log.
-link_keeps : (nodes : ℕ) (tree : TreeState) (core : ℕ) (file dir : NodeId) (name : List ℕ) (which : CellId) → verdict tree core (call.Link file dir name) ≡ done (Adds dir.0 name file.0)
+link_keeps : (nodes : ℕ) (tree : TreeState) (core : ℕ) (file dir : NodeId) (name : List ℕ) (which : CellId)
+    → verdict tree core (call.Link file dir name) ≡ done (Adds dir.0 name file.0)
     → (cell_place nodes (id.Part (record { 0 = core })) ≡ cell_place nodes which → ⊥) → (cell_place nodes (id.File file) ≡ cell_place nodes which → ⊥)
     → (cell_place nodes (id.Bucket dir (bucket name)) ≡ cell_place nodes which → ⊥)
     → KeepsCell tree core (call.Link file dir name) which

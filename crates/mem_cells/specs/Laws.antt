@@ -17,8 +17,12 @@ PartsBegin = IsLeftOf [] 0 (record { logs = []; entries = 0 })
 
 -- Where no change of an entry has a stamp below its directory's mark, the part with it is what is left of the changes with those of the entry.
 abbrev pub EntriesAreKept : Type 0
-EntriesAreKept = (changes entry : List Change) (entries : ℕ) (part after : CoreLog) → IsLeftOf changes entries part → All (λ change. mark_kept part change.dir.0 ≤ change.stamp.0) entry → IsAddedTo part entry after → IsLeftOf (changes ++ entry) (entries + 1) after
+EntriesAreKept =
+    (changes entry : List Change) (entries : ℕ) (part after : CoreLog) → IsLeftOf changes entries part
+    → All (λ change. mark_kept part change.dir.0 ≤ change.stamp.0) entry → IsAddedTo part entry after → IsLeftOf (changes ++ entry) (entries + 1) after
 
 -- A trimmed part is what is left of the same changes.
 abbrev pub TrimsKeep : Type 0
-TrimsKeep = (changes : List Change) (entries : ℕ) (part : CoreLog) (directory below : ℕ) (after : CoreLog) → IsLeftOf changes entries part → IsTrimmed part directory below after → IsLeftOf changes entries after
+TrimsKeep =
+    (changes : List Change) (entries : ℕ) (part : CoreLog) (directory below : ℕ) (after : CoreLog) → IsLeftOf changes entries part
+    → IsTrimmed part directory below after → IsLeftOf changes entries after

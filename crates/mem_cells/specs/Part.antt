@@ -50,15 +50,20 @@ pub record IsAddedTo (part : CoreLog) (entry : List Change) (after : CoreLog) : 
 
 -- A change stands behind those of its directory, in room that there was, and nothing else is changed.
 pub record PutsChange (logs : List Log) (change : Change) (after : List Log) : Type 0 where
-  pub changes : (directory : ℕ) → (log_of after directory).changes ≡ (if is_logged_in directory change then (log_of logs directory).changes ++ change ∷ [] else (log_of logs directory).changes)
+  pub changes : (directory : ℕ)
+      → (log_of after directory).changes
+      ≡ (if is_logged_in directory change then (log_of logs directory).changes ++ change ∷ [] else (log_of logs directory).changes)
   pub marks : (directory : ℕ) → (log_of after directory).mark ≡ (log_of logs directory).mark
   pub room : (directory : ℕ) → (log_of after directory).room + (if is_logged_in directory change then 1 else 0) ≡ (log_of logs directory).room
   pub places : length after ≡ length logs
 
 -- One directory has no changes below a stamp any more, and a mark of this at least; nothing else is changed, and there is as much room.
 pub record AreTrimmed (logs : List Log) (trimmed below : ℕ) (after : List Log) : Type 0 where
-  pub changes : (directory : ℕ) → (log_of after directory).changes ≡ (if directory == trimmed then filter (is_from below) (log_of logs directory).changes else (log_of logs directory).changes)
-  pub marks : (directory : ℕ) → (log_of after directory).mark ≡ (if directory == trimmed then max (log_of logs directory).mark below else (log_of logs directory).mark)
+  pub changes : (directory : ℕ)
+      → (log_of after directory).changes
+      ≡ (if directory == trimmed then filter (is_from below) (log_of logs directory).changes else (log_of logs directory).changes)
+  pub marks : (directory : ℕ)
+      → (log_of after directory).mark ≡ (if directory == trimmed then max (log_of logs directory).mark below else (log_of logs directory).mark)
   pub room : (directory : ℕ) → (log_of logs directory).room ≤ (log_of after directory).room
   pub places : length after ≡ length logs
 

@@ -6,7 +6,8 @@ use Rattle.std.proofs.lemmas.Bool.Decides.{nat_tests}
 use Rattle.sfs_base.proofs.Bytes.{get_or-resized, zeros}
 
 -- bytes with zeros behind them are the same at each place
-pub same_filled : (size len : ℕ) (bytes filled : List ℕ) → len ≡ length bytes → len < size → filled ≡ take size bytes ++ zeros (size - len) → (place : ℕ) → get_or filled place 0 ≡ get_or bytes place 0
+pub same_filled : (size len : ℕ) (bytes filled : List ℕ) → len ≡ length bytes → len < size → filled ≡ take size bytes ++ zeros (size - len) → (place : ℕ)
+    → get_or filled place 0 ≡ get_or bytes place 0
 same_filled size len bytes filled counted short is place = whole ∙ by_place (cases_lt place size)
   where
     whole : get_or filled place 0 ≡ cond (ltb place size) (get_or bytes place 0) 0

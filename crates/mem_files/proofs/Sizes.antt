@@ -26,9 +26,11 @@ get_or-bytes_in pages size place kept = by_place (cases_lt place size)
     by_place (inr past) = get_or_past (bytes_in pages size) place 0 (omega (arith, past, length-bytes_in pages size)) ∙ sym (kept.clean place past)
 
 -- the bytes at another size, where those below it stay
-pub bytes_in-resized : (pages later : List (List ℕ)) (before size : ℕ) → KeepsPages pages before → ((place : ℕ) → place < size → byte_at later place ≡ byte_at pages place) → bytes_in later size ≡ resized size (bytes_in pages before)
+pub bytes_in-resized : (pages later : List (List ℕ)) (before size : ℕ) → KeepsPages pages before
+    → ((place : ℕ) → place < size → byte_at later place ≡ byte_at pages place) → bytes_in later size ≡ resized size (bytes_in pages before)
 bytes_in-resized pages later before size kept same =
-    ext_get_or 0 (bytes_in later size) (resized size (bytes_in pages before)) (length-bytes_in later size ∙ sym (length-resized size (bytes_in pages before))) each
+    ext_get_or 0 (bytes_in later size) (resized size (bytes_in pages before))
+    (length-bytes_in later size ∙ sym (length-resized size (bytes_in pages before))) each
   where
     each : (place : ℕ) → place < length (bytes_in later size) → get_or (bytes_in later size) place 0 ≡ get_or (resized size (bytes_in pages before)) place 0
     each place below =
@@ -40,22 +42,28 @@ bytes_in-resized pages later before size kept same =
         ∙ sym (get_or-resized size (bytes_in pages before) place ∙ ap (λ b. cond b (get_or (bytes_in pages before) place 0) 0) test)
 
 -- the bytes after a write
-pub bytes_in-written : (pages mid later : List (List ℕ)) (before at : ℕ) (from : List ℕ) → 0 < length from → KeepsPages pages before → SameBytes pages mid → ((place : ℕ) → byte_at later place ≡ byte_after (byte_at mid) at from place) → bytes_in later (max before (at + length from)) ≡ written at from (bytes_in pages before)
+pub bytes_in-written : (pages mid later : List (List ℕ)) (before at : ℕ) (from : List ℕ) → 0 < length from → KeepsPages pages before → SameBytes pages mid
+    → ((place : ℕ) → byte_at later place ≡ byte_after (byte_at mid) at from place)
+    → bytes_in later (max before (at + length from)) ≡ written at from (bytes_in pages before)
 bytes_in-written pages mid later before at from some kept same put =
     ext_get_or 0 (bytes_in later (max before (at + length from))) (written at from (bytes_in pages before)) lengths each
   where
     lengths : length (bytes_in later (max before (at + length from))) ≡ length (written at from (bytes_in pages before))
-    lengths = omega (arith, length-bytes_in later (max before (at + length from)), length-written at from (bytes_in pages before) some, length-bytes_in pages before)
+    lengths =
+        omega (arith, length-bytes_in later (max before (at + length from)), length-written at from (bytes_in pages before) some, length-bytes_in pages before)
 
-    each : (place : ℕ) → place < length (bytes_in later (max before (at + length from))) → get_or (bytes_in later (max before (at + length from))) place 0 ≡ get_or (written at from (bytes_in pages before)) place 0
+    each : (place : ℕ) → place < length (bytes_in later (max before (at + length from)))
+        → get_or (bytes_in later (max before (at + length from))) place 0 ≡ get_or (written at from (bytes_in pages before)) place 0
     each place below =
         inside later (max before (at + length from)) place (omega (arith, below, length-bytes_in later (max before (at + length from))))
         ∙ put place
-        ∙ ap (λ b. cond (leb at place && ltb place (at + length from)) (get_or from (place - at) 0) b) (same place ∙ sym (get_or-bytes_in pages before place kept))
+        ∙ ap (λ b. cond (leb at place && ltb place (at + length from)) (get_or from (place - at) 0) b)
+        (same place ∙ sym (get_or-bytes_in pages before place kept))
         ∙ sym (get_or-written at from (bytes_in pages before) place some)
 
 -- bytes copied from a place on
-pub bytes_in-copied : (pages : List (List ℕ)) (size at count : ℕ) (copied : List ℕ) → KeepsPages pages size → length copied ≡ count → count ≤ size - at → ((k : ℕ) → k < count → get_or copied k 0 ≡ byte_at pages (at + k)) → copied ≡ take count (drop at (bytes_in pages size))
+pub bytes_in-copied : (pages : List (List ℕ)) (size at count : ℕ) (copied : List ℕ) → KeepsPages pages size → length copied ≡ count → count ≤ size - at
+    → ((k : ℕ) → k < count → get_or copied k 0 ≡ byte_at pages (at + k)) → copied ≡ take count (drop at (bytes_in pages size))
 bytes_in-copied pages size at count copied kept long fits each = ext_get_or 0 copied (take count (drop at (bytes_in pages size))) lengths same
   where
     lengths : length copied ≡ length (take count (drop at (bytes_in pages size)))

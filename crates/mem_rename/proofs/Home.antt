@@ -183,7 +183,8 @@ module _ (tree : TreeState) (core : ℕ) (move : Move) (seen : Sight) (is : IsSo
               (ap (λ b. b || (not (nat_eq p q) && is_this directory (row_of tree p n))) apart) ∙ and_second (is_directory tree directory) _ touched in
               let row = is_this_there directory _ (and_second (not (nat_eq p q)) _ source) in
               let same : child ≡ directory = some_is child directory (sym moves.row ∙ row) in
-              not_both (ap₂ (λ b c. b && c) (ap₂ (λ s k. s && k) (and_first (not (nat_eq p q)) _ source) (child_kind tree move seen is shows directory row ∙ kind))
+              not_both
+              (ap₂ (λ b c. b && c) (ap₂ (λ s k. s && k) (and_first (not (nat_eq p q)) _ source) (child_kind tree move seen is shows directory row ∙ kind))
               (eq-eqb child directory same)) not_child
         ])
   ]

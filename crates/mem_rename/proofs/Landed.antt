@@ -107,10 +107,12 @@ module _ (given : ℕ → Option OldKept) (t : TableState) (nodes : ℕ) (table 
   own = id.Part (record { 0 = core })
 
   abbrev back : Hand Cell Fact
-  back = turned.back given t nodes table move within plan plan_within above before ready child moves_is shift noted row_hand prepared out change number mid drawn
+  back =
+      turned.back given t nodes table move within plan plan_within above before ready child moves_is shift noted row_hand prepared out change number mid drawn
 
   abbrev stamps : Stamps (IsLawfulLog given) (StandsAt given) (rename_call move) reply.Ok before number back
-  stamps = turned.stamps given t nodes table move within plan plan_within above before ready child moves_is shift noted row_hand prepared out change number mid drawn
+  stamps =
+      turned.stamps given t nodes table move within plan plan_within above before ready child moves_is shift noted row_hand prepared out change number mid drawn
 
   abbrev S : TreeState
   S = stamped.tree given t nodes before table ready.work (rename_call move) reply.Ok number back stamps
@@ -164,7 +166,8 @@ module _ (given : ℕ → Option OldKept) (t : TableState) (nodes : ℕ) (table 
 
   core_is : locked.view.core ≡ core
   core_is = ap (λ (v : View TreeState (Event Fact)). v.core) core_locked
-      ∙ turned.mid_core given t nodes table move within plan plan_within above before ready child moves_is shift noted row_hand prepared out change number mid drawn
+      ∙ turned.mid_core given t nodes table move within plan plan_within above before ready child moves_is shift noted row_hand prepared out change number mid
+      drawn
 
   final_held : final.held ≡ with_value (cell_place nodes own) takes.value locked.held
   final_held = ap (λ (h : Hand Cell Fact). h.held) takes.frame
@@ -180,7 +183,9 @@ module _ (given : ℕ → Option OldKept) (t : TableState) (nodes : ℕ) (table 
   locked_places false same = ap (λ (h : Hand Cell Fact). places_of h.held) same
 
   mid_held : mid.held ≡ out.held
-  mid_held = turned.mid_held given t nodes table move within plan plan_within above before ready child moves_is shift noted row_hand prepared out change number mid drawn
+  mid_held =
+      turned.mid_held given t nodes table move within plan plan_within above before ready child moves_is shift noted row_hand prepared out change number mid
+      drawn
 
   final_places : places_of final.held ≡ places_of before.held
   final_places = ap (λ (l : List (HeldCell Cell)). places_of l) final_held
@@ -218,14 +223,20 @@ module _ (given : ℕ → Option OldKept) (t : TableState) (nodes : ℕ) (table 
       (value_held nodes locked.held (id.Part (record { 0 = locked.view.core }))) takes.part takes.was)) in
       let value_is : takes.value ≡ y = some_same (sym (ap (λ l. value_held nodes l own) final_held ∙ held) ∙ found) in
       let part_is : prepared.room.keeps.next ≡ takes.part = some_same
-      (sym (turned.part_locked given t nodes table move within plan plan_within above before ready child moves_is shift noted row_hand prepared out change number mid drawn (is_some plan.comes) locked lock) ∙ takes.was) in
+      (sym
+      (turned.part_locked given t nodes table move within plan plan_within above before ready child moves_is shift noted row_hand prepared out change number
+      mid drawn
+      (is_some plan.comes) locked lock)
+      ∙ takes.was) in
       subst (StandsForCell given first (account_of after_log) own) value_is
       (value_of_part given first (account_of after_log) core takes.value takes.next takes.is
       (homecoming.part_home given first log entry move seen child.0 (stamped.sound given t nodes before table ready.work)
       (stamped.lawful_log given t nodes before table ready.work (rename_call move) reply.Ok number back stamps)
       (stamped.legal_next given t nodes before table ready.work (rename_call move) reply.Ok number back stamps) refl shows effect_is takes.part takes.next
       (subst (Rattle.mem_values.specs.Stands.StandsPart first (account_of log) core) part_is
-      (turned.stands given t nodes table move within plan plan_within above before ready child moves_is shift noted row_hand prepared out change number mid drawn (is_some plan.comes) locked lock))
+      (turned.stands given t nodes table move within plan plan_within above before ready child moves_is shift noted row_hand prepared out change number mid
+      drawn
+      (is_some plan.comes) locked lock))
       (record { log = subst (λ l. IsAddedTo takes.part.log l takes.next.log) logged_is takes.log; made = takes.made })))
 
   bucket_home : (at : NodeId) (n : ℕ) (x y : Cell) → at.0 < nodes → n < 8 → value_held nodes before.held (id.Bucket at n) ≡ Some x
@@ -234,7 +245,8 @@ module _ (given : ℕ → Option OldKept) (t : TableState) (nodes : ℕ) (table 
   bucket_home at n (cell.Bucket bx) y lt small was found stands =
       let after : as_bucket y ≡ Some (Rattle.mem_rename.proofs.Shifting.bucket_after seen move plan child plan_is at n bx.value) =
       ap (option_and_then as_bucket) (sym found ∙ final_else (id.Bucket at n) (λ place. omega (arith, place, lt, small)) (λ place. omega (arith, place)))
-      ∙ ((turned.all given t nodes table move within plan plan_within above before ready child moves_is shift noted row_hand prepared out change).buckets at n lt small
+      ∙ ((turned.all given t nodes table move within plan plan_within above before ready child moves_is shift noted row_hand prepared out change).buckets at n
+      lt small
       ∙ (ap (option_map _) (kept_bucket nodes before prepared.mid prepared.room.keeps at n lt small ∙ ap (option_and_then as_bucket) was)
       ∙ ap (λ (s : Shift). Some (bucket_moved move plan at n
       (at_bucket move.to_directory (name_bucket move.to_name) (with_row s.child_is_directory move.to_name s.child.0) at n bx.value))) shift_is)) in
@@ -292,13 +304,17 @@ module _ (given : ℕ → Option OldKept) (t : TableState) (nodes : ℕ) (table 
   out_before : (which : CellId) → Rattle.mem_rename.specs.Moving.IsOther nodes which → (cell_place nodes own ≡ cell_place nodes which → ⊥)
       → value_held nodes out.held which ≡ value_held nodes before.held which
   out_before which other apart =
-      (turned.all given t nodes table move within plan plan_within above before ready child moves_is shift noted row_hand prepared out change).others which other ∙ kept_value nodes before prepared.mid prepared.room.keeps which apart
+      (turned.all given t nodes table move within plan plan_within above before ready child moves_is shift noted row_hand prepared out change).others which
+      other
+      ∙ kept_value nodes before prepared.mid prepared.room.keeps which apart
 
   lock_home : (b : Bool) → SetsLock nodes b (record { 0 = number }) mid locked → is_some plan.comes ≡ b → (x y : Cell)
       → value_held nodes before.held id.Lock ≡ Some x → value_held nodes final.held id.Lock ≡ Some y
       → StandsForCell given first (account_of log) id.Lock x → StandsForCell given first (account_of after_log) id.Lock y
   lock_home true puts is (cell.Lock l) y was found stands =
-      let there = turned.lock_there given t nodes table move within plan plan_within above before ready child moves_is shift noted row_hand prepared out change number mid drawn is in
+      let there =
+      turned.lock_there given t nodes table move within plan plan_within above before ready child moves_is shift noted row_hand prepared out change number
+      mid drawn is in
       let value : cell.Lock (record { moved = Some (record { 0 = number }) }) ≡ y = some_same
       (sym (ap (λ l. value_held nodes l id.Lock) final_held ∙ (apart_value nodes locked.held own id.Lock takes.value (λ place. omega (arith, place))
       ∙ (ap (λ (h : Hand Cell Fact). value_held nodes h.held id.Lock) puts ∙ value_with nodes id.Lock _ mid.held there))) ∙ found) in

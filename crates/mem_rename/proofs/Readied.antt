@@ -51,7 +51,8 @@ module _ (given : ℕ → Option OldKept) (t : TableState) (nodes : ℕ) (before
     works_kept = works_ready given t nodes before table work keeps.part keeps.next keeps.was keeps.same keeps.made keeps.value keeps.is mid keeps.puts
 
     pub refused_kept : (last : Hand Cell Fact) → IsRefusedMemory t mid last → IsRefusedMemory t before last
-    refused_kept last refused = back_ready given t nodes before table work keeps.part keeps.next keeps.was keeps.same keeps.made keeps.value keeps.is mid keeps.puts last refused
+    refused_kept last refused =
+        back_ready given t nodes before table work keeps.part keeps.next keeps.was keeps.same keeps.made keeps.value keeps.is mid keeps.puts last refused
 
   -- a core whose bucket is the same
   module _ (node : NodeId) (number : ℕ) (lt : node.0 < nodes) (small : number < 8) (after : Hand Cell Fact)

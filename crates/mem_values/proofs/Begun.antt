@@ -28,7 +28,8 @@ cells_begin given first (id.File node) (cell.Part p) begins = begins
 cells_begin given first (id.Pending node) (cell.Lock lock) begins = begins
 cells_begin given first (id.Pending node) (cell.Bucket b) begins = begins
 cells_begin given first (id.Pending node) (cell.File f) begins = begins
-cells_begin given first (id.Pending node) (cell.Pending p) begins = record { flushed = begins.0; made_in = ap number_of begins.1; trimmed = λ writer is part lt. absurd (cc (is)) }
+cells_begin given first (id.Pending node) (cell.Pending p) begins =
+    record { flushed = begins.0; made_in = ap number_of begins.1; trimmed = λ writer is part lt. absurd (cc (is)) }
 cells_begin given first (id.Pending node) (cell.Part p) begins = begins
 cells_begin given first (id.Part core) (cell.Lock lock) begins = begins
 cells_begin given first (id.Part core) (cell.Bucket b) begins = begins

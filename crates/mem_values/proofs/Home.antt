@@ -45,7 +45,8 @@ use Rattle.mem_values.proofs.Lasting.{commits_stay_last}
 pub moved_locks_stand : MovedLocksStand
 moved_locks_stand given first log entry lock moves is =
     subst (λ a. StandsForCell given first a id.Lock (cell.Lock lock)) (sym (account_called log entry))
-    (ap (option_map (λ (s : Stamp). s.0)) is ∙ sym (last_move-append first None (calls_in log) (entry ∷ []) ∙ ap (λ b. if b then Some entry.stamp.0 else last_move first None (calls_in log)) moves))
+    (ap (option_map (λ (s : Stamp). s.0)) is
+    ∙ sym (last_move-append first None (calls_in log) (entry ∷ []) ∙ ap (λ b. if b then Some entry.stamp.0 else last_move first None (calls_in log)) moves))
 
 -- what an effect logs has its stamp, which no mark is above
 module _ (tree : TreeState) (core stamp : ℕ) (mark : ℕ → ℕ) (below : (directory : ℕ) → mark directory ≤ stamp) where
@@ -67,7 +68,8 @@ module _ (tree : TreeState) (core stamp : ℕ) (mark : ℕ → ℕ) (below : (di
   logged_above (Edits file edit) makes = All-nil IsAbove
 
 -- no mark of a log is above the calls
-marks_within : (given : ℕ → Option OldKept) (first : TreeState) (log : List (Event Fact)) (directory mark : ℕ) → IsLawfulLog given first log → IsCapped (account_of log) directory mark → mark ≤ length (calls_in log)
+marks_within : (given : ℕ → Option OldKept) (first : TreeState) (log : List (Event Fact)) (directory mark : ℕ) → IsLawfulLog given first log
+    → IsCapped (account_of log) directory mark → mark ≤ length (calls_in log)
 marks_within given first log directory mark lawful capped = elim capped [
   | inl zero ↦ omega (arith, zero)
   | inr below ↦ let w = cuts_within given first log below.0 directory below.1 lawful below.2 below.3 in let le = below.4 in omega (arith, w, le)
@@ -81,12 +83,16 @@ parts_take_entries given first log entry part after legal lawful stood added mad
     let stamped : entry.stamp.0 ≡ 0 + length calls = (legal_behind first 0 calls (entry ∷ []) legal_calls).0.stamped in
     let own : is_core core entry ≡ true = eq-eqb core core refl in
     let above : All (λ (change : Change). mark_kept part.log change.dir.0 ≤ change.stamp.0) (entry_logged (tree_after first calls) entry) =
-    logged_above (tree_after first calls) core entry.stamp.0 (mark_kept part.log) (λ d. let w = marks_within given first log d (mark_kept part.log d) lawful (stood.marks.capped d) in omega (arith, w, stamped))
+    logged_above (tree_after first calls) core entry.stamp.0 (mark_kept part.log)
+    (λ d. let w = marks_within given first log d (mark_kept part.log d) lawful (stood.marks.capped d) in omega (arith, w, stamped))
     (verdict (tree_after first calls) core entry.call).effect (verdict (tree_after first calls) core entry.call).makes in
-    let left = entries_are_kept (own_logged first core calls) (entry_logged (tree_after first calls) entry) (length (filter (is_core core) calls)) part.log after.log stood.left above added in
+    let left =
+    entries_are_kept (own_logged first core calls) (entry_logged (tree_after first calls) entry)
+    (length (filter (is_core core) calls)) part.log after.log stood.left above added in
     let logged : own_logged first core (calls ++ entry ∷ []) ≡ own_logged first core calls ++ entry_logged (tree_after first calls) entry =
     own_logged-push first core calls entry ∙ ap (λ b. own_logged first core calls ++ (if b then entry_logged (tree_after first calls) entry else [])) own in
-    let counted : length (filter (is_core core) (calls ++ entry ∷ [])) ≡ length (filter (is_core core) calls) + 1 = ap length (count-own core calls entry own) ∙ length-append (filter (is_core core) calls) (entry ∷ []) in
+    let counted : length (filter (is_core core) (calls ++ entry ∷ [])) ≡ length (filter (is_core core) calls) + 1 =
+    ap length (count-own core calls entry own) ∙ length-append (filter (is_core core) calls) (entry ∷ []) in
     subst (λ a. StandsPart first a core after) (sym (account_called log entry)) (record {
       left = subst (λ (z : List Change × ℕ). IsLeftOf z.0 z.1 after.log) (λ i. (sym logged i, sym counted i)) left;
       made = made ∙ ap (λ l. made_by (tree_after first l) core) (filter_map-append called log (Called entry ∷ []));
@@ -101,12 +107,17 @@ mark_by : (b : Bool) (old below new : ℕ) → new ≡ (if b then max old below 
 mark_by false old below new is = (omega (arith, is), inl is)
 mark_by true old below new is = (
   (omega (arith, is)),
-  ⊎_elim (λ le. inr (refl, (let l = leb-true old below le in omega (arith, is, l)))) (λ gt. inl (let l = leb-false old below gt in omega (arith, is, l))) (cases_Bool (nat_le old below)),
+  ⊎_elim (λ le. inr (refl, (let l = leb-true old below le in omega (arith, is, l)))) (λ gt. inl (let l = leb-false old below gt in omega (arith, is, l)))
+      (cases_Bool (nat_le old below)),
 )
 
-module _ (given : ℕ → Option OldKept) (first : TreeState) (log : List (Event Fact)) (core : ℕ) (commit : Commitment) (directory : ℕ) (part after : PartCell) (lawful : IsLawfulLog given first log)
-    (among : IsOneOf (account_of log).commits commit) (member : IsOneOf commit.members directory) (stood : StandsPart first (account_of log) core part) (trimmed : IsTrimmed part.log directory commit.stamp after.log) where
-  new_mark : (d : ℕ) → (mark_kept part.log d ≤ mark_kept after.log d) × ((mark_kept after.log d ≡ mark_kept part.log d) ⊎ (((d == directory) ≡ true) × (mark_kept after.log d ≡ commit.stamp)))
+module _ (given : ℕ → Option OldKept) (first : TreeState) (log : List (Event Fact)) (core : ℕ) (commit : Commitment) (directory : ℕ) (part after : PartCell)
+    (lawful : IsLawfulLog given first log)
+    (among : IsOneOf (account_of log).commits commit) (member : IsOneOf commit.members directory) (stood : StandsPart first (account_of log) core part)
+    (trimmed : IsTrimmed part.log directory commit.stamp after.log) where
+  new_mark : (d : ℕ)
+      → (mark_kept part.log d ≤ mark_kept after.log d)
+      × ((mark_kept after.log d ≡ mark_kept part.log d) ⊎ (((d == directory) ≡ true) × (mark_kept after.log d ≡ commit.stamp)))
   new_mark d = mark_by (d == directory) (mark_kept part.log d) commit.stamp (mark_kept after.log d) (trimmed.logs.marks d)
 
   still_capped : (d : ℕ) → IsCapped (account_of log) d (mark_kept after.log d)
@@ -120,16 +131,20 @@ module _ (given : ℕ → Option OldKept) (first : TreeState) (log : List (Event
 
   trimmed_stands : after.made ≡ part.made → StandsPart first (account_of log) core after
   trimmed_stands made = record {
-    left = trims_keep (own_logged first core (calls_in log)) (length (filter (is_core core) (calls_in log))) part.log directory commit.stamp after.log stood.left trimmed;
+    left =
+        trims_keep (own_logged first core (calls_in log))
+        (length (filter (is_core core) (calls_in log))) part.log directory commit.stamp after.log stood.left trimmed;
     made = made ∙ stood.made;
     marks = record {
       capped = still_capped;
-      trimmed = λ other d one is_trimmed is_member. let le = stood.marks.trimmed other d one is_trimmed is_member in let up = (new_mark d).0 in omega (arith, le, up);
+      trimmed = λ other d one is_trimmed is_member. let le = stood.marks.trimmed other d one is_trimmed is_member in let up = (new_mark d).0 in
+          omega (arith, le, up);
     };
   }
 
 pub trimmed_parts_stand : TrimmedPartsStand
-trimmed_parts_stand given first log core commit directory part after lawful among member stood trimmed made = trimmed_stands given first log core commit directory part after lawful among member stood trimmed made
+trimmed_parts_stand given first log core commit directory part after lawful among member stood trimmed made =
+    trimmed_stands given first log core commit directory part after lawful among member stood trimmed made
 
 pub told_parts_stand : ToldPartsStand
 told_parts_stand given first log commit by part value lawful among own stood marks =
@@ -139,17 +154,19 @@ told_parts_stand given first log commit by part value lawful among own stood mar
       made = stood.made;
       marks = record {
         capped = λ d. stood.marks.capped d;
-        trimmed = λ other d one is_trimmed member. elim (in_either (account_of log).trimmings (trimming ∷ []) (record { core = other.core; number = other.number; part = part.0 }) is_trimmed) [
-          | inl old ↦ stood.marks.trimmed other d one old member
-          | inr new ↦ elim new [
-            | inl same ↦
-                let core_is : commit.core ≡ other.core = own ∙ ap (λ (t : Trimming). t.core) same in
-                let number_is : commit.number ≡ other.number = ap (λ (t : Trimming). t.number) same in
-                let one_is : commit ≡ other = one_commit given first log commit other lawful among one core_is number_is in
-                subst (λ c. c.stamp ≤ mark_kept value.log d) one_is (marks d (subst (λ (c : Commitment). IsOneOf c.members d) (sym one_is) member))
-            | inr none ↦ absurd none
-          ]
-        ];
+        trimmed =
+            λ other d one is_trimmed member. elim (in_either (account_of log).trimmings (trimming ∷ [])
+            (record { core = other.core; number = other.number; part = part.0 }) is_trimmed) [
+              | inl old ↦ stood.marks.trimmed other d one old member
+              | inr new ↦ elim new [
+                | inl same ↦
+                    let core_is : commit.core ≡ other.core = own ∙ ap (λ (t : Trimming). t.core) same in
+                    let number_is : commit.number ≡ other.number = ap (λ (t : Trimming). t.number) same in
+                    let one_is : commit ≡ other = one_commit given first log commit other lawful among one core_is number_is in
+                    subst (λ c. c.stamp ≤ mark_kept value.log d) one_is (marks d (subst (λ (c : Commitment). IsOneOf c.members d) (sym one_is) member))
+                | inr none ↦ absurd none
+              ]
+            ];
       };
     })
 
@@ -162,7 +179,10 @@ written_nodes_stand given first before after core part number node stamp members
     subst (λ a. StandsPending given first a of pending) (sym (account_trimmed log core number part)) (record {
       flushed = wrote ∙ ap (flushed_by given of) (sym last);
       made_in = born;
-      trimmed = λ writer is other lt. subst (λ (w : Commitment × HeldNode). IsTrimmedFor (with_trimming (account_of log) trimming) w.0 other) (some_same (sym last ∙ is)) (dite (ℕ_discrete other part.0)
-          (λ same. in_right (account_of log).trimmings (trimming ∷ []) (record { core = core.0; number = number; part = other }) (inl (λ i. record { core = core.0; number = number; part = sym same i })))
+      trimmed =
+          λ writer is other lt. subst (λ (w : Commitment × HeldNode). IsTrimmedFor (with_trimming (account_of log) trimming) w.0 other)
+          (some_same (sym last ∙ is)) (dite (ℕ_discrete other part.0)
+          (λ same. in_right (account_of log).trimmings (trimming ∷ []) (record { core = core.0; number = number; part = other })
+          (inl (λ i. record { core = core.0; number = number; part = sym same i })))
           (λ apart. in_left (account_of log).trimmings (trimming ∷ []) (record { core = core.0; number = number; part = other }) (others other lt apart)));
     })

@@ -33,7 +33,8 @@ use Rattle.mem_values.proofs.Moves.{legal_behind, legal_front, sound_after}
 use Rattle.mem_values.proofs.Pushes.{with_call, account_called, last_move-push, own_logged-other, count-other, birthplace-push, last_touch-push}
 use Rattle.mem_values.proofs.Kept.{same_tree, nothing_free, bucket_kept, links_kept, nothing_edits, untouched_edits, nothing_born, untouched_born}
 
-module _ (given : ℕ → Option OldKept) (first : TreeState) (account : Account) (entry : Entry) (sound : IsSoundTree first) (legal : IsLegal first (account.calls ++ entry ∷ [])) where
+module _ (given : ℕ → Option OldKept) (first : TreeState) (account : Account) (entry : Entry) (sound : IsSoundTree first)
+    (legal : IsLegal first (account.calls ++ entry ∷ [])) where
   abbrev before : TreeState
   before = tree_after first account.calls
 
@@ -52,13 +53,15 @@ module _ (given : ℕ → Option OldKept) (first : TreeState) (account : Account
   lock_kept : KeepsCell before entry.core.0 entry.call id.Lock → needs_lock before entry.core.0 entry.call ≡ false
   lock_kept keeps = elim keeps [ inl apart ↦ apart | inr nothing ↦ nothing_free before entry.core.0 entry.call nothing.0 ]
 
-  bucket_stands : (node number : ℕ) (value : Bucket) → KeepsCell before entry.core.0 entry.call (id.Bucket (record { 0 = node }) number) → ShowsBucket before node number value → ShowsBucket (tree_after first (account.calls ++ entry ∷ [])) node number value
+  bucket_stands : (node number : ℕ) (value : Bucket) → KeepsCell before entry.core.0 entry.call (id.Bucket (record { 0 = node }) number)
+      → ShowsBucket before node number value → ShowsBucket (tree_after first (account.calls ++ entry ∷ [])) node number value
   bucket_stands node number value keeps shows = subst (λ t. ShowsBucket t node number value) (sym after_is) (elim keeps [
     | inl apart ↦ bucket_kept before entry.core.0 entry.call before_sound core_known node number value apart shows
     | inr nothing ↦ subst (λ t. ShowsBucket t node number value) (sym (same_tree before entry.core.0 entry.call nothing.0)) shows
   ])
 
-  no_edit : (node : ℕ) → KeepsCell before entry.core.0 entry.call (id.File (record { 0 = node })) → (edit : Edit) → (verdict before entry.core.0 entry.call).effect ≢ Edits node edit
+  no_edit : (node : ℕ) → KeepsCell before entry.core.0 entry.call (id.File (record { 0 = node })) → (edit : Edit)
+      → (verdict before entry.core.0 entry.call).effect ≢ Edits node edit
   no_edit node keeps edit = elim keeps [
     | inl apart ↦ untouched_edits before entry.core.0 entry.call node edit (or_first _ _ apart)
     | inr nothing ↦ nothing_edits before entry.core.0 entry.call node edit nothing.0
@@ -76,14 +79,16 @@ module _ (given : ℕ → Option OldKept) (first : TreeState) (account : Account
     | inr nothing ↦ ap (λ t. bytes_of t node) (same_tree before entry.core.0 entry.call nothing.0)
   ]
 
-  file_stands : (node : ℕ) (value : FileCell) → KeepsCell before entry.core.0 entry.call (id.File (record { 0 = node })) → StandsFile first account.calls node value → StandsFile first (account.calls ++ entry ∷ []) node value
+  file_stands : (node : ℕ) (value : FileCell) → KeepsCell before entry.core.0 entry.call (id.File (record { 0 = node }))
+      → StandsFile first account.calls node value → StandsFile first (account.calls ++ entry ∷ []) node value
   file_stands node value keeps stood = record {
     links = stood.links ∙ (sym (links_stay node keeps) ∙ ap (λ t. file_links t node) (sym after_is));
     bytes = stood.bytes ∙ (sym (bytes_stay node keeps) ∙ ap (λ t. bytes_of t node) (sym after_is));
     marks = λ block. stood.marks block ∙ sym (last_touch-push first account.calls entry node block (no_edit node keeps));
   }
 
-  pending_stands : (node : ℕ) (value : Pending) → KeepsCell before entry.core.0 entry.call (id.Pending (record { 0 = node })) → StandsPending given first account node value → StandsPending given first (with_call account entry) node value
+  pending_stands : (node : ℕ) (value : Pending) → KeepsCell before entry.core.0 entry.call (id.Pending (record { 0 = node }))
+      → StandsPending given first account node value → StandsPending given first (with_call account entry) node value
   pending_stands node value keeps stood = record {
     flushed = stood.flushed;
     made_in = stood.made_in ∙ sym (birthplace-push first account.calls entry node (elim keeps [
@@ -93,17 +98,30 @@ module _ (given : ℕ → Option OldKept) (first : TreeState) (account : Account
     trimmed = λ writer last part lt. stood.trimmed writer last part lt;
   }
 
-  part_stands : (core : ℕ) (value : PartCell) → (nat_eq entry.core.0 core) ≡ false → StandsPart first account core value → StandsPart first (with_call account entry) core value
+  part_stands : (core : ℕ) (value : PartCell) → (nat_eq entry.core.0 core) ≡ false → StandsPart first account core value
+      → StandsPart first (with_call account entry) core value
   part_stands core value other stood = record {
-    left = subst (λ (z : List Change × ℕ). IsLeftOf z.0 z.1 value.log) (λ i. (sym (own_logged-other first core account.calls entry other) i, ap length (sym (count-other core account.calls entry other)) i)) stood.left;
-    made = stood.made ∙ (sym ((calls_keep_the_rest before entry.core.0 entry.call before_sound core_known).others core (λ same. both_ways (nat_eq entry.core.0 core) other (eq-eqb entry.core.0 core (sym same)))) ∙ ap (λ t. made_by t core) (sym after_is));
-    marks = record { capped = λ directory. stood.marks.capped directory; trimmed = λ commit directory among trimmed member. stood.marks.trimmed commit directory among trimmed member };
+    left =
+        subst (λ (z : List Change × ℕ). IsLeftOf z.0 z.1 value.log)
+        (λ i. (sym (own_logged-other first core account.calls entry other) i, ap length (sym (count-other core account.calls entry other)) i)) stood.left;
+    made =
+        stood.made
+        ∙ (sym
+        ((calls_keep_the_rest before entry.core.0 entry.call before_sound core_known).others core
+        (λ same. both_ways (nat_eq entry.core.0 core) other (eq-eqb entry.core.0 core (sym same))))
+        ∙ ap (λ t. made_by t core) (sym after_is));
+    marks =
+        record {
+          capped = λ directory. stood.marks.capped directory;
+          trimmed = λ commit directory among trimmed member. stood.marks.trimmed commit directory among trimmed member;
+        };
   }
 
   apart_part : (core : ℕ) → KeepsCell before entry.core.0 entry.call (id.Part (record { 0 = core })) → nat_eq entry.core.0 core ≡ false
   apart_part core keeps = elim keeps [ inl apart ↦ apart | inr nothing ↦ absurd (let never : true ≡ false = nothing.1 in cc) ]
 
-  keep : (which : CellId) (value : Cell) → KeepsCell before entry.core.0 entry.call which → StandsForCell given first account which value → StandsForCell given first (with_call account entry) which value
+  keep : (which : CellId) (value : Cell) → KeepsCell before entry.core.0 entry.call which → StandsForCell given first account which value
+      → StandsForCell given first (with_call account entry) which value
   keep id.Lock (cell.Lock lock) keeps stood = stood ∙ sym (last_move-push first account.calls entry (lock_kept keeps))
   keep id.Lock (cell.Bucket b) keeps stood = absurd stood
   keep id.Lock (cell.File f) keeps stood = absurd stood
@@ -133,4 +151,5 @@ module _ (given : ℕ → Option OldKept) (first : TreeState) (account : Account
 pub calls_keep_cells : CallsKeepCells
 calls_keep_cells given first log entry which value sound legal keeps stood =
     subst (λ a. StandsForCell given first a which value) (sym (account_called log entry))
-    (keep given first (account_of log) entry sound (subst (λ l. IsLegal first l) (filter_map-append called log (Called entry ∷ [])) legal) which value keeps stood)
+    (keep given first (account_of log) entry sound
+    (subst (λ l. IsLegal first l) (filter_map-append called log (Called entry ∷ [])) legal) which value keeps stood)

@@ -49,7 +49,8 @@ module _ (tree : TreeState) (core : ℕ) (c : Call) (is : IsSoundTree tree) (lt 
   directory_kept node there = directory_by_kind next node ∙ (ap is_directory_kind (rest.kinds node there) ∙ sym (directory_by_kind tree node))
 
   -- a row's child is a node
-  child_there : (directory number : ℕ) (name : List ℕ) (child : ℕ) → get (bucket_rows directory number tree.rows) name ≡ Some child → IsSome (get tree.nodes child)
+  child_there : (directory number : ℕ) (name : List ℕ) (child : ℕ) → get (bucket_rows directory number tree.rows) name ≡ Some child
+      → IsSome (get tree.nodes child)
   child_there directory number name child row =
       is.sound.node directory name child (found (nat_eq (bucket name) number) (sym (get-names_where directory (λ n. bucket n == number) tree.rows name) ∙ row))
     where
@@ -57,18 +58,24 @@ module _ (tree : TreeState) (core : ℕ) (c : Call) (is : IsSoundTree tree) (lt 
       found true e = e
       found false e = absurd (cc (e))
 
-  directories_kept : (directory number : ℕ) (name : List ℕ) (row : Option ℕ) → get (bucket_rows directory number tree.rows) name ≡ row → if_directory next row ≡ if_directory tree row
+  directories_kept : (directory number : ℕ) (name : List ℕ) (row : Option ℕ) → get (bucket_rows directory number tree.rows) name ≡ row
+      → if_directory next row ≡ if_directory tree row
   directories_kept directory number name None row = refl
-  directories_kept directory number name (Some child) row = ap (λ b. if b then Some child else None) (directory_kept child (child_there directory number name child row))
+  directories_kept directory number name (Some child) row =
+      ap (λ b. if b then Some child else None) (directory_kept child (child_there directory number name child row))
 
   -- A bucket that a call does not touch shows the tree after it.
-  pub bucket_kept : (directory number : ℕ) (value : Bucket) → (touches_part c directory (λ name. bucket name == number) || touches_standing tree core c directory) ≡ false → ShowsBucket tree directory number value → ShowsBucket next directory number value
+  pub bucket_kept : (directory number : ℕ) (value : Bucket)
+      → (touches_part c directory (λ name. bucket name == number) || touches_standing tree core c directory) ≡ false → ShowsBucket tree directory number value
+      → ShowsBucket next directory number value
   bucket_kept directory number value apart shows =
-      let same : bucket_rows directory number next.rows ≡ bucket_rows directory number tree.rows = rest.rows directory (λ name. bucket name == number) (or_first _ _ apart) in
+      let same : bucket_rows directory number next.rows ≡ bucket_rows directory number tree.rows =
+      rest.rows directory (λ name. bucket name == number) (or_first _ _ apart) in
       record {
         rows = shows.rows ∙ sym same;
         directories = λ name. shows.directories name
-            ∙ (sym (directories_kept directory number name (get (bucket_rows directory number tree.rows) name) refl) ∙ ap (λ (m : FinMap name_cmp ℕ). if_directory next (get m name)) (sym same));
+            ∙ (sym (directories_kept directory number name (get (bucket_rows directory number tree.rows) name) refl)
+            ∙ ap (λ (m : FinMap name_cmp ℕ). if_directory next (get m name)) (sym same));
         stands = shows.stands ∙ sym (standing_stays tree core c directory is lt (or_second _ _ apart));
       }
 
@@ -79,12 +86,14 @@ module _ (tree : TreeState) (core : ℕ) (c : Call) (is : IsSoundTree tree) (lt 
     | inr none ↦ none
   ]
 
-  links_by : (node : ℕ) (before after : Bool) → is_directory tree node ≡ before → is_directory next node ≡ after → (touches_links tree core c node && not (is_directory next node)) ≡ false
+  links_by : (node : ℕ) (before after : Bool) → is_directory tree node ≡ before → is_directory next node ≡ after
+      → (touches_links tree core c node && not (is_directory next node)) ≡ false
       → file_links next node ≡ file_links tree node
   links_by node true true b a apart = rw (b, a) refl
   links_by node true false b a apart = absurd (both_ways (is_directory next node) a (directory_kept node (directory_node tree node b) ∙ b))
   links_by node false true b a apart = rw (b, a) (sym (no_rows_yet node b a))
-  links_by node false false b a apart = rw (b, a) (rest.links node (left_false (touches_links tree core c node) (sym (ap (λ x. touches_links tree core c node && not x) a) ∙ apart)))
+  links_by node false false b a apart =
+      rw (b, a) (rest.links node (left_false (touches_links tree core c node) (sym (ap (λ x. touches_links tree core c node && not x) a) ∙ apart)))
 
   -- A file's links stay where a call does not touch it.
   pub links_kept : (node : ℕ) → (touches_links tree core c node && not (is_directory next node)) ≡ false → file_links next node ≡ file_links tree node
@@ -118,24 +127,30 @@ edits_touch tree core (call.Rename p n q m) node edit own = absurd (no_edit (row
     no_edit (Some x) e = cc
 
 -- a call that does nothing edits no file, nor does one that does not touch its bytes
-pub nothing_edits : (tree : TreeState) (core : ℕ) (c : Call) (node : ℕ) (edit : Edit) → DoesNothing (verdict tree core c) → (verdict tree core c).effect ≢ Edits node edit
+pub nothing_edits : (tree : TreeState) (core : ℕ) (c : Call) (node : ℕ) (edit : Edit) → DoesNothing (verdict tree core c)
+    → (verdict tree core c).effect ≢ Edits node edit
 nothing_edits tree core c node edit nothing is = let never : Stays ≡ Edits node edit = sym nothing.effect ∙ is in cc
 
-pub untouched_edits : (tree : TreeState) (core : ℕ) (c : Call) (node : ℕ) (edit : Edit) → touches_bytes c node ≡ false → (verdict tree core c).effect ≢ Edits node edit
+pub untouched_edits : (tree : TreeState) (core : ℕ) (c : Call) (node : ℕ) (edit : Edit) → touches_bytes c node ≡ false
+    → (verdict tree core c).effect ≢ Edits node edit
 untouched_edits tree core c node edit apart is = elim (does_its_own tree core c) [
   | inl nothing ↦ nothing_edits tree core c node edit nothing is
   | inr own ↦ both_ways (touches_bytes c node) apart (edits_touch tree core c node edit (own.effect ∙ ap Some is))
 ]
 
 -- a call that does nothing makes no node
-pub nothing_born : (tree : TreeState) (core : ℕ) (c : Call) (stamp node : ℕ) → DoesNothing (verdict tree core c) → IsBornBy node (births_by stamp (verdict tree core c).effect (verdict tree core c).makes)
-nothing_born tree core c stamp node nothing = ap (λ l. find (λ (b : Birth). b.node == node) l) (ap (births_by stamp (verdict tree core c).effect) nothing.makes ∙ none_born stamp (verdict tree core c).effect)
+pub nothing_born : (tree : TreeState) (core : ℕ) (c : Call) (stamp node : ℕ) → DoesNothing (verdict tree core c)
+    → IsBornBy node (births_by stamp (verdict tree core c).effect (verdict tree core c).makes)
+nothing_born tree core c stamp node nothing =
+    ap (λ l. find (λ (b : Birth). b.node == node) l)
+    (ap (births_by stamp (verdict tree core c).effect) nothing.makes ∙ none_born stamp (verdict tree core c).effect)
 
 born_none : (stamp node : ℕ) (effect : Effect) (makes : Option Kind) → None ≡ makes → IsBornBy node (births_by stamp effect makes)
 born_none stamp node effect makes none = ap (λ l. find (λ (b : Birth). b.node == node) l) (ap (births_by stamp effect) (sym none) ∙ none_born stamp effect)
 
 -- one that does not make this node brings none of it
-own_born : (tree : TreeState) (core : ℕ) (c : Call) (stamp node : ℕ) (effect : Effect) (makes : Option Kind) → makes_node tree core c node ≡ false → own_effect tree core c ≡ Some effect → own_kind c ≡ makes → IsBornBy node (births_by stamp effect makes)
+own_born : (tree : TreeState) (core : ℕ) (c : Call) (stamp node : ℕ) (effect : Effect) (makes : Option Kind) → makes_node tree core c node ≡ false
+    → own_effect tree core c ≡ Some effect → own_kind c ≡ makes → IsBornBy node (births_by stamp effect makes)
 own_born tree core (call.Look d n) stamp node effect makes apart own kind = born_none stamp node effect makes kind
 own_born tree core (call.Read f at count) stamp node effect makes apart own kind = born_none stamp node effect makes kind
 own_born tree core (call.Stat d) stamp node effect makes apart own kind = born_none stamp node effect makes kind
@@ -149,9 +164,11 @@ own_born tree core (call.Rmdir d n) stamp node effect makes apart own kind = bor
 own_born tree core (call.Rename p n q m) stamp node effect makes apart own kind = born_none stamp node effect makes kind
 own_born tree core (call.Make d n k) stamp node effect makes apart own kind =
     let made : Adds d.0 n (next_number tree core) ≡ effect = cc (own) in
-    subst (λ (z : Effect × Option Kind). IsBornBy node (births_by stamp z.0 z.1)) (λ i. (made i, kind i)) (ap (λ b. if b then Some (record { stamp = stamp; directory = d.0; node = next_number tree core }) else None) apart)
+    subst (λ (z : Effect × Option Kind). IsBornBy node (births_by stamp z.0 z.1)) (λ i. (made i, kind i))
+    (ap (λ b. if b then Some (record { stamp = stamp; directory = d.0; node = next_number tree core }) else None) apart)
 
-pub untouched_born : (tree : TreeState) (core : ℕ) (c : Call) (stamp node : ℕ) → makes_node tree core c node ≡ false → IsBornBy node (births_by stamp (verdict tree core c).effect (verdict tree core c).makes)
+pub untouched_born : (tree : TreeState) (core : ℕ) (c : Call) (stamp node : ℕ) → makes_node tree core c node ≡ false
+    → IsBornBy node (births_by stamp (verdict tree core c).effect (verdict tree core c).makes)
 untouched_born tree core c stamp node apart = elim (does_its_own tree core c) [
   | inl nothing ↦ nothing_born tree core c stamp node nothing
   | inr own ↦ own_born tree core c stamp node (verdict tree core c).effect (verdict tree core c).makes apart own.effect own.makes

@@ -24,11 +24,13 @@ abbrev trimmings_of : List (Event Fact) → List Trimming
 trimmings_of log = filter_map trimming_told log
 
 trims_grow : (before rest : List (Event Fact)) (trimming : Trimming) → IsOneOf (trimmings_of before) trimming → IsOneOf (trimmings_of (before ++ rest)) trimming
-trims_grow before rest trimming among = subst (λ l. IsOneOf l trimming) (sym (filter_map-append trimming_told before rest)) (in_left (trimmings_of before) (trimmings_of rest) trimming among)
+trims_grow before rest trimming among =
+    subst (λ l. IsOneOf l trimming) (sym (filter_map-append trimming_told before rest)) (in_left (trimmings_of before) (trimmings_of rest) trimming among)
 
 module _ (given : ℕ → Option OldKept) (first : TreeState) (commit : Commitment) (part node : ℕ) (what : HeldNode) (known : part < length first.made) where
   -- a further commit holds no node of this one
-  holds_not : (before rest : List (Event Fact)) (other : Commitment) → MayBeCommitted given first (account_of before) other → last_writer node (commits_of before) ≡ Some (commit, what)
+  holds_not : (before rest : List (Event Fact)) (other : Commitment) → MayBeCommitted given first (account_of before) other
+      → last_writer node (commits_of before) ≡ Some (commit, what)
       → (IsOneOf (trimmings_of (before ++ rest)) (record { core = commit.core; number = commit.number; part = part }) → ⊥) → held_by other node ≡ None
   holds_not before rest other may last not = none_by (held_by other node) refl
     where
@@ -36,20 +38,30 @@ module _ (given : ℕ → Option OldKept) (first : TreeState) (commit : Commitme
       none_by None is = refl
       none_by (Some h) is =
           let there = found_of node other.held h is in
-          let trimmed : AreTrimmedFor first (account_of before) node = subst (λ (n : ℕ). AreTrimmedFor first (account_of before) n) there.1 (may.holds h there.0).trimmed in
+          let trimmed : AreTrimmedFor first (account_of before) node =
+          subst (λ (n : ℕ). AreTrimmedFor first (account_of before) n) there.1 (may.holds h there.0).trimmed in
           absurd (not (trims_grow before rest (record { core = commit.core; number = commit.number; part = part }) (trimmed (commit, what) last part known)))
 
   still_last : (before rest : List (Event Fact)) → AreLawfulBehind given first before rest → last_writer node (commits_of before) ≡ Some (commit, what)
-      → (IsOneOf (trimmings_of (before ++ rest)) (record { core = commit.core; number = commit.number; part = part }) → ⊥) → last_writer node (commits_of (before ++ rest)) ≡ Some (commit, what)
+      → (IsOneOf (trimmings_of (before ++ rest)) (record { core = commit.core; number = commit.number; part = part }) → ⊥)
+      → last_writer node (commits_of (before ++ rest)) ≡ Some (commit, what)
   still_last before [] lawful last not = ap (λ l. last_writer node (commits_of l)) (append-nil before) ∙ last
   still_last before (event ∷ rest) lawful last not =
       ap (λ l. last_writer node (commits_of l)) (sym (append_assoc before (event ∷ []) rest))
-      ∙ still_last (before ++ event ∷ []) rest lawful.1 (one_more event refl) (λ trimmed. not (subst (λ l. IsOneOf (trimmings_of l) (record { core = commit.core; number = commit.number; part = part })) (append_assoc before (event ∷ []) rest) trimmed))
+      ∙ still_last (before ++ event ∷ []) rest lawful.1 (one_more event refl)
+      (λ trimmed. not
+      (subst (λ l. IsOneOf (trimmings_of l) (record { core = commit.core; number = commit.number; part = part }))
+      (append_assoc before (event ∷ []) rest) trimmed))
     where
       quiet : commit_told event ≡ None → last_writer node (commits_of (before ++ event ∷ [])) ≡ Some (commit, what)
-      quiet none = ap (last_writer node) (filter_map-append commit_told before (event ∷ []) ∙ (ap (λ o. commits_of before ++ Rattle.std.specs.List.cons_option o []) none ∙ append-nil (commits_of before))) ∙ last
+      quiet none =
+          ap (last_writer node)
+          (filter_map-append commit_told before (event ∷ [])
+          ∙ (ap (λ o. commits_of before ++ Rattle.std.specs.List.cons_option o []) none ∙ append-nil (commits_of before)))
+          ∙ last
 
-      raised : (other : Commitment) → commit_told event ≡ Some other → MayBeCommitted given first (account_of before) other → last_writer node (commits_of (before ++ event ∷ [])) ≡ Some (commit, what)
+      raised : (other : Commitment) → commit_told event ≡ Some other → MayBeCommitted given first (account_of before) other
+          → last_writer node (commits_of (before ++ event ∷ [])) ≡ Some (commit, what)
       raised other is may =
           ap (last_writer node) (filter_map-append commit_told before (event ∷ []) ∙ ap (λ o. commits_of before ++ Rattle.std.specs.List.cons_option o []) is)
           ∙ (last_writer-push node (commits_of before) other
@@ -60,14 +72,21 @@ module _ (given : ℕ → Option OldKept) (first : TreeState) (commit : Commitme
       one_more (Told by (Saw n holder)) is = quiet (ap commit_told is)
       one_more (Told by (Noted stamp p marks)) is = quiet (ap commit_told is)
       one_more (Told by (Trimmed number p)) is = quiet (ap commit_told is)
-      one_more (Told by (Committed number n stamp members held)) is = raised (commit_by by.0 number n stamp members held) (ap commit_told is) (subst (λ e. MayStandAfter given first (account_of before) e) is lawful.0)
+      one_more (Told by (Committed number n stamp members held)) is =
+          raised (commit_by by.0 number n stamp members held) (ap commit_told is) (subst (λ e. MayStandAfter given first (account_of before) e) is lawful.0)
 
 pub commits_stay_last : CommitsStayLast
 commits_stay_last given first before after core number node stamp members held part of what lawful known not holds =
     let commit : Commitment = commit_by core.0 number node stamp members held in
     let event : Event Fact = Told core (Committed number node stamp members held) in
     let begun : last_writer of (commits_of (before ++ event ∷ [])) ≡ Some (commit, what) =
-    ap (last_writer of) (filter_map-append commit_told before (event ∷ [])) ∙ (last_writer-push of (commits_of before) commit ∙ ap (λ o. option_or (writes_by commit o) (last_writer of (commits_of before))) holds) in
+    ap (last_writer of) (filter_map-append commit_told before (event ∷ []))
+    ∙ (last_writer-push of (commits_of before) commit ∙ ap (λ o. option_or (writes_by commit o) (last_writer of (commits_of before))) holds) in
     ap (λ l. last_writer of (commits_of l)) (sym (append_assoc before (event ∷ []) after))
-    ∙ still_last given first commit part of what known (before ++ event ∷ []) after (lawful_behind given first [] (before ++ event ∷ []) after (subst (λ l. AreLawfulBehind given first [] l) (sym (append_assoc before (event ∷ []) after)) lawful)) begun
-    (λ trimmed. not (subst (λ l. IsOneOf (trimmings_of l) (record { core = commit.core; number = commit.number; part = part })) (append_assoc before (event ∷ []) after) trimmed))
+    ∙ still_last given first commit part of what known (before ++ event ∷ []) after
+    (lawful_behind given first [] (before ++ event ∷ []) after
+    (subst (λ l. AreLawfulBehind given first [] l) (sym (append_assoc before (event ∷ []) after)) lawful))
+    begun
+    (λ trimmed. not
+    (subst (λ l. IsOneOf (trimmings_of l) (record { core = commit.core; number = commit.number; part = part }))
+    (append_assoc before (event ∷ []) after) trimmed))

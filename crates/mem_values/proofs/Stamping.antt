@@ -48,7 +48,8 @@ share_stays first [] = refl
 share_stays first (e ∷ history) = share_stays (tree_after_entry first e) history
 
 -- a value that stands for a cell shows it
-pub shows : (given : ℕ → Option OldKept) (first : TreeState) (account : Account) (which : CellId) (value : Cell) → StandsForCell given first account which value → ShowsCell (tree_after first account.calls) which value
+pub shows : (given : ℕ → Option OldKept) (first : TreeState) (account : Account) (which : CellId) (value : Cell) → StandsForCell given first account which value
+    → ShowsCell (tree_after first account.calls) which value
 shows given first account id.Lock (cell.Lock lock) stood = tt
 shows given first account id.Lock (cell.Bucket b) stood = tt
 shows given first account id.Lock (cell.File f) stood = tt
@@ -75,7 +76,8 @@ shows given first account (id.Part core) (cell.File f) stood = tt
 shows given first account (id.Part core) (cell.Pending p) stood = tt
 shows given first account (id.Part core) (cell.Part p) stood = stood.made
 
-module _ (given : ℕ → Option OldKept) (view : View TreeState (Event Fact)) (log : List (Event Fact)) (past : IsPast event_core is_call (IsLawful (IsLawfulLog given)) (stands_for (StandsAt given)) view log) where
+module _ (given : ℕ → Option OldKept) (view : View TreeState (Event Fact)) (log : List (Event Fact))
+    (past : IsPast event_core is_call (IsLawful (IsLawfulLog given)) (stands_for (StandsAt given)) view log) where
   -- what a core knows of a cell stands in each history that it may meet
   pub still_stands : (known : HeldCell Cell) → KnowsCell given view known → StandsAt given view.first log known.place known.value
   still_stands known knows = past.held known.place (Some known.value) knows.holds knows.stood
@@ -94,7 +96,8 @@ module _ (given : ℕ → Option OldKept) (view : View TreeState (Event Fact)) (
     shows = all_show cells knows;
   }
 
-  module _ (c : Call) (reply : Reply) (sound : IsSoundTree view.first) (core : view.core < length view.first.made) (fits : CallFits view (tree_after view.first (calls_in log)) c reply) where
+  module _ (c : Call) (reply : Reply) (sound : IsSoundTree view.first) (core : view.core < length view.first.made)
+      (fits : CallFits view (tree_after view.first (calls_in log)) c reply) where
     abbrev entry : Entry
     entry = entry_numbered view.core c reply (length (calls_in log))
 
@@ -109,7 +112,8 @@ module _ (given : ℕ → Option OldKept) (view : View TreeState (Event Fact)) (
     legal_next : IsLegal view.first (calls_in (log ++ Called entry ∷ []))
     legal_next = subst (λ l. IsLegal view.first l) (sym (calls_snoc log entry)) (IsLegal-push view.first (calls_in log) entry past.legal_log.legal_calls comes)
 
-    kept : (place : ℕ) (value : Cell) → (Has view.held place → ⊥) → StandsAt given view.first log place value → StandsAt given view.first (log ++ Called entry ∷ []) place value
+    kept : (place : ℕ) (value : Cell) → (Has view.held place → ⊥) → StandsAt given view.first log place value
+        → StandsAt given view.first (log ++ Called entry ∷ []) place value
     kept place value not stood which is at = elim (fits.keeps which is) [
       | inl keeps ↦ calls_keep_cells given view.first log entry which value sound legal_next keeps (stood which is at)
       | inr has ↦ absurd (not (subst (λ p. Has view.held p) at has))

@@ -40,35 +40,55 @@ module _ (tree : TreeState) (node : ℕ) where
   -- an effect takes no row of this node from the directory in which it stands
   abbrev KeepsStanding : Effect → Type 0
   KeepsStanding (Removes directory name child) = child ≡ node → ⊥
-  KeepsStanding (Moves directory name to_directory to_name child) = (row_of tree to_directory to_name ≡ Some node → ⊥) × (child ≡ node → directory ≡ to_directory)
+  KeepsStanding (Moves directory name to_directory to_name child) =
+      (row_of tree to_directory to_name ≡ Some node → ⊥) × (child ≡ node → directory ≡ to_directory)
   KeepsStanding _ = Unit {0}
 
-  unlinked : is_directory tree node ≡ true → (directory : ℕ) (name : List ℕ) (fault : Option Code) (row : Option ℕ) → KeepsStanding (or_else fault (unlink_row tree directory name row)).effect
+  unlinked : is_directory tree node ≡ true → (directory : ℕ) (name : List ℕ) (fault : Option Code) (row : Option ℕ)
+      → KeepsStanding (or_else fault (unlink_row tree directory name row)).effect
   unlinked kind directory name (Some code) row = tt
   unlinked kind directory name None None = tt
-  unlinked kind directory name None (Some child) = ⊎_elim (λ is. rw is tt) (λ file. rw file (λ same. both_ways (is_directory tree child) file (ap (is_directory tree) same ∙ kind))) (cases_Bool (is_directory tree child))
+  unlinked kind directory name None (Some child) =
+      ⊎_elim (λ is. rw is tt) (λ file. rw file (λ same. both_ways (is_directory tree child) file (ap (is_directory tree) same ∙ kind)))
+      (cases_Bool (is_directory tree child))
 
   -- so does no call that does not touch where it stands
-  keeps_standing : (core : ℕ) (c : Call) → is_directory tree node ≡ true → touches_standing tree core c node ≡ false → KeepsStanding (verdict tree core c).effect
-  keeps_standing core (call.Look d n) kind apart = of_what_it_does KeepsStanding tree core (call.Look d n) tt (λ effect own. absurd (let never : None ≡ Some effect = own in cc))
-  keeps_standing core (call.Read f at count) kind apart = of_what_it_does KeepsStanding tree core (call.Read f at count) tt (λ effect own. absurd (let never : None ≡ Some effect = own in cc))
-  keeps_standing core (call.Stat d) kind apart = of_what_it_does KeepsStanding tree core (call.Stat d) tt (λ effect own. absurd (let never : None ≡ Some effect = own in cc))
-  keeps_standing core (call.List d) kind apart = of_what_it_does KeepsStanding tree core (call.List d) tt (λ effect own. absurd (let never : None ≡ Some effect = own in cc))
-  keeps_standing core (call.Fsync d) kind apart = of_what_it_does KeepsStanding tree core (call.Fsync d) tt (λ effect own. absurd (let never : None ≡ Some effect = own in cc))
-  keeps_standing core (call.Make d n k) kind apart = of_what_it_does KeepsStanding tree core (call.Make d n k) tt (λ effect own. of_one KeepsStanding (Adds d.0 n (next_number tree core)) effect own tt)
-  keeps_standing core (call.Link f d n) kind apart = of_what_it_does KeepsStanding tree core (call.Link f d n) tt (λ effect own. of_one KeepsStanding (Adds d.0 n f.0) effect own tt)
-  keeps_standing core (call.Write f at bytes) kind apart = of_what_it_does KeepsStanding tree core (call.Write f at bytes) tt (λ effect own. of_one KeepsStanding (Edits f.0 (Puts at bytes)) effect own tt)
-  keeps_standing core (call.Trunc f size) kind apart = of_what_it_does KeepsStanding tree core (call.Trunc f size) tt (λ effect own. of_one KeepsStanding (Edits f.0 (Resizes size)) effect own tt)
+  keeps_standing : (core : ℕ) (c : Call) → is_directory tree node ≡ true → touches_standing tree core c node ≡ false
+      → KeepsStanding (verdict tree core c).effect
+  keeps_standing core (call.Look d n) kind apart =
+      of_what_it_does KeepsStanding tree core (call.Look d n) tt (λ effect own. absurd (let never : None ≡ Some effect = own in cc))
+  keeps_standing core (call.Read f at count) kind apart =
+      of_what_it_does KeepsStanding tree core (call.Read f at count) tt (λ effect own. absurd (let never : None ≡ Some effect = own in cc))
+  keeps_standing core (call.Stat d) kind apart =
+      of_what_it_does KeepsStanding tree core (call.Stat d) tt (λ effect own. absurd (let never : None ≡ Some effect = own in cc))
+  keeps_standing core (call.List d) kind apart =
+      of_what_it_does KeepsStanding tree core (call.List d) tt (λ effect own. absurd (let never : None ≡ Some effect = own in cc))
+  keeps_standing core (call.Fsync d) kind apart =
+      of_what_it_does KeepsStanding tree core (call.Fsync d) tt (λ effect own. absurd (let never : None ≡ Some effect = own in cc))
+  keeps_standing core (call.Make d n k) kind apart =
+      of_what_it_does KeepsStanding tree core (call.Make d n k) tt (λ effect own. of_one KeepsStanding (Adds d.0 n (next_number tree core)) effect own tt)
+  keeps_standing core (call.Link f d n) kind apart =
+      of_what_it_does KeepsStanding tree core (call.Link f d n) tt (λ effect own. of_one KeepsStanding (Adds d.0 n f.0) effect own tt)
+  keeps_standing core (call.Write f at bytes) kind apart =
+      of_what_it_does KeepsStanding tree core (call.Write f at bytes) tt (λ effect own. of_one KeepsStanding (Edits f.0 (Puts at bytes)) effect own tt)
+  keeps_standing core (call.Trunc f size) kind apart =
+      of_what_it_does KeepsStanding tree core (call.Trunc f size) tt (λ effect own. of_one KeepsStanding (Edits f.0 (Resizes size)) effect own tt)
   keeps_standing core (call.Unlink d n) kind apart = unlinked kind d.0 n (directory_fault tree d.0) (row_of tree d.0 n)
   keeps_standing core (call.Rmdir d n) kind apart =
-      of_what_it_does KeepsStanding tree core (call.Rmdir d n) tt (λ effect own. of_child KeepsStanding (Removes d.0 n) (row_of tree d.0 n) effect own (λ x e same. not_this node (row_of tree d.0 n) apart (e ∙ ap Some same)))
+      of_what_it_does KeepsStanding tree core (call.Rmdir d n) tt
+      (λ effect own. of_child KeepsStanding (Removes d.0 n) (row_of tree d.0 n) effect own
+      (λ x e same. not_this node (row_of tree d.0 n) apart (e ∙ ap Some same)))
   keeps_standing core (call.Rename p n q m) kind apart =
-      let both : (is_this node (row_of tree q.0 m) || (not (p.0 == q.0) && is_this node (row_of tree p.0 n))) ≡ false = right_false (is_directory tree node) _ kind apart in
+      let both : (is_this node (row_of tree q.0 m) || (not (p.0 == q.0) && is_this node (row_of tree p.0 n))) ≡ false =
+      right_false (is_directory tree node) _ kind apart in
       let target : is_this node (row_of tree q.0 m) ≡ false = or_first _ _ both in
       let source : (not (p.0 == q.0) && is_this node (row_of tree p.0 n)) ≡ false = or_second _ _ both in
-      of_what_it_does KeepsStanding tree core (call.Rename p n q m) tt (λ effect own. of_child KeepsStanding (Moves p.0 n q.0 m) (row_of tree p.0 n) effect own (λ x e. (
+      of_what_it_does KeepsStanding tree core (call.Rename p n q m) tt
+      (λ effect own. of_child KeepsStanding (Moves p.0 n q.0 m) (row_of tree p.0 n) effect own (λ x e. (
         not_this node (row_of tree q.0 m) target,
-        λ same. ⊎_elim (λ is. eqb-true p.0 q.0 is) (λ not_same. absurd (not_this node (row_of tree p.0 n) (right_false (not (p.0 == q.0)) _ (ap not not_same) source) (e ∙ ap Some same))) (cases_Bool (p.0 == q.0)),
+        λ same. ⊎_elim (λ is. eqb-true p.0 q.0 is)
+            (λ not_same. absurd (not_this node (row_of tree p.0 n) (right_false (not (p.0 == q.0)) _ (ap not not_same) source) (e ∙ ap Some same)))
+            (cases_Bool (p.0 == q.0)),
       )))
 
   -- a row that names the node, in a directory
@@ -76,32 +96,50 @@ module _ (tree : TreeState) (node : ℕ) where
   NamesIn next directory = (name : List ℕ) × (row_of next directory name ≡ Some node)
 
   -- a directory still has such a row after such an effect
-  named_in : (core : ℕ) (effect : Effect) (makes : Option Kind) (directory : ℕ) → Fits tree core effect makes → KeepsStanding effect → NamesIn tree directory → NamesIn (tree_with tree core effect makes) directory
+  named_in : (core : ℕ) (effect : Effect) (makes : Option Kind) (directory : ℕ) → Fits tree core effect makes → KeepsStanding effect → NamesIn tree directory
+      → NamesIn (tree_with tree core effect makes) directory
   named_in core Stays None directory fits keeps there = there
   named_in core Stays (Some kind) directory fits keeps there = absurd fits
   named_in core (Edits file edit) None directory fits keeps there = there
   named_in core (Edits file edit) (Some kind) directory fits keeps there = absurd fits
-  named_in core (Adds d n c) None directory fits keeps there =
-      (there.0, added_other tree.rows directory d there.0 n c (λ same name. some_not_none (row_of tree directory there.0) node there.1 ((λ i. row_of tree (same i) (name i)) ∙ fits.free)) ∙ there.1)
-  named_in core (Adds d n c) (Some kind) directory fits keeps there =
-      (there.0, added_other tree.rows directory d there.0 n c (λ same name. some_not_none (row_of tree directory there.0) node there.1 ((λ i. row_of tree (same i) (name i)) ∙ fits.free)) ∙ there.1)
-  named_in core (Removes d n c) None directory fits keeps there =
-      (there.0, removed_other tree.rows directory d there.0 n (λ same name. keeps (same_some (row_of tree d n) c node fits.row (sym (λ i. row_of tree (same i) (name i)) ∙ there.1))) ∙ there.1)
+  named_in core (Adds d n c) None directory fits keeps there = (
+    there.0,
+    added_other tree.rows directory d there.0 n c
+        (λ same name. some_not_none (row_of tree directory there.0) node there.1 ((λ i. row_of tree (same i) (name i)) ∙ fits.free))
+        ∙ there.1,
+  )
+  named_in core (Adds d n c) (Some kind) directory fits keeps there = (
+    there.0,
+    added_other tree.rows directory d there.0 n c
+        (λ same name. some_not_none (row_of tree directory there.0) node there.1 ((λ i. row_of tree (same i) (name i)) ∙ fits.free))
+        ∙ there.1,
+  )
+  named_in core (Removes d n c) None directory fits keeps there = (
+    there.0,
+    removed_other tree.rows directory d there.0 n
+        (λ same name. keeps (same_some (row_of tree d n) c node fits.row (sym (λ i. row_of tree (same i) (name i)) ∙ there.1)))
+        ∙ there.1,
+  )
   named_in core (Removes d n c) (Some kind) directory fits keeps there = absurd fits
   named_in core (Moves p n q m x) (Some kind) directory fits keeps there = absurd fits
   named_in core (Moves p n q m x) None directory fits keeps there = ⊎_elim
       (λ at_source.
       let child : x ≡ node = same_some (row_of tree p n) x node fits.row (sym (λ i. row_of tree (at_source.0 i) (at_source.1 i)) ∙ there.1) in
-      let here : directory ≡ q = at_source.0 ∙ keeps.1 child in
-      (m, subst (λ d. row_of (tree_with tree core (Moves p n q m x) None) d m ≡ Some node) (sym here) (added_there (Rattle.std.specs.FinMap.remove tree.rows (p, n)) q m x ∙ ap Some child)))
+      let here : directory ≡ q = at_source.0 ∙ keeps.1 child in (
+        m,
+        subst (λ d. row_of (tree_with tree core (Moves p n q m x) None) d m ≡ Some node) (sym here)
+            (added_there (Rattle.std.specs.FinMap.remove tree.rows (p, n)) q m x ∙ ap Some child),
+      ))
       (λ other. (
         there.0,
-        added_other (Rattle.std.specs.FinMap.remove tree.rows (p, n)) directory q there.0 m x (λ same name. keeps.0 (sym (λ i. row_of tree (same i) (name i)) ∙ there.1))
+        added_other (Rattle.std.specs.FinMap.remove tree.rows (p, n)) directory q there.0 m x
+            (λ same name. keeps.0 (sym (λ i. row_of tree (same i) (name i)) ∙ there.1))
             ∙ (removed_other tree.rows directory p there.0 n other ∙ there.1),
       ))
       (is_here directory p there.0 n)
 
-module _ (tree : TreeState) (core : ℕ) (c : Call) (node : ℕ) (is : IsSoundTree tree) (lt : core < length tree.made) (apart : touches_standing tree core c node ≡ false) where
+module _ (tree : TreeState) (core : ℕ) (c : Call) (node : ℕ) (is : IsSoundTree tree) (lt : core < length tree.made)
+    (apart : touches_standing tree core c node ≡ false) where
   abbrev next : TreeState
   next = tree_after_call tree core c
 
@@ -123,7 +161,10 @@ module _ (tree : TreeState) (core : ℕ) (c : Call) (node : ℕ) (is : IsSoundTr
       (root_or_dead (nat_eq node 0) refl)
     where
       not_alive : nat_eq node 0 ≡ false → is_alive tree node ≡ false
-      not_alive other = ⊎_elim (λ alive. ⊎_elim (λ root. absurd (both_ways (nat_eq node 0) other (eq-eqb node 0 root))) (λ n. absurd (unnamed n)) (alive_named tree node alive)) (λ dead. dead) (cases_Bool (is_alive tree node))
+      not_alive other =
+          ⊎_elim
+          (λ alive. ⊎_elim (λ root. absurd (both_ways (nat_eq node 0) other (eq-eqb node 0 root))) (λ n. absurd (unnamed n)) (alive_named tree node alive))
+          (λ dead. dead) (cases_Bool (is_alive tree node))
 
       root_or_dead : (b : Bool) → nat_eq node 0 ≡ b → (node ≡ 0) ⊎ (is_alive next node ≡ false)
       root_or_dead true same = inl (eqb-true node 0 same)
@@ -138,8 +179,10 @@ module _ (tree : TreeState) (core : ℕ) (c : Call) (node : ℕ) (is : IsSoundTr
   ]
 
   -- a call that makes a node of this number makes no directory
-  made_kind : (d : Call) (kind : Kind) → touches_standing tree core d node ≡ false → own_kind d ≡ Some kind → (is_directory_kind kind && (next_number tree core == node)) ≡ false
-  made_kind (call.Make directory name k) kind not own = let same : k ≡ kind = cc (own) in subst (λ (x : Kind). (is_directory_kind x && (next_number tree core == node)) ≡ false) same not
+  made_kind : (d : Call) (kind : Kind) → touches_standing tree core d node ≡ false → own_kind d ≡ Some kind
+      → (is_directory_kind kind && (next_number tree core == node)) ≡ false
+  made_kind (call.Make directory name k) kind not own = let same : k ≡ kind = cc (own) in
+      subst (λ (x : Kind). (is_directory_kind x && (next_number tree core == node)) ≡ false) same not
   made_kind (call.Look directory name) kind not own = absurd (cc (own))
   made_kind (call.Link file directory name) kind not own = absurd (cc (own))
   made_kind (call.Unlink directory name) kind not own = absurd (cc (own))
@@ -152,28 +195,35 @@ module _ (tree : TreeState) (core : ℕ) (c : Call) (node : ℕ) (is : IsSoundTr
   made_kind (call.List directory) kind not own = absurd (cc (own))
   made_kind (call.Fsync n) kind not own = absurd (cc (own))
 
-  not_directory : (makes : Option Kind) → (verdict tree core c).makes ≡ makes → is_directory tree node ≡ false → is_directory_kind (kind_after tree core makes node) ≡ false
+  not_directory : (makes : Option Kind) → (verdict tree core c).makes ≡ makes → is_directory tree node ≡ false
+      → is_directory_kind (kind_after tree core makes node) ≡ false
   not_directory None makes_is file = sym (directory_by_kind tree node) ∙ file
   not_directory (Some kind) makes_is file = ⊎_elim
       (λ here. rw here (elim (does_its_own tree core c) [
         | inl nothing ↦ absurd (let never : None ≡ Some kind = sym nothing.makes ∙ makes_is in cc)
-        | inr own ↦ made_file kind (eq-eqb (next_number tree core) node (sym (eqb-true node (next_number tree core) here))) (made_kind c kind apart (own.makes ∙ makes_is))
+        | inr own ↦
+            made_file kind (eq-eqb (next_number tree core) node (sym (eqb-true node (next_number tree core) here)))
+            (made_kind c kind apart (own.makes ∙ makes_is))
       ]))
       (λ other. rw other (sym (directory_by_kind tree node) ∙ file))
       (cases_Bool (node == next_number tree core))
     where
-      made_file : (k : Kind) → (next_number tree core == node) ≡ true → (is_directory_kind k && (next_number tree core == node)) ≡ false → is_directory_kind k ≡ false
+      made_file : (k : Kind) → (next_number tree core == node) ≡ true → (is_directory_kind k && (next_number tree core == node)) ≡ false
+          → is_directory_kind k ≡ false
       made_file k here not = left_false (is_directory_kind k) (sym (ap (λ b. is_directory_kind k && b) here) ∙ not)
 
   no_directory_after : is_directory tree node ≡ false → is_directory next node ≡ false
   no_directory_after file =
-      directory_by_kind next node ∙ (ap is_directory_kind (nodes_after tree core (verdict tree core c).effect (verdict tree core c).makes node fits).kind ∙ not_directory (verdict tree core c).makes refl file)
+      directory_by_kind next node
+      ∙ (ap is_directory_kind (nodes_after tree core (verdict tree core c).effect (verdict tree core c).makes node fits).kind
+      ∙ not_directory (verdict tree core c).makes refl file)
 
   -- Where it stands stays.
   pub standing_stays : stands_of next node ≡ stands_of tree node
   standing_stays = ⊎_elim
       (λ kind.
-      let kind_next : is_directory next node ≡ true = directory_stays tree core (verdict tree core c).effect (verdict tree core c).makes node fits (directory_node tree node kind) ∙ kind in
+      let kind_next : is_directory next node ≡ true =
+      directory_stays tree core (verdict tree core c).effect (verdict tree core c).makes node fits (directory_node tree node kind) ∙ kind in
       ap (λ b. if b then holder_of next node else None) kind_next ∙ (holder_kept kind kind_next ∙ sym (ap (λ b. if b then holder_of tree node else None) kind)))
       (λ file. ap (λ b. if b then holder_of next node else None) (no_directory_after file) ∙ sym (ap (λ b. if b then holder_of tree node else None) file))
       (cases_Bool (is_directory tree node))

@@ -33,7 +33,8 @@ account_saw log core node holder = let event : Event Fact = Told core (Saw node 
   trimmings = (filter_map-append trimming_told log (event ∷ []) ∙ append-nil (filter_map trimming_told log)) i;
 }
 
-pub account_noted : (log : List (Event Fact)) (core : CoreId) (stamp : Stamp) (part : CoreId) (marks : Vec Stamp Global) → account_of (log ++ Told core (Noted stamp part marks) ∷ []) ≡ account_of log
+pub account_noted : (log : List (Event Fact)) (core : CoreId) (stamp : Stamp) (part : CoreId) (marks : Vec Stamp Global)
+    → account_of (log ++ Told core (Noted stamp part marks) ∷ []) ≡ account_of log
 account_noted log core stamp part marks = let event : Event Fact = Told core (Noted stamp part marks) in λ i. record {
   calls = (filter_map-append called log (event ∷ []) ∙ append-nil (calls_in log)) i;
   commits = (filter_map-append commit_told log (event ∷ []) ∙ append-nil (filter_map commit_told log)) i;
@@ -47,8 +48,10 @@ with_commit account commit = record account { commits = account.commits ++ commi
 abbrev pub with_trimming : Account → Trimming → Account
 with_trimming account trimming = record account { trimmings = account.trimmings ++ trimming ∷ [] }
 
-pub account_committed : (log : List (Event Fact)) (core : CoreId) (number : ℕ) (node : NodeId) (stamp : Stamp) (members : Vec NodeId Global) (held : Vec HeldNode Global)
-    → account_of (log ++ Told core (Committed number node stamp members held) ∷ []) ≡ with_commit (account_of log) (commit_by core.0 number node stamp members held)
+pub account_committed : (log : List (Event Fact)) (core : CoreId) (number : ℕ) (node : NodeId) (stamp : Stamp) (members : Vec NodeId Global)
+    (held : Vec HeldNode Global)
+    → account_of (log ++ Told core (Committed number node stamp members held) ∷ [])
+    ≡ with_commit (account_of log) (commit_by core.0 number node stamp members held)
 account_committed log core number node stamp members held = let event : Event Fact = Told core (Committed number node stamp members held) in λ i. record {
   calls = (filter_map-append called log (event ∷ []) ∙ append-nil (calls_in log)) i;
   commits = filter_map-append commit_told log (event ∷ []) i;
@@ -73,15 +76,20 @@ module _ {X : Type 0} where
   one_of_both (Some y) xs ys x more among = elim among [ inl here ↦ inl here | inr there ↦ inr (more there) ]
 
   -- what is found in some events is found in all of them
-  pub one_of_some : (f : Event Fact → Option X) (p : Event Fact → Bool) (log : List (Event Fact)) (x : X) → IsOneOf (filter_map f (filter p log)) x → IsOneOf (filter_map f log) x
+  pub one_of_some : (f : Event Fact → Option X) (p : Event Fact → Bool) (log : List (Event Fact)) (x : X) → IsOneOf (filter_map f (filter p log)) x
+      → IsOneOf (filter_map f log) x
   one_of_some f p [] x among = among
   one_of_some f p (event ∷ log) x among = ⊎_elim
-      (λ is. one_of_both (f event) (filter_map f (filter p log)) (filter_map f log) x (one_of_some f p log x) (subst (λ b. IsOneOf (filter_map f (Rattle.std.specs.Prelude.if◌then◌else◌ b (event ∷ filter p log) (filter p log))) x) is among))
-      (λ not. one_of_rest (f event) (filter_map f log) x (one_of_some f p log x (subst (λ b. IsOneOf (filter_map f (Rattle.std.specs.Prelude.if◌then◌else◌ b (event ∷ filter p log) (filter p log))) x) not among)))
+      (λ is. one_of_both (f event) (filter_map f (filter p log)) (filter_map f log) x (one_of_some f p log x)
+      (subst (λ b. IsOneOf (filter_map f (Rattle.std.specs.Prelude.if◌then◌else◌ b (event ∷ filter p log) (filter p log))) x) is among))
+      (λ not. one_of_rest (f event) (filter_map f log) x
+      (one_of_some f p log x
+      (subst (λ b. IsOneOf (filter_map f (Rattle.std.specs.Prelude.if◌then◌else◌ b (event ∷ filter p log) (filter p log))) x) not among)))
       (cases_Bool (p event))
 
 -- an fsync among a core's own calls is one of the history
-pub fsync_there : (log : List (Event Fact)) (core node stamp : ℕ) (mine : List (Event Fact)) → mine ≡ entries_by event_core core log → HasFsync (calls_in mine) core node stamp → HasFsync (calls_in log) core node stamp
+pub fsync_there : (log : List (Event Fact)) (core node stamp : ℕ) (mine : List (Event Fact)) → mine ≡ entries_by event_core core log
+    → HasFsync (calls_in mine) core node stamp → HasFsync (calls_in log) core node stamp
 fsync_there log core node stamp mine is fsync = record {
   entry = fsync.entry;
   among = one_of_some called (is_by event_core core) log fsync.entry (subst (λ l. IsOneOf (calls_in l) fsync.entry) is fsync.among);
@@ -91,12 +99,17 @@ fsync_there log core node stamp mine is fsync = record {
 }
 
 -- a commit of a core stands among the core's own events
-pub own_commit : (log : List (Event Fact)) (core : ℕ) (commit : Commitment) → IsOneOf (filter_map commit_told log) commit → commit.core ≡ core → IsOneOf (filter_map commit_told (entries_by event_core core log)) commit
+pub own_commit : (log : List (Event Fact)) (core : ℕ) (commit : Commitment) → IsOneOf (filter_map commit_told log) commit → commit.core ≡ core
+    → IsOneOf (filter_map commit_told (entries_by event_core core log)) commit
 own_commit [] core commit among own = among
-own_commit (Called entry ∷ log) core commit among own = let r = own_commit log core commit among own in ⊎_elim (λ is. rw is r) (λ not. rw not r) (cases_Bool (entry.core.0 == core))
-own_commit (Told by (Saw node holder) ∷ log) core commit among own = let r = own_commit log core commit among own in ⊎_elim (λ is. rw is r) (λ not. rw not r) (cases_Bool (by.0 == core))
-own_commit (Told by (Noted stamp part marks) ∷ log) core commit among own = let r = own_commit log core commit among own in ⊎_elim (λ is. rw is r) (λ not. rw not r) (cases_Bool (by.0 == core))
-own_commit (Told by (Trimmed number part) ∷ log) core commit among own = let r = own_commit log core commit among own in ⊎_elim (λ is. rw is r) (λ not. rw not r) (cases_Bool (by.0 == core))
+own_commit (Called entry ∷ log) core commit among own = let r = own_commit log core commit among own in
+    ⊎_elim (λ is. rw is r) (λ not. rw not r) (cases_Bool (entry.core.0 == core))
+own_commit (Told by (Saw node holder) ∷ log) core commit among own = let r = own_commit log core commit among own in
+    ⊎_elim (λ is. rw is r) (λ not. rw not r) (cases_Bool (by.0 == core))
+own_commit (Told by (Noted stamp part marks) ∷ log) core commit among own = let r = own_commit log core commit among own in
+    ⊎_elim (λ is. rw is r) (λ not. rw not r) (cases_Bool (by.0 == core))
+own_commit (Told by (Trimmed number part) ∷ log) core commit among own = let r = own_commit log core commit among own in
+    ⊎_elim (λ is. rw is r) (λ not. rw not r) (cases_Bool (by.0 == core))
 own_commit (Told by (Committed number node stamp members held) ∷ log) core commit among own = elim among [
   | inl here ↦ rw (eq-eqb by.0 core (ap (λ (c : Commitment). c.core) here ∙ own)) (inl here)
   | inr there ↦ let r = own_commit log core commit there own in ⊎_elim (λ is. rw is (inr r)) (λ not. rw not r) (cases_Bool (by.0 == core))
@@ -104,7 +117,8 @@ own_commit (Told by (Committed number node stamp members held) ∷ log) core com
 
 -- a longer history has as many calls at least
 pub calls_grow : (seen log : List (Event Fact)) → IsPrefix seen log → length (calls_in seen) ≤ length (calls_in log)
-calls_grow seen log prefix = let l = ap length (sym (filter_map-append called seen prefix.0) ∙ ap calls_in prefix.1) in let m = length-append (calls_in seen) (calls_in prefix.0) in omega (arith, l, m)
+calls_grow seen log prefix = let l = ap length (sym (filter_map-append called seen prefix.0) ∙ ap calls_in prefix.1) in
+    let m = length-append (calls_in seen) (calls_in prefix.0) in omega (arith, l, m)
 
 -- the commit of a trimming stands in a lawful log
 pub record HasCommit (commits : List Commitment) (core number : ℕ) : Type 0 where
@@ -116,38 +130,50 @@ pub record HasCommit (commits : List Commitment) (core number : ℕ) : Type 0 wh
 abbrev pub commits_of : List (Event Fact) → List Commitment
 commits_of log = filter_map commit_told log
 
-commit_later : (before rest : List (Event Fact)) (core number : ℕ) → HasCommit (commits_of before) core number → HasCommit (commits_of (before ++ rest)) core number
+commit_later : (before rest : List (Event Fact)) (core number : ℕ) → HasCommit (commits_of before) core number
+    → HasCommit (commits_of (before ++ rest)) core number
 commit_later before rest core number has = record {
   commit = has.commit;
-  among = subst (λ l. IsOneOf l has.commit) (sym (filter_map-append commit_told before rest)) (in_left (commits_of before) (commits_of rest) has.commit has.among);
+  among =
+      subst (λ l. IsOneOf l has.commit) (sym (filter_map-append commit_told before rest)) (in_left (commits_of before) (commits_of rest) has.commit has.among);
   own = has.own;
   numbered = has.numbered;
 }
 
 module _ (given : ℕ → Option OldKept) (first : TreeState) where
   -- what a trimming asks, behind a log
-  trimming_asks : (before : List (Event Fact)) (event : Event Fact) (trimming : Trimming) → MayStandAfter given first (account_of before) event → trimming_told event ≡ Some trimming → HasCommit (commits_of before) trimming.core trimming.number
+  trimming_asks : (before : List (Event Fact)) (event : Event Fact) (trimming : Trimming) → MayStandAfter given first (account_of before) event
+      → trimming_told event ≡ Some trimming → HasCommit (commits_of before) trimming.core trimming.number
   trimming_asks before (Called entry) trimming may is = absurd (cc (is))
   trimming_asks before (Told by (Saw node holder)) trimming may is = absurd (cc (is))
   trimming_asks before (Told by (Noted stamp part marks)) trimming may is = absurd (cc (is))
   trimming_asks before (Told by (Committed number node stamp members held)) trimming may is = absurd (cc (is))
   trimming_asks before (Told by (Trimmed number part)) trimming may is =
       let same : record { core = by.0; number = number; part = part.0 } ≡ trimming = cc (is) in
-      record { commit = may.commit; among = may.among; own = may.own ∙ ap (λ (t : Trimming). t.core) same; numbered = may.numbered ∙ ap (λ (t : Trimming). t.number) same }
+      record {
+        commit = may.commit;
+        among = may.among;
+        own = may.own ∙ ap (λ (t : Trimming). t.core) same;
+        numbered = may.numbered ∙ ap (λ (t : Trimming). t.number) same;
+      }
 
-  one_of_first : (o : Option Trimming) (rest : List Trimming) (trimming : Trimming) → IsOneOf (cons_option o rest) trimming → (o ≡ Some trimming) ⊎ IsOneOf rest trimming
+  one_of_first : (o : Option Trimming) (rest : List Trimming) (trimming : Trimming) → IsOneOf (cons_option o rest) trimming
+      → (o ≡ Some trimming) ⊎ IsOneOf rest trimming
   one_of_first None rest trimming among = inr among
   one_of_first (Some t) rest trimming among = elim among [ inl here ↦ inl (ap Some here) | inr there ↦ inr there ]
 
-  commit_before : (before rest : List (Event Fact)) (trimming : Trimming) → AreLawfulBehind given first before rest → IsOneOf (filter_map trimming_told rest) trimming → HasCommit (commits_of (before ++ rest)) trimming.core trimming.number
+  commit_before : (before rest : List (Event Fact)) (trimming : Trimming) → AreLawfulBehind given first before rest
+      → IsOneOf (filter_map trimming_told rest) trimming → HasCommit (commits_of (before ++ rest)) trimming.core trimming.number
   commit_before before [] trimming lawful among = absurd among
   commit_before before (event ∷ rest) trimming lawful among = ⊎_elim
       (λ here. commit_later before (event ∷ rest) trimming.core trimming.number (trimming_asks before event trimming lawful.0 here))
-      (λ there. subst (λ l. HasCommit (commits_of l) trimming.core trimming.number) (append_assoc before (event ∷ []) rest) (commit_before (before ++ event ∷ []) rest trimming lawful.1 there))
+      (λ there. subst (λ l. HasCommit (commits_of l) trimming.core trimming.number) (append_assoc before (event ∷ []) rest)
+      (commit_before (before ++ event ∷ []) rest trimming lawful.1 there))
       (one_of_first (trimming_told event) (filter_map trimming_told rest) trimming among)
 
   -- each trimming of a lawful log is for a commit of it
-  pub trimmed_commit : (log : List (Event Fact)) (trimming : Trimming) → IsLawfulLog given first log → IsOneOf (filter_map trimming_told log) trimming → HasCommit (commits_of log) trimming.core trimming.number
+  pub trimmed_commit : (log : List (Event Fact)) (trimming : Trimming) → IsLawfulLog given first log → IsOneOf (filter_map trimming_told log) trimming
+      → HasCommit (commits_of log) trimming.core trimming.number
   trimmed_commit log trimming lawful among = commit_before [] log trimming lawful among
 
 module _ {X : Type 0} where
@@ -160,7 +186,9 @@ module _ {X : Type 0} where
   or_more (Some x) p q = refl
 
 -- the last writer once a commit is added
-pub last_writer-push : (node : ℕ) (commits : List Commitment) (commit : Commitment) → last_writer node (commits ++ commit ∷ []) ≡ option_or (writes_by commit (held_by commit node)) (last_writer node commits)
+pub last_writer-push : (node : ℕ) (commits : List Commitment) (commit : Commitment)
+    → last_writer node (commits ++ commit ∷ []) ≡ option_or (writes_by commit (held_by commit node)) (last_writer node commits)
 last_writer-push node [] commit = sym (or_end (writes_by commit (held_by commit node)))
 last_writer-push node (c ∷ commits) commit =
-    ap (λ o. option_or o (writes_by c (held_by c node))) (last_writer-push node commits commit) ∙ or_more (writes_by commit (held_by commit node)) (last_writer node commits) (writes_by c (held_by c node))
+    ap (λ o. option_or o (writes_by c (held_by c node))) (last_writer-push node commits commit)
+    ∙ or_more (writes_by commit (held_by commit node)) (last_writer node commits) (writes_by c (held_by c node))

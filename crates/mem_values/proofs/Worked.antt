@@ -35,10 +35,14 @@ use Rattle.mem_values.proofs.Telling.{stands_there}
 
 -- an fsync does nothing
 fsync_quiet : (tree : TreeState) (core node : ℕ) → DoesNothing (verdict tree core (call.Fsync (numbered_node node)))
-fsync_quiet tree core node = ⊎_elim (λ is. rw is (record { effect = refl; makes = refl })) (λ is. rw is (record { effect = refl; makes = refl })) (Rattle.std.proofs.lemmas.Bool.cases_Bool (is_alive tree node))
+fsync_quiet tree core node =
+    ⊎_elim (λ is. rw is (record { effect = refl; makes = refl })) (λ is. rw is (record { effect = refl; makes = refl }))
+    (Rattle.std.proofs.lemmas.Bool.cases_Bool (is_alive tree node))
 
-module _ (given : ℕ → Option OldKept) (first : TreeState) (node holder : ℕ) (marks : Vec Stamp Global) (members : Vec NodeId Global) (held : Vec HeldNode Global) (new : Option OldKept)
-    (cores : length first.made ≡ 2) (alive : is_alive first node ≡ true) (stands : stands_of first node ≡ Some holder) (lists : WorkedLists given node marks members held new) where
+module _ (given : ℕ → Option OldKept) (first : TreeState) (node holder : ℕ) (marks : Vec Stamp Global) (members : Vec NodeId Global)
+    (held : Vec HeldNode Global) (new : Option OldKept)
+    (cores : length first.made ≡ 2) (alive : is_alive first node ≡ true) (stands : stands_of first node ≡ Some holder)
+    (lists : WorkedLists given node marks members held new) where
   abbrev one : Entry
   one = worked_fsync 0 0 node
 
@@ -56,7 +60,10 @@ module _ (given : ℕ → Option OldKept) (first : TreeState) (node holder : ℕ
     stamped = refl;
     core = omega (arith, lt, cores);
     due = subst (λ b. IsDue b (verdict first core (call.Fsync (numbered_node node))).reply (worked_fsync stamp core node).reply) (sym alive) tt;
-    acknowledged = subst (λ b. Rattle.std.specs.Prelude.◌↔◌ (Rattle.std.specs.Prelude.IsSome (worked_fsync stamp core node).ack) (Rattle.std.specs.Prelude.IsTrue (Rattle.std.specs.Prelude.◌&&◌ b false))) (sym alive) ((λ is. absurd (cc)), (λ is. absurd (cc)));
+    acknowledged =
+        subst (λ b. Rattle.std.specs.Prelude.◌↔◌ (Rattle.std.specs.Prelude.IsSome (worked_fsync stamp core node).ack)
+        (Rattle.std.specs.Prelude.IsTrue (Rattle.std.specs.Prelude.◌&&◌ b false)))
+        (sym alive) ((λ is. absurd (cc)), (λ is. absurd (cc)));
   }
 
   legal : IsLegal first (one ∷ two ∷ [])
@@ -114,19 +121,51 @@ module _ (given : ℕ → Option OldKept) (first : TreeState) (node holder : ℕ
 
   lawful_told : IsLawfulLog given first log
   lawful_told =
-      let noted : (part : ℕ) → MayBeNoted calls_only 1 1 part marks.items = λ part. record { own = (node, own_fsync); marks_are = no_marks part } in
-      (tt, (tt, (holder_there, (noted 0, (noted 1, (commits, (record { commit = commit; among = inl refl; own = refl; numbered = refl }, (record { commit = commit; among = inl refl; own = refl; numbered = refl }, tt))))))))
+      let noted : (part : ℕ) → MayBeNoted calls_only 1 1 part marks.items = λ part. record { own = (node, own_fsync); marks_are = no_marks part } in (
+        tt,
+        (
+          tt,
+          (
+            holder_there,
+            (
+              noted 0,
+              (
+                noted 1,
+                (
+                  commits,
+                  (
+                    record { commit = commit; among = inl refl; own = refl; numbered = refl },
+                    (record { commit = commit; among = inl refl; own = refl; numbered = refl }, tt),
+                  ),
+                ),
+              ),
+            ),
+          ),
+        ),
+      )
 
   none_born : births_of first (one ∷ two ∷ []) ≡ []
   none_born =
-      (λ i. Rattle.flush_core.specs.Rules.births_by 0 ((fsync_quiet first 0 node).effect i) ((fsync_quiet first 0 node).makes i) ++ births_of (same_after 0 i) (two ∷ []))
+      (λ i. Rattle.flush_core.specs.Rules.births_by 0 ((fsync_quiet first 0 node).effect i) ((fsync_quiet first 0 node).makes i)
+      ++ births_of (same_after 0 i) (two ∷ []))
       ∙ (λ i. Rattle.flush_core.specs.Rules.births_by 1 ((fsync_quiet first 1 node).effect i) ((fsync_quiet first 1 node).makes i) ++ [])
 
   pending_home : (pending : Pending) → IsWorkedPending pending new → StandsPending given first (account_of log) node pending
   pending_home pending is = record {
-    flushed = (λ i. record { cut = is.cut i; last = is.last i; old = is.old i }) ∙ ap (Rattle.mem_values.specs.Stands.flushed_by given node) (sym (ap (λ o. Rattle.mem_values.specs.Account.writes_by commit o) holds_one));
-    made_in = ap Rattle.sfs_tree.specs.NameRow.number_of is.made_in ∙ sym (ap (λ l. option_map (λ (b : Rattle.flush_core.specs.Rules.Birth). b.directory) (find (λ (b : Rattle.flush_core.specs.Rules.Birth). b.node == node) l)) none_born);
-    trimmed = λ writer last part lt. subst (λ (w : Commitment × HeldNode). IsOneOf (account_of log).trimmings (record { core = w.0.core; number = w.0.number; part = part })) (written last) (both part (omega (arith, lt, cores)));
+    flushed =
+        (λ i. record { cut = is.cut i; last = is.last i; old = is.old i })
+        ∙ ap (Rattle.mem_values.specs.Stands.flushed_by given node) (sym (ap (λ o. Rattle.mem_values.specs.Account.writes_by commit o) holds_one));
+    made_in =
+        ap Rattle.sfs_tree.specs.NameRow.number_of is.made_in
+        ∙ sym
+        (ap
+        (λ l. option_map (λ (b : Rattle.flush_core.specs.Rules.Birth). b.directory)
+        (find (λ (b : Rattle.flush_core.specs.Rules.Birth). b.node == node) l))
+        none_born);
+    trimmed =
+        λ writer last part lt. subst (λ (w : Commitment × HeldNode). IsOneOf (account_of log).trimmings
+        (record { core = w.0.core; number = w.0.number; part = part }))
+        (written last) (both part (omega (arith, lt, cores)));
   }
     where
       written : {writer : Commitment × HeldNode} → Rattle.mem_values.specs.Account.last_writer node (commit ∷ []) ≡ Some writer → (commit, what) ≡ writer
@@ -138,7 +177,8 @@ module _ (given : ℕ → Option OldKept) (first : TreeState) (node holder : ℕ
       both (suc (suc part)) lt = absurd (omega (arith, lt))
 
   nothing_logged : (tree : TreeState) (core stamp by : ℕ) → entry_logged tree (worked_fsync stamp by node) ≡ []
-  nothing_logged tree core stamp by = λ i. Rattle.sfs_tree.specs.Logged.logged_by tree by stamp ((fsync_quiet tree by node).effect i) ((fsync_quiet tree by node).makes i)
+  nothing_logged tree core stamp by =
+      λ i. Rattle.sfs_tree.specs.Logged.logged_by tree by stamp ((fsync_quiet tree by node).effect i) ((fsync_quiet tree by node).makes i)
 
   none_logged : (core : ℕ) → own_logged first core (one ∷ two ∷ []) ≡ []
   none_logged core = both (0 == core) (1 == core)
@@ -163,13 +203,21 @@ module _ (given : ℕ → Option OldKept) (first : TreeState) (node holder : ℕ
     made = is.made ∙ sym (ap (λ t. made_by t core) tree_is);
     marks = record {
       capped = λ d. dite (ℕ_discrete d node)
-          (λ same. inr (commit, what, inl refl, ap (held_by commit) same ∙ holds_one, (let m = ap (mark_kept part.log) same in let own = is.own_mark in omega (arith, m, own))))
+          (λ same. inr (
+            commit,
+            what,
+            inl refl,
+            ap (held_by commit) same
+                ∙ holds_one,
+            (let m = ap (mark_kept part.log) same in let own = is.own_mark in omega (arith, m, own)),
+          ))
           (λ other. inl (is.other_marks d other));
       trimmed = λ other d among trimmed member. elim among [
         | inl same ↦
             let m : IsOneOf (map (λ (n : NodeId). n.0) members.items) d = subst (λ (c : Commitment). IsOneOf c.members d) (sym same) member in
             elim (subst (λ (l : List NodeId). IsOneOf (map (λ (n : NodeId). n.0) l) d) lists.one_member m) [
-              | inl here ↦ (let s = ap (λ (c : Commitment). c.stamp) same in let k = ap (mark_kept part.log) here in let own = is.own_mark in omega (arith, s, k, own))
+              | inl here ↦
+                  (let s = ap (λ (c : Commitment). c.stamp) same in let k = ap (mark_kept part.log) here in let own = is.own_mark in omega (arith, s, k, own))
               | inr none ↦ absurd none
             ]
         | inr none ↦ absurd none
@@ -179,7 +227,11 @@ module _ (given : ℕ → Option OldKept) (first : TreeState) (node holder : ℕ
 
 pub tables_can_be_met : TablesCanBeMet
 tables_can_be_met given first node holder marks members held new cores alive stands lists = record {
-  lawful = record { legal_calls = legal given first node holder marks members held new cores alive stands lists; told = lawful_told given first node holder marks members held new cores alive stands lists };
+  lawful =
+      record {
+        legal_calls = legal given first node holder marks members held new cores alive stands lists;
+        told = lawful_told given first node holder marks members held new cores alive stands lists;
+      };
   pending_home = pending_home given first node holder marks members held new cores alive stands lists;
   parts_home = parts_home given first node holder marks members held new cores alive stands lists;
 }

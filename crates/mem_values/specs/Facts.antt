@@ -37,7 +37,8 @@ pub record MayBeNoted (account : Account) (core stamp part : ℕ) (marks : List 
 -- A commit may hold a node: it saw what the last commit before it wrote, for which every part was trimmed, its number is greater than
 -- that one's, and the cut that it writes is not below the one that it saw, nor above the calls so far.
 pub record MayHoldNode (given : ℕ → Option OldKept) (first : TreeState) (account : Account) (number : ℕ) (held : HeldNode) : Type 0 where
-  pub saw : ◌≡◌ {A = Flushed} (record { cut = held.cut.0; last = held.last; old = held.old }) (flushed_by given held.node.0 (last_writer held.node.0 account.commits))
+  pub saw : ◌≡◌ {A = Flushed} (record { cut = held.cut.0; last = held.last; old = held.old })
+      (flushed_by given held.node.0 (last_writer held.node.0 account.commits))
   pub trimmed : AreTrimmedFor first account held.node.0
   pub later : held.last < number
   pub rises : held.cut.0 ≤ held.new_cut.0

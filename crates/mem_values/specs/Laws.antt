@@ -37,7 +37,8 @@ CallsKeepCells = (given : ℕ → Option OldKept) (first : TreeState) (log : Lis
 -- Where no call since moved a directory to another one, holders that were read are still so.
 abbrev pub ToldWaysStay : Type 0
 ToldWaysStay = (first : TreeState) (before after : List Entry) (node : ℕ) (holders : List ℕ) → IsSoundTree first → IsLegal first (before ++ after)
-    → last_move first None before ≡ last_move first None (before ++ after) → AreHolders (tree_after first before) node holders → AreHolders (tree_after first (before ++ after)) node holders
+    → last_move first None before ≡ last_move first None (before ++ after) → AreHolders (tree_after first before) node holders
+    → AreHolders (tree_after first (before ++ after)) node holders
 
 -- what the value of a cell shows of a tree
 abbrev pub ShowsCell : TreeState → CellId → Cell → Type 0
@@ -60,13 +61,15 @@ KnowsCells given view (known ∷ cells) = KnowsCell given view known × KnowsCel
 abbrev pub ShowCells : TreeState → TreeState → List (HeldCell Cell) → Type 0
 ShowCells first tree [] = Unit {0}
 ShowCells first tree (known ∷ cells) =
-    ((cell : CellId) → IsCell (node_count first) (length first.made) cell → cell_place (node_count first) cell ≡ known.place → ShowsCell tree cell known.value) × ShowCells first tree cells
+    ((cell : CellId) → IsCell (node_count first) (length first.made) cell → cell_place (node_count first) cell ≡ known.place → ShowsCell tree cell known.value)
+    × ShowCells first tree cells
 
 -- A call may come in a tree with a reply: it is due there, an fsync is not answered Ok yet, and each cell that the call does not keep is held.
 pub record CallFits (view : View TreeState (Event Fact)) (tree : TreeState) (c : Call) (reply : Reply) : Type 0 where
   pub due : IsDue (flushes tree c) (verdict tree view.core c).reply reply
   pub unanswered : (flushes tree c && is_ok_reply reply) ≡ false
-  pub keeps : (cell : CellId) → IsCell (node_count view.first) (length view.first.made) cell → KeepsCell tree view.core c cell ⊎ Has view.held (cell_place (node_count view.first) cell)
+  pub keeps : (cell : CellId) → IsCell (node_count view.first) (length view.first.made) cell
+      → KeepsCell tree view.core c cell ⊎ Has view.held (cell_place (node_count view.first) cell)
 
 -- A tree that a core may meet: it is sound, its numbers are those of the first tree, and the values that the core knows show it.
 pub record MayMeet (view : View TreeState (Event Fact)) (cells : List (HeldCell Cell)) (tree : TreeState) : Type 0 where
@@ -79,5 +82,6 @@ pub record MayMeet (view : View TreeState (Event Fact)) (cells : List (HeldCell 
 -- A call may be stamped with a reply where it fits each tree that the values show which its core knows.
 abbrev pub CallsMayCome : Type 0
 CallsMayCome = (given : ℕ → Option OldKept) (view : View TreeState (Event Fact)) (cells : List (HeldCell Cell)) (c : Call) (reply : Reply)
-    → IsSoundTree view.first → view.core < length view.first.made → KnowsCells given view cells → ((tree : TreeState) → MayMeet view cells tree → CallFits view tree c reply)
+    → IsSoundTree view.first → view.core < length view.first.made → KnowsCells given view cells
+    → ((tree : TreeState) → MayMeet view cells tree → CallFits view tree c reply)
     → MayCall (IsLawfulLog given) (StandsAt given) view c reply

@@ -50,4 +50,6 @@ touches_block _ node block before = false
 abbrev pub last_touch : TreeState → Option Stamp → List Entry → ℕ → ℕ → Option Stamp
 last_touch first last [] node block = last
 last_touch first last (entry ∷ history) node block =
-    last_touch (tree_after_entry first entry) (if touches_block (verdict first entry.core.0 entry.call).effect node block (length (bytes_of first node)) then Some entry.stamp else last) history node block
+    last_touch (tree_after_entry first entry)
+    (if touches_block (verdict first entry.core.0 entry.call).effect node block (length (bytes_of first node)) then Some entry.stamp else last) history node
+    block

@@ -43,8 +43,11 @@ LiesBefore a b = (a.0 < b.0) ⊎ ((a.0 ≡ b.0) × ((a.1.0 < b.1.0) ⊎ ((a.1.0 
 
 -- two cells at one place are one
 abbrev pub PlacesApart : Type 0
-PlacesApart = (nodes cores : ℕ) (cell other : CellId) → IsCell nodes cores cell → IsCell nodes cores other → cell_place nodes cell ≡ cell_place nodes other → cell ≡ other
+PlacesApart =
+    (nodes cores : ℕ) (cell other : CellId) → IsCell nodes cores cell → IsCell nodes cores other → cell_place nodes cell ≡ cell_place nodes other → cell ≡ other
 
 -- Places ascend in the order of the cells.
 abbrev pub PlacesAscend : Type 0
-PlacesAscend = (nodes cores : ℕ) (cell other : CellId) → IsCell nodes cores cell → IsCell nodes cores other → LiesBefore (cell_order cell) (cell_order other) → cell_place nodes cell < cell_place nodes other
+PlacesAscend =
+    (nodes cores : ℕ) (cell other : CellId) → IsCell nodes cores cell → IsCell nodes cores other → LiesBefore (cell_order cell) (cell_order other)
+    → cell_place nodes cell < cell_place nodes other

@@ -65,11 +65,14 @@ IsTrimmedFor account commit part = IsOneOf account.trimmings (record { core = co
 
 -- every part is trimmed for the last commit that holds a node
 abbrev pub AreTrimmedFor : TreeState → Account → ℕ → Type 0
-AreTrimmedFor first account node = (writer : Commitment × HeldNode) → last_writer node account.commits ≡ Some writer → (part : ℕ) → part < length first.made → IsTrimmedFor account writer.0 part
+AreTrimmedFor first account node =
+    (writer : Commitment × HeldNode) → last_writer node account.commits ≡ Some writer → (part : ℕ) → part < length first.made
+    → IsTrimmedFor account writer.0 part
 
 -- What was flushed of a node stands for what its last commit wrote once every part is trimmed for that commit.
 pub record StandsPending (given : ℕ → Option OldKept) (first : TreeState) (account : Account) (node : ℕ) (pending : Pending) : Type 0 where
-  pub flushed : ◌≡◌ {A = Flushed} (record { cut = pending.cut.0; last = pending.last; old = pending.old }) (flushed_by given node (last_writer node account.commits))
+  pub flushed : ◌≡◌ {A = Flushed} (record { cut = pending.cut.0; last = pending.last; old = pending.old })
+      (flushed_by given node (last_writer node account.commits))
   pub made_in : number_of pending.made_in ≡ birthplace first account.calls node
   pub trimmed : AreTrimmedFor first account node
 
@@ -81,7 +84,8 @@ IsCapped account directory mark =
 -- Marks of a part, by directory: none is above a cut that was written for it, and none is below a commit for which the part is trimmed.
 pub record AreMarksOf (account : Account) (part : ℕ) (mark : ℕ → ℕ) : Type 0 where
   pub capped : (directory : ℕ) → IsCapped account directory (mark directory)
-  pub trimmed : (commit : Commitment) (directory : ℕ) → IsOneOf account.commits commit → IsTrimmedFor account commit part → IsOneOf commit.members directory → commit.stamp ≤ mark directory
+  pub trimmed : (commit : Commitment) (directory : ℕ) → IsOneOf account.commits commit → IsTrimmedFor account commit part → IsOneOf commit.members directory
+      → commit.stamp ≤ mark directory
 
 -- A part has what is left of its core's changes, their count, and how many nodes the core has made.
 pub record StandsPart (first : TreeState) (account : Account) (core : ℕ) (part : PartCell) : Type 0 where
@@ -100,4 +104,6 @@ StandsForCell given first account _ _ = ⊥
 
 -- a value stands for what a log leaves of the cell that lies at a place; where none does it is any value
 abbrev pub StandsAt : (ℕ → Option OldKept) → TreeState → List (Event Fact) → ℕ → Cell → Type 0
-StandsAt given first log place value = (id : CellId) → IsCell (node_count first) (length first.made) id → cell_place (node_count first) id ≡ place → StandsForCell given first (account_of log) id value
+StandsAt given first log place value =
+    (id : CellId) → IsCell (node_count first) (length first.made) id → cell_place (node_count first) id ≡ place
+    → StandsForCell given first (account_of log) id value

@@ -50,7 +50,8 @@ HasMarks mark _ = ⊥
 -- what was flushed of a node is what a commit saw of it
 abbrev pub SawNode : HeldNode → Cell → Type 0
 SawNode held (cell.Pending pending) =
-    ◌≡◌ {A = Flushed} (record { cut = held.cut.0; last = held.last; old = held.old }) (record { cut = pending.value.cut.0; last = pending.value.last; old = pending.value.old })
+    ◌≡◌ {A = Flushed} (record { cut = held.cut.0; last = held.last; old = held.old })
+    (record { cut = pending.value.cut.0; last = pending.value.last; old = pending.value.old })
 SawNode held _ = ⊥
 
 -- Where a directory stands may be told by a core that holds a bucket of it.
@@ -88,17 +89,24 @@ pub record MayTellCommit (given : ℕ → Option OldKept) (view : View TreeState
 
 -- A commit may be told by a core that asks this.
 abbrev pub CommitsMayBeTold : Type 0
-CommitsMayBeTold = (given : ℕ → Option OldKept) (view : View TreeState (Event Fact)) (number : ℕ) (node : NodeId) (stamp : Stamp) (members : Vec NodeId Global) (held : Vec HeldNode Global)
-    → MayTellCommit given view (commit_by view.core number node stamp members held) → MayTell (IsLawfulLog given) (StandsAt given) view (Committed number node stamp members held)
+CommitsMayBeTold =
+    (given : ℕ → Option OldKept) (view : View TreeState (Event Fact)) (number : ℕ) (node : NodeId) (stamp : Stamp) (members : Vec NodeId Global)
+    (held : Vec HeldNode Global)
+    → MayTellCommit given view (commit_by view.core number node stamp members held)
+    → MayTell (IsLawfulLog given) (StandsAt given) view (Committed number node stamp members held)
 
 -- A core that holds a log may tell that it is trimmed for a commit of its own.
 abbrev pub TrimsMayBeTold : Type 0
 TrimsMayBeTold = (given : ℕ → Option OldKept) (view : View TreeState (Event Fact)) (commit : Commitment) (number : ℕ) (part : CoreId)
-    → IsOneOf (filter_map commit_told view.mine) commit → commit.core ≡ view.core → commit.number ≡ number → Has view.held (cell_place (node_count view.first) (id.Part part))
+    → IsOneOf (filter_map commit_told view.mine) commit → commit.core ≡ view.core → commit.number ≡ number
+    → Has view.held (cell_place (node_count view.first) (id.Part part))
     → MayTell (IsLawfulLog given) (StandsAt given) view (Trimmed number part)
 
 -- As long as a part is not trimmed for a commit, the commit is the last one that holds each of its nodes.
 abbrev pub CommitsStayLast : Type 0
-CommitsStayLast = (given : ℕ → Option OldKept) (first : TreeState) (before after : List (Event Fact)) (core : CoreId) (number : ℕ) (node : NodeId) (stamp : Stamp) (members : Vec NodeId Global) (held : Vec HeldNode Global) (part of : ℕ) (what : HeldNode)
+CommitsStayLast =
+    (given : ℕ → Option OldKept) (first : TreeState) (before after : List (Event Fact)) (core : CoreId) (number : ℕ) (node : NodeId) (stamp : Stamp)
+    (members : Vec NodeId Global) (held : Vec HeldNode Global) (part of : ℕ) (what : HeldNode)
     → let commit = commit_by core.0 number node stamp members held in let log = before ++ Told core (Committed number node stamp members held) ∷ after in
-    IsLawfulLog given first log → part < length first.made → (IsTrimmedFor (account_of log) commit part → ⊥) → held_by commit of ≡ Some what → last_writer of (account_of log).commits ≡ Some (commit, what)
+    IsLawfulLog given first log → part < length first.made → (IsTrimmedFor (account_of log) commit part → ⊥) → held_by commit of ≡ Some what
+    → last_writer of (account_of log).commits ≡ Some (commit, what)

@@ -16,7 +16,8 @@ abbrev pub touches_standing : TreeState → ℕ → Call → ℕ → Bool
 touches_standing tree core (call.Make directory name kind) node = is_directory_kind kind && (next_number tree core == node)
 touches_standing tree core (call.Rmdir directory name) node = is_this node (row_of tree directory.0 name)
 touches_standing tree core (call.Rename directory name to_directory to_name) node =
-    is_directory tree node && (is_this node (row_of tree to_directory.0 to_name) || (not (directory.0 == to_directory.0) && is_this node (row_of tree directory.0 name)))
+    is_directory tree node
+    && (is_this node (row_of tree to_directory.0 to_name) || (not (directory.0 == to_directory.0) && is_this node (row_of tree directory.0 name)))
 touches_standing tree core _ node = false
 
 -- whether a call may change what is said of a file: its bytes, or how many rows name it

@@ -26,13 +26,16 @@ use Rattle.mem_values.specs.Facts.{IsLawfulLog}
 
 -- an fsync that a core stamps
 abbrev pub worked_fsync : ℕ → ℕ → ℕ → Entry
-worked_fsync stamp core node = record { stamp = record { 0 = stamp }; core = record { 0 = core }; call = call.Fsync (numbered_node node); reply = reply.NoMemory; ack = None }
+worked_fsync stamp core node =
+    record { stamp = record { 0 = stamp }; core = record { 0 = core }; call = call.Fsync (numbered_node node); reply = reply.NoMemory; ack = None }
 
 -- What the lists in the facts have, and what is held: of the one directory, whose commit is the first, what the disk has before and after.
-pub record WorkedLists (given : ℕ → Option OldKept) (node : ℕ) (marks : Vec Stamp Global) (members : Vec NodeId Global) (held : Vec HeldNode Global) (new : Option OldKept) : Type 0 where
+pub record WorkedLists (given : ℕ → Option OldKept) (node : ℕ) (marks : Vec Stamp Global) (members : Vec NodeId Global) (held : Vec HeldNode Global)
+    (new : Option OldKept) : Type 0 where
   pub no_marks : marks.items ≡ []
   pub one_member : members.items ≡ numbered_node node ∷ []
-  pub one_held : held.items ≡ record { node = numbered_node node; last = 0; cut = record { 0 = 0 }; old = given node; new_cut = record { 0 = 1 }; new = new } ∷ []
+  pub one_held : held.items
+      ≡ record { node = numbered_node node; last = 0; cut = record { 0 = 0 }; old = given node; new_cut = record { 0 = 1 }; new = new } ∷ []
 
 -- the log of the table
 abbrev pub worked_log : ℕ → ℕ → Vec Stamp Global → Vec NodeId Global → Vec HeldNode Global → List (Event Fact)
@@ -70,5 +73,8 @@ pub record IsWorkedTable (given : ℕ → Option OldKept) (first : TreeState) (n
 
 -- In each tree with two cores and a directory that stands in another one the worked table can be met.
 abbrev pub TablesCanBeMet : Type 0
-TablesCanBeMet = (given : ℕ → Option OldKept) (first : TreeState) (node holder : ℕ) (marks : Vec Stamp Global) (members : Vec NodeId Global) (held : Vec HeldNode Global) (new : Option OldKept)
-    → length first.made ≡ 2 → is_alive first node ≡ true → stands_of first node ≡ Some holder → WorkedLists given node marks members held new → IsWorkedTable given first node (worked_log node holder marks members held) new
+TablesCanBeMet =
+    (given : ℕ → Option OldKept) (first : TreeState) (node holder : ℕ) (marks : Vec Stamp Global) (members : Vec NodeId Global) (held : Vec HeldNode Global)
+    (new : Option OldKept)
+    → length first.made ≡ 2 → is_alive first node ≡ true → stands_of first node ≡ Some holder → WorkedLists given node marks members held new
+    → IsWorkedTable given first node (worked_log node holder marks members held) new

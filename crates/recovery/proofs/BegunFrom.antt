@@ -39,12 +39,14 @@ module _ (layout : Layout) (image : List ℕ) (stands : IsImageOf layout (transa
         some (are.stamps i low ∙ ap (option_map (λ (s : Stamped (List ℕ)). s.stamp)) (None-option_map (λ (s : Stamped (List ℕ)). s.value) (best i) value));
     given_none = λ i low none.
         let no_best : best i ≡ None = None-option_map (λ (s : Stamped (List ℕ)). s.stamp) (best i) (sym (are.stamps i low) ∙ none) in
-        None-option_map (λ (p : Part). p.raw) (given layout (transaction_in layout image) i) (sym (held_is i) ∙ ap (option_map (λ (s : Stamped (List ℕ)). s.value)) no_best);
+        None-option_map (λ (p : Part). p.raw) (given layout (transaction_in layout image) i)
+        (sym (held_is i) ∙ ap (option_map (λ (s : Stamped (List ℕ)). s.value)) no_best);
     each = λ i low. are.records i low ∙ settled_is layout (transaction_in layout image) (table_parts layout image) image stands i low;
   }
 
 -- settled parts settle as themselves
-pub settled_again : (layout : Layout) (opened : ℕ → Option Transaction) (parts : ℕ → Part) (i : ℕ) → with_opened layout opened (with_opened layout opened parts) i ≡ with_opened layout opened parts i
+pub settled_again : (layout : Layout) (opened : ℕ → Option Transaction) (parts : ℕ → Part) (i : ℕ)
+    → with_opened layout opened (with_opened layout opened parts) i ≡ with_opened layout opened parts i
 settled_again layout opened parts i = again (given layout opened i)
   where
     again : (o : Option Part) → unwrap_or o (unwrap_or o (parts i)) ≡ unwrap_or o (parts i)
@@ -73,11 +75,16 @@ transaction_whole layout image j =
 pub passes_at : (test : ℕ → Bool) (numbers : List ℕ) (k : ℕ) → k < length (filter test numbers) → test (get_or (filter test numbers) k 0) ≡ true
 passes_at test [] k low = absurd (omega arith)
 passes_at test (n ∷ rest) k low = elim (cases_Bool (test n)) [
-  | inl passes ↦ subst (λ (l : List ℕ). k < length l → test (get_or l k 0) ≡ true) (sym (ap (λ b. cond b (n ∷ filter test rest) (filter test rest)) passes)) (first passes (passes_at test rest) k) low
-  | inr fails ↦ subst (λ (l : List ℕ). k < length l → test (get_or l k 0) ≡ true) (sym (ap (λ b. cond b (n ∷ filter test rest) (filter test rest)) fails)) (passes_at test rest k) low
+  | inl passes ↦
+      subst (λ (l : List ℕ). k < length l → test (get_or l k 0) ≡ true) (sym (ap (λ b. cond b (n ∷ filter test rest) (filter test rest)) passes))
+      (first passes (passes_at test rest) k) low
+  | inr fails ↦
+      subst (λ (l : List ℕ). k < length l → test (get_or l k 0) ≡ true) (sym (ap (λ b. cond b (n ∷ filter test rest) (filter test rest)) fails))
+      (passes_at test rest k) low
 ]
   where
-    first : test n ≡ true → ((k : ℕ) → k < length (filter test rest) → test (get_or (filter test rest) k 0) ≡ true) → (k : ℕ) → k < length (n ∷ filter test rest) → test (get_or (n ∷ filter test rest) k 0) ≡ true
+    first : test n ≡ true → ((k : ℕ) → k < length (filter test rest) → test (get_or (filter test rest) k 0) ≡ true) → (k : ℕ)
+        → k < length (n ∷ filter test rest) → test (get_or (n ∷ filter test rest) k 0) ≡ true
     first passes others zero low = passes
     first passes others (suc k) low = others k (omega arith)
 
@@ -85,15 +92,26 @@ pub passing_is_there : (test : ℕ → Bool) (numbers : List ℕ) (m : ℕ) → 
     → (k : ℕ) × (k < length (filter test numbers)) × (get_or (filter test numbers) k 0 ≡ get_or numbers m 0)
 passing_is_there test [] m low passes = absurd (omega arith)
 passing_is_there test (n ∷ rest) m low passes = elim (cases_Bool (test n)) [
-  | inl here ↦ subst (λ (l : List ℕ). (k : ℕ) × (k < length l) × (get_or l k 0 ≡ get_or (n ∷ rest) m 0)) (sym (ap (λ b. cond b (n ∷ filter test rest) (filter test rest)) here)) (with_first (passing_is_there test rest) m low passes)
-  | inr fails ↦ subst (λ (l : List ℕ). (k : ℕ) × (k < length l) × (get_or l k 0 ≡ get_or (n ∷ rest) m 0)) (sym (ap (λ b. cond b (n ∷ filter test rest) (filter test rest)) fails)) (without_first fails (passing_is_there test rest) m low passes)
+  | inl here ↦
+      subst (λ (l : List ℕ). (k : ℕ) × (k < length l) × (get_or l k 0 ≡ get_or (n ∷ rest) m 0))
+      (sym (ap (λ b. cond b (n ∷ filter test rest) (filter test rest)) here)) (with_first (passing_is_there test rest) m low passes)
+  | inr fails ↦
+      subst (λ (l : List ℕ). (k : ℕ) × (k < length l) × (get_or l k 0 ≡ get_or (n ∷ rest) m 0))
+      (sym (ap (λ b. cond b (n ∷ filter test rest) (filter test rest)) fails)) (without_first fails (passing_is_there test rest) m low passes)
 ]
   where
-    with_first : ((m : ℕ) → m < length rest → test (get_or rest m 0) ≡ true → (k : ℕ) × (k < length (filter test rest)) × (get_or (filter test rest) k 0 ≡ get_or rest m 0)) → (m : ℕ) → m < length (n ∷ rest) → test (get_or (n ∷ rest) m 0) ≡ true → (k : ℕ) × (k < length (n ∷ filter test rest)) × (get_or (n ∷ filter test rest) k 0 ≡ get_or (n ∷ rest) m 0)
+    with_first : ((m : ℕ) → m < length rest → test (get_or rest m 0) ≡ true
+        → (k : ℕ) × (k < length (filter test rest)) × (get_or (filter test rest) k 0 ≡ get_or rest m 0))
+        → (m : ℕ) → m < length (n ∷ rest) → test (get_or (n ∷ rest) m 0) ≡ true
+        → (k : ℕ) × (k < length (n ∷ filter test rest)) × (get_or (n ∷ filter test rest) k 0 ≡ get_or (n ∷ rest) m 0)
     with_first others zero low passes = (0, omega arith, refl)
     with_first others (suc m) low passes = let there = others m (omega arith) passes in (suc there.0, (let h = there.1 in omega arith), there.2)
 
-    without_first : test n ≡ false → ((m : ℕ) → m < length rest → test (get_or rest m 0) ≡ true → (k : ℕ) × (k < length (filter test rest)) × (get_or (filter test rest) k 0 ≡ get_or rest m 0)) → (m : ℕ) → m < length (n ∷ rest) → test (get_or (n ∷ rest) m 0) ≡ true → (k : ℕ) × (k < length (filter test rest)) × (get_or (filter test rest) k 0 ≡ get_or (n ∷ rest) m 0)
+    without_first : test n ≡ false
+        → ((m : ℕ) → m < length rest → test (get_or rest m 0) ≡ true
+        → (k : ℕ) × (k < length (filter test rest)) × (get_or (filter test rest) k 0 ≡ get_or rest m 0))
+        → (m : ℕ) → m < length (n ∷ rest) → test (get_or (n ∷ rest) m 0) ≡ true
+        → (k : ℕ) × (k < length (filter test rest)) × (get_or (filter test rest) k 0 ≡ get_or (n ∷ rest) m 0)
     without_first fails others zero low passes = absurd (not_both passes fails)
     without_first fails others (suc m) low passes = others m (omega arith) passes
 
@@ -106,7 +124,9 @@ module _ (layout : Layout) (image : List ℕ) (found : List OpenSlot) (are : Are
   as_many = sym (length-map found (λ (one : OpenSlot). one.number)) ∙ ap length are.numbers
 
   number_is : (k : ℕ) (one : OpenSlot) → IsAt found k one → one.number ≡ get_or open_numbers k 0
-  number_is k one at = ap (λ (o : OpenSlot). o.number) at.is ∙ sym (get_or-map (λ (o : OpenSlot). o.number) found k one 0 at.within) ∙ ap (λ (l : List ℕ). get_or l k 0) are.numbers
+  number_is k one at =
+      ap (λ (o : OpenSlot). o.number) at.is ∙ sym (get_or-map (λ (o : OpenSlot). o.number) found k one 0 at.within)
+      ∙ ap (λ (l : List ℕ). get_or l k 0) are.numbers
 
   gate_open : (k : ℕ) (one : OpenSlot) → IsAt found k one → is_slot_open layout image one.number ≡ true
   gate_open k one at = subst (λ (n : ℕ). is_slot_open layout image n ≡ true) (sym (number_is k one at))
@@ -134,10 +154,13 @@ module _ (layout : Layout) (image : List ℕ) (found : List OpenSlot) (are : Are
     ];
   }
     where
-      there : (j : ℕ) → j < slot_count layout → is_slot_open layout image j ≡ true → (k : ℕ) × (one : OpenSlot) × IsAt found k one × (one.number ≡ j) × (is_above None one.stamp ≡ true)
+      there : (j : ℕ) → j < slot_count layout → is_slot_open layout image j ≡ true
+          → (k : ℕ) × (one : OpenSlot) × IsAt found k one × (one.number ≡ j) × (is_above None one.stamp ≡ true)
       there j low is_open =
           let numbered : get_or (range_with_len 0 (slot_count layout)) j 0 ≡ j = get_or-range_with_len 0 (slot_count layout) j 0 low ∙ zero_plus j in
-          let at = passing_is_there (is_slot_open layout image) (range_with_len 0 (slot_count layout)) j (subst (λ n. j < n) (sym (length-range_with_len 0 (slot_count layout))) low)
+          let at =
+          passing_is_there (is_slot_open layout image) (range_with_len 0 (slot_count layout)) j
+          (subst (λ n. j < n) (sym (length-range_with_len 0 (slot_count layout))) low)
           (subst (λ (n : ℕ). is_slot_open layout image n ≡ true) (sym numbered) is_open) in
           let within : at.0 < length found = subst (λ n. at.0 < n) (sym as_many) at.1 in
           let one = some_at found at.0 within in
@@ -145,7 +168,8 @@ module _ (layout : Layout) (image : List ℕ) (found : List OpenSlot) (are : Are
 
 -- an image that stands for the parts of its table, and whose table has the records of all parts, is to be closed
 pub begins_closing : (layout : Layout) (image now : List ℕ) (found : List OpenSlot) → AreOpen layout image (slot_count layout) found
-    → IsImageOf layout (transaction_in layout image) (table_parts layout image) now → IsFullTable layout (transaction_in layout image) (table_parts layout image) now
+    → IsImageOf layout (transaction_in layout image) (table_parts layout image) now
+    → IsFullTable layout (transaction_in layout image) (table_parts layout image) now
     → IsToBeClosed layout (with_opened layout (transaction_in layout image) (table_parts layout image)) found None now
 begins_closing layout image now found are stands full = record {
   settles = record {

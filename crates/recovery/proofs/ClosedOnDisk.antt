@@ -51,7 +51,8 @@ goes_on_telling old new alike content told = go new.content refl
     go None is = absurd (let never : false ≡ true = sym (ap is_some is) ∙ alike ∙ ap is_some told in cc)
 
 module _ (layout : Layout) (parts : ℕ → Part) (found : List OpenSlot) (last : Option ℕ) (place : ℕ) (one : OpenSlot) (within : one.number < slot_count layout)
-    (oldest : IsOldestAbove found (length found) last place one) (old new : View) (lawful : IsLawful old) (large : slot_byte layout one.number + 1 ≤ 4096 * old.size)
+    (oldest : IsOldestAbove found (length found) last place one) (old new : View) (lawful : IsLawful old)
+    (large : slot_byte layout one.number + 1 ≤ 4096 * old.size)
     (torn : TearsOnly (slot_byte layout one.number) 1 old new) (tells : TellsAlike old new) (to : EachLeft old (IsToBeClosed layout parts found last)) where
   abbrev spot : Place
   spot = record { layout = layout; slot = one.number }
@@ -88,9 +89,11 @@ none_closed layout parts found disk to = record {
   closed = to;
 }
 
-module _ (layout : Layout) (parts : ℕ → Part) (found : List OpenSlot) (last next : Option ℕ) (old mid new : View) (goes : Advances mid new) (before : ClosesSoFar layout parts found last old mid) where
+module _ (layout : Layout) (parts : ℕ → Part) (found : List OpenSlot) (last next : Option ℕ) (old mid new : View) (goes : Advances mid new)
+    (before : ClosesSoFar layout parts found last old mid) where
   -- one closing more
-  pub one_more_closed : {V E : Type 0} (value : V) → ClosesUpTo layout parts found next mid new (answered {V = V} {F = E} value) → ClosesSoFar layout parts found next old new
+  pub one_more_closed : {V E : Type 0} (value : V) → ClosesUpTo layout parts found next mid new (answered {V = V} {F = E} value)
+      → ClosesSoFar layout parts found next old new
   one_more_closed value run = record {
     told = telling_trans old mid new before.told run.told;
     later = later_trans (λ _ image. SettlesAs layout parts image) old mid new before.told goes before.later run.later;
@@ -98,7 +101,8 @@ module _ (layout : Layout) (parts : ℕ → Part) (found : List OpenSlot) (last 
   }
 
   -- one that failed
-  pub closing_failed : {V W E F : Type 0} (result : Result V E) (answer : Result W F) → IsErr answer → ClosesUpTo layout parts found next mid new result → ClosesAll layout parts old new answer
+  pub closing_failed : {V W E F : Type 0} (result : Result V E) (answer : Result W F) → IsErr answer → ClosesUpTo layout parts found next mid new result
+      → ClosesAll layout parts old new answer
   closing_failed result answer failed run = record {
     told = telling_trans old mid new before.told run.told;
     later = later_trans (λ _ image. SettlesAs layout parts image) old mid new before.told goes before.later run.later;
@@ -106,7 +110,8 @@ module _ (layout : Layout) (parts : ℕ → Part) (found : List OpenSlot) (last 
   }
 
 -- all are closed
-pub closings_end : {V E : Type 0} (layout : Layout) (parts : ℕ → Part) (found : List OpenSlot) (last : Option ℕ) (old new : View) (value : V) → HasNoneAbove found (length found) last
+pub closings_end : {V E : Type 0} (layout : Layout) (parts : ℕ → Part) (found : List OpenSlot) (last : Option ℕ) (old new : View) (value : V)
+    → HasNoneAbove found (length found) last
     → ClosesSoFar layout parts found last old new → ClosesAll layout parts old new (answered {V = V} {F = E} value)
 closings_end layout parts found last old new value none so_far = record {
   told = so_far.told;

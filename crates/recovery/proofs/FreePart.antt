@@ -40,7 +40,8 @@ pub free_is_gathered : (store : ℕ → List ℕ) → IsGathered store free_part
 unfolding free_part
 free_is_gathered store =
     ap (part_of store) (raw_of (λ _. []) (zeros 512))
-    ∙ gather_same (λ _. []) store (zeros 512) (λ place there. absurd (there (free_has_none (λ _. []) (zeros 512) (length-zeros 512) zeros_are_sound (zeros-byte 512 0) place)))
+    ∙ gather_same (λ _. []) store (zeros 512)
+    (λ place there. absurd (there (free_has_none (λ _. []) (zeros 512) (length-zeros 512) zeros_are_sound (zeros-byte 512 0) place)))
 
 pub turns_free : (fresh : List FreshBlock) (old : Part) → TurnsInto fresh old free_part
 turns_free fresh old store stand gathered = free_is_gathered store
@@ -69,14 +70,16 @@ found_passing test (n ∷ rest) i = go (found_passing test rest i)
     same : n ≡ i → (numbers : List ℕ) → find (λ n. eqb n i) (n ∷ numbers) ≡ Some n
     same is numbers = ap (λ b. cond b (Some n) (find (λ n. eqb n i) numbers)) (eq-eqb n i is)
 
-    go : find (λ n. eqb n i) (filter test rest) ≡ cond (test i) (find (λ n. eqb n i) rest) None → find (λ n. eqb n i) (filter test (n ∷ rest)) ≡ cond (test i) (find (λ n. eqb n i) (n ∷ rest)) None
+    go : find (λ n. eqb n i) (filter test rest) ≡ cond (test i) (find (λ n. eqb n i) rest) None
+        → find (λ n. eqb n i) (filter test (n ∷ rest)) ≡ cond (test i) (find (λ n. eqb n i) (n ∷ rest)) None
     go before = elim (cases_eq n i) [
       | inr apart ↦ elim (cases_Bool (test n)) [
         | inl passes ↦ kept passes ∙ others apart (filter test rest) ∙ before ∙ ap (λ (o : Option ℕ). cond (test i) o None) (sym (others apart rest))
         | inr fails ↦ left_out fails ∙ before ∙ ap (λ (o : Option ℕ). cond (test i) o None) (sym (others apart rest))
       ]
       | inl is ↦ elim (cases_Bool (test n)) [
-        | inl passes ↦ kept passes ∙ same is (filter test rest) ∙ sym (ap (λ b. cond b (find (λ n. eqb n i) (n ∷ rest)) None) (ap test (sym is) ∙ passes) ∙ same is rest)
+        | inl passes ↦
+            kept passes ∙ same is (filter test rest) ∙ sym (ap (λ b. cond b (find (λ n. eqb n i) (n ∷ rest)) None) (ap test (sym is) ∙ passes) ∙ same is rest)
         | inr fails ↦ left_out fails ∙ before ∙ ap (λ b. cond {A = Option ℕ} b (find (λ n. eqb n i) rest) None) (ap test (sym is) ∙ fails)
             ∙ sym (ap (λ b. cond {A = Option ℕ} b (find (λ n. eqb n i) (n ∷ rest)) None) (ap test (sym is) ∙ fails))
       ]
@@ -96,7 +99,8 @@ found_there (n ∷ rest) m i low is = go (cases_eq n i) (found_there rest)
         later (suc m) low is = others m i (omega arith) is
 
 found_in_range : (n i : ℕ) → i < n → find (λ k. eqb k i) (range_with_len 0 n) ≡ Some i
-found_in_range n i low = found_there (range_with_len 0 n) i i (subst (λ m. i < m) (sym (length-range_with_len 0 n)) low) (get_or-range_with_len 0 n i 0 low ∙ zero_plus i)
+found_in_range n i low =
+    found_there (range_with_len 0 n) i i (subst (λ m. i < m) (sym (length-range_with_len 0 n)) low) (get_or-range_with_len 0 n i 0 low ∙ zero_plus i)
 
 -- the one open slot gives what its transaction gives
 given_single : (layout : Layout) (k : ℕ) (one : Transaction) (i : ℕ) → k < slot_count layout
@@ -109,7 +113,8 @@ given_single layout k one i low = by (part_given i (Some one)) refl
     elsewhere : (j : ℕ) → j ≢ k → at j ≡ None
     elsewhere j apart = ap (part_given i) (with_slot-other nothing_open k (Some one) j apart)
 
-    by : (o : Option (Stamped Part)) → part_given i (Some one) ≡ o → given layout (with_slot nothing_open k (Some one)) i ≡ option_map (λ (s : Stamped Part). s.value) (part_given i (Some one))
+    by : (o : Option (Stamped Part)) → part_given i (Some one) ≡ o
+        → given layout (with_slot nothing_open k (Some one)) i ≡ option_map (λ (s : Stamped Part). s.value) (part_given i (Some one))
     by None none =
         ap (option_map (λ (s : Stamped Part). s.value)) (none_newest at 0 (slot_count layout) (λ j low high. elim (cases_eq j k) [
           | inl here ↦ ap at here ∙ ap (part_given i) (with_slot-same nothing_open k (Some one)) ∙ none
@@ -131,7 +136,8 @@ numbers_passing n test = filter test (range_with_len 0 n)
 abbrev stamped_part : ℕ → InodePart → Stamped Part
 stamped_part stamp own = record { stamp = stamp; value = own.part }
 
-freed_found : (n : ℕ) (test : ℕ → Bool) (i : ℕ) → i < n → find (λ (own : InodePart). eqb own.inode i) (map freed_part (numbers_passing n test)) ≡ cond (test i) (Some (freed_part i)) None
+freed_found : (n : ℕ) (test : ℕ → Bool) (i : ℕ) → i < n
+    → find (λ (own : InodePart). eqb own.inode i) (map freed_part (numbers_passing n test)) ≡ cond (test i) (Some (freed_part i)) None
 freed_found n test i within =
     find_made freed_part (λ (own : InodePart). eqb own.inode i) (numbers_passing n test)
     ∙ ap (option_map freed_part) (found_passing test (range_with_len 0 n) i ∙ ap (λ (o : Option ℕ). cond (test i) o None) (found_in_range n i within))
@@ -143,14 +149,16 @@ freed_found n test i within =
 
 -- the parts once a slot has freed those of the first inodes that pass a test
 pub freed_by_slot : (layout : Layout) (k stamp n : ℕ) (test : ℕ → Bool) (parts : ℕ → Part) (i : ℕ) → k < slot_count layout → i < n
-    → with_opened layout (with_slot nothing_open k (Some (record { stamp = stamp; parts = map freed_part (numbers_passing n test) }))) parts i ≡ cond (test i) free_part (parts i)
+    → with_opened layout (with_slot nothing_open k (Some (record { stamp = stamp; parts = map freed_part (numbers_passing n test) }))) parts i
+    ≡ cond (test i) free_part (parts i)
 freed_by_slot layout k stamp n test parts i low within =
     ap (λ (o : Option Part). unwrap_or o (parts i))
     (given_single layout k (record { stamp = stamp; parts = map freed_part (numbers_passing n test) }) i low
     ∙ ap (λ (o : Option InodePart). option_map (λ (s : Stamped Part). s.value) (option_map (stamped_part stamp) o)) (freed_found n test i within) ∙ by (test i))
     ∙ unwrapped (test i)
   where
-    by : (b : Bool) → option_map (λ (s : Stamped Part). s.value) (option_map (stamped_part stamp) (cond b (Some (freed_part i)) None)) ≡ cond b (Some free_part) None
+    by : (b : Bool)
+        → option_map (λ (s : Stamped Part). s.value) (option_map (stamped_part stamp) (cond b (Some (freed_part i)) None)) ≡ cond b (Some free_part) None
     by true = refl
     by false = refl
 

@@ -54,7 +54,8 @@ module _ (layout : Layout) (parts : ℕ → Part) (are : AreFaultless layout par
         let in_tree = directory_shown shown NOTHING_MADE i low ∙ no_directory in
         let links : (shown.seen i).links ≡ count_of (image_rows shown) i =
         are.ruled.rules.links i low (λ none. file_used (sym kind ∙ none))
-        ∙ ap (λ b. cond b (2 + count_by (holds_directory (ruled_tree shown) i) (entries (ruled_tree shown).rows)) (count_of (ruled_tree shown).rows i)) in_tree in
+        ∙ ap (λ b. cond b (2 + count_by (holds_directory (ruled_tree shown) i) (entries (ruled_tree shown).rows)) (count_of (ruled_tree shown).rows i))
+        in_tree in
         ap (λ n. eqb (shown.seen i).kind (kind_byte File) && eqb n 0) (sym links)
   ]
     where
@@ -91,13 +92,16 @@ module _ (layout : Layout) (parts : ℕ → Part) (are : AreFaultless layout par
 
     no_root : is_unlinked (parts 0).raw ≡ true → ⊥
     no_root unlinked =
-        let file : (shown.seen 0).kind ≡ kind_byte File = eqb-true _ _ (and_first (eqb (shown.seen 0).kind (kind_byte File)) (eqb (shown.seen 0).links 0) unlinked) in
+        let file : (shown.seen 0).kind ≡ kind_byte File =
+        eqb-true _ _ (and_first (eqb (shown.seen 0).kind (kind_byte File)) (eqb (shown.seen 0).links 0) unlinked) in
         let directory = are.ruled.rules.root.1 in
         file_is_no_directory (sym file ∙ directory)
 
     good : (rule i : ℕ) → 1 ≤ rule → rule ≤ 7 → rule ≢ 2 → rule ≢ 5 → i < layout.inodes → breaks_bytes_rule rule layout (parts_of layout image) i ≡ false
     good rule i low high no_second no_fifth within = elim (cases_Bool (is_unlinked (parts i).raw)) [
-      | inr linked ↦ rule_alike layout (parts_of layout image) parts i (part_kept i within linked) rule no_fifth ∙ byte_rules_kept layout parts are.none rule i low high within
+      | inr linked ↦
+          rule_alike layout (parts_of layout image) parts i (part_kept i within linked) rule no_fifth
+          ∙ byte_rules_kept layout parts are.none rule i low high within
       | inl unlinked ↦ rule_alike layout (parts_of layout image) (λ _. free_part) i (part_free i within unlinked) rule no_fifth
           ∙ free_good rule (λ root. no_root (subst (λ (n : ℕ). is_unlinked (parts n).raw ≡ true) root unlinked))
     ]
@@ -105,7 +109,9 @@ module _ (layout : Layout) (parts : ℕ → Part) (are : AreFaultless layout par
         free_good : (rule : ℕ) → (i ≡ 0 → ⊥) → breaks_bytes_rule rule layout (λ _. free_part) i ≡ false
         free_good rule inner = elim (cases_eq rule 1) [
           | inr later ↦ free_breaks_none rule layout (λ _. free_part) i later inner free_is_free
-          | inl first ↦ ap (λ (r : ℕ). breaks_bytes_rule r layout (λ _. free_part) i) first ∙ ap (λ (raw : List ℕ). is_some (inode_fault raw)) free_raw ∙ ap is_some zeros_are_sound
+          | inl first ↦
+              ap (λ (r : ℕ). breaks_bytes_rule r layout (λ _. free_part) i) first ∙ ap (λ (raw : List ℕ). is_some (inode_fault raw)) free_raw
+              ∙ ap is_some zeros_are_sound
         ]
 
     stands_itself : (share : ℕ) → StandsForSoundTree (own_numbers next) (tree_with_orphans next (making_of layout share)) next
@@ -121,7 +127,8 @@ module _ (layout : Layout) (parts : ℕ → Part) (are : AreFaultless layout par
     pub freed_is_faultless : fault_of image ≡ None
     freed_is_faultless =
         (standing_images_are_read image 0 (own_numbers next) (tree_with_orphans next (making_of layout 0)) good_bytes
-        (subst (λ (l : Layout). StandsForSoundTree (own_numbers next) (tree_with_orphans next (making_of layout 0)) (inodes_shown l (parts_of l image))) (sym is.divided) (stands_itself 0))).faultless
+        (subst (λ (l : Layout). StandsForSoundTree (own_numbers next) (tree_with_orphans next (making_of layout 0)) (inodes_shown l (parts_of l image)))
+        (sym is.divided) (stands_itself 0))).faultless
 
     pub freed_tree_same : (share : ℕ) → image_tree (image_inodes image) (making_at_mount image share) ≡ image_tree shown (making_of layout share)
     freed_tree_same share =
@@ -129,8 +136,10 @@ module _ (layout : Layout) (parts : ℕ → Part) (are : AreFaultless layout par
         ∙ (is_freed (making_of layout share)).tree
 
   -- it shows what an image shows that settles as the parts with their orphans
-  pub freed_shows_the_same : (freed : ℕ → Part) → AreUnlinkedFree layout parts freed → (image other : List ℕ) → IsReadable layout image → IsReadable layout other
-      → ((i : ℕ) → i < layout.inodes → parts_of layout image i ≡ freed i) → ((i : ℕ) → i < layout.inodes → parts_of layout other i ≡ parts i) → fault_of other ≡ None
+  pub freed_shows_the_same : (freed : ℕ → Part) → AreUnlinkedFree layout parts freed → (image other : List ℕ) → IsReadable layout image
+      → IsReadable layout other
+      → ((i : ℕ) → i < layout.inodes → parts_of layout image i ≡ freed i) → ((i : ℕ) → i < layout.inodes → parts_of layout other i ≡ parts i)
+      → fault_of other ≡ None
       → ShowsTheSame image other
   freed_shows_the_same freed without image other one two settles was none =
       let faultless = freed_is_faultless freed without image one settles in
@@ -142,10 +151,13 @@ module _ (layout : Layout) (parts : ℕ → Part) (are : AreFaultless layout par
             ∙ sym (tree_there other none share);
       }
     where
-      tree_there : (image : List ℕ) → fault_of image ≡ None → (share : ℕ) → tree_of image share ≡ Some (image_tree (image_inodes image) (making_at_mount image share))
-      tree_there image none share = ap (λ (fault : Option ImageFault). cond (is_none fault) (Some (image_tree (image_inodes image) (making_at_mount image share))) None) none
+      tree_there : (image : List ℕ) → fault_of image ≡ None → (share : ℕ)
+          → tree_of image share ≡ Some (image_tree (image_inodes image) (making_at_mount image share))
+      tree_there image none share =
+          ap (λ (fault : Option ImageFault). cond (is_none fault) (Some (image_tree (image_inodes image) (making_at_mount image share))) None) none
 
       old_tree : (share : ℕ) → image_tree (image_inodes other) (making_at_mount other share) ≡ image_tree shown (making_of layout share)
       old_tree share =
           ap (λ (l : Layout). image_tree (inodes_shown l (parts_of l other)) (making_of l share)) two.divided
-          ∙ tree_alike layout.inodes (λ i. seen_of (parts_of layout other i)) (λ i. seen_of (parts i)) (λ i low. ap seen_of (was i low)) (making_of layout share)
+          ∙ tree_alike layout.inodes (λ i. seen_of (parts_of layout other i)) (λ i. seen_of (parts i)) (λ i low. ap seen_of (was i low))
+          (making_of layout share)

@@ -46,7 +46,8 @@ tree_fault_is image layout records settles (BadJournal core slot at) never = abs
 tree_fault_is image layout records settles DiskFailed plain = tt
 tree_fault_is image layout records settles NoMemory plain = tt
 
-module _ (image : List ℕ) (layout : Layout) (records : List (List ℕ)) (settles : SettlesRecords image layout records) (some : 0 < layout.inodes) (none : fault_of image ≡ None) where
+module _ (image : List ℕ) (layout : Layout) (records : List (List ℕ)) (settles : SettlesRecords image layout records) (some : 0 < layout.inodes)
+    (none : fault_of image ≡ None) where
   pub readable : IsReadable layout image
   readable = readable_by layout image settles.super (sym settles.layout_is) settles.journals
 
@@ -73,12 +74,16 @@ module _ (image : List ℕ) (layout : Layout) (records : List (List ℕ)) (settl
     | inr past ↦ absurd (there (none_past_places (image_block image) (settled layout image i) place past))
     | inl within ↦ elim (cases_Bool (is_free_part (parts_of layout image i))) [
       | inl free ↦ absurd (there ((are_faultless.ruled.kinds.unused i low (eqb-true _ 0 free)).blocks place within))
-      | inr used ↦ (let facts = good_from_rule layout (parts_of layout image i) place (byte_rules_kept layout (parts_of layout image) parts_faultless 4 i (omega arith) (omega arith) low) used within there in (facts.low, facts.high))
+      | inr used ↦
+          (let facts = good_from_rule layout (parts_of layout image i) place
+          (byte_rules_kept layout (parts_of layout image) parts_faultless 4 i (omega arith) (omega arith) low) used within there in
+          (facts.low, facts.high))
     ]
   ]
 
   pub image_stands : IsImageOf layout (transaction_in layout image) (table_parts layout image) image
-  image_stands = accepted_stands layout image (record { super = settles.super; divided = sym settles.layout_is; journals = settles.journals; pointers = points_well })
+  image_stands =
+      accepted_stands layout image (record { super = settles.super; divided = sym settles.layout_is; journals = settles.journals; pointers = points_well })
 
 -- records that were read whole, and that an image settles, are whole
 pub settled_whole : {told : Option (List ℕ)} (image : List ℕ) (judged : Judged) → IsFoundIn told judged.layout judged.records.items judged.found

@@ -31,10 +31,15 @@ put_agrees at bytes content within =
     record { before = same.before; behind = same.after; size = same.size }
 
 -- a slot stays closed where something apart from it is put
-pub shut_kept : (layout : Layout) (k at : ℕ) (bytes content : List ℕ) → at + length bytes ≤ length content → LiesApart (slot_byte layout k) (4096 * slot_blocks layout.inodes) at (length bytes)
+pub shut_kept : (layout : Layout) (k at : ℕ) (bytes content : List ℕ) → at + length bytes ≤ length content
+    → LiesApart (slot_byte layout k) (4096 * slot_blocks layout.inodes) at (length bytes)
     → IsShut (journal_slot layout content k) → IsShut (journal_slot layout (put at bytes content) k)
 shut_kept layout k at bytes content within apart shut =
-    subst (λ (slot : List ℕ). IsShut slot) (sym (part_apart at (length bytes) content (put at bytes content) (put_agrees at bytes content within) (slot_byte layout k) (4096 * slot_blocks layout.inodes) apart)) shut
+    subst (λ (slot : List ℕ). IsShut slot)
+    (sym
+    (part_apart at (length bytes) content (put at bytes content) (put_agrees at bytes content within) (slot_byte layout k)
+    (4096 * slot_blocks layout.inodes) apart))
+    shut
 
 -- a slot whose first byte is 0 is closed
 pub shut_by_byte : (slot : List ℕ) → take 1 slot ≡ 0 ∷ [] → IsShut slot
@@ -50,7 +55,9 @@ pub shut_next : (layout : Layout) (k : ℕ) (content : List ℕ) → slot_byte l
 shut_next layout k content within below j less =
     elim (cases j k less) [
       | inl lt ↦ shut_kept layout j (slot_byte layout k) (0 ∷ []) content within (inl (divides.slots j k lt)) (below j lt)
-      | inr same ↦ subst (λ j. IsShut (journal_slot layout (put (slot_byte layout k) (0 ∷ []) content) j)) (sym same) (shut_by_byte _ (front ∙ part-put (slot_byte layout k) (0 ∷ []) content within))
+      | inr same ↦
+          subst (λ j. IsShut (journal_slot layout (put (slot_byte layout k) (0 ∷ []) content) j)) (sym same)
+          (shut_by_byte _ (front ∙ part-put (slot_byte layout k) (0 ∷ []) content within))
     ]
   where
     divides : IsDivided layout
@@ -67,7 +74,8 @@ shut_next layout k content within below j less =
 
     front : take 1 (journal_slot layout (put (slot_byte layout k) (0 ∷ []) content) k) ≡ part (slot_byte layout k) 1 (put (slot_byte layout k) (0 ∷ []) content)
     front =
-        part-part 0 1 (slot_byte layout k) (4096 * slot_blocks layout.inodes) (put (slot_byte layout k) (0 ∷ []) content) (blocks (slot_blocks layout.inodes) refl)
+        part-part 0 1 (slot_byte layout k) (4096 * slot_blocks layout.inodes) (put (slot_byte layout k) (0 ∷ []) content)
+        (blocks (slot_blocks layout.inodes) refl)
         ∙ ap (λ at. part at 1 (put (slot_byte layout k) (0 ∷ []) content)) (add-zero (slot_byte layout k))
       where
         blocks : (n : ℕ) → n ≡ slot_blocks layout.inodes → 0 + 1 ≤ 4096 * n
@@ -106,7 +114,9 @@ lies : (layout : Layout) (size : ℕ) (content root block : List ℕ) (n : ℕ) 
 lies layout size content root block n are = record {
   starts = add-zero (4096 * table_start layout);
   behind_super = behind (table_byte layout 0) _ (add-zero (4096 * table_start layout));
-  ends = reaches (table_start layout) (record_blocks layout.inodes) layout.blocks size n (length content) are.fits.room are.fits.within are.long are.rest_long (table_byte layout 0) (add-zero (4096 * table_start layout));
+  ends =
+      reaches (table_start layout) (record_blocks layout.inodes) layout.blocks size n (length content) are.fits.room are.fits.within are.long are.rest_long
+      (table_byte layout 0) (add-zero (4096 * table_start layout));
 }
   where
     behind : (t s : ℕ) → t ≡ 4096 * (1 + s) → 4096 ≤ t
@@ -116,7 +126,8 @@ lies layout size content root block n are = record {
     reaches s r b z n l room within long rest t is = omega arith
 
 -- a record behind the first is zeros
-record_zeros : (layout : Layout) (n : ℕ) (content : List ℕ) (i : ℕ) → TableLies layout n content → 512 + n ≡ 4096 * record_blocks layout.inodes → i < layout.inodes → i ≢ 0
+record_zeros : (layout : Layout) (n : ℕ) (content : List ℕ) (i : ℕ) → TableLies layout n content → 512 + n ≡ 4096 * record_blocks layout.inodes
+    → i < layout.inodes → i ≢ 0
     → part (table_byte layout 0 + 512) n content ≡ zeros n → table_record layout content i ≡ zeros 512
 record_zeros layout n content i are rest less other is =
     part_in_zeros (table_byte layout 0 + 512) n (table_byte layout i) 512 content (assoc (table_byte layout 0) n (length content) are.ends) is
@@ -133,15 +144,19 @@ record_zeros layout n content i are rest less other is =
     high t s r n i is rest le = omega arith
 
 -- a disk whose slots are closed, once the table and the superblock were put
-pub just_made : (layout : Layout) (size : ℕ) (content root block : List ℕ) (n : ℕ) → ArePieces layout size content root block n → root ≡ inode_bytes empty_directory → block ≡ super_bytes layout
+pub just_made : (layout : Layout) (size : ℕ) (content root block : List ℕ) (n : ℕ) → ArePieces layout size content root block n
+    → root ≡ inode_bytes empty_directory → block ≡ super_bytes layout
     → ShutBelow layout (slot_count layout) content → IsJustMade layout (put 0 block (put (table_byte layout 0) (root ++ zeros n) content))
 just_made layout size content root block n are root_is block_is shut = record {
   fits = subst (λ s. IsLayout s layout) (size_is (length new) size (same_size ∙ are.long)) are.fits;
   super = ap (λ k. part 0 k new) (sym are.block_long) ∙ part-put 0 block mid super_within ∙ block_is;
   shut = λ k less.
-      shut_kept layout k 0 block mid super_within (inr (block_before k)) (shut_kept layout k T table content table_within (inl (before_table k less)) (shut k less));
+      shut_kept layout k 0 block mid super_within (inr (block_before k))
+      (shut_kept layout k T table content table_within (inl (before_table k less)) (shut k less));
   root = kept_record T (place_zero T refl) ∙ front_read T n root mid are.root_long table_there ∙ root_is;
-  free = λ i less other. kept_record (table_byte layout i) (behind_all i) ∙ record_zeros layout n mid i mid_lies are.rest_long less other (rest_read T n root mid are.root_long table_there);
+  free =
+      λ i less other. kept_record (table_byte layout i) (behind_all i)
+      ∙ record_zeros layout n mid i mid_lies are.rest_long less other (rest_read T n root mid are.root_long table_there);
 }
   where
     T : ℕ
@@ -245,19 +260,24 @@ pieces layout size content fits long =
     record { fits = fits; long = long; root_long = empty_record_long; rest_long = some_records layout fits.ranges; block_long = length-super_bytes layout }
 
 -- a disk with closed slots, once these were put
-pub made_by_puts : (layout : Layout) (size : ℕ) (content table block : List ℕ) → IsLayout size layout → length content ≡ 4096 * size → table ≡ empty_table layout → block ≡ super_bytes layout
+pub made_by_puts : (layout : Layout) (size : ℕ) (content table block : List ℕ) → IsLayout size layout → length content ≡ 4096 * size
+    → table ≡ empty_table layout → block ≡ super_bytes layout
     → ShutBelow layout (slot_count layout) content → IsJustMade layout (put 0 block (put (table_byte layout 0) table content))
 made_by_puts layout size content table block fits long table_is block_is shut =
     subst (λ (t : List ℕ). IsJustMade layout (put 0 block (put (table_byte layout 0) t content))) (sym (table_is ∙ empty_table_is layout))
-    (subst (λ (b : List ℕ). IsJustMade layout (put 0 b (put (table_byte layout 0) (empty_record ++ zeros (4096 * record_blocks layout.inodes - 512)) content))) (sym block_is)
-    (just_made layout size content empty_record (super_bytes layout) (4096 * record_blocks layout.inodes - 512) (pieces layout size content fits long) empty_record_is refl shut))
+    (subst (λ (b : List ℕ). IsJustMade layout (put 0 b (put (table_byte layout 0) (empty_record ++ zeros (4096 * record_blocks layout.inodes - 512)) content)))
+    (sym block_is)
+    (just_made layout size content empty_record (super_bytes layout) (4096 * record_blocks layout.inodes - 512)
+    (pieces layout size content fits long) empty_record_is refl shut))
 
 table_long : (layout : Layout) (table : List ℕ) → InRange layout → table ≡ empty_table layout → length table ≡ 4096 * record_blocks layout.inodes
 table_long layout table range table_is =
-    ap length (table_is ∙ empty_table_is layout) ∙ length-append empty_record _ ∙ ap₂ (λ a b. a + b) empty_record_long (length-zeros _) ∙ some_records layout range
+    ap length (table_is ∙ empty_table_is layout) ∙ length-append empty_record _ ∙ ap₂ (λ a b. a + b) empty_record_long (length-zeros _)
+    ∙ some_records layout range
 
 -- the table ends within the disk
-pub table_within : (layout : Layout) (size : ℕ) (table : List ℕ) → IsLayout size layout → table ≡ empty_table layout → table_byte layout 0 + length table ≤ 4096 * size
+pub table_within : (layout : Layout) (size : ℕ) (table : List ℕ) → IsLayout size layout → table ≡ empty_table layout
+    → table_byte layout 0 + length table ≤ 4096 * size
 table_within layout size table fits table_is =
     ends (table_start layout) (record_blocks layout.inodes) layout.blocks size (length table) (table_byte layout 0) fits.room fits.within
     (table_long layout table fits.ranges table_is) (add-zero (4096 * table_start layout))
@@ -270,7 +290,9 @@ table_some layout table range table_is = subst (λ n. 0 < n) (sym (table_long la
 
 -- so does each slot's gate
 pub gate_within : (layout : Layout) (size k : ℕ) → IsLayout size layout → k < slot_count layout → slot_byte layout k + 1 ≤ 4096 * size
-gate_within layout size k fits less = ends (slot_byte layout k) (number_blocks layout.inodes) (table_start layout) (record_blocks layout.inodes) layout.blocks size fits.room fits.within (IsDivided.last_slot (divided layout) k less)
+gate_within layout size k fits less =
+    ends (slot_byte layout k) (number_blocks layout.inodes) (table_start layout) (record_blocks layout.inodes) layout.blocks size fits.room fits.within
+    (IsDivided.last_slot (divided layout) k less)
   where
     ends : (a n s r b z : ℕ) → s + r + 1 ≤ b → b ≤ z → a + 4096 * (1 + n + r) ≤ 4096 * s → a + 1 ≤ 4096 * z
     ends a n s r b z room within le = omega arith
@@ -282,11 +304,13 @@ told_put at bytes None new content is told = absurd (none_some (sym is ∙ told)
 told_put at bytes (Some was) new content is told = (was, refl, some_same (sym told ∙ is))
 
 -- a root's record that is cut to the table's size, or filled up with zeros, is the table
-pub new_table_is : (layout : Layout) (blocks long : ℕ) (root start table : List ℕ) → InRange layout → start ≡ root → root ≡ inode_bytes empty_directory → blocks ≡ div_ceil layout.inodes 8
+pub new_table_is : (layout : Layout) (blocks long : ℕ) (root start table : List ℕ) → InRange layout → start ≡ root → root ≡ inode_bytes empty_directory
+    → blocks ≡ div_ceil layout.inodes 8
     → long ≡ length root → table ≡ take (4096 * blocks) start ++ replicate (4096 * blocks - long) 0 → table ≡ empty_table layout
 new_table_is layout blocks long root start table range start_is root_is blocks_is long_is table_is =
     table_is
-    ∙ ap₂ (λ (a b : List ℕ). a ++ b) (front ∙ start_is ∙ root_is ∙ sym empty_record_is) (sym (zeros-is (4096 * blocks - long)) ∙ ap zeros (ap₂ (λ a b. 4096 * a - b) same_blocks start_long))
+    ∙ ap₂ (λ (a b : List ℕ). a ++ b) (front ∙ start_is ∙ root_is ∙ sym empty_record_is)
+    (sym (zeros-is (4096 * blocks - long)) ∙ ap zeros (ap₂ (λ a b. 4096 * a - b) same_blocks start_long))
     ∙ sym (empty_table_is layout)
   where
     start_long : long ≡ 512
@@ -302,4 +326,7 @@ new_table_is layout blocks long root start table range start_is root_is blocks_i
     within b r l n is long own enough = omega arith
 
     front : take (4096 * blocks) start ≡ start
-    front = take_all (4096 * blocks) start (within blocks (record_blocks layout.inodes) long (length start) same_blocks start_long (long_is ∙ ap length (sym start_is)) (some_records layout range))
+    front =
+        take_all (4096 * blocks) start
+        (within blocks (record_blocks layout.inodes) long (length start) same_blocks start_long (long_is ∙ ap length (sym start_is))
+        (some_records layout range))

@@ -20,7 +20,8 @@ use Rattle.recovery.specs.declared.newest.Newest.{Newest}
 
 more_entries : (numbers bytes : List ℕ) (n : ℕ) → packed_entries numbers bytes (n + 1) ≡ packed_entries numbers bytes n ++ packed_entry numbers bytes n ∷ []
 more_entries numbers bytes n =
-    ap (map (packed_entry numbers bytes)) (range_more 0 n ∙ ap (λ m. range_with_len 0 n ++ m ∷ []) (zero_plus n)) ∙ map-append (packed_entry numbers bytes) (range_with_len 0 n) (n ∷ [])
+    ap (map (packed_entry numbers bytes)) (range_more 0 n ∙ ap (λ m. range_with_len 0 n ++ m ∷ []) (zero_plus n))
+    ∙ map-append (packed_entry numbers bytes) (range_with_len 0 n) (n ∷ [])
 
 module _ (inodes : ℕ) (numbers : List ℕ) (sound : numbers_fault inodes numbers ≡ None) where
   next_there : (k : ℕ) → k < length numbers → is_next inodes numbers k ≡ true
@@ -34,7 +35,8 @@ module _ (inodes : ℕ) (numbers : List ℕ) (sound : numbers_fault inodes numbe
   one_more k less =
       subst (λ j. slice_index numbers j < slice_index numbers (suc k)) (before k)
       (ltb-true (slice_index numbers (suc k - 1)) (slice_index numbers (suc k))
-      (other (nat_eq (suc k) 0) (nat_lt (slice_index numbers (suc k - 1)) (slice_index numbers (suc k))) (not_same (suc k) 0 (not_zero k)) (and_second (nat_lt (slice_index numbers (suc k)) inodes) _ (next_there (suc k) less))))
+      (other (nat_eq (suc k) 0) (nat_lt (slice_index numbers (suc k - 1)) (slice_index numbers (suc k))) (not_same (suc k) 0 (not_zero k))
+      (and_second (nat_lt (slice_index numbers (suc k)) inodes) _ (next_there (suc k) less))))
     where
       before : (k : ℕ) → suc k - 1 ≡ k
       before k = omega arith
@@ -61,24 +63,32 @@ module _ (inodes : ℕ) (numbers : List ℕ) (sound : numbers_fault inodes numbe
       between x y = omega arith
 
   -- the first entries have none of a later number
-  none_before : (bytes : List ℕ) (i k n : ℕ) → n ≤ k → k < length numbers → slice_index numbers k ≡ i → find (λ (e : Entry). nat_eq e.inode i) (packed_entries numbers bytes n) ≡ None
+  none_before : (bytes : List ℕ) (i k n : ℕ) → n ≤ k → k < length numbers → slice_index numbers k ≡ i
+      → find (λ (e : Entry). nat_eq e.inode i) (packed_entries numbers bytes n) ≡ None
   none_before bytes i k zero le less is = refl
   none_before bytes i k (suc n) le less is =
-      ap (λ m. find (λ (e : Entry). nat_eq e.inode i) (packed_entries numbers bytes m)) (sym (add-one n)) ∙ ap (find (λ (e : Entry). nat_eq e.inode i)) (more_entries numbers bytes n)
+      ap (λ m. find (λ (e : Entry). nat_eq e.inode i) (packed_entries numbers bytes m)) (sym (add-one n))
+      ∙ ap (find (λ (e : Entry). nat_eq e.inode i)) (more_entries numbers bytes n)
       ∙ find-append (λ (e : Entry). nat_eq e.inode i) (packed_entries numbers bytes n) (packed_entry numbers bytes n ∷ [])
       ∙ ap (λ o. option_or o (find (λ (e : Entry). nat_eq e.inode i) (packed_entry numbers bytes n ∷ []))) (none_before bytes i k n (le_earlier le) less is)
-      ∙ ap (λ b. cond b (Some (packed_entry numbers bytes n)) None) (not_same (slice_index numbers n) i (other (slice_index numbers n) i (slice_index numbers k) is (number_above n k le less)))
+      ∙ ap (λ b. cond b (Some (packed_entry numbers bytes n)) None)
+      (not_same (slice_index numbers n) i (other (slice_index numbers n) i (slice_index numbers k) is (number_above n k le less)))
     where
       other : (a i b : ℕ) → b ≡ i → a < b → a ≢ i
       other a i b is lt same = omega arith
 
   -- one record more of a body
   pub record_more : (stamp : ℕ) (bytes : List ℕ) (best : ℕ → Option (Stamped (List ℕ))) (k : ℕ) → k < length numbers → (i : ℕ)
-      → with_record (slice_index numbers k) stamp (part (512 * k) 512 bytes) (with_body (record { stamp = stamp; entries = packed_entries numbers bytes k }) best) i
+      → with_record (slice_index numbers k) stamp (part (512 * k) 512 bytes)
+      (with_body (record { stamp = stamp; entries = packed_entries numbers bytes k }) best) i
       ≡ with_body (record { stamp = stamp; entries = packed_entries numbers bytes (k + 1) }) best i
   record_more stamp bytes best k less i =
-      elim (nat_eq (slice_index numbers k) i) as (λ b. nat_eq (slice_index numbers k) i ≡ b → cond b (newer (Some here) (newer (own before) (best i))) (newer (own before) (best i)) ≡ newer (own (option_or before (cond b (Some entry) None))) (best i)) [
-        | true ↦ λ same. ap (λ o. newer (Some here) (newer (own o) (best i))) (none same) ∙ ap (λ o. newer (own (option_or o (Some entry))) (best i)) (sym (none same))
+      elim (nat_eq (slice_index numbers k) i) as (λ b. nat_eq (slice_index numbers k) i ≡ b
+      → cond b (newer (Some here) (newer (own before) (best i))) (newer (own before) (best i))
+      ≡ newer (own (option_or before (cond b (Some entry) None))) (best i)) [
+        | true ↦
+            λ same. ap (λ o. newer (Some here) (newer (own o) (best i))) (none same)
+            ∙ ap (λ o. newer (own (option_or o (Some entry))) (best i)) (sym (none same))
         | false ↦ λ other. ap (λ o. newer (own o) (best i)) (sym (or_none before))
       ] refl
       ∙ ap (λ o. newer (own o) (best i)) (sym (ap (find test) (more_entries numbers bytes k) ∙ find-append test (packed_entries numbers bytes k) (entry ∷ [])))

@@ -65,7 +65,8 @@ module _ (layout : Layout) (n : ℕ) (test : ℕ → Bool) (parts : ℕ → Part
   after_settles : (image : List ℕ) → IsAfter job parts new image → SettlesAs layout (freed_by layout test n parts) image
   after_settles image stands = record { opened = nothing_open; stands = stands; same = own_part job (freed_by layout test n parts) }
 
-  moment_settles : (began k : ℕ) (image : List ℕ) → IsMomentOf job parts new began k image → SettlesAs layout parts image ⊎ SettlesAs layout (freed_by layout test n parts) image
+  moment_settles : (began k : ℕ) (image : List ℕ) → IsMomentOf job parts new began k image
+      → SettlesAs layout parts image ⊎ SettlesAs layout (freed_by layout test n parts) image
   moment_settles began k image is = elim (cases_lt (durable_at began job) k) [
     | inl late ↦ inr (elim (is.durable late) [ inl slot ↦ slot_settles image slot | inr after ↦ after_settles image after ])
     | inr early ↦ elim (is.opening early) [ inl before ↦ inl (before_settles image before) | inr slot ↦ inr (slot_settles image slot) ]
@@ -76,7 +77,9 @@ module _ (layout : Layout) (n : ℕ) (test : ℕ → Bool) (parts : ℕ → Part
       → FreesUnlinked layout parts (freed_by layout test n parts) old now answer
   carried_frees old now result answer carries ends = record {
     told = carries.told;
-    later = λ content told counts k image from up left. moment_settles old.now k image (carries.each_moment content told counts k image (omega (arith, from)) up left);
+    later =
+        λ content told counts k image from up left. moment_settles old.now k image
+        (carries.each_moment content told counts k image (omega (arith, from)) up left);
     ended = ends carries.ended;
   }
 
@@ -87,7 +90,8 @@ module _ (layout : Layout) (n : ℕ) (test : ℕ → Bool) (parts : ℕ → Part
     pub commit_frees : {V E W F : Type 0} (old now : View) (result : Result V E) (answer : Result W F)
         → ((parts : ℕ → Part) (new : List InodePart) → IsChangeOf (job_for place packed 1) parts new → EachLeft old (IsBefore (job_for place packed 1) parts)
         → Carries (job_for place packed 1) parts new old now result)
-        → EachLeft old (IsImageOf layout nothing_open parts) → (OnOk result (EachLeft now (IsAfter job parts new)) → OnOk answer (EachLeft now (IsAfter job parts new)))
+        → EachLeft old (IsImageOf layout nothing_open parts)
+        → (OnOk result (EachLeft now (IsAfter job parts new)) → OnOk answer (EachLeft now (IsAfter job parts new)))
         → FreesUnlinked layout parts (freed_by layout test n parts) old now answer
     commit_frees old now result answer carried before ends =
         let change = subst (λ (j : Job). IsChangeOf j parts new) (sym job_is) (is_change layout inodes parts) in

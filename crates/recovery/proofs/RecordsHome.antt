@@ -26,7 +26,8 @@ use Rattle.recovery.specs.Recovering.{AreHome, AreNewestOf, BringsHome, record_p
 
 -- a record of the table lies on the disk
 pub table_within : (layout : Layout) (size i : ℕ) → IsLayout size layout → i < layout.inodes → table_byte layout i + 512 ≤ 4096 * size
-table_within layout size i fits low = ends (table_byte layout i) (data_start layout) layout.blocks size (IsDivided.table (divided layout) i low) fits.room fits.within
+table_within layout size i fits low =
+    ends (table_byte layout i) (data_start layout) layout.blocks size (IsDivided.table (divided layout) i low) fits.room fits.within
   where
     ends : (a d b z : ℕ) → a + 512 ≤ 4096 * d → d + 1 ≤ b → b ≤ z → a + 512 ≤ 4096 * z
     ends a d b z le room within = omega arith
@@ -36,36 +37,43 @@ pub some_stamp : (stamps : List (Option ℕ)) (i : ℕ) → is_some (slice_index
 some_stamp stamps i some none = not_both some (ap is_some none)
 
 -- a record that is written, whole or torn, keeps what an image stands for
-record_keeps : (layout : Layout) (opened : ℕ → Option Transaction) (parts : ℕ → Part) (i : ℕ) (bytes was image : List ℕ) → i < layout.inodes → length bytes ≡ 512
-    → given layout opened i ≢ None → SameOutside (table_byte layout i) (length bytes) was image → IsImageOf layout opened parts was → IsImageOf layout opened parts image
+record_keeps : (layout : Layout) (opened : ℕ → Option Transaction) (parts : ℕ → Part) (i : ℕ) (bytes was image : List ℕ) → i < layout.inodes
+    → length bytes ≡ 512
+    → given layout opened i ≢ None → SameOutside (table_byte layout i) (length bytes) was image → IsImageOf layout opened parts was
+    → IsImageOf layout opened parts image
 record_keeps layout opened parts i bytes was image low long taken same stands = table_written layout opened parts i was image stands (record {
   from = 0;
   n = length bytes;
   written = let at : table_byte layout i ≡ table_byte layout i + 0 = omega arith in
-      let there = subst (λ (a : ℕ). SameOutside a (length bytes) was image) at same in record { before = there.before; behind = there.after; size = there.size };
+      let there = subst (λ (a : ℕ). SameOutside a (length bytes) was image) at same in
+      record { before = there.before; behind = there.after; size = there.size };
   within = low;
   fits = omega (arith, long);
   taken = taken;
 })
 
 -- an inode that no open slot has is passed over
-pub passed_home : (layout : Layout) (stamps : List (Option ℕ)) (records : List (List ℕ)) (n : ℕ) (disk : View) → slice_index_or stamps n None ≡ None → AreHome layout stamps records n disk → AreHome layout stamps records (n + 1) disk
+pub passed_home : (layout : Layout) (stamps : List (Option ℕ)) (records : List (List ℕ)) (n : ℕ) (disk : View) → slice_index_or stamps n None ≡ None
+    → AreHome layout stamps records n disk → AreHome layout stamps records (n + 1) disk
 passed_home layout stamps records n disk none home i low some = elim (cases_eq i n) [
   | inl same ↦ absurd (some (ap (λ (k : ℕ). slice_index_or stamps k None) same ∙ none))
   | inr apart ↦ home i (omega arith) some
 ]
 
 -- a record is written home
-module _ (layout : Layout) (stamps : List (Option ℕ)) (records : List (List ℕ)) (n : ℕ) (bytes : List ℕ) (old new : View) (low : n < layout.inodes) (is : bytes ≡ slice_index_or records n [])
+module _ (layout : Layout) (stamps : List (Option ℕ)) (records : List (List ℕ)) (n : ℕ) (bytes : List ℕ) (old new : View) (low : n < layout.inodes)
+    (is : bytes ≡ slice_index_or records n [])
     (long : length bytes ≡ 512) (large : table_byte layout n + 512 ≤ 4096 * old.size) (lawful : IsLawful old) where
-  written_home : {V E : Type 0} (value : V) → IsWrite {V = V} {E = E} (record_piece layout n bytes) old new (Ok value) → AreHome layout stamps records n old → AreHome layout stamps records (n + 1) new
+  written_home : {V E : Type 0} (value : V) → IsWrite {V = V} {E = E} (record_piece layout n bytes) old new (Ok value) → AreHome layout stamps records n old
+      → AreHome layout stamps records (n + 1) new
   written_home {V} {E} value write home i less some content told = elim (cases_eq i n) [
     | inl same ↦
         let stands = written_stands (record_piece layout n bytes) old new (omega (arith, long)) lawful write.ok content told in
         subst (λ (k : ℕ). table_record layout content k ≡ slice_index_or records k []) (sym same)
         (subst (λ (m : ℕ). part (table_byte layout n) m content ≡ slice_index_or records n []) long (stands ∙ is))
     | inr apart ↦
-        let touches = (written_touches (record_piece layout n bytes) old new (omega (arith, long)) lawful (answered {V = V} {F = E} value) write).read content told in
+        let touches =
+        (written_touches (record_piece layout n bytes) old new (omega (arith, long)) lawful (answered {V = V} {F = E} value) write).read content told in
         let elsewhere : table_record layout content i ≡ table_record layout touches.0 i =
         part_apart (table_byte layout i) 512 (table_byte layout n) (length bytes) touches.0 content (beside i apart) touches.2 in
         elsewhere ∙ home i (omega arith) some touches.0 touches.1
@@ -77,11 +85,13 @@ module _ (layout : Layout) (stamps : List (Option ℕ)) (records : List (List �
         | inr le ↦ inl (omega (arith, long))
       ]
 
-  pub home_where_written : {V E : Type 0} (result : Result V E) → IsWrite (record_piece layout n bytes) old new result → OnOk result (AreHome layout stamps records n old → AreHome layout stamps records (n + 1) new)
+  pub home_where_written : {V E : Type 0} (result : Result V E) → IsWrite (record_piece layout n bytes) old new result
+      → OnOk result (AreHome layout stamps records n old → AreHome layout stamps records (n + 1) new)
   home_where_written (Ok value) write = written_home value write
   home_where_written (Err fault) write = tt
 
-  pub record_kept : {V E : Type 0} (opened : ℕ → Option Transaction) (parts : ℕ → Part) (result : Result V E) → IsWrite (record_piece layout n bytes) old new result
+  pub record_kept : {V E : Type 0} (opened : ℕ → Option Transaction) (parts : ℕ → Part) (result : Result V E)
+      → IsWrite (record_piece layout n bytes) old new result
       → given layout opened n ≢ None → EachLeft old (IsImageOf layout opened parts) → Keeps (IsImageOf layout opened parts) old new
   record_kept opened parts result write taken before =
       write_keeps (IsImageOf layout opened parts) (record_piece layout n bytes) old new result
@@ -89,7 +99,8 @@ module _ (layout : Layout) (stamps : List (Option ℕ)) (records : List (List �
       (writes_told (record_piece layout n bytes) old new result write) write before
 
 -- once all are home and on the disk, the table has the records of all parts
-pub full_at_last : (layout : Layout) (opened : ℕ → Option Transaction) (parts : ℕ → Part) (stamps : List (Option ℕ)) (records : List (List ℕ)) (disk : View) → AreNewestOf layout opened parts stamps records → IsCalm disk
+pub full_at_last : (layout : Layout) (opened : ℕ → Option Transaction) (parts : ℕ → Part) (stamps : List (Option ℕ)) (records : List (List ℕ)) (disk : View)
+    → AreNewestOf layout opened parts stamps records → IsCalm disk
     → AreHome layout stamps records layout.inodes disk → EachLeft disk (IsImageOf layout opened parts) → EachLeft disk (IsFullTable layout opened parts)
 full_at_last layout opened parts stamps records disk are calm home stands content told image left i low =
     by (slice_index_or stamps i None) refl
@@ -104,11 +115,15 @@ full_at_last layout opened parts stamps records disk are calm home stands conten
         ∙ are.each i low
 
 -- the sync at the end
-module _ (layout : Layout) (opened : ℕ → Option Transaction) (parts : ℕ → Part) (stamps : List (Option ℕ)) (records : List (List ℕ)) (n : ℕ) (first mid new : View) (reached : layout.inodes ≤ n) (lawful : IsLawful mid)
-    (are : AreNewestOf layout opened parts stamps records) (goes : Advances mid new) (home : AreHome layout stamps records n mid) (before : Keeps (IsImageOf layout opened parts) first mid) where
+module _ (layout : Layout) (opened : ℕ → Option Transaction) (parts : ℕ → Part) (stamps : List (Option ℕ)) (records : List (List ℕ)) (n : ℕ)
+    (first mid new : View) (reached : layout.inodes ≤ n) (lawful : IsLawful mid)
+    (are : AreNewestOf layout opened parts stamps records) (goes : Advances mid new) (home : AreHome layout stamps records n mid)
+    (before : Keeps (IsImageOf layout opened parts) first mid) where
   pub all_home : {V E : Type 0} (result : Result V E) → IsSync mid new result → BringsHome layout opened parts first new result
   all_home result sync = record {
-    keeps = keeps_trans (IsImageOf layout opened parts) first mid new goes before (sync_keeps (IsImageOf layout opened parts) mid new result lawful sync before.now);
+    keeps =
+        keeps_trans (IsImageOf layout opened parts) first mid new goes before
+        (sync_keeps (IsImageOf layout opened parts) mid new result lawful sync before.now);
     full = full result sync;
   }
     where

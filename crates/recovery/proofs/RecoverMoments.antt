@@ -46,11 +46,13 @@ sole disk content image told calm left = (subst (λ (t : Option (List ℕ)). Onl
 shows_itself : (image : List ℕ) → ShowsTheSame image image
 shows_itself image = record { fault = refl; tree = λ share. refl }
 
-pub read_moments : (old mid : View) (image : List ℕ) → old.content ≡ Some image → IsCalm old → Unwritten old mid → CountsOn mid → EachMoment old mid (λ _ now. ShowsTheSame now image)
+pub read_moments : (old mid : View) (image : List ℕ) → old.content ≡ Some image → IsCalm old → Unwritten old mid → CountsOn mid
+    → EachMoment old mid (λ _ now. ShowsTheSame now image)
 read_moments old mid image told calm rests counts k now from up left =
     subst (λ (l : List ℕ). ShowsTheSame l image) (sym (sole old image now told calm (rests.at_each_moment counts k now from up left))) (shows_itself image)
 
-module _ (image : List ℕ) (layout : Layout) (records : List (List ℕ)) (settles : SettlesRecords image layout records) (some : 0 < layout.inodes) (none : fault_of image ≡ None) where
+module _ (image : List ℕ) (layout : Layout) (records : List (List ℕ)) (settles : SettlesRecords image layout records) (some : 0 < layout.inodes)
+    (none : fault_of image ≡ None) where
   abbrev image_settles : SettlesAs layout (settled_parts layout image) image
   image_settles = let stands = image_stands image layout records settles some none in record {
     opened = transaction_in layout image;
@@ -59,17 +61,22 @@ module _ (image : List ℕ) (layout : Layout) (records : List (List ℕ)) (settl
   }
 
   freed_of : (freed : ℕ → Part) → AreUnlinkedFree layout (settled_parts layout image) freed → AreUnlinkedFree layout (parts_of layout image) freed
-  freed_of freed without i low = without i low ∙ ap (λ (p : Part). cond (is_unlinked p.raw) free_part p) (sym (settling_parts layout (settled_parts layout image) image image_settles i low))
+  freed_of freed without i low =
+      without i low
+      ∙ ap (λ (p : Part). cond (is_unlinked p.raw) free_part p) (sym (settling_parts layout (settled_parts layout image) image image_settles i low))
 
   pub settled_shows : (now : List ℕ) → SettlesAs layout (settled_parts layout image) now → ShowsTheSame now image
   settled_shows now is = settling_shows_the_same layout (settled_parts layout image) now image is image_settles
 
-  pub freed_shows : (freed : ℕ → Part) → AreUnlinkedFree layout (settled_parts layout image) freed → (now : List ℕ) → SettlesAs layout freed now → ShowsTheSame now image
+  pub freed_shows : (freed : ℕ → Part) → AreUnlinkedFree layout (settled_parts layout image) freed → (now : List ℕ) → SettlesAs layout freed now
+      → ShowsTheSame now image
   freed_shows freed without now is =
       freed_shows_the_same layout (parts_of layout image) (are_faultless image layout records settles some none) freed (freed_of freed without) now image
-      (settling_is_readable layout freed now is) (readable image layout records settles some none) (λ i low. settling_parts layout freed now is i low) (λ i low. refl) none
+      (settling_is_readable layout freed now is) (readable image layout records settles some none) (λ i low. settling_parts layout freed now is i low)
+      (λ i low. refl) none
 
-  pub all_moments : {V E : Type 0} (old mid new : View) (result : Result V E) → old.content ≡ Some image → mid.content ≡ Some image → IsCalm old → Unwritten old mid → CountsOn new → Advances mid new
+  pub all_moments : {V E : Type 0} (old mid new : View) (result : Result V E) → old.content ≡ Some image → mid.content ≡ Some image → IsCalm old
+      → Unwritten old mid → CountsOn new → Advances mid new
       → RecoversTo layout (settled_parts layout image) mid new result → EachMoment old new (λ _ now. ShowsTheSame now image)
   all_moments old mid new result told mid_told calm rests counts goes to =
       EachMoment-trans old mid new (λ _ now. ShowsTheSame now image) counts goes
@@ -79,7 +86,8 @@ module _ (image : List ℕ) (layout : Layout) (records : List (List ℕ)) (settl
         | inr freed ↦ freed_shows to.freed to.without now freed
       ])
 
-  pub all_ended : {V E : Type 0} (mid new : View) (result : Result V E) → RecoversTo layout (settled_parts layout image) mid new result → OnOk result (EachLeft new (IsRecoveredFrom image))
+  pub all_ended : {V E : Type 0} (mid new : View) (result : Result V E) → RecoversTo layout (settled_parts layout image) mid new result
+      → OnOk result (EachLeft new (IsRecoveredFrom image))
   all_ended mid new result to = on_ok_weaker result (λ ended content told now left. record {
     parts = to.freed;
     without = subst (λ (l : Layout). AreUnlinkedFree l (parts_of l image) to.freed) settles.layout_is (freed_of to.freed to.without);
@@ -89,8 +97,10 @@ module _ (image : List ℕ) (layout : Layout) (records : List (List ℕ)) (settl
 
 -- what was judged is ready to be settled, as it is handed on
 pub ready_by : (image : List ℕ) (layout : Layout) (found passed : List OpenSlot) (stamps given_stamps : List (Option ℕ)) (records given_records : List (List ℕ))
-    → passed ≡ found → given_stamps ≡ stamps → given_records ≡ records → IsImageOf layout (transaction_in layout image) (table_parts layout image) image → AreOpen layout image (slot_count layout) found
-    → AreNewestOf layout (transaction_in layout image) (table_parts layout image) stamps records → IsReadyToSettle layout passed given_stamps given_records image
+    → passed ≡ found → given_stamps ≡ stamps → given_records ≡ records → IsImageOf layout (transaction_in layout image) (table_parts layout image) image
+    → AreOpen layout image (slot_count layout) found
+    → AreNewestOf layout (transaction_in layout image) (table_parts layout image) stamps records
+    → IsReadyToSettle layout passed given_stamps given_records image
 ready_by image layout found passed stamps given_stamps records given_records same_found same_stamps same_records stands open_slots newest = record {
   stands = stands;
   open_slots = subst (AreOpen layout image (slot_count layout)) (sym same_found) open_slots;
@@ -99,6 +109,7 @@ ready_by image layout found passed stamps given_stamps records given_records sam
 }
 
 -- a recovery that failed on the disk
-pub failed_for : {V : Type 0} (before now : ℕ) (result : Result V RecoverFault) → IsErrAnd result (λ fault. fault ≡ DiskFailed) → HasRisen before now → HasReadCause is_recover_disk_fault before now result
+pub failed_for : {V : Type 0} (before now : ℕ) (result : Result V RecoverFault) → IsErrAnd result (λ fault. fault ≡ DiskFailed) → HasRisen before now
+    → HasReadCause is_recover_disk_fault before now result
 failed_for before now (Ok value) never risen = absurd never
 failed_for before now (Err fault) is risen = subst (λ (f : RecoverFault). IsCauseOf (is_recover_disk_fault f) before now) (sym is) risen

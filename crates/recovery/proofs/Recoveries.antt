@@ -37,7 +37,8 @@ unfolding unlinked_below
 unlinked_is records n = refl
 
 -- they are below the count
-pub frees_below : (records : List (List ℕ)) (n : ℕ) (packed : Contents) → packed ≡ freeing (unlinked_below records n) → All (λ (entry : Entry). entry.inode < n) packed.entries
+pub frees_below : (records : List (List ℕ)) (n : ℕ) (packed : Contents) → packed ≡ freeing (unlinked_below records n)
+    → All (λ (entry : Entry). entry.inode < n) packed.entries
 frees_below records n packed is = subst (λ (c : Contents). All (λ (entry : Entry). entry.inode < n) c.entries) (sym is)
     (All-from_get_or (λ (entry : Entry). entry.inode < n) (map free_entry (unlinked_below records n)) (free_entry 0) (λ k low.
     let within : k < length (unlinked_below records n) = subst (λ m. k < m) (length-map (unlinked_below records n) free_entry) low in
@@ -64,40 +65,52 @@ module _ (layout : Layout) (parts : ℕ → Part) (records : List (List ℕ)) (c
     | inl unlinked ↦ absurd (
         let within : i < length records = subst (λ n. i < n) (sym count) low in
         let numbered : get_or (range_with_len 0 (length records)) i 0 ≡ i = get_or-range_with_len 0 (length records) i 0 within ∙ zero_plus i in
-        let there = passing_is_there (is_unlinked_at records) (range_with_len 0 (length records)) i (subst (λ n. i < n) (sym (length-range_with_len 0 (length records))) within) (ap (is_unlinked_at records) numbered ∙ unlinked) in
+        let there =
+        passing_is_there (is_unlinked_at records) (range_with_len 0 (length records)) i
+        (subst (λ n. i < n) (sym (length-range_with_len 0 (length records))) within) (ap (is_unlinked_at records) numbered ∙ unlinked) in
         let low_there = subst (λ (l : List ℕ). there.0 < length l) (sym (unlinked_is records (length records)) ∙ none) there.1 in
         omega (arith, low_there))
   ]
 
   module _ (old mid : View) where
     -- the slots were not settled
-    pub settling_failed : {V E W F : Type 0} (result : Result V E) (answer : Result W F) → 0 < slot_count layout → IsErr answer → ClosesAll layout parts old mid result → RecoversTo layout parts old mid answer
+    pub settling_failed : {V E W F : Type 0} (result : Result V E) (answer : Result W F) → 0 < slot_count layout → IsErr answer
+        → ClosesAll layout parts old mid result → RecoversTo layout parts old mid answer
     settling_failed result answer some failed closes = record {
       freed = freed_for layout records parts;
       without = freed_without some;
       told = closes.told;
-      later = later_more (λ _ now. SettlesAs layout parts now) (λ _ now. SettlesAs layout parts now ⊎ SettlesAs layout (freed_for layout records parts) now) old mid (λ k now from up settles. inl settles) closes.later;
+      later =
+          later_more (λ _ now. SettlesAs layout parts now) (λ _ now. SettlesAs layout parts now ⊎ SettlesAs layout (freed_for layout records parts) now) old mid
+          (λ k now from up settles. inl settles) closes.later;
       ended = no_answer _ answer failed;
     }
 
     -- there is no orphan
-    pub nothing_to_free : {V E : Type 0} (value : V) → unlinked_below records (length records) ≡ [] → ClosesAll layout parts old mid (answered {V = V} {F = E} value) → RecoversTo layout parts old mid (answered {V = V} {F = E} value)
+    pub nothing_to_free : {V E : Type 0} (value : V) → unlinked_below records (length records) ≡ []
+        → ClosesAll layout parts old mid (answered {V = V} {F = E} value) → RecoversTo layout parts old mid (answered {V = V} {F = E} value)
     nothing_to_free value none closes = record {
       freed = parts;
       without = none_freed none;
       told = closes.told;
-      later = later_more (λ _ now. SettlesAs layout parts now) (λ _ now. SettlesAs layout parts now ⊎ SettlesAs layout parts now) old mid (λ k now from up settles. inl settles) closes.later;
+      later =
+          later_more (λ _ now. SettlesAs layout parts now) (λ _ now. SettlesAs layout parts now ⊎ SettlesAs layout parts now) old mid
+          (λ k now from up settles. inl settles) closes.later;
       ended = closes.closed;
     }
 
     -- orphans are freed
-    pub then_freed : {V E W F : Type 0} (value : V) (new : View) (answer : Result W F) → 0 < slot_count layout → Advances mid new → ClosesAll layout parts old mid (answered {V = V} {F = E} value)
+    pub then_freed : {V E W F : Type 0} (value : V) (new : View) (answer : Result W F) → 0 < slot_count layout → Advances mid new
+        → ClosesAll layout parts old mid (answered {V = V} {F = E} value)
         → FreesUnlinked layout parts (freed_for layout records parts) mid new answer → RecoversTo layout parts old new answer
     then_freed value new answer some goes closes frees = record {
       freed = freed_for layout records parts;
       without = freed_without some;
       told = telling_trans old mid new closes.told frees.told;
       later = later_trans (λ _ now. SettlesAs layout parts now ⊎ SettlesAs layout (freed_for layout records parts) now) old mid new closes.told goes
-          (later_more (λ _ now. SettlesAs layout parts now) (λ _ now. SettlesAs layout parts now ⊎ SettlesAs layout (freed_for layout records parts) now) old mid (λ k now from up settles. inl settles) closes.later) frees.later;
+          (later_more (λ _ now. SettlesAs layout parts now)
+          (λ _ now. SettlesAs layout parts now ⊎ SettlesAs layout (freed_for layout records parts) now) old mid
+          (λ k now from up settles. inl settles) closes.later)
+          frees.later;
       ended = frees.ended;
     }

@@ -96,7 +96,8 @@ module _ (layout : Layout) (image : List ℕ) (is : IsJustMade layout image) (sh
 
   few_rows : (directory number : ℕ) → len (bucket_rows directory number tree.rows) ≤ BUCKET_ROWS
   few_rows directory number =
-      let none : len (bucket_rows directory number tree.rows) ≡ 0 = len-entries (bucket_rows directory number tree.rows) ∙ ap length (entries-names_where directory (λ name. eqb (bucket name) number) tree.rows
+      let none : len (bucket_rows directory number tree.rows) ≡ 0 =
+      len-entries (bucket_rows directory number tree.rows) ∙ ap length (entries-names_where directory (λ name. eqb (bucket name) number) tree.rows
       ∙ ap (filter_map (name_row directory (λ name. eqb (bucket name) number))) no_rows) in
       omega (arith, none)
 
@@ -105,7 +106,11 @@ module _ (layout : Layout) (image : List ℕ) (is : IsJustMade layout image) (sh
     kind = ap (λ (inode : Inode). inode.kind) shows.root ∙ sym (ap kind_byte root_kind);
     links = ap (λ (inode : Inode). inode.links) shows.root ∙ root_links;
     size = ap (λ (inode : Inode). inode.size) shows.root
-        ∙ sym (ap (λ (inode : Inode). cond (eqb inode.kind 2) (BLOCK_BYTES * (length (shown_slots root_part) / BLOCK_SLOTS)) (length (shown_bytes root_part))) shows.root ∙ ap (λ (l : List (Option Row)). BLOCK_BYTES * (length l / BLOCK_SLOTS)) no_slots);
+        ∙ sym
+        (ap
+        (λ (inode : Inode). cond (eqb inode.kind 2) (BLOCK_BYTES * (length (shown_slots root_part) / BLOCK_SLOTS)) (length (shown_bytes root_part)))
+        shows.root
+        ∙ ap (λ (l : List (Option Row)). BLOCK_BYTES * (length l / BLOCK_SLOTS)) no_slots);
     bytes = bytes_none ∙ sym (no_bytes 0);
     slots = λ name. ap (looked_up name) no_slots ∙ sym (ap (option_map (row_on root_numbered tree name)) (get-empty key_cmp (0, name)));
     once = λ name. subst (λ (l : List (Option Row)). name_count name l ≤ 1) (sym no_slots) (omega arith);
@@ -137,11 +142,14 @@ module _ (layout : Layout) (image : List ℕ) (is : IsJustMade layout image) (sh
   good_bytes = record {
     super = shows.accepted.super;
     journals = subst (λ (l : Layout). journal_fault_of l image ≡ None) (sym shows.accepted.divided) shows.accepted.journals;
-    parts = subst (λ (l : Layout). HaveGoodBytes l (parts_of l image)) (sym shows.accepted.divided) (λ rule i least most other apart low. shows.rules rule i low);
+    parts =
+        subst (λ (l : Layout). HaveGoodBytes l (parts_of l image)) (sym shows.accepted.divided) (λ rule i least most other apart low. shows.rules rule i low);
   }
 
   pub is_read : IsReadAsTree image share tree
-  is_read = standing_images_are_read image share root_numbered tree good_bytes (subst (λ (l : Layout). StandsForSoundTree root_numbered tree (inodes_shown l (parts_of l image))) (sym shows.accepted.divided) stands)
+  is_read =
+      standing_images_are_read image share root_numbered tree good_bytes
+      (subst (λ (l : Layout). StandsForSoundTree root_numbered tree (inodes_shown l (parts_of l image))) (sym shows.accepted.divided) stands)
 
 pub just_made_has_root_alone : JustMadeHasRootAlone
 just_made_has_root_alone layout image is = record {

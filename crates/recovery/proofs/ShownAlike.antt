@@ -23,7 +23,8 @@ pub record IsReadable (layout : Layout) (image : List ℕ) : Type 0 where
   pub divided : layout_of image ≡ layout
 
 -- it has a good start by the journals of its layout
-pub readable_by : (layout : Layout) (image : List ℕ) → super_fault_of image ≡ None → layout_of image ≡ layout → journal_fault_of layout image ≡ None → IsReadable layout image
+pub readable_by : (layout : Layout) (image : List ℕ) → super_fault_of image ≡ None → layout_of image ≡ layout → journal_fault_of layout image ≡ None
+    → IsReadable layout image
 readable_by layout image super divided journals = record {
   start = record { super = super; journals = subst (λ (l : Layout). journal_fault_of l image ≡ None) (sym divided) journals };
   divided = divided;
@@ -33,7 +34,8 @@ module _ (layout : Layout) (image : List ℕ) (is : IsReadable layout image) whe
   -- its first fault is that of its parts
   pub fault_by_parts : fault_of image ≡ first_of_faults None None (fault_of_parts layout (parts_of layout image))
   fault_by_parts =
-      ap (λ (super : Option ℕ). first_of_faults super (journal_fault_of (layout_of image) image) (tree_fault (breaks_bytes_of image) (image_inodes image))) is.start.super
+      ap (λ (super : Option ℕ). first_of_faults super (journal_fault_of (layout_of image) image) (tree_fault (breaks_bytes_of image) (image_inodes image)))
+      is.start.super
       ∙ ap (λ (journal : Option SlotFault). first_of_faults None journal (tree_fault (breaks_bytes_of image) (image_inodes image))) is.start.journals
       ∙ ap (λ (l : Layout). first_of_faults None None (fault_of_parts l (parts_of l image))) is.divided
 
@@ -52,7 +54,8 @@ module _ (layout : Layout) (image other : List ℕ) (one : IsReadable layout ima
   pub trees_same : (share : ℕ) → image_tree (image_inodes image) (making_at_mount image share) ≡ image_tree (image_inodes other) (making_at_mount other share)
   trees_same share =
       ap (λ (l : Layout). image_tree (inodes_shown l (parts_of l image)) (making_of l share)) one.divided
-      ∙ tree_alike layout.inodes (λ i. seen_of (parts_of layout image i)) (λ i. seen_of (parts_of layout other i)) (λ i low. ap seen_of (same i low)) (making_of layout share)
+      ∙ tree_alike layout.inodes (λ i. seen_of (parts_of layout image i)) (λ i. seen_of (parts_of layout other i)) (λ i low. ap seen_of (same i low))
+      (making_of layout share)
       ∙ sym (ap (λ (l : Layout). image_tree (inodes_shown l (parts_of l other)) (making_of l share)) two.divided)
 
   pub shown_alike : ShowsTheSame image other
@@ -73,7 +76,8 @@ module _ (layout : Layout) (parts : ℕ → Part) (image : List ℕ) (settles : 
   pub settling_parts : (i : ℕ) → i < layout.inodes → parts_of layout image i ≡ parts i
   settling_parts i low = (read_as layout settles.opened parts image settles.stands).settles i low ∙ settles.same i
 
-pub settling_shows_the_same : (layout : Layout) (parts : ℕ → Part) (image other : List ℕ) → SettlesAs layout parts image → SettlesAs layout parts other → ShowsTheSame image other
+pub settling_shows_the_same : (layout : Layout) (parts : ℕ → Part) (image other : List ℕ) → SettlesAs layout parts image → SettlesAs layout parts other
+    → ShowsTheSame image other
 settling_shows_the_same layout parts image other one two =
     shown_alike layout image other (settling_is_readable layout parts image one) (settling_is_readable layout parts other two)
     (λ i low. settling_parts layout parts image one i low ∙ sym (settling_parts layout parts other two i low))

@@ -70,7 +70,8 @@ module _ (layout : Layout) (parts : ℕ → Part) (found : List OpenSlot) (last 
   own = to.still_open.still place one oldest.at oldest.above
 
   -- of the slots that are open no two have one commit stamp
-  apart_by_number : (other : OpenSlot) → other.number < slot_count layout → IsFoundAt to.settles.opened other → other.number ≢ one.number → one.stamp ≡ other.stamp → ⊥
+  apart_by_number : (other : OpenSlot) → other.number < slot_count layout → IsFoundAt to.settles.opened other → other.number ≢ one.number
+      → one.stamp ≡ other.stamp → ⊥
   apart_by_number other low there apart stamps =
       apart (to.settles.stands.stamps other.number one.number there.transaction own.transaction low within there.is_open own.is_open
       (there.stamp ∙ sym stamps ∙ sym own.stamp))
@@ -107,7 +108,9 @@ module _ (layout : Layout) (parts : ℕ → Part) (found : List OpenSlot) (last 
   }
     where
       open_before : (head_of (part 0 4096 (journal_slot layout was one.number))).gate ≡ true
-      open_before = (subst (λ (o : Option Transaction). IsSlotOf layout.inodes o (journal_slot layout was one.number)) own.is_open (to.settles.stands.slots one.number within)).gate
+      open_before =
+          (subst (λ (o : Option Transaction). IsSlotOf layout.inodes o (journal_slot layout was one.number)) own.is_open
+          (to.settles.stands.slots one.number within)).gate
 
   module _ (gate : (head_of (part 0 4096 (journal_slot layout image one.number))).gate ≡ false) where
     shuts : ShutsGate layout to.settles.opened one.number was image
@@ -125,7 +128,9 @@ module _ (layout : Layout) (parts : ℕ → Part) (found : List OpenSlot) (last 
     again = fun_ext to.settles.same
 
     stands_then : IsImageOf layout others_open parts image
-    stands_then = subst (λ (p : ℕ → Part). IsImageOf layout others_open p image) again (gate_shuts layout to.settles.opened parts one.number was image to.settles.stands shuts).stands
+    stands_then =
+        subst (λ (p : ℕ → Part). IsImageOf layout others_open p image) again
+        (gate_shuts layout to.settles.opened parts one.number was image to.settles.stands shuts).stands
 
     same_then : (i : ℕ) → with_opened layout others_open parts i ≡ parts i
     same_then i =
@@ -133,7 +138,9 @@ module _ (layout : Layout) (parts : ℕ → Part) (found : List OpenSlot) (last 
         ∙ (gate_shuts layout to.settles.opened parts one.number was image to.settles.stands shuts).same i ∙ to.settles.same i
 
     full_then : IsFullTable layout others_open parts image
-    full_then = subst (λ (p : ℕ → Part). IsFullTable layout others_open p image) again (tables_stay_full layout to.settles.opened parts one.number was image to.settles.stands shuts to.full)
+    full_then =
+        subst (λ (p : ℕ → Part). IsFullTable layout others_open p image) again
+        (tables_stay_full layout to.settles.opened parts one.number was image to.settles.stands shuts to.full)
 
     still_then : AreOpenAbove layout found (Some one.stamp) others_open
     still_then = record {
@@ -176,15 +183,19 @@ module _ (layout : Layout) (parts : ℕ → Part) (found : List OpenSlot) (last 
 
   -- so it settles as the parts in any case
   pub written_settles : SettlesAs layout parts image
-  written_settles = elim ((head_of (part 0 4096 (journal_slot layout image one.number))).gate) as (λ b. (head_of (part 0 4096 (journal_slot layout image one.number))).gate ≡ b → SettlesAs layout parts image) [
-    | true ↦ gate_stays_open
-    | false ↦ λ gate. (gate_is_shut gate).settles
-  ] refl
+  written_settles =
+      elim ((head_of (part 0 4096 (journal_slot layout image one.number))).gate) as (λ b. (head_of (part 0 4096 (journal_slot layout image one.number))).gate
+      ≡ b
+      → SettlesAs layout parts image) [
+        | true ↦ gate_stays_open
+        | false ↦ λ gate. (gate_is_shut gate).settles
+      ] refl
 
 -- where no slot is left to be closed, none is open
 pub all_are_closed : (layout : Layout) (parts : ℕ → Part) (found : List OpenSlot) (last : Option ℕ) (image : List ℕ) → HasNoneAbove found (length found) last
     → IsToBeClosed layout parts found last image → IsImageOf layout nothing_open parts image
-all_are_closed layout parts found last image none to = stands_closed layout to.settles.opened parts image to.settles.stands (λ k low. elim (to.still_open.others k low) [
-  | inl shut ↦ shut
-  | inr there ↦ absurd (not_both there.4 (none there.0 there.1 there.2.within there.2))
-])
+all_are_closed layout parts found last image none to =
+    stands_closed layout to.settles.opened parts image to.settles.stands (λ k low. elim (to.still_open.others k low) [
+      | inl shut ↦ shut
+      | inr there ↦ absurd (not_both there.4 (none there.0 there.1 there.2.within there.2))
+    ])

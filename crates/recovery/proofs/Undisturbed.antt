@@ -12,7 +12,8 @@ pub undisturbed-refl : (disk : View) → Undisturbed disk disk
 undisturbed-refl disk = record { advances = GoesOn-refl disk; kept = refl }
 
 -- one call more
-pub undisturbed-call : {V E : Type 0} (old mid new : View) (v : V) → mid.now < 2 ^ 64 → Undisturbed old mid → IsDeviceCall {V = V} {E = E} mid new (Ok v) → Undisturbed old new
+pub undisturbed-call : {V E : Type 0} (old mid new : View) (v : V) → mid.now < 2 ^ 64 → Undisturbed old mid → IsDeviceCall {V = V} {E = E} mid new (Ok v)
+    → Undisturbed old new
 undisturbed-call old mid new v fits so_far call =
     record { advances = GoesOn-trans old mid new so_far.advances (call_advances mid new (Ok v) fits call); kept = call.cause.kept ∙ so_far.kept }
 
@@ -24,17 +25,23 @@ has_cause before now (Ok v) failed le risen = absurd (false_not_true failed)
 has_cause before now (Err e) failed le risen = record { never_falls = le; risen = risen; kept = tt }
 
 -- a call that failed
-pub failed-call : {V W : Type 0} (old mid new : View) (e : Failed) (result : Result W Failed) → IsErr result → mid.now < 2 ^ 64 → Undisturbed old mid → IsDeviceCall {V = V} mid new (Err e)
+pub failed-call : {V W : Type 0} (old mid new : View) (e : Failed) (result : Result W Failed) → IsErr result → mid.now < 2 ^ 64 → Undisturbed old mid
+    → IsDeviceCall {V = V} mid new (Err e)
     → Ran old new result
 failed-call old mid new e result failed fits so_far call = record {
   advances = GoesOn-trans old mid new so_far.advances (call_advances mid new (Err e) fits call);
-  cause = has_cause old.faults new.faults result failed (subst (λ n. n ≤ new.faults) so_far.kept call.cause.never_falls) (subst (λ n. HasRisen n new.faults) so_far.kept call.cause.risen);
+  cause =
+      has_cause old.faults new.faults result failed (subst (λ n. n ≤ new.faults) so_far.kept call.cause.never_falls)
+      (subst (λ n. HasRisen n new.faults) so_far.kept call.cause.risen);
 }
 
-pub failed-ran : {V W : Type 0} (old mid new : View) (e : Failed) (result : Result W Failed) → IsErr result → Undisturbed old mid → Ran {V = V} mid new (Err e) → Ran old new result
+pub failed-ran : {V W : Type 0} (old mid new : View) (e : Failed) (result : Result W Failed) → IsErr result → Undisturbed old mid → Ran {V = V} mid new (Err e)
+    → Ran old new result
 failed-ran old mid new e result failed so_far ran = record {
   advances = GoesOn-trans old mid new so_far.advances ran.advances;
-  cause = has_cause old.faults new.faults result failed (subst (λ n. n ≤ new.faults) so_far.kept ran.cause.never_falls) (subst (λ n. HasRisen n new.faults) so_far.kept ran.cause.risen);
+  cause =
+      has_cause old.faults new.faults result failed (subst (λ n. n ≤ new.faults) so_far.kept ran.cause.never_falls)
+      (subst (λ n. HasRisen n new.faults) so_far.kept ran.cause.risen);
 }
 
 pub ran-done : {V : Type 0} (old new : View) (v : V) → Undisturbed old new → Ran old new (Ok v)

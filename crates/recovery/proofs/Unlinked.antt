@@ -31,7 +31,8 @@ pub unlinked_ascend : (records : List (List ℕ)) (n : ℕ) → IsStrictlyIncrea
 unfolding unlinked_below
 unlinked_ascend records n = IsStrictlyIncreasing-filter (λ i. is_unlinked (slice_index_or records i [])) (range_with_len 0 n) (λ k less.
     subst (λ m. m < get_or (range_with_len 0 n) (k + 1) 0) (sym (get_or-range_with_len 0 n k 0 (let l = less in omega (arith, length-range_with_len 0 n))))
-    (subst (λ m. 0 + k < m) (sym (get_or-range_with_len 0 n (k + 1) 0 (let l = less in omega (arith, length-range_with_len 0 n)))) (let lt : 0 + k < 0 + (k + 1) = omega arith in lt)))
+    (subst (λ m. 0 + k < m) (sym (get_or-range_with_len 0 n (k + 1) 0 (let l = less in omega (arith, length-range_with_len 0 n))))
+    (let lt : 0 + k < 0 + (k + 1) = omega arith in lt)))
 
 -- free records for inodes: their numbers, and what a slot has of them
 pub free_numbers : (inodes : List ℕ) → map (λ (r : TxRecord). r.inode) (map free_record inodes) ≡ inodes

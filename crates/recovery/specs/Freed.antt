@@ -77,14 +77,16 @@ abbrev pub freed_by : Layout → (ℕ → Bool) → ℕ → (ℕ → Part) → �
 freed_by layout test n parts =
     with_opened layout (with_slot nothing_open 0 (Some (record { stamp = 1; parts = map freed_part (filter test (range_with_len 0 n)) }))) parts
 
--- The orphans were freed: what a read gives is told where it was; each image of each later moment settles as the old parts or as those without orphans, and after Ok it stands for the
+-- The orphans were freed: what a read gives is told where it was; each image of each later moment settles as the old parts or as those
+-- without orphans, and after Ok it stands for the
 -- latter, with no slot open.
 pub record FreesUnlinked {V E : Type 0} (layout : Layout) (parts freed : ℕ → Part) (old new : View) (result : Result V E) : Type 0 where
   pub told : GoesOnTelling old new
   pub later : LaterLeaves (λ _ image. SettlesAs layout parts image ⊎ SettlesAs layout freed image) old new
   pub ended : OnOk result (EachLeft new (IsImageOf layout nothing_open freed))
 
--- A disk was settled: what a read gives is told where it was; each image of each later moment settles as the old parts or as those without orphans, and after Ok it stands for the
+-- A disk was settled: what a read gives is told where it was; each image of each later moment settles as the old parts or as those without
+-- orphans, and after Ok it stands for the
 -- latter, with no slot open.
 pub record RecoversTo {V E : Type 0} (layout : Layout) (parts : ℕ → Part) (old new : View) (result : Result V E) : Type 0 where
   pub freed : ℕ → Part

@@ -18,17 +18,20 @@ abbrev pub record_piece : Layout → ℕ → List ℕ → Piece
 record_piece layout inode bytes = record { at = table_byte layout inode; bytes = bytes }
 
 -- Newest records are those of the parts that an image stands for: an inode has a commit stamp where an open slot gives it one.
-pub record AreNewestOf (layout : Layout) (opened : ℕ → Option Transaction) (parts : ℕ → Part) (stamps : List (Option ℕ)) (records : List (List ℕ)) : Type 0 where
+pub record AreNewestOf (layout : Layout) (opened : ℕ → Option Transaction) (parts : ℕ → Part) (stamps : List (Option ℕ))
+    (records : List (List ℕ)) : Type 0 where
   pub given_one : (i : ℕ) → i < layout.inodes → slice_index_or stamps i None ≢ None → given layout opened i ≢ None
   pub given_none : (i : ℕ) → i < layout.inodes → slice_index_or stamps i None ≡ None → given layout opened i ≡ None
   pub each : (i : ℕ) → i < layout.inodes → slice_index_or records i [] ≡ (with_opened layout opened parts i).raw
 
 -- of the first n inodes the table that a read gives has the newest records, where an open slot has them
 abbrev pub AreHome : Layout → List (Option ℕ) → List (List ℕ) → ℕ → View → Type 0
-AreHome layout stamps records n disk = (i : ℕ) → i < n → slice_index_or stamps i None ≢ None → Reads disk (λ image. table_record layout image i ≡ slice_index_or records i [])
+AreHome layout stamps records n disk =
+    (i : ℕ) → i < n → slice_index_or stamps i None ≢ None → Reads disk (λ image. table_record layout image i ≡ slice_index_or records i [])
 
 -- The newest records were brought home: each image goes on standing for the parts, and at the end the table has all their records.
-pub record BringsHome {V E : Type 0} (layout : Layout) (opened : ℕ → Option Transaction) (parts : ℕ → Part) (old new : View) (result : Result V E) : Type 0 where
+pub record BringsHome {V E : Type 0} (layout : Layout) (opened : ℕ → Option Transaction) (parts : ℕ → Part) (old new : View)
+    (result : Result V E) : Type 0 where
   pub keeps : Keeps (IsImageOf layout opened parts) old new
   pub full : OnOk result (EachLeft new (IsFullTable layout opened parts))
 
@@ -61,7 +64,8 @@ HasNoneAbove found n last = (k : ℕ) (one : OpenSlot) → k < n → IsAt found 
 -- what is found of the oldest slot above the last one: its place, or none where there is none
 abbrev pub FindsOldest : List OpenSlot → ℕ → Option ℕ → Option ℕ → Type 0
 FindsOldest found n last None = HasNoneAbove found n last
-FindsOldest found n last (Some place) = (place < length found) × ((one : OpenSlot) → one ≡ slice_index_or found place one → IsOldestAbove found n last place one)
+FindsOldest found n last (Some place) =
+    (place < length found) × ((one : OpenSlot) → one ≡ slice_index_or found place one → IsOldestAbove found n last place one)
 
 -- the slot of an open slot's number is open with a transaction under its commit stamp
 pub record IsFoundAt (opened : ℕ → Option Transaction) (one : OpenSlot) : Type 0 where
@@ -88,7 +92,8 @@ pub record ClosesAll {V E : Type 0} (layout : Layout) (parts : ℕ → Part) (ol
   pub closed : OnOk result (EachLeft new (IsImageOf layout nothing_open parts))
 
 -- Slots were closed: each image of each later moment settles as the parts, and after Ok those are closed up to a last one.
-pub record ClosesUpTo {V E : Type 0} (layout : Layout) (parts : ℕ → Part) (found : List OpenSlot) (last : Option ℕ) (old new : View) (result : Result V E) : Type 0 where
+pub record ClosesUpTo {V E : Type 0} (layout : Layout) (parts : ℕ → Part) (found : List OpenSlot) (last : Option ℕ) (old new : View)
+    (result : Result V E) : Type 0 where
   pub told : GoesOnTelling old new
   pub later : LaterLeaves (λ _ image. SettlesAs layout parts image) old new
   pub closed : OnOk result (EachLeft new (IsToBeClosed layout parts found last))

@@ -61,9 +61,11 @@ no_turns (Stat node) entry counts did none = refl
 no_turns (Listing directory) entry counts did none = refl
 
 -- an engine with room for an entry and its turns, before its answer
-module _ (old : Engine) (reserved : Vec Entry Global) (room : Roomy Turn) (new : Engine) (before after : View) (Same : Type 0) (stamp : Stamp) (core : CoreId) (call : Call) (flushed : Flushed)
+module _ (old : Engine) (reserved : Vec Entry Global) (room : Roomy Turn) (new : Engine) (before after : View) (Same : Type 0) (stamp : Stamp) (core : CoreId)
+    (call : Call) (flushed : Flushed)
     (other : is_fsync call ≡ false → IsCallAnswered Same stamp core call (record old { entries = reserved; turns = room }) new flushed)
-    (fsync : (node : NodeId) → call ≡ Fsync node → IsFsyncAnswered Same stamp core node (record old { entries = reserved; turns = room }) new before after flushed) where
+    (fsync : (node : NodeId) → call ≡ Fsync node
+    → IsFsyncAnswered Same stamp core node (record old { entries = reserved; turns = room }) new before after flushed) where
   -- the calls are as they were, and the turns
   pub entries_kept : new.entries ≡ reserved
   entries_kept = ⊎_elim (λ none. (other none).entries) (λ is. (fsync is.0 is.1).entries) (fsync_or call)
@@ -74,10 +76,13 @@ module _ (old : Engine) (reserved : Vec Entry Global) (room : Roomy Turn) (new :
   abbrev entry : Entry
   entry = call_entry stamp core call flushed.reply flushed.ack
 
-  module _ (start : ℕ) (image : ImageState) (kept : Volume) (stands : RunStands start image kept old before) (counted : length kept.history ≡ stamp.0) (goes : Advances before after)
-      (stay : Same → (P : View → Type 0) → P before → P after) (counts : Counts) (own : counts.faults_before ≡ before.faults) (then_faults : counts.faults_after ≡ after.faults)
+  module _ (start : ℕ) (image : ImageState) (kept : Volume) (stands : RunStands start image kept old before) (counted : length kept.history ≡ stamp.0)
+      (goes : Advances before after)
+      (stay : Same → (P : View → Type 0) → P before → P after) (counts : Counts) (own : counts.faults_before ≡ before.faults)
+      (then_faults : counts.faults_after ≡ after.faults)
       (began : counts.calls_before ≡ before.now) (ended : counts.calls_after ≡ after.now)
-      (all : Vec Entry Global) (pushed : all.items ≡ old.entries.items ++ entry ∷ []) (turns : Roomy Turn) (told : turns.items ≡ old.turns.items ++ turns_told entry counts flushed.deed) where
+      (all : Vec Entry Global) (pushed : all.items ≡ old.entries.items ++ entry ∷ []) (turns : Roomy Turn)
+      (told : turns.items ≡ old.turns.items ++ turns_told entry counts flushed.deed) where
     abbrev done : Engine
     done = record new { entries = all; turns = turns }
 
@@ -85,8 +90,10 @@ module _ (old : Engine) (reserved : Vec Entry Global) (room : Roomy Turn) (new :
     called none =
         let answered = other none in
         let remembers : Remembers (kept_with kept entry) new.volume =
-        subst (λ (ack : Option ℕ). Remembers (kept_with kept (call_entry stamp core call flushed.reply ack)) new.volume) (sym answered.ack_is) (answered.goes_on kept stands.remembers counted) in
-        let turns_are : turns.items ≡ old.turns.items = told ∙ ap (λ (l : List Turn). old.turns.items ++ l) (no_turns call entry counts flushed.deed none) ∙ append-nil old.turns.items in
+        subst (λ (ack : Option ℕ). Remembers (kept_with kept (call_entry stamp core call flushed.reply ack)) new.volume) (sym answered.ack_is)
+        (answered.goes_on kept stands.remembers counted) in
+        let turns_are : turns.items ≡ old.turns.items =
+        told ∙ ap (λ (l : List Turn). old.turns.items ++ l) (no_turns call entry counts flushed.deed none) ∙ append-nil old.turns.items in
         let comes : ComesNext kept.first kept.history entry = record { stamped = sym counted; legal = remembers.stands.between.history_is.legal } in
         stay answered.still (HasGoneOn start image kept old done before)
         (goes_on_still start image kept old done before entry stands remembers answered.failed pushed answered.ack_is

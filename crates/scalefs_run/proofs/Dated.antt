@@ -23,7 +23,8 @@ Rise-append from mid to [] (y ∷ ys) first second le = (omega arith, second.1)
 Rise-append from mid to (x ∷ xs) ys first second le = (first.0, Rise-append x mid to xs ys first.1 second le)
 
 -- a history goes on by an entry that was acknowledged between two moments, or was not
-pub AcksRise-push : (from mid to : ℕ) (history : List Entry) (entry : Entry) → AcksRise from history mid → IfSome entry.ack (λ ack. (mid ≤ ack) × (ack ≤ to)) → mid ≤ to → AcksRise from (history ++ entry ∷ []) to
+pub AcksRise-push : (from mid to : ℕ) (history : List Entry) (entry : Entry) → AcksRise from history mid → IfSome entry.ack (λ ack. (mid ≤ ack) × (ack ≤ to))
+    → mid ≤ to → AcksRise from (history ++ entry ∷ []) to
 AcksRise-push from mid to history entry all last le =
     subst (λ acks. Rise from acks to) (sym (filter_map-append (λ (e : Entry). e.ack) history (entry ∷ [])))
     (Rise-append from mid to (acks_of history) (acks_of (entry ∷ [])) all (one entry.ack last) le)
@@ -33,9 +34,11 @@ AcksRise-push from mid to history entry all last le =
     one (Some a) h = h
 
 -- turns go on by some whose moments lie between two moments
-pub MomentsRise-append : (from mid to : ℕ) (turns added : List Turn) → MomentsRise from turns mid → MomentsRise mid added to → mid ≤ to → MomentsRise from (turns ++ added) to
+pub MomentsRise-append : (from mid to : ℕ) (turns added : List Turn) → MomentsRise from turns mid → MomentsRise mid added to → mid ≤ to
+    → MomentsRise from (turns ++ added) to
 MomentsRise-append from mid to turns added all last le =
-    subst (λ moments. Rise from moments to) (sym (map-append (λ (t : Turn). t.now) turns added)) (Rise-append from mid to (moments_of turns) (moments_of added) all last le)
+    subst (λ moments. Rise from moments to) (sym (map-append (λ (t : Turn). t.now) turns added))
+    (Rise-append from mid to (moments_of turns) (moments_of added) all last le)
 
 -- one goes on to rise after another
 pub rising_both : (history between later : List Entry) (turns among more : List Turn) (before mid after : ℕ) → GoOnRising history turns before between among mid
@@ -54,7 +57,8 @@ IsDatedDeed before after moment _ = Unit {0}
 
 -- then its turns rise
 pub turns_rise : (entry : Entry) (node : NodeId) (counts : Counts) (did : Deed) → counts.calls_before ≤ counts.calls_after
-    → IsDatedDeed counts.calls_before counts.calls_after (moment_of entry) did → MomentsRise counts.calls_before (turns_of entry node counts did) counts.calls_after
+    → IsDatedDeed counts.calls_before counts.calls_after (moment_of entry) did
+    → MomentsRise counts.calls_before (turns_of entry node counts did) counts.calls_after
 turns_rise entry node counts deeds.Nothing le dated = le
 turns_rise entry node counts deeds.Halted le dated = (omega arith, le)
 turns_rise entry node counts deeds.Short le dated = by entry.reply
@@ -69,7 +73,8 @@ turns_rise entry node counts (deeds.Failed (Some opened)) le dated = let to = da
 turns_rise entry node counts (deeds.Failed None) le dated = (omega arith, (omega arith, (le, omega arith)))
 
 -- what left all as it was has no moment of its own
-pub stayed_dated : (kept : Volume) (flush : Flush) (given : Reply) (before after moment : ℕ) (did : Deed) → DidStay kept flush given did → IsDatedDeed before after moment did
+pub stayed_dated : (kept : Volume) (flush : Flush) (given : Reply) (before after moment : ℕ) (did : Deed) → DidStay kept flush given did
+    → IsDatedDeed before after moment did
 stayed_dated kept flush given before after moment deeds.Nothing did = tt
 stayed_dated kept flush given before after moment deeds.Halted did = tt
 stayed_dated kept flush given before after moment deeds.Short did = tt

@@ -25,10 +25,18 @@ use Rattle.scalefs_run.proofs.Pushed.{answers_at_end}
 
 -- nothing was done
 pub keeps_none : (engine : Engine) (disk : View) → KeepsInvariant engine engine disk disk
-keeps_none engine disk start image kept stands = record { later = kept; first = refl; stands = stands; dated = λ counts. record { acks = λ from rise. rise; turns = λ from rise. rise }; safe = λ share from counts safe. safe }
+keeps_none engine disk start image kept stands =
+    record {
+      later = kept;
+      first = refl;
+      stands = stands;
+      dated = λ counts. record { acks = λ from rise. rise; turns = λ from rise. rise };
+      safe = λ share from counts safe. safe;
+    }
 
 -- one thing was done, and then another
-pub keeps_both : (old mid new : Engine) (before between after : View) → Advances between after → KeepsInvariant old mid before between → KeepsInvariant mid new between after → KeepsInvariant old new before after
+pub keeps_both : (old mid new : Engine) (before between after : View) → Advances between after → KeepsInvariant old mid before between
+    → KeepsInvariant mid new between after → KeepsInvariant old new before after
 keeps_both old mid new before between after goes one other start image kept stands =
     let first = one start image kept stands in
     let second = other start image first.later first.stands in
@@ -43,7 +51,8 @@ keeps_both old mid new before between after goes one other start image kept stan
     }
 
 -- something was done, and then it ended
-pub ends_after : (old mid new : Engine) (before between after : View) → Advances between after → KeepsInvariant old mid before between → EndsRun mid new between after → EndsRun old new before after
+pub ends_after : (old mid new : Engine) (before between after : View) → Advances between after → KeepsInvariant old mid before between
+    → EndsRun mid new between after → EndsRun old new before after
 ends_after old mid new before between after goes one ends start image kept stands =
     let first = one start image kept stands in
     let ended = ends start image first.later first.stands in
@@ -65,13 +74,15 @@ pub invariant_on : (old new : Engine) (before after : View) → KeepsInvariant o
 invariant_on old new before after keeps has = let gone = keeps has.0 has.1 has.2 has.3 in (has.0, has.1, gone.later, gone.stands)
 
 -- a layout stays
-pub cores_kept : (old new : Engine) (before after : View) → KeepsInvariant old new before after → HasInvariant old before → new.volume.layout.cores ≡ old.volume.layout.cores
+pub cores_kept : (old new : Engine) (before after : View) → KeepsInvariant old new before after → HasInvariant old before
+    → new.volume.layout.cores ≡ old.volume.layout.cores
 cores_kept old new before after keeps has =
     let gone = keeps has.0 has.1 has.2 has.3 in
     sym gone.stands.cores ∙ ap (λ (t : TreeState). length t.made) gone.first ∙ has.3.cores
 
 -- the safe end of what is safe
-safe_end : (share from : ℕ) (kept : Volume) (failed : Option ℕ) (disk : View) → StandsNow share from kept disk failed → IsSafeEnd share from kept.first kept.history disk
+safe_end : (share from : ℕ) (kept : Volume) (failed : Option ℕ) (disk : View) → StandsNow share from kept disk failed
+    → IsSafeEnd share from kept.first kept.history disk
 safe_end share from kept None disk now = record {
   so_far = now.0.so_far;
   ends = inl (record { flushes = kept.flushes; cut = kept.cut; inodes = kept.inodes; stands = now.0.stands });
@@ -79,14 +90,18 @@ safe_end share from kept None disk now = record {
 safe_end share from kept (Some faults) disk now = record { so_far = now.0; ends = inr now.1 }
 
 -- its turns are recorded then
-recorded_at_end : (start : ℕ) (image : ImageState) (kept : Volume) (faults : ℕ) (turns : List Turn) (failed : Option ℕ) → HasAnswersSoFar start faults kept.first kept.history failed → TurnsSoFar start image kept faults turns failed → IsRecorded kept.first kept.history image start faults turns
+recorded_at_end : (start : ℕ) (image : ImageState) (kept : Volume) (faults : ℕ) (turns : List Turn) (failed : Option ℕ)
+    → HasAnswersSoFar start faults kept.first kept.history failed → TurnsSoFar start image kept faults turns failed
+    → IsRecorded kept.first kept.history image start faults turns
 recorded_at_end start image kept faults turns None answers so_far =
     standing_are_recorded kept.first kept.history image start faults faults turns (rest_of kept so_far.used) answers.later so_far.stand
 recorded_at_end start image kept faults turns (Some count) answers so_far =
-    failed_are_recorded kept.first kept.history image start so_far.before count faults turns so_far.since (let at = answers.kept in omega (arith, at)) so_far.fail
+    failed_are_recorded kept.first kept.history image start so_far.before count faults turns so_far.since
+    (let at = answers.kept in omega (arith, at)) so_far.fail
 
 -- a run that stands may end, when its disk has stayed
-stands_end : (start : ℕ) (image : ImageState) (kept : Volume) (engine : Engine) (disk : View) → RunStands start image kept engine disk → HasEnded start image kept engine.volume.failed engine.turns.items engine.entries.items engine.turns.items disk disk
+stands_end : (start : ℕ) (image : ImageState) (kept : Volume) (engine : Engine) (disk : View) → RunStands start image kept engine disk
+    → HasEnded start image kept engine.volume.failed engine.turns.items engine.entries.items engine.turns.items disk disk
 stands_end start image kept engine disk stands = record {
   legal = subst (IsLegal kept.first) stands.history stands.remembers.stands.between.history_is.legal;
   answers =
@@ -104,7 +119,8 @@ stands_end start image kept engine disk stands = record {
 pub ends_here : (old new : Engine) (disk : View) → new.entries.items ≡ old.entries.items → new.turns.items ≡ old.turns.items → EndsRun old new disk disk
 ends_here old new disk same turns start image kept stands =
     subst (λ (h : List Entry). HasEnded start image kept old.volume.failed old.turns.items h new.turns.items disk disk) (sym same)
-    (subst (λ (l : List Turn). HasEnded start image kept old.volume.failed old.turns.items old.entries.items l disk disk) (sym turns) (stands_end start image kept old disk stands))
+    (subst (λ (l : List Turn). HasEnded start image kept old.volume.failed old.turns.items old.entries.items l disk disk) (sym turns)
+    (stands_end start image kept old disk stands))
 
 -- a run that has gone on ends as it then stands
 pub keeps_end : (old new : Engine) (before after : View) → KeepsInvariant old new before after → EndsRun old new before after
@@ -124,7 +140,8 @@ keeps_end old new before after keeps start image kept stands =
     }
 
 -- a safe end survives
-pub survives : (share from : ℕ) (first : TreeState) (history : List Entry) (disk : View) → IsSoundTree first → IsLegal first history → IsSafeEnd share from first history disk → SurvivesRun share from first history disk
+pub survives : (share from : ℕ) (first : TreeState) (history : List Entry) (disk : View) → IsSoundTree first → IsLegal first history
+    → IsSafeEnd share from first history disk → SurvivesRun share from first history disk
 survives share from first history disk sound legal safe = record {
   images = images_survive disk share from first history sound legal safe.so_far;
   reads_back = ⊎_elim

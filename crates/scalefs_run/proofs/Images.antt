@@ -32,13 +32,17 @@ use Rattle.scalefs_run.proofs.Serving.{write_status}
 -- a layout that a disk can have is made where nothing fails
 pub making_is_due : (layout : Layout) (size : ℕ) → IsLayout size layout → making_due layout size ≡ Done
 making_is_due layout size fits =
-    ap (λ b. cond b (TooSmall (blocks_wanted layout) layout.blocks) (cond (nat_lt size layout.blocks) (TooSmall layout.blocks size) Done)) (le-ltb _ _ fits.room)
+    ap (λ b. cond b (TooSmall (blocks_wanted layout) layout.blocks) (cond (nat_lt size layout.blocks) (TooSmall layout.blocks size) Done))
+    (le-ltb _ _ fits.room)
     ∙ ap (λ b. cond b (TooSmall layout.blocks size) Done) (le-ltb _ _ fits.within)
 
-pub image_made : (layout : Layout) (old new : View) (Sink : Type 0) (before after : Option (List ℕ)) (status : Status) → IsLayout old.size layout → IsMadeOn layout new → IsWriteStatus Sink status → HasText (layout_text layout) before after status
+pub image_made : (layout : Layout) (old new : View) (Sink : Type 0) (before after : Option (List ℕ)) (status : Status) → IsLayout old.size layout
+    → IsMadeOn layout new → IsWriteStatus Sink status → HasText (layout_text layout) before after status
     → MakesImage layout Sink before after old new status
 image_made layout old new Sink before after status fits made wrote text = record {
-  status_is = subst (λ (due : Status). HasStatus due ⊥ Sink (HasRisen old.faults new.faults) status) (sym (making_is_due layout old.size fits)) (write_status Sink (HasRisen old.faults new.faults) status wrote);
+  status_is =
+      subst (λ (due : Status). HasStatus due ⊥ Sink (HasRisen old.faults new.faults) status) (sym (making_is_due layout old.size fits))
+      (write_status Sink (HasRisen old.faults new.faults) status wrote);
   text = text;
   made = λ has content told image left.
       let sole = (subst (λ (o : Option (List ℕ)). OnlyTold o (images new)) told made.calm) image left in
@@ -84,9 +88,11 @@ due_comes (Some image) = by (fault_of image)
     by None = (tt, tt)
     by (Some fault) = (tt, tt)
 
-module _ (old new : View) (Sink : Type 0) (written : Option (List ℕ)) (moments : IfTold old.content (λ image. IsCalm old → CountsOn new → EachMoment old new (λ _ now. ShowsTheSame now image))) where
+module _ (old new : View) (Sink : Type 0) (written : Option (List ℕ))
+    (moments : IfTold old.content (λ image. IsCalm old → CountsOn new → EachMoment old new (λ _ now. ShowsTheSame now image))) where
   -- a call that ends without a tree
-  ends_without : (due status : Status) → IfTold old.content (λ image. due ≡ showing_due (fault_of image)) → HasStatus due ⊥ Sink (HasRisen old.faults new.faults) status → has_text status ≡ false
+  ends_without : (due status : Status) → IfTold old.content (λ image. due ≡ showing_due (fault_of image))
+      → HasStatus due ⊥ Sink (HasRisen old.faults new.faults) status → has_text status ≡ false
       → (IsImageRefused status → Unwritten old new) → ShowsImage Sink written written old new status
   ends_without due status told is no_text refused = record {
     due = due;
@@ -101,11 +107,14 @@ module _ (old new : View) (Sink : Type 0) (written : Option (List ℕ)) (moments
     recovered = λ image there calm has. absurd (false_not_true (sym no_text ∙ has));
   }
 
-  pub image_refused : (fault : RecoverFault) → IfTold old.content (λ image. IsFaultOf image fault) → LeavesRefused old new fault → HasReadCause {V = Report} is_recover_disk_fault old.faults new.faults (Err fault)
+  pub image_refused : (fault : RecoverFault) → IfTold old.content (λ image. IsFaultOf image fault) → LeavesRefused old new fault
+      → HasReadCause {V = Report} is_recover_disk_fault old.faults new.faults (Err fault)
       → ShowsImage Sink written written old new (status_of_recovery fault)
   image_refused recover.DiskFailed is left cause =
       ends_without (due_of old.content) DiskFault (due_of_told old.content) (cause, (due_comes old.content).0) refl (λ refused. absurd refused)
   image_refused (recover.BadSuper at) is left cause = ends_without _ _ (λ image told. sym (ap showing_due (is image told))) refl refl (λ refused. left)
-  image_refused (recover.BadJournal core slot at) is left cause = ends_without _ _ (λ image told. sym (ap showing_due (is image told))) refl refl (λ refused. left)
+  image_refused (recover.BadJournal core slot at) is left cause =
+      ends_without _ _ (λ image told. sym (ap showing_due (is image told))) refl refl (λ refused. left)
   image_refused (recover.BadImage inode rule) is left cause = ends_without _ _ (λ image told. sym (ap showing_due (is image told))) refl refl (λ refused. left)
-  image_refused recover.NoMemory is left cause = ends_without (due_of old.content) NoMemory (due_of_told old.content) (due_comes old.content).1 refl (λ refused. absurd refused)
+  image_refused recover.NoMemory is left cause =
+      ends_without (due_of old.content) NoMemory (due_of_told old.content) (due_comes old.content).1 refl (λ refused. absurd refused)

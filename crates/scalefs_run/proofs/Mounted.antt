@@ -30,7 +30,8 @@ use Rattle.turn_ties.specs.Plans.{image_held, rest_of}
 use Rattle.scalefs_run.specs.Turns.{TurnsSoFar, HaveTurns, IsImageAtFirst}
 use Rattle.scalefs_run.specs.declared.engine.Engine.{Engine}
 
-module _ (nodes : ℕ) (engine : Engine) (before after : View) (begins : Begins nodes before after engine.volume) (none : engine.entries.items ≡ []) (no_turn : engine.turns.items ≡ [])
+module _ (nodes : ℕ) (engine : Engine) (before after : View) (begins : Begins nodes before after engine.volume) (none : engine.entries.items ≡ [])
+    (no_turn : engine.turns.items ≡ [])
     (goes : Advances before after) (faults : after.faults ≡ before.faults) where
   abbrev kept : Volume
   kept = begins.kept
@@ -60,9 +61,17 @@ module _ (nodes : ℕ) (engine : Engine) (before after : View) (begins : Begins 
       stand =
           let new = begins.is_new in
           let inodes : ℕ → Bool = λ node. is_some (get kept.first.nodes node) in
-          subst (λ (i : ℕ → Bool). TurnsStand kept.first kept.history told_at_first after.faults [] (record { cut = kept.cut; inodes = i; used = []; image = told_at_first })) (sym new.all_have_inodes)
-          (subst (λ (c : Cut). TurnsStand kept.first kept.history told_at_first after.faults [] (record { cut = c; inodes = inodes; used = []; image = told_at_first })) (sym new.no_cut)
-          (subst (λ (h : List Entry). TurnsStand kept.first h told_at_first after.faults [] (record { cut = empty; inodes = inodes; used = []; image = told_at_first })) (sym new.no_call)
+          subst (λ (i : ℕ → Bool). TurnsStand kept.first kept.history told_at_first after.faults []
+          (record { cut = kept.cut; inodes = i; used = []; image = told_at_first }))
+          (sym new.all_have_inodes)
+          (subst
+          (λ (c : Cut). TurnsStand kept.first kept.history told_at_first after.faults []
+          (record { cut = c; inodes = inodes; used = []; image = told_at_first }))
+          (sym new.no_cut)
+          (subst
+          (λ (h : List Entry). TurnsStand kept.first h told_at_first after.faults []
+          (record { cut = empty; inodes = inodes; used = []; image = told_at_first }))
+          (sym new.no_call)
           (turns_begin kept.first told_at_first after.faults begins.sound)))
 
   image_at_first : IsImageAtFirst before after kept.first told_at_first
@@ -73,7 +82,9 @@ module _ (nodes : ℕ) (engine : Engine) (before after : View) (begins : Begins 
     is = refl;
     stands =
         subst (λ (h : List Entry). StandsForTree kept.num (tree_at_cut kept.first h empty) (inodes_shown kept.layout kept.parts)) begins.is_new.no_call
-        (subst (λ (c : Cut). StandsForTree kept.num (tree_at_cut kept.first kept.history c) (inodes_shown kept.layout kept.parts)) begins.is_new.no_cut begins.remembers.stands.between.stands);
+        (subst
+        (λ (c : Cut). StandsForTree kept.num (tree_at_cut kept.first kept.history c) (inodes_shown kept.layout kept.parts)) begins.is_new.no_cut
+        begins.remembers.stands.between.stands);
     told = λ content told calm counts.
         let held = ((begins.told content told).holds calm counts).holds in
         (after.now, goes.later, omega arith, λ left is. held.parts held.content held.tells left is);
@@ -93,7 +104,8 @@ module _ (nodes : ℕ) (engine : Engine) (before after : View) (begins : Begins 
   }
 
   -- what a crash leaves at first
-  safe : (share : ℕ) → (held : HoldsNew nodes before after kept) → share ≡ share_of_nodes nodes kept.layout → StandsNow share before.now kept after engine.volume.failed
+  safe : (share : ℕ) → (held : HoldsNew nodes before after kept) → share ≡ share_of_nodes nodes kept.layout
+      → StandsNow share before.now kept after engine.volume.failed
   safe share held is = subst (StandsNow share before.now kept after) (sym begins.working) (now, held.holds)
     where
       begun : StandsSoFar share before.now kept.first [] [] empty (λ node. is_some (get kept.first.nodes node)) after

@@ -25,15 +25,18 @@ AreAnswered-push halted kept tree [] entry all last = (subst (λ b. IsReplyTo tr
 AreAnswered-push halted kept tree (e ∷ history) entry all last = (
   all.0,
   AreAnswered-push (halted || is_failed_flush e) kept (tree_after_entry tree e) history entry all.1
-      (subst (λ b. IsReplyTo (tree_after (tree_after_entry tree e) history) b kept entry.call entry.reply) (sym (or_assoc halted (is_failed_flush e) (has_failed history))) last),
+      (subst (λ b. IsReplyTo (tree_after (tree_after_entry tree e) history) b kept entry.call entry.reply)
+      (sym (or_assoc halted (is_failed_flush e) (has_failed history))) last),
 )
 
 has_failed-push : (history : List Entry) (entry : Entry) → has_failed (history ++ entry ∷ []) ≡ (has_failed history || is_failed_flush entry)
 has_failed-push [] entry = or_false (is_failed_flush entry)
-has_failed-push (e ∷ history) entry = ap (λ b. is_failed_flush e || b) (has_failed-push history entry) ∙ sym (or_assoc (is_failed_flush e) (has_failed history) (is_failed_flush entry))
+has_failed-push (e ∷ history) entry =
+    ap (λ b. is_failed_flush e || b) (has_failed-push history entry) ∙ sym (or_assoc (is_failed_flush e) (has_failed history) (is_failed_flush entry))
 
 -- a run so far, before one more entry that is answered for its cause
-module _ (start now : ℕ) (first : TreeState) (history : List Entry) (failed : Option ℕ) (so_far : HasAnswersSoFar start now first history failed) (entry : Entry)
+module _ (start now : ℕ) (first : TreeState) (history : List Entry) (failed : Option ℕ) (so_far : HasAnswersSoFar start now first history failed)
+    (entry : Entry)
     (cause : (kept : ℕ) → IfSome failed (λ faults. faults ≡ kept) → IsReplyTo (tree_after first history) (is_some failed) kept entry.call entry.reply) where
   pushed : (kept : ℕ) → IfSome failed (λ faults. faults ≡ kept) → AreAnswered false kept first (history ++ entry ∷ [])
   pushed kept is =
@@ -41,7 +44,8 @@ module _ (start now : ℕ) (first : TreeState) (history : List Entry) (failed : 
       (subst (λ b. IsReplyTo (tree_after first history) b kept entry.call entry.reply) (sym so_far.halted) (cause kept is))
 
   -- one that is no failed fsync
-  pub answered_on : (later : ℕ) → is_failed_flush entry ≡ false → now ≤ later → IfSome failed (λ faults. faults ≡ later) → HasAnswersSoFar start later first (history ++ entry ∷ []) failed
+  pub answered_on : (later : ℕ) → is_failed_flush entry ≡ false → now ≤ later → IfSome failed (λ faults. faults ≡ later)
+      → HasAnswersSoFar start later first (history ++ entry ∷ []) failed
   answered_on later fine not_before kept = record {
     answered = pushed;
     halted = has_failed-push history entry ∙ ap (λ b. has_failed history || b) fine ∙ or_false (has_failed history) ∙ so_far.halted;
@@ -50,12 +54,14 @@ module _ (start now : ℕ) (first : TreeState) (history : List Entry) (failed : 
     later = let before = so_far.later in omega arith;
   }
     where
-      risen_to : (failed : Option ℕ) → IfSome failed (λ faults. faults ≡ now) → IfSome failed (λ faults. faults ≡ later) → IfSome failed (λ _. HasRisen start now) → IfSome failed (λ _. HasRisen start later)
+      risen_to : (failed : Option ℕ) → IfSome failed (λ faults. faults ≡ now) → IfSome failed (λ faults. faults ≡ later)
+          → IfSome failed (λ _. HasRisen start now) → IfSome failed (λ _. HasRisen start later)
       risen_to None at to risen = tt
       risen_to (Some faults) at to risen = subst (HasRisen start) (sym at ∙ to) risen
 
   -- an fsync that the disk failed
-  pub answered_doubt : (later : ℕ) → is_failed_flush entry ≡ true → failed ≡ None → HasRisen now later → now ≤ later → HasAnswersSoFar start later first (history ++ entry ∷ []) (Some later)
+  pub answered_doubt : (later : ℕ) → is_failed_flush entry ≡ true → failed ≡ None → HasRisen now later → now ≤ later
+      → HasAnswersSoFar start later first (history ++ entry ∷ []) (Some later)
   answered_doubt later is none risen not_before = record {
     answered = λ kept same. pushed kept (subst (λ (o : Option ℕ). IfSome o (λ faults. faults ≡ kept)) (sym none) tt);
     halted = has_failed-push history entry ∙ ap (λ b. has_failed history || b) is ∙ or_true (has_failed history);
@@ -65,7 +71,8 @@ module _ (start now : ℕ) (first : TreeState) (history : List Entry) (failed : 
   }
 
 -- at the end
-pub answers_at_end : (start now : ℕ) (first : TreeState) (history : List Entry) (failed : Option ℕ) → HasAnswersSoFar start now first history failed → HasAnswers start now first history
+pub answers_at_end : (start now : ℕ) (first : TreeState) (history : List Entry) (failed : Option ℕ) → HasAnswersSoFar start now first history failed
+    → HasAnswers start now first history
 answers_at_end start now first history failed so_far = record {
   answered = so_far.answered now so_far.kept;
   failed = λ is. rose failed (sym so_far.halted ∙ is) so_far.risen;
@@ -91,7 +98,8 @@ no_cause tree halted kept (Stat node) given none = tt
 no_cause tree halted kept (Lists directory) given none = tt
 
 -- an fsync's answer has its cause
-pub answer_cause : (alive : Bool) (failed : Option ℕ) (given : Reply) → IsFsyncAnswer alive failed given → (kept : ℕ) → IfSome failed (λ faults. faults ≡ kept) → IsReplyOf alive (is_some failed) kept given
+pub answer_cause : (alive : Bool) (failed : Option ℕ) (given : Reply) → IsFsyncAnswer alive failed given → (kept : ℕ) → IfSome failed (λ faults. faults ≡ kept)
+    → IsReplyOf alive (is_some failed) kept given
 answer_cause false failed given is kept same = is
 answer_cause true (Some faults) given is kept same = subst (IsLiveReply true kept) (sym is) (refl, same)
 answer_cause true None reply.Ok is kept same = refl

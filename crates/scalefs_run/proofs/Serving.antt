@@ -100,7 +100,8 @@ write_status Sink Disk (TooLong measure) h = absurd h
 write_status Sink Disk (TooSmall need have) h = absurd h
 
 -- an image that stands at the begin of a call does so of a longer one
-image_on : (old mid new : View) (first : TreeState) (image : ImageState) → Advances mid new → IsImageAtFirst old mid first image → IsImageAtFirst old new first image
+image_on : (old mid new : View) (first : TreeState) (image : ImageState) → Advances mid new → IsImageAtFirst old mid first image
+    → IsImageAtFirst old new first image
 image_on old mid new first image goes is = record {
   num = is.num;
   layout = is.layout;
@@ -120,7 +121,10 @@ none_told first image start now [] recorded = refl
 none_told first image start now (turn ∷ turns) recorded = absurd (recorded.each turn (Rattle.std.proofs.Common.inl refl)).fsync.among
 
 -- no call was made, on an image that was not mounted
-pub served_unmounted : (due_by : Judgement → Status) (nodes : ℕ) (phases : List (List Line)) (Source Sink : Type 0) (before after : Option (List ℕ)) (old new : View) (status : Status) → IsCaused due_by Source Sink old new status → HasHistory phases [] status → HasText (history_text []) before after status → was_mounted status [] ≡ false → ShowsEntry old new → old.now ≤ new.now
+pub served_unmounted : (due_by : Judgement → Status) (nodes : ℕ) (phases : List (List Line)) (Source Sink : Type 0) (before after : Option (List ℕ))
+    (old new : View) (status : Status)
+    → IsCaused due_by Source Sink old new status → HasHistory phases [] status → HasText (history_text []) before after status → was_mounted status [] ≡ false
+    → ShowsEntry old new → old.now ≤ new.now
     → Served due_by nodes phases Source Sink before after old new status [] []
 served_unmounted due_by nodes phases Source Sink before after old new status caused calls text not_mounted shows later = record {
   caused = caused;
@@ -136,7 +140,8 @@ served_unmounted due_by nodes phases Source Sink before after old new status cau
 }
 
 -- a refused image: its status is due
-module _ (nodes : ℕ) (phases : List (List Line)) (Sink : Type 0) (written : Option (List ℕ)) (old new : View) (shows : ShowsEntry old new) (later : old.now ≤ new.now) where
+module _ (nodes : ℕ) (phases : List (List Line)) (Sink : Type 0) (written : Option (List ℕ)) (old new : View) (shows : ShowsEntry old new)
+    (later : old.now ≤ new.now) where
   abbrev due_by : Judgement → Status
   due_by judged = judged_status judged phases
 
@@ -152,36 +157,61 @@ module _ (nodes : ℕ) (phases : List (List Line)) (Sink : Type 0) (written : Op
       by None = workers (worker_without_core judged.cores phases)
       by (Some fault) = (tt, tt)
 
-  ends_refused : (fault : Fault) (status : Status) → IfTold old.content (λ image. fault_of image ≡ Some fault) → Unwritten old new → BadImage (Rattle.scalefs_run.specs.Image.fault_named fault) ≡ status → Served due_by nodes phases ⊥ Sink written written old new status [] []
+  ends_refused : (fault : Fault) (status : Status) → IfTold old.content (λ image. fault_of image ≡ Some fault) → Unwritten old new
+      → BadImage (Rattle.scalefs_run.specs.Image.fault_named fault) ≡ status → Served due_by nodes phases ⊥ Sink written written old new status [] []
   ends_refused fault status is unwritten same =
       subst (λ (s : Status). Served due_by nodes phases ⊥ Sink written written old new s [] []) same
       (served_unmounted due_by nodes phases ⊥ Sink written written old new (BadImage (Rattle.scalefs_run.specs.Image.fault_named fault))
-      (record { judged = record { fault = Some fault; cores = (judged_of old.content).cores }; judged_told = judged_with fault old.content is; status_is = refl; refused = λ refused. unwritten }) refl refl refl shows later)
+      (record {
+        judged = record { fault = Some fault; cores = (judged_of old.content).cores };
+        judged_told = judged_with fault old.content is;
+        status_is = refl;
+        refused = λ refused. unwritten;
+      }) refl refl refl shows
+      later)
 
-  pub served_refused : (fault : RecoverFault) → IfTold old.content (λ image. IsFaultOf image fault) → LeavesRefused old new fault → HasReadCause {V = Engine} is_recover_disk_fault old.faults new.faults (Err fault)
+  pub served_refused : (fault : RecoverFault) → IfTold old.content (λ image. IsFaultOf image fault) → LeavesRefused old new fault
+      → HasReadCause {V = Engine} is_recover_disk_fault old.faults new.faults (Err fault)
       → Served due_by nodes phases ⊥ Sink written written old new (status_of_recovery fault) [] []
   served_refused recover.DiskFailed is left cause =
       served_unmounted due_by nodes phases ⊥ Sink written written old new DiskFault
-      (record { judged = judged_of old.content; judged_told = judged_told old.content; status_is = (cause, (judged_comes (judged_of old.content)).0); refused = λ refused. absurd refused }) refl refl refl shows later
+      (record {
+        judged = judged_of old.content;
+        judged_told = judged_told old.content;
+        status_is = (cause, (judged_comes (judged_of old.content)).0);
+        refused = λ refused. absurd refused;
+      }) refl refl refl shows
+      later
   served_refused (recover.BadSuper at) is left cause = ends_refused (SuperFault at) _ is left refl
   served_refused (recover.BadJournal core slot at) is left cause = ends_refused (JournalFault (record { core = core; slot = slot; at = at })) _ is left refl
   served_refused (recover.BadImage inode rule) is left cause = ends_refused (TreeFault (record { rule = rule; inode = inode })) _ is left refl
   served_refused recover.NoMemory is left cause =
       served_unmounted due_by nodes phases ⊥ Sink written written old new NoMemory
-      (record { judged = judged_of old.content; judged_told = judged_told old.content; status_is = (judged_comes (judged_of old.content)).1; refused = λ refused. absurd refused }) (none_so_far phases) refl refl shows later
+      (record {
+        judged = judged_of old.content;
+        judged_told = judged_told old.content;
+        status_is = (judged_comes (judged_of old.content)).1;
+        refused = λ refused. absurd refused;
+      })
+      (none_so_far phases) refl refl shows later
 
 -- a mounted image has no fault, and as many cores as there are
-module _ (nodes : ℕ) (phases : List (List Line)) (Sink : Type 0) (before after : Option (List ℕ)) (first engine : Engine) (old mid new : View) (begins : RunBegins nodes first old mid) where
+module _ (nodes : ℕ) (phases : List (List Line)) (Sink : Type 0) (before after : Option (List ℕ)) (first engine : Engine) (old mid new : View)
+    (begins : RunBegins nodes first old mid) where
   abbrev judged : Judgement
   judged = record { fault = None; cores = first.volume.layout.cores }
 
   judged_is : IfTold old.content (IsJudged judged)
   judged_is image told =
       let is = begins.told image told in
-      record { fault_is = sym (has_no_fault image (share_of_nodes nodes (layout_of image)) begins.kept.first is.tree); cores_are = ap (λ (l : Layout). l.cores) is.layout_is }
+      record {
+        fault_is = sym (has_no_fault image (share_of_nodes nodes (layout_of image)) begins.kept.first is.tree);
+        cores_are = ap (λ (l : Layout). l.cores) is.layout_is;
+      }
 
   -- a worker has no core
-  pub served_without_core : (asked have : ℕ) → have ≡ first.volume.layout.cores → worker_without_core first.volume.layout.cores phases ≡ Some asked → before ≡ after → ShowsEntry old new → old.now ≤ new.now
+  pub served_without_core : (asked have : ℕ) → have ≡ first.volume.layout.cores → worker_without_core first.volume.layout.cores phases ≡ Some asked
+      → before ≡ after → ShowsEntry old new → old.now ≤ new.now
       → Served (λ judged. judged_status judged phases) nodes phases ⊥ Sink before after old new (TooManyWorkers asked have) [] []
   served_without_core asked have is none same shows later =
       served_unmounted (λ judged. judged_status judged phases) nodes phases ⊥ Sink before after old new (TooManyWorkers asked have)
@@ -208,7 +238,8 @@ module _ (nodes : ℕ) (phases : List (List Line)) (Sink : Type 0) (before after
   made = engine.entries.items
 
   -- a script was run
-  pub served_run : (status : Status) → EndsRun first engine mid new → old.now ≤ mid.now → Advances mid new → worker_without_core first.volume.layout.cores phases ≡ None → (made ≡ [] → ShowsEntry old new)
+  pub served_run : (status : Status) → EndsRun first engine mid new → old.now ≤ mid.now → Advances mid new
+      → worker_without_core first.volume.layout.cores phases ≡ None → (made ≡ [] → ShowsEntry old new)
       → IsWriteStatus Sink status → HasHistory phases made status → HasText (history_text made) before after status
       → Served (λ judged. judged_status judged phases) nodes phases ⊥ Sink before after old new status made engine.turns.items
   served_run status ends begun goes none shows is calls text =
@@ -248,9 +279,11 @@ module _ (nodes : ℕ) (phases : List (List Line)) (Sink : Type 0) (before after
       }
       told false was =
           none_told begins.kept.first begins.image old.faults new.faults engine.turns.items
-          (subst (λ (h : List Entry). IsRecorded begins.kept.first h begins.image old.faults new.faults engine.turns.items) (no_call status made is was) (ends old.faults begins.image begins.kept begins.stands).recorded)
+          (subst (λ (h : List Entry). IsRecorded begins.kept.first h begins.image old.faults new.faults engine.turns.items) (no_call status made is was)
+          (ends old.faults begins.image begins.kept begins.stands).recorded)
 
-      by : (image : List ℕ) → old.content ≡ Some image → IsCalm old → CountsOn new → (was : Bool) → was_mounted status made ≡ was → HasImagesBy was nodes begins.kept.first old new made image
+      by : (image : List ℕ) → old.content ≡ Some image → IsCalm old → CountsOn new → (was : Bool) → was_mounted status made ≡ was
+          → HasImagesBy was nodes begins.kept.first old new made image
       by image told calm counts true was =
           let ended = ends old.faults begins.image begins.kept begins.stands in
           let share = share_of_nodes nodes (layout_of image) in
@@ -259,7 +292,8 @@ module _ (nodes : ℕ) (phases : List (List Line)) (Sink : Type 0) (before after
       by image told calm counts false was = shows (no_call status made is was) image told calm counts
 
 -- a whole history is that of each status of writing
-pub write_history : (Sink : Type 0) (phases : List (List Line)) (history : List Entry) (status : Status) → IsWriteStatus Sink status → Follows phases history → HasHistory phases history status
+pub write_history : (Sink : Type 0) (phases : List (List Line)) (history : List Entry) (status : Status) → IsWriteStatus Sink status → Follows phases history
+    → HasHistory phases history status
 write_history Sink phases history Done h follows = follows
 write_history Sink phases history (BadWords place) h follows = absurd h
 write_history Sink phases history (BadScript line) h follows = absurd h
@@ -267,7 +301,8 @@ write_history Sink phases history ReadFault h follows = absurd h
 write_history Sink phases history WriteFault h follows = follows
 write_history Sink phases history DiskFault h follows = absurd h
 write_history Sink phases history (BadImage fault) h follows = absurd h
-write_history Sink phases history NoMemory h follows = subst (λ (p : List (List Line)). FollowsSoFar p history) (append-nil phases) (FollowsSoFar-whole phases [] history follows)
+write_history Sink phases history NoMemory h follows =
+    subst (λ (p : List (List Line)). FollowsSoFar p history) (append-nil phases) (FollowsSoFar-whole phases [] history follows)
 write_history Sink phases history (TooManyWorkers asked have) h follows = absurd h
 write_history Sink phases history (TooLong measure) h follows = absurd h
 write_history Sink phases history (TooSmall need have) h follows = absurd h
@@ -286,7 +321,9 @@ write_reached Sink (TooLong measure) h = absurd h
 write_reached Sink (TooSmall need have) h = absurd h
 
 -- why the source could not be read, of the script that it gave
-pub read_fault : (Source : Type 0) (left rest : Option (List ℕ)) (taken : List ℕ) (fault : ReadAllFault) → Consumes left rest taken → ReadsAll left taken 16777216 (Err fault) → (fault ≡ source.ReadFault → Source) → (script : List ℕ) × IsOf left script × HasReadFault script Source (status_of_source fault)
+pub read_fault : (Source : Type 0) (left rest : Option (List ℕ)) (taken : List ℕ) (fault : ReadAllFault) → Consumes left rest taken
+    → ReadsAll left taken 16777216 (Err fault) → (fault ≡ source.ReadFault → Source)
+    → (script : List ℕ) × IsOf left script × HasReadFault script Source (status_of_source fault)
 read_fault Source (Some whole) rest taken source.ReadFault takes reads cause = (whole, refl, cause refl)
 read_fault Source (Some whole) None taken source.TooLong takes reads cause = absurd takes
 read_fault Source (Some whole) (Some behind) taken source.TooLong takes reads cause =
@@ -319,7 +356,12 @@ module _ (judged : Judgement) (script : List ℕ) where
   due_command =
       elim (nat_lt 16777216 (length script)) as (λ b. IsCommand (cond b (TooLong Bytes) lines_due)) [
         | true ↦ tt
-        | false ↦ elim (nat_lt 262144 (length (lines script))) as (λ b. IsCommand (cond b (TooLong Lines) (script_status judged (phases_of script)))) [ true ↦ tt | false ↦ script_command (phases_of script) ]
+        | false ↦
+            elim (nat_lt 262144 (length (lines script))) as (λ b. IsCommand (cond b (TooLong Lines) (script_status judged (phases_of script)))) [
+              | true ↦
+                  tt
+              | false ↦ script_command (phases_of script)
+            ]
       ]
 
   due_bytes : 16777216 < length script → due judged script ≡ TooLong Bytes
@@ -336,7 +378,8 @@ module _ (judged : Judgement) (script : List ℕ) where
       ∙ ap (λ b. cond b (TooLong Lines) (script_status judged (phases_of script))) (le-ltb _ _ short.lines)
 
 -- the script could not be read
-pub served_unread : (nodes : ℕ) (left : Option (List ℕ)) (script : List ℕ) (Source Sink : Type 0) (written : Option (List ℕ)) (disk : View) (status : Status) → IsOf left script → HasReadFault script Source status
+pub served_unread : (nodes : ℕ) (left : Option (List ℕ)) (script : List ℕ) (Source Sink : Type 0) (written : Option (List ℕ)) (disk : View) (status : Status)
+    → IsOf left script → HasReadFault script Source status
     → ServedScript nodes left Source Sink written written disk disk status [] []
 served_unread nodes left script Source Sink written disk status is fault = (script, is, by status fault)
   where
@@ -346,14 +389,19 @@ served_unread nodes left script Source Sink written disk status is fault = (scri
     judged : Judgement
     judged = judged_of disk.content
 
-    ends : (status : Status) → HasStatus (due judged script) Source Sink (HasRisen disk.faults disk.faults) status → (IsImageRefused status → Unwritten disk disk) → HasHistory phases [] status → HasText (history_text []) written written status → was_mounted status [] ≡ false
+    ends : (status : Status) → HasStatus (due judged script) Source Sink (HasRisen disk.faults disk.faults) status
+        → (IsImageRefused status → Unwritten disk disk) → HasHistory phases [] status → HasText (history_text []) written written status
+        → was_mounted status [] ≡ false
         → Served (λ judged. due judged script) nodes phases Source Sink written written disk disk status [] []
     ends status status_is refused calls text not =
         served_unmounted (λ judged. due judged script) nodes phases Source Sink written written disk disk status
-        (record { judged = judged; judged_told = judged_told disk.content; status_is = status_is; refused = refused }) calls text not (shows_untouched disk) (omega arith)
+        (record { judged = judged; judged_told = judged_told disk.content; status_is = status_is; refused = refused }) calls text not (shows_untouched disk)
+        (omega arith)
 
-    by : (status : Status) → HasReadFault script Source status → Served (λ judged. due judged script) nodes phases Source Sink written written disk disk status [] []
-    by (BadScript line) fault = ends (BadScript line) (due_read judged script fault.0 ∙ ap (script_status judged) fault.1) (λ refused. absurd refused) refl refl refl
+    by : (status : Status) → HasReadFault script Source status
+        → Served (λ judged. due judged script) nodes phases Source Sink written written disk disk status [] []
+    by (BadScript line) fault =
+        ends (BadScript line) (due_read judged script fault.0 ∙ ap (script_status judged) fault.1) (λ refused. absurd refused) refl refl refl
     by ReadFault fault = ends ReadFault (fault, due_command judged script) (λ refused. absurd refused) refl refl refl
     by NoMemory fault = ends NoMemory (due_command judged script) (λ refused. absurd refused) (none_so_far phases) refl refl
     by (TooLong Bytes) fault = ends (TooLong Bytes) (due_bytes judged script fault) (λ refused. absurd refused) refl refl refl
@@ -361,8 +409,11 @@ served_unread nodes left script Source Sink written disk status is fault = (scri
     by _ fault = absurd fault
 
 -- the script was read, and run
-pub served_read : (nodes : ℕ) (left : Option (List ℕ)) (script : List ℕ) (phases : List (List Line)) (Source Sink : Type 0) (before after : Option (List ℕ)) (old new : View) (status : Status) (history : List Entry) (turns : List Turn) → IsOf left script → IsShort script → phases_of script ≡ Ok phases
-    → Served (λ judged. judged_status judged phases) nodes phases ⊥ Sink before after old new status history turns → ServedScript nodes left Source Sink before after old new status history turns
+pub served_read : (nodes : ℕ) (left : Option (List ℕ)) (script : List ℕ) (phases : List (List Line)) (Source Sink : Type 0) (before after : Option (List ℕ))
+    (old new : View) (status : Status) (history : List Entry) (turns : List Turn)
+    → IsOf left script → IsShort script → phases_of script ≡ Ok phases
+    → Served (λ judged. judged_status judged phases) nodes phases ⊥ Sink before after old new status history turns
+    → ServedScript nodes left Source Sink before after old new status history turns
 served_read nodes left script phases Source Sink before after old new status history turns is short read served = (
   script,
   is,
@@ -387,7 +438,8 @@ served_read nodes left script phases Source Sink before after old new status his
   },
 )
   where
-    any_source : (due : Status) (status : Status) → HasStatus due ⊥ Sink (HasRisen old.faults new.faults) status → HasStatus due Source Sink (HasRisen old.faults new.faults) status
+    any_source : (due : Status) (status : Status) → HasStatus due ⊥ Sink (HasRisen old.faults new.faults) status
+        → HasStatus due Source Sink (HasRisen old.faults new.faults) status
     any_source due Done h = h
     any_source due (BadWords place) h = h
     any_source due (BadScript line) h = h

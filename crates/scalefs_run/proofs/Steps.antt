@@ -61,18 +61,23 @@ failure_on : (history : List Entry) (entry : Entry) → HasFailure history → H
 failure_on history entry has = record { entry = has.entry; among = in_left history (entry ∷ []) has.entry has.among; failed = has.failed }
 
 -- what an entry without a moment leaves of what stood
-now_on : (share from : ℕ) (kept : Volume) (entry : Entry) (disk : View) → IsSoundTree kept.first → IsLegal kept.first (kept.history ++ entry ∷ []) → entry.ack ≡ None
+now_on : (share from : ℕ) (kept : Volume) (entry : Entry) (disk : View) → IsSoundTree kept.first → IsLegal kept.first (kept.history ++ entry ∷ [])
+    → entry.ack ≡ None
     → (failed : Option ℕ) → StandsNow share from kept disk failed → StandsNow share from (kept_with kept entry) disk failed
-now_on share from kept entry disk sound legal no_ack None now =
-    (calls_keep disk disk share from kept.first kept.history entry kept.flushes kept.cut kept.inodes sound legal no_ack (disks_stay disk) now.0, holds_with kept entry disk now.1)
+now_on share from kept entry disk sound legal no_ack None now = (
+  calls_keep disk disk share from kept.first kept.history entry kept.flushes kept.cut kept.inodes sound legal no_ack (disks_stay disk) now.0,
+  holds_with kept entry disk now.1,
+)
 now_on share from kept entry disk sound legal no_ack (Some faults) now =
     (stopped_keep disk share from kept.first kept.history entry sound legal no_ack now.0, failure_on kept.history entry now.1)
 
 no_moment : (ack : Option ℕ) (from to : ℕ) → ack ≡ None → IfSome ack (λ a. (from ≤ a) × (a ≤ to))
 no_moment ack from to none = subst (λ (o : Option ℕ). IfSome o (λ a. (from ≤ a) × (a ≤ to))) (sym none) tt
 
-module _ (start : ℕ) (image : ImageState) (kept : Volume) (old new : Engine) (before after : View) (stands : RunStands start image kept old before) (entry : Entry) (later : Volume)
-    (first : later.first ≡ kept.first) (history : later.history ≡ kept.history ++ entry ∷ []) (layout : later.layout ≡ kept.layout) (size : after.size ≡ before.size)
+module _ (start : ℕ) (image : ImageState) (kept : Volume) (old new : Engine) (before after : View) (stands : RunStands start image kept old before)
+    (entry : Entry) (later : Volume)
+    (first : later.first ≡ kept.first) (history : later.history ≡ kept.history ++ entry ∷ []) (layout : later.layout ≡ kept.layout)
+    (size : after.size ≡ before.size)
     (remembers : Remembers later new.volume) (entries : new.entries.items ≡ old.entries.items ++ entry ∷ [])
     (answers : HasAnswersSoFar start after.faults kept.first (kept.history ++ entry ∷ []) new.volume.failed)
     (turns : TurnsSoFar start image later after.faults new.turns.items new.volume.failed) where
@@ -94,14 +99,17 @@ module _ (start : ℕ) (image : ImageState) (kept : Volume) (old new : Engine) (
   }
 
 -- an entry comes that leaves the disk alone
-pub goes_on_still : (start : ℕ) (image : ImageState) (kept : Volume) (old new : Engine) (disk : View) (entry : Entry) → RunStands start image kept old disk → Remembers (kept_with kept entry) new.volume
+pub goes_on_still : (start : ℕ) (image : ImageState) (kept : Volume) (old new : Engine) (disk : View) (entry : Entry) → RunStands start image kept old disk
+    → Remembers (kept_with kept entry) new.volume
     → new.volume.failed ≡ old.volume.failed → new.entries.items ≡ old.entries.items ++ entry ∷ [] → entry.ack ≡ None → is_failed_flush entry ≡ false
-    → ((count : ℕ) → IfSome old.volume.failed (λ faults. faults ≡ count) → IsReplyTo (tree_after kept.first kept.history) (is_some old.volume.failed) count entry.call entry.reply)
+    → ((count : ℕ) → IfSome old.volume.failed (λ faults. faults ≡ count)
+    → IsReplyTo (tree_after kept.first kept.history) (is_some old.volume.failed) count entry.call entry.reply)
     → TurnsSoFar start image (kept_with kept entry) disk.faults new.turns.items old.volume.failed
     → ((from : ℕ) → MomentsRise from old.turns.items disk.now → MomentsRise from new.turns.items disk.now)
     → HasGoneOn start image kept old new disk disk
 goes_on_still start image kept old new disk entry stands remembers failed entries no_ack fine cause turns moments =
-    let answers = answered_on start disk.faults kept.first kept.history old.volume.failed stands.answers entry cause disk.faults fine (omega arith) stands.answers.kept in
+    let answers =
+    answered_on start disk.faults kept.first kept.history old.volume.failed stands.answers entry cause disk.faults fine (omega arith) stands.answers.kept in
     record {
       later = kept_with kept entry;
       first = refl;
@@ -115,11 +123,13 @@ goes_on_still start image kept old new disk entry stands remembers failed entrie
       };
       safe = λ share from counts safe.
           subst (StandsNow share from (kept_with kept entry) disk) (sym failed)
-          (now_on share from kept entry disk (sound_with kept old.volume stands.remembers) (legal_with (kept_with kept entry) new.volume remembers) no_ack old.volume.failed safe);
+          (now_on share from kept entry disk (sound_with kept old.volume stands.remembers)
+          (legal_with (kept_with kept entry) new.volume remembers) no_ack old.volume.failed safe);
     }
 
 -- an fsync comes
-module _ (start : ℕ) (image : ImageState) (kept : Volume) (old new : Engine) (before after : View) (stands : RunStands start image kept old before) (stamp : Stamp) (core : CoreId) (node : NodeId) (flushed : Flushed)
+module _ (start : ℕ) (image : ImageState) (kept : Volume) (old new : Engine) (before after : View) (stands : RunStands start image kept old before)
+    (stamp : Stamp) (core : CoreId) (node : NodeId) (flushed : Flushed)
     (counted : length kept.history ≡ stamp.0) (goes : Advances before after)
     (entries : new.entries.items ≡ old.entries.items ++ call_entry stamp core (Fsync node) flushed.reply flushed.ack ∷ [])
     (answer : IsFsyncAnswer (is_alive old.volume.tree node.0) old.volume.failed flushed.reply)
@@ -134,13 +144,16 @@ module _ (start : ℕ) (image : ImageState) (kept : Volume) (old new : Engine) (
 
   -- the turns before it
   had_turns : old.volume.failed ≡ None → HaveTurns image kept counts.faults_before old.turns.items
-  had_turns none = subst (λ n. HaveTurns image kept n old.turns.items) (sym own) (subst (TurnsSoFar start image kept before.faults old.turns.items) none stands.turns)
+  had_turns none =
+      subst (λ n. HaveTurns image kept n old.turns.items) (sym own) (subst (TurnsSoFar start image kept before.faults old.turns.items) none stands.turns)
 
-  cause : (count : ℕ) → IfSome old.volume.failed (λ faults. faults ≡ count) → IsReplyTo (tree_after kept.first kept.history) (is_some old.volume.failed) count (Fsync node) flushed.reply
+  cause : (count : ℕ) → IfSome old.volume.failed (λ faults. faults ≡ count)
+      → IsReplyTo (tree_after kept.first kept.history) (is_some old.volume.failed) count (Fsync node) flushed.reply
   cause count same = answer_cause (is_alive (tree_after kept.first kept.history) node.0) old.volume.failed flushed.reply answer_is count same
 
   -- it raises the cut next
-  raises_next : (one : OneFsync) → made.IsComingFsync kept (fsync_at node stamp) one → RaisesNext kept.first kept.history kept.cut kept.inodes entry one.flush one.raised one.after
+  raises_next : (one : OneFsync) → made.IsComingFsync kept (fsync_at node stamp) one
+      → RaisesNext kept.first kept.history kept.cut kept.inodes entry one.flush one.raised one.after
   raises_next one is = record {
     fsync = record { node = node; asked = refl; own = is.flush_is };
     raise = is.planned.raises;
@@ -148,18 +161,21 @@ module _ (start : ℕ) (image : ImageState) (kept : Volume) (old new : Engine) (
   }
 
   -- its turns go on to rise
-  turns_go_on : IsDatedDeed before.now after.now (moment_of entry) flushed.deed → (from : ℕ) → MomentsRise from old.turns.items before.now → MomentsRise from new.turns.items after.now
+  turns_go_on : IsDatedDeed before.now after.now (moment_of entry) flushed.deed → (from : ℕ) → MomentsRise from old.turns.items before.now
+      → MomentsRise from new.turns.items after.now
   turns_go_on dated from rise =
       subst (λ (l : List Turn). MomentsRise from l after.now) (sym told)
       (MomentsRise-append from before.now after.now old.turns.items (turns_of entry node counts flushed.deed) rise
       (subst (λ n. MomentsRise n (turns_of entry node counts flushed.deed) after.now) began
       (subst (λ n. MomentsRise counts.calls_before (turns_of entry node counts flushed.deed) n) ended
       (turns_rise entry node counts flushed.deed (let later = goes.later in omega (arith, began, ended, later))
-      (subst (λ n. IsDatedDeed n counts.calls_after (moment_of entry) flushed.deed) (sym began) (subst (λ n. IsDatedDeed before.now n (moment_of entry) flushed.deed) (sym ended) dated)))))
+      (subst (λ n. IsDatedDeed n counts.calls_after (moment_of entry) flushed.deed) (sym began)
+      (subst (λ n. IsDatedDeed before.now n (moment_of entry) flushed.deed) (sym ended) dated)))))
       goes.later)
 
   -- the moments of a commit that is durable
-  durable_dated : (one : OneFsync) (moment : ℕ) (did : Deed) → IsDurableDeed kept one before after moment did → (before.now ≤ moment) × (moment ≤ after.now) → IsDatedDeed before.now after.now moment did
+  durable_dated : (one : OneFsync) (moment : ℕ) (did : Deed) → IsDurableDeed kept one before after moment did → (before.now ≤ moment) × (moment ≤ after.now)
+      → IsDatedDeed before.now after.now moment did
   durable_dated one moment deeds.Empty is bounds = bounds
   durable_dated one moment deeds.Committed is bounds = bounds
   durable_dated one moment deeds.Nothing is bounds = tt
@@ -169,10 +185,12 @@ module _ (start : ℕ) (image : ImageState) (kept : Volume) (old new : Engine) (
   durable_dated one moment (deeds.Failed opened) is bounds = absurd is
 
   -- that of a gate that was written
-  gate_dated : (sealed : ℕ) → before.now ≤ sealed → IsDatedDeed before.now after.now (moment_of entry) (deeds.Failed (if nat_lt sealed after.now then Some (sealed + 1) else None))
+  gate_dated : (sealed : ℕ) → before.now ≤ sealed
+      → IsDatedDeed before.now after.now (moment_of entry) (deeds.Failed (if nat_lt sealed after.now then Some (sealed + 1) else None))
   gate_dated sealed from = by (nat_lt sealed after.now) refl
     where
-      by : (past : Bool) → nat_lt sealed after.now ≡ past → IsDatedDeed before.now after.now (moment_of entry) (deeds.Failed (if past then Some (sealed + 1) else None))
+      by : (past : Bool) → nat_lt sealed after.now ≡ past
+          → IsDatedDeed before.now after.now (moment_of entry) (deeds.Failed (if past then Some (sealed + 1) else None))
       by true is = let lt = ltb-true sealed after.now is in (omega (arith, from), omega (arith, lt))
       by false is = tt
 
@@ -180,7 +198,8 @@ module _ (start : ℕ) (image : ImageState) (kept : Volume) (old new : Engine) (
   not_before failed none = subst (λ (o : Option ℕ). IfSome o (λ faults. faults ≡ after.faults)) (sym none) tt
 
   -- answered Ok
-  committed : flushed.reply ≡ reply.Ok → FsyncCommits (with_fsync core stamp node flushed) kept (fsync_at node stamp) before after old.volume new.volume flushed → HasGoneOn start image kept old new before after
+  committed : flushed.reply ≡ reply.Ok → FsyncCommits (with_fsync core stamp node flushed) kept (fsync_at node stamp) before after old.volume new.volume flushed
+      → HasGoneOn start image kept old new before after
   committed ok makes =
       let had = had_turns makes.failed.0 in
       let left = volume_left kept makes.one makes.later in
@@ -189,7 +208,9 @@ module _ (start : ℕ) (image : ImageState) (kept : Volume) (old new : Engine) (
       let working = makes.failed.1 in
       let acked = makes.acknowledged in
       let fine : is_failed_flush entry ≡ false = ap is_failure ok in
-      let answers = answered_on start before.faults kept.first kept.history old.volume.failed stands.answers entry cause after.faults fine goes.never_falls (not_before old.volume.failed none) in
+      let answers =
+      answered_on start before.faults kept.first kept.history old.volume.failed stands.answers entry cause after.faults fine goes.never_falls
+      (not_before old.volume.failed none) in
       record {
         later = later;
         first = refl;
@@ -200,7 +221,8 @@ module _ (start : ℕ) (image : ImageState) (kept : Volume) (old new : Engine) (
             (subst (HaveTurns image later after.faults) (sym told)
             (subst (λ n. HaveTurns image later n (old.turns.items ++ turns_of entry node counts flushed.deed)) (own ∙ sym makes.faultless)
             (turns_commit start image kept old.turns.items stamp core node flushed counts (legal_with later new.volume makes.remembers) counted
-            (alive_of (is_alive (tree_after kept.first kept.history) node.0) old.volume.failed flushed.reply answer_is (λ is. no_error reply.Ok refl (sym ok ∙ is)))
+            (alive_of (is_alive (tree_after kept.first kept.history) node.0) old.volume.failed flushed.reply answer_is
+            (λ is. no_error reply.Ok refl (sym ok ∙ is)))
             had.used had.below had.stand (with_fsync core stamp node flushed) before after old.volume new.volume makes))));
         dated = λ count_on.
             let bounds = makes.on_disk count_on in
@@ -217,14 +239,18 @@ module _ (start : ℕ) (image : ImageState) (kept : Volume) (old new : Engine) (
             let stood = subst (StandsNow share from kept before) none safe in
             let on_disk = makes.on_disk count_on in
             subst (StandsNow share from later after) (sym working) (
-              commits_keep before after share from makes.moment kept.first kept.history entry kept.flushes makes.one.flush kept.cut makes.one.raised kept.inodes makes.one.after
-                  (sound_with kept old.volume stands.remembers) (legal_with later new.volume makes.remembers) ok acked (raises_next makes.one makes.is) (on_disk.wrote stood.1 share) stood.0,
+              commits_keep before after share from makes.moment kept.first kept.history entry kept.flushes makes.one.flush kept.cut makes.one.raised kept.inodes
+                  makes.one.after
+                  (sound_with kept old.volume stands.remembers) (legal_with later new.volume makes.remembers) ok acked (raises_next makes.one makes.is)
+                  (on_disk.wrote stood.1 share) stood.0,
               holds_with left entry after (on_disk.holds stood.1),
             );
       }
 
   -- answered DiskFailed
-  doubted : flushed.reply ≡ reply.DiskFailed → FsyncDoubts (with_fsync core stamp node flushed) kept (fsync_at node stamp) before after old.volume new.volume flushed → HasGoneOn start image kept old new before after
+  doubted : flushed.reply ≡ reply.DiskFailed
+      → FsyncDoubts (with_fsync core stamp node flushed) kept (fsync_at node stamp) before after old.volume new.volume flushed
+      → HasGoneOn start image kept old new before after
   doubted failed makes =
       let later = kept_with kept entry in
       let had = had_turns makes.failed.0 in
@@ -232,7 +258,9 @@ module _ (start : ℕ) (image : ImageState) (kept : Volume) (old new : Engine) (
       let halted = makes.failed.1 in
       let no_ack = makes.refused in
       let is : is_failed_flush entry ≡ true = ap is_failure failed in
-      let answers = answered_doubt start before.faults kept.first kept.history old.volume.failed stands.answers entry cause after.faults is none makes.risen goes.never_falls in
+      let answers =
+      answered_doubt start before.faults kept.first kept.history old.volume.failed stands.answers entry cause after.faults is none makes.risen
+      goes.never_falls in
       record {
         later = later;
         first = refl;
@@ -242,7 +270,8 @@ module _ (start : ℕ) (image : ImageState) (kept : Volume) (old new : Engine) (
             (subst (TurnsSoFar start image later after.faults new.turns.items) (sym halted)
             (subst (λ (l : List Turn). HaveFailed start image later l after.faults) (sym told)
             (turns_doubt start image kept old.turns.items stamp core node flushed counts (legal_with later new.volume makes.remembers) counted
-            (alive_of (is_alive (tree_after kept.first kept.history) node.0) old.volume.failed flushed.reply answer_is (λ is. no_error reply.DiskFailed refl (sym failed ∙ is)))
+            (alive_of (is_alive (tree_after kept.first kept.history) node.0) old.volume.failed flushed.reply answer_is
+            (λ is. no_error reply.DiskFailed refl (sym failed ∙ is)))
             had.used had.below had.stand (with_fsync core stamp node flushed) before after old.volume new.volume makes own then_faults stands.answers.later)));
         dated = λ count_on. record {
           acks = λ from rise. AcksRise-push from before.now after.now kept.history entry rise (no_moment flushed.ack before.now after.now no_ack) goes.later;
@@ -252,21 +281,30 @@ module _ (start : ℕ) (image : ImageState) (kept : Volume) (old new : Engine) (
         safe = λ share from count_on safe.
             let stood = subst (StandsNow share from kept before) none safe in
             subst (StandsNow share from later after) (sym halted) (
-              failures_keep before after share from kept.first kept.history entry kept.flushes makes.one.flush kept.cut makes.one.raised kept.inodes makes.one.after
-                  (sound_with kept old.volume stands.remembers) (legal_with later new.volume makes.remembers) failed (raises_next makes.one makes.is) (makes.wrote count_on stood.1 share) stood.0,
-              record { entry = entry; among = in_right kept.history (entry ∷ []) entry (inl refl); failed = subst Rattle.crash_laws.specs.Survives.IsFailure (sym failed) tt },
+              failures_keep before after share from kept.first kept.history entry kept.flushes makes.one.flush kept.cut makes.one.raised kept.inodes
+                  makes.one.after
+                  (sound_with kept old.volume stands.remembers) (legal_with later new.volume makes.remembers) failed (raises_next makes.one makes.is)
+                  (makes.wrote count_on stood.1 share) stood.0,
+              record {
+                entry = entry;
+                among = in_right kept.history (entry ∷ []) entry (inl refl);
+                failed = subst Rattle.crash_laws.specs.Survives.IsFailure (sym failed) tt;
+              },
             );
       }
 
   -- the turns of one answered otherwise
-  other_turns : IsLegal kept.first (kept.history ++ entry ∷ []) → (given : Reply) → flushed.reply ≡ given → DidStay kept (fsync_at node stamp) given flushed.deed
+  other_turns : IsLegal kept.first (kept.history ++ entry ∷ []) → (given : Reply) → flushed.reply ≡ given
+      → DidStay kept (fsync_at node stamp) given flushed.deed
       → TurnsSoFar start image (kept_with kept entry) before.faults (old.turns.items ++ turns_of entry node counts flushed.deed) old.volume.failed
   other_turns legal given is did = by given is did
     where
       alive_at : (given : Reply) → flushed.reply ≡ given → (given ≡ reply.Error NoEntry → ⊥) → is_alive (tree_after kept.first kept.history) node.0 ≡ true
-      alive_at given is not = alive_of (is_alive (tree_after kept.first kept.history) node.0) old.volume.failed flushed.reply answer_is (λ error. not (sym is ∙ error))
+      alive_at given is not =
+          alive_of (is_alive (tree_after kept.first kept.history) node.0) old.volume.failed flushed.reply answer_is (λ error. not (sym is ∙ error))
 
-      whole : (none : old.volume.failed ≡ None) → HaveTurns image (kept_with kept entry) counts.faults_before (old.turns.items ++ turns_of entry node counts flushed.deed)
+      whole : (none : old.volume.failed ≡ None)
+          → HaveTurns image (kept_with kept entry) counts.faults_before (old.turns.items ++ turns_of entry node counts flushed.deed)
           → TurnsSoFar start image (kept_with kept entry) before.faults (old.turns.items ++ turns_of entry node counts flushed.deed) old.volume.failed
       whole none have =
           subst (TurnsSoFar start image (kept_with kept entry) before.faults (old.turns.items ++ turns_of entry node counts flushed.deed)) (sym none)
@@ -275,50 +313,69 @@ module _ (start : ℕ) (image : ImageState) (kept : Volume) (old new : Engine) (
       by : (given : Reply) → flushed.reply ≡ given → DidStay kept (fsync_at node stamp) given flushed.deed
           → TurnsSoFar start image (kept_with kept entry) before.faults (old.turns.items ++ turns_of entry node counts flushed.deed) old.volume.failed
       by (reply.NoSpace kind need free) is did =
-          let none = working_of _ old.volume.failed flushed.reply answer_is (λ e. no_error (reply.NoSpace kind need free) refl (sym is ∙ e)) (λ f e. absurd (let never : reply.NoSpace kind need free ≡ reply.Stopped f = sym is ∙ e in cc)) in
+          let none =
+          working_of _ old.volume.failed flushed.reply answer_is (λ e. no_error (reply.NoSpace kind need free) refl (sym is ∙ e))
+          (λ f e. absurd (let never : reply.NoSpace kind need free ≡ reply.Stopped f = sym is ∙ e in cc)) in
           let had = had_turns none in
-          whole none (turns_short start image kept old.turns.items stamp core node flushed counts legal counted (alive_at (reply.NoSpace kind need free) is (no_error (reply.NoSpace kind need free) refl)) had.used had.below had.stand
+          whole none
+          (turns_short start image kept old.turns.items stamp core node flushed counts legal counted
+          (alive_at (reply.NoSpace kind need free) is (no_error (reply.NoSpace kind need free) refl)) had.used had.below had.stand
           (with_fsync core stamp node flushed) before after old.volume new.volume ⊥ stands.few kind need free is did)
       by reply.NoMemory is did =
-          let none = working_of _ old.volume.failed flushed.reply answer_is (λ e. no_error reply.NoMemory refl (sym is ∙ e)) (λ f e. absurd (let never : reply.NoMemory ≡ reply.Stopped f = sym is ∙ e in cc)) in
+          let none =
+          working_of _ old.volume.failed flushed.reply answer_is (λ e. no_error reply.NoMemory refl (sym is ∙ e))
+          (λ f e. absurd (let never : reply.NoMemory ≡ reply.Stopped f = sym is ∙ e in cc)) in
           let had = had_turns none in
-          whole none (turns_back start image kept old.turns.items stamp core node flushed counts legal counted (alive_at reply.NoMemory is (no_error reply.NoMemory refl)) had.used had.below had.stand
+          whole none
+          (turns_back start image kept old.turns.items stamp core node flushed counts legal counted
+          (alive_at reply.NoMemory is (no_error reply.NoMemory refl)) had.used had.below had.stand
           (with_fsync core stamp node flushed) before after old.volume new.volume ⊥ stands.few flushed.deed is did)
       by (reply.Stopped faults) is did =
           let some = halted_of _ old.volume.failed flushed.reply faults answer_is is in
-          subst (λ (d : Deed). TurnsSoFar start image (kept_with kept entry) before.faults (old.turns.items ++ turns_of entry node counts d) old.volume.failed) (sym did)
+          subst (λ (d : Deed). TurnsSoFar start image (kept_with kept entry) before.faults (old.turns.items ++ turns_of entry node counts d) old.volume.failed)
+          (sym did)
           (subst (TurnsSoFar start image (kept_with kept entry) before.faults (old.turns.items ++ turns_of entry node counts deeds.Halted)) (sym some)
-          (halted start image kept old.turns.items stamp core node flushed counts legal counted (alive_at (reply.Stopped faults) is (no_error (reply.Stopped faults) refl)) faults before.faults
+          (halted start image kept old.turns.items stamp core node flushed counts legal counted
+          (alive_at (reply.Stopped faults) is (no_error (reply.Stopped faults) refl)) faults before.faults
           (subst (TurnsSoFar start image kept before.faults old.turns.items) some stands.turns) is))
       by (reply.Error code) is did =
-          subst (λ (d : Deed). TurnsSoFar start image (kept_with kept entry) before.faults (old.turns.items ++ turns_of entry node counts d) old.volume.failed) (sym did)
+          subst (λ (d : Deed). TurnsSoFar start image (kept_with kept entry) before.faults (old.turns.items ++ turns_of entry node counts d) old.volume.failed)
+          (sym did)
           (nothing_told start image kept old.turns.items stamp core node flushed counts legal counted before.faults old.volume.failed stands.turns
           (λ alive. absurd (no_live_error _ old.volume.failed flushed.reply code answer_is alive is)))
       by _ is did = absurd did
 
   module _ (disks : Type 0) (stay : disks → (P : View → Type 0) → P before → P after) where
     -- the turns of one answered otherwise rise
-    stays_rising : disks → DidStay kept (fsync_at node stamp) flushed.reply flushed.deed → (from : ℕ) → MomentsRise from old.turns.items before.now → MomentsRise from new.turns.items before.now
+    stays_rising : disks → DidStay kept (fsync_at node stamp) flushed.reply flushed.deed → (from : ℕ) → MomentsRise from old.turns.items before.now
+        → MomentsRise from new.turns.items before.now
     stays_rising same did from rise =
         subst (λ n. MomentsRise from new.turns.items n) (sym (stay same (λ (v : View). before.now ≡ v.now) refl))
         (turns_go_on (stayed_dated kept (fsync_at node stamp) flushed.reply before.now after.now (moment_of entry) flushed.deed did) from rise)
 
     -- answered otherwise
-    stayed : (given : Reply) → flushed.reply ≡ given → is_failed_flush entry ≡ false → FsyncStays disks (with_fsync core stamp node flushed) kept (fsync_at node stamp) old.volume new.volume flushed → HasGoneOn start image kept old new before after
+    stayed : (given : Reply) → flushed.reply ≡ given → is_failed_flush entry ≡ false
+        → FsyncStays disks (with_fsync core stamp node flushed) kept (fsync_at node stamp) old.volume new.volume flushed
+        → HasGoneOn start image kept old new before after
     stayed given is fine makes =
         stay makes.same (HasGoneOn start image kept old new before)
         (goes_on_still start image kept old new before entry stands makes.remembers makes.failed entries makes.refused fine cause
         (subst (λ (l : List Turn). TurnsSoFar start image (kept_with kept entry) before.faults l old.volume.failed) (sym told)
-        (other_turns (legal_with (kept_with kept entry) new.volume makes.remembers) given is (subst (λ r. DidStay kept (fsync_at node stamp) r flushed.deed) is makes.did)))
+        (other_turns (legal_with (kept_with kept entry) new.volume makes.remembers) given is
+        (subst (λ r. DidStay kept (fsync_at node stamp) r flushed.deed) is makes.did)))
         (stays_rising makes.same makes.did))
 
-    pub goes_on_fsync : FsyncMakes disks (with_fsync core stamp node flushed) kept (fsync_at node stamp) before after old.volume new.volume flushed flushed.reply → HasGoneOn start image kept old new before after
+    pub goes_on_fsync : FsyncMakes disks (with_fsync core stamp node flushed) kept
+        (fsync_at node stamp) before after old.volume new.volume flushed flushed.reply
+        → HasGoneOn start image kept old new before after
     goes_on_fsync makes = by flushed.reply refl makes
       where
         fine : (given : Reply) → flushed.reply ≡ given → is_failure given ≡ false → is_failed_flush entry ≡ false
         fine given is not = ap is_failure is ∙ not
 
-        by : (given : Reply) → flushed.reply ≡ given → FsyncMakes disks (with_fsync core stamp node flushed) kept (fsync_at node stamp) before after old.volume new.volume flushed given → HasGoneOn start image kept old new before after
+        by : (given : Reply) → flushed.reply ≡ given
+            → FsyncMakes disks (with_fsync core stamp node flushed) kept (fsync_at node stamp) before after old.volume new.volume flushed given
+            → HasGoneOn start image kept old new before after
         by reply.Ok is makes = committed is makes
         by reply.DiskFailed is makes = doubted is makes
         by (reply.NoSpace kind need free) is makes = stayed _ is (fine _ is refl) makes

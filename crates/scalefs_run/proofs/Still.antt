@@ -22,13 +22,16 @@ module _ (Some Other : List Entry → Type 0) (start old new : List Entry) (one 
       omega (arith, first, second, whole)
 
   pub none_first : old ≡ start
-  none_first = one.grown ∙ ap (λ (h : List Entry). start ++ h) (no_more one.made (length start) (omega (arith, lengths))) ∙ Rattle.std.proofs.Common.append-nil start
+  none_first =
+      one.grown ∙ ap (λ (h : List Entry). start ++ h) (no_more one.made (length start) (omega (arith, lengths))) ∙ Rattle.std.proofs.Common.append-nil start
 
   pub none_then : new ≡ old
-  none_then = other.grown ∙ ap (λ (h : List Entry). old ++ h) (no_more other.made (length start) (omega (arith, lengths))) ∙ Rattle.std.proofs.Common.append-nil old
+  none_then =
+      other.grown ∙ ap (λ (h : List Entry). old ++ h) (no_more other.made (length start) (omega (arith, lengths))) ∙ Rattle.std.proofs.Common.append-nil old
 
 -- one call more is not none
-pub not_none : (core : CoreId) (call : Call) (Some : List Entry → Type 0) (start old new : List Entry) → Grown start old Some → Called core call old new → new ≡ start → ⊥
+pub not_none : (core : CoreId) (call : Call) (Some : List Entry → Type 0) (start old new : List Entry) → Grown start old Some → Called core call old new
+    → new ≡ start → ⊥
 not_none core call Some start old new one called same =
     let first = ap length one.grown ∙ length-append start one.made in
     let second = ap length called.grown ∙ length-append old (called.entry ∷ []) in

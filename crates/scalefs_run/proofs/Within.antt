@@ -10,7 +10,8 @@ use Rattle.std.specs.Option.{option_or}
 phase_within : (cores : ℕ) (phase : List Line) → worker_without_core_in cores phase ≡ None → HaveCores cores phase
 phase_within cores [] none = tt
 phase_within cores (line ∷ phase) none =
-    elim (nat_le cores line.worker) as (λ t. nat_le cores line.worker ≡ t → option_map (λ (l : Line). l.worker) (cond t (Some line) (find (λ l. nat_le cores l.worker) phase)) ≡ None → HaveCores cores (line ∷ phase)) [
+    elim (nat_le cores line.worker) as (λ t. nat_le cores line.worker ≡ t
+    → option_map (λ (l : Line). l.worker) (cond t (Some line) (find (λ l. nat_le cores l.worker) phase)) ≡ None → HaveCores cores (line ∷ phase)) [
       | true ↦ λ t e. absurd (let never : Some line.worker ≡ None = e in cc)
       | false ↦ λ t e. (below (nat_le cores line.worker) t refl, phase_within cores phase e)
     ] refl none
@@ -21,7 +22,8 @@ phase_within cores (line ∷ phase) none =
 within_all : (cores : ℕ) (phases : List (List Line)) → worker_without_core cores phases ≡ None → AllByRecursion (HaveCores cores) phases
 within_all cores [] none = tt
 within_all cores (phase ∷ phases) none =
-    elim (worker_without_core_in cores phase) as (λ o. worker_without_core_in cores phase ≡ o → option_or o (worker_without_core cores phases) ≡ None → AllByRecursion (HaveCores cores) (phase ∷ phases)) [
+    elim (worker_without_core_in cores phase) as (λ o. worker_without_core_in cores phase ≡ o → option_or o (worker_without_core cores phases) ≡ None
+    → AllByRecursion (HaveCores cores) (phase ∷ phases)) [
       | Some worker ↦ λ o e. absurd (let never : Some worker ≡ None = e in cc)
       | None ↦ λ o e. (phase_within cores phase o, within_all cores phases e)
     ] refl none

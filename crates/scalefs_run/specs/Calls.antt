@@ -32,7 +32,8 @@ pub record IsCallAnswered (Same : Type 0) (stamp : Stamp) (core : CoreId) (call 
   pub failed : new.volume.failed ≡ old.volume.failed
 
 -- An fsync was made in the volume, and the calls are as they were.
-pub record IsFsyncAnswered (Same : Type 0) (stamp : Stamp) (core : CoreId) (node : NodeId) (old new : Engine) (before after : View) (result : Flushed) : Type 0 where
+pub record IsFsyncAnswered (Same : Type 0) (stamp : Stamp) (core : CoreId) (node : NodeId) (old new : Engine) (before after : View)
+    (result : Flushed) : Type 0 where
   pub entries : new.entries ≡ old.entries
   pub turns : new.turns ≡ old.turns
   pub answer : IsFsyncAnswer (is_alive old.volume.tree node.0) old.volume.failed result.reply

@@ -20,13 +20,17 @@ pub record RefusesWords (place : ℕ) (before after : Option (List ℕ)) (status
 
 -- What a command has done. `Source` and `Sink` say that the count of faults of the source or of the sink rose; before and after are what was
 -- written to the sink, old and new are the disk. `mkfs` and `show` make no call.
-abbrev pub ServedCommand : Command → Option (List ℕ) → Type 0 → Type 0 → Option (List ℕ) → Option (List ℕ) → View → View → Status → List Entry → List Turn → Type 0
+abbrev pub ServedCommand : Command → Option (List ℕ) → Type 0 → Type 0 → Option (List ℕ) → Option (List ℕ) → View → View → Status → List Entry → List Turn
+    → Type 0
 ServedCommand (Mkfs blocks inodes cores) left Source Sink before after old new status history turns =
     MakesImage (layout_asked blocks inodes cores) Sink before after old new status × (history ≡ []) × (turns ≡ [])
 ServedCommand Show left Source Sink before after old new status history turns = ShowsImage Sink before after old new status × (history ≡ []) × (turns ≡ [])
-ServedCommand (Run nodes) left Source Sink before after old new status history turns = ServedScript nodes left Source Sink before after old new status history turns
+ServedCommand (Run nodes) left Source Sink before after old new status history turns =
+    ServedScript nodes left Source Sink before after old new status history turns
 
 -- the same of words, which may be no command
-abbrev pub ServedWords : Result Command ℕ → Option (List ℕ) → Type 0 → Type 0 → Option (List ℕ) → Option (List ℕ) → View → View → Status → List Entry → List Turn → Type 0
-ServedWords (Ok command) left Source Sink before after old new status history turns = ServedCommand command left Source Sink before after old new status history turns
+abbrev pub ServedWords : Result Command ℕ → Option (List ℕ) → Type 0 → Type 0 → Option (List ℕ) → Option (List ℕ) → View → View → Status → List Entry
+    → List Turn → Type 0
+ServedWords (Ok command) left Source Sink before after old new status history turns =
+    ServedCommand command left Source Sink before after old new status history turns
 ServedWords (Err place) left Source Sink before after old new status history turns = RefusesWords place before after status history turns

@@ -70,7 +70,8 @@ pub record IsSafeEnd (share from : ℕ) (first : TreeState) (history : List Entr
 
 -- A run has ended that stood before: its history is legal, each fsync is answered for its cause, its turns are recorded, the moments of
 -- acknowledgements and of turns go on to rise, and what was safe is safe. `had` are the turns before.
-pub record HasEnded (start : ℕ) (image : ImageState) (kept : Volume) (failed : Option ℕ) (had : List Turn) (history : List Entry) (turns : List Turn) (before after : View) : Type 0 where
+pub record HasEnded (start : ℕ) (image : ImageState) (kept : Volume) (failed : Option ℕ) (had : List Turn) (history : List Entry) (turns : List Turn)
+    (before after : View) : Type 0 where
   pub legal : IsLegal kept.first history
   pub answers : HasAnswers start after.faults kept.first history
   pub recorded : IsRecorded kept.first history image start after.faults turns

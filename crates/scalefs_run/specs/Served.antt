@@ -49,7 +49,8 @@ pub record IsFirstTree (nodes : ℕ) (old : View) (first : TreeState) : Type 0 w
 -- A run over a script with these phases, in which so many nodes may be made, ended with this status, this history and these turns.
 -- `Source` and `Sink` say that the count of faults of the source or of the sink rose; before and after are what was
 -- written to the sink, old and new are the disk.
-pub record Served (due_by : Judgement → Status) (nodes : ℕ) (phases : List (List Line)) (Source Sink : Type 0) (before after : Option (List ℕ)) (old new : View) (status : Status) (history : List Entry) (turns : List Turn) : Type 0 where
+pub record Served (due_by : Judgement → Status) (nodes : ℕ) (phases : List (List Line)) (Source Sink : Type 0) (before after : Option (List ℕ)) (old new : View)
+    (status : Status) (history : List Entry) (turns : List Turn) : Type 0 where
   -- the status has its cause
   pub caused : IsCaused due_by Source Sink old new status
   -- the tree of the image that was mounted
@@ -73,4 +74,5 @@ pub record Served (due_by : Judgement → Status) (nodes : ℕ) (phases : List (
 -- the same of the script that the source gave
 abbrev pub ServedScript : ℕ → Option (List ℕ) → Type 0 → Type 0 → Option (List ℕ) → Option (List ℕ) → View → View → Status → List Entry → List Turn → Type 0
 ServedScript nodes left Source Sink before after old new status history turns =
-    (script : List ℕ) × IsOf left script × Served (λ judged. due judged script) nodes (phases_in (phases_of script)) Source Sink before after old new status history turns
+    (script : List ℕ) × IsOf left script
+    × Served (λ judged. due judged script) nodes (phases_in (phases_of script)) Source Sink before after old new status history turns

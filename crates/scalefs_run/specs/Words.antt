@@ -62,7 +62,8 @@ command_in (word ∷ []) = if bytes_eq word (codes "run") then Ok (Run NODES) el
 command_in (word ∷ nodes ∷ []) = if bytes_eq word (codes "run") then run_of (number_asked 1 1 MOST_NODES nodes) else Err 0
 command_in (word ∷ blocks ∷ inodes ∷ cores ∷ []) =
     if bytes_eq word (codes "mkfs")
-    then mkfs_of (number_asked 1 LEAST_BLOCKS MOST_BLOCKS blocks) (number_asked 2 LEAST_INODES MOST_INODES inodes) (number_asked 3 1 MOST_CORES cores) else Err 0
+    then mkfs_of (number_asked 1 LEAST_BLOCKS MOST_BLOCKS blocks) (number_asked 2 LEAST_INODES MOST_INODES inodes) (number_asked 3 1 MOST_CORES cores)
+    else Err 0
 command_in _ = Err 0
 
 -- What the words ask for, or the place at which they are bad: 0 where one begins with `-` or they are no command.

@@ -12,7 +12,8 @@ on_second-left : (command : Command) (first node : ℕ) (names : List (List ℕ)
 on_second-left command first node [] = omega arith
 on_second-left command first node (name ∷ names) = omega arith
 
-on_first-left : (command : Command) (node : ℕ) (names : List (List ℕ)) → calls_ahead (on_first command node names) ≡ length names + length (second_walk command) + 1
+on_first-left : (command : Command) (node : ℕ) (names : List (List ℕ))
+    → calls_ahead (on_first command node names) ≡ length names + length (second_walk command) + 1
 on_first-left command node [] = let e = on_second-left command node 0 (second_walk command) in omega arith
 on_first-left command node (name ∷ names) = omega arith
 
@@ -36,7 +37,8 @@ go_on-left (Second command first node name names) commands = refl
 go_on-left (Last last) commands = refl
 
 -- A reply leaves fewer calls to a worker, so it comes to its end.
-pub calls_left-falls : (position : Position) (reply : Reply) (call : Call) → call_of position.walk ≡ Some call → calls_left (taken position reply) < calls_left position
+pub calls_left-falls : (position : Position) (reply : Reply) (call : Call) → call_of position.walk ≡ Some call
+    → calls_left (taken position reply) < calls_left position
 calls_left-falls position reply call e =
     let falls = after-left position.walk reply call e in
     let goes = go_on-left (after position.walk reply) position.later in

@@ -15,15 +15,20 @@ use Rattle.script.proofs.EndLemmas.{calls_left-falls, calls_left-started}
 use Rattle.script.proofs.FollowLemmas.{position_after-more, IsPart-whole}
 
 -- where a worker stands after one more entry
-after_entry : (commands : List Command) (before : List Entry) (entry : Entry) → position_after commands (replies_of (before ++ entry ∷ [])) ≡ taken (position_after commands (replies_of before)) entry.reply
-after_entry commands before entry = ap (position_after commands) (map-append (λ e. e.reply) before (entry ∷ [])) ∙ position_after-more commands (replies_of before) entry.reply
+after_entry : (commands : List Command) (before : List Entry) (entry : Entry)
+    → position_after commands (replies_of (before ++ entry ∷ [])) ≡ taken (position_after commands (replies_of before)) entry.reply
+after_entry commands before entry =
+    ap (position_after commands) (map-append (λ e. e.reply) before (entry ∷ [])) ∙ position_after-more commands (replies_of before) entry.reply
 
 -- entries behind others are no more than the calls left
-behind-few : (commands : List Command) (before entries : List Entry) → MakesBehind commands before entries → length entries ≤ calls_left (position_after commands (replies_of before))
+behind-few : (commands : List Command) (before entries : List Entry) → MakesBehind commands before entries
+    → length entries ≤ calls_left (position_after commands (replies_of before))
 behind-few commands before [] made = omega arith
 behind-few commands before (entry ∷ entries) made =
     let later = behind-few commands (before ++ entry ∷ []) entries made.1 in
-    let same : calls_left (position_after commands (replies_of (before ++ entry ∷ []))) ≡ calls_left (taken (position_after commands (replies_of before)) entry.reply) = ap calls_left (after_entry commands before entry) in
+    let same : calls_left (position_after commands (replies_of (before ++ entry ∷ [])))
+    ≡ calls_left (taken (position_after commands (replies_of before)) entry.reply) =
+    ap calls_left (after_entry commands before entry) in
     let falls = calls_left-falls (position_after commands (replies_of before)) entry.reply entry.call made.0 in
     omega (arith, later, same, falls)
 
@@ -84,8 +89,15 @@ above [] = 0
 above (entry ∷ entries) = suc entry.core.0 + above entries
 
 -- how many entries of a core there are, with one more
-count_more : (entry : Entry) (entries : List Entry) (core : ℕ) → length (core_entries core (entry ∷ entries)) ≡ at entry.core.0 1 core + length (core_entries core entries)
-count_more entry entries core = elim (nat_eq entry.core.0 core) as (λ t. length (cond t (entry ∷ core_entries core entries) (core_entries core entries)) ≡ cond t 1 0 + length (core_entries core entries)) [ true ↦ omega arith | false ↦ omega arith ]
+count_more : (entry : Entry) (entries : List Entry) (core : ℕ)
+    → length (core_entries core (entry ∷ entries)) ≡ at entry.core.0 1 core + length (core_entries core entries)
+count_more entry entries core =
+    elim (nat_eq entry.core.0 core) as (λ t. length (cond t (entry ∷ core_entries core entries) (core_entries core entries))
+    ≡ cond t 1 0 + length (core_entries core entries)) [
+      | true ↦
+          omega arith
+      | false ↦ omega arith
+    ]
 
 sum_to-same : (n : ℕ) (f g : ℕ → ℕ) → ((c : ℕ) → f c ≡ g c) → sum_to n f ≡ sum_to n g
 sum_to-same zero f g same = refl
@@ -96,16 +108,21 @@ all_cores : (n : ℕ) (entries : List Entry) → above entries ≤ n → length 
 all_cores n [] below = sym (sum_to-zero n)
 all_cores n (entry ∷ entries) below =
     let before = all_cores n entries (omega arith) in
-    let more = sum_to-same n (λ core. length (core_entries core (entry ∷ entries))) (λ core. at entry.core.0 1 core + length (core_entries core entries)) (count_more entry entries) in
+    let more =
+    sum_to-same n (λ core. length (core_entries core (entry ∷ entries))) (λ core. at entry.core.0 1 core + length (core_entries core entries))
+    (count_more entry entries) in
     let split = sum_to-add n (at entry.core.0 1) (λ core. length (core_entries core entries)) in
     let one = sum_to-at n entry.core.0 1 (omega arith) in
     omega (arith, before, more, split, one)
 
 -- how many calls the commands of a worker make, with one more line
-calls_more : (line : Line) (lines : List Line) (worker : ℕ) → sum_by most_calls (commands_of worker (line ∷ lines)) ≡ at line.worker (most_calls line.command) worker + sum_by most_calls (commands_of worker lines)
+calls_more : (line : Line) (lines : List Line) (worker : ℕ)
+    → sum_by most_calls (commands_of worker (line ∷ lines)) ≡ at line.worker (most_calls line.command) worker + sum_by most_calls (commands_of worker lines)
 calls_more line lines worker =
     let more = sum_by-cons most_calls line.command (commands_of worker lines) in
-    elim (nat_eq line.worker worker) as (λ t. sum_by most_calls (map (λ l. l.command) (cond t (line ∷ filter (λ l. nat_eq l.worker worker) lines) (filter (λ l. nat_eq l.worker worker) lines))) ≡ cond t (most_calls line.command) 0 + sum_by most_calls (commands_of worker lines)) [
+    elim (nat_eq line.worker worker) as (λ t. sum_by most_calls
+    (map (λ l. l.command) (cond t (line ∷ filter (λ l. nat_eq l.worker worker) lines) (filter (λ l. nat_eq l.worker worker) lines)))
+    ≡ cond t (most_calls line.command) 0 + sum_by most_calls (commands_of worker lines)) [
       | true ↦ more
       | false ↦ omega arith
     ]
@@ -115,7 +132,9 @@ all_workers : (n : ℕ) (lines : List Line) → sum_to n (λ worker. sum_by most
 all_workers n [] = let none = sum_to-zero n in omega (arith, none)
 all_workers n (line ∷ lines) =
     let before = all_workers n lines in
-    let more = sum_to-same n (λ worker. sum_by most_calls (commands_of worker (line ∷ lines))) (λ worker. at line.worker (most_calls line.command) worker + sum_by most_calls (commands_of worker lines)) (calls_more line lines) in
+    let more =
+    sum_to-same n (λ worker. sum_by most_calls (commands_of worker (line ∷ lines)))
+    (λ worker. at line.worker (most_calls line.command) worker + sum_by most_calls (commands_of worker lines)) (calls_more line lines) in
     let split = sum_to-add n (at line.worker (most_calls line.command)) (λ worker. sum_by most_calls (commands_of worker lines)) in
     let one = sum_to-at-le n line.worker (most_calls line.command) in
     let sum = sum_by-cons (λ l. most_calls l.command) line lines in
@@ -125,7 +144,9 @@ all_workers n (line ∷ lines) =
 pub IsPart-few : (phase : List Line) (part : List Entry) → IsPartOfPhase phase part → length part ≤ calls_of_lines phase
 IsPart-few phase part made =
     let cores = all_cores (above part) part (omega arith) in
-    let few = sum_to-le (above part) (λ core. length (core_entries core part)) (λ core. sum_by most_calls (commands_of core phase)) (λ core. Makes-few (commands_of core phase) (core_entries core part) (made core)) in
+    let few =
+    sum_to-le (above part) (λ core. length (core_entries core part)) (λ core. sum_by most_calls (commands_of core phase))
+    (λ core. Makes-few (commands_of core phase) (core_entries core part) (made core)) in
     let all = all_workers (above part) phase in
     omega (arith, cores, few, all)
 
@@ -156,7 +177,8 @@ FollowsSoFar-Follows (phase ∷ phases) history follows = inr (record {
 })
 
 -- A history that follows a script so far has no more entries than the script has bytes.
-pub history_within : (text : List ℕ) (phases : List (List Line)) (history : List Entry) → phases_of text ≡ Ok phases → FollowsSoFar phases history → length history ≤ length text
+pub history_within : (text : List ℕ) (phases : List (List Line)) (history : List Entry) → phases_of text ≡ Ok phases → FollowsSoFar phases history
+    → length history ≤ length text
 history_within text phases history read follows =
     let few = FollowsSoFar-few phases history follows in
     let all = calls_within text phases read in

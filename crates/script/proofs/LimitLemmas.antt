@@ -64,7 +64,8 @@ path_names-count (b ∷ bs) =
     elim (nat_eq b 47) as (λ t. count (cond t (names_behind bs) None) ≤ suc (length bs)) [ true ↦ omega (arith, behind) | false ↦ omega arith ]
 
 short_path-count : (names : Option (List (List ℕ))) → count (short_path names) ≤ count names
-short_path-count (Some names) = elim (nat_le (path_length names) 4096) as (λ t. count (cond t (Some names) None) ≤ length names) [ true ↦ omega arith | false ↦ omega arith ]
+short_path-count (Some names) =
+    elim (nat_le (path_length names) 4096) as (λ t. count (cond t (Some names) None) ≤ length names) [ true ↦ omega arith | false ↦ omega arith ]
 short_path-count None = omega arith
 
 named-count : (names : Option (List (List ℕ))) → count (named names) ≤ count names
@@ -93,7 +94,8 @@ parent-count : (path : List (List ℕ)) → length (parent path) ≤ length path
 parent-count path = omega (arith, length-take (length path - 1) path)
 
 -- a command with one path
-one_calls : (make : List (List ℕ) → Command) (read : List ℕ → Option (List (List ℕ))) → ((path : List (List ℕ)) → most_calls (make path) ≤ length path + 1) → ((word : List ℕ) → count (read word) ≤ length word) → (words : List (List ℕ)) → calls (option_map make (one read words)) ≤ total words + 1
+one_calls : (make : List (List ℕ) → Command) (read : List ℕ → Option (List (List ℕ))) → ((path : List (List ℕ)) → most_calls (make path) ≤ length path + 1)
+    → ((word : List ℕ) → count (read word) ≤ length word) → (words : List (List ℕ)) → calls (option_map make (one read words)) ≤ total words + 1
 one_calls make read few short [] = omega arith
 one_calls make read few short (word ∷ []) = let long = short word in let made = make_calls (read word) in omega (arith, long, made)
   where
@@ -103,7 +105,9 @@ one_calls make read few short (word ∷ []) = let long = short word in let made 
 one_calls make read few short (word ∷ other ∷ words) = omega arith
 
 -- a command with two paths
-two_calls : (make : List (List ℕ) → List (List ℕ) → Command) (read : List ℕ → Option (List (List ℕ))) → ((from to : List (List ℕ)) → most_calls (make from to) ≤ length from + length to + 1) → ((word : List ℕ) → count (read word) ≤ length word) → (words : List (List ℕ)) → calls (option_map (λ read. make read.0 read.1) (two read name_path_of words)) ≤ total words + 1
+two_calls : (make : List (List ℕ) → List (List ℕ) → Command) (read : List ℕ → Option (List (List ℕ)))
+    → ((from to : List (List ℕ)) → most_calls (make from to) ≤ length from + length to + 1) → ((word : List ℕ) → count (read word) ≤ length word)
+    → (words : List (List ℕ)) → calls (option_map (λ read. make read.0 read.1) (two read name_path_of words)) ≤ total words + 1
 two_calls make read few short [] = omega arith
 two_calls make read few short (word ∷ []) = omega arith
 two_calls make read few short (first ∷ second ∷ []) =
@@ -124,20 +128,25 @@ trunc_calls [] = omega arith
 trunc_calls (word ∷ []) = omega arith
 trunc_calls (first ∷ second ∷ []) = let long = path_of-count first in let made = make_calls (path_of first) (offset_of second) in omega (arith, long, made)
   where
-    make_calls : (path : Option (List (List ℕ))) (size : Option ℕ) → calls (option_map (λ read. command.Trunc read.0 read.1) (option_zip path size)) ≤ count path + 1
+    make_calls : (path : Option (List (List ℕ))) (size : Option ℕ)
+        → calls (option_map (λ read. command.Trunc read.0 read.1) (option_zip path size)) ≤ count path + 1
     make_calls (Some path) (Some size) = omega arith
     make_calls (Some path) None = omega arith
     make_calls None size = omega arith
 trunc_calls (first ∷ second ∷ third ∷ words) = omega arith
 
 -- a write or a read
-three_calls : {A : Type 0} (make : List (List ℕ) → ℕ → A → Command) (read : List ℕ → Option A) → ((path : List (List ℕ)) (at : ℕ) (last : A) → most_calls (make path at last) ≤ length path + 1) → (words : List (List ℕ)) → calls (option_map (λ read. make read.0 read.1 read.2) (three path_of offset_of read words)) ≤ total words + 1
+three_calls : {A : Type 0} (make : List (List ℕ) → ℕ → A → Command) (read : List ℕ → Option A)
+    → ((path : List (List ℕ)) (at : ℕ) (last : A) → most_calls (make path at last) ≤ length path + 1) → (words : List (List ℕ))
+    → calls (option_map (λ read. make read.0 read.1 read.2) (three path_of offset_of read words)) ≤ total words + 1
 three_calls make read few [] = omega arith
 three_calls make read few (word ∷ []) = omega arith
 three_calls make read few (first ∷ second ∷ []) = omega arith
-three_calls {A = A} make read few (first ∷ second ∷ third ∷ []) = let long = path_of-count first in let made = make_calls (path_of first) (offset_of second) (read third) in omega (arith, long, made)
+three_calls {A = A} make read few (first ∷ second ∷ third ∷ []) = let long = path_of-count first in
+    let made = make_calls (path_of first) (offset_of second) (read third) in omega (arith, long, made)
   where
-    make_calls : (path : Option (List (List ℕ))) (at : Option ℕ) (last : Option A) → calls (option_map (λ read. make read.0 read.1 read.2) (all_three path at last)) ≤ count path + 1
+    make_calls : (path : Option (List (List ℕ))) (at : Option ℕ) (last : Option A)
+        → calls (option_map (λ read. make read.0 read.1 read.2) (all_three path at last)) ≤ count path + 1
     make_calls (Some path) (Some at) (Some last) = few path at last
     make_calls (Some path) (Some at) None = omega arith
     make_calls (Some path) None last = omega arith
@@ -151,7 +160,9 @@ command_calls Mkdir words = one_calls command.Mkdir name_path_of (λ path. let f
 command_calls Link words = two_calls command.Link path_of (λ from to. let few = parent-count to in omega (arith, few)) path_of-count words
 command_calls Unlink words = one_calls command.Unlink name_path_of (λ path. let few = parent-count path in omega (arith, few)) name_path_of-count words
 command_calls Rmdir words = one_calls command.Rmdir name_path_of (λ path. let few = parent-count path in omega (arith, few)) name_path_of-count words
-command_calls Rename words = two_calls command.Rename name_path_of (λ from to. let few = parent-count from in let also = parent-count to in omega (arith, few, also)) name_path_of-count words
+command_calls Rename words =
+    two_calls command.Rename name_path_of
+    (λ from to. let few = parent-count from in let also = parent-count to in omega (arith, few, also)) name_path_of-count words
 command_calls Write words = three_calls command.Write hex_bytes (λ path at last. omega arith) words
 command_calls Read words = three_calls command.Read read_count (λ path at last. omega arith) words
 command_calls Trunc words = trunc_calls words
@@ -199,9 +210,17 @@ kind_of_line-calls (b ∷ bs) =
     let all = parts_total 32 (b ∷ bs) in
     let same = does_calls (line_in (words (b ∷ bs))) in
     let within : kind_calls (option_map Does (line_in (words (b ∷ bs)))) ≤ suc (length bs) = omega (arith, made, all, same) in
-    elim (nat_eq b 35) as (λ t. kind_calls (cond t (Some Skipped) (cond (bytes_eq (b ∷ bs) (codes "---")) (Some Ends) (option_map Does (line_in (words (b ∷ bs)))))) ≤ suc (length bs)) [
+    elim (nat_eq b 35) as (λ t. kind_calls
+    (cond t (Some Skipped) (cond (bytes_eq (b ∷ bs) (codes "---")) (Some Ends) (option_map Does (line_in (words (b ∷ bs))))))
+    ≤ suc (length bs)) [
       | true ↦ omega arith
-      | false ↦ elim (bytes_eq (b ∷ bs) (codes "---")) as (λ t. kind_calls (cond t (Some Ends) (option_map Does (line_in (words (b ∷ bs))))) ≤ suc (length bs)) [ true ↦ omega arith | false ↦ within ]
+      | false ↦
+          elim (bytes_eq (b ∷ bs) (codes "---")) as (λ t. kind_calls (cond t (Some Ends) (option_map Does (line_in (words (b ∷ bs)))))
+          ≤ suc (length bs)) [
+            | true ↦
+                omega arith
+            | false ↦ within
+          ]
     ]
 
 -- how many calls phases make at most, where there are some
@@ -211,9 +230,16 @@ read_calls (Err number) = 0
 
 longer_calls : (line : Line) (phases : List (List Line)) → calls_of_phases (first_phase_longer line phases) ≡ most_calls line.command + calls_of_phases phases
 longer_calls line [] = omega (arith, sum_by-cons calls_of_lines (line ∷ []) [], sum_by-cons (λ line. most_calls line.command) line [])
-longer_calls line (phase ∷ phases) = omega (arith, sum_by-cons calls_of_lines (line ∷ phase) phases, sum_by-cons (λ line. most_calls line.command) line phase, sum_by-cons calls_of_lines phase phases)
+longer_calls line (phase ∷ phases) =
+    omega (
+      arith,
+      sum_by-cons calls_of_lines (line ∷ phase) phases,
+      sum_by-cons (λ line. most_calls line.command) line phase,
+      sum_by-cons calls_of_lines phase phases,
+    )
 
-with_line-calls : (number : ℕ) (line_kind : Option LineKind) (later : Result (List (List Line)) ℕ) → read_calls (with_line number line_kind later) ≤ kind_calls line_kind + read_calls later
+with_line-calls : (number : ℕ) (line_kind : Option LineKind) (later : Result (List (List Line)) ℕ)
+    → read_calls (with_line number line_kind later) ≤ kind_calls line_kind + read_calls later
 with_line-calls number None later = omega arith
 with_line-calls number (Some line_kind) (Err line) = omega arith
 with_line-calls number (Some Skipped) (Ok phases) = omega arith

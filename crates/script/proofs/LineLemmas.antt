@@ -10,7 +10,8 @@ use Rattle.std.proofs.lemmas.List.Sums.{fails_before_first}
 use Rattle.script.specs.Lines.{lines, parts, first_longer}
 
 -- a line that ends at a place
-line_at : (bytes : List ℕ) (i : ℕ) → i < length bytes → nat_eq (get_or bytes i 0) 10 ≡ true → ((k : ℕ) → k < i → nat_eq (get_or bytes k 0) 10 ≡ false) → lines bytes ≡ take i bytes ∷ lines (drop (suc i) bytes)
+line_at : (bytes : List ℕ) (i : ℕ) → i < length bytes → nat_eq (get_or bytes i 0) 10 ≡ true → ((k : ℕ) → k < i → nat_eq (get_or bytes k 0) 10 ≡ false)
+    → lines bytes ≡ take i bytes ∷ lines (drop (suc i) bytes)
 line_at [] i lt here before = absurd (omega arith)
 line_at (b ∷ bs) zero lt here before = ap (λ t. cond t ([] ∷ lines bs) (first_longer b (lines bs))) here
 line_at (b ∷ bs) (suc i) lt here before =
@@ -27,7 +28,8 @@ line_open b (c ∷ cs) none =
 -- nothing passes where no first one is found
 pub none_passes : (p : ℕ → Bool) (xs : List ℕ) → position p xs ≡ None → (k : ℕ) → k < length xs → p (get_or xs k 0) ≡ false
 none_passes p xs e k lt =
-    elim (ltb (position_or_len p xs) (length xs)) as (λ t. ltb (position_or_len p xs) (length xs) ≡ t → cond t (Some (position_or_len p xs)) None ≡ None → p (get_or xs k 0) ≡ false) [
+    elim (ltb (position_or_len p xs) (length xs)) as (λ t. ltb (position_or_len p xs) (length xs) ≡ t → cond t (Some (position_or_len p xs)) None ≡ None
+    → p (get_or xs k 0) ≡ false) [
       | true ↦ λ t n. cc
       | false ↦ λ t n. let past = ltb-false _ _ t in fails_before_first p xs k 0 (omega arith)
     ] refl e
@@ -40,7 +42,8 @@ lines_open [] lt e = absurd (omega arith)
 lines_open (b ∷ bs) lt e = line_open b bs (none_passes (λ byte. nat_eq byte 10) (b ∷ bs) e)
 
 -- a part that ends at a place
-part_at : (separator : ℕ) (bytes : List ℕ) (i : ℕ) → i < length bytes → nat_eq (get_or bytes i 0) separator ≡ true → ((k : ℕ) → k < i → nat_eq (get_or bytes k 0) separator ≡ false) → parts separator bytes ≡ take i bytes ∷ parts separator (drop (suc i) bytes)
+part_at : (separator : ℕ) (bytes : List ℕ) (i : ℕ) → i < length bytes → nat_eq (get_or bytes i 0) separator ≡ true
+    → ((k : ℕ) → k < i → nat_eq (get_or bytes k 0) separator ≡ false) → parts separator bytes ≡ take i bytes ∷ parts separator (drop (suc i) bytes)
 part_at s [] i lt here before = absurd (omega arith)
 part_at s (b ∷ bs) zero lt here before = ap (λ t. cond t ([] ∷ parts s bs) (first_longer b (parts s bs))) here
 part_at s (b ∷ bs) (suc i) lt here before =
@@ -54,7 +57,8 @@ part_alone s (b ∷ bs) none =
     ap (λ t. cond t ([] ∷ parts s bs) (first_longer b (parts s bs))) (none zero (omega arith))
     ∙ ap (first_longer b) (part_alone s bs (λ k below. none (suc k) (omega arith)))
 
-pub parts-ended : (separator : ℕ) (bytes : List ℕ) (i : ℕ) → position (λ byte. nat_eq byte separator) bytes ≡ Some i → parts separator bytes ≡ take i bytes ∷ parts separator (drop (suc i) bytes)
+pub parts-ended : (separator : ℕ) (bytes : List ℕ) (i : ℕ) → position (λ byte. nat_eq byte separator) bytes ≡ Some i
+    → parts separator bytes ≡ take i bytes ∷ parts separator (drop (suc i) bytes)
 parts-ended s bytes i e = let at = position-Some (λ byte. nat_eq byte s) bytes i 0 e in part_at s bytes i at.0 at.1 at.2
 
 pub parts_alone : (separator : ℕ) (bytes : List ℕ) → position (λ byte. nat_eq byte separator) bytes ≡ None → parts separator bytes ≡ bytes ∷ []
@@ -75,7 +79,8 @@ split_open bytes front back f b = ap (λ l. l ∷ []) (sym (f ∙ take-length by
 -- there is a first part
 parts_some : (separator : ℕ) (bytes : List ℕ) → 0 < length (parts separator bytes)
 parts_some s [] = omega arith
-parts_some s (b ∷ bs) = elim (nat_eq b s) as (λ t. 0 < length (cond t ([] ∷ parts s bs) (first_longer b (parts s bs)))) [ true ↦ omega arith | false ↦ longer b (parts s bs) ]
+parts_some s (b ∷ bs) =
+    elim (nat_eq b s) as (λ t. 0 < length (cond t ([] ∷ parts s bs) (first_longer b (parts s bs)))) [ true ↦ omega arith | false ↦ longer b (parts s bs) ]
   where
     longer : (b : ℕ) (later : List (List ℕ)) → 0 < length (first_longer b later)
     longer b [] = omega arith
@@ -95,11 +100,13 @@ pub parts_total : (separator : ℕ) (bytes : List ℕ) → total (parts separato
 parts_total s [] = refl
 parts_total s (b ∷ bs) =
     let before = parts_total s bs in
-    elim (nat_eq b s) as (λ t. total (cond t ([] ∷ parts s bs) (first_longer b (parts s bs))) + length (cond t ([] ∷ parts s bs) (first_longer b (parts s bs))) ≡ suc (length bs) + 1) [
+    elim (nat_eq b s) as (λ t. total (cond t ([] ∷ parts s bs) (first_longer b (parts s bs))) + length (cond t ([] ∷ parts s bs) (first_longer b (parts s bs)))
+    ≡ suc (length bs) + 1) [
       | true ↦ omega (arith, before)
       | false ↦ longer b (parts s bs) (length bs) before
     ]
   where
-    longer : (b : ℕ) (later : List (List ℕ)) (n : ℕ) → total later + length later ≡ n + 1 → total (first_longer b later) + length (first_longer b later) ≡ suc n + 1
+    longer : (b : ℕ) (later : List (List ℕ)) (n : ℕ) → total later + length later ≡ n + 1
+        → total (first_longer b later) + length (first_longer b later) ≡ suc n + 1
     longer b [] n e = absurd (omega (arith, e))
     longer b (l ∷ ls) n e = omega (arith, e)

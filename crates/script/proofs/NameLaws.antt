@@ -41,8 +41,10 @@ digit_stands digit text good behind =
     stands digit text (and_first _ _ both) (not_true _ (and_second _ _ both)) behind
 
 -- an escape
-escape_stands : (b : ℕ) (text : List ℕ) → is_name_text text ≡ true → is_name_text (37 ∷ digit_glyph true (b / 16 % 16) ∷ digit_glyph true (b % 16) ∷ text) ≡ true
-escape_stands b text behind = escaped (digit_glyph true (b / 16 % 16)) (digit_glyph true (b % 16)) (good_digit (b / 16 % 16) (omega arith)) (good_digit (b % 16) (omega arith))
+escape_stands : (b : ℕ) (text : List ℕ) → is_name_text text ≡ true
+    → is_name_text (37 ∷ digit_glyph true (b / 16 % 16) ∷ digit_glyph true (b % 16) ∷ text) ≡ true
+escape_stands b text behind =
+    escaped (digit_glyph true (b / 16 % 16)) (digit_glyph true (b % 16)) (good_digit (b / 16 % 16) (omega arith)) (good_digit (b % 16) (omega arith))
   where
     escaped : (high low : ℕ) → is_good_digit high ≡ true → is_good_digit low ≡ true → is_name_text (37 ∷ high ∷ low ∷ text) ≡ true
     escaped high low h l =
@@ -53,7 +55,8 @@ escape_stands b text behind = escaped (digit_glyph true (b / 16 % 16)) (digit_gl
 -- what is written of a byte other than `/`
 byte_stands : (b : ℕ) (text : List ℕ) → (b ≡ 47 → ⊥) → is_name_text text ≡ true → is_name_text (byte_text b ++ text) ≡ true
 byte_stands b text other behind =
-    elim (is_shown b) as (λ t. is_shown b ≡ t → is_name_text (cond t (b ∷ []) (37 ∷ digit_glyph true (b / 16 % 16) ∷ digit_glyph true (b % 16) ∷ []) ++ text) ≡ true) [
+    elim (is_shown b) as (λ t. is_shown b ≡ t
+    → is_name_text (cond t (b ∷ []) (37 ∷ digit_glyph true (b / 16 % 16) ∷ digit_glyph true (b % 16) ∷ []) ++ text) ≡ true) [
       | true ↦ λ shown.
           let within : (nat_le 33 b && nat_le b 126) ≡ true = and_first _ _ shown in
           let is : is_text_byte b ≡ true = ap (λ t. t && not (nat_eq b 47)) within ∙ ap not (ne_eqb b 47 other) in
@@ -83,7 +86,9 @@ none_bad name named =
 -- What is written of a name is read as that name.
 pub name_read_back : (name : List ℕ) → name_fault name ≡ None → All IsByte name → name_in (name_text name) ≡ Some name
 name_read_back name named small =
-    let other = λ (k : ℕ) (lt : k < length name). eqb-false (get_or name k 0) 47 (or_second (nat_eq (get_or name k 0) 0) _ (none_passes is_bad_byte name (none_bad name named) k lt)) in
+    let other =
+    λ (k : ℕ) (lt : k < length name). eqb-false (get_or name k 0) 47
+    (or_second (nat_eq (get_or name k 0) 0) _ (none_passes is_bad_byte name (none_bad name named) k lt)) in
     let spelled : percent_decode (name_text name) ≡ name = ap percent_decode (sym (percent_encode-name_text name)) ∙ round_trip ESCAPED name refl small in
     ap (λ t. cond (t && is_none (name_fault (percent_decode (name_text name)))) (Some (percent_decode (name_text name))) None) (text_stands name other)
     ∙ ap (λ n. cond (is_none (name_fault n)) (Some n) None) spelled

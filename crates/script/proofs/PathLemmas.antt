@@ -13,17 +13,20 @@ use Rattle.script.specs.Paths.{may_stand, is_name_text, name_in, with_name, name
 use Rattle.script.proofs.LineLemmas.{total, parts_total}
 
 -- the text from a place on: its byte, and the text behind
-pub text_at : (text : List ℕ) (place : ℕ) → place < length text → is_name_text (drop place text) ≡ (may_stand (get_or text place 0) (drop (suc place) text) && is_name_text (drop (suc place) text))
+pub text_at : (text : List ℕ) (place : ℕ) → place < length text
+    → is_name_text (drop place text) ≡ (may_stand (get_or text place 0) (drop (suc place) text) && is_name_text (drop (suc place) text))
 text_at [] place lt = absurd (omega arith)
 text_at (b ∷ bs) zero lt = refl
 text_at (b ∷ bs) (suc place) lt = text_at bs place (omega arith)
 
 -- a byte that may not stand where it does
-pub text_fails : (text : List ℕ) (place : ℕ) → place < length text → is_name_text text ≡ is_name_text (drop place text) → may_stand (get_or text place 0) (drop (suc place) text) ≡ false → false ≡ is_name_text text
+pub text_fails : (text : List ℕ) (place : ℕ) → place < length text → is_name_text text ≡ is_name_text (drop place text)
+    → may_stand (get_or text place 0) (drop (suc place) text) ≡ false → false ≡ is_name_text text
 text_fails text place lt so_far fails = sym (so_far ∙ text_at text place lt ∙ ap (λ t. t && is_name_text (drop (suc place) text)) fails)
 
 -- a byte that may stand where it does
-pub text_goes_on : (text : List ℕ) (place : ℕ) → place < length text → is_name_text text ≡ is_name_text (drop place text) → may_stand (get_or text place 0) (drop (suc place) text) ≡ true → is_name_text text ≡ is_name_text (drop (suc place) text)
+pub text_goes_on : (text : List ℕ) (place : ℕ) → place < length text → is_name_text text ≡ is_name_text (drop place text)
+    → may_stand (get_or text place 0) (drop (suc place) text) ≡ true → is_name_text text ≡ is_name_text (drop (suc place) text)
 text_goes_on text place lt so_far passes = so_far ∙ text_at text place lt ∙ ap (λ t. t && is_name_text (drop (suc place) text)) passes
 
 -- names behind others
@@ -32,7 +35,8 @@ names_behind_front front (Some names) = Some (front ++ names)
 names_behind_front front None = None
 
 -- one more name is read
-pub names_more : (front : List (List ℕ)) (name : List ℕ) (later : Option (List (List ℕ))) → names_behind_front front (with_name (Some name) later) ≡ names_behind_front (front ++ name ∷ []) later
+pub names_more : (front : List (List ℕ)) (name : List ℕ) (later : Option (List (List ℕ)))
+    → names_behind_front front (with_name (Some name) later) ≡ names_behind_front (front ++ name ∷ []) later
 names_more front name (Some names) = ap Some (sym (append_assoc front (name ∷ []) names))
 names_more front name None = refl
 
@@ -55,7 +59,8 @@ decode_third (b ∷ c ∷ []) = omega arith
 decode_third (b ∷ high ∷ low ∷ text) =
     let escaped = decode_third text in
     let plain = decode_third (high ∷ low ∷ text) in
-    elim (is_escape b high low) as (λ t. suc (suc (suc (length text))) ≤ 3 * length (cond t ((16 * digit_value high + digit_value low) ∷ percent_decode text) (b ∷ percent_decode (high ∷ low ∷ text)))) [
+    elim (is_escape b high low) as (λ t. suc (suc (suc (length text)))
+    ≤ 3 * length (cond t ((16 * digit_value high + digit_value low) ∷ percent_decode text) (b ∷ percent_decode (high ∷ low ∷ text)))) [
       | true ↦ omega (arith, escaped)
       | false ↦ omega (arith, plain)
     ]
@@ -82,7 +87,8 @@ abbrev AreNamesOf : ℕ → Option (List (List ℕ)) → Type 0
 AreNamesOf bytes (Some names) = bytes ≤ 3 * spread names
 AreNamesOf bytes None = Unit {0}
 
-with_name-third : (bytes more : ℕ) (name : Option (List ℕ)) (names : Option (List (List ℕ))) → IsNameOf bytes name → AreNamesOf more names → AreNamesOf (bytes + more + 1) (with_name name names)
+with_name-third : (bytes more : ℕ) (name : Option (List ℕ)) (names : Option (List (List ℕ))) → IsNameOf bytes name → AreNamesOf more names
+    → AreNamesOf (bytes + more + 1) (with_name name names)
 with_name-third bytes more (Some name) (Some names) first later = omega (arith, first, later)
 with_name-third bytes more (Some name) None first later = tt
 with_name-third bytes more None names first later = tt
@@ -115,6 +121,8 @@ long_path (b ∷ []) long = absurd (omega arith)
 long_path (b ∷ c ∷ bytes) long =
     let all = parts_total 47 (c ∷ bytes) in
     elim (nat_eq b 47) as (λ t. short_path (cond t (names_in (parts 47 (c ∷ bytes))) None) ≡ None) [
-      | true ↦ long_names (total (parts 47 (c ∷ bytes)) + length (parts 47 (c ∷ bytes))) (names_in (parts 47 (c ∷ bytes))) (omega (arith, all, long)) (names_of-third (parts 47 (c ∷ bytes)))
+      | true ↦
+          long_names (total (parts 47 (c ∷ bytes)) + length (parts 47 (c ∷ bytes))) (names_in (parts 47 (c ∷ bytes))) (omega (arith, all, long))
+          (names_of-third (parts 47 (c ∷ bytes)))
       | false ↦ refl
     ]

@@ -20,7 +20,8 @@ behind so_far (Ok phases) = Ok (so_far.0 ++ longer_front so_far.1 phases)
 behind so_far (Err number) = Err number
 
 -- a line at the front of the phases behind stands at the end of those read
-line_moves : (front : List Line) (line : Line) (phases : List (List Line)) → longer_front front (first_phase_longer line phases) ≡ longer_front (front ++ line ∷ []) phases
+line_moves : (front : List Line) (line : Line) (phases : List (List Line))
+    → longer_front front (first_phase_longer line phases) ≡ longer_front (front ++ line ∷ []) phases
 line_moves front line (phase ∷ phases) = ap (λ lines. lines ∷ phases) (sym (append_assoc front (line ∷ []) phase))
 line_moves [] line [] = refl
 line_moves (first ∷ front) line [] = refl
@@ -31,11 +32,14 @@ front_nil [] = refl
 front_nil (phase ∷ phases) = refl
 
 -- one more line is read
-pub behind_more : (so_far : List (List Line) × List Line) (number : ℕ) (line_kind : LineKind) (later : Result (List (List Line)) ℕ) → behind so_far (with_line number (Some line_kind) later) ≡ behind (with_next line_kind so_far) later
+pub behind_more : (so_far : List (List Line) × List Line) (number : ℕ) (line_kind : LineKind) (later : Result (List (List Line)) ℕ)
+    → behind so_far (with_line number (Some line_kind) later) ≡ behind (with_next line_kind so_far) later
 behind_more so_far number line_kind (Err later) = refl
 behind_more so_far number Skipped (Ok phases) = refl
 behind_more so_far number Ends (Ok phases) =
-    ap Ok (ap (λ lines. so_far.0 ++ lines ∷ phases) (append-nil so_far.1) ∙ ap (λ later. so_far.0 ++ so_far.1 ∷ later) (sym (front_nil phases)) ∙ sym (append_assoc so_far.0 (so_far.1 ∷ []) (longer_front [] phases)))
+    ap Ok
+    (ap (λ lines. so_far.0 ++ lines ∷ phases) (append-nil so_far.1) ∙ ap (λ later. so_far.0 ++ so_far.1 ∷ later) (sym (front_nil phases))
+    ∙ sym (append_assoc so_far.0 (so_far.1 ∷ []) (longer_front [] phases)))
 behind_more so_far number (Does line) (Ok phases) = ap (λ later. Ok (so_far.0 ++ later)) (line_moves so_far.1 line phases)
 
 -- before the first line
@@ -48,7 +52,9 @@ pub behind_all : (so_far : List (List Line) × List Line) → behind so_far (Ok 
 behind_all so_far = ap (λ lines. Ok (so_far.0 ++ lines ∷ [])) (append-nil so_far.1)
 
 -- one more line is read, by what it is
-pub read_more : (all : Result (List (List Line)) ℕ) (old new : List (List Line) × List Line) (number : ℕ) (line_kind : LineKind) (line rest after : List ℕ) → all ≡ behind old (phases_from (number + 1) (lines rest)) → lines rest ≡ line ∷ lines after → Some line_kind ≡ kind_of_line line → new ≡ with_next line_kind old → all ≡ behind new (phases_from (number + 1 + 1) (lines after))
+pub read_more : (all : Result (List (List Line)) ℕ) (old new : List (List Line) × List Line) (number : ℕ) (line_kind : LineKind) (line rest after : List ℕ)
+    → all ≡ behind old (phases_from (number + 1) (lines rest)) → lines rest ≡ line ∷ lines after → Some line_kind ≡ kind_of_line line
+    → new ≡ with_next line_kind old → all ≡ behind new (phases_from (number + 1 + 1) (lines after))
 read_more all old new number line_kind line rest after so_far split is added =
     so_far
     ∙ ap (λ lines. behind old (phases_from (number + 1) lines)) split

@@ -65,7 +65,8 @@ taken_ready position reply ready = go_on_ready (after position.walk reply) posit
 commands_may : (worker : ℕ) (phase : List Line) → LinesMayRun phase → AllByRecursion MayRun (commands_of worker phase)
 commands_may worker [] may = tt
 commands_may worker (line ∷ phase) may =
-    elim (nat_eq line.worker worker) as (λ t. AllByRecursion MayRun (map (λ l. l.command) (cond t (line ∷ filter (λ l. nat_eq l.worker worker) phase) (filter (λ l. nat_eq l.worker worker) phase)))) [
+    elim (nat_eq line.worker worker) as (λ t. AllByRecursion MayRun
+    (map (λ l. l.command) (cond t (line ∷ filter (λ l. nat_eq l.worker worker) phase) (filter (λ l. nat_eq l.worker worker) phase)))) [
       | true ↦ (may.0, commands_may worker phase may.1)
       | false ↦ commands_may worker phase may.1
     ]
@@ -77,7 +78,8 @@ started_ready worker phase may = go_on_ready Done (commands_of worker phase) tt 
 -- a number that is read is at most the bound
 number_within : (most : ℕ) (word : List ℕ) (n : ℕ) → number_up_to most word ≡ Some n → n ≤ most
 number_within most word n e =
-    elim (is_number word && nat_le (value_of word) most) as (λ t. (is_number word && nat_le (value_of word) most) ≡ t → cond t (Some (value_of word)) None ≡ Some n → n ≤ most) [
+    elim (is_number word && nat_le (value_of word) most) as (λ t. (is_number word && nat_le (value_of word) most) ≡ t
+    → cond t (Some (value_of word)) None ≡ Some n → n ≤ most) [
       | true ↦ λ t f. let is : value_of word ≡ n = cc in let le = and_second (is_number word) (nat_le (value_of word) most) t in grind (arith, nat_tests)
       | false ↦ λ t f. absurd (none_some f)
     ] refl e
@@ -94,7 +96,8 @@ some_may : (found : Option Command) (command : Command) → SomeMay found → fo
 some_may (Some given) command may e = let is : given ≡ command = cc in subst MayRun is may
 some_may None command may e = absurd (let never : None ≡ Some command = e in cc)
 
-read_may : (path : Option (List (List ℕ))) (at count : Option ℕ) → ((n : ℕ) → count ≡ Some n → n ≤ 65536) → SomeMay (option_map (λ read. command.Read read.0 read.1 read.2) (all_three path at count))
+read_may : (path : Option (List (List ℕ))) (at count : Option ℕ) → ((n : ℕ) → count ≡ Some n → n ≤ 65536)
+    → SomeMay (option_map (λ read. command.Read read.0 read.1 read.2) (all_three path at count))
 read_may (Some path) (Some at) (Some count) within = within count refl
 read_may (Some path) (Some at) None within = tt
 read_may (Some path) None count within = tt
@@ -159,7 +162,8 @@ does_may None may = tt
 kind_may : (line : List ℕ) → KindMay (kind_of_line line)
 kind_may [] = tt
 kind_may (byte ∷ bytes) =
-    elim (nat_eq byte 35) as (λ t. KindMay (cond t (Some Skipped) (cond (bytes_eq (byte ∷ bytes) (codes "---")) (Some Ends) (option_map Does (line_in (words (byte ∷ bytes))))))) [
+    elim (nat_eq byte 35) as (λ t. KindMay
+    (cond t (Some Skipped) (cond (bytes_eq (byte ∷ bytes) (codes "---")) (Some Ends) (option_map Does (line_in (words (byte ∷ bytes))))))) [
       | true ↦ tt
       | false ↦ elim (bytes_eq (byte ∷ bytes) (codes "---")) as (λ t. KindMay (cond t (Some Ends) (option_map Does (line_in (words (byte ∷ bytes)))))) [
         | true ↦ tt
@@ -167,11 +171,13 @@ kind_may (byte ∷ bytes) =
       ]
     ]
 
-longer_may : (line : Line) (phases : List (List Line)) → MayRun line.command → AllByRecursion LinesMayRun phases → AllByRecursion LinesMayRun (first_phase_longer line phases)
+longer_may : (line : Line) (phases : List (List Line)) → MayRun line.command → AllByRecursion LinesMayRun phases
+    → AllByRecursion LinesMayRun (first_phase_longer line phases)
 longer_may line [] may all = ((may, tt), tt)
 longer_may line (phase ∷ phases) may all = ((may, all.0), all.1)
 
-added_may : (line_kind : LineKind) (phases : List (List Line)) → KindMay (Some line_kind) → AllByRecursion LinesMayRun phases → AllByRecursion LinesMayRun (with_line_kind line_kind phases)
+added_may : (line_kind : LineKind) (phases : List (List Line)) → KindMay (Some line_kind) → AllByRecursion LinesMayRun phases
+    → AllByRecursion LinesMayRun (with_line_kind line_kind phases)
 added_may Skipped phases may all = all
 added_may Ends phases may all = (tt, all)
 added_may (Does line) phases may all = longer_may line phases may all
@@ -181,14 +187,17 @@ abbrev ReadMay : Result (List (List Line)) ℕ → Type 0
 ReadMay (Ok phases) = AllByRecursion LinesMayRun phases
 ReadMay (Err line) = Unit {0}
 
-with_line_may : (number : ℕ) (line_kind : Option LineKind) (behind : Result (List (List Line)) ℕ) → KindMay line_kind → ReadMay behind → ReadMay (with_line number line_kind behind)
+with_line_may : (number : ℕ) (line_kind : Option LineKind) (behind : Result (List (List Line)) ℕ) → KindMay line_kind → ReadMay behind
+    → ReadMay (with_line number line_kind behind)
 with_line_may number None behind may all = tt
 with_line_may number (Some line_kind) (Ok phases) may all = added_may line_kind phases may all
 with_line_may number (Some line_kind) (Err later) may all = tt
 
 from_may : (number : ℕ) (ls : List (List ℕ)) → ReadMay (phases_from number ls)
 from_may number [] = (tt, tt)
-from_may number (line ∷ later) = with_line_may number (kind_of_line line) (phases_from (Rattle.std.proofs.Common.suc number) later) (kind_may line) (from_may (Rattle.std.proofs.Common.suc number) later)
+from_may number (line ∷ later) =
+    with_line_may number (kind_of_line line) (phases_from (Rattle.std.proofs.Common.suc number) later) (kind_may line)
+    (from_may (Rattle.std.proofs.Common.suc number) later)
 
 -- Every command of a script that is read is within its bounds.
 pub phases_may : (text : List ℕ) (phases : List (List Line)) → phases_of text ≡ Ok phases → AllByRecursion LinesMayRun phases

@@ -46,14 +46,16 @@ tested p from (suc n) b all low high =
 above : (b : ℕ) → 128 ≤ b → should_percent_encode ESCAPED b ≡ not (is_shown b)
 unfolding should_percent_encode
 above b high =
-    let shown : is_shown b ≡ false = ap (λ t. nat_le 33 b && t && not (nat_eq b 37)) (lt-leb b 126 (omega arith)) ∙ ap (λ t. t && not (nat_eq b 37)) (and_false (nat_le 33 b)) in
+    let shown : is_shown b ≡ false =
+    ap (λ t. nat_le 33 b && t && not (nat_eq b 37)) (lt-leb b 126 (omega arith)) ∙ ap (λ t. t && not (nat_eq b 37)) (and_false (nat_le 33 b)) in
     ap (λ t. not t || contains ESCAPED b) (le-ltb b 128 high) ∙ ap not (sym shown)
 
 -- a byte is escaped exactly where it does not stand for itself
 pub escaped : (b : ℕ) → should_percent_encode ESCAPED b ≡ not (is_shown b)
 escaped b =
     elim (nat_lt b 128) as (λ t. nat_lt b 128 ≡ t → should_percent_encode ESCAPED b ≡ not (is_shown b)) [
-      | true ↦ λ t. let low = ltb-true b 128 t in same _ _ (tested (λ b. same_bool (should_percent_encode ESCAPED b) (not (is_shown b))) 0 128 b all_same (omega arith) (omega arith))
+      | true ↦ λ t. let low = ltb-true b 128 t in
+          same _ _ (tested (λ b. same_bool (should_percent_encode ESCAPED b) (not (is_shown b))) 0 128 b all_same (omega arith) (omega arith))
       | false ↦ λ t. above b (ltb-false b 128 t)
     ] refl
 
@@ -65,22 +67,32 @@ percent_encode-name_text name = ap (λ f. flat_map f name) (λ i b. one b i)
     one : (b : ℕ) → encode_byte ESCAPED b ≡ byte_text b
     one b =
         ap (λ t. cond t (percent_encode_byte b) (b ∷ [])) (escaped b)
-        ∙ elim (is_shown b) as (λ t. cond (not t) (percent_encode_byte b) (b ∷ []) ≡ cond t (b ∷ []) (37 ∷ digit_glyph true (b / 16 % 16) ∷ digit_glyph true (b % 16) ∷ [])) [ true ↦ refl | false ↦ refl ]
+        ∙ elim (is_shown b) as (λ t. cond (not t) (percent_encode_byte b) (b ∷ [])
+        ≡ cond t (b ∷ []) (37 ∷ digit_glyph true (b / 16 % 16) ∷ digit_glyph true (b % 16) ∷ [])) [
+          | true ↦
+              refl
+          | false ↦ refl
+        ]
 
 -- one more entry is written
-pub entry_more : (history : List Entry) (cursor next : ℕ) (entry : Entry) (old new : List ℕ) → Some entry ≡ slice_get history cursor → next ≡ cursor + 1 → old ≡ flat_map entry_text (take cursor history) → new ≡ old ++ entry_text entry → new ≡ flat_map entry_text (take next history)
+pub entry_more : (history : List Entry) (cursor next : ℕ) (entry : Entry) (old new : List ℕ) → Some entry ≡ slice_get history cursor → next ≡ cursor + 1
+    → old ≡ flat_map entry_text (take cursor history) → new ≡ old ++ entry_text entry → new ≡ flat_map entry_text (take next history)
 entry_more history cursor next entry old new found moved before after =
     let within = slice_get_within history cursor entry (sym found) in
     after ∙ ap (λ l. l ++ entry_text entry) before
     ∙ flat_map_more entry_text [] (take cursor history) entry
-    ∙ ap (flat_map entry_text) (ap (λ e. take cursor history ++ e ∷ []) (sym (get_or_from_slice_get history cursor entry entry (sym found))) ∙ sym (take_more history cursor entry within) ∙ ap (λ n. take n history) (sym moved))
+    ∙ ap (flat_map entry_text)
+    (ap (λ e. take cursor history ++ e ∷ []) (sym (get_or_from_slice_get history cursor entry entry (sym found)))
+    ∙ sym (take_more history cursor entry within) ∙ ap (λ n. take n history) (sym moved))
 
 -- all entries are written
-pub entries_all : (history : List Entry) (cursor : ℕ) (text : List ℕ) → None ≡ slice_get history cursor → cursor ≤ length history → text ≡ flat_map entry_text (take cursor history) → text ≡ history_text history
+pub entries_all : (history : List Entry) (cursor : ℕ) (text : List ℕ) → None ≡ slice_get history cursor → cursor ≤ length history
+    → text ≡ flat_map entry_text (take cursor history) → text ≡ history_text history
 entries_all history cursor text none within written =
     elim (nat_lt cursor (length history)) as (λ t. nat_lt cursor (length history) ≡ t → text ≡ history_text history) [
       | true ↦ λ t. absurd (none_some none (slice_get_within_some history cursor (ltb-true _ _ t)))
-      | false ↦ λ t. let past = ltb-false cursor (length history) t in written ∙ ap (flat_map entry_text) (ap (λ n. take n history) (omega arith) ∙ take-length history)
+      | false ↦ λ t. let past = ltb-false cursor (length history) t in
+          written ∙ ap (flat_map entry_text) (ap (λ n. take n history) (omega arith) ∙ take-length history)
     ] refl
   where
     none_some : {o : Option Entry} → None ≡ o → IsSome o → ⊥

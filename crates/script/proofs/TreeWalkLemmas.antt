@@ -24,7 +24,9 @@ use Rattle.script.specs.TreeWalk.{Item, IsGroupIn, line_text, child_item, child_
 
 group_is : (file group : ℕ) (files : List ℕ) → IsGroupIn files file group → group_in files file ≡ group
 group_is file group files at =
-    ap (λ b. unwrap_or (cond b (Some (position_or_len (λ x. nat_eq x file) files)) None) 0) (lt-ltb _ _ (subst (λ g. g < length files) (sym at.place) at.within)) ∙ at.place
+    ap (λ b. unwrap_or (cond b (Some (position_or_len (λ x. nat_eq x file) files)) None) 0)
+    (lt-ltb _ _ (subst (λ g. g < length files) (sym at.place) at.within))
+    ∙ at.place
 
 -- it stands there in a longer list too
 longer : (file group : ℕ) (files more : List ℕ) → IsGroupIn files file group → IsGroupIn (files ++ more) file group
@@ -36,13 +38,15 @@ longer file group files more at = record {
     further : {a b : ℕ} (c : ℕ) → a < b → a < b + c
     further c lt = omega arith
 
-    stays : (xs : List ℕ) → position_or_len (λ x. nat_eq x file) xs < length xs → position_or_len (λ x. nat_eq x file) (xs ++ more) ≡ position_or_len (λ x. nat_eq x file) xs
+    stays : (xs : List ℕ) → position_or_len (λ x. nat_eq x file) xs < length xs
+        → position_or_len (λ x. nat_eq x file) (xs ++ more) ≡ position_or_len (λ x. nat_eq x file) xs
     stays [] lt = absurd (none lt)
       where
         none : 0 < 0 → ⊥
         none lt = omega arith
     stays (x ∷ xs) lt =
-        elim (nat_eq x file) as (λ b. cond (not b) (1 + position_or_len (λ x. nat_eq x file) xs) 0 < suc (length xs) → cond (not b) (1 + position_or_len (λ x. nat_eq x file) (xs ++ more)) 0 ≡ cond (not b) (1 + position_or_len (λ x. nat_eq x file) xs) 0) [
+        elim (nat_eq x file) as (λ b. cond (not b) (1 + position_or_len (λ x. nat_eq x file) xs) 0 < suc (length xs)
+        → cond (not b) (1 + position_or_len (λ x. nat_eq x file) (xs ++ more)) 0 ≡ cond (not b) (1 + position_or_len (λ x. nat_eq x file) xs) 0) [
           | true ↦ λ _. refl
           | false ↦ λ less. ap (λ n. 1 + n) (stays xs (lower less))
         ] lt
@@ -68,14 +72,16 @@ abbrev shown : Met → Item
 shown m = record { path = names_text m.path; node = m.node }
 
 names_more : (path : List (List ℕ)) (name : List ℕ) → names_text (path ++ name ∷ []) ≡ names_text path ++ (codes "/" ++ name_text name)
-names_more path name = flat_map-append (λ n. codes "/" ++ name_text n) path (name ∷ []) ∙ ap (λ t. names_text path ++ t) (append-nil (codes "/" ++ name_text name))
+names_more path name =
+    flat_map-append (λ n. codes "/" ++ name_text n) path (name ∷ []) ∙ ap (λ t. names_text path ++ t) (append-nil (codes "/" ++ name_text name))
 
 map_flat : {A B C : Type 0} (h : B → C) (f : A → List B) (xs : List A) → map h (flat_map f xs) ≡ flat_map (λ x. map h (f x)) xs
 map_flat h f [] = refl
 map_flat h f (x ∷ xs) = map-append h (f x) (flat_map f xs) ∙ ap (λ t. map h (f x) ++ t) (map_flat h f xs)
 
 rows_shown : (steps : ℕ) (tree : TreeState) (path : List (List ℕ)) (node : ℕ)
-    → ((row : List ℕ × ℕ) → map shown (met_from steps tree (path ++ row.0 ∷ []) row.1) ≡ items_from steps tree (record { path = names_text (path ++ row.0 ∷ []); node = row.1 }))
+    → ((row : List ℕ × ℕ)
+    → map shown (met_from steps tree (path ++ row.0 ∷ []) row.1) ≡ items_from steps tree (record { path = names_text (path ++ row.0 ∷ []); node = row.1 }))
     → (rows : List (List ℕ × ℕ)) → flat_map (λ (row : List ℕ × ℕ). map shown (met_from steps tree (path ++ row.0 ∷ []) row.1)) rows
     ≡ flat_map (λ (row : List ℕ × ℕ). items_from steps tree (child_item (record { path = names_text path; node = node }) row)) rows
 rows_shown steps tree path node each [] = refl
@@ -85,7 +91,8 @@ rows_shown steps tree path node each (row ∷ rows) =
     (rows_shown steps tree path node each rows)
 
 -- the walk of a shape, with paths as text, is the walk of items
-shown_from : (steps : ℕ) (tree : TreeState) (path : List (List ℕ)) (node : ℕ) → map shown (met_from steps tree path node) ≡ items_from steps tree (record { path = names_text path; node = node })
+shown_from : (steps : ℕ) (tree : TreeState) (path : List (List ℕ)) (node : ℕ)
+    → map shown (met_from steps tree path node) ≡ items_from steps tree (record { path = names_text path; node = node })
 shown_from zero tree path node = refl
 shown_from (suc steps) tree path node =
     let rows = cond (is_directory tree node) (entries (names_of node tree.rows)) [] in
@@ -100,7 +107,9 @@ shown_path_is [] = refl
 shown_path_is (name ∷ names) = refl
 
 line_shown : (tree : TreeState) (files : List ℕ) (m : Met) → met_text tree files m ≡ line_text tree files (shown m)
-line_shown tree files m = ap (λ path. cond (is_directory tree m.node) (directory_text tree path m.node) (file_text tree (group_in files m.node) path m.node)) (sym (shown_path_is m.path))
+line_shown tree files m =
+    ap (λ path. cond (is_directory tree m.node) (directory_text tree path m.node) (file_text tree (group_in files m.node) path m.node))
+    (sym (shown_path_is m.path))
 
 lines_shown : (tree : TreeState) (files : List ℕ) (ms : List Met) → flat_map (met_text tree files) ms ≡ flat_map (line_text tree files) (map shown ms)
 lines_shown tree files [] = refl
@@ -118,7 +127,9 @@ root_item = record { path = []; node = 0 }
 pub walk_begins : (tree : TreeState) → IsWalk tree [] [] (root_item ∷ [])
 walk_begins tree = record {
   written = ap (flat_map (line_text tree (files_met tree))) (all tree) ∙ sym (lines_shown tree (files_met tree) (met tree));
-  found = ap (λ items. files_then tree [] items) (all tree) ∙ ap (λ nodes. fold with_file [] (filter (λ node. not (is_directory tree node)) nodes)) (sym (nodes_shown (met tree)));
+  found =
+      ap (λ items. files_then tree [] items) (all tree)
+      ∙ ap (λ nodes. fold with_file [] (filter (λ node. not (is_directory tree node)) nodes)) (sym (nodes_shown (met tree)));
   reached = (λ directory. ([], at_root), tt);
 }
   where
@@ -132,7 +143,8 @@ walk_ends tree text files walk = sym (append-nil text) ∙ walk.written
 further : (n s a : ℕ) → n ≤ suc s + a → n ≤ s + suc a
 further n s a le = omega arith
 
-same_by : (f g : Item → List Item) (P : Item → Type 0) → ((item : Item) → P item → f item ≡ g item) → (items : List Item) → AllByRecursion P items → flat_map f items ≡ flat_map g items
+same_by : (f g : Item → List Item) (P : Item → Type 0) → ((item : Item) → P item → f item ≡ g item) → (items : List Item) → AllByRecursion P items
+    → flat_map f items ≡ flat_map g items
 same_by f g P same [] all = refl
 same_by f g P same (item ∷ items) all = ap₂ (λ (a b : List Item). a ++ b) (same item all.0) (same_by f g P same items all.1)
 
@@ -146,7 +158,8 @@ pub items_after : (new old : List Unmet) (one : Unmet) → new ≡ old ++ one �
 items_after new old one put = ap items_of put ∙ ap (map item_of) (reverse-append old (one ∷ []))
 
 -- an item is what its two parts are
-item_is : (one : Unmet) (path : List ℕ) (node : ℕ) → string_bytes one.path ≡ path → one.node.0 ≡ node → ◌≡◌ {A = Item} (item_of one) (record { path = path; node = node })
+item_is : (one : Unmet) (path : List ℕ) (node : ℕ) → string_bytes one.path ≡ path → one.node.0 ≡ node
+    → ◌≡◌ {A = Item} (item_of one) (record { path = path; node = node })
 item_is one path node a b = ap₂ (λ (p : List ℕ) (n : ℕ). let item : Item = record { path = p; node = n } in item) a b
 
 -- a walk that was put together for the root
@@ -163,7 +176,8 @@ drop_at (r ∷ rows) zero row at = ap (λ x. x ∷ rows) (some_same at)
 drop_at (r ∷ rows) (suc k) row at = drop_at rows k row at
 
 -- a child was put before those with names behind its own
-pub child_put : (rows : List (List ℕ × ℕ)) (item : Item) (left k : ℕ) (row : List ℕ × ℕ) (new old : List Unmet) (one : Unmet) (before : List Item) → slice_get rows k ≡ Some row
+pub child_put : (rows : List (List ℕ × ℕ)) (item : Item) (left k : ℕ) (row : List ℕ × ℕ) (new old : List Unmet) (one : Unmet) (before : List Item)
+    → slice_get rows k ≡ Some row
     → left ≡ suc k → new ≡ old ++ one ∷ [] → string_bytes one.path ≡ item.path ++ (codes "/" ++ name_text row.0) → one.node.0 ≡ row.1
     → items_of old ≡ map (child_item item) (drop left rows) ++ before → items_of new ≡ map (child_item item) (drop k rows) ++ before
 child_put rows item left k row new old one before at next put path node were =
@@ -172,7 +186,8 @@ child_put rows item left k row new old one before at next put path node were =
     ∙ ap (λ l. map (child_item item) l ++ before) (sym (drop_at rows k row at))
 
 -- at the begin none was put
-pub none_put : (rows : List (List ℕ × ℕ)) (item : Item) (left : ℕ) (before : List Item) → left ≡ length rows → before ≡ map (child_item item) (drop left rows) ++ before
+pub none_put : (rows : List (List ℕ × ℕ)) (item : Item) (left : ℕ) (before : List Item) → left ≡ length rows
+    → before ≡ map (child_item item) (drop left rows) ++ before
 none_put rows item left before all = ap (λ l. map (child_item item) l ++ before) (sym (ap (λ n. drop n rows) all ∙ drop-length rows))
 
 module _ (tree : TreeState) (sound : IsSound tree) where
@@ -181,7 +196,8 @@ module _ (tree : TreeState) (sound : IsSound tree) where
   IsDeep steps item = is_directory tree item.node ≡ true → (above : List ℕ) × Above tree item.node above × (len tree.rows ≤ steps + length above)
 
   -- each row of a directory has a P that each of the tree's rows in it has
-  each_row : (P : List ℕ × ℕ → Type 0) (node : ℕ) → ((name : List ℕ) (child : ℕ) → row_of tree node name ≡ Some child → P (name, child)) → AllByRecursion P (entries (names_of node tree.rows))
+  each_row : (P : List ℕ × ℕ → Type 0) (node : ℕ) → ((name : List ℕ) (child : ℕ) → row_of tree node name ≡ Some child → P (name, child))
+      → AllByRecursion P (entries (names_of node tree.rows))
   each_row P node h =
       each_entry nat_list_cmp_total name_cmp-IsAntisymmetric P (entries (names_of node tree.rows)) (entries_sorted _)
       (λ name child is. h name child (sym (get-names_where node (λ _. true) tree.rows name) ∙ get-entries _ name ∙ is))
@@ -194,17 +210,21 @@ module _ (tree : TreeState) (sound : IsSound tree) where
 
   childless : (item : Item) → IsDeep 0 item → child_items tree item ≡ []
   childless item deep =
-      elim (is_directory tree item.node) as (λ b. is_directory tree item.node ≡ b → map (child_item item) (cond b (entries (names_of item.node tree.rows)) []) ≡ []) [
+      elim (is_directory tree item.node) as (λ b. is_directory tree item.node ≡ b
+      → map (child_item item) (cond b (entries (names_of item.node tree.rows)) []) ≡ []) [
         | true ↦ λ kind.
             let d = deep kind in
-            ap (map (child_item item)) (no_rows (entries (names_of item.node tree.rows)) item.node d.0 d.1 kind (subst (λ n. len tree.rows ≤ n) (zero-add (length d.0)) d.2) (each_row _ item.node (λ name child row. row)))
+            ap (map (child_item item))
+            (no_rows (entries (names_of item.node tree.rows)) item.node d.0 d.1 kind (subst (λ n. len tree.rows ≤ n) (zero-add (length d.0)) d.2)
+            (each_row _ item.node (λ name child row. row)))
         | false ↦ λ kind. refl
       ] refl
 
   -- a child of what is deep enough for one step more is deep enough
   deep_children : (steps : ℕ) (item : Item) → IsDeep (suc steps) item → AllByRecursion (IsDeep steps) (child_items tree item)
   deep_children steps item deep =
-      elim (is_directory tree item.node) as (λ b. is_directory tree item.node ≡ b → AllByRecursion (IsDeep steps) (map (child_item item) (cond b (entries (names_of item.node tree.rows)) []))) [
+      elim (is_directory tree item.node) as (λ b. is_directory tree item.node ≡ b
+      → AllByRecursion (IsDeep steps) (map (child_item item) (cond b (entries (names_of item.node tree.rows)) []))) [
         | true ↦ λ kind.
             let d = deep kind in
             mapped (entries (names_of item.node tree.rows)) (each_row (λ row. IsDeep steps (child_item item row)) item.node (λ name child row child_kind.
@@ -212,7 +232,8 @@ module _ (tree : TreeState) (sound : IsSound tree) where
         | false ↦ λ kind. tt
       ] refl
     where
-      mapped : (rows : List (List ℕ × ℕ)) → AllByRecursion (λ row. IsDeep steps (child_item item row)) rows → AllByRecursion (IsDeep steps) (map (child_item item) rows)
+      mapped : (rows : List (List ℕ × ℕ)) → AllByRecursion (λ row. IsDeep steps (child_item item row)) rows
+          → AllByRecursion (IsDeep steps) (map (child_item item) rows)
       mapped [] all = tt
       mapped (row ∷ rows) all = (all.0, mapped rows all.1)
 
@@ -220,9 +241,12 @@ module _ (tree : TreeState) (sound : IsSound tree) where
   one_step_more : (steps : ℕ) (item : Item) → IsDeep steps item → items_from (suc steps) tree item ≡ items_from steps tree item
   one_step_more zero item deep = ap (λ children. item ∷ flat_map (items_from zero tree) children) (childless item deep)
   one_step_more (suc steps) item deep =
-      ap (λ t. item ∷ t) (same_by (items_from (suc steps) tree) (items_from steps tree) (IsDeep steps) (one_step_more steps) (child_items tree item) (deep_children steps item deep))
+      ap (λ t. item ∷ t)
+      (same_by (items_from (suc steps) tree) (items_from steps tree) (IsDeep steps) (one_step_more steps) (child_items tree item)
+      (deep_children steps item deep))
 
-  more_of_each : (steps : ℕ) (items : List Item) → AllByRecursion (IsDeep steps) items → flat_map (items_from (suc steps) tree) items ≡ flat_map (items_from steps tree) items
+  more_of_each : (steps : ℕ) (items : List Item) → AllByRecursion (IsDeep steps) items
+      → flat_map (items_from (suc steps) tree) items ≡ flat_map (items_from steps tree) items
   more_of_each steps items all = same_by (items_from (suc steps) tree) (items_from steps tree) (IsDeep steps) (one_step_more steps) items all
 
   -- with as many steps as there are rows the children of a node are met with as many
@@ -237,14 +261,16 @@ module _ (tree : TreeState) (sound : IsSound tree) where
       at_most n a = omega arith
 
   -- once a node was met its children are to be met, and then the others
-  next_met : (item : Item) (items : List Item) → IsBelowRoot tree item → still_to_meet tree (item ∷ items) ≡ item ∷ still_to_meet tree (child_items tree item ++ items)
+  next_met : (item : Item) (items : List Item) → IsBelowRoot tree item
+      → still_to_meet tree (item ∷ items) ≡ item ∷ still_to_meet tree (child_items tree item ++ items)
   next_met item items reached =
       ap (λ t. t ++ still_to_meet tree items) (unfolds_by (len tree.rows) item (deep_at_all item reached))
       ∙ ap (λ t. item ∷ t) (sym (flat_map-append (items_from (len tree.rows) tree) (child_items tree item) items))
 
   reached_children : (item : Item) → IsBelowRoot tree item → AllByRecursion (IsBelowRoot tree) (child_items tree item)
   reached_children item reached =
-      elim (is_directory tree item.node) as (λ b. is_directory tree item.node ≡ b → AllByRecursion (IsBelowRoot tree) (map (child_item item) (cond b (entries (names_of item.node tree.rows)) []))) [
+      elim (is_directory tree item.node) as (λ b. is_directory tree item.node ≡ b
+      → AllByRecursion (IsBelowRoot tree) (map (child_item item) (cond b (entries (names_of item.node tree.rows)) []))) [
         | true ↦ λ kind.
             let r = reached kind in
             mapped (entries (names_of item.node tree.rows)) (each_row (λ row. IsBelowRoot tree (child_item item row)) item.node (λ name child row child_kind.
@@ -252,17 +278,21 @@ module _ (tree : TreeState) (sound : IsSound tree) where
         | false ↦ λ kind. tt
       ] refl
     where
-      mapped : (rows : List (List ℕ × ℕ)) → AllByRecursion (λ row. IsBelowRoot tree (child_item item row)) rows → AllByRecursion (IsBelowRoot tree) (map (child_item item) rows)
+      mapped : (rows : List (List ℕ × ℕ)) → AllByRecursion (λ row. IsBelowRoot tree (child_item item row)) rows
+          → AllByRecursion (IsBelowRoot tree) (map (child_item item) rows)
       mapped [] all = tt
       mapped (row ∷ rows) all = (all.0, mapped rows all.1)
 
-  all_append : (first more : List Item) → AllByRecursion (IsBelowRoot tree) first → AllByRecursion (IsBelowRoot tree) more → AllByRecursion (IsBelowRoot tree) (first ++ more)
+  all_append : (first more : List Item) → AllByRecursion (IsBelowRoot tree) first → AllByRecursion (IsBelowRoot tree) more
+      → AllByRecursion (IsBelowRoot tree) (first ++ more)
   all_append [] more all others = others
   all_append (item ∷ first) more all others = (all.0, all_append first more all.1 others)
 
   -- fewer nodes are to be met then
-  pub fewer_to_meet : (item : Item) (items : List Item) → IsBelowRoot tree item → length (still_to_meet tree (child_items tree item ++ items)) < length (still_to_meet tree (item ∷ items))
-  fewer_to_meet item items reached = subst (λ n. length (still_to_meet tree (child_items tree item ++ items)) < n) (sym (ap length (next_met item items reached))) (omega arith)
+  pub fewer_to_meet : (item : Item) (items : List Item) → IsBelowRoot tree item
+      → length (still_to_meet tree (child_items tree item ++ items)) < length (still_to_meet tree (item ∷ items))
+  fewer_to_meet item items reached =
+      subst (λ n. length (still_to_meet tree (child_items tree item ++ items)) < n) (sym (ap length (next_met item items reached))) (omega arith)
 
   -- a directory is met: its line is written, and its children are to be met
   pub directory_met : (text files : List ℕ) (item : Item) (items : List Item) → is_directory tree item.node ≡ true → IsWalk tree text files (item ∷ items)
@@ -271,11 +301,14 @@ module _ (tree : TreeState) (sound : IsSound tree) where
     written =
         append_assoc text (directory_text tree (shown_path item.path) item.node) (flat_map (line_text tree F) rest)
         ∙ ap (λ line. text ++ (line ++ flat_map (line_text tree F) rest))
-        (ap (λ b. cond b (directory_text tree (shown_path item.path) item.node) (file_text tree (group_in F item.node) (shown_path item.path) item.node)) (sym kind))
+        (ap (λ b. cond b (directory_text tree (shown_path item.path) item.node) (file_text tree (group_in F item.node) (shown_path item.path) item.node))
+        (sym kind))
         ∙ ap (λ t. text ++ flat_map (line_text tree F) t) (sym (next_met item items walk.reached.0))
         ∙ walk.written;
     found =
-        ap (λ b. fold with_file files (cond (not b) (item.node ∷ filter file (map (λ (other : Item). other.node) rest)) (filter file (map (λ (other : Item). other.node) rest)))) (sym kind)
+        ap (λ b. fold with_file files
+        (cond (not b) (item.node ∷ filter file (map (λ (other : Item). other.node) rest)) (filter file (map (λ (other : Item). other.node) rest))))
+        (sym kind)
         ∙ ap (λ t. files_then tree files t) (sym (next_met item items walk.reached.0))
         ∙ walk.found;
     reached = all_append (child_items tree item) items (reached_children item walk.reached.0) walk.reached.1;
@@ -291,7 +324,8 @@ module _ (tree : TreeState) (sound : IsSound tree) where
       file node = not (is_directory tree node)
 
   -- a file is met: it is noted, and its line is written, with its place among the files that were met
-  pub file_met : (text files : List ℕ) (group : ℕ) (item : Item) (items : List Item) → is_directory tree item.node ≡ false → IsWalk tree text files (item ∷ items)
+  pub file_met : (text files : List ℕ) (group : ℕ) (item : Item) (items : List Item) → is_directory tree item.node ≡ false
+      → IsWalk tree text files (item ∷ items)
       → IsGroupIn (with_file files item.node) item.node group
       → IsWalk tree (text ++ file_text tree group (shown_path item.path) item.node) (with_file files item.node) items
   file_met text files group item items kind walk at = record {
@@ -299,7 +333,8 @@ module _ (tree : TreeState) (sound : IsSound tree) where
         append_assoc text (file_text tree group (shown_path item.path) item.node) (flat_map (line_text tree F) rest)
         ∙ ap (λ line. text ++ (line ++ flat_map (line_text tree F) rest))
         (ap (λ g. file_text tree g (shown_path item.path) item.node) (sym grouped)
-        ∙ ap (λ b. cond b (directory_text tree (shown_path item.path) item.node) (file_text tree (group_in F item.node) (shown_path item.path) item.node)) (sym kind))
+        ∙ ap (λ b. cond b (directory_text tree (shown_path item.path) item.node) (file_text tree (group_in F item.node) (shown_path item.path) item.node))
+        (sym kind))
         ∙ ap (λ t. text ++ flat_map (line_text tree F) t) (sym here)
         ∙ walk.written;
     found = found;
@@ -317,13 +352,19 @@ module _ (tree : TreeState) (sound : IsSound tree) where
 
       -- a file has no children
       here : still_to_meet tree (item ∷ items) ≡ item ∷ rest
-      here = next_met item items walk.reached.0 ∙ ap (λ b. item ∷ still_to_meet tree (map (child_item item) (cond b (entries (names_of item.node tree.rows)) []) ++ items)) kind
+      here =
+          next_met item items walk.reached.0
+          ∙ ap (λ b. item ∷ still_to_meet tree (map (child_item item) (cond b (entries (names_of item.node tree.rows)) []) ++ items)) kind
 
       found : files_then tree (with_file files item.node) rest ≡ F
       found =
-          ap (λ b. fold with_file files (cond (not b) (item.node ∷ filter file (map (λ (other : Item). other.node) rest)) (filter file (map (λ (other : Item). other.node) rest)))) (sym kind)
+          ap (λ b. fold with_file files
+          (cond (not b) (item.node ∷ filter file (map (λ (other : Item). other.node) rest)) (filter file (map (λ (other : Item). other.node) rest))))
+          (sym kind)
           ∙ ap (λ t. files_then tree files t) (sym here)
           ∙ walk.found
 
       grouped : group_in F item.node ≡ group
-      grouped = subst (λ files. group_in files item.node ≡ group) found (group_is item.node group _ (group_kept item.node group (with_file files item.node) (filter file (map (λ (other : Item). other.node) rest)) at))
+      grouped =
+          subst (λ files. group_in files item.node ≡ group) found
+          (group_is item.node group _ (group_kept item.node group (with_file files item.node) (filter file (map (λ (other : Item). other.node) rest)) at))

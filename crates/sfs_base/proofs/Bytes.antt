@@ -15,11 +15,14 @@ length-zeros count = length-replicate count 0
 
 -- zeros are zeros at every place
 pub get_or-zeros : (count place : ℕ) → get_or (zeros count) place 0 ≡ 0
-get_or-zeros count place = ⊎_elim (λ inside. get_or-replicate count place 0 0 inside) (λ past. get_or_past (zeros count) place 0 (omega (arith, past, length-zeros count))) (cases_lt place count)
+get_or-zeros count place =
+    ⊎_elim (λ inside. get_or-replicate count place 0 0 inside) (λ past. get_or_past (zeros count) place 0 (omega (arith, past, length-zeros count)))
+    (cases_lt place count)
 
 -- how long bytes of another length are
 pub length-resized : (size : ℕ) (bytes : List ℕ) → length (resized size bytes) ≡ size
-length-resized size bytes = omega (arith, length-append (take size bytes) (zeros (size - length bytes)), length-take size bytes, length-zeros (size - length bytes))
+length-resized size bytes =
+    omega (arith, length-append (take size bytes) (zeros (size - length bytes)), length-take size bytes, length-zeros (size - length bytes))
 
 -- the bytes at another length, place by place
 pub get_or-resized : (size : ℕ) (bytes : List ℕ) (place : ℕ) → get_or (resized size bytes) place 0 ≡ cond (ltb place size) (get_or bytes place 0) 0
@@ -29,8 +32,12 @@ get_or-resized size bytes place = ⊎_elim inside past (cases_lt place size)
     inside below =
         let test : ltb place size ≡ true = grind (arith, nat_tests) in
         let short = length-take size bytes in
-        rw test (⊎_elim (λ kept. get_or_append_left (take size bytes) (zeros (size - length bytes)) 0 place (omega (arith, short, kept, below)) ∙ get_or-take size bytes place 0 below)
-        (λ gone. get_or-append_right (take size bytes) (zeros (size - length bytes)) (length (take size bytes)) place 0 refl (omega (arith, short, gone)) ∙ get_or-zeros (size - length bytes) (place - length (take size bytes)) ∙ sym (get_or_past bytes place 0 gone))
+        rw test
+        (⊎_elim
+        (λ kept. get_or_append_left (take size bytes) (zeros (size - length bytes)) 0 place (omega (arith, short, kept, below))
+        ∙ get_or-take size bytes place 0 below)
+        (λ gone. get_or-append_right (take size bytes) (zeros (size - length bytes)) (length (take size bytes)) place 0 refl (omega (arith, short, gone))
+        ∙ get_or-zeros (size - length bytes) (place - length (take size bytes)) ∙ sym (get_or_past bytes place 0 gone))
         (cases_lt place (length bytes)))
 
     past : size ≤ place → get_or (resized size bytes) place 0 ≡ cond (ltb place size) (get_or bytes place 0) 0
@@ -42,10 +49,18 @@ get_or-resized size bytes place = ⊎_elim inside past (cases_lt place size)
 pub length-written : (at : ℕ) (from bytes : List ℕ) → 0 < length from → length (written at from bytes) ≡ max (at + length from) (length bytes)
 length-written at from bytes some =
     let test : eqb (length from) 0 ≡ false = grind (arith, nat_tests) in
-    rw test (omega (arith, length-append (resized at bytes ++ from) (drop (at + length from) bytes), length-append (resized at bytes) from, length-resized at bytes, length-drop (at + length from) bytes))
+    rw test
+    (omega (
+      arith,
+      length-append (resized at bytes ++ from) (drop (at + length from) bytes),
+      length-append (resized at bytes) from,
+      length-resized at bytes,
+      length-drop (at + length from) bytes,
+    ))
 
 -- a file after a write, place by place
-pub get_or-written : (at : ℕ) (from bytes : List ℕ) (place : ℕ) → 0 < length from → get_or (written at from bytes) place 0 ≡ cond (leb at place && ltb place (at + length from)) (get_or from (place - at) 0) (get_or bytes place 0)
+pub get_or-written : (at : ℕ) (from bytes : List ℕ) (place : ℕ) → 0 < length from
+    → get_or (written at from bytes) place 0 ≡ cond (leb at place && ltb place (at + length from)) (get_or from (place - at) 0) (get_or bytes place 0)
 get_or-written at from bytes place some =
     let test : eqb (length from) 0 ≡ false = grind (arith, nat_tests) in
     rw test (⊎_elim before (λ high. ⊎_elim (λ low. inside high low) (λ past. behind high past) (cases_lt place (at + length from))) (cases_lt place at))
@@ -53,7 +68,9 @@ get_or-written at from bytes place some =
     long : length (resized at bytes ++ from) ≡ at + length from
     long = length-append (resized at bytes) from ∙ ap (λ n. n + length from) (length-resized at bytes)
 
-    before : place < at → get_or (resized at bytes ++ from ++ drop (at + length from) bytes) place 0 ≡ cond (leb at place && ltb place (at + length from)) (get_or from (place - at) 0) (get_or bytes place 0)
+    before : place < at
+        → get_or (resized at bytes ++ from ++ drop (at + length from) bytes) place 0
+        ≡ cond (leb at place && ltb place (at + length from)) (get_or from (place - at) 0) (get_or bytes place 0)
     before low =
         let test : leb at place ≡ false = grind (arith, nat_tests) in
         let inner : ltb place at ≡ true = grind (arith, nat_tests) in
@@ -63,7 +80,9 @@ get_or-written at from bytes place some =
         ∙ get_or-resized at bytes place
         ∙ ap (λ b. cond b (get_or bytes place 0) 0) inner)
 
-    inside : at ≤ place → place < at + length from → get_or (resized at bytes ++ from ++ drop (at + length from) bytes) place 0 ≡ cond (leb at place && ltb place (at + length from)) (get_or from (place - at) 0) (get_or bytes place 0)
+    inside : at ≤ place → place < at + length from
+        → get_or (resized at bytes ++ from ++ drop (at + length from) bytes) place 0
+        ≡ cond (leb at place && ltb place (at + length from)) (get_or from (place - at) 0) (get_or bytes place 0)
     inside high low =
         let first : leb at place ≡ true = grind (arith, nat_tests) in
         let second : ltb place (at + length from) ≡ true = grind (arith, nat_tests) in
@@ -71,7 +90,9 @@ get_or-written at from bytes place some =
         (get_or_append_left (resized at bytes ++ from) (drop (at + length from) bytes) 0 place (omega (arith, long, low))
         ∙ get_or-append_right (resized at bytes) from at place 0 (length-resized at bytes) high)
 
-    behind : at ≤ place → at + length from ≤ place → get_or (resized at bytes ++ from ++ drop (at + length from) bytes) place 0 ≡ cond (leb at place && ltb place (at + length from)) (get_or from (place - at) 0) (get_or bytes place 0)
+    behind : at ≤ place → at + length from ≤ place
+        → get_or (resized at bytes ++ from ++ drop (at + length from) bytes) place 0
+        ≡ cond (leb at place && ltb place (at + length from)) (get_or from (place - at) 0) (get_or bytes place 0)
     behind high past =
         let first : leb at place ≡ true = grind (arith, nat_tests) in
         let second : ltb place (at + length from) ≡ false = grind (arith, nat_tests) in

@@ -8,7 +8,8 @@ pub take_front : (moved behind : List ℕ) (count : ℕ) → length moved ≡ co
 take_front moved behind count e = grind (arith, common_steps)
 
 -- what is left from a place on is what the buffer's front has, and then what is left from behind it on
-pub takes_front : (bytes moved behind : List ℕ) (at count : ℕ) → moved ≡ take (at + count - at) (drop at bytes) → at + count ≤ length bytes → drop at bytes ≡ take count (moved ++ behind) ++ drop (at + count) bytes
+pub takes_front : (bytes moved behind : List ℕ) (at count : ℕ) → moved ≡ take (at + count - at) (drop at bytes) → at + count ≤ length bytes
+    → drop at bytes ≡ take count (moved ++ behind) ++ drop (at + count) bytes
 takes_front bytes moved behind at count e fits =
     let same : at + count - at ≡ count = omega arith in
     let front : moved ≡ take count (drop at bytes) = e ∙ ap (λ n. take n (drop at bytes)) same in

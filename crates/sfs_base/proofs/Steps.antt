@@ -7,7 +7,8 @@ use Rattle.std.proofs.lemmas.Grind.{common_steps}
 use Rattle.std.specs.Io.KnownBytes.{Consumes, Appends, Keeps, IsAtEnd}
 
 -- what was consumed, and then what was consumed of the rest
-pub Consumes-more : (before between after : Option (List ℕ)) (taken more : List ℕ) → Consumes before between taken → Consumes between after more → Consumes before after (taken ++ more)
+pub Consumes-more : (before between after : Option (List ℕ)) (taken more : List ℕ) → Consumes before between taken → Consumes between after more
+    → Consumes before after (taken ++ more)
 Consumes-more None between after taken more first next = tt
 Consumes-more (Some bytes) None after taken more first next = absurd first
 Consumes-more (Some bytes) (Some rest) None taken more first next = absurd next
@@ -20,7 +21,8 @@ Consumes-none (Some bytes) = refl
 Consumes-none None = tt
 
 -- what is kept and then consumed
-pub Consumes-kept : (before between after : Option (List ℕ)) (taken : List ℕ) → Keeps before between → Consumes between after taken → Consumes before after taken
+pub Consumes-kept : (before between after : Option (List ℕ)) (taken : List ℕ) → Keeps before between → Consumes between after taken
+    → Consumes before after taken
 Consumes-kept None between after taken kept next = tt
 Consumes-kept (Some bytes) None after taken kept next = absurd kept
 Consumes-kept (Some bytes) (Some rest) None taken kept next = absurd next
@@ -45,7 +47,8 @@ Appends-kept (Some bytes) (Some rest) None added kept next = absurd next
 Appends-kept (Some bytes) (Some rest) (Some left) added kept next = next ∙ ap (λ (xs : List ℕ). xs ++ added) kept
 
 -- what was appended, and then kept
-pub Appends-then-kept : (before between after : Option (List ℕ)) (added : List ℕ) → Appends before between added → Keeps between after → Appends before after added
+pub Appends-then-kept : (before between after : Option (List ℕ)) (added : List ℕ) → Appends before between added → Keeps between after
+    → Appends before after added
 Appends-then-kept None between after added first kept = tt
 Appends-then-kept (Some bytes) None after added first kept = absurd first
 Appends-then-kept (Some bytes) (Some rest) None added first kept = absurd kept
@@ -57,7 +60,8 @@ Appends-none None bytes = tt
 Appends-none (Some written) bytes = sym (append-nil written)
 
 -- the front of the bytes was appended, and then the front of the rest
-pub Appends-more : (bytes : List ℕ) (at count : ℕ) (start before after : Option (List ℕ)) → Appends start before (take at bytes) → Appends before after (take count (take (length bytes - at) (drop at bytes))) → Appends start after (take (at + count) bytes)
+pub Appends-more : (bytes : List ℕ) (at count : ℕ) (start before after : Option (List ℕ)) → Appends start before (take at bytes)
+    → Appends before after (take count (take (length bytes - at) (drop at bytes))) → Appends start after (take (at + count) bytes)
 Appends-more bytes at count None before after first second = tt
 Appends-more bytes at count (Some written) None after first second = absurd first
 Appends-more bytes at count (Some written) (Some middle) None first second = absurd second
@@ -69,14 +73,16 @@ Appends-more bytes at count (Some written) (Some middle) (Some last) first secon
     ∙ ap (λ (xs : List ℕ). written ++ xs) (sym (take-add at count bytes))
 
 -- what was taken when a read moved nothing is all that was left
-pub Consumes-all : (before between : Option (List ℕ)) (taken : List ℕ) (count : ℕ) → Consumes before between taken → IfSome between (λ bytes. (count ≡ 0) ↔ (bytes ≡ [])) → count ≡ 0 → IfSome before (λ all. taken ≡ all)
+pub Consumes-all : (before between : Option (List ℕ)) (taken : List ℕ) (count : ℕ) → Consumes before between taken
+    → IfSome between (λ bytes. (count ≡ 0) ↔ (bytes ≡ [])) → count ≡ 0 → IfSome before (λ all. taken ≡ all)
 Consumes-all None between taken count consumed ends is = tt
 Consumes-all (Some bytes) None taken count consumed ends is = absurd consumed
 Consumes-all (Some bytes) (Some rest) taken count consumed ends is =
     sym (consumed ∙ ap (λ (xs : List ℕ). taken ++ xs) (ends.0 is) ∙ append-nil taken)
 
 -- a reader moves nothing exactly where nothing is left
-pub ends_there : (start before after : Option (List ℕ)) (count : ℕ) (buffer : List ℕ) → Keeps start before → Consumes before after (take count buffer) → (count ≡ 0 → 0 < length buffer → IsAtEnd after) → count ≤ length buffer → 0 < length buffer
+pub ends_there : (start before after : Option (List ℕ)) (count : ℕ) (buffer : List ℕ) → Keeps start before → Consumes before after (take count buffer)
+    → (count ≡ 0 → 0 < length buffer → IsAtEnd after) → count ≤ length buffer → 0 < length buffer
     → IfSome start (λ bytes. (count ≡ 0) ↔ (bytes ≡ []))
 ends_there None before after count buffer kept consumed end within some = tt
 ends_there (Some bytes) None after count buffer kept consumed end within some = absurd kept

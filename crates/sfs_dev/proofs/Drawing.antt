@@ -43,7 +43,8 @@ undone_one size (Sync) later past f = (record { whole = f.whole; room = f.room }
 undone_one size (Write at count) later past f =
     let s = some_fits size at count (length past.replaced) later f.room in
     let kept : length (last_bytes count past.replaced) ≡ count = omega (arith, length-drop (length past.replaced - count) past.replaced, s.1) in
-    let rest : length (all_but_last count past.replaced) ≡ length past.replaced - count = length-take-le (length past.replaced - count) past.replaced (omega arith) in (
+    let rest : length (all_but_last count past.replaced) ≡ length past.replaced - count =
+    length-take-le (length past.replaced - count) past.replaced (omega arith) in (
       record {
         whole = length-put at (last_bytes count past.replaced) past.content (omega (arith, kept, s.0, f.whole)) ∙ f.whole;
         room = ap (λ (n : ℕ). fits size later n) rest ∙ s.2;
@@ -62,7 +63,8 @@ wrote-append (act ∷ a) b = omega (arith, wrote-cons act (a ++ b), wrote-cons a
 
 pub wrote-reverse : (a : List Act) → wrote (reverse a) ≡ wrote a
 wrote-reverse [] = refl
-wrote-reverse (act ∷ a) = ap wrote (reverse-append (act ∷ []) a) ∙ wrote-append (reverse a) (act ∷ []) ∙ (let h = wrote-reverse a in omega (arith, wrote-cons act a, h))
+wrote-reverse (act ∷ a) =
+    ap wrote (reverse-append (act ∷ []) a) ∙ wrote-append (reverse a) (act ∷ []) ∙ (let h = wrote-reverse a in omega (arith, wrote-cons act a, h))
 
 -- calls undone
 pub undone_fits : (size : ℕ) (earlier later : List Act) (past : Past) → Fits size (earlier ++ later) past
@@ -101,20 +103,26 @@ drawn_one size (Write at count) done past written drawn is fit old long =
     let s = some_fits size at count (length past.replaced) done fit.room in
     let new = take count written in
     let kept : length new ≡ count = length-take-le count written (omega arith) in
-    let was : length (part at (length new) drawn.image) ≡ length new = length-take-le (length new) (drop at drawn.image) (omega (arith, length-drop at drawn.image, old.whole, s.0, kept)) in
+    let was : length (part at (length new) drawn.image) ≡ length new =
+    length-take-le (length new) (drop at drawn.image) (omega (arith, length-drop at drawn.image, old.whole, s.0, kept)) in
     let torn = torn_by (next_draw drawn.number) (part at (length new) drawn.image) new in
     let count_is : length torn ≡ count = length-torn (next_draw drawn.number) (part at (length new) drawn.image) new was ∙ kept in
     let within : at + length torn ≤ length drawn.image = omega (arith, count_is, old.whole, s.0) in
     record {
       whole = length-put at torn drawn.image within ∙ old.whole;
-      left = (drawn.image, old.left, subst (λ (n : ℕ). SameOutside at n drawn.image (put at torn drawn.image)) count_is (SameOutside-put at torn drawn.image within));
+      left = (
+        drawn.image,
+        old.left,
+        subst (λ (n : ℕ). SameOutside at n drawn.image (put at torn drawn.image)) count_is (SameOutside-put at torn drawn.image within),
+      );
     }
 
 -- one call more drawn for, and then the others
 draw_writes-cons : (act : Act) (later : List Act) (written : List ℕ) (drawn : Drawn)
     → draw_writes (act ∷ later) written drawn ≡ draw_writes later (drop (wrote (act ∷ [])) written) (draw_writes (act ∷ []) written drawn)
 draw_writes-cons (Read at count) later written drawn = refl
-draw_writes-cons (Write at count) later written drawn = ap (λ (n : ℕ). draw_writes later (drop n written) (draw_write at (take count written) drawn)) (let e : count ≡ count + 0 = omega arith in e)
+draw_writes-cons (Write at count) later written drawn =
+    ap (λ (n : ℕ). draw_writes later (drop n written) (draw_write at (take count written) drawn)) (let e : count ≡ count + 0 = omega arith in e)
 draw_writes-cons Sync later written drawn = refl
 
 -- numbers drawn for all calls
@@ -125,7 +133,8 @@ drawn_all size [] done past written drawn is fit old long = old
 drawn_all size (act ∷ later) done past written drawn is fit old long =
     let parts = and_parts (is_no_sync act) (list_all is_no_sync later) is in
     let turn : reverse (act ∷ later) ≡ reverse later ++ act ∷ [] = reverse-append (act ∷ []) later in
-    let lists : reverse (act ∷ later) ++ done ≡ reverse later ++ act ∷ done = ap (λ (l : List Act). l ++ done) turn ∙ append_assoc (reverse later) (act ∷ []) done in
+    let lists : reverse (act ∷ later) ++ done ≡ reverse later ++ act ∷ done =
+    ap (λ (l : List Act). l ++ done) turn ∙ append_assoc (reverse later) (act ∷ []) done in
     let fit_there : Fits size (reverse later ++ act ∷ done) past = subst (λ (l : List Act). Fits size l past) lists fit in
     let before = undone (reverse later) past in
     let fit_one : Fits size (act ∷ done) before = (undone_fits size (reverse later) (act ∷ done) past fit_there).0 in
@@ -181,12 +190,15 @@ settles (call ∷ calls) content replaced =
     subst (λ (l : List Call). left_after (acts_of (drop (length l) (call ∷ calls))) content replaced content) (sym (take_while-cons is_pending call calls))
     (by (settles calls content replaced) (is_pending call) refl)
   where
-    by : left_after (acts_of (drop (pending_count calls) calls)) content replaced content → (b : Bool) → is_pending call ≡ b → left_after (acts_of (drop (length (cond (is_pending call) (call ∷ take_while is_pending calls) [])) (call ∷ calls))) content replaced content
+    by : left_after (acts_of (drop (pending_count calls) calls)) content replaced content → (b : Bool) → is_pending call ≡ b
+        → left_after (acts_of (drop (length (cond (is_pending call) (call ∷ take_while is_pending calls) [])) (call ∷ calls))) content replaced content
     by rest true is =
-        subst (λ (b : Bool). left_after (acts_of (drop (length (cond b (call ∷ take_while is_pending calls) [])) (call ∷ calls))) content replaced content) (sym is)
+        subst (λ (b : Bool). left_after (acts_of (drop (length (cond b (call ∷ take_while is_pending calls) [])) (call ∷ calls))) content replaced content)
+        (sym is)
         rest
     by rest false is =
-        subst (λ (b : Bool). left_after (acts_of (drop (length (cond b (call ∷ take_while is_pending calls) [])) (call ∷ calls))) content replaced content) (sym is)
+        subst (λ (b : Bool). left_after (acts_of (drop (length (cond b (call ∷ take_while is_pending calls) [])) (call ∷ calls))) content replaced content)
+        (sym is)
         (only_sync call.act (acts_of calls) content replaced is)
 
 -- those after the last sync are none
@@ -196,7 +208,8 @@ pending_no_sync (call ∷ calls) =
     subst (λ (l : List Call). no_sync (acts_of (take (length l) (call ∷ calls))) ≡ true) (sym (take_while-cons is_pending call calls))
     (by (pending_no_sync calls) (is_pending call) refl)
   where
-    by : no_sync (acts_of (take (pending_count calls) calls)) ≡ true → (b : Bool) → is_pending call ≡ b → no_sync (acts_of (take (length (cond (is_pending call) (call ∷ take_while is_pending calls) [])) (call ∷ calls))) ≡ true
+    by : no_sync (acts_of (take (pending_count calls) calls)) ≡ true → (b : Bool) → is_pending call ≡ b
+        → no_sync (acts_of (take (length (cond (is_pending call) (call ∷ take_while is_pending calls) [])) (call ∷ calls))) ≡ true
     by rest true is =
         subst (λ (b : Bool). no_sync (acts_of (take (length (cond b (call ∷ take_while is_pending calls) [])) (call ∷ calls))) ≡ true) (sym is)
         (and_from (is_pending call) (no_sync (acts_of (take (pending_count calls) calls))) is rest)
@@ -209,7 +222,8 @@ pending_within (call ∷ calls) =
     subst (λ (l : List Call). length l ≤ length (call ∷ calls)) (sym (take_while-cons is_pending call calls))
     (by (pending_within calls) (is_pending call) refl)
   where
-    by : pending_count calls ≤ length calls → (b : Bool) → is_pending call ≡ b → length (cond (is_pending call) (call ∷ take_while is_pending calls) []) ≤ length (call ∷ calls)
+    by : pending_count calls ≤ length calls → (b : Bool) → is_pending call ≡ b
+        → length (cond (is_pending call) (call ∷ take_while is_pending calls) []) ≤ length (call ∷ calls)
     by rest true is = subst (λ (b : Bool). length (cond b (call ∷ take_while is_pending calls) []) ≤ length (call ∷ calls)) (sym is) (omega (arith, rest))
     by rest false is = subst (λ (b : Bool). length (cond b (call ∷ take_while is_pending calls) []) ≤ length (call ∷ calls)) (sym is) (omega arith)
 
@@ -268,10 +282,14 @@ module _ (size made : ℕ) (calls : List Call) (content replaced written : List 
   count_is = omega (arith, length-reverse waiting, length-drop settled first_calls, made_is, settled_before)
 
   waiting_is : take (pending_count (reverse first_calls)) (reverse first_calls) ≡ reverse waiting
-  waiting_is = ap (λ (l : List Call). take (pending_count (reverse first_calls)) l) cut ∙ take_at (reverse waiting) (reverse (take settled first_calls)) (pending_count (reverse first_calls)) count_is
+  waiting_is =
+      ap (λ (l : List Call). take (pending_count (reverse first_calls)) l) cut
+      ∙ take_at (reverse waiting) (reverse (take settled first_calls)) (pending_count (reverse first_calls)) count_is
 
   early_is : drop (pending_count (reverse first_calls)) (reverse first_calls) ≡ reverse (take settled first_calls)
-  early_is = ap (λ (l : List Call). drop (pending_count (reverse first_calls)) l) cut ∙ drop_at (reverse waiting) (reverse (take settled first_calls)) (pending_count (reverse first_calls)) count_is
+  early_is =
+      ap (λ (l : List Call). drop (pending_count (reverse first_calls)) l) cut
+      ∙ drop_at (reverse waiting) (reverse (take settled first_calls)) (pending_count (reverse first_calls)) count_is
 
   undone_are : drop settled calls ≡ waiting ++ later
   undone_are =
@@ -314,7 +332,9 @@ module _ (size made : ℕ) (calls : List Call) (content replaced written : List 
 
   long_past : Fits size (acts_of (reverse (take settled first_calls))) past × (length now.replaced ≡ wrote (reverse (acts_of waiting)) + length past.replaced)
   long_past =
-      subst (λ (p : Past). Fits size (acts_of (reverse (take settled first_calls))) p × (length now.replaced ≡ wrote (reverse (acts_of waiting)) + length p.replaced)) (sym past_is)
+      subst (λ (p : Past). Fits size (acts_of (reverse (take settled first_calls))) p
+      × (length now.replaced ≡ wrote (reverse (acts_of waiting)) + length p.replaced))
+      (sym past_is)
       (undone_fits size (reverse (acts_of waiting)) (acts_of (reverse (take settled first_calls))) now fit_waiting)
 
   -- the bytes of the writes that wait are there
@@ -337,9 +357,12 @@ module _ (size made : ℕ) (calls : List Call) (content replaced written : List 
   -- and those that wait drawn for
   pub draw_fits : fits size (acts_of waiting) (length (drop (length past.replaced) written)) ≡ true
   draw_fits =
-      let says = fits_says size (reverse (acts_of waiting)) (length now.replaced) (fits_front size (reverse (acts_of waiting)) (acts_of (reverse (take settled first_calls))) (length now.replaced) fit_waiting.room) in
+      let says =
+      fits_says size (reverse (acts_of waiting)) (length now.replaced)
+      (fits_front size (reverse (acts_of waiting)) (acts_of (reverse (take settled first_calls))) (length now.replaced) fit_waiting.room) in
       let turned_back = list_all-reverse (lies_in size) (reverse (acts_of waiting)) says.0 in
-      fits_where size (acts_of waiting) (length (drop (length past.replaced) written)) (ap (list_all (lies_in size)) (sym (reverse-reverse (acts_of waiting))) ∙ turned_back) written_there
+      fits_where size (acts_of waiting) (length (drop (length past.replaced) written))
+      (ap (list_all (lies_in size)) (sym (reverse-reverse (acts_of waiting))) ∙ turned_back) written_there
 
   pub whole_past : length past.content ≡ size
   whole_past = long_past.0.whole
@@ -350,9 +373,11 @@ module _ (size made : ℕ) (calls : List Call) (content replaced written : List 
   drawn pick =
       let none : no_sync (acts_of waiting) ≡ true =
       ap (list_all is_no_sync) (sym (reverse-reverse (acts_of waiting)))
-      ∙ list_all-reverse is_no_sync (reverse (acts_of waiting)) (ap (list_all is_no_sync) (sym (acts-reverse waiting) ∙ ap acts_of (sym waiting_is)) ∙ pending_no_sync (reverse first_calls)) in
+      ∙ list_all-reverse is_no_sync (reverse (acts_of waiting))
+      (ap (list_all is_no_sync) (sym (acts-reverse waiting) ∙ ap acts_of (sym waiting_is)) ∙ pending_no_sync (reverse first_calls)) in
       let there : left_after (acts_of (reverse (take settled first_calls))) past.content past.replaced past.content =
-      subst (λ (l : List Call). left_after (acts_of l) past.content past.replaced past.content) early_is (settles (reverse first_calls) past.content past.replaced) in
+      subst (λ (l : List Call). left_after (acts_of l) past.content past.replaced past.content) early_is
+      (settles (reverse first_calls) past.content past.replaced) in
       let start : Leaves size (acts_of (reverse (take settled first_calls))) (undone (reverse (acts_of waiting)) now) past.content =
       subst (λ (p : Past). Leaves size (acts_of (reverse (take settled first_calls))) p past.content) past_is (record { whole = whole_past; left = there }) in
       let all = drawn_all size (acts_of waiting) (acts_of (reverse (take settled first_calls))) now (drop (length past.replaced) written)
@@ -363,7 +388,8 @@ module _ (size made : ℕ) (calls : List Call) (content replaced written : List 
   drawn_whole pick = (drawn pick).whole
 
   -- and so what a crash may leave
-  pub drawn_is_left : (k pick : ℕ) → WereMade k made calls → left_at k (reverse calls) content replaced (drawn_image made pick calls written (past_of content replaced))
+  pub drawn_is_left : (k pick : ℕ) → WereMade k made calls
+      → left_at k (reverse calls) content replaced (drawn_image made pick calls written (past_of content replaced))
   unfolding now
   drawn_is_left k pick were =
       let image = drawn_image made pick calls written (past_of content replaced) in
@@ -371,7 +397,9 @@ module _ (size made : ℕ) (calls : List Call) (content replaced written : List 
       subst (λ (T : Type 0). T) (sym (left_now k (reverse first_calls) now.content now.replaced image
       (newest_of k (reverse first_calls) (All-reverse (λ (call : Call). call.moment ≤ k) first_calls were.by_then)))) (drawn pick).left in
       subst (λ (l : List Call). left_at k l content replaced image) (sym all_turned)
-      (subst (λ (T : Type 0). T) (sym (undo_later k (reverse later) (reverse first_calls) content replaced image (All-reverse (λ (call : Call). k < call.moment) later were.after))) at_k)
+      (subst (λ (T : Type 0). T)
+      (sym (undo_later k (reverse later) (reverse first_calls) content replaced image (All-reverse (λ (call : Call). k < call.moment) later were.after)))
+      at_k)
 
   -- the same of the lists as the code cuts them
   module _ (count pend front : ℕ) (first waits newest : List Call) (bytes old shown : List ℕ)
@@ -406,7 +434,8 @@ module _ (size made : ℕ) (calls : List Call) (content replaced written : List 
         omega (arith, k, ap length same, past_within)
 
     module _ (back image new : List ℕ) (pick : ℕ) (waits_are : waits ≡ drop (count - pend) first)
-        (kept_is : front ≡ length (undone (acts_of (reverse newest)) (past_of bytes old)).replaced) (back_is : back ≡ (undone (acts_of (reverse newest)) (past_of bytes old)).content)
+        (kept_is : front ≡ length (undone (acts_of (reverse newest)) (past_of bytes old)).replaced)
+        (back_is : back ≡ (undone (acts_of (reverse newest)) (past_of bytes old)).content)
         (shown_is : shown ≡ written) (new_is : new ≡ drop front shown) where
       waits_cut : waits ≡ waiting
       waits_cut = waits_are ∙ ap (λ (n : ℕ). drop n first) cut_at ∙ ap (λ (l : List Call). drop settled l) first_cut_is
@@ -415,7 +444,9 @@ module _ (size made : ℕ) (calls : List Call) (content replaced written : List 
       back_cut = back_is ∙ ap (λ (p : Past). p.content) undone_is
 
       new_cut : new ≡ drop (length past.replaced) written
-      new_cut = new_is ∙ ap (λ (n : ℕ). drop n shown) (kept_is ∙ ap (λ (p : Past). length p.replaced) undone_is) ∙ ap (λ (l : List ℕ). drop (length past.replaced) l) shown_is
+      new_cut =
+          new_is ∙ ap (λ (n : ℕ). drop n shown) (kept_is ∙ ap (λ (p : Past). length p.replaced) undone_is)
+          ∙ ap (λ (l : List ℕ). drop (length past.replaced) l) shown_is
 
       pub draw_can : fits (length back) (acts_of waits) (length new) ≡ true
       draw_can =
@@ -425,7 +456,8 @@ module _ (size made : ℕ) (calls : List Call) (content replaced written : List 
           ∙ ap (λ (l : List ℕ). fits size (acts_of waiting) (length l)) new_cut
           ∙ draw_fits
 
-      pub drawn_is : image ≡ (draw_writes (acts_of waits) new (record { number = pick; image = back })).image → image ≡ drawn_image made pick calls written (past_of content replaced)
+      pub drawn_is : image ≡ (draw_writes (acts_of waits) new (record { number = pick; image = back })).image
+          → image ≡ drawn_image made pick calls written (past_of content replaced)
       drawn_is is =
           is ∙ ap (λ (l : List Call). (draw_writes (acts_of l) new (record { number = pick; image = back })).image) waits_cut
           ∙ ap (λ (l : List ℕ). (draw_writes (acts_of waiting) l (record { number = pick; image = back })).image) new_cut

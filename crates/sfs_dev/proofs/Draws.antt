@@ -20,8 +20,10 @@ put_own at n bytes within = put-part at n bytes bytes within (SameOutside-refl a
 pub put_next : (at : ℕ) (front back bytes : List ℕ) → at + length front + length back ≤ length bytes
     → put (at + length front) back (put at front bytes) ≡ put at (front ++ back) bytes
 put_next at front back bytes within =
-    let start : length (take at bytes ++ front) ≡ at + length front = omega (arith, length-append (take at bytes) front, length-take-le at bytes (omega arith)) in
-    let cut : take (at + length front) (put at front bytes) ≡ take at bytes ++ front = take_at (take at bytes ++ front) (drop (at + length front) bytes) (at + length front) start in
+    let start : length (take at bytes ++ front) ≡ at + length front =
+    omega (arith, length-append (take at bytes) front, length-take-le at bytes (omega arith)) in
+    let cut : take (at + length front) (put at front bytes) ≡ take at bytes ++ front =
+    take_at (take at bytes ++ front) (drop (at + length front) bytes) (at + length front) start in
     let rest : drop (at + length front + length back) (put at front bytes) ≡ drop (at + length (front ++ back)) bytes =
     sym (drop-drop (length back) (at + length front) (put at front bytes))
     ∙ ap (λ (l : List ℕ). drop (length back) l) (drop_at (take at bytes ++ front) (drop (at + length front) bytes) (at + length front) start)
@@ -36,7 +38,13 @@ pub length-torn : (x : ℕ) (old new : List ℕ) → length old ≡ length new �
 length-torn x old new same = by (eqb (x / 65536 % 3) 0) (eqb (x / 65536 % 3) 1)
   where
     half : length (half_written new) ≡ length new
-    half = omega (arith, length-append (take (length new / 2) new) (replicate (length new - length new / 2) 165), length-take-le (length new / 2) new (omega arith), length-replicate {A = ℕ} (length new - length new / 2) 165)
+    half =
+        omega (
+          arith,
+          length-append (take (length new / 2) new) (replicate (length new - length new / 2) 165),
+          length-take-le (length new / 2) new (omega arith),
+          length-replicate {A = ℕ} (length new - length new / 2) 165,
+        )
 
     by : (a b : Bool) → length (cond a old (cond b new (half_written new))) ≡ length new
     by true b = same
@@ -44,14 +52,16 @@ length-torn x old new same = by (eqb (x / 65536 % 3) 0) (eqb (x / 65536 % 3) 1)
     by false false = half
 
 -- what the test says of a write
-pub some_fits : (size at count kept : ℕ) (earlier : List Act) → fits size (Write at count ∷ earlier) kept ≡ true → (at + count ≤ size) × (count ≤ kept) × (fits size earlier (kept - count) ≡ true)
+pub some_fits : (size at count kept : ℕ) (earlier : List Act) → fits size (Write at count ∷ earlier) kept ≡ true
+    → (at + count ≤ size) × (count ≤ kept) × (fits size earlier (kept - count) ≡ true)
 some_fits size at count kept earlier is =
     let both = and_parts (leb (at + count) size && leb count kept) _ is in
     let first = and_parts (leb (at + count) size) _ both.0 in
     (grind (arith, nat_tests, first.0), grind (arith, nat_tests, first.1), both.1)
 
 -- and the other way
-pub fits_again : (size at count kept : ℕ) (earlier : List Act) → at + count ≤ size → count ≤ kept → fits size earlier (kept - count) ≡ true → fits size (Write at count ∷ earlier) kept ≡ true
+pub fits_again : (size at count kept : ℕ) (earlier : List Act) → at + count ≤ size → count ≤ kept → fits size earlier (kept - count) ≡ true
+    → fits size (Write at count ∷ earlier) kept ≡ true
 fits_again size at count kept earlier within there others =
     let a : leb (at + count) size ≡ true = grind (arith, nat_tests) in
     let b : leb count kept ≡ true = grind (arith, nat_tests) in
@@ -70,7 +80,8 @@ pub record Drawing (size : ℕ) (acts : List Act) (written : List ℕ) (now : Dr
   pub same : draw_writes acts written now ≡ draw_writes all first was
 
 -- nothing of a write came to the disk
-pub torn_nothing : (x at : ℕ) (new bytes : List ℕ) → x / 65536 % 3 ≡ 0 → at + length new ≤ length bytes → bytes ≡ put at (torn_by x (part at (length new) bytes) new) bytes
+pub torn_nothing : (x at : ℕ) (new bytes : List ℕ) → x / 65536 % 3 ≡ 0 → at + length new ≤ length bytes
+    → bytes ≡ put at (torn_by x (part at (length new) bytes) new) bytes
 torn_nothing x at new bytes is within =
     let old : torn_by x (part at (length new) bytes) new ≡ part at (length new) bytes =
     ap (λ (n : ℕ). cond (eqb n 0) (part at (length new) bytes) (cond (eqb n 1) new (half_written new))) is in
@@ -78,7 +89,8 @@ torn_nothing x at new bytes is within =
 
 -- half of a write came to the disk
 pub torn_half : (x at : ℕ) (new bytes : List ℕ) → x / 65536 % 3 ≢ 0 → x / 65536 % 3 ≢ 1 → at + length new ≤ length bytes
-    → put (at + length new / 2) (replicate (length new - length new / 2) SPOILT) (put at (take (length new / 2) new) bytes) ≡ put at (torn_by x (part at (length new) bytes) new) bytes
+    → put (at + length new / 2) (replicate (length new - length new / 2) SPOILT) (put at (take (length new / 2) new) bytes)
+    ≡ put at (torn_by x (part at (length new) bytes) new) bytes
 torn_half x at new bytes some not_one within =
     let front = take (length new / 2) new in
     let back = replicate (length new - length new / 2) SPOILT in

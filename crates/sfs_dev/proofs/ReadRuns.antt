@@ -6,7 +6,8 @@ use Rattle.sfs_dev.specs.Run.{IsCauseOf, HasReadCause, OnlyReads}
 use Rattle.sfs_dev.proofs.Runs.{GoesOn-trans, Rests-call, Rests-trans, ReadSoFar, call_advances}
 
 -- one read more
-pub read_call : {V E : Type 0} (old mid new : View) (v : V) → mid.now < 2 ^ 64 → ReadSoFar old mid → new.content ≡ mid.content → SameImages (images mid) (images new)
+pub read_call : {V E : Type 0} (old mid new : View) (v : V) → mid.now < 2 ^ 64 → ReadSoFar old mid → new.content ≡ mid.content
+    → SameImages (images mid) (images new)
     → IsDeviceCall {V = V} {E = E} mid new (Ok v) → ReadSoFar old new
 read_call old mid new v fits before content left call =
     let goes = call_advances mid new (Ok v) fits call in
@@ -37,7 +38,8 @@ module _ {F : Type 0} {is_disk_fault : F → Bool} where
   }
 
   -- the same of a run whose answer is known to be one
-  pub read_more_by : {V : Type 0} (old mid new : View) (result : Result V F) (value : V) → ReadSoFar old mid → result ≡ Ok value → OnlyReads is_disk_fault mid new result → ReadSoFar old new
+  pub read_more_by : {V : Type 0} (old mid new : View) (result : Result V F) (value : V) → ReadSoFar old mid → result ≡ Ok value
+      → OnlyReads is_disk_fault mid new result → ReadSoFar old new
   read_more_by {V} old mid new result value before is run =
       read_more old mid new value before (let P : Result V F → Type 0 = λ r. OnlyReads is_disk_fault mid new r in subst P is run)
 
@@ -45,7 +47,8 @@ module _ {F : Type 0} {is_disk_fault : F → Bool} where
   pub read_well : {V : Type 0} (old new : View) (value : V) → ReadSoFar old new → OnlyReads is_disk_fault old new (answered {F = F} value)
   read_well old new value run = record { advances = run.advances; unwritten = run.unwritten; cause = run.kept }
 
-  pub read_refused : {V : Type 0} (old new : View) (fault : F) → is_disk_fault fault ≡ false → ReadSoFar old new → OnlyReads is_disk_fault old new (refused {V = V} fault)
+  pub read_refused : {V : Type 0} (old new : View) (fault : F) → is_disk_fault fault ≡ false → ReadSoFar old new
+      → OnlyReads is_disk_fault old new (refused {V = V} fault)
   read_refused old new fault other run = record {
     advances = run.advances;
     unwritten = run.unwritten;
@@ -53,7 +56,8 @@ module _ {F : Type 0} {is_disk_fault : F → Bool} where
   }
 
   -- a run whose last part was refused
-  pub read_failed : {V W : Type 0} (old mid new : View) (result : Result V F) (fault : F) → ReadSoFar old mid → result ≡ Err fault → OnlyReads is_disk_fault mid new result
+  pub read_failed : {V W : Type 0} (old mid new : View) (result : Result V F) (fault : F) → ReadSoFar old mid → result ≡ Err fault
+      → OnlyReads is_disk_fault mid new result
       → OnlyReads is_disk_fault old new (refused {V = W} fault)
   read_failed {V} old mid new result fault before is run = record {
     advances = GoesOn-trans old mid new before.advances run.advances;

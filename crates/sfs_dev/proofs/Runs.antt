@@ -51,7 +51,8 @@ EachMoment-trans old mid new P counts goes before after k image from to left = �
     late lt = after k image lt to left
 
 -- one call after a run
-pub EachMoment-call : (old mid new : View) (P : ℕ → List ℕ → Type 0) → CountsOn new → Advances mid new → Elapses mid new → EachMoment old mid P → ((image : List ℕ) → images new image → P new.now image) → EachMoment old new P
+pub EachMoment-call : (old mid new : View) (P : ℕ → List ℕ → Type 0) → CountsOn new → Advances mid new → Elapses mid new → EachMoment old mid P
+    → ((image : List ℕ) → images new image → P new.now image) → EachMoment old new P
 EachMoment-call old mid new P counts goes time before here =
     EachMoment-trans old mid new P counts goes before
     (λ k image lt le left.
@@ -66,13 +67,15 @@ Rests-refl disk = record {
 }
 
 -- a call that writes nothing, after others that write nothing
-pub Rests-call : (old mid new : View) → Advances mid new → Elapses mid new → new.content ≡ mid.content → SameImages (images mid) (images new) → Unwritten old mid → Unwritten old new
+pub Rests-call : (old mid new : View) → Advances mid new → Elapses mid new → new.content ≡ mid.content → SameImages (images mid) (images new)
+    → Unwritten old mid → Unwritten old new
 Rests-call old mid new goes time told same rests = record {
   content = told ∙ rests.content;
   left = λ image. (λ left. (rests.left image).0 ((same image).0 left), λ left. (same image).1 ((rests.left image).1 left));
   at_each_moment = λ counts.
       let counted : CountsOn mid = omega (arith, counts, goes.later) in
-      EachMoment-call old mid new (λ _ image. images old image) counts goes time (rests.at_each_moment counted) (λ image left. (rests.left image).0 ((same image).0 left));
+      EachMoment-call old mid new (λ _ image. images old image) counts goes time (rests.at_each_moment counted)
+      (λ image left. (rests.left image).0 ((same image).0 left));
 }
 
 -- one run that writes nothing after another

@@ -14,7 +14,8 @@ torn_write at n old new time torn k image from to left =
     torn image (subst (λ (m : ℕ). new.crash_images m image) is left)
 
 -- and with a sync behind it, whose images are torn too
-pub torn_after : (at n : ℕ) (old mid new : View) → CountsOn new → Elapses old mid → Elapses mid new → Torn at n (images old) (images mid) → Torn at n (images old) (images new) → TornSince at n old new
+pub torn_after : (at n : ℕ) (old mid new : View) → CountsOn new → Elapses old mid → Elapses mid new → Torn at n (images old) (images mid)
+    → Torn at n (images old) (images new) → TornSince at n old new
 torn_after at n old mid new counts first second torn torn_now k image from to left = ⊎_elim late early (cases_lt mid.now k)
   where
     late : mid.now < k → (was : List ℕ) × images old was × SameOutside at n was image
@@ -26,7 +27,8 @@ torn_after at n old mid new counts first second torn torn_now k image from to le
     early le = torn_write at n old mid first torn k image from le ((second.past k image (omega (arith, second.counted, counts))).0 left)
 
 -- after a sync that answered Ok
-pub torn_synced : (at : ℕ) (bytes content : List ℕ) (old mid new : View) → at + length bytes ≤ length content → old.content ≡ Some content → images old content → mid.content ≡ option_map (put at bytes) old.content → new.content ≡ mid.content → OnlyTold new.content (images new)
+pub torn_synced : (at : ℕ) (bytes content : List ℕ) (old mid new : View) → at + length bytes ≤ length content → old.content ≡ Some content → images old content
+    → mid.content ≡ option_map (put at bytes) old.content → new.content ≡ mid.content → OnlyTold new.content (images new)
     → Torn at (length bytes) (images old) (images new)
 torn_synced at bytes content old mid new within told here written same only image left =
     let is : new.content ≡ Some (put at bytes content) = same ∙ written ∙ ap (option_map (put at bytes)) told in
@@ -34,5 +36,6 @@ torn_synced at bytes content old mid new within told here written same only imag
     (content, here, subst (λ (l : List ℕ). SameOutside at (length bytes) content l) (sym (sole image left)) (SameOutside-put at bytes content within))
 
 -- after a sync that failed
-pub torn_failed : (at n : ℕ) (old mid new : View) → Torn at n (images old) (images mid) → SameImages (images mid) (images new) → Torn at n (images old) (images new)
+pub torn_failed : (at n : ℕ) (old mid new : View) → Torn at n (images old) (images mid) → SameImages (images mid) (images new)
+    → Torn at n (images old) (images new)
 torn_failed at n old mid new torn same image left = torn image ((same image).0 left)

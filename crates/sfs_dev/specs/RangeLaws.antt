@@ -67,10 +67,12 @@ part_apart at n from m old new apart same = ⊎_elim above below apart
     above : from + m ≤ at → part at n new ≡ part at n old
     above le =
         let more : from + m + (at - (from + m)) ≡ at = omega arith in
-        let drops : (l : List ℕ) → drop at l ≡ drop (at - (from + m)) (drop (from + m) l) = λ l. ap (λ (k : ℕ). drop k l) (sym more) ∙ sym (drop-drop (at - (from + m)) (from + m) l) in
+        let drops : (l : List ℕ) → drop at l ≡ drop (at - (from + m)) (drop (from + m) l) =
+        λ l. ap (λ (k : ℕ). drop k l) (sym more) ∙ sym (drop-drop (at - (from + m)) (from + m) l) in
         ap (λ (l : List ℕ). take n l) (drops new ∙ ap (λ (l : List ℕ). drop (at - (from + m)) l) same.after ∙ sym (drops old))
 
     below : at + n ≤ from → part at n new ≡ part at n old
     below le =
-        let takes : (l : List ℕ) → part at n l ≡ drop at (take (at + n) (take from l)) = λ l. sym (drop-take at n l) ∙ ap (λ (k : List ℕ). drop at k) (sym (take-take (at + n) from l le)) in
+        let takes : (l : List ℕ) → part at n l ≡ drop at (take (at + n) (take from l)) =
+        λ l. sym (drop-take at n l) ∙ ap (λ (k : List ℕ). drop at k) (sym (take-take (at + n) from l le)) in
         takes new ∙ ap (λ (l : List ℕ). drop at (take (at + n) l)) same.before ∙ sym (takes old)

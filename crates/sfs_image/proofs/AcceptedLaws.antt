@@ -59,7 +59,8 @@ record IsSoundOpen (inodes : ℕ) (stamps : List ℕ) (slot : List ℕ) : Type 0
   fresh : list_any (λ stamp. eqb stamp (head_of (part 0 4096 slot)).stamp) stamps ≡ false
   numbers : numbers_fault inodes (numbers_of inodes slot) ≡ None
 
-sound_open : (inodes : ℕ) (stamps : List ℕ) (slot : List ℕ) → journal_fault inodes stamps slot ≡ None → (head_of (part 0 4096 slot)).gate ≡ true → IsSoundOpen inodes stamps slot
+sound_open : (inodes : ℕ) (stamps : List ℕ) (slot : List ℕ) → journal_fault inodes stamps slot ≡ None → (head_of (part 0 4096 slot)).gate ≡ true
+    → IsSoundOpen inodes stamps slot
 sound_open inodes stamps slot none gate =
     let head = head_of (part 0 4096 slot) in
     let checked = option_or-None (head_fault inodes stamps head) (numbers_fault inodes (numbers_of inodes slot)) (sym (cond-true head.gate _ _ gate) ∙ none) in
@@ -85,18 +86,25 @@ module _ (layout : Layout) (image : List ℕ) (is : IsAccepted layout image) whe
         | inl gate ↦ (let sound = sound_open layout.inodes (map (λ body. body.stamp) (open_below layout image k)) slot (sound_at k h) gate in
             let again = entries_again (image_block image) body.entries in
             subst (λ (o : Option Transaction). IsSlotOf layout.inodes o slot) (sym (cond-true (head_of (part 0 4096 slot)).gate (Some one) None gate))
-            (record { gate = gate; whole = record { count = sound.count; numbers = sound.numbers; body = λ i. record { stamp = body.stamp; entries = sym again i } } }))
-        | inr shut ↦ subst (λ (o : Option Transaction). IsSlotOf layout.inodes o slot) (sym (cond-false (head_of (part 0 4096 slot)).gate (Some one) None shut)) shut
+            (record {
+              gate = gate;
+              whole = record { count = sound.count; numbers = sound.numbers; body = λ i. record { stamp = body.stamp; entries = sym again i } };
+            }))
+        | inr shut ↦
+            subst (λ (o : Option Transaction). IsSlotOf layout.inodes o slot) (sym (cond-false (head_of (part 0 4096 slot)).gate (Some one) None shut)) shut
       ]
 
   -- a slot with a transaction is open, and the transaction is its body's
   opened_by : (k : ℕ) (one : Transaction) → transaction_in layout image k ≡ Some one →
-      ((head_of (part 0 4096 (journal_slot layout image k))).gate ≡ true) × (gathered_body (image_block image) (body_in layout.inodes (journal_slot layout image k)) ≡ one)
+      ((head_of (part 0 4096 (journal_slot layout image k))).gate ≡ true)
+      × (gathered_body (image_block image) (body_in layout.inodes (journal_slot layout image k)) ≡ one)
   opened_by k one there =
-      cond_some (head_of (part 0 4096 (journal_slot layout image k))).gate (gathered_body (image_block image) (body_in layout.inodes (journal_slot layout image k))) one there
+      cond_some (head_of (part 0 4096 (journal_slot layout image k))).gate
+      (gathered_body (image_block image) (body_in layout.inodes (journal_slot layout image k))) one there
 
   -- no slot has the commit stamp of one before it
-  none_twice : (j k : ℕ) (one other : Transaction) → k < slot_count layout → transaction_in layout image j ≡ Some one → transaction_in layout image k ≡ Some other →
+  none_twice : (j k : ℕ) (one other : Transaction) → k < slot_count layout → transaction_in layout image j ≡ Some one
+      → transaction_in layout image k ≡ Some other →
       one.stamp ≡ other.stamp → j < k → ⊥
   none_twice j k one other h first second same before =
       let early = opened_by j one first in
@@ -107,7 +115,8 @@ module _ (layout : Layout) (image : List ℕ) (is : IsAccepted layout image) whe
       let equal : (head_of (part 0 4096 (journal_slot layout image j))).stamp ≡ (head_of (part 0 4096 slot)).stamp =
       ap (λ (t : Transaction). t.stamp) early.1 ∙ same ∙ sym (ap (λ (t : Transaction). t.stamp) late.1) in
       let shown : list_any test (map (λ body. body.stamp) (open_body layout.inodes (journal_slot layout image j))) ≡ true =
-      ap (λ (those : List Body). list_any test (map (λ body. body.stamp) those)) (cond-true (head_of (part 0 4096 (journal_slot layout image j))).gate _ _ early.0)
+      ap (λ (those : List Body). list_any test (map (λ body. body.stamp) those))
+      (cond-true (head_of (part 0 4096 (journal_slot layout image j))).gate _ _ early.0)
       ∙ or_left _ false (eq-eqb _ _ equal) in
       both_ways _ sound.fresh (found_among test (λ m. open_body layout.inodes (journal_slot layout image m)) 0 k j (omega arith) (omega arith) shown)
 
@@ -127,12 +136,14 @@ module _ (layout : Layout) (image : List ℕ) (is : IsAccepted layout image) whe
       go None none = is_gathered (image_block image) (table_record layout image i)
       go (Some part) there =
           let top =
-          option_map-Some (λ (s : Stamped Part). s.value) (newest (map (λ k. part_given i (transaction_in layout image k)) (range_with_len 0 (slot_count layout)))) part there in
+          option_map-Some (λ (s : Stamped Part). s.value)
+          (newest (map (λ k. part_given i (transaction_in layout image k)) (range_with_len 0 (slot_count layout)))) part there in
           let from = newest_from (λ k. part_given i (transaction_in layout image k)) 0 (slot_count layout) top.0 top.1 in
           let giver = given_by i (transaction_in layout image from.0) top.0 from.3 in
           let own = opened_by from.0 giver.0 giver.1 in
           let all = All-map (λ (inner : InodePart). IsGathered (image_block image) inner.part) (gathered_entry (image_block image))
-          (body_in layout.inodes (journal_slot layout image from.0)).entries (λ k entry h. is_gathered (image_block image) (get_or (body_in layout.inodes (journal_slot layout image from.0)).entries k entry).bytes) in
+          (body_in layout.inodes (journal_slot layout image from.0)).entries
+          (λ k entry h. is_gathered (image_block image) (get_or (body_in layout.inodes (journal_slot layout image from.0)).entries k entry).bytes) in
           subst (IsGathered (image_block image)) (sym top.2)
           (given_has (IsGathered (image_block image)) i giver.0 top.0
           (subst (λ (t : Transaction). All (λ (inner : InodePart). IsGathered (image_block image) inner.part) t.parts) own.1 all)
@@ -141,13 +152,15 @@ module _ (layout : Layout) (image : List ℕ) (is : IsAccepted layout image) whe
   -- the settled parts are those
   settled_are : (i : ℕ) → parts_of layout image i ≡ with_opened layout (transaction_in layout image) (table_parts layout image) i
   settled_are i =
-      ap (λ (o : Option (List ℕ)). part_of (image_block image) (unwrap_or o (table_record layout image i))) (held_given layout (transaction_in layout image) image slots_are i)
+      ap (λ (o : Option (List ℕ)). part_of (image_block image) (unwrap_or o (table_record layout image i)))
+      (held_given layout (transaction_in layout image) image slots_are i)
       ∙ ap (part_of (image_block image))
       (unwrap_made (λ part. part.raw) (given layout (transaction_in layout image) i) (table_record layout image i) (table_parts layout image i)
       (λ _. sym (raw_of (image_block image) (table_record layout image i))))
       ∙ gathered_are i
 
-pub accepted_stands : (layout : Layout) (image : List ℕ) → IsAccepted layout image → IsImageOf layout (transaction_in layout image) (table_parts layout image) image
+pub accepted_stands : (layout : Layout) (image : List ℕ) → IsAccepted layout image
+    → IsImageOf layout (transaction_in layout image) (table_parts layout image) image
 accepted_stands layout image is = record {
   sound = is.super;
   divided = is.divided;

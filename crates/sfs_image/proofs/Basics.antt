@@ -95,7 +95,8 @@ find_made f test [] = refl
 find_made f test (x ∷ xs) =
     elim (cases_Bool (test (f x))) [
       | inl passes ↦ cond-true (test (f x)) _ _ passes ∙ sym (ap (option_map f) (cond-true (test (f x)) (Some x) (find (λ x. test (f x)) xs) passes))
-      | inr fails ↦ cond-false (test (f x)) _ _ fails ∙ find_made f test xs ∙ sym (ap (option_map f) (cond-false (test (f x)) (Some x) (find (λ x. test (f x)) xs) fails))
+      | inr fails ↦
+          cond-false (test (f x)) _ _ fails ∙ find_made f test xs ∙ sym (ap (option_map f) (cond-false (test (f x)) (Some x) (find (λ x. test (f x)) xs) fails))
     ]
 
 -- what each element has is had by the one that is found
@@ -103,7 +104,9 @@ pub found_has : {X : Type 0} (P : X → Type 0) (test : X → Bool) (xs : List X
 found_has P test [] x all is = absurd cc
 found_has P test (y ∷ xs) x all is =
     elim (cases_Bool (test y)) [
-      | inl passes ↦ (let e : Some y ≡ Some x = sym (cond-true (test y) (Some y) (find test xs) passes) ∙ is in let same : y ≡ x = cc in subst P same (All-head P y xs all))
+      | inl passes ↦
+          (let e : Some y ≡ Some x = sym (cond-true (test y) (Some y) (find test xs) passes) ∙ is in let same : y ≡ x = cc in
+          subst P same (All-head P y xs all))
       | inr fails ↦ found_has P test xs x (All-tail P y xs all) (sym (cond-false (test y) (Some y) (find test xs) fails) ∙ is)
     ]
 

@@ -173,14 +173,16 @@ pub part-between : (at n : ℕ) (bytes : List ℕ) → take (at + n - at) (drop 
 part-between at n bytes = ap (λ (k : ℕ). take k (drop at bytes)) (omega arith)
 
 -- a number of 4 bytes behind the front
-pub front_u32 : (at : ℕ) (bytes front : List ℕ) → at + 4 ≤ length bytes → AreBytes bytes → front ≡ take at bytes → front ++ u32_bytes (u32_at at bytes) ≡ take (at + 4) bytes
+pub front_u32 : (at : ℕ) (bytes front : List ℕ) → at + 4 ≤ length bytes → AreBytes bytes → front ≡ take at bytes
+    → front ++ u32_bytes (u32_at at bytes) ≡ take (at + 4) bytes
 front_u32 at bytes front within small is =
     ap (λ (xs : List ℕ). xs ++ u32_bytes (u32_at at bytes)) is
     ∙ ap (λ (xs : List ℕ). take at bytes ++ xs) (u32_bytes-number_from (part at 4 bytes) (length-part at 4 bytes within) (AreBytes-part at 4 bytes small))
     ∙ sym (take-add at 4 bytes)
 
 -- a number of 8 bytes behind the front
-pub front_u64 : (at : ℕ) (bytes front : List ℕ) → at + 8 ≤ length bytes → AreBytes bytes → front ≡ take at bytes → front ++ u64_bytes (u64_at at bytes) ≡ take (at + 8) bytes
+pub front_u64 : (at : ℕ) (bytes front : List ℕ) → at + 8 ≤ length bytes → AreBytes bytes → front ≡ take at bytes
+    → front ++ u64_bytes (u64_at at bytes) ≡ take (at + 8) bytes
 front_u64 at bytes front within small is =
     ap (λ (xs : List ℕ). xs ++ u64_bytes (u64_at at bytes)) is
     ∙ ap (λ (xs : List ℕ). take at bytes ++ xs) (u64_bytes-number_from (part at 8 bytes) (length-part at 8 bytes within) (AreBytes-part at 8 bytes small))

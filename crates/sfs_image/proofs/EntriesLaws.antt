@@ -39,7 +39,8 @@ pub few_below : (n bound : ℕ) (at : ℕ → ℕ) → ((k : ℕ) → k < n → 
 few_below zero bound at low high = omega arith
 few_below (suc n) bound at low high = let a = low n (omega arith) in let b = high n (omega arith) in omega arith
 
-module _ (inodes : ℕ) (entries : List Entry) (slot : List ℕ) (small : inodes ≤ 2 ^ 32) (are : AreEntries inodes entries) (has : HasEntries inodes entries slot) where
+module _ (inodes : ℕ) (entries : List Entry) (slot : List ℕ) (small : inodes ≤ 2 ^ 32) (are : AreEntries inodes entries)
+    (has : HasEntries inodes entries slot) where
   nothing : Entry
   nothing = record { inode = 0; bytes = [] }
 
@@ -63,7 +64,8 @@ module _ (inodes : ℕ) (entries : List Entry) (slot : List ℕ) (small : inodes
 
   -- there are no more entries than inodes
   few : length entries ≤ inodes
-  few = few_below (length entries) inodes (slice_index inodes_of_entries) (λ k h. place_below inodes_of_entries k ascending (omega (arith, as_many))) inode_below
+  few =
+      few_below (length entries) inodes (slice_index inodes_of_entries) (λ k h. place_below inodes_of_entries k ascending (omega (arith, as_many))) inode_below
 
   count_is_few : (head_of (part 0 4096 slot)).count ≤ inodes
   count_is_few = let e = has.count in let h = few in omega arith
@@ -79,7 +81,8 @@ module _ (inodes : ℕ) (entries : List Entry) (slot : List ℕ) (small : inodes
       let within : k < n = subst (λ (l : ℕ). k < l) (length-u32s_at 4096 n slot) h in
       get_or-u32s_at 4096 n slot k d within
       ∙ number_of_four (drop (4 * k) (part 4096 (4 * n) slot))
-      ∙ ap (number_from 0 4) (part-part (4 * k) 4 4096 (4 * n) slot (omega arith) ∙ has.numbers k (get_or entries k nothing) (slice_get-get_or entries k nothing within))
+      ∙ ap (number_from 0 4)
+      (part-part (4 * k) 4 4096 (4 * n) slot (omega arith) ∙ has.numbers k (get_or entries k nothing) (slice_get-get_or entries k nothing within))
       ∙ number_from-u32_bytes (get_or entries k nothing).inode [] (let low = inode_below k within in let e = inode_at k 0 within in omega arith)
       ∙ sym (inode_at k d within))
 
@@ -128,7 +131,8 @@ read_again inodes entries slot small are has = record {
 }
 
 -- one of the pieces that stand one behind another from a place on
-piece_at : {X : Type 0} (f : X → List ℕ) (m : ℕ) (d : X) (xs : List X) (from : ℕ) (bytes : List ℕ) → ((j : ℕ) → j < length xs → length (f (get_or xs j d)) ≡ m) →
+piece_at : {X : Type 0} (f : X → List ℕ) (m : ℕ) (d : X) (xs : List X) (from : ℕ) (bytes : List ℕ)
+    → ((j : ℕ) → j < length xs → length (f (get_or xs j d)) ≡ m) →
     part from (m * length xs) bytes ≡ flat_map f xs → (k : ℕ) → k < length xs → part (from + m * k) m bytes ≡ f (get_or xs k d)
 piece_at f m d xs from bytes long is k h =
     let fits : m * k + m ≤ m * length xs =
@@ -151,7 +155,8 @@ ranges_have inodes entries slot has = record {
       let h = within k entry is in
       let place : record_byte inodes k ≡ record_byte inodes 0 + 512 * k = omega arith in
       ap (λ (at : ℕ). part at 512 slot) place
-      ∙ piece_at (λ (e : Entry). e.bytes) 512 none entries (record_byte inodes 0) slot (λ j l. All-get_or (λ (e : Entry). length e.bytes ≡ 512) entries j none l has.long) has.records k h
+      ∙ piece_at (λ (e : Entry). e.bytes) 512 none entries (record_byte inodes 0) slot
+      (λ j l. All-get_or (λ (e : Entry). length e.bytes ≡ 512) entries j none l has.long) has.records k h
       ∙ ap (λ (e : Entry). e.bytes) (get_or_from_slice_get entries k entry none is);
 }
   where

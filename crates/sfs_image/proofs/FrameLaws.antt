@@ -76,7 +76,8 @@ module _ (n inodes : ℕ) (old new : List ℕ) (same : AgreesOutside 0 n old new
       let size : min (head_of (part 0 4096 new)).count inodes ≡ min (head_of (part 0 4096 old)).count inodes = ap (λ (c : ℕ). min c inodes) count_kept in
       ap (λ (c : ℕ). u32s_at 4096 c new) size
       ∙ (let c = min (head_of (part 0 4096 old)).count inodes in
-      ap (λ (bytes : List ℕ). map (λ k. number_from 0 4 (drop (4 * k) bytes)) (range_with_len 0 c)) (part_apart 0 n old new same 4096 (4 * c) (inr (omega arith))))
+      ap (λ (bytes : List ℕ). map (λ k. number_from 0 4 (drop (4 * k) bytes)) (range_with_len 0 c))
+      (part_apart 0 n old new same 4096 (4 * c) (inr (omega arith))))
 
   record_kept : (k : ℕ) → part (record_byte inodes k) 512 new ≡ part (record_byte inodes k) 512 old
   record_kept k = part_apart 0 n old new same (record_byte inodes k) 512 (inr (omega arith))

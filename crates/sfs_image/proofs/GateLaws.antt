@@ -142,7 +142,8 @@ module _ (layout : Layout) (opened : ℕ → Option Transaction) (parts : ℕ �
     stamps = own_stamps layout opened k one is.stamps opens.may.own;
     table = λ i h none. record_stays layout k old new opens.within opens.written i ∙ table_then i h none (come i);
     gathered = λ i h.
-        part_stays layout k old new opens.within opens.written (with_opened layout (with_slot opened k (Some one)) parts i) (gathered_then i h) (points_then i h);
+        part_stays layout k old new opens.within opens.written (with_opened layout (with_slot opened k (Some one)) parts i) (gathered_then i h)
+        (points_then i h);
     pointers = points_then;
   }
 
@@ -165,7 +166,8 @@ module _ (layout : Layout) (opened : ℕ → Option Transaction) (parts : ℕ �
       let before : given layout opened i ≡ None = sym (given_aside layout opened k shuts.within None i (sym aside)) ∙ none in
       is.table i h before ∙ sym (ap (λ (o : Option Part). (unwrap_or o (parts i)).raw) before)
   in_table i h none (Some ours) gives =
-      shuts.may.table i ours h gives none ∙ sym (ap (λ (part : Part). part.raw) (unwrapped (parts i) (given_alone layout opened k shuts.within i ours gives none)))
+      shuts.may.table i ours h gives none
+      ∙ sym (ap (λ (part : Part). part.raw) (unwrapped (parts i) (given_alone layout opened k shuts.within i ours gives none)))
 
   shut_then : IsImageOf layout (with_slot opened k None) (with_opened layout opened parts) new
   shut_then = record {
@@ -201,8 +203,10 @@ gate_shuts layout opened parts k old new is shuts = record {
   same = same_then layout opened parts k old new is shuts;
 }
 
-pub oldest_may_shut : (layout : Layout) (opened : ℕ → Option Transaction) (parts : ℕ → Part) (k : ℕ) (one : Transaction) (image : List ℕ) → k < slot_count layout
-    → opened k ≡ Some one → IsOldest layout opened k one → (IsFullTable layout opened parts image) ⊎ (HasRecordsOf layout one image) → MayShut layout opened k image
+pub oldest_may_shut : (layout : Layout) (opened : ℕ → Option Transaction) (parts : ℕ → Part) (k : ℕ) (one : Transaction) (image : List ℕ)
+    → k < slot_count layout
+    → opened k ≡ Some one → IsOldest layout opened k one → (IsFullTable layout opened parts image) ⊎ (HasRecordsOf layout one image)
+    → MayShut layout opened k image
 oldest_may_shut layout opened parts k one image within open_with oldest has = record {
   older = λ i j other ours h apart gives own.
       let giver = given_by i (opened j) other gives in
@@ -217,7 +221,8 @@ oldest_may_shut layout opened parts k one image within open_with oldest has = re
 }
 
 pub tables_stay_full : (layout : Layout) (opened : ℕ → Option Transaction) (parts : ℕ → Part) (k : ℕ) (old new : List ℕ) → IsImageOf layout opened parts old
-    → ShutsGate layout opened k old new → IsFullTable layout opened parts old → IsFullTable layout (with_slot opened k None) (with_opened layout opened parts) new
+    → ShutsGate layout opened k old new → IsFullTable layout opened parts old
+    → IsFullTable layout (with_slot opened k None) (with_opened layout opened parts) new
 tables_stay_full layout opened parts k old new is shuts full i h =
     record_stays layout k old new shuts.within shuts.written i
     ∙ full i h

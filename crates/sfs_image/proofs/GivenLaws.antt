@@ -56,7 +56,9 @@ module _ (layout : Layout) (opened : ℕ → Option Transaction) (k : ℕ) (with
   given_aside one i same =
       given_same (with_slot opened k one) i
       (λ j h. elim (cases_eq j k) [
-        | inl here ↦ subst (λ (m : ℕ). part_given i (with_slot opened k one m) ≡ part_given i (opened m)) (sym here) (ap (part_given i) (with_slot-same opened k one) ∙ same)
+        | inl here ↦
+            subst (λ (m : ℕ). part_given i (with_slot opened k one m) ≡ part_given i (opened m)) (sym here)
+            (ap (part_given i) (with_slot-same opened k one) ∙ same)
         | inr other ↦ ap (part_given i) (with_slot-other opened k one j other)
       ])
 
@@ -70,7 +72,8 @@ module _ (layout : Layout) (opened : ℕ → Option Transaction) (k : ℕ) (with
         low = omega arith;
         high = omega arith;
         here = ap (part_given i) (with_slot-same opened k (Some one)) ∙ is;
-        others = λ j other low high apart there. lesser j other (omega arith) apart (sym (ap (part_given i) (with_slot-other opened k (Some one) j apart)) ∙ there);
+        others =
+            λ j other low high apart there. lesser j other (omega arith) apart (sym (ap (part_given i) (with_slot-other opened k (Some one) j apart)) ∙ there);
       }))
 
   -- the slot that gives the newest part, once a slot is closed, is another one
@@ -105,7 +108,8 @@ module _ (layout : Layout) (opened : ℕ → Option Transaction) (k : ℕ) (with
 
   -- what the others give stands where it is newer than what goes
   pub given_behind : (i : ℕ) (part : Part) → HaveOwnStamps layout opened →
-      ((j : ℕ) (other ours : Stamped Part) → j < slot_count layout → j ≢ k → part_given i (opened j) ≡ Some other → part_given i (opened k) ≡ Some ours → ours.stamp < other.stamp) →
+      ((j : ℕ) (other ours : Stamped Part) → j < slot_count layout → j ≢ k → part_given i (opened j) ≡ Some other → part_given i (opened k) ≡ Some ours
+      → ours.stamp < other.stamp) →
       given layout (with_slot opened k None) i ≡ Some part → given layout opened i ≡ Some part
   given_behind i part stamps older there =
       let at : ℕ → Option (Stamped Part) = λ j. part_given i (with_slot opened k None j) in

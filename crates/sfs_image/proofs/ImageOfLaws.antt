@@ -34,7 +34,8 @@ record_given i one =
 -- what a slot shows of an inode is the record of the part that its transaction gives
 slot_shows : (inodes i : ℕ) (one : Option Transaction) (slot : List ℕ) → IsSlotOf inodes one slot
     → IsOnce (record_in i) (open_body inodes slot) (option_map (over (λ part. part.raw)) (part_given i one))
-slot_shows inodes i None slot shut = subst (λ (those : List Body). IsOnce (record_in i) those None) (sym (cond-false (head_of (part 0 4096 slot)).gate _ _ shut)) nothing
+slot_shows inodes i None slot shut =
+    subst (λ (those : List Body). IsOnce (record_in i) those None) (sym (cond-false (head_of (part 0 4096 slot)).gate _ _ shut)) nothing
 slot_shows inodes i (Some one) slot is =
     let body = body_in inodes slot in
     let seen : record_in i body ≡ option_map (over (λ part. part.raw)) (part_given i (Some one)) = ap (record_in i) is.whole.body ∙ record_given i one in
@@ -48,11 +49,15 @@ module _ (layout : Layout) (opened : ℕ → Option Transaction) (image : List �
   pub held_given : (i : ℕ) → held (open_bodies layout image) i ≡ option_map (λ part. part.raw) (given layout opened i)
   held_given i =
       ap (option_map (λ newest. newest.value))
-      (newest_of_pieces (record_in i) (λ k. open_body layout.inodes (journal_slot layout image k)) (λ k. option_map (over (λ part. part.raw)) (part_given i (opened k))) 0 (slot_count layout)
+      (newest_of_pieces (record_in i) (λ k. open_body layout.inodes (journal_slot layout image k))
+      (λ k. option_map (over (λ part. part.raw)) (part_given i (opened k))) 0 (slot_count layout)
       (λ k low high. slot_shows layout.inodes i (opened k) (journal_slot layout image k) (slots k (omega arith)))
       ∙ newest_over (λ part. part.raw) (λ k. part_given i (opened k)) (range_with_len 0 (slot_count layout)))
-      ∙ option_map-option_map (λ newest. newest.value) (over (λ part. part.raw)) (newest (map (λ k. part_given i (opened k)) (range_with_len 0 (slot_count layout))))
-      ∙ sym (option_map-option_map (λ part. part.raw) (λ newest. newest.value) (newest (map (λ k. part_given i (opened k)) (range_with_len 0 (slot_count layout)))))
+      ∙ option_map-option_map (λ newest. newest.value) (over (λ part. part.raw))
+      (newest (map (λ k. part_given i (opened k)) (range_with_len 0 (slot_count layout))))
+      ∙ sym
+      (option_map-option_map (λ part. part.raw) (λ newest. newest.value)
+      (newest (map (λ k. part_given i (opened k)) (range_with_len 0 (slot_count layout)))))
 
 -- among the bodies of slots there is none with a commit stamp that none of them has
 none_stamped : (stamp : ℕ) (at : ℕ → List Body) (a n : ℕ) →
@@ -85,7 +90,9 @@ sound_slot inodes stamps (Some one) slot is fresh =
     let few : ltb inodes head.count ≡ false = le-ltb inodes head.count is.whole.count in
     let own : list_any (λ stamp. eqb stamp head.stamp) stamps ≡ false = ap (λ (s : ℕ). list_any (λ stamp. eqb stamp s) stamps) read ∙ fresh one refl in
     cond-true head.gate _ _ is.gate
-    ∙ ap (λ (wrong : Bool). option_or (option_or (fault_at wrong 512) (fault_at (list_any (λ stamp. eqb stamp head.stamp) stamps) 520)) (numbers_fault inodes (numbers_of inodes slot))) few
+    ∙ ap (λ (wrong : Bool). option_or (option_or (fault_at wrong 512) (fault_at (list_any (λ stamp. eqb stamp head.stamp) stamps) 520))
+    (numbers_fault inodes (numbers_of inodes slot)))
+    few
     ∙ ap (λ (wrong : Bool). option_or (fault_at wrong 520) (numbers_fault inodes (numbers_of inodes slot))) own
     ∙ is.whole.numbers
 

@@ -119,7 +119,9 @@ inode_bytes-inode_of raw len small none =
 AreU32s-u32s_at : (at n : ℕ) (bytes : List ℕ) → AreBytes bytes → AreU32s (u32s_at at n bytes)
 AreU32s-u32s_at at n bytes small k =
     elim (cases_lt k n) [
-      | inl h ↦ rw (get_or-u32s_at at n bytes k 0 h) (number_from-lt (drop (4 * k) (part at (4 * n) bytes)) (AreBytes-drop (4 * k) (part at (4 * n) bytes) (AreBytes-part at (4 * n) bytes small)))
+      | inl h ↦
+          rw (get_or-u32s_at at n bytes k 0 h)
+          (number_from-lt (drop (4 * k) (part at (4 * n) bytes)) (AreBytes-drop (4 * k) (part at (4 * n) bytes) (AreBytes-part at (4 * n) bytes small)))
       | inr past ↦ rw (get_or_past (u32s_at at n bytes) k 0 (omega (arith, length-u32s_at at n bytes))) (omega arith)
     ]
 
@@ -171,7 +173,8 @@ length-pointers_bytes pointers are = length-u32s_bytes pointers ∙ ap (λ (n : 
 
 pub pointers_of-pointers_bytes : (pointers : List ℕ) → ArePointers pointers → pointers_of (pointers_bytes pointers) ≡ pointers
 pointers_of-pointers_bytes pointers are =
-    u32s_at-u32s_bytes 0 pointers (pointers_bytes pointers) 1024 are.count (take_all 4096 (u32s_bytes pointers) (let e = length-pointers_bytes pointers are in omega arith)) are.numbers
+    u32s_at-u32s_bytes 0 pointers (pointers_bytes pointers) 1024 are.count
+    (take_all 4096 (u32s_bytes pointers) (let e = length-pointers_bytes pointers are in omega arith)) are.numbers
 
 pub pointers_bytes-pointers_of : (block : List ℕ) → length block ≡ 4096 → AreBytes block → pointers_bytes (pointers_of block) ≡ block
 pointers_bytes-pointers_of block len small = u32s_bytes-u32s_at 0 1024 block (omega arith) small ∙ take_all 4096 block (omega arith)

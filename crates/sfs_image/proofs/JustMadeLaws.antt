@@ -65,7 +65,8 @@ module _ (layout : Layout) (image : List ℕ) (is : IsJustMade layout image) whe
   root_has_none : (place : ℕ) → pointer_at (parts_of layout image 0) place ≡ 0
   root_has_none place =
       ap (λ (own : Part). pointer_at own place) (part_is 0)
-      ∙ holes_have_none (image_block image) (table_record layout image 0) (ap (λ (inode : Inode). inode.direct) root_reads) (ap (λ (inode : Inode). inode.indirect) root_reads) place
+      ∙ holes_have_none (image_block image) (table_record layout image 0) (ap (λ (inode : Inode). inode.direct) root_reads)
+      (ap (λ (inode : Inode). inode.indirect) root_reads) place
 
   -- the others
   other_raw : (i : ℕ) → i < layout.inodes → i ≢ 0 → (parts_of layout image i).raw ≡ zeros 512

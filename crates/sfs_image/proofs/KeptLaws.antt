@@ -49,7 +49,9 @@ aside_kept layout opened parts at n old new aside is = record {
   slots = λ k h. aside.slots k h (is.slots k h);
   stamps = is.stamps;
   table = λ i h none. part_apart at n old new aside.same (table_byte layout i) 512 (aside.table i h none) ∙ is.table i h none;
-  gathered = λ i h. gathered_kept at n old new aside.same aside.behind (with_opened layout opened parts i) (is.gathered i h) (λ place there. aside.blocks i place h there);
+  gathered =
+      λ i h. gathered_kept at n old new aside.same aside.behind (with_opened layout opened parts i) (is.gathered i h)
+      (λ place there. aside.blocks i place h there);
   pointers = is.pointers;
 }
 

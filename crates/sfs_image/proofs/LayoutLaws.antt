@@ -29,7 +29,8 @@ divided layout = record {
 
 pub numbered : (layout : Layout) (core slot : ℕ) → slot < layout.slots → IsNumberOf layout core slot (core * layout.slots + slot)
 numbered layout core slot h = record {
-  begins = let none : 0 * layout.slots + (core * layout.slots + slot) ≡ core * layout.slots + slot = omega arith in ap (λ (k : ℕ). 4096 * (1 + k * slot_blocks layout.inodes)) none;
+  begins = let none : 0 * layout.slots + (core * layout.slots + slot) ≡ core * layout.slots + slot = omega arith in
+      ap (λ (k : ℕ). 4096 * (1 + k * slot_blocks layout.inodes)) none;
   core_again = div-mul-add core layout.slots slot h;
   slot_again = mod-mul-add core layout.slots slot h;
 }

@@ -22,7 +22,8 @@ content_of_table part k =
     ∙ ap (λ (j : ℕ). slice_index_or part.tables j []) back
 
 -- what stands at a place of a gathered part is what its pointer reads
-content_is_read : (store : ℕ → List ℕ) (raw : List ℕ) (place : ℕ) → place < PLACES → content_at (part_of store raw) place ≡ read_block store (pointer_at (part_of store raw) place)
+content_is_read : (store : ℕ → List ℕ) (raw : List ℕ) (place : ℕ) → place < PLACES
+    → content_at (part_of store raw) place ≡ read_block store (pointer_at (part_of store raw) place)
 content_is_read store raw place within =
     elim (cases_lt place FILE_BLOCKS) [
       | inl below ↦ content_of_block (part_of store raw) place below ∙ block_is_read store raw place below
@@ -31,12 +32,14 @@ content_is_read store raw place within =
           (content_of_table (part_of store raw) (place - FILE_BLOCKS) ∙ table_is_read store raw (place - FILE_BLOCKS) (omega arith)))
     ]
 
-pub gathered_is_read : (store : ℕ → List ℕ) (part : Part) (place : ℕ) → IsGathered store part → place < PLACES → content_at part place ≡ read_block store (pointer_at part place)
+pub gathered_is_read : (store : ℕ → List ℕ) (part : Part) (place : ℕ) → IsGathered store part → place < PLACES
+    → content_at part place ≡ read_block store (pointer_at part place)
 gathered_is_read store part place is within =
     subst (λ (p : Part). content_at p place ≡ read_block store (pointer_at p place)) is (content_is_read store part.raw place within)
 
 -- what comes from fresh blocks and an old part is read where they stand
-comes_is_read : (fresh : List FreshBlock) (old : Part) (store : ℕ → List ℕ) → StandIn store fresh → IsGathered store old → (pointer : ℕ) (bytes : List ℕ) → ComesFrom fresh old pointer bytes →
+comes_is_read : (fresh : List FreshBlock) (old : Part) (store : ℕ → List ℕ) → StandIn store fresh → IsGathered store old → (pointer : ℕ) (bytes : List ℕ)
+    → ComesFrom fresh old pointer bytes →
     read_block store pointer ≡ bytes
 comes_is_read fresh old store stand is pointer bytes hole = hole_is_read store 0 refl
 comes_is_read fresh old store stand is pointer bytes (written one among there) =
@@ -55,14 +58,17 @@ gathered_by_places store new many all reads =
     (λ k d h.
     let within : k < 16 = omega (arith, length-map inode.indirect (read_block store), length-u32s_at 448 16 new.raw) in
     get_or-map (read_block store) inode.indirect k 0 d (omega (arith, length-u32s_at 448 16 new.raw))
-    ∙ ap (read_block store) (sym (pointer_of_table new k)) ∙ reads (FILE_BLOCKS + k) (omega arith) ∙ content_of_table new k ∙ get_or_default new.tables k [] d (omega arith)) in
+    ∙ ap (read_block store) (sym (pointer_of_table new k)) ∙ reads (FILE_BLOCKS + k) (omega arith) ∙ content_of_table new k
+    ∙ get_or_default new.tables k [] d (omega arith)) in
     let blocks : tabulate FILE_BLOCKS (λ n. read_block store (block_pointer inode (map (read_block store) inode.indirect) n)) ≡ new.blocks =
     same_lists (tabulate FILE_BLOCKS _) new.blocks (length-tabulate FILE_BLOCKS _ ∙ sym all)
     (λ n d h.
-    let within : n < FILE_BLOCKS = omega (arith, length-tabulate FILE_BLOCKS (λ n. read_block store (block_pointer inode (map (read_block store) inode.indirect) n))) in
+    let within : n < FILE_BLOCKS =
+    omega (arith, length-tabulate FILE_BLOCKS (λ n. read_block store (block_pointer inode (map (read_block store) inode.indirect) n))) in
     get_or-tabulate FILE_BLOCKS _ n d within
     ∙ ap (λ (those : List (List ℕ)). read_block store (block_pointer inode those n)) tables
-    ∙ ap (read_block store) (sym (pointer_of_block new n within)) ∙ reads n (omega arith) ∙ content_of_block new n within ∙ get_or_default new.blocks n [] d (omega arith)) in
+    ∙ ap (read_block store) (sym (pointer_of_block new n within)) ∙ reads n (omega arith) ∙ content_of_block new n within
+    ∙ get_or_default new.blocks n [] d (omega arith)) in
     λ i. record { raw = new.raw; tables = tables i; blocks = blocks i }
 
 pub made_turns : (fresh : List FreshBlock) (old new : Part) → IsMadeOf fresh old new → TurnsInto fresh old new

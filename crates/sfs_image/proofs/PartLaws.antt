@@ -56,7 +56,9 @@ gather_same store other raw same =
 pub gathered_same : (store other : ℕ → List ℕ) (part : Part) → IsGathered store part →
     ((place : ℕ) → pointer_at part place ≢ 0 → other (pointer_at part place) ≡ store (pointer_at part place)) → IsGathered other part
 gathered_same store other part is same =
-    gather_same store other part.raw (subst (λ (p : Part). (place : ℕ) → pointer_at p place ≢ 0 → other (pointer_at p place) ≡ store (pointer_at p place)) (sym is) same) ∙ is
+    gather_same store other part.raw
+    (subst (λ (p : Part). (place : ℕ) → pointer_at p place ≢ 0 → other (pointer_at p place) ≡ store (pointer_at p place)) (sym is) same)
+    ∙ is
 
 -- each block of a part is what its pointer reads, and so is each indirect block
 pub block_is_read : (store : ℕ → List ℕ) (raw : List ℕ) (n : ℕ) → n < FILE_BLOCKS →
@@ -91,14 +93,16 @@ none_past_places store raw place past =
 pub hole_byte : (store : ℕ → List ℕ) (raw : List ℕ) (place : ℕ) → place < 4096 * FILE_BLOCKS → pointer_at (part_of store raw) (place / 4096) ≡ 0 →
     file_byte (part_of store raw) place ≡ 0
 hole_byte store raw place below hole =
-    ap (λ (block : List ℕ). slice_index block (place % 4096)) (block_is_read store raw (place / 4096) (omega arith) ∙ hole_is_read store (pointer_at (part_of store raw) (place / 4096)) hole)
+    ap (λ (block : List ℕ). slice_index block (place % 4096))
+    (block_is_read store raw (place / 4096) (omega arith) ∙ hole_is_read store (pointer_at (part_of store raw) (place / 4096)) hole)
     ∙ zeros-byte 4096 (place % 4096)
 
 -- any other is the byte of the block
 pub byte_of_block : (store : ℕ → List ℕ) (raw : List ℕ) (place : ℕ) → place < 4096 * FILE_BLOCKS → pointer_at (part_of store raw) (place / 4096) ≢ 0 →
     file_byte (part_of store raw) place ≡ slice_index (store (pointer_at (part_of store raw) (place / 4096))) (place % 4096)
 byte_of_block store raw place below there =
-    ap (λ (block : List ℕ). slice_index block (place % 4096)) (block_is_read store raw (place / 4096) (omega arith) ∙ block_behind store (pointer_at (part_of store raw) (place / 4096)) there)
+    ap (λ (block : List ℕ). slice_index block (place % 4096))
+    (block_is_read store raw (place / 4096) (omega arith) ∙ block_behind store (pointer_at (part_of store raw) (place / 4096)) there)
 
 -- a record of holes alone has no pointers
 pub holes_have_none : (store : ℕ → List ℕ) (raw : List ℕ) → (inode_of raw).direct ≡ replicate 108 0 → (inode_of raw).indirect ≡ replicate 16 0 →
@@ -113,7 +117,8 @@ holes_have_none store raw direct indirect place =
         | inl near ↦ cond-true (ltb place 108) _ _ (lt-ltb place 108 near) ∙ ap (λ (xs : List ℕ). slice_index xs place) direct ∙ zeros_read 108 place
         | inr far ↦ cond-false (ltb place 108) _ _ (le-ltb place 108 far)
             ∙ ap (λ (block : List ℕ). slice_index (pointers_of block) (entry_of place))
-            (table_is_read store raw (table_of place) (omega arith) ∙ hole_is_read store (pointer_at part (FILE_BLOCKS + table_of place)) (tables (table_of place)))
+            (table_is_read store raw (table_of place) (omega arith)
+            ∙ hole_is_read store (pointer_at part (FILE_BLOCKS + table_of place)) (tables (table_of place)))
             ∙ pointers_of-zeros (entry_of place)
       ]
       | inr behind ↦ cond-false (ltb place FILE_BLOCKS) _ _ (le-ltb place FILE_BLOCKS behind)

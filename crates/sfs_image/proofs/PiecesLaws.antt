@@ -11,7 +11,8 @@ use Rattle.sfs_image.specs.Bytes.{AreBytes, part, number_from, u32s_at, u32_byte
 use Rattle.sfs_image.proofs.BytesLaws.{option_or-None, number_from-u32_bytes, AreBytes-part, AreBytes-drop, length-part, number_of_front}
 
 -- in a place of one of pieces that have m bytes each, it stands, and the rest behind it
-pub drop-flat_map : {X : Type 0} (f : X → List ℕ) (m : ℕ) (d : X) (xs : List X) (k : ℕ) → ((j : ℕ) → j < length xs → length (f (get_or xs j d)) ≡ m) → k < length xs →
+pub drop-flat_map : {X : Type 0} (f : X → List ℕ) (m : ℕ) (d : X) (xs : List X) (k : ℕ) → ((j : ℕ) → j < length xs → length (f (get_or xs j d)) ≡ m)
+    → k < length xs →
     drop (m * k) (flat_map f xs) ≡ f (get_or xs k d) ++ drop (m * suc k) (flat_map f xs)
 drop-flat_map f m d [] k lens h = absurd (omega arith)
 drop-flat_map f m d (x ∷ xs) zero lens h =
@@ -75,7 +76,8 @@ unfolding u32s_at
 get_or-u32s_at at n bytes k d h = get_or-map-range_with_len _ 0 n k k d h (omega arith)
 
 -- numbers are read again from their bytes
-pub u32s_at-u32s_bytes : (at : ℕ) (xs bytes : List ℕ) (n : ℕ) → length xs ≡ n → part at (4 * n) bytes ≡ u32s_bytes xs → ((k : ℕ) → get_or xs k 0 < 2 ^ 32) → u32s_at at n bytes ≡ xs
+pub u32s_at-u32s_bytes : (at : ℕ) (xs bytes : List ℕ) (n : ℕ) → length xs ≡ n → part at (4 * n) bytes ≡ u32s_bytes xs → ((k : ℕ) → get_or xs k 0 < 2 ^ 32)
+    → u32s_at at n bytes ≡ xs
 u32s_at-u32s_bytes at xs bytes n len is small =
     same_lists (u32s_at at n bytes) xs (length-u32s_at at n bytes ∙ sym len)
     (λ k d h.
@@ -97,7 +99,8 @@ u32s_bytes-u32s_at at n bytes within small =
     ∙ take_all (4 * n) p (omega arith)
 
 -- a piece of pieces that have m bytes each
-pub part-flat_map : {X : Type 0} (f : X → List ℕ) (m : ℕ) (d : X) (xs : List X) (tail : List ℕ) (k : ℕ) → ((j : ℕ) → j < length xs → length (f (get_or xs j d)) ≡ m) → k < length xs →
+pub part-flat_map : {X : Type 0} (f : X → List ℕ) (m : ℕ) (d : X) (xs : List X) (tail : List ℕ) (k : ℕ)
+    → ((j : ℕ) → j < length xs → length (f (get_or xs j d)) ≡ m) → k < length xs →
     part (m * k) m (flat_map f xs ++ tail) ≡ f (get_or xs k d)
 part-flat_map f m d [] tail k lens h = absurd (omega arith)
 part-flat_map f m d (x ∷ xs) tail zero lens h =
@@ -124,7 +127,8 @@ get_or-pieces f m d e (x ∷ xs) lens (suc n) k h below =
     ∙ get_or-pieces f m d e xs (λ j l. lens (suc j) (omega arith)) n k (omega arith) below
 
 -- the first of n that is some, and those before it
-pub first_of-Some : {A : Type 0} (n : ℕ) (f : ℕ → Option A) (x : A) → first_of n f ≡ Some x → (k : ℕ) × (k < n) × (f k ≡ Some x) × ((j : ℕ) → j < k → f j ≡ None)
+pub first_of-Some : {A : Type 0} (n : ℕ) (f : ℕ → Option A) (x : A) → first_of n f ≡ Some x
+    → (k : ℕ) × (k < n) × (f k ≡ Some x) × ((j : ℕ) → j < k → f j ≡ None)
 first_of-Some zero f x is = absurd cc
 first_of-Some {A = A} (suc n) f x is = go (first_of n f) refl (first_of-Some n f x)
   where
@@ -136,7 +140,8 @@ first_of-Some {A = A} (suc n) f x is = go (first_of n f) refl (first_of-Some n f
         (one.0, (let h = one.1 in omega arith), one.2, one.3)
 
 -- how long pieces are that have m elements each
-pub length-pieces : {X A : Type 0} (f : X → List A) (m : ℕ) (d : X) (xs : List X) → ((j : ℕ) → j < length xs → length (f (get_or xs j d)) ≡ m) → length (flat_map f xs) ≡ m * length xs
+pub length-pieces : {X A : Type 0} (f : X → List A) (m : ℕ) (d : X) (xs : List X) → ((j : ℕ) → j < length xs → length (f (get_or xs j d)) ≡ m)
+    → length (flat_map f xs) ≡ m * length xs
 length-pieces f m d [] lens = omega arith
 length-pieces f m d (x ∷ xs) lens =
     let ih = length-pieces f m d xs (λ j l. lens (suc j) (omega arith)) in
@@ -144,7 +149,8 @@ length-pieces f m d (x ∷ xs) lens =
     omega (arith, length-append (f x) (flat_map f xs))
 
 -- numbers that were read one by one are those that stand there
-pub u32s_read : (at n : ℕ) (bytes xs : List ℕ) → length xs ≡ n → ((k : ℕ) → k < length xs → slice_index xs k ≡ number_from 0 4 (drop (4 * k) (part at (4 * n) bytes))) → xs ≡ u32s_at at n bytes
+pub u32s_read : (at n : ℕ) (bytes xs : List ℕ) → length xs ≡ n
+    → ((k : ℕ) → k < length xs → slice_index xs k ≡ number_from 0 4 (drop (4 * k) (part at (4 * n) bytes))) → xs ≡ u32s_at at n bytes
 u32s_read at n bytes xs len read =
     same_lists xs (u32s_at at n bytes) (len ∙ sym (length-u32s_at at n bytes))
     (λ k d h. get_or_default xs k d 0 h ∙ read k h ∙ sym (get_or-u32s_at at n bytes k d (omega arith)))

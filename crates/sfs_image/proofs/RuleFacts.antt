@@ -28,7 +28,8 @@ sizes_say part = (facts, rule)
     facts keeps =
         let both = or_parts (is_file_part part && ltb (4096 * FILE_BLOCKS) (inode_in part).size) _ keeps in
         let tests = λ (directory : is_directory_part part ≡ true).
-        or_parts (not (eqb ((inode_in part).size % 4096) 0)) (ltb (4096 * DIRECTORY_BLOCKS) (inode_in part).size) (then_false (is_directory_part part) _ both.1 directory) in
+        or_parts (not (eqb ((inode_in part).size % 4096) 0)) (ltb (4096 * DIRECTORY_BLOCKS) (inode_in part).size)
+        (then_false (is_directory_part part) _ both.1 directory) in
         record {
           file = λ file. ltb-false (4096 * FILE_BLOCKS) (inode_in part).size (then_false (is_file_part part) _ both.0 file);
           whole = λ directory. eqb-true ((inode_in part).size % 4096) 0 (not-false (eqb ((inode_in part).size % 4096) 0) (tests directory).0);
@@ -88,7 +89,8 @@ tails_say part = (facts, rule)
     rule : (is_file_part part ≡ true → (place : ℕ) → size ≤ place → place < 4096 * ((size + 4095) / 4096) → file_byte part place ≡ 0) → breaks_tail part ≡ false
     rule cleared =
         elim (cases_Bool (is_file_part part && not (eqb (size % 4096) 0))) [
-          | inl asks ↦ and_right _ _ (ap is_some (clean (and_parts (is_file_part part) _ asks).0 (eqb-false _ _ (not-true _ (and_parts (is_file_part part) _ asks).1))))
+          | inl asks ↦
+              and_right _ _ (ap is_some (clean (and_parts (is_file_part part) _ asks).0 (eqb-false _ _ (not-true _ (and_parts (is_file_part part) _ asks).1))))
           | inr aside ↦ and_left _ _ aside
         ]
       where

@@ -43,9 +43,11 @@ pub settled_tables : (layout : Layout) (image : List ℕ) (i : ℕ) → ((k : �
     settled layout image i ≡ table_record layout image i
 settled_tables layout image i none =
     ap (λ (o : Option (List ℕ)). unwrap_or o (table_record layout image i))
-    (held_by_slots layout image i ∙ ap (option_map (λ newest. newest.value)) (none_newest (record_at layout image i) 0 (slot_count layout) (λ k low high. none k (omega arith))))
+    (held_by_slots layout image i
+    ∙ ap (option_map (λ newest. newest.value)) (none_newest (record_at layout image i) 0 (slot_count layout) (λ k low high. none k (omega arith))))
 
-pub journal_faults_first : (layout : Layout) (image : List ℕ) (fault : SlotFault) → journal_fault_of layout image ≡ Some fault → (k : ℕ) × IsFirstFault layout image k fault
+pub journal_faults_first : (layout : Layout) (image : List ℕ) (fault : SlotFault) → journal_fault_of layout image ≡ Some fault
+    → (k : ℕ) × IsFirstFault layout image k fault
 journal_faults_first layout image fault is =
     let first = first_of-Some (slot_count layout) (slot_fault_of layout image) fault is in
     (first.0, record { within = first.1; here = first.2; before = first.3 })

@@ -16,7 +16,8 @@ each_264 : (slots : List (Option Row)) → All IsSlot slots → (k : ℕ) → k 
 each_264 slots sound k h = length-slot_bytes (get_or slots k None) (sound k None h)
 
 -- the bytes of a slot stand at its place
-pub part-slots_bytes : (slots : List (Option Row)) → AreSlots slots → (k : ℕ) → k < 15 → part (264 * k) 264 (slots_bytes slots) ≡ slot_bytes (get_or slots k None)
+pub part-slots_bytes : (slots : List (Option Row)) → AreSlots slots → (k : ℕ) → k < 15
+    → part (264 * k) 264 (slots_bytes slots) ≡ slot_bytes (get_or slots k None)
 unfolding slots_bytes
 part-slots_bytes slots are k h = part-flat_map slot_bytes 264 None slots (zeros 136) k (each_264 slots are.sound) (omega (arith, are.count))
 
@@ -52,7 +53,8 @@ unfolding slots_fault
 slots_fault-slots_bytes slots are =
     let each : first_of 15 (fault_in (slots_bytes slots)) ≡ None =
     first_of-from 15 (fault_in (slots_bytes slots)) (λ k h.
-    ap (option_map (λ at. 264 * k + at)) (ap slot_fault (part-slots_bytes slots are k h) ∙ slot_fault-slot_bytes (get_or slots k None) (are.sound k None (omega (arith, are.count))))) in
+    ap (option_map (λ at. 264 * k + at))
+    (ap slot_fault (part-slots_bytes slots are k h) ∙ slot_fault-slot_bytes (get_or slots k None) (are.sound k None (omega (arith, are.count))))) in
     ap (λ (o : Option ℕ). option_or o (nonzero_in 3960 136 (slots_bytes slots))) each ∙ nonzero_in-zeros 3960 136 (slots_bytes slots) (zeros_behind slots are)
 
 -- what each slot of a block without a fault is
@@ -69,7 +71,8 @@ slots_bytes-slots_of block len small none =
     let both = option_or-None (first_of 15 (fault_in block)) (nonzero_in 3960 136 block) none in
     let pieces : flat_map slot_bytes (map (slot_in block) (range_with_len 0 15)) ≡ take 3960 block =
     flat_map-parts slot_bytes (slot_in block) 264 block 15 (λ k h.
-    slot_bytes-slot_of (part (264 * k) 264 block) (length-part (264 * k) 264 block (omega arith)) (AreBytes-part (264 * k) 264 block small) (slot_in-sound block none k h)) in
+    slot_bytes-slot_of (part (264 * k) 264 block) (length-part (264 * k) 264 block (omega arith)) (AreBytes-part (264 * k) 264 block small)
+    (slot_in-sound block none k h)) in
     let tail : part 3960 136 block ≡ zeros 136 = part_from_none 3960 136 block (omega arith) both.1 in
     let rest : part 3960 136 block ≡ drop 3960 block = take_all 136 (drop 3960 block) (omega (arith, length-drop 3960 block)) in
     ap (λ (xs : List ℕ). xs ++ zeros 136) pieces ∙ ap (λ (xs : List ℕ). take 3960 block ++ xs) (sym tail ∙ rest) ∙ take-append-drop 3960 block
@@ -84,5 +87,6 @@ AreSlots-slots_of block len small none =
       sound = λ k d h.
           let within : k < 15 = subst (λ (l : ℕ). k < l) count h in
           subst IsSlot (sym (get_or-map-range_with_len (slot_in block) 0 15 k k d within (omega arith)))
-          (IsSlot-slot_of (part (264 * k) 264 block) (length-part (264 * k) 264 block (omega arith)) (AreBytes-part (264 * k) 264 block small) (slot_in-sound block none k within));
+          (IsSlot-slot_of (part (264 * k) 264 block) (length-part (264 * k) 264 block (omega arith)) (AreBytes-part (264 * k) 264 block small)
+          (slot_in-sound block none k within));
     }

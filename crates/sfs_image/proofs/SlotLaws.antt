@@ -84,7 +84,9 @@ length-slot_bytes (Some row) sound =
 
 -- the first 8 bytes, one by one
 eight : (raw : List ℕ) → 8 ≤ length raw →
-    raw ≡ slice_index raw 0 ∷ slice_index raw 1 ∷ slice_index raw 2 ∷ slice_index raw 3 ∷ slice_index raw 4 ∷ slice_index raw 5 ∷ slice_index raw 6 ∷ slice_index raw 7 ∷ drop 8 raw
+    raw
+    ≡ slice_index raw 0 ∷ slice_index raw 1 ∷ slice_index raw 2 ∷ slice_index raw 3 ∷ slice_index raw 4 ∷ slice_index raw 5 ∷ slice_index raw 6
+    ∷ slice_index raw 7 ∷ drop 8 raw
 eight raw long =
     let at : (k : ℕ) → k < 8 → drop k raw ≡ slice_index raw k ∷ drop (k + 1) raw = λ k h. drop_more raw k 0 (omega arith) in
     let a = at 0 (omega arith) in
@@ -105,7 +107,8 @@ kind_spelled : (byte : ℕ) → is_kind byte ≡ true → kind_byte (kind_of byt
 kind_spelled byte is =
     elim (cases_Bool (eqb byte 2)) [
       | inl two ↦ rw two (sym (eqb-true _ _ two))
-      | inr other ↦ rw other (elim (or_cases (eqb byte 1) (eqb byte 2) is) [ inl one ↦ sym (eqb-true _ _ one) | inr two ↦ absurd (false≢true (sym other ∙ two)) ])
+      | inr other ↦
+          rw other (elim (or_cases (eqb byte 1) (eqb byte 2) is) [ inl one ↦ sym (eqb-true _ _ one) | inr two ↦ absurd (false≢true (sym other ∙ two)) ])
     ]
 
 -- what the test for an empty slot says of bytes that pass it
@@ -125,8 +128,11 @@ joined raw name tail long six seven behind =
     let four : take 4 raw ≡ slice_index raw 0 ∷ slice_index raw 1 ∷ slice_index raw 2 ∷ slice_index raw 3 ∷ [] = ap (take 4) bytes in
     let all : front ++ drop 8 raw ≡ raw =
     ap (λ (xs : List ℕ). xs ++ (slice_index raw 4 ∷ slice_index raw 5 ∷ 0 ∷ 0 ∷ []) ++ drop 8 raw) four
-    ∙ ap (λ (x : ℕ). slice_index raw 0 ∷ slice_index raw 1 ∷ slice_index raw 2 ∷ slice_index raw 3 ∷ slice_index raw 4 ∷ slice_index raw 5 ∷ x ∷ 0 ∷ drop 8 raw) (sym six)
-    ∙ ap (λ (x : ℕ). slice_index raw 0 ∷ slice_index raw 1 ∷ slice_index raw 2 ∷ slice_index raw 3 ∷ slice_index raw 4 ∷ slice_index raw 5 ∷ slice_index raw 6 ∷ x ∷ drop 8 raw) (sym seven)
+    ∙ ap (λ (x : ℕ). slice_index raw 0 ∷ slice_index raw 1 ∷ slice_index raw 2 ∷ slice_index raw 3 ∷ slice_index raw 4 ∷ slice_index raw 5 ∷ x ∷ 0 ∷ drop 8 raw)
+    (sym six)
+    ∙ ap (λ (x : ℕ). slice_index raw 0 ∷ slice_index raw 1 ∷ slice_index raw 2 ∷ slice_index raw 3 ∷ slice_index raw 4 ∷ slice_index raw 5 ∷ slice_index raw 6
+    ∷ x ∷ drop 8 raw)
+    (sym seven)
     ∙ sym bytes in
     append_assoc front name tail ∙ ap (λ (xs : List ℕ). front ++ xs) behind ∙ all
 

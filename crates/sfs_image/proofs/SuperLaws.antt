@@ -30,7 +30,8 @@ super_of-super_bytes layout len is =
     same_layout p q r s = λ i. record { blocks = p i; inodes = q i; cores = r i; slots = s i }
 
 -- the tests of a superblock pass for a layout
-pub super_passes : (len : ℕ) (layout : Layout) (block : List ℕ) → IsLayout len layout → super_of block ≡ layout → part 0 8 block ≡ codes "SCALEFS1" → u32_at 8 block ≡ 1 → nonzero_in 28 4068 block ≡ None → super_fault len block ≡ None
+pub super_passes : (len : ℕ) (layout : Layout) (block : List ℕ) → IsLayout len layout → super_of block ≡ layout → part 0 8 block ≡ codes "SCALEFS1"
+    → u32_at 8 block ≡ 1 → nonzero_in 28 4068 block ≡ None → super_fault len block ≡ None
 super_passes len layout block is reads text version clean =
     let ranges = is.ranges in
     let has : leb 1 len ≡ true = le-leb 1 len (let a = is.within in let b = is.room in omega arith) in
@@ -69,7 +70,9 @@ super_facts len layout block none =
     let c = option_or-None (fault_at (not (is_between 1 16 layout.cores)) 12) _ b.1 in
     let d = option_or-None (fault_at (not (is_between 16 16384 layout.inodes)) 20) _ c.1 in
     let e = option_or-None (fault_at (not (is_between 1 MOST_SLOTS layout.slots)) 24) _ d.1 in
-    let f = option_or-None (fault_at (not (nat_le layout.blocks 262144 && nat_le layout.blocks len && nat_le (data_start layout + 1) layout.blocks)) 16) (nonzero_in 28 4068 block) e.1 in
+    let f =
+    option_or-None (fault_at (not (nat_le layout.blocks 262144 && nat_le layout.blocks len && nat_le (data_start layout + 1) layout.blocks)) 16)
+    (nonzero_in 28 4068 block) e.1 in
     let cores = true-between 1 16 layout.cores (passed _ 12 c.0) in
     let inodes = true-between 16 16384 layout.inodes (passed _ 20 d.0) in
     let slots = true-between 1 MOST_SLOTS layout.slots (passed _ 24 e.0) in
@@ -98,13 +101,17 @@ super_facts len layout block none =
     passed test at h = not-false test (false_from_fault (not test) at h)
 
 -- a block without a fault is the superblock of its layout
-pub super_bytes-super_of : (len : ℕ) (block : List ℕ) → length block ≡ 4096 → AreBytes block → super_fault len block ≡ None → super_bytes (super_of block) ≡ block
+pub super_bytes-super_of : (len : ℕ) (block : List ℕ) → length block ≡ 4096 → AreBytes block → super_fault len block ≡ None
+    → super_bytes (super_of block) ≡ block
 super_bytes-super_of len block long small none =
     let facts = super_facts len (super_of block) block none in
     let text : codes "SCALEFS1" ≡ take 8 block = sym facts.text in
     let version = ap (λ (v : ℕ). codes "SCALEFS1" ++ u32_bytes v) (sym facts.version) ∙ front_u32 8 block (codes "SCALEFS1") (omega arith) small text in
     let cores = front_u32 12 block (codes "SCALEFS1" ++ u32_bytes 1) (omega arith) small version in
     let blocks = front_u32 16 block (codes "SCALEFS1" ++ u32_bytes 1 ++ u32_bytes (u32_at 12 block)) (omega arith) small cores in
-    let inodes = front_u32 20 block (codes "SCALEFS1" ++ u32_bytes 1 ++ u32_bytes (u32_at 12 block) ++ u32_bytes (u32_at 16 block)) (omega arith) small blocks in
-    let slots = front_u32 24 block (codes "SCALEFS1" ++ u32_bytes 1 ++ u32_bytes (u32_at 12 block) ++ u32_bytes (u32_at 16 block) ++ u32_bytes (u32_at 20 block)) (omega arith) small inodes in
+    let inodes =
+    front_u32 20 block (codes "SCALEFS1" ++ u32_bytes 1 ++ u32_bytes (u32_at 12 block) ++ u32_bytes (u32_at 16 block)) (omega arith) small blocks in
+    let slots =
+    front_u32 24 block (codes "SCALEFS1" ++ u32_bytes 1 ++ u32_bytes (u32_at 12 block) ++ u32_bytes (u32_at 16 block) ++ u32_bytes (u32_at 20 block))
+    (omega arith) small inodes in
     rest_from_none 28 4068 block _ (omega arith) facts.clean slots

@@ -4,7 +4,8 @@ use Rattle.std.proofs.lemmas.List.{take_at, drop_at, append_assoc, append-nil, d
 use borrow.Rule.Slice.PartMut.{put_mid}
 
 -- a piece that is written behind what is done
-pub put_mid-next : (bytes done rest piece : List ℕ) (at n : ℕ) → bytes ≡ done ++ rest → length done ≡ at → put_mid at n bytes piece ≡ done ++ piece ++ drop n rest
+pub put_mid-next : (bytes done rest piece : List ℕ) (at n : ℕ) → bytes ≡ done ++ rest → length done ≡ at
+    → put_mid at n bytes piece ≡ done ++ piece ++ drop n rest
 put_mid-next bytes done rest piece at n is len =
     ap (λ (xs : List ℕ). put_mid at n xs piece) is
     ∙ ap (λ (xs : List ℕ). xs ++ (piece ++ drop n (drop at (done ++ rest)))) (take_at done rest at len)
@@ -12,7 +13,8 @@ put_mid-next bytes done rest piece at n is len =
     ∙ sym (append_assoc done piece (drop n rest))
 
 -- a piece that is written over all that is left
-pub put_mid-last : (bytes done rest piece : List ℕ) (at n : ℕ) → bytes ≡ done ++ rest → length done ≡ at → length rest ≤ n → put_mid at n bytes piece ≡ done ++ piece
+pub put_mid-last : (bytes done rest piece : List ℕ) (at n : ℕ) → bytes ≡ done ++ rest → length done ≡ at → length rest ≤ n
+    → put_mid at n bytes piece ≡ done ++ piece
 put_mid-last bytes done rest piece at n is len all =
     put_mid-next bytes done rest piece at n is len ∙ ap (λ (xs : List ℕ). done ++ piece ++ xs) (drop_all n rest all) ∙ append-nil (done ++ piece)
 
@@ -27,7 +29,8 @@ length-put_mid at n bytes piece len within =
     omega arith
 
 -- five pieces that are written one behind another, the last over all that is left
-pub five_written : (raw a b c d e : List ℕ) (n1 n2 n3 n4 last : ℕ) → length a ≡ n1 → length b ≡ n2 → length c ≡ n3 → length d ≡ n4 → length raw ≤ n1 + n2 + n3 + n4 + last →
+pub five_written : (raw a b c d e : List ℕ) (n1 n2 n3 n4 last : ℕ) → length a ≡ n1 → length b ≡ n2 → length c ≡ n3 → length d ≡ n4
+    → length raw ≤ n1 + n2 + n3 + n4 + last →
     put_mid (n1 + n2 + n3 + n4) last (put_mid (n1 + n2 + n3) n4 (put_mid (n1 + n2) n3 (put_mid n1 n2 (a ++ drop n1 raw) b) c) d) e ≡ a ++ b ++ c ++ d ++ e
 five_written raw a b c d e n1 n2 n3 n4 last la lb lc ld all =
     let r1 = drop n1 raw in
@@ -44,4 +47,5 @@ five_written raw a b c d e n1 n2 n3 n4 last la lb lc ld all =
     let x1 = put_mid-next (a ++ r1) a r1 b n1 n2 refl la in
     let x2 = put_mid-next (put_mid n1 n2 (a ++ r1) b) (a ++ b) r2 c (n1 + n2) n3 x1 (omega arith) in
     let x3 = put_mid-next (put_mid (n1 + n2) n3 (put_mid n1 n2 (a ++ r1) b) c) (a ++ b ++ c) r3 d (n1 + n2 + n3) n4 x2 (omega arith) in
-    put_mid-last (put_mid (n1 + n2 + n3) n4 (put_mid (n1 + n2) n3 (put_mid n1 n2 (a ++ r1) b) c) d) (a ++ b ++ c ++ d) r4 e (n1 + n2 + n3 + n4) last x3 (omega arith) (omega arith)
+    put_mid-last (put_mid (n1 + n2 + n3) n4 (put_mid (n1 + n2) n3 (put_mid n1 n2 (a ++ r1) b) c) d) (a ++ b ++ c ++ d) r4 e (n1 + n2 + n3 + n4) last x3
+    (omega arith) (omega arith)

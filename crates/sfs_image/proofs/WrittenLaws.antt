@@ -14,7 +14,8 @@ module _ (layout : Layout) (opened : ℕ → Option Transaction) (parts : ℕ �
   -- a slot stays where its bytes do
   slot_same : (j at n : ℕ) → AgreesOutside at n old new → LiesApart (slot_byte layout j) (4096 * slot_blocks layout.inodes) at n →
       IsSlotOf layout.inodes (opened j) (journal_slot layout old j) → IsSlotOf layout.inodes (opened j) (journal_slot layout new j)
-  slot_same j at n same apart = subst (IsSlotOf layout.inodes (opened j)) (sym (part_apart at n old new same (slot_byte layout j) (4096 * slot_blocks layout.inodes) apart))
+  slot_same j at n same apart =
+      subst (IsSlotOf layout.inodes (opened j)) (sym (part_apart at n old new same (slot_byte layout j) (4096 * slot_blocks layout.inodes) apart))
 
   -- a write to the data, apart from the blocks of all parts, keeps them
   data_kept : WritesData layout opened parts old new → IsImageOf layout opened parts new
@@ -76,7 +77,10 @@ module _ (layout : Layout) (opened : ℕ → Option Transaction) (parts : ℕ �
       go None shut = to.gate ∙ shut
       go (Some one) was =
           let slot = part_changes (slot_byte layout k) 0 1 (4096 * slot_blocks layout.inodes) old new here_on (omega arith) in
-          record { gate = to.gate ∙ was.gate; whole = whole_kept 1 layout.inodes (journal_slot layout old k) (journal_slot layout new k) slot (omega arith) one was.whole }
+          record {
+            gate = to.gate ∙ was.gate;
+            whole = whole_kept 1 layout.inodes (journal_slot layout old k) (journal_slot layout new k) slot (omega arith) one was.whole;
+          }
 
 -- A write to the data keeps what an image stands for.
 pub data_written : (layout : Layout) (opened : ℕ → Option Transaction) (parts : ℕ → Part) (old new : List ℕ) → IsImageOf layout opened parts old

@@ -102,7 +102,8 @@ transaction_in layout image k =
     let slot = journal_slot layout image k in
     let body = body_in layout.inodes slot in
     if (head_of (part 0 4096 slot)).gate
-    then Some (record { stamp = body.stamp; parts = map (λ entry. record { inode = entry.inode; part = part_of (image_block image) entry.bytes }) body.entries })
+    then Some
+    (record { stamp = body.stamp; parts = map (λ entry. record { inode = entry.inode; part = part_of (image_block image) entry.bytes }) body.entries })
     else None
 
 -- the parts that the records of the inode table gather in an image

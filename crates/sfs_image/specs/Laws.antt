@@ -89,12 +89,14 @@ ImagesStandForParts = (layout : Layout) (opened : ℕ → Option Transaction) (p
 
 -- Where each slot may be that of a transaction, each is, of those whose gates are open.
 abbrev pub GatesSayWhichAreOpen : Type 0
-GatesSayWhichAreOpen = (layout : Layout) (may : ℕ → Option Transaction) (image : List ℕ) (k : ℕ) → MayBeSlotOf layout.inodes (may k) (journal_slot layout image k)
+GatesSayWhichAreOpen =
+    (layout : Layout) (may : ℕ → Option Transaction) (image : List ℕ) (k : ℕ) → MayBeSlotOf layout.inodes (may k) (journal_slot layout image k)
     → IsSlotOf layout.inodes (opened_among layout may image k) (journal_slot layout image k)
 
 -- An image in which nothing is wrong up to where its pointers point stands for the parts of its table, with its open slots open.
 abbrev pub AcceptedImagesStand : Type 0
-AcceptedImagesStand = (layout : Layout) (image : List ℕ) → IsAccepted layout image → IsImageOf layout (transaction_in layout image) (table_parts layout image) image
+AcceptedImagesStand =
+    (layout : Layout) (image : List ℕ) → IsAccepted layout image → IsImageOf layout (transaction_in layout image) (table_parts layout image) image
 
 -- what an image that is just made shows: it is accepted, its settled records are the table's, inode 0 is an empty directory and the
 -- others are free, and none breaks a rule on bytes and pointers
@@ -159,7 +161,8 @@ ShutGatesKeep = (layout : Layout) (opened : ℕ → Option Transaction) (parts :
 -- The slot with the least commit stamp may be closed where the table has the records of all parts, or those of its own.
 abbrev pub OldestMayShut : Type 0
 OldestMayShut = (layout : Layout) (opened : ℕ → Option Transaction) (parts : ℕ → Part) (k : ℕ) (one : Transaction) (image : List ℕ) → k < slot_count layout
-    → opened k ≡ Some one → IsOldest layout opened k one → (IsFullTable layout opened parts image) ⊎ (HasRecordsOf layout one image) → MayShut layout opened k image
+    → opened k ≡ Some one → IsOldest layout opened k one → (IsFullTable layout opened parts image) ⊎ (HasRecordsOf layout one image)
+    → MayShut layout opened k image
 
 -- A table that has the newest records of the open slots has the records of all parts.
 abbrev pub NewestRecordsFill : Type 0
@@ -169,4 +172,5 @@ NewestRecordsFill = (layout : Layout) (opened : ℕ → Option Transaction) (par
 -- A table that has the records of all parts has them once a gate has shut.
 abbrev pub TablesStayFull : Type 0
 TablesStayFull = (layout : Layout) (opened : ℕ → Option Transaction) (parts : ℕ → Part) (k : ℕ) (old new : List ℕ) → IsImageOf layout opened parts old
-    → ShutsGate layout opened k old new → IsFullTable layout opened parts old → IsFullTable layout (with_slot opened k None) (with_opened layout opened parts) new
+    → ShutsGate layout opened k old new → IsFullTable layout opened parts old
+    → IsFullTable layout (with_slot opened k None) (with_opened layout opened parts) new

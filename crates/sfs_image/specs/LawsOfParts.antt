@@ -30,7 +30,8 @@ BytesAreShown = (part : Part) → is_file_part part ≡ true → AreTheBytes par
 -- these slots are those of a directory's blocks, 15 of each, block after block
 pub record AreTheSlots (part : Part) (slots : List (Option Row)) : Type 0 where
   pub count : length slots ≡ 15 * length (directory_blocks part)
-  pub each : (n k : ℕ) → n < length (directory_blocks part) → k < 15 → slice_index_or slots (15 * n + k) None ≡ slot_in (slice_index_or (directory_blocks part) n []) k
+  pub each : (n k : ℕ) → n < length (directory_blocks part) → k < 15
+      → slice_index_or slots (15 * n + k) None ≡ slot_in (slice_index_or (directory_blocks part) n []) k
 
 -- A directory shows its slots.
 abbrev pub SlotsAreShown : Type 0

@@ -16,7 +16,8 @@ module _ (test : Entry → Bool) where
   -- what stands in a list and passes is counted
   counted_at : (es : List Entry) (i : ℕ) (e : Entry) → slice_get es i ≡ Some e → test e ≡ true → count_by test es ≢ 0
   counted_at [] i e there passes none = cc
-  counted_at (x ∷ es) zero e there passes none = one_is_more _ (ap (λ b. cond b 1 0 + count_by test es) (sym passes ∙ ap test (sym (some_is x e there))) ∙ sym (count-cons test x es) ∙ none)
+  counted_at (x ∷ es) zero e there passes none =
+      one_is_more _ (ap (λ b. cond b 1 0 + count_by test es) (sym passes ∙ ap test (sym (some_is x e there))) ∙ sym (count-cons test x es) ∙ none)
   counted_at (x ∷ es) (suc i) e there passes none = counted_at es i e there passes (none_left _ _ (sym (count-cons test x es) ∙ none))
 
   -- the only one that passes is found
@@ -66,23 +67,29 @@ behind : (xs ys : List Entry) (i : ℕ) (e : Entry) → slice_get ys i ≡ Some 
 behind [] ys i e there = (i, there)
 behind (x ∷ xs) ys i e there = let rest = behind xs ys i e there in (suc rest.0, rest.1)
 
-among : (parts : List (Vec Entry Global)) (p i : ℕ) (part : Vec Entry Global) (e : Entry) → slice_get parts p ≡ Some part → slice_get part.items i ≡ Some e → (j : ℕ) × (slice_get (entries_in parts) j ≡ Some e)
+among : (parts : List (Vec Entry Global)) (p i : ℕ) (part : Vec Entry Global) (e : Entry) → slice_get parts p ≡ Some part → slice_get part.items i ≡ Some e
+    → (j : ℕ) × (slice_get (entries_in parts) j ≡ Some e)
 among [] p i part e here there = cc
-among (x ∷ parts) zero i part e here there = (i, before x.items (entries_in parts) i e (ap (λ (v : Vec Entry Global). slice_get v.items i) (some_is x part here) ∙ there))
+among (x ∷ parts) zero i part e here there =
+    (i, before x.items (entries_in parts) i e (ap (λ (v : Vec Entry Global). slice_get v.items i) (some_is x part here) ∙ there))
   where
     some_is : (a b : Vec Entry Global) → Some a ≡ Some b → a ≡ b
     some_is a b e = cc
 among (x ∷ parts) (suc p) i part e here there = let rest = among parts p i part e here there in behind x.items (entries_in parts) rest.0 e rest.1
 
 -- an entry that stands in a list is the one with its stamp
-pub entry_found : (parts : List (Vec Entry Global)) (p i : ℕ) (part : Vec Entry Global) (e : Entry) (stamp : ℕ) → EachOnce (entries_in parts) → slice_get parts p ≡ Some part → slice_get part.items i ≡ Some e → e.stamp.0 ≡ stamp → entry_with (entries_in parts) stamp ≡ Some e
+pub entry_found : (parts : List (Vec Entry Global)) (p i : ℕ) (part : Vec Entry Global) (e : Entry) (stamp : ℕ) → EachOnce (entries_in parts)
+    → slice_get parts p ≡ Some part → slice_get part.items i ≡ Some e → e.stamp.0 ≡ stamp → entry_with (entries_in parts) stamp ≡ Some e
 entry_found parts p i part e stamp each here there is =
     let j = among parts p i part e here there in
     let within = each.below j.0 e (slice_get_within (entries_in parts) j.0 e j.1) in
     only_found (has_stamp stamp) (entries_in parts) j.0 e (each.once stamp (below_it j.0 j.1)) j.1 (eq-eqb e.stamp.0 stamp is)
   where
     below_it : (j : ℕ) → slice_get (entries_in parts) j ≡ Some e → stamp < length (entries_in parts)
-    below_it j at = subst (λ (x : ℕ). x < length (entries_in parts)) is (subst (λ (x : Entry). x.stamp.0 < length (entries_in parts)) (get_or_from_slice_get (entries_in parts) j e e at) (each.below j e (slice_get_within (entries_in parts) j e at)))
+    below_it j at =
+        subst (λ (x : ℕ). x < length (entries_in parts)) is
+        (subst (λ (x : Entry). x.stamp.0 < length (entries_in parts)) (get_or_from_slice_get (entries_in parts) j e e at)
+        (each.below j e (slice_get_within (entries_in parts) j e at)))
 
 -- a stamp that is found is below the number of entries
 pub stamp_within : (es : List Entry) (stamp : ℕ) (e : Entry) → EachOnce es → entry_with es stamp ≡ Some e → stamp < length es
@@ -99,7 +106,8 @@ from_length es s (suc c) there =
       | None ↦ λ some. cc
     ] (there s (le_itself s) (less_plus s c))
 
-from_get : (es : List Entry) (s c i : ℕ) → ((k : ℕ) → s ≤ k → k < s + c → IsSome (entry_with es k)) → i < c → slice_get (entries_from es s c) i ≡ entry_with es (s + i)
+from_get : (es : List Entry) (s c i : ℕ) → ((k : ℕ) → s ≤ k → k < s + c → IsSome (entry_with es k)) → i < c
+    → slice_get (entries_from es s c) i ≡ entry_with es (s + i)
 from_get es s zero i there lt = absurd (omega arith)
 from_get es s (suc c) zero there lt =
     (elim (entry_with es s) as (λ o. IsSome o → slice_get (cons_option o (entries_from es (suc s) c)) 0 ≡ o) [
@@ -144,13 +152,17 @@ get-by_stamps es each k =
     none_is (Some e) h = absurd (h e refl)
 
 -- one list after another is searched
-pub find_next : (stamp : ℕ) (part : Vec Entry Global) (parts : List (Vec Entry Global)) → find (has_stamp stamp) part.items ≡ None → entry_with (entries_in (part ∷ parts)) stamp ≡ entry_with (entries_in parts) stamp
+pub find_next : (stamp : ℕ) (part : Vec Entry Global) (parts : List (Vec Entry Global)) → find (has_stamp stamp) part.items ≡ None
+    → entry_with (entries_in (part ∷ parts)) stamp ≡ entry_with (entries_in parts) stamp
 find_next stamp part parts none = find-append (has_stamp stamp) part.items (entries_in parts) ∙ ap (λ o. option_or o (entry_with (entries_in parts) stamp)) none
 
-pub find_here : (stamp : ℕ) (part : Vec Entry Global) (parts : List (Vec Entry Global)) (e : Entry) → find (has_stamp stamp) part.items ≡ Some e → entry_with (entries_in (part ∷ parts)) stamp ≡ Some e
-find_here stamp part parts e found = find-append (has_stamp stamp) part.items (entries_in parts) ∙ ap (λ o. option_or o (entry_with (entries_in parts) stamp)) found
+pub find_here : (stamp : ℕ) (part : Vec Entry Global) (parts : List (Vec Entry Global)) (e : Entry) → find (has_stamp stamp) part.items ≡ Some e
+    → entry_with (entries_in (part ∷ parts)) stamp ≡ Some e
+find_here stamp part parts e found =
+    find-append (has_stamp stamp) part.items (entries_in parts) ∙ ap (λ o. option_or o (entry_with (entries_in parts) stamp)) found
 
-module _ (stamp : ℕ) (parts : List (Vec Entry Global)) (i : ℕ) (part : Vec Entry Global) (lt : i < length parts) (is : part ≡ get_or parts i part) (before : entry_with (entries_in (drop i parts)) stamp ≡ entry_with (entries_in parts) stamp) where
+module _ (stamp : ℕ) (parts : List (Vec Entry Global)) (i : ℕ) (part : Vec Entry Global) (lt : i < length parts) (is : part ≡ get_or parts i part)
+    (before : entry_with (entries_in (drop i parts)) stamp ≡ entry_with (entries_in parts) stamp) where
   this_list : drop i parts ≡ part ∷ drop (i + 1) parts
   this_list = drop-cons parts i part lt ∙ ap (λ x. x ∷ drop (suc i) parts) (sym is) ∙ ap (λ n. part ∷ drop n parts) (suc_is_one_more i)
 

@@ -27,7 +27,8 @@ module _ (P : Entry → Type 0) where
 
   each_filter : (test : Entry → Bool) (xs : List Entry) → Each P xs → Each P (filter test xs)
   each_filter test [] a = tt
-  each_filter test (x ∷ xs) a = elim (test x) as (λ b. Each P (cond b (x ∷ filter test xs) (filter test xs))) [ true ↦ (a.0, each_filter test xs a.1) | false ↦ each_filter test xs a.1 ]
+  each_filter test (x ∷ xs) a =
+      elim (test x) as (λ b. Each P (cond b (x ∷ filter test xs) (filter test xs))) [ true ↦ (a.0, each_filter test xs a.1) | false ↦ each_filter test xs a.1 ]
 
   each_all : (xs : List Entry) → Each P xs → All P xs
   each_all [] a k d lt = absurd (omega arith)
@@ -60,7 +61,8 @@ count-filter p q (x ∷ xs) =
     ∙ sym (count-cons (λ x. q x && p x) x xs)
 
 -- counts by tests that add up at each entry add up
-count_split : (a b c : Entry → Bool) → ((x : Entry) → cond (a x) 1 0 + cond (b x) 1 0 ≡ cond (c x) 1 0) → (xs : List Entry) → count_by a xs + count_by b xs ≡ count_by c xs
+count_split : (a b c : Entry → Bool) → ((x : Entry) → cond (a x) 1 0 + cond (b x) 1 0 ≡ cond (c x) 1 0) → (xs : List Entry)
+    → count_by a xs + count_by b xs ≡ count_by c xs
 count_split a b c h [] = refl
 count_split a b c h (x ∷ xs) =
     added _ _ _ _ _ _ _ _ _ (count-cons a x xs) (count-cons b x xs) (count-cons c x xs) (h x) (count_split a b c h xs)
@@ -108,9 +110,11 @@ is_among first (suc count) n le lt =
     past other le = omega arith
 
 -- an entry is counted for its own list and for those behind it, and for one of them alone
-one_list : (core count : ℕ) (p : Entry → Bool) (x : Entry) → cond (is_core core x && p x) 1 0 + cond (among (suc core) count x.core.0 && p x) 1 0 ≡ cond (among core (suc count) x.core.0 && p x) 1 0
+one_list : (core count : ℕ) (p : Entry → Bool) (x : Entry)
+    → cond (is_core core x && p x) 1 0 + cond (among (suc core) count x.core.0 && p x) 1 0 ≡ cond (among core (suc count) x.core.0 && p x) 1 0
 one_list core count p x =
-    elim (nat_eq x.core.0 core) as (λ b. nat_eq x.core.0 core ≡ b → cond (b && p x) 1 0 + cond (among (suc core) count x.core.0 && p x) 1 0 ≡ cond ((b || among (suc core) count x.core.0) && p x) 1 0) [
+    elim (nat_eq x.core.0 core) as (λ b. nat_eq x.core.0 core ≡ b
+    → cond (b && p x) 1 0 + cond (among (suc core) count x.core.0 && p x) 1 0 ≡ cond ((b || among (suc core) count x.core.0) && p x) 1 0) [
       | true ↦ λ t.
           ap (λ b. cond (p x) 1 0 + cond (b && p x) 1 0) (not_among (suc core) count x.core.0 (less (eqb-true _ _ t))) ∙ plus_zero _
       | false ↦ λ t. zero_plus _
@@ -120,7 +124,9 @@ one_list core count p x =
     less e = omega arith
 
 -- the lists from a core on have its own entries and those of the cores behind it
-count_lists : (core : ℕ) (parts : List (Vec Entry Global)) (history : List Entry) (p : Entry → Bool) → ((k : ℕ) (part : Vec Entry Global) → slice_get parts k ≡ Some part → part.items ≡ filter (is_core (core + k)) history) → count_by p (entries_in parts) ≡ count_by (λ x. among core (length parts) x.core.0 && p x) history
+count_lists : (core : ℕ) (parts : List (Vec Entry Global)) (history : List Entry) (p : Entry → Bool)
+    → ((k : ℕ) (part : Vec Entry Global) → slice_get parts k ≡ Some part → part.items ≡ filter (is_core (core + k)) history)
+    → count_by p (entries_in parts) ≡ count_by (λ x. among core (length parts) x.core.0 && p x) history
 count_lists core [] history p own = sym (count_none history)
   where
     count_none : (xs : List Entry) → count_by (λ _. false) xs ≡ 0
@@ -134,25 +140,40 @@ count_lists core (part ∷ parts) history p own =
     ∙ ap₂ (λ a b. a + b)
     (ap (count_by p) (own 0 part refl ∙ ap (λ n. filter (is_core n) history) (plus_zero core)) ∙ count-filter p (is_core core) history)
     (count_lists (suc core) parts history p (λ k other there. own (suc k) other there ∙ ap (λ n. filter (is_core n) history) (plus_suc core k)))
-    ∙ count_split (λ x. is_core core x && p x) (λ x. among (suc core) (length parts) x.core.0 && p x) (λ x. among core (suc (length parts)) x.core.0 && p x) (one_list core (length parts) p) history
+    ∙ count_split (λ x. is_core core x && p x) (λ x. among (suc core) (length parts) x.core.0 && p x) (λ x. among core (suc (length parts)) x.core.0 && p x)
+    (one_list core (length parts) p) history
 
 -- in a list whose stamps ascend from one on, each of them is there once
-stamps_before : (first stamp : ℕ) (xs : List Entry) → ((i : ℕ) (x : Entry) → slice_get xs i ≡ Some x → x.stamp.0 ≡ first + i) → stamp < first → count_by (has_stamp stamp) xs ≡ 0
+stamps_before : (first stamp : ℕ) (xs : List Entry) → ((i : ℕ) (x : Entry) → slice_get xs i ≡ Some x → x.stamp.0 ≡ first + i) → stamp < first
+    → count_by (has_stamp stamp) xs ≡ 0
 stamps_before first stamp [] h lt = refl
 stamps_before first stamp (x ∷ xs) h lt =
     count-cons (has_stamp stamp) x xs
-    ∙ ap₂ (λ b n. cond b 1 0 + n) (differ (h 0 x refl) lt) (stamps_before (suc first) stamp xs (λ i y there. h (suc i) y there ∙ plus_suc first i) (less_suc lt))
+    ∙ ap₂ (λ b n. cond b 1 0 + n) (differ (h 0 x refl) lt)
+    (stamps_before (suc first) stamp xs (λ i y there. h (suc i) y there ∙ plus_suc first i) (less_suc lt))
   where
     differ : x.stamp.0 ≡ first + 0 → stamp < first → nat_eq x.stamp.0 stamp ≡ false
-    differ is lt = elim (nat_eq x.stamp.0 stamp) as (λ b. nat_eq x.stamp.0 stamp ≡ b → b ≡ false) [ true ↦ λ t. absurd (let e = eqb-true _ _ t in omega arith) | false ↦ λ t. refl ] refl
+    differ is lt =
+        elim (nat_eq x.stamp.0 stamp) as (λ b. nat_eq x.stamp.0 stamp ≡ b → b ≡ false) [
+          | true ↦ λ t. absurd (let e = eqb-true _ _ t in omega arith)
+          | false ↦
+              λ t. refl
+        ] refl
 
-stamps_once : (first stamp : ℕ) (xs : List Entry) → ((i : ℕ) (x : Entry) → slice_get xs i ≡ Some x → x.stamp.0 ≡ first + i) → first ≤ stamp → stamp < first + length xs → count_by (has_stamp stamp) xs ≡ 1
+stamps_once : (first stamp : ℕ) (xs : List Entry) → ((i : ℕ) (x : Entry) → slice_get xs i ≡ Some x → x.stamp.0 ≡ first + i) → first ≤ stamp
+    → stamp < first + length xs → count_by (has_stamp stamp) xs ≡ 1
 stamps_once first stamp [] h le lt = absurd (omega arith)
 stamps_once first stamp (x ∷ xs) h le lt =
     count-cons (has_stamp stamp) x xs
     ∙ elim (nat_eq x.stamp.0 stamp) as (λ b. nat_eq x.stamp.0 stamp ≡ b → cond b 1 0 + count_by (has_stamp stamp) xs ≡ 1) [
-      | true ↦ λ t. one_more (stamps_before (suc first) stamp xs (λ i y there. h (suc i) y there ∙ plus_suc first i) (let e = eqb-true _ _ t in let is = h 0 x refl in omega arith))
-      | false ↦ λ t. none_more (stamps_once (suc first) stamp xs (λ i y there. h (suc i) y there ∙ plus_suc first i) (let e = eqb-false _ _ t in let is = h 0 x refl in omega arith) (less_suc_plus first (length xs) stamp lt))
+      | true ↦
+          λ t. one_more
+          (stamps_before (suc first) stamp xs (λ i y there. h (suc i) y there ∙ plus_suc first i)
+          (let e = eqb-true _ _ t in let is = h 0 x refl in omega arith))
+      | false ↦
+          λ t. none_more
+          (stamps_once (suc first) stamp xs (λ i y there. h (suc i) y there ∙ plus_suc first i)
+          (let e = eqb-false _ _ t in let is = h 0 x refl in omega arith) (less_suc_plus first (length xs) stamp lt))
     ] refl
   where
     one_more : {n : ℕ} → n ≡ 0 → 1 + n ≡ 1
@@ -165,7 +186,9 @@ module _ (parts : List (Vec Entry Global)) (history : List Entry) (h : AreCoresO
   all_counted : (p : Entry → Bool) → count_by p (entries_in parts) ≡ count_by p history
   all_counted p =
       count_lists 0 parts history p (λ k part there. h.own k part there ∙ ap (λ n. filter (is_core n) history) (from_zero_plus k))
-      ∙ count_same _ p history (each_from_get (λ x. (among 0 (length parts) x.core.0 && p x) ≡ p x) history (λ i x there. ap (λ b. b && p x) (is_among 0 (length parts) x.core.0 (omega arith) (less_zero_plus (h.cores i x there)))))
+      ∙ count_same _ p history
+      (each_from_get (λ x. (among 0 (length parts) x.core.0 && p x) ≡ p x) history
+      (λ i x there. ap (λ b. b && p x) (is_among 0 (length parts) x.core.0 (omega arith) (less_zero_plus (h.cores i x there)))))
 
   as_long : length (entries_in parts) ≡ length history
   as_long = sym (count_all (entries_in parts)) ∙ all_counted (λ _. true) ∙ count_all history
@@ -173,11 +196,15 @@ module _ (parts : List (Vec Entry Global)) (history : List Entry) (h : AreCoresO
   in_history : Each (λ x. slice_get history x.stamp.0 ≡ Some x) history
   in_history = each_from_get _ history (λ i x there. ap (slice_get history) (h.stamped i x there) ∙ there)
 
-  in_lists : (lists : List (Vec Entry Global)) → ((k : ℕ) (part : Vec Entry Global) → slice_get lists k ≡ Some part → (core : ℕ) × (part.items ≡ filter (is_core core) history)) → Each (λ x. slice_get history x.stamp.0 ≡ Some x) (entries_in lists)
+  in_lists : (lists : List (Vec Entry Global))
+      → ((k : ℕ) (part : Vec Entry Global) → slice_get lists k ≡ Some part → (core : ℕ) × (part.items ≡ filter (is_core core) history))
+      → Each (λ x. slice_get history x.stamp.0 ≡ Some x) (entries_in lists)
   in_lists [] own = tt
   in_lists (part ∷ lists) own =
       let this = own 0 part refl in
-      each_append _ part.items (entries_in lists) (subst (Each (λ x. slice_get history x.stamp.0 ≡ Some x)) (sym this.1) (each_filter _ (is_core this.0) history in_history)) (in_lists lists (λ k. own (suc k)))
+      each_append _ part.items (entries_in lists)
+      (subst (Each (λ x. slice_get history x.stamp.0 ≡ Some x)) (sym this.1) (each_filter _ (is_core this.0) history in_history))
+      (in_lists lists (λ k. own (suc k)))
 
   -- an entry of the lists stands in the history at its stamp
   stands : Each (λ x. slice_get history x.stamp.0 ≡ Some x) (entries_in parts)
@@ -187,7 +214,9 @@ module _ (parts : List (Vec Entry Global)) (history : List Entry) (h : AreCoresO
   each_once = record {
     below = each_all _ (entries_in parts) (below (entries_in parts) stands);
     once = λ stamp lt.
-        all_counted (has_stamp stamp) ∙ stamps_once 0 stamp history (λ i x there. h.stamped i x there ∙ from_zero_plus i) (omega arith) (less_zero_plus (subst (λ n. stamp < n) as_long lt));
+        all_counted (has_stamp stamp)
+        ∙ stamps_once 0 stamp history (λ i x there. h.stamped i x there ∙ from_zero_plus i) (omega arith)
+        (less_zero_plus (subst (λ n. stamp < n) as_long lt));
     few = subst (λ n. n < 2 ^ 64) (sym as_long) h.few;
   }
     where

@@ -15,7 +15,8 @@ use Rattle.sfs_base.proofs.BasicNumbers.{plus_zero, same_number}
 use Rattle.sfs_base.proofs.BasicOptions.{none_some}
 
 -- a count that is more at one place
-counted_more : (ns : List ℕ) (x k more old new : ℕ) → x < length ns → slice_index ns k ≡ old → new ≡ old + cond (nat_eq x k) more 0 → slice_index (set ns x (slice_index ns x + more)) k ≡ new
+counted_more : (ns : List ℕ) (x k more old new : ℕ) → x < length ns → slice_index ns k ≡ old → new ≡ old + cond (nat_eq x k) more 0
+    → slice_index (set ns x (slice_index ns x + more)) k ≡ new
 counted_more ns x k more old new lt was is =
     elim (nat_eq x k) as (λ t. nat_eq x k ≡ t → new ≡ old + cond t more 0 → slice_index (set ns x (slice_index ns x + more)) k ≡ new) [
       | true ↦ λ t e.
@@ -27,7 +28,8 @@ counted_more ns x k more old new lt was is =
     ] refl is
 
 -- a count that is less at one place
-counted_less : (ns : List ℕ) (x k less old new : ℕ) → x < length ns → slice_index ns k ≡ old → old ≡ new + cond (nat_eq x k) less 0 → slice_index (set ns x (slice_index ns x - less)) k ≡ new
+counted_less : (ns : List ℕ) (x k less old new : ℕ) → x < length ns → slice_index ns k ≡ old → old ≡ new + cond (nat_eq x k) less 0
+    → slice_index (set ns x (slice_index ns x - less)) k ≡ new
 counted_less ns x k less old new lt was is =
     elim (nat_eq x k) as (λ t. nat_eq x k ≡ t → old ≡ new + cond t less 0 → slice_index (set ns x (slice_index ns x - less)) k ≡ new) [
       | true ↦ λ t e.
@@ -52,7 +54,8 @@ no_rows p =
     let b = len-empty key_cmp ℕ in
     omega arith
 
-pub IsCounted-new : (nodes : FinMap nat_cmp Node) (counts : Counts) → counts.named.items ≡ [] → counts.inside.items ≡ [] → counts.directories.items ≡ [] → counts.total ≡ 0 → IsCounted empty nodes counts
+pub IsCounted-new : (nodes : FinMap nat_cmp Node) (counts : Counts) → counts.named.items ≡ [] → counts.inside.items ≡ [] → counts.directories.items ≡ []
+    → counts.total ≡ 0 → IsCounted empty nodes counts
 IsCounted-new nodes counts named inside directories total = record {
   naming = λ node. ap (λ ns. slice_index ns node) named ∙ sym (no_rows (names_it node));
   standing = λ directory. ap (λ ns. slice_index ns directory) inside ∙ sym (no_rows (stands_in directory));
@@ -81,7 +84,9 @@ module _ (old new : Counts) (l : IsLonger old new) where
     naming = λ node. ap (λ ns. slice_index ns node) l.named ∙ zero_behind old.named.items node ∙ h.naming node;
     standing = λ directory. ap (λ ns. slice_index ns directory) l.inside ∙ zero_behind old.inside.items directory ∙ h.standing directory;
     directories = λ directory. ap (λ ns. slice_index ns directory) l.directories ∙ zero_behind old.directories.items directory ∙ h.directories directory;
-    holders = λ directory name child is dir one. ap (λ ns. slice_index ns child) l.holders ∙ zero_behind old.holders.items child ∙ h.holders directory name child is dir one;
+    holders =
+        λ directory name child is dir one. ap (λ ns. slice_index ns child) l.holders ∙ zero_behind old.holders.items child
+        ∙ h.holders directory name child is dir one;
     total = l.total ∙ h.total;
   }
 
@@ -116,22 +121,28 @@ module _ (directory child : ℕ) (is_directory : Bool) (old new : Counts) (r : I
     holders = same_length _ _ _ _ places r.holders h.holders;
   }
 
-  module _ (may : MayRise old directory child) (rows : FinMap key_cmp ℕ) (nodes : FinMap nat_cmp Node) (name : List ℕ) (h : IsCounted rows nodes old) (none : get rows (directory, name) ≡ None) (is : is_directory ≡ is_directory_in nodes child) where
+  module _ (may : MayRise old directory child) (rows : FinMap key_cmp ℕ) (nodes : FinMap nat_cmp Node) (name : List ℕ) (h : IsCounted rows nodes old)
+      (none : get rows (directory, name) ≡ None) (is : is_directory ≡ is_directory_in nodes child) where
     named_more : (node : ℕ) → count_of (insert rows (directory, name) child) node ≡ count_of rows node + cond (nat_eq child node) 1 0
     named_more node = count-insert rows (directory, name) child (names_it node) none
 
-    held : (d : ℕ) (n : List ℕ) (x : ℕ) → get (insert rows (directory, name) child) (d, n) ≡ Some x → is_directory_in nodes x ≡ true → count_of (insert rows (directory, name) child) x ≡ 1 → slice_index (set old.holders.items child directory) x ≡ d
+    held : (d : ℕ) (n : List ℕ) (x : ℕ) → get (insert rows (directory, name) child) (d, n) ≡ Some x → is_directory_in nodes x ≡ true
+        → count_of (insert rows (directory, name) child) x ≡ 1 → slice_index (set old.holders.items child directory) x ≡ d
     held d n x there dir one =
         elim (came rows (directory, name) child (d, n) x there) as (λ _. slice_index (set old.holders.items child directory) x ≡ d) [
-          | Came.new key same ↦ ap (slice_index (set old.holders.items child directory)) same ∙ get_or-set_same old.holders.items child directory 0 may.holders ∙ sym (ap (λ (k : Key). k.0) key)
+          | Came.new key same ↦
+              ap (slice_index (set old.holders.items child directory)) same ∙ get_or-set_same old.holders.items child directory 0 may.holders
+              ∙ sym (ap (λ (k : Key). k.0) key)
           | Came.old differ was ↦
               elim (nat_eq child x) as (λ t. nat_eq child x ≡ t → slice_index (set old.holders.items child directory) x ≡ d) [
                 | true ↦ λ t.
                     let some : 0 < count_of rows x = count_some (names_it x) rows (d, n) x was (same_number x) in
-                    let more : count_of (insert rows (directory, name) child) x ≡ count_of rows x + 1 = named_more x ∙ ap (λ b. count_of rows x + cond b 1 0) t in
+                    let more : count_of (insert rows (directory, name) child) x ≡ count_of rows x + 1 =
+                    named_more x ∙ ap (λ b. count_of rows x + cond b 1 0) t in
                     absurd (omega arith)
                 | false ↦ λ t.
-                    let same : count_of (insert rows (directory, name) child) x ≡ count_of rows x + 0 = named_more x ∙ ap (λ b. count_of rows x + cond b 1 0) t in
+                    let same : count_of (insert rows (directory, name) child) x ≡ count_of rows x + 0 =
+                    named_more x ∙ ap (λ b. count_of rows x + cond b 1 0) t in
                     get_or-set_other old.holders.items child x directory 0 (λ e. eqb-false _ _ t (sym e)) ∙ h.holders d n x was dir (omega arith)
               ] refl
         ]
@@ -139,8 +150,15 @@ module _ (directory child : ℕ) (is_directory : Bool) (old new : Counts) (r : I
     pub IsCounted-raised : IsCounted (insert rows (directory, name) child) nodes new
     IsCounted-raised = record {
       naming = λ node. ap (λ ns. slice_index ns node) r.named ∙ counted_more old.named.items child node 1 _ _ may.named (h.naming node) (named_more node);
-      standing = λ d. ap (λ ns. slice_index ns d) r.inside ∙ counted_more old.inside.items directory d 1 _ _ may.inside (h.standing d) (count-insert rows (directory, name) child (stands_in d) none);
-      directories = λ d. ap (λ ns. slice_index ns d) r.directories ∙ counted_more old.directories.items directory d (one_if is_directory) _ _ may.directories (h.directories d) (count-insert rows (directory, name) child (holds_directory_in nodes d) none ∙ ap (λ n. count_directories rows nodes d + n) (in_two (nat_eq directory d) (is_directory_in nodes child) ∙ ap (λ b. cond (nat_eq directory d) (cond b 1 0) 0) (sym is)));
+      standing =
+          λ d. ap (λ ns. slice_index ns d) r.inside
+          ∙ counted_more old.inside.items directory d 1 _ _ may.inside (h.standing d) (count-insert rows (directory, name) child (stands_in d) none);
+      directories =
+          λ d. ap (λ ns. slice_index ns d) r.directories
+          ∙ counted_more old.directories.items directory d (one_if is_directory) _ _ may.directories (h.directories d)
+          (count-insert rows (directory, name) child (holds_directory_in nodes d) none
+          ∙ ap (λ n. count_directories rows nodes d + n)
+          (in_two (nat_eq directory d) (is_directory_in nodes child) ∙ ap (λ b. cond (nat_eq directory d) (cond b 1 0) 0) (sym is)));
       holders = λ d n x there dir one. ap (λ ns. slice_index ns x) r.holders ∙ held d n x there dir one;
       total = r.total ∙ ap (λ n. n + 1) h.total ∙ sym (len_more rows (directory, name) child none);
     }
@@ -162,20 +180,25 @@ module _ (directory child : ℕ) (is_directory : Bool) (old new : Counts) (r : I
     holders = subst (λ ns. places ≤ length ns) (sym r.holders) h.holders;
   }
 
-  module _ (may : MayFall old directory child is_directory) (rows : FinMap key_cmp ℕ) (nodes : FinMap nat_cmp Node) (name : List ℕ) (h : IsCounted rows nodes old) (some : get rows (directory, name) ≡ Some child) (is : is_directory ≡ is_directory_in nodes child) (once : is_directory ≡ true → count_of rows child ≡ 1) where
+  module _ (may : MayFall old directory child is_directory) (rows : FinMap key_cmp ℕ) (nodes : FinMap nat_cmp Node) (name : List ℕ)
+      (h : IsCounted rows nodes old) (some : get rows (directory, name) ≡ Some child) (is : is_directory ≡ is_directory_in nodes child)
+      (once : is_directory ≡ true → count_of rows child ≡ 1) where
     named_less : (node : ℕ) → count_of rows node ≡ count_of (remove rows (directory, name)) node + cond (nat_eq child node) 1 0
     named_less node = count-remove rows (directory, name) child (names_it node) some
 
-    held_still : (d : ℕ) (n : List ℕ) (x : ℕ) → get (remove rows (directory, name)) (d, n) ≡ Some x → is_directory_in nodes x ≡ true → count_of (remove rows (directory, name)) x ≡ 1 → slice_index old.holders.items x ≡ d
+    held_still : (d : ℕ) (n : List ℕ) (x : ℕ) → get (remove rows (directory, name)) (d, n) ≡ Some x → is_directory_in nodes x ≡ true
+        → count_of (remove rows (directory, name)) x ≡ 1 → slice_index old.holders.items x ≡ d
     held_still d n x there dir one =
         let was = stayed rows (directory, name) (d, n) x there in
         elim (nat_eq child x) as (λ t. nat_eq child x ≡ t → slice_index old.holders.items x ≡ d) [
           | true ↦ λ t.
-              let more : count_of rows x ≡ count_of (remove rows (directory, name)) x + 1 = named_less x ∙ ap (λ b. count_of (remove rows (directory, name)) x + cond b 1 0) t in
+              let more : count_of rows x ≡ count_of (remove rows (directory, name)) x + 1 =
+              named_less x ∙ ap (λ b. count_of (remove rows (directory, name)) x + cond b 1 0) t in
               let single : count_of rows x ≡ 1 = ap (count_of rows) (sym (eqb-true _ _ t)) ∙ once (is ∙ ap (is_directory_in nodes) (eqb-true _ _ t) ∙ dir) in
               absurd (omega arith)
           | false ↦ λ t.
-              let same : count_of rows x ≡ count_of (remove rows (directory, name)) x + 0 = named_less x ∙ ap (λ b. count_of (remove rows (directory, name)) x + cond b 1 0) t in
+              let same : count_of rows x ≡ count_of (remove rows (directory, name)) x + 0 =
+              named_less x ∙ ap (λ b. count_of (remove rows (directory, name)) x + cond b 1 0) t in
               h.holders d n x was.1 dir (omega arith)
         ] refl
 
@@ -185,15 +208,23 @@ module _ (directory child : ℕ) (is_directory : Bool) (old new : Counts) (r : I
     pub IsCounted-lowered : IsCounted (remove rows (directory, name)) nodes new
     IsCounted-lowered = record {
       naming = λ node. ap (λ ns. slice_index ns node) r.named ∙ counted_less old.named.items child node 1 _ _ may.named (h.naming node) (named_less node);
-      standing = λ d. ap (λ ns. slice_index ns d) r.inside ∙ counted_less old.inside.items directory d 1 _ _ may.inside (h.standing d) (count-remove rows (directory, name) child (stands_in d) some);
-      directories = λ d. ap (λ ns. slice_index ns d) r.directories ∙ counted_less old.directories.items directory d (one_if is_directory) _ _ may.directories (h.directories d) (count-remove rows (directory, name) child (holds_directory_in nodes d) some ∙ ap (λ n. count_directories (remove rows (directory, name)) nodes d + n) (in_two (nat_eq directory d) (is_directory_in nodes child) ∙ ap (λ b. cond (nat_eq directory d) (cond b 1 0) 0) (sym is)));
+      standing =
+          λ d. ap (λ ns. slice_index ns d) r.inside
+          ∙ counted_less old.inside.items directory d 1 _ _ may.inside (h.standing d) (count-remove rows (directory, name) child (stands_in d) some);
+      directories =
+          λ d. ap (λ ns. slice_index ns d) r.directories
+          ∙ counted_less old.directories.items directory d (one_if is_directory) _ _ may.directories (h.directories d)
+          (count-remove rows (directory, name) child (holds_directory_in nodes d) some
+          ∙ ap (λ n. count_directories (remove rows (directory, name)) nodes d + n)
+          (in_two (nat_eq directory d) (is_directory_in nodes child) ∙ ap (λ b. cond (nat_eq directory d) (cond b 1 0) 0) (sym is)));
       holders = λ d n x there dir one. ap (λ ns. slice_index ns x) r.holders ∙ held_still d n x there dir one;
       total = r.total ∙ fewer _ _ _ h.total (len_less rows (directory, name) child some);
     }
 
 module _ (rows : FinMap key_cmp ℕ) (nodes : FinMap nat_cmp Node) (counts : Counts) (h : IsCounted rows nodes counts) where
   -- where a further row can be stored, its counts can be raised
-  pub MayRise-counted : (directory child places : ℕ) → IsWide counts places → directory < places → child < places → len rows + 1 < 2 ^ 32 → MayRise counts directory child
+  pub MayRise-counted : (directory child places : ℕ) → IsWide counts places → directory < places → child < places → len rows + 1 < 2 ^ 32
+      → MayRise counts directory child
   MayRise-counted directory child places w d x few =
       let wn = w.named in
       let wi = w.inside in
@@ -218,7 +249,8 @@ module _ (rows : FinMap key_cmp ℕ) (nodes : FinMap nat_cmp Node) (counts : Cou
       }
 
   -- the counts of a row that is there can be lowered
-  pub MayFall-counted : (directory child places : ℕ) (name : List ℕ) (is_directory : Bool) → IsWide counts places → directory < places → child < places → get rows (directory, name) ≡ Some child → is_directory ≡ is_directory_in nodes child → MayFall counts directory child is_directory
+  pub MayFall-counted : (directory child places : ℕ) (name : List ℕ) (is_directory : Bool) → IsWide counts places → directory < places → child < places
+      → get rows (directory, name) ≡ Some child → is_directory ≡ is_directory_in nodes child → MayFall counts directory child is_directory
   MayFall-counted directory child places name is_directory w d x some is =
       let wn = w.named in
       let wi = w.inside in
@@ -243,16 +275,21 @@ module _ (rows : FinMap key_cmp ℕ) (nodes : FinMap nat_cmp Node) (counts : Cou
       enough : (b : Bool) → is_directory_in nodes child ≡ b → one_if b < slice_index counts.directories.items directory + 1
       enough true e =
           let c = h.directories directory in
-          let s : 0 < count_directories rows nodes directory = count_some (holds_directory_in nodes directory) rows (directory, name) child some (ap (λ b. b && is_directory_in nodes child) (same_number directory) ∙ e) in
+          let s : 0 < count_directories rows nodes directory =
+          count_some (holds_directory_in nodes directory) rows (directory, name) child some
+          (ap (λ b. b && is_directory_in nodes child) (same_number directory) ∙ e) in
           omega arith
       enough false e = omega arith
 
   -- nodes of which the children of rows are the same kinds have the same counts
-  pub IsCounted-nodes : (others : FinMap nat_cmp Node) → ((k : Key) (x : ℕ) → get rows k ≡ Some x → is_directory_in others x ≡ is_directory_in nodes x) → IsCounted rows others counts
+  pub IsCounted-nodes : (others : FinMap nat_cmp Node) → ((k : Key) (x : ℕ) → get rows k ≡ Some x → is_directory_in others x ≡ is_directory_in nodes x)
+      → IsCounted rows others counts
   IsCounted-nodes others same = record {
     naming = h.naming;
     standing = h.standing;
-    directories = λ d. h.directories d ∙ count_agree (holds_directory_in nodes d) (holds_directory_in others d) rows (λ k x there. ap (λ b. nat_eq k.0 d && b) (sym (same k x there)));
+    directories =
+        λ d. h.directories d
+        ∙ count_agree (holds_directory_in nodes d) (holds_directory_in others d) rows (λ k x there. ap (λ b. nat_eq k.0 d && b) (sym (same k x there)));
     holders = λ d n x there dir one. h.holders d n x there (sym (same (d, n) x there) ∙ dir) one;
     total = h.total;
   }

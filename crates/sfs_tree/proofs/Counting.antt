@@ -72,7 +72,8 @@ put_back rows k x is =
     ] refl)
 
 -- how many rows pass a test, once one goes
-pub count-remove : (rows : FinMap key_cmp ℕ) (k : Key) (x : ℕ) (p : Key × ℕ → Bool) → get rows k ≡ Some x → count_by p (entries rows) ≡ count_by p (entries (remove rows k)) + cond (p (k, x)) 1 0
+pub count-remove : (rows : FinMap key_cmp ℕ) (k : Key) (x : ℕ) (p : Key × ℕ → Bool) → get rows k ≡ Some x
+    → count_by p (entries rows) ≡ count_by p (entries (remove rows k)) + cond (p (k, x)) 1 0
 count-remove rows k x p is =
     ap (λ m. count_by p (entries m)) (sym (put_back rows k x is)) ∙ count-insert (remove rows k) k x p (none_removed rows k)
 
@@ -90,14 +91,21 @@ count-le-len rows p = let a = count_by-le-length p (entries rows) in let b = len
 behind : (e : Key × ℕ) (es : List (Key × ℕ)) (k : Key) (x : ℕ) → T (is_sorted key_cmp (e ∷ es)) → find key_cmp k es ≡ Some x → find key_cmp k (e ∷ es) ≡ Some x
 behind e es k x s is =
     elim (eq_by_cmp key_cmp k e.0) as (λ b. eq_by_cmp key_cmp k e.0 ≡ b → cond b (Some e.1) (find key_cmp k es) ≡ Some x) [
-      | true ↦ λ t. absurd (none_some (sym (not_found key_cmp_total k es (subst (λ j. T (below_all key_cmp j es)) (sym (key_cmp-IsAntisymmetric k e.0 (is_equal _ t))) (both_first _ _ s))) ∙ is))
+      | true ↦
+          λ t. absurd
+          (none_some
+          (sym
+          (not_found key_cmp_total k es
+          (subst (λ j. T (below_all key_cmp j es)) (sym (key_cmp-IsAntisymmetric k e.0 (is_equal _ t))) (both_first _ _ s)))
+          ∙ is))
       | false ↦ λ t. is
     ] refl
 
 head : (e : Key × ℕ) (es : List (Key × ℕ)) → find key_cmp e.0 (e ∷ es) ≡ Some e.1
 head e es = ap (λ b. cond b (Some e.1) (find key_cmp e.0 es)) (same_itself e.0)
 
-agree_list : (p q : Key × ℕ → Bool) (es : List (Key × ℕ)) → T (is_sorted key_cmp es) → ((k : Key) (x : ℕ) → find key_cmp k es ≡ Some x → p (k, x) ≡ q (k, x)) → count_by p es ≡ count_by q es
+agree_list : (p q : Key × ℕ → Bool) (es : List (Key × ℕ)) → T (is_sorted key_cmp es) → ((k : Key) (x : ℕ) → find key_cmp k es ≡ Some x → p (k, x) ≡ q (k, x))
+    → count_by p es ≡ count_by q es
 agree_list p q [] s h = refl
 agree_list p q (e ∷ es) s h =
     count-cons p e es
@@ -106,7 +114,8 @@ agree_list p q (e ∷ es) s h =
     ∙ sym (count-cons q e es)
 
 -- tests that agree on the rows count alike
-pub count_agree : (p q : Key × ℕ → Bool) (rows : FinMap key_cmp ℕ) → ((k : Key) (x : ℕ) → get rows k ≡ Some x → p (k, x) ≡ q (k, x)) → count_by p (entries rows) ≡ count_by q (entries rows)
+pub count_agree : (p q : Key × ℕ → Bool) (rows : FinMap key_cmp ℕ) → ((k : Key) (x : ℕ) → get rows k ≡ Some x → p (k, x) ≡ q (k, x))
+    → count_by p (entries rows) ≡ count_by q (entries rows)
 count_agree p q rows h = agree_list p q (entries rows) (entries_sorted rows) (λ k x is. h k x (get-entries rows k ∙ is))
 
 never : (es : List (Key × ℕ)) → count_by (λ _. false) es ≡ 0
@@ -120,7 +129,8 @@ count_none p rows h = count_agree p (λ _. false) rows h ∙ never (entries rows
 -- a row passes where one does
 pub count_some : (p : Key × ℕ → Bool) (rows : FinMap key_cmp ℕ) (k : Key) (x : ℕ) → get rows k ≡ Some x → p (k, x) ≡ true → 0 < count_by p (entries rows)
 count_some p rows k x is passes =
-    let e : count_by p (entries rows) ≡ count_by p (entries (remove rows k)) + 1 = count-remove rows k x p is ∙ ap (λ b. count_by p (entries (remove rows k)) + cond b 1 0) passes in
+    let e : count_by p (entries rows) ≡ count_by p (entries (remove rows k)) + 1 =
+    count-remove rows k x p is ∙ ap (λ b. count_by p (entries (remove rows k)) + cond b 1 0) passes in
     omega arith
 
 -- a row that a test finds
@@ -144,7 +154,12 @@ found_in p (e ∷ es) s lt =
       | false ↦ λ t.
           let fewer : count_by p (e ∷ es) ≡ 0 + count_by p es = count-cons p e es ∙ ap (λ b. cond b 1 0 + count_by p es) t in
           let rest : FoundIn p es = found_in p es (both_second _ _ s) (omega arith) in
-          record { row = rest.row; is = ap (λ b. cond b (Some e) (list.find p es)) t ∙ rest.is; there = behind e es rest.row.0 rest.row.1 s rest.there; passes = rest.passes }
+          record {
+            row = rest.row;
+            is = ap (λ b. cond b (Some e) (list.find p es)) t ∙ rest.is;
+            there = behind e es rest.row.0 rest.row.1 s rest.there;
+            passes = rest.passes;
+          }
     ] refl
 
 -- where some row passes a test, one is found
@@ -159,16 +174,19 @@ found_none p [] e = refl
 found_none p (x ∷ es) e =
     elim (p x) as (λ b. p x ≡ b → cond b (Some x) (list.find p es) ≡ None) [
       | true ↦ λ t. let more : count_by p (x ∷ es) ≡ 1 + count_by p es = count-cons p x es ∙ ap (λ b. cond b 1 0 + count_by p es) t in absurd (omega arith)
-      | false ↦ λ t. let same : count_by p (x ∷ es) ≡ 0 + count_by p es = count-cons p x es ∙ ap (λ b. cond b 1 0 + count_by p es) t in found_none p es (omega arith)
+      | false ↦ λ t. let same : count_by p (x ∷ es) ≡ 0 + count_by p es = count-cons p x es ∙ ap (λ b. cond b 1 0 + count_by p es) t in
+          found_none p es (omega arith)
     ] refl
 
 -- two rows that pass a test which one row passes are one
-pub only : (p : Key × ℕ → Bool) (rows : FinMap key_cmp ℕ) (k q : Key) (x y : ℕ) → count_by p (entries rows) ≡ 1 → get rows k ≡ Some x → p (k, x) ≡ true → get rows q ≡ Some y → p (q, y) ≡ true → q ≡ k
+pub only : (p : Key × ℕ → Bool) (rows : FinMap key_cmp ℕ) (k q : Key) (x y : ℕ) → count_by p (entries rows) ≡ 1 → get rows k ≡ Some x → p (k, x) ≡ true
+    → get rows q ≡ Some y → p (q, y) ≡ true → q ≡ k
 only p rows k q x y one is passes was also =
     elim (eq_by_cmp key_cmp q k) as (λ b. eq_by_cmp key_cmp q k ≡ b → q ≡ k) [
       | true ↦ λ t. key_cmp-IsAntisymmetric q k (is_equal _ t)
       | false ↦ λ t.
-          let left : count_by p (entries rows) ≡ count_by p (entries (remove rows k)) + 1 = count-remove rows k x p is ∙ ap (λ b. count_by p (entries (remove rows k)) + cond b 1 0) passes in
+          let left : count_by p (entries rows) ≡ count_by p (entries (remove rows k)) + 1 =
+          count-remove rows k x p is ∙ ap (λ b. count_by p (entries (remove rows k)) + cond b 1 0) passes in
           let more : 0 < count_by p (entries (remove rows k)) = count_some p (remove rows k) q y (get_other-remove rows k q (differ_false q k t) ∙ was) also in
           absurd (omega arith)
     ] refl

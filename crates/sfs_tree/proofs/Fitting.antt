@@ -27,16 +27,19 @@ use Rattle.sfs_base.proofs.BasicOptions.{none_of, some_is}
 abbrev pub VerdictFits : TreeState → ℕ → Verdict → Type 0
 VerdictFits tree core verdict = Fits tree core verdict.effect verdict.makes
 
-or_else_fits : (tree : TreeState) (core : ℕ) (fault : Option Code) (v : Verdict) → (fault ≡ None → VerdictFits tree core v) → VerdictFits tree core (or_else fault v)
+or_else_fits : (tree : TreeState) (core : ℕ) (fault : Option Code) (v : Verdict) → (fault ≡ None → VerdictFits tree core v)
+    → VerdictFits tree core (or_else fault v)
 or_else_fits tree core (Some code) v h = tt
 or_else_fits tree core None v h = h refl
 
-unless_fits : (tree : TreeState) (core : ℕ) (b : Bool) (code : Code) (v : Verdict) → (b ≡ false → VerdictFits tree core v) → VerdictFits tree core (cond b (refused code) v)
+unless_fits : (tree : TreeState) (core : ℕ) (b : Bool) (code : Code) (v : Verdict) → (b ≡ false → VerdictFits tree core v)
+    → VerdictFits tree core (cond b (refused code) v)
 unless_fits tree core true code v h = tt
 unless_fits tree core false code v h = h refl
 
 -- the effect that is done fits, and so does the refusal before it
-unless_done : (tree : TreeState) (core : ℕ) (b : Bool) (code : Code) (effect : Effect) → (b ≡ false → FitsTree tree effect) → VerdictFits tree core (cond b (refused code) (done effect))
+unless_done : (tree : TreeState) (core : ℕ) (b : Bool) (code : Code) (effect : Effect) → (b ≡ false → FitsTree tree effect)
+    → VerdictFits tree core (cond b (refused code) (done effect))
 unless_done tree core true code effect h = tt
 unless_done tree core false code effect h = h refl
 
@@ -86,11 +89,13 @@ file_node tree s file f =
       ],
     )
 
-bare_when : (tree : TreeState) (node : ℕ) → (is_directory tree node && not (nat_eq (row_count tree node) 0)) ≡ false → is_directory tree node ≡ true → HasNoRows tree node
+bare_when : (tree : TreeState) (node : ℕ) → (is_directory tree node && not (nat_eq (row_count tree node) 0)) ≡ false → is_directory tree node ≡ true
+    → HasNoRows tree node
 bare_when tree node none kind = no_rows tree node (eqb-true _ _ (not_false _ (then_false (is_directory tree node) _ none kind)))
 
 module _ (tree : TreeState) (core : ℕ) (s : IsSound tree) where
-  make_fits : IsNumbered tree → core < length tree.made → (directory : ℕ) (name : List ℕ) (kind : Kind) → make_fault tree core directory name ≡ None → VerdictFits tree core (make_node tree core directory name kind)
+  make_fits : IsNumbered tree → core < length tree.made → (directory : ℕ) (name : List ℕ) (kind : Kind) → make_fault tree core directory name ≡ None
+      → VerdictFits tree core (make_node tree core directory name kind)
   make_fits n lt directory name kind none =
       let both = neither _ _ none in
       let absent = not_so _ _ _ both.1 in
@@ -106,19 +111,33 @@ module _ (tree : TreeState) (core : ℕ) (s : IsSound tree) where
       let both = neither _ _ kind.1 in
       let absent = not_so _ _ _ both.1 in
       let node = file_node tree s file (record { alive = not_false _ alive.0; kind = kind.0 }) in
-      record { holder = may_hold tree directory both.0; free = none_of _ absent.0; no_root = node.0; placeless = λ k. absurd (not_both k kind.0); node = node.1 }
+      record {
+        holder = may_hold tree directory both.0;
+        free = none_of _ absent.0;
+        no_root = node.0;
+        placeless = λ k. absurd (not_both k kind.0);
+        node = node.1;
+      }
 
-  unlink_fits : (directory : ℕ) (name : List ℕ) (child : Option ℕ) → row_of tree directory name ≡ child → VerdictFits tree core (unlink_row tree directory name child)
+  unlink_fits : (directory : ℕ) (name : List ℕ) (child : Option ℕ) → row_of tree directory name ≡ child
+      → VerdictFits tree core (unlink_row tree directory name child)
   unlink_fits directory name None e = tt
-  unlink_fits directory name (Some child) e = unless_done tree core _ _ (Removes directory name child) (λ kind. record { row = e; bare = λ k. absurd (not_both k kind) })
+  unlink_fits directory name (Some child) e =
+      unless_done tree core _ _ (Removes directory name child) (λ kind. record { row = e; bare = λ k. absurd (not_both k kind) })
 
-  rmdir_fits : (directory : ℕ) (name : List ℕ) (child : Option ℕ) → row_of tree directory name ≡ child → VerdictFits tree core (rmdir_row tree directory name child)
+  rmdir_fits : (directory : ℕ) (name : List ℕ) (child : Option ℕ) → row_of tree directory name ≡ child
+      → VerdictFits tree core (rmdir_row tree directory name child)
   rmdir_fits directory name None e = tt
   rmdir_fits directory name (Some child) e =
-      unless_fits tree core (not (is_directory tree child)) NotDir (cond (not (nat_eq (row_count tree child) 0)) (refused NotEmpty) (done (Removes directory name child))) (λ kind. unless_done tree core _ _ (Removes directory name child) (λ rows. record { row = e; bare = λ k. no_rows tree child (eqb-true _ _ (not_false _ rows)) }))
+      unless_fits tree core (not (is_directory tree child)) NotDir
+      (cond (not (nat_eq (row_count tree child) 0)) (refused NotEmpty) (done (Removes directory name child)))
+      (λ kind. unless_done tree core _ _ (Removes directory name child)
+      (λ rows. record { row = e; bare = λ k. no_rows tree child (eqb-true _ _ (not_false _ rows)) }))
 
   -- the directories above the target, where a directory may move to it
-  away_from : (child to_directory : ℕ) → MayHold tree to_directory → (is_directory tree child && (nat_eq to_directory child || lies_below tree to_directory child)) ≡ false → is_directory tree child ≡ true → (above : List ℕ) × Above tree to_directory above × Lacks (to_directory ∷ above) child
+  away_from : (child to_directory : ℕ) → MayHold tree to_directory
+      → (is_directory tree child && (nat_eq to_directory child || lies_below tree to_directory child)) ≡ false → is_directory tree child ≡ true
+      → (above : List ℕ) × Above tree to_directory above × Lacks (to_directory ∷ above) child
   away_from child to_directory holder none kind =
       let apart = and_or (is_directory tree child) _ _ none kind in
       let way = way_up tree s to_directory holder.kind holder.alive in
@@ -129,17 +148,23 @@ module _ (tree : TreeState) (core : ℕ) (s : IsSound tree) where
       and_or true false c e t = (refl, e)
       and_or false b c e t = cc
 
-  place_bare : (child to_directory : ℕ) (to_name : List ℕ) (o : Option ℕ) → place_fault tree child to_directory to_name o ≡ None → (there : ℕ) → o ≡ Some there → is_directory tree there ≡ true → HasNoRows tree there
+  place_bare : (child to_directory : ℕ) (to_name : List ℕ) (o : Option ℕ) → place_fault tree child to_directory to_name o ≡ None → (there : ℕ) → o ≡ Some there
+      → is_directory tree there ≡ true → HasNoRows tree there
   place_bare child to_directory to_name None none there e kind = cc
   place_bare child to_directory to_name (Some y) none there e kind =
-      let third = third_not (is_directory tree child && not (is_directory tree y)) (not (is_directory tree child) && is_directory tree y) (is_directory tree y && not (nat_eq (row_count tree y) 0)) NotDir IsDir NotEmpty none in
+      let third =
+      third_not (is_directory tree child && not (is_directory tree y)) (not (is_directory tree child) && is_directory tree y)
+      (is_directory tree y && not (nat_eq (row_count tree y) 0)) NotDir IsDir NotEmpty none in
       let same : y ≡ there = some_is y there e in
       subst (λ (z : ℕ). HasNoRows tree z) same (bare_when tree y third (subst (λ (z : ℕ). is_directory tree z ≡ true) (sym same) kind))
 
-  move_fits : (directory : ℕ) (name : List ℕ) (to_directory : ℕ) (to_name : List ℕ) (child : Option ℕ) → MayHold tree to_directory → row_of tree directory name ≡ child → VerdictFits tree core (move_row tree directory name to_directory to_name child)
+  move_fits : (directory : ℕ) (name : List ℕ) (to_directory : ℕ) (to_name : List ℕ) (child : Option ℕ) → MayHold tree to_directory
+      → row_of tree directory name ≡ child → VerdictFits tree core (move_row tree directory name to_directory to_name child)
   move_fits directory name to_directory to_name None holder e = tt
   move_fits directory name to_directory to_name (Some child) holder e =
-      elim (names_child (row_of tree to_directory to_name) child) as (λ b. names_child (row_of tree to_directory to_name) child ≡ b → VerdictFits tree core (cond b (answered reply.Ok) (or_else (move_fault tree child to_directory to_name) (done (Moves directory name to_directory to_name child))))) [
+      elim (names_child (row_of tree to_directory to_name) child) as (λ b. names_child (row_of tree to_directory to_name) child ≡ b
+      → VerdictFits tree core
+      (cond b (answered reply.Ok) (or_else (move_fault tree child to_directory to_name) (done (Moves directory name to_directory to_name child))))) [
         | true ↦ λ t. tt
         | false ↦ λ t. or_else_fits tree core _ (done (Moves directory name to_directory to_name child)) (λ none.
             let below = not_so _ _ _ none in
@@ -160,7 +185,8 @@ module _ (tree : TreeState) (core : ℕ) (s : IsSound tree) where
 
   write_fits : (file at : ℕ) (bytes : List ℕ) → IsFile tree file → VerdictFits tree core (write_bytes file at bytes)
   write_fits file at bytes f =
-      elim (nat_eq (length bytes) 0) as (λ b. VerdictFits tree core (cond b (answered reply.Ok) (cond (nat_lt LARGEST_FILE (at + length bytes)) (refused FileTooBig) (done (Edits file (Puts at bytes)))))) [
+      elim (nat_eq (length bytes) 0) as (λ b. VerdictFits tree core
+      (cond b (answered reply.Ok) (cond (nat_lt LARGEST_FILE (at + length bytes)) (refused FileTooBig) (done (Edits file (Puts at bytes)))))) [
         | true ↦ tt
         | false ↦ unless_done tree core _ _ (Edits file (Puts at bytes)) (λ _. edits_fit file f)
       ]
@@ -180,7 +206,10 @@ module _ (tree : TreeState) (core : ℕ) (s : IsSound tree) where
       or_else_fits tree core _ _ (λ none. move_fits directory.0 name to_directory.0 to_name _ (may_hold tree to_directory.0 (neither _ _ none).1) refl)
   verdict_fits n lt (call.Write file at bytes) = or_else_fits tree core _ _ (λ none. write_fits file.0 at bytes (live_file tree file.0 none))
   verdict_fits n lt (call.Read file at count) = answer_fits tree core (file_fault tree file.0) (reply.Bytes (take count (drop at (bytes_of tree file.0))))
-  verdict_fits n lt (call.Trunc file size) = or_else_fits tree core _ _ (λ none. unless_done tree core _ _ (Edits file.0 (Resizes size)) (λ _. edits_fit file.0 (live_file tree file.0 none)))
-  verdict_fits n lt (call.Stat node) = answer_fits tree core (node_fault tree node.0) (reply.Stat (kind_of tree node.0) (links_of tree node.0) (size_of tree node.0))
-  verdict_fits n lt (call.List directory) = answer_fits tree core (directory_fault tree directory.0) (reply.Names (with_kinds tree (names_of directory.0 tree.rows)))
+  verdict_fits n lt (call.Trunc file size) =
+      or_else_fits tree core _ _ (λ none. unless_done tree core _ _ (Edits file.0 (Resizes size)) (λ _. edits_fit file.0 (live_file tree file.0 none)))
+  verdict_fits n lt (call.Stat node) =
+      answer_fits tree core (node_fault tree node.0) (reply.Stat (kind_of tree node.0) (links_of tree node.0) (size_of tree node.0))
+  verdict_fits n lt (call.List directory) =
+      answer_fits tree core (directory_fault tree directory.0) (reply.Names (with_kinds tree (names_of directory.0 tree.rows)))
   verdict_fits n lt (call.Fsync node) = answer_fits tree core (node_fault tree node.0) reply.Ok

@@ -14,7 +14,8 @@ use Rattle.sfs_base.proofs.BasicOptions.{none_not_some, none_there}
 use Rattle.sfs_base.proofs.BasicLists.{zeros_read}
 
 -- a tree in which no core has made a node has the nodes below the first new one alone
-pub IsFounded-new : (nodes : FinMap nat_cmp Node) (first share cores : ℕ) → first ≤ 16384 → share * cores ≤ 65536 → ((node : ℕ) → IsSome (get nodes node) → node < first) → IsFounded nodes first share (replicate cores 0)
+pub IsFounded-new : (nodes : FinMap nat_cmp Node) (first share cores : ℕ) → first ≤ 16384 → share * cores ≤ 65536
+    → ((node : ℕ) → IsSome (get nodes node) → node < first) → IsFounded nodes first share (replicate cores 0)
 IsFounded-new nodes first share cores low shares below = record {
   allowed = record {
     low = low;
@@ -37,10 +38,12 @@ module _ (nodes : FinMap nat_cmp Node) (first share : ℕ) (made : List ℕ) (h 
   IsFounded-node number node lt = record {
     allowed = h.allowed;
     drawn = record {
-      known = λ x some. elim (some_before nodes number x node some) as (λ _. (x < first) ⊎ ((core creation : ℕ) × (core < length made) × (creation < slice_index made core) × (x ≡ first + core * share + creation))) [
-        | inl same ↦ inl (omega arith)
-        | inr old ↦ h.drawn.known x old
-      ];
+      known =
+          λ x some. elim (some_before nodes number x node some) as (λ _. (x < first)
+          ⊎ ((core creation : ℕ) × (core < length made) × (creation < slice_index made core) × (x ≡ first + core * share + creation))) [
+            | inl same ↦ inl (omega arith)
+            | inr old ↦ h.drawn.known x old
+          ];
     };
   }
 
@@ -53,10 +56,12 @@ module _ (nodes : FinMap nat_cmp Node) (first share : ℕ) (made : List ℕ) (h 
       by_node (Some node) e = record {
         allowed = h.allowed;
         drawn = record {
-          known = λ x some. elim (some_before nodes number x (record node { bytes = edited edit node.bytes }) some) as (λ _. (x < first) ⊎ ((core creation : ℕ) × (core < length made) × (creation < slice_index made core) × (x ≡ first + core * share + creation))) [
-            | inl same ↦ h.drawn.known x (subst IsSome (sym (ap (get nodes) same ∙ e)) refl)
-            | inr old ↦ h.drawn.known x old
-          ];
+          known =
+              λ x some. elim (some_before nodes number x (record node { bytes = edited edit node.bytes }) some) as (λ _. (x < first)
+              ⊎ ((core creation : ℕ) × (core < length made) × (creation < slice_index made core) × (x ≡ first + core * share + creation))) [
+                | inl same ↦ h.drawn.known x (subst IsSome (sym (ap (get nodes) same ∙ e)) refl)
+                | inr old ↦ h.drawn.known x old
+              ];
         };
       }
 
@@ -69,10 +74,12 @@ module _ (nodes : FinMap nat_cmp Node) (first share : ℕ) (made : List ℕ) (h 
       within = λ core. let z = unmade core in omega arith;
     };
     drawn = record {
-      known = λ x some. elim (h.drawn.known x some) as (λ _. (x < first) ⊎ ((core creation : ℕ) × (core < length made) × (creation < slice_index made core) × (x ≡ first + core * more + creation))) [
-        | inl below ↦ inl below
-        | inr made_by ↦ absurd (let z = unmade made_by.0 in let lt = made_by.3 in omega arith)
-      ];
+      known =
+          λ x some. elim (h.drawn.known x some) as (λ _. (x < first)
+          ⊎ ((core creation : ℕ) × (core < length made) × (creation < slice_index made core) × (x ≡ first + core * more + creation))) [
+            | inl below ↦ inl below
+            | inr made_by ↦ absurd (let z = unmade made_by.0 in let lt = made_by.3 in omega arith)
+          ];
     };
   }
 
@@ -84,8 +91,10 @@ module _ (nodes : FinMap nat_cmp Node) (first share : ℕ) (made : List ℕ) (h 
           let le = h.allowed.within other.0 in
           let lt = other.3 in
           let same : core * share + slice_index made core ≡ other.0 * share + other.1 = omega (arith, other.4) in
-          let quotient : core ≡ other.0 = sym (div-mul-add core share (slice_index made core) room) ∙ ap (λ n. n / share) same ∙ div-mul-add other.0 share other.1 (omega arith) in
-          let remainder : slice_index made core ≡ other.1 = sym (mod-mul-add core share (slice_index made core) room) ∙ ap (λ n. n % share) same ∙ mod-mul-add other.0 share other.1 (omega arith) in
+          let quotient : core ≡ other.0 =
+          sym (div-mul-add core share (slice_index made core) room) ∙ ap (λ n. n / share) same ∙ div-mul-add other.0 share other.1 (omega arith) in
+          let remainder : slice_index made core ≡ other.1 =
+          sym (mod-mul-add core share (slice_index made core) room) ∙ ap (λ n. n % share) same ∙ mod-mul-add other.0 share other.1 (omega arith) in
           let there : slice_index made core ≡ slice_index made other.0 = ap (slice_index made) quotient in
           omega arith
     ]
@@ -97,14 +106,18 @@ module _ (nodes : FinMap nat_cmp Node) (first share : ℕ) (made : List ℕ) (h 
     more_made : (k : ℕ) → slice_index made k ≤ slice_index (set made core (slice_index made core + 1)) k
     more_made k = elim (nat_eq k core) as (λ b. nat_eq k core ≡ b → slice_index made k ≤ slice_index (set made core (slice_index made core + 1)) k) [
       | true ↦ λ t.
-          let a : slice_index (set made core (slice_index made core + 1)) k ≡ slice_index made core + 1 = ap (slice_index (set made core (slice_index made core + 1))) (eqb-true _ _ t) ∙ get_or-set_same made core (slice_index made core + 1) 0 within in
+          let a : slice_index (set made core (slice_index made core + 1)) k ≡ slice_index made core + 1 =
+          ap (slice_index (set made core (slice_index made core + 1))) (eqb-true _ _ t) ∙ get_or-set_same made core (slice_index made core + 1) 0 within in
           let b : slice_index made k ≡ slice_index made core = ap (slice_index made) (eqb-true _ _ t) in
           omega arith
-      | false ↦ λ t. let a : slice_index (set made core (slice_index made core + 1)) k ≡ slice_index made k = get_or-set_other made core k (slice_index made core + 1) 0 (eqb-false _ _ t) in omega arith
+      | false ↦ λ t. let a : slice_index (set made core (slice_index made core + 1)) k ≡ slice_index made k =
+          get_or-set_other made core k (slice_index made core + 1) 0 (eqb-false _ _ t) in
+          omega arith
     ] refl
 
     -- and once it is drawn, it is one that the core has given
-    pub IsFounded-made : (node : Node) → IsFounded (insert nodes (first + core * share + slice_index made core) node) first share (set made core (slice_index made core + 1))
+    pub IsFounded-made : (node : Node)
+        → IsFounded (insert nodes (first + core * share + slice_index made core) node) first share (set made core (slice_index made core + 1))
     IsFounded-made node =
         let n : length (set made core (slice_index made core + 1)) ≡ length made = length-set made core _ in
         record {
@@ -112,18 +125,38 @@ module _ (nodes : FinMap nat_cmp Node) (first share : ℕ) (made : List ℕ) (h 
             low = h.allowed.low;
             shares = subst (λ n. share * n ≤ 65536) (sym n) h.allowed.shares;
             within = λ k. elim (nat_eq k core) as (λ b. nat_eq k core ≡ b → slice_index (set made core (slice_index made core + 1)) k ≤ share) [
-              | true ↦ λ t. let a : slice_index (set made core (slice_index made core + 1)) k ≡ slice_index made core + 1 = ap (slice_index (set made core (slice_index made core + 1))) (eqb-true _ _ t) ∙ get_or-set_same made core (slice_index made core + 1) 0 within in omega arith
-              | false ↦ λ t. let a : slice_index (set made core (slice_index made core + 1)) k ≡ slice_index made k = get_or-set_other made core k (slice_index made core + 1) 0 (eqb-false _ _ t) in let b = h.allowed.within k in omega arith
+              | true ↦ λ t. let a : slice_index (set made core (slice_index made core + 1)) k ≡ slice_index made core + 1 =
+                  ap (slice_index (set made core (slice_index made core + 1))) (eqb-true _ _ t)
+                  ∙ get_or-set_same made core (slice_index made core + 1) 0 within in
+                  omega arith
+              | false ↦ λ t. let a : slice_index (set made core (slice_index made core + 1)) k ≡ slice_index made k =
+                  get_or-set_other made core k (slice_index made core + 1) 0 (eqb-false _ _ t) in
+                  let b = h.allowed.within k in omega arith
             ] refl;
           };
           drawn = record {
-            known = λ x some. elim (some_before nodes (first + core * share + slice_index made core) x node some) as (λ _. (x < first) ⊎ ((k creation : ℕ) × (k < length (set made core (slice_index made core + 1))) × (creation < slice_index (set made core (slice_index made core + 1)) k) × (x ≡ first + k * share + creation))) [
-              | inl same ↦ inr (core, slice_index made core, omega arith, (let a : slice_index (set made core (slice_index made core + 1)) core ≡ slice_index made core + 1 = get_or-set_same made core (slice_index made core + 1) 0 within in omega arith), same)
-              | inr old ↦ elim (h.drawn.known x old) as (λ _. (x < first) ⊎ ((k creation : ℕ) × (k < length (set made core (slice_index made core + 1))) × (creation < slice_index (set made core (slice_index made core + 1)) k) × (x ≡ first + k * share + creation))) [
-                | inl below ↦ inl below
-                | inr by ↦ inr (by.0, by.1, (let lt = by.2 in omega arith), (let lt = by.3 in let m = more_made by.0 in omega arith), by.4)
-              ]
-            ];
+            known =
+                λ x some. elim (some_before nodes (first + core * share + slice_index made core) x node some) as (λ _. (x < first)
+                ⊎ ((k creation : ℕ) × (k < length (set made core (slice_index made core + 1)))
+                × (creation < slice_index (set made core (slice_index made core + 1)) k) × (x ≡ first + k * share + creation))) [
+                  | inl same ↦
+                      inr (
+                        core,
+                        slice_index made core,
+                        omega arith,
+                        (let a : slice_index (set made core (slice_index made core + 1)) core
+                            ≡ slice_index made core + 1 = get_or-set_same made core (slice_index made core + 1) 0 within in
+                            omega arith),
+                        same,
+                      )
+                  | inr old ↦
+                      elim (h.drawn.known x old) as (λ _. (x < first)
+                      ⊎ ((k creation : ℕ) × (k < length (set made core (slice_index made core + 1)))
+                      × (creation < slice_index (set made core (slice_index made core + 1)) k) × (x ≡ first + k * share + creation))) [
+                        | inl below ↦ inl below
+                        | inr by ↦ inr (by.0, by.1, (let lt = by.2 in omega arith), (let lt = by.3 in let m = more_made by.0 in omega arith), by.4)
+                      ]
+                ];
           };
         }
 
@@ -132,7 +165,8 @@ pub founded_numbers : (tree : TreeState) → IsFounded tree.nodes tree.first tre
 founded_numbers tree founded = record { known = founded.drawn.known; within = λ core less. let le = founded.allowed.within core in omega arith }
 
 -- where no core has made a node, another share changes nothing
-pub numbered_unmade : (tree : TreeState) (share : ℕ) → IsNumbered tree → ((core : ℕ) → slice_index tree.made core ≡ 0) → IsNumbered (record tree { share = share })
+pub numbered_unmade : (tree : TreeState) (share : ℕ) → IsNumbered tree → ((core : ℕ) → slice_index tree.made core ≡ 0)
+    → IsNumbered (record tree { share = share })
 numbered_unmade tree share numbered unmade = record {
   known = λ node some. elim (numbered.known node some) [
     | inl low ↦ inl low

@@ -30,7 +30,8 @@ abbrev Names : TreeState → ℕ → ℕ → Type 0
 Names tree holder node = (name : List ℕ) × (row_of tree holder name ≡ Some node)
 
 -- the kind of a node stays
-pub directory_stays : (tree : TreeState) (core : ℕ) (effect : Effect) (makes : Option Kind) (node : ℕ) → Fits tree core effect makes → IsSome (get tree.nodes node) → is_directory (tree_with tree core effect makes) node ≡ is_directory tree node
+pub directory_stays : (tree : TreeState) (core : ℕ) (effect : Effect) (makes : Option Kind) (node : ℕ) → Fits tree core effect makes
+    → IsSome (get tree.nodes node) → is_directory (tree_with tree core effect makes) node ≡ is_directory tree node
 directory_stays tree core Stays None node f some = refl
 directory_stays tree core (Adds d n c) None node f some = refl
 directory_stays tree core (Removes d n c) None node f some = refl
@@ -40,7 +41,8 @@ directory_stays tree core Stays (Some kind) node f some = absurd f
 directory_stays tree core (Removes d n c) (Some kind) node f some = absurd f
 directory_stays tree core (Moves p n q m c) (Some kind) node f some = absurd f
 directory_stays tree core (Edits file edit) (Some kind) node f some = absurd f
-directory_stays tree core (Adds d n c) (Some kind) node f some = (KeepKinds-new tree _ (record { kind = kind; bytes = [] }) tree.made (ap (get tree.nodes) (sym f.number) ∙ f.fresh)).kind node some
+directory_stays tree core (Adds d n c) (Some kind) node f some =
+    (KeepKinds-new tree _ (record { kind = kind; bytes = [] }) tree.made (ap (get tree.nodes) (sym f.number) ∙ f.fresh)).kind node some
 
 -- an effect by which no directory comes to another one
 abbrev pub StaysWithin : TreeState → Effect → Type 0
@@ -69,7 +71,8 @@ linked : (tree : TreeState) (file directory : ℕ) (name : List ℕ) (fault : Op
 linked tree file directory name (Some code) is = tt
 linked tree file directory name None is = (not_so _ _ _ (not_so _ _ _ (sym is)).1).0
 
-made_node : (tree : TreeState) (core : ℕ) (directory : ℕ) (name : List ℕ) (kind : Kind) (fault : Option Code) → BringsNone tree (or_else fault (make_node tree core directory name kind)).effect (or_else fault (make_node tree core directory name kind)).makes
+made_node : (tree : TreeState) (core : ℕ) (directory : ℕ) (name : List ℕ) (kind : Kind) (fault : Option Code)
+    → BringsNone tree (or_else fault (make_node tree core directory name kind)).effect (or_else fault (make_node tree core directory name kind)).makes
 made_node tree core directory name kind (Some code) = tt
 made_node tree core directory name kind None = tt
 
@@ -77,16 +80,36 @@ made_node tree core directory name kind None = tt
 brings_none : (tree : TreeState) (core : ℕ) (c : Call) → BringsNone tree (verdict tree core c).effect (verdict tree core c).makes
 brings_none tree core (call.Link f d n) = linked tree f.0 d.0 n (link_fault tree f.0 d.0 n) refl
 brings_none tree core (call.Make d n k) = made_node tree core d.0 n k (make_fault tree core d.0 n)
-brings_none tree core (call.Look d n) = of_what_it_does (Brings tree) tree core (call.Look d n) (λ _. tt) (λ effect own. absurd (let never : None ≡ Some effect = own in cc)) (verdict tree core (call.Look d n)).makes
-brings_none tree core (call.Read f at count) = of_what_it_does (Brings tree) tree core (call.Read f at count) (λ _. tt) (λ effect own. absurd (let never : None ≡ Some effect = own in cc)) (verdict tree core (call.Read f at count)).makes
-brings_none tree core (call.Stat d) = of_what_it_does (Brings tree) tree core (call.Stat d) (λ _. tt) (λ effect own. absurd (let never : None ≡ Some effect = own in cc)) (verdict tree core (call.Stat d)).makes
-brings_none tree core (call.List d) = of_what_it_does (Brings tree) tree core (call.List d) (λ _. tt) (λ effect own. absurd (let never : None ≡ Some effect = own in cc)) (verdict tree core (call.List d)).makes
-brings_none tree core (call.Fsync d) = of_what_it_does (Brings tree) tree core (call.Fsync d) (λ _. tt) (λ effect own. absurd (let never : None ≡ Some effect = own in cc)) (verdict tree core (call.Fsync d)).makes
-brings_none tree core (call.Write f at bytes) = of_what_it_does (Brings tree) tree core (call.Write f at bytes) (λ _. tt) (λ effect own. of_one (Brings tree) (Edits f.0 (Puts at bytes)) effect own (λ _. tt)) (verdict tree core (call.Write f at bytes)).makes
-brings_none tree core (call.Trunc f size) = of_what_it_does (Brings tree) tree core (call.Trunc f size) (λ _. tt) (λ effect own. of_one (Brings tree) (Edits f.0 (Resizes size)) effect own (λ _. tt)) (verdict tree core (call.Trunc f size)).makes
-brings_none tree core (call.Unlink d n) = of_what_it_does (Brings tree) tree core (call.Unlink d n) (λ _. tt) (λ effect own. of_child (Brings tree) (Removes d.0 n) (row_of tree d.0 n) effect own (λ x e _. tt)) (verdict tree core (call.Unlink d n)).makes
-brings_none tree core (call.Rmdir d n) = of_what_it_does (Brings tree) tree core (call.Rmdir d n) (λ _. tt) (λ effect own. of_child (Brings tree) (Removes d.0 n) (row_of tree d.0 n) effect own (λ x e _. tt)) (verdict tree core (call.Rmdir d n)).makes
-brings_none tree core (call.Rename p n q m) = of_what_it_does (Brings tree) tree core (call.Rename p n q m) (λ _. tt) (λ effect own. of_child (Brings tree) (Moves p.0 n q.0 m) (row_of tree p.0 n) effect own (λ x e _. tt)) (verdict tree core (call.Rename p n q m)).makes
+brings_none tree core (call.Look d n) =
+    of_what_it_does (Brings tree) tree core (call.Look d n) (λ _. tt) (λ effect own. absurd (let never : None ≡ Some effect = own in cc))
+    (verdict tree core (call.Look d n)).makes
+brings_none tree core (call.Read f at count) =
+    of_what_it_does (Brings tree) tree core (call.Read f at count) (λ _. tt) (λ effect own. absurd (let never : None ≡ Some effect = own in cc))
+    (verdict tree core (call.Read f at count)).makes
+brings_none tree core (call.Stat d) =
+    of_what_it_does (Brings tree) tree core (call.Stat d) (λ _. tt) (λ effect own. absurd (let never : None ≡ Some effect = own in cc))
+    (verdict tree core (call.Stat d)).makes
+brings_none tree core (call.List d) =
+    of_what_it_does (Brings tree) tree core (call.List d) (λ _. tt) (λ effect own. absurd (let never : None ≡ Some effect = own in cc))
+    (verdict tree core (call.List d)).makes
+brings_none tree core (call.Fsync d) =
+    of_what_it_does (Brings tree) tree core (call.Fsync d) (λ _. tt) (λ effect own. absurd (let never : None ≡ Some effect = own in cc))
+    (verdict tree core (call.Fsync d)).makes
+brings_none tree core (call.Write f at bytes) =
+    of_what_it_does (Brings tree) tree core (call.Write f at bytes) (λ _. tt)
+    (λ effect own. of_one (Brings tree) (Edits f.0 (Puts at bytes)) effect own (λ _. tt)) (verdict tree core (call.Write f at bytes)).makes
+brings_none tree core (call.Trunc f size) =
+    of_what_it_does (Brings tree) tree core (call.Trunc f size) (λ _. tt) (λ effect own. of_one (Brings tree) (Edits f.0 (Resizes size)) effect own (λ _. tt))
+    (verdict tree core (call.Trunc f size)).makes
+brings_none tree core (call.Unlink d n) =
+    of_what_it_does (Brings tree) tree core (call.Unlink d n) (λ _. tt)
+    (λ effect own. of_child (Brings tree) (Removes d.0 n) (row_of tree d.0 n) effect own (λ x e _. tt)) (verdict tree core (call.Unlink d n)).makes
+brings_none tree core (call.Rmdir d n) =
+    of_what_it_does (Brings tree) tree core (call.Rmdir d n) (λ _. tt)
+    (λ effect own. of_child (Brings tree) (Removes d.0 n) (row_of tree d.0 n) effect own (λ x e _. tt)) (verdict tree core (call.Rmdir d n)).makes
+brings_none tree core (call.Rename p n q m) =
+    of_what_it_does (Brings tree) tree core (call.Rename p n q m) (λ _. tt)
+    (λ effect own. of_child (Brings tree) (Moves p.0 n q.0 m) (row_of tree p.0 n) effect own (λ x e _. tt)) (verdict tree core (call.Rename p n q m)).makes
 
 module _ (tree : TreeState) (core : ℕ) (node : ℕ) (kind : is_directory tree node ≡ true) where
   not_file : (c : ℕ) → node ≡ c → is_directory tree c ≡ false → ⊥
@@ -99,7 +122,8 @@ module _ (tree : TreeState) (core : ℕ) (node : ℕ) (kind : is_directory tree 
       never some none = cc
 
   -- who names it after a call named something before: the same directory, or, where it moved to another one, the one that it left
-  named_before : (effect : Effect) (makes : Option Kind) → Fits tree core effect makes → BringsNone tree effect makes → (h : ℕ) → Names (tree_with tree core effect makes) h node → (b : ℕ) × Names tree b node × (StaysWithin tree effect → b ≡ h)
+  named_before : (effect : Effect) (makes : Option Kind) → Fits tree core effect makes → BringsNone tree effect makes → (h : ℕ)
+      → Names (tree_with tree core effect makes) h node → (b : ℕ) × Names tree b node × (StaysWithin tree effect → b ≡ h)
   named_before Stays makes f none h name = (h, name, λ w. refl)
   named_before (Edits file edit) makes f none h name = (h, name, λ w. refl)
   named_before (Adds d n c) None f none h name = elim (added_cases tree.rows h d name.0 n c node name.1) [
@@ -118,7 +142,8 @@ module _ (tree : TreeState) (core : ℕ) (node : ℕ) (kind : is_directory tree 
     | inr old ↦ (h, (name.0, (removed_cases tree.rows h p name.0 n node old.1).1), λ w. refl)
   ]
 
-within_or_file : (tree : TreeState) (p q : ℕ) (child : Option ℕ) → (not (nat_eq p q) && option_map_or (is_directory tree) child false) ≡ false → (x : ℕ) → child ≡ Some x → (p ≡ q) ⊎ (is_directory tree x ≡ false)
+within_or_file : (tree : TreeState) (p q : ℕ) (child : Option ℕ) → (not (nat_eq p q) && option_map_or (is_directory tree) child false) ≡ false → (x : ℕ)
+    → child ≡ Some x → (p ≡ q) ⊎ (is_directory tree x ≡ false)
 within_or_file tree p q child stays x is =
     elim (nat_eq p q) as (λ b. nat_eq p q ≡ b → (not b && option_map_or (is_directory tree) child false) ≡ false → (p ≡ q) ⊎ (is_directory tree x ≡ false)) [
       | true ↦ λ t e. inl (eqb-true _ _ t)
@@ -126,7 +151,8 @@ within_or_file tree p q child stays x is =
     ] refl stays
 
 -- a call that moves no directory to another one has such an effect
-within : (tree : TreeState) (core : ℕ) (c : Call) (effect : Effect) → moves_directory_between tree c ≡ false → own_effect tree core c ≡ Some effect → StaysWithin tree effect
+within : (tree : TreeState) (core : ℕ) (c : Call) (effect : Effect) → moves_directory_between tree c ≡ false → own_effect tree core c ≡ Some effect
+    → StaysWithin tree effect
 within tree core (call.Look d n) effect stays own = cc
 within tree core (call.Read f at count) effect stays own = cc
 within tree core (call.Stat d) effect stays own = cc
@@ -138,7 +164,8 @@ within tree core (call.Write f at bytes) effect stays own = of_one (StaysWithin 
 within tree core (call.Trunc f size) effect stays own = of_one (StaysWithin tree) (Edits f.0 (Resizes size)) effect own tt
 within tree core (call.Unlink d n) effect stays own = of_child (StaysWithin tree) (Removes d.0 n) (row_of tree d.0 n) effect own (λ x e. tt)
 within tree core (call.Rmdir d n) effect stays own = of_child (StaysWithin tree) (Removes d.0 n) (row_of tree d.0 n) effect own (λ x e. tt)
-within tree core (call.Rename p n q m) effect stays own = of_child (StaysWithin tree) (Moves p.0 n q.0 m) (row_of tree p.0 n) effect own (within_or_file tree p.0 q.0 (row_of tree p.0 n) stays)
+within tree core (call.Rename p n q m) effect stays own =
+    of_child (StaysWithin tree) (Moves p.0 n q.0 m) (row_of tree p.0 n) effect own (within_or_file tree p.0 q.0 (row_of tree p.0 n) stays)
 
 -- an effect that needs no lock
 unlocked : (tree : TreeState) (effect : Effect) → moves_between tree effect ≡ false → StaysWithin tree effect
@@ -174,7 +201,8 @@ root_held tree s = elim (holder_found tree 0) [ inl f ↦ absurd (s.unnamed f.0 
 row_alive : (tree : TreeState) (h : ℕ) (name : List ℕ) (node : ℕ) → row_of tree h name ≡ Some node → is_alive tree node ≡ true
 row_alive tree h name node row = named_alive tree node (record { directory = h; name = name; row = row })
 
-module _ (tree : TreeState) (core : ℕ) (c : Call) (is : IsSoundTree tree) (lt : core < length tree.made) (node : ℕ) (kind : is_directory tree node ≡ true) (alive : is_alive (tree_after_call tree core c) node ≡ true) where
+module _ (tree : TreeState) (core : ℕ) (c : Call) (is : IsSoundTree tree) (lt : core < length tree.made) (node : ℕ) (kind : is_directory tree node ≡ true)
+    (alive : is_alive (tree_after_call tree core c) node ≡ true) where
   abbrev next : TreeState
   next = tree_after_call tree core c
 
@@ -204,7 +232,8 @@ module _ (tree : TreeState) (core : ℕ) (c : Call) (is : IsSoundTree tree) (lt 
       | inr named ↦
           let name = before named.directory (named.name, named.row) in
           let same = name.2 (unlocked tree (verdict tree core c).effect free) in
-          holder_is next there node named.directory named.name named.row kind_there ∙ ap Some (sym same) ∙ sym (holder_is tree is.sound node name.0 name.1.0 name.1.1 kind)
+          holder_is next there node named.directory named.name named.row kind_there ∙ ap Some (sym same)
+          ∙ sym (holder_is tree is.sound node name.0 name.1.0 name.1.1 kind)
     ];
   }
 
@@ -219,33 +248,40 @@ dead_stay_dead tree core c node is lt kind dead =
     ] refl
 
 -- the way up is the same, though a row on it may have another name
-way_kept : (tree later : TreeState) → IsSound tree → IsSound later → ((d : ℕ) → is_directory tree d ≡ true → is_alive later d ≡ true → holder_of later d ≡ holder_of tree d) → {node : ℕ} {above : List ℕ} → Above tree node above → is_directory tree node ≡ true → is_alive later node ≡ true → Above later node above
+way_kept : (tree later : TreeState) → IsSound tree → IsSound later
+    → ((d : ℕ) → is_directory tree d ≡ true → is_alive later d ≡ true → holder_of later d ≡ holder_of tree d) → {node : ℕ} {above : List ℕ}
+    → Above tree node above → is_directory tree node ≡ true → is_alive later node ≡ true → Above later node above
 way_kept tree later s t same at_root kind alive = at_root
 way_kept tree later s t same (below node holder name above row rest) kind alive =
     elim (holder_found later node) [
       | inl f ↦
-          let held : row_of later holder f.2.0 ≡ Some node = subst (λ (d : ℕ). row_of later d f.2.0 ≡ Some node) (some_same (sym f.1 ∙ same node kind alive ∙ holder_is tree s node holder name row kind)) f.2.1 in
+          let held : row_of later holder f.2.0 ≡ Some node =
+          subst (λ (d : ℕ). row_of later d f.2.0 ≡ Some node)
+          (some_same (sym f.1 ∙ same node kind alive ∙ holder_is tree s node holder name row kind)) f.2.1 in
           below node holder f.2.0 above held (way_kept tree later s t same rest (s.holds holder name node row).0 (t.holds holder f.2.0 node held).1)
       | inr none ↦ absurd (none_some (sym none.0 ∙ same node kind alive ∙ holder_is tree s node holder name row kind))
     ]
 
 pub ways_stay : WaysStay
 ways_stay tree core c node above is lt free kind alive way =
-    way_kept tree (tree_after_call tree core c) is.sound (calls_keep_sound tree core c is lt).sound (λ d k a. (holders_stay tree core c d is lt free k a).holder) way kind alive
+    way_kept tree (tree_after_call tree core c) is.sound (calls_keep_sound tree core c is lt).sound
+    (λ d k a. (holders_stay tree core c d is lt free k a).holder) way kind alive
 
 pub read_holders_stay : ReadHoldersStay
 read_holders_stay tree core c node [] is lt free read = tt
 read_holders_stay tree core c node (holder ∷ holders) is lt free read =
     let fits = calls_fit tree core c is lt in (
       record {
-        kind = directory_stays tree core (verdict tree core c).effect (verdict tree core c).makes node fits (directory_node tree node read.0.kind) ∙ read.0.kind;
+        kind =
+            directory_stays tree core (verdict tree core c).effect (verdict tree core c).makes node fits (directory_node tree node read.0.kind) ∙ read.0.kind;
         held = λ alive. let stays = holders_stay tree core c node is lt free read.0.kind alive in stays.holder ∙ read.0.held stays.alive;
       },
       read_holders_stay tree core c holder holders is lt free read.1,
     )
 
 -- the directories that were read up to the root
-read_above : (tree : TreeState) → IsSound tree → (node : ℕ) (holders : List ℕ) → is_alive tree node ≡ true → AreHolders tree node holders → EndsAtRoot node holders → Above tree node holders
+read_above : (tree : TreeState) → IsSound tree → (node : ℕ) (holders : List ℕ) → is_alive tree node ≡ true → AreHolders tree node holders
+    → EndsAtRoot node holders → Above tree node holders
 read_above tree s node [] alive read ends = subst (λ (z : ℕ). Above tree z []) (sym ends) at_root
 read_above tree s node (holder ∷ holders) alive read ends = elim (holder_found tree node) [
   | inl f ↦
@@ -262,7 +298,8 @@ read_holders_are_above tree node holders is alive kind read ends =
 
 pub standing_is_alive : StandingIsAlive
 standing_is_alive tree node is =
-    elim (is_directory tree node) as (λ b. is_directory tree node ≡ b → (nat_eq node 0 || is_some (cond b (holder_of tree node) None)) ≡ (is_alive tree node && b)) [
+    elim (is_directory tree node) as (λ b. is_directory tree node ≡ b
+    → (nat_eq node 0 || is_some (cond b (holder_of tree node) None)) ≡ (is_alive tree node && b)) [
       | true ↦ λ kind. elim (holder_found tree node) [
         | inl f ↦
             let alive = row_alive tree f.0 f.2.0 node f.2.1 in

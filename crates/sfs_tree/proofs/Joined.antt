@@ -63,16 +63,24 @@ count-cons p x xs = sum_by-cons (λ x. cond (p x) 1 0) x xs
 module _ {K X : Type 0} (R : K → K → Ordering) where
   pub find-append : (q : K) (es fs : List (K × X)) → find R q (es ++ fs) ≡ option_or (find R q es) (find R q fs)
   find-append q [] fs = refl
-  find-append q (e ∷ es) fs = elim (eq_by_cmp R q e.0) as (λ b. cond b (Some e.1) (find R q (es ++ fs)) ≡ option_or (cond b (Some e.1) (find R q es)) (find R q fs)) [ true ↦ refl | false ↦ find-append q es fs ]
+  find-append q (e ∷ es) fs =
+      elim (eq_by_cmp R q e.0) as (λ b. cond b (Some e.1) (find R q (es ++ fs)) ≡ option_or (cond b (Some e.1) (find R q es)) (find R q fs)) [
+        | true ↦
+            refl
+        | false ↦ find-append q es fs
+      ]
 
   -- one more entry is counted where its key is new
   pub count-put : (p : K × X → Bool) (k : K) (v : X) (es : List (K × X)) → find R k es ≡ None → count_by p (put R k v es) ≡ count_by p es + cond (p (k, v)) 1 0
   count-put p k v [] none = count-cons p (k, v) [] ∙ one_before (cond (p (k, v)) 1 0) 0
   count-put p k v (e ∷ es) none =
-      elim (R k e.0) as (λ r. cond (is_eq r) (Some e.1) (find R k es) ≡ None → count_by p (by_order r ((k, v) ∷ e ∷ es) ((e.0, v) ∷ es) (e ∷ put R k v es)) ≡ count_by p (e ∷ es) + cond (p (k, v)) 1 0) [
+      elim (R k e.0) as (λ r. cond (is_eq r) (Some e.1) (find R k es) ≡ None
+      → count_by p (by_order r ((k, v) ∷ e ∷ es) ((e.0, v) ∷ es) (e ∷ put R k v es)) ≡ count_by p (e ∷ es) + cond (p (k, v)) 1 0) [
         | Less ↦ λ n. count-cons p (k, v) (e ∷ es) ∙ one_before (cond (p (k, v)) 1 0) (count_by p (e ∷ es))
         | Equal ↦ λ n. cc
-        | Greater ↦ λ n. count-cons p e (put R k v es) ∙ one_behind (cond (p e) 1 0) _ _ _ (count-put p k v es n) ∙ ap (λ c. c + cond (p (k, v)) 1 0) (sym (count-cons p e es))
+        | Greater ↦
+            λ n. count-cons p e (put R k v es) ∙ one_behind (cond (p e) 1 0) _ _ _ (count-put p k v es n)
+            ∙ ap (λ c. c + cond (p (k, v)) 1 0) (sym (count-cons p e es))
       ] none
 
 pub length-from_entries : {K X : Type 0} {R : K → K → Ordering} (o : IsTotalOrder R) (es : List (K × X)) → len (from_entries {R = R} es) ≤ length es
@@ -84,22 +92,31 @@ length-from_entries o (e ∷ es) =
     one_more a b n true e le = omega arith
     one_more a b n false e le = omega arith
 
-find-in_directory : (place d : ℕ) (n : List ℕ) (es : List (List ℕ × ℕ)) → find key_cmp (d, n) (map (in_directory place) es) ≡ cond (nat_eq d place) (find name_cmp n es) None
+find-in_directory : (place d : ℕ) (n : List ℕ) (es : List (List ℕ × ℕ))
+    → find key_cmp (d, n) (map (in_directory place) es) ≡ cond (nat_eq d place) (find name_cmp n es) None
 find-in_directory place d n [] = elim (nat_eq d place) as (λ b. ◌≡◌ {A = Option ℕ} None (cond b None None)) [ true ↦ refl | false ↦ refl ]
 find-in_directory place d n (e ∷ es) =
     ap (λ b. cond b (Some e.1) (find key_cmp (d, n) (map (in_directory place) es))) (same_key d place n e.0)
     ∙ ap (λ r. cond (cond (nat_eq d place) (eq_by_cmp name_cmp n e.0) false) (Some e.1) r) (find-in_directory place d n es)
-    ∙ elim (nat_eq d place) as (λ b. cond (cond b (eq_by_cmp name_cmp n e.0) false) (Some e.1) (cond b (find name_cmp n es) None) ≡ cond b (cond (eq_by_cmp name_cmp n e.0) (Some e.1) (find name_cmp n es)) None) [ true ↦ refl | false ↦ refl ]
+    ∙ elim (nat_eq d place) as (λ b. cond (cond b (eq_by_cmp name_cmp n e.0) false) (Some e.1) (cond b (find name_cmp n es) None)
+    ≡ cond b (cond (eq_by_cmp name_cmp n e.0) (Some e.1) (find name_cmp n es)) None) [
+      | true ↦
+          refl
+      | false ↦ refl
+    ]
 
 -- a name is found in its own bucket alone
-elsewhere : (m : Bucket) (place d : ℕ) (n : List ℕ) → (IsSome (get m n) → bucket n ≡ place % 8) → 8 * d + bucket n ≢ place → cond (nat_eq d (place / 8)) (find name_cmp n (entries m)) None ≡ None
+elsewhere : (m : Bucket) (place d : ℕ) (n : List ℕ) → (IsSome (get m n) → bucket n ≡ place % 8) → 8 * d + bucket n ≢ place
+    → cond (nat_eq d (place / 8)) (find name_cmp n (entries m)) None ≡ None
 elsewhere m place d n placed other =
     elim (nat_eq d (place / 8)) as (λ b. nat_eq d (place / 8) ≡ b → cond b (find name_cmp n (entries m)) None ≡ None) [
-      | true ↦ λ e. sym (get-entries m n) ∙ none_there (get m n) (λ some. let b = placed some in let d_is : d ≡ place / 8 = eqb-true _ _ e in other (omega arith))
+      | true ↦
+          λ e. sym (get-entries m n) ∙ none_there (get m n) (λ some. let b = placed some in let d_is : d ≡ place / 8 = eqb-true _ _ e in other (omega arith))
       | false ↦ λ e. refl
     ] refl
 
-here : (m : Bucket) (place d : ℕ) (n : List ℕ) → 8 * d + bucket n ≡ place → bucket n < 8 → cond (nat_eq d (place / 8)) (find name_cmp n (entries m)) None ≡ get m n
+here : (m : Bucket) (place d : ℕ) (n : List ℕ) → 8 * d + bucket n ≡ place → bucket n < 8
+    → cond (nat_eq d (place / 8)) (find name_cmp n (entries m)) None ≡ get m n
 here m place d n e small =
     let d_is : d ≡ place / 8 = omega arith in
     ap (λ b. cond b (find name_cmp n (entries m)) None) (eq-eqb d (place / 8) d_is) ∙ sym (get-entries m n)
@@ -115,31 +132,40 @@ unfolding Placed_from
 placed_tail place m ms h = λ k name some. let e = h (suc k) name some in omega arith
 
 -- before the bucket of a name nothing is found
-find_before : (place : ℕ) (ms : List Bucket) (d : ℕ) (n : List ℕ) → Placed_from place ms → 8 * d + bucket n < place → find key_cmp (d, n) (rows_from place ms) ≡ None
+find_before : (place : ℕ) (ms : List Bucket) (d : ℕ) (n : List ℕ) → Placed_from place ms → 8 * d + bucket n < place
+    → find key_cmp (d, n) (rows_from place ms) ≡ None
 unfolding Placed_from
 find_before place [] d n h lt = refl
 find_before place (m ∷ ms) d n h lt =
     find-append key_cmp (d, n) (map (in_directory (place / 8)) (entries m)) (rows_from (suc place) ms)
-    ∙ ap (λ o. option_or o (find key_cmp (d, n) (rows_from (suc place) ms))) (find-in_directory (place / 8) d n (entries m) ∙ elsewhere m place d n (λ some. let e = h zero n some in omega arith) (omega arith))
+    ∙ ap (λ o. option_or o (find key_cmp (d, n) (rows_from (suc place) ms)))
+    (find-in_directory (place / 8) d n (entries m) ∙ elsewhere m place d n (λ some. let e = h zero n some in omega arith) (omega arith))
     ∙ find_before (suc place) ms d n (placed_tail place m ms h) (omega arith)
 
 -- a row is found in the bucket of its name
-find_from : (place : ℕ) (ms : List Bucket) (d : ℕ) (n : List ℕ) (k : ℕ) → Placed_from place ms → place + k ≡ 8 * d + bucket n → find key_cmp (d, n) (rows_from place ms) ≡ get (bucket_at ms k) n
+find_from : (place : ℕ) (ms : List Bucket) (d : ℕ) (n : List ℕ) (k : ℕ) → Placed_from place ms → place + k ≡ 8 * d + bucket n
+    → find key_cmp (d, n) (rows_from place ms) ≡ get (bucket_at ms k) n
 unfolding Placed_from
 find_from place [] d n k h e = sym (get-empty name_cmp n)
 find_from place (m ∷ ms) d n zero h e =
     find-append key_cmp (d, n) (map (in_directory (place / 8)) (entries m)) (rows_from (suc place) ms)
-    ∙ ap (λ o. option_or o (find key_cmp (d, n) (rows_from (suc place) ms))) (find-in_directory (place / 8) d n (entries m) ∙ here m place d n (omega arith) (bucket_small n))
+    ∙ ap (λ o. option_or o (find key_cmp (d, n) (rows_from (suc place) ms)))
+    (find-in_directory (place / 8) d n (entries m) ∙ here m place d n (omega arith) (bucket_small n))
     ∙ ap (option_or (get m n)) (find_before (suc place) ms d n (placed_tail place m ms h) (omega arith))
     ∙ or_none (get m n)
 find_from place (m ∷ ms) d n (suc k) h e =
     find-append key_cmp (d, n) (map (in_directory (place / 8)) (entries m)) (rows_from (suc place) ms)
-    ∙ ap (λ o. option_or o (find key_cmp (d, n) (rows_from (suc place) ms))) (find-in_directory (place / 8) d n (entries m) ∙ elsewhere m place d n (λ some. let b = h zero n some in omega arith) (omega arith))
+    ∙ ap (λ o. option_or o (find key_cmp (d, n) (rows_from (suc place) ms)))
+    (find-in_directory (place / 8) d n (entries m) ∙ elsewhere m place d n (λ some. let b = h zero n some in omega arith) (omega arith))
     ∙ find_from (suc place) ms d n k (placed_tail place m ms h) (omega arith)
 
 pub other_key : (k q : Key) → k ≢ q → eq_by_cmp key_cmp k q ≡ false
 other_key k q h =
-    elim (eq_by_cmp key_cmp k q) as (λ b. eq_by_cmp key_cmp k q ≡ b → b ≡ false) [ true ↦ λ e. absurd (h (key_cmp-IsAntisymmetric k q (is_equal _ e))) | false ↦ λ e. refl ] refl
+    elim (eq_by_cmp key_cmp k q) as (λ b. eq_by_cmp key_cmp k q ≡ b → b ≡ false) [
+      | true ↦ λ e. absurd (h (key_cmp-IsAntisymmetric k q (is_equal _ e)))
+      | false ↦
+          λ e. refl
+    ] refl
 
 -- a row of the joined rows is in its bucket
 pub get-joined : (ms : List Bucket) (d : ℕ) (n : List ℕ) → IsPlaced ms → get (joined ms) (d, n) ≡ get (bucket_at ms (8 * d + bucket n)) n
@@ -165,33 +191,43 @@ some_of o p e h = subst IsSome e h
 -- the rows of a bucket with one more name are that name's and the old ones
 inserted_some : (m : Bucket) (name other : List ℕ) (x : ℕ) → IsSome (get (insert m name x) other) → (name ≡ other) ⊎ IsSome (get m other)
 inserted_some m name other x some =
-    elim (eq_by_cmp name_cmp other name) as (λ b. eq_by_cmp name_cmp other name ≡ b → IsSome (cond b (Some x) (get m other)) → (name ≡ other) ⊎ IsSome (get m other)) [
+    elim (eq_by_cmp name_cmp other name) as (λ b. eq_by_cmp name_cmp other name ≡ b → IsSome (cond b (Some x) (get m other))
+    → (name ≡ other) ⊎ IsSome (get m other)) [
       | true ↦ λ e h. inl (sym (name_cmp-IsAntisymmetric other name (is_equal _ e)))
       | false ↦ λ e h. inr h
     ] refl (some_of _ _ (get-insert nat_list_cmp_total m name x other) some)
 
 -- one more row in the bucket of its name keeps the names in their buckets
-pub IsPlaced-insert : (ms : List Bucket) (i : ℕ) (name : List ℕ) (x : ℕ) → IsPlaced ms → i < length ms → bucket name ≡ i % 8 → get (bucket_at ms i) name ≡ None → len (bucket_at ms i) < 4096 → IsPlaced (set ms i (insert (bucket_at ms i) name x))
+pub IsPlaced-insert : (ms : List Bucket) (i : ℕ) (name : List ℕ) (x : ℕ) → IsPlaced ms → i < length ms → bucket name ≡ i % 8 → get (bucket_at ms i) name ≡ None
+    → len (bucket_at ms i) < 4096 → IsPlaced (set ms i (insert (bucket_at ms i) name x))
 IsPlaced-insert ms i name x h lt e none room =
     let new = insert (bucket_at ms i) name x in
     let at : (place : ℕ) → bucket_at (set ms i new) place ≡ cond (nat_eq place i) new (bucket_at ms place) = λ place. bucket_at_set ms i place new lt in
-    let longer : len new ≡ len (bucket_at ms i) + 1 = len-insert nat_list_cmp_total (bucket_at ms i) name x ∙ ap (λ (o : Option ℕ). cond (is_some o) (len (bucket_at ms i)) (len (bucket_at ms i) + 1)) none in
+    let longer : len new ≡ len (bucket_at ms i) + 1 =
+    len-insert nat_list_cmp_total (bucket_at ms i) name x
+    ∙ ap (λ (o : Option ℕ). cond (is_some o) (len (bucket_at ms i)) (len (bucket_at ms i) + 1)) none in
     record {
-      placed = λ place other some. elim (nat_eq place i) as (λ b. nat_eq place i ≡ b → IsSome (get (cond b new (bucket_at ms place)) other) → bucket other ≡ place % 8) [
-        | true ↦ λ t g. elim (inserted_some (bucket_at ms i) name other x g) [
-          | inl same ↦ ap bucket (sym same) ∙ e ∙ ap (λ p. p % 8) (sym (eqb-true _ _ t))
-          | inr old ↦ h.placed i other old ∙ ap (λ p. p % 8) (sym (eqb-true _ _ t))
-        ]
-        | false ↦ λ t g. h.placed place other g
-      ] refl (some_of _ _ (ap (λ m. get m other) (at place)) some);
-      full = λ place. elim (nat_eq place i) as (λ b. len (bucket_at (set ms i new) place) ≡ len (cond b new (bucket_at ms place)) → len (bucket_at (set ms i new) place) ≤ 4096) [
-        | true ↦ λ t. omega arith
-        | false ↦ λ t. let f = h.full place in omega arith
-      ] (ap len (at place));
+      placed =
+          λ place other some. elim (nat_eq place i) as (λ b. nat_eq place i ≡ b → IsSome (get (cond b new (bucket_at ms place)) other)
+          → bucket other ≡ place % 8) [
+            | true ↦ λ t g. elim (inserted_some (bucket_at ms i) name other x g) [
+              | inl same ↦ ap bucket (sym same) ∙ e ∙ ap (λ p. p % 8) (sym (eqb-true _ _ t))
+              | inr old ↦ h.placed i other old ∙ ap (λ p. p % 8) (sym (eqb-true _ _ t))
+            ]
+            | false ↦ λ t g. h.placed place other g
+          ] refl (some_of _ _ (ap (λ m. get m other) (at place)) some);
+      full =
+          λ place. elim (nat_eq place i) as (λ b. len (bucket_at (set ms i new) place) ≡ len (cond b new (bucket_at ms place))
+          → len (bucket_at (set ms i new) place) ≤ 4096) [
+            | true ↦ λ t. omega arith
+            | false ↦ λ t. let f = h.full place in omega arith
+          ] (ap len (at place));
     }
 
 -- to put a row into its bucket is to put it among all rows
-pub joined-insert : (ms : List Bucket) (d : ℕ) (name : List ℕ) (x : ℕ) → IsPlaced ms → 8 * d + bucket name < length ms → get (bucket_at ms (8 * d + bucket name)) name ≡ None → len (bucket_at ms (8 * d + bucket name)) < 4096 → joined (set ms (8 * d + bucket name) (insert (bucket_at ms (8 * d + bucket name)) name x)) ≡ insert (joined ms) (d, name) x
+pub joined-insert : (ms : List Bucket) (d : ℕ) (name : List ℕ) (x : ℕ) → IsPlaced ms → 8 * d + bucket name < length ms
+    → get (bucket_at ms (8 * d + bucket name)) name ≡ None → len (bucket_at ms (8 * d + bucket name)) < 4096
+    → joined (set ms (8 * d + bucket name) (insert (bucket_at ms (8 * d + bucket name)) name x)) ≡ insert (joined ms) (d, name) x
 joined-insert ms d name x h lt none room =
     let i = 8 * d + bucket name in
     let new = insert (bucket_at ms i) name x in
@@ -203,20 +239,31 @@ joined-insert ms d name x h lt none room =
     ∙ found e other (bucket_small other)
     ∙ sym (get-insert key_cmp_total (joined ms) (d, name) x (e, other)))
   where
-    found : (e : ℕ) (other : List ℕ) → bucket other < 8 → get (cond (nat_eq (8 * e + bucket other) (8 * d + bucket name)) (insert (bucket_at ms (8 * d + bucket name)) name x) (bucket_at ms (8 * e + bucket other))) other ≡ cond (eq_by_cmp key_cmp (e, other) (d, name)) (Some x) (get (joined ms) (e, other))
+    found : (e : ℕ) (other : List ℕ) → bucket other < 8
+        → get
+        (cond (nat_eq (8 * e + bucket other) (8 * d + bucket name)) (insert (bucket_at ms (8 * d + bucket name)) name x)
+        (bucket_at ms (8 * e + bucket other)))
+        other
+        ≡ cond (eq_by_cmp key_cmp (e, other) (d, name)) (Some x) (get (joined ms) (e, other))
     found e other small =
         let i = 8 * d + bucket name in
         let new = insert (bucket_at ms i) name x in
         let old = get-joined ms e other h in
-        elim (nat_eq (8 * e + bucket other) i) as (λ t. nat_eq (8 * e + bucket other) i ≡ t → get (cond t new (bucket_at ms (8 * e + bucket other))) other ≡ cond (eq_by_cmp key_cmp (e, other) (d, name)) (Some x) (get (joined ms) (e, other))) [
+        elim (nat_eq (8 * e + bucket other) i) as (λ t. nat_eq (8 * e + bucket other) i ≡ t
+        → get (cond t new (bucket_at ms (8 * e + bucket other))) other
+        ≡ cond (eq_by_cmp key_cmp (e, other) (d, name)) (Some x) (get (joined ms) (e, other))) [
           | true ↦ λ t.
               let there : 8 * e + bucket other ≡ 8 * d + bucket name = eqb-true _ _ t in
               let b = bucket_small name in
               let d_is : e ≡ d = omega arith in
               get-insert nat_list_cmp_total (bucket_at ms i) name x other
-              ∙ ap (λ b. cond b (Some x) (get (bucket_at ms i) other)) (sym (same_key e d other name ∙ ap (λ b. cond b (eq_by_cmp name_cmp other name) false) (eq-eqb e d d_is)))
+              ∙ ap (λ b. cond b (Some x) (get (bucket_at ms i) other))
+              (sym (same_key e d other name ∙ ap (λ b. cond b (eq_by_cmp name_cmp other name) false) (eq-eqb e d d_is)))
               ∙ ap (cond (eq_by_cmp key_cmp (e, other) (d, name)) (Some x)) (ap (λ j. get (bucket_at ms j) other) (sym there) ∙ sym old)
-          | false ↦ λ t. sym old ∙ ap (λ b. cond b (Some x) (get (joined ms) (e, other))) (sym (other_key (e, other) (d, name) (λ same. eqb-false _ _ t (ap (λ (k : Key). 8 * k.0 + bucket k.1) same))))
+          | false ↦
+              λ t. sym old
+              ∙ ap (λ b. cond b (Some x) (get (joined ms) (e, other)))
+              (sym (other_key (e, other) (d, name) (λ same. eqb-false _ _ t (ap (λ (k : Key). 8 * k.0 + bucket k.1) same))))
         ] refl
 
 sum_of : (a b n m : ℕ) → a ≤ 4096 → b ≤ 4096 * n → m ≡ a + b → m ≤ 4096 * suc n
@@ -225,7 +272,9 @@ sum_of a b n m x y e = omega arith
 length-rows_from : (place : ℕ) (ms : List Bucket) → ((k : ℕ) → len (bucket_at ms k) ≤ 4096) → length (rows_from place ms) ≤ 4096 * length ms
 length-rows_from place [] h = omega arith
 length-rows_from place (m ∷ ms) h =
-    sum_of (len m) (length (rows_from (suc place) ms)) (length ms) _ (h zero) (length-rows_from (suc place) ms (λ k. h (suc k))) (length-append (map (in_directory (place / 8)) (entries m)) (rows_from (suc place) ms) ∙ ap (λ l. l + length (rows_from (suc place) ms)) (length-map (entries m) (in_directory (place / 8)) ∙ sym (len-entries m)))
+    sum_of (len m) (length (rows_from (suc place) ms)) (length ms) _ (h zero) (length-rows_from (suc place) ms (λ k. h (suc k)))
+    (length-append (map (in_directory (place / 8)) (entries m)) (rows_from (suc place) ms)
+    ∙ ap (λ l. l + length (rows_from (suc place) ms)) (length-map (entries m) (in_directory (place / 8)) ∙ sym (len-entries m)))
 
 -- no more rows than the buckets can hold
 pub len-joined : (ms : List Bucket) → IsPlaced ms → len (joined ms) ≤ 4096 * length ms
@@ -250,11 +299,14 @@ IsPlaced-push ms h = record {
 -- changes nothing
 pub joined-push : (ms : List Bucket) → IsPlaced ms → joined (ms ++ empty ∷ []) ≡ joined ms
 joined-push ms h =
-    same_rows _ _ (λ d name. get-joined _ d name (IsPlaced-push ms h) ∙ ap (λ m. get m name) (bucket_at-push ms (8 * d + bucket name)) ∙ sym (get-joined ms d name h))
+    same_rows _ _
+    (λ d name. get-joined _ d name (IsPlaced-push ms h) ∙ ap (λ m. get m name) (bucket_at-push ms (8 * d + bucket name)) ∙ sym (get-joined ms d name h))
 
 -- how many rows pass a test, once there is one more
-pub count-insert : (rows : FinMap key_cmp ℕ) (k : Key) (x : ℕ) (p : Key × ℕ → Bool) → get rows k ≡ None → count_by p (entries (insert rows k x)) ≡ count_by p (entries rows) + cond (p (k, x)) 1 0
-count-insert rows k x p none = ap (count_by p) (entries-insert key_cmp_total rows k x) ∙ count-put key_cmp p k x (entries rows) (sym (get-entries rows k) ∙ none)
+pub count-insert : (rows : FinMap key_cmp ℕ) (k : Key) (x : ℕ) (p : Key × ℕ → Bool) → get rows k ≡ None
+    → count_by p (entries (insert rows k x)) ≡ count_by p (entries rows) + cond (p (k, x)) 1 0
+count-insert rows k x p none =
+    ap (count_by p) (entries-insert key_cmp_total rows k x) ∙ count-put key_cmp p k x (entries rows) (sym (get-entries rows k) ∙ none)
 
 -- no more rows pass a test than there are
 pub count-joined : (ms : List Bucket) (p : Key × ℕ → Bool) → IsPlaced ms → count_by p (entries (joined ms)) ≤ 4096 * length ms

@@ -13,7 +13,9 @@ use Rattle.sfs_tree.proofs.Joined.{key_cmp_total, name_cmp-IsAntisymmetric, is_e
 use Rattle.sfs_tree.proofs.Counting.{same_rows}
 use Rattle.sfs_base.proofs.BasicOptions.{none_not_some, some_true}
 
-module _ (ms : List Bucket) (d : ℕ) (name : List ℕ) (v : Option ℕ) (new : Bucket) (h : IsPlaced ms) (lt : 8 * d + bucket name < length ms) (is : (other : List ℕ) → get new other ≡ cond (eq_by_cmp name_cmp other name) v (get (bucket_at ms (8 * d + bucket name)) other)) (short : len new ≤ 4096) where
+module _ (ms : List Bucket) (d : ℕ) (name : List ℕ) (v : Option ℕ) (new : Bucket) (h : IsPlaced ms) (lt : 8 * d + bucket name < length ms)
+    (is : (other : List ℕ) → get new other ≡ cond (eq_by_cmp name_cmp other name) v (get (bucket_at ms (8 * d + bucket name)) other))
+    (short : len new ≤ 4096) where
   -- names stay in their buckets where one bucket changes at a name of its own
   pub IsPlaced-changed : IsPlaced (set ms (8 * d + bucket name) new)
   IsPlaced-changed =
@@ -21,20 +23,25 @@ module _ (ms : List Bucket) (d : ℕ) (name : List ℕ) (v : Option ℕ) (new : 
       let i = 8 * d + bucket name in
       let at : (place : ℕ) → bucket_at (set ms i new) place ≡ cond (nat_eq place i) new (bucket_at ms place) = λ place. bucket_at_set ms i place new lt in
       record {
-        placed = λ place other some. elim (nat_eq place i) as (λ b. nat_eq place i ≡ b → IsSome (get (cond b new (bucket_at ms place)) other) → bucket other ≡ place % 8) [
-          | true ↦ λ t g. own other g ∙ ap (λ p. p % 8) (sym (eqb-true _ _ t))
-          | false ↦ λ t g. h.placed place other g
-        ] refl (subst IsSome (ap (λ m. get m other) (at place)) some);
-        full = λ place. elim (nat_eq place i) as (λ b. len (bucket_at (set ms i new) place) ≡ len (cond b new (bucket_at ms place)) → len (bucket_at (set ms i new) place) ≤ 4096) [
-          | true ↦ λ t. omega arith
-          | false ↦ λ t. let f = h.full place in omega arith
-        ] (ap len (at place));
+        placed =
+            λ place other some. elim (nat_eq place i) as (λ b. nat_eq place i ≡ b → IsSome (get (cond b new (bucket_at ms place)) other)
+            → bucket other ≡ place % 8) [
+              | true ↦ λ t g. own other g ∙ ap (λ p. p % 8) (sym (eqb-true _ _ t))
+              | false ↦ λ t g. h.placed place other g
+            ] refl (subst IsSome (ap (λ m. get m other) (at place)) some);
+        full =
+            λ place. elim (nat_eq place i) as (λ b. len (bucket_at (set ms i new) place) ≡ len (cond b new (bucket_at ms place))
+            → len (bucket_at (set ms i new) place) ≤ 4096) [
+              | true ↦ λ t. omega arith
+              | false ↦ λ t. let f = h.full place in omega arith
+            ] (ap len (at place));
       }
     where
       own : (other : List ℕ) → IsSome (get new other) → bucket other ≡ (8 * d + bucket name) % 8
       own other some =
           let small = bucket_small name in
-          elim (eq_by_cmp name_cmp other name) as (λ b. eq_by_cmp name_cmp other name ≡ b → IsSome (cond b v (get (bucket_at ms (8 * d + bucket name)) other)) → bucket other ≡ (8 * d + bucket name) % 8) [
+          elim (eq_by_cmp name_cmp other name) as (λ b. eq_by_cmp name_cmp other name ≡ b → IsSome (cond b v (get (bucket_at ms (8 * d + bucket name)) other))
+          → bucket other ≡ (8 * d + bucket name) % 8) [
             | true ↦ λ t g. let same : bucket other ≡ bucket name = ap bucket (name_cmp-IsAntisymmetric other name (is_equal _ t)) in omega arith
             | false ↦ λ t g. h.placed (8 * d + bucket name) other g
           ] refl (subst IsSome (is other) some)
@@ -46,19 +53,26 @@ module _ (ms : List Bucket) (d : ℕ) (name : List ℕ) (v : Option ℕ) (new : 
       ∙ ap (λ m. get m q.1) (bucket_at_set ms (8 * d + bucket name) (8 * q.0 + bucket q.1) new lt)
       ∙ found q.0 q.1 (bucket_small q.1)
     where
-      found : (e : ℕ) (other : List ℕ) → bucket other < 8 → get (cond (nat_eq (8 * e + bucket other) (8 * d + bucket name)) new (bucket_at ms (8 * e + bucket other))) other ≡ cond (eq_by_cmp key_cmp (e, other) (d, name)) v (get (joined ms) (e, other))
+      found : (e : ℕ) (other : List ℕ) → bucket other < 8
+          → get (cond (nat_eq (8 * e + bucket other) (8 * d + bucket name)) new (bucket_at ms (8 * e + bucket other))) other
+          ≡ cond (eq_by_cmp key_cmp (e, other) (d, name)) v (get (joined ms) (e, other))
       found e other small =
           let i = 8 * d + bucket name in
           let old = get-joined ms e other h in
-          elim (nat_eq (8 * e + bucket other) i) as (λ t. nat_eq (8 * e + bucket other) i ≡ t → get (cond t new (bucket_at ms (8 * e + bucket other))) other ≡ cond (eq_by_cmp key_cmp (e, other) (d, name)) v (get (joined ms) (e, other))) [
+          elim (nat_eq (8 * e + bucket other) i) as (λ t. nat_eq (8 * e + bucket other) i ≡ t
+          → get (cond t new (bucket_at ms (8 * e + bucket other))) other ≡ cond (eq_by_cmp key_cmp (e, other) (d, name)) v (get (joined ms) (e, other))) [
             | true ↦ λ t.
                 let there : 8 * e + bucket other ≡ 8 * d + bucket name = eqb-true _ _ t in
                 let b = bucket_small name in
                 let d_is : e ≡ d = omega arith in
                 is other
-                ∙ ap (λ b. cond b v (get (bucket_at ms i) other)) (sym (same_key e d other name ∙ ap (λ b. cond b (eq_by_cmp name_cmp other name) false) (eq-eqb e d d_is)))
+                ∙ ap (λ b. cond b v (get (bucket_at ms i) other))
+                (sym (same_key e d other name ∙ ap (λ b. cond b (eq_by_cmp name_cmp other name) false) (eq-eqb e d d_is)))
                 ∙ ap (cond (eq_by_cmp key_cmp (e, other) (d, name)) v) (ap (λ j. get (bucket_at ms j) other) (sym there) ∙ sym old)
-            | false ↦ λ t. sym old ∙ ap (λ b. cond b v (get (joined ms) (e, other))) (sym (other_key (e, other) (d, name) (λ same. eqb-false _ _ t (ap (λ (k : Key). 8 * k.0 + bucket k.1) same))))
+            | false ↦
+                λ t. sym old
+                ∙ ap (λ b. cond b v (get (joined ms) (e, other)))
+                (sym (other_key (e, other) (d, name) (λ same. eqb-false _ _ t (ap (λ (k : Key). 8 * k.0 + bucket k.1) same))))
           ] refl
 
 -- a row of what is shown stands
@@ -71,14 +85,20 @@ module _ (ms : List Bucket) (d : ℕ) (name : List ℕ) (h : IsPlaced ms) (some 
   row_within =
       elim (ltb (8 * d + bucket name) (length ms)) as (λ b. ltb (8 * d + bucket name) (length ms) ≡ b → 8 * d + bucket name < length ms) [
         | true ↦ λ t. ltb-true _ _ t
-        | false ↦ λ t. absurd (none_not_some _ (get-joined ms d name h ∙ ap (λ m. get m name) (get_or_past ms (8 * d + bucket name) empty (ltb-false _ _ t)) ∙ get-empty name_cmp name) some)
+        | false ↦
+            λ t. absurd
+            (none_not_some _
+            (get-joined ms d name h ∙ ap (λ m. get m name) (get_or_past ms (8 * d + bucket name) empty (ltb-false _ _ t)) ∙ get-empty name_cmp name)
+            some)
       ] refl
 
   pub row_there : IsSome (get (bucket_at ms (8 * d + bucket name)) name)
   row_there = subst IsSome (get-joined ms d name h) some
 
   short_removed : len (remove (bucket_at ms (8 * d + bucket name)) name) ≤ 4096
-  short_removed = less (contains_key (bucket_at ms (8 * d + bucket name)) name) _ _ (len-remove nat_list_cmp_total (bucket_at ms (8 * d + bucket name)) name) (h.full (8 * d + bucket name))
+  short_removed =
+      less (contains_key (bucket_at ms (8 * d + bucket name)) name) _ _ (len-remove nat_list_cmp_total (bucket_at ms (8 * d + bucket name)) name)
+      (h.full (8 * d + bucket name))
     where
       less : (b : Bool) (a n : ℕ) → a ≡ cond b (n - 1) n → n ≤ 4096 → a ≤ 4096
       less true a n e le = omega arith
@@ -97,10 +117,15 @@ module _ (ms : List Bucket) (d : ℕ) (name : List ℕ) (h : IsPlaced ms) (some 
   module _ (x : ℕ) where
     short_replaced : len (insert (bucket_at ms (8 * d + bucket name)) name x) ≤ 4096
     short_replaced =
-        subst (λ n. n ≤ 4096) (sym (len-insert nat_list_cmp_total (bucket_at ms (8 * d + bucket name)) name x ∙ ap (λ b. cond b (len (bucket_at ms (8 * d + bucket name))) (len (bucket_at ms (8 * d + bucket name)) + 1)) (some_true _ row_there))) (h.full (8 * d + bucket name))
+        subst (λ n. n ≤ 4096)
+        (sym
+        (len-insert nat_list_cmp_total (bucket_at ms (8 * d + bucket name)) name x
+        ∙ ap (λ b. cond b (len (bucket_at ms (8 * d + bucket name))) (len (bucket_at ms (8 * d + bucket name)) + 1)) (some_true _ row_there)))
+        (h.full (8 * d + bucket name))
 
     pub IsPlaced-replaced : IsPlaced (set ms (8 * d + bucket name) (insert (bucket_at ms (8 * d + bucket name)) name x))
-    IsPlaced-replaced = IsPlaced-changed ms d name (Some x) _ h row_within (get-insert nat_list_cmp_total (bucket_at ms (8 * d + bucket name)) name x) short_replaced
+    IsPlaced-replaced =
+        IsPlaced-changed ms d name (Some x) _ h row_within (get-insert nat_list_cmp_total (bucket_at ms (8 * d + bucket name)) name x) short_replaced
 
     -- to give a row another child in its bucket is to give it that among all rows
     pub joined-replaced : joined (set ms (8 * d + bucket name) (insert (bucket_at ms (8 * d + bucket name)) name x)) ≡ insert (joined ms) (d, name) x

@@ -17,7 +17,8 @@ module _ (tree : TreeState) (s : IsSound tree) (p : ℕ) (n : List ℕ) (q : ℕ
   row_at d e k l x same names row = subst (λ (y : ℕ). row_of tree y l ≡ Some x) same (subst (λ (y : List ℕ). row_of tree d y ≡ Some x) names row)
 
   -- a row after the move: the new one, or another that was there
-  moved_cases : (d : ℕ) (k : List ℕ) (x : ℕ) → row_of moved_tree d k ≡ Some x → ((d ≡ q) × (k ≡ m) × (x ≡ c)) ⊎ ((d ≡ q → k ≡ m → ⊥) × (d ≡ p → k ≡ n → ⊥) × (row_of tree d k ≡ Some x))
+  moved_cases : (d : ℕ) (k : List ℕ) (x : ℕ) → row_of moved_tree d k ≡ Some x
+      → ((d ≡ q) × (k ≡ m) × (x ≡ c)) ⊎ ((d ≡ q → k ≡ m → ⊥) × (d ≡ p → k ≡ n → ⊥) × (row_of tree d k ≡ Some x))
   moved_cases d k x row = elim (added_cases (remove tree.rows (p, n)) d q k m c x row) [
     | inl new ↦ inl new
     | inr old ↦ let was = removed_cases tree.rows d p k n x old.1 in inr (old.0, was.0, was.1)
@@ -44,7 +45,10 @@ module _ (tree : TreeState) (s : IsSound tree) (p : ℕ) (n : List ℕ) (q : ℕ
   above_kept : {node : ℕ} {above : List ℕ} → Above tree node above → Lacks (node ∷ above) c → Stays node → Above moved_tree node above
   above_kept at_root lacks stays = at_root
   above_kept (below node holder name above row rest) lacks stays =
-      below node holder name above (moved_kept holder name node (λ d k. stays (row_at holder q name m node d k row)) (λ d k. lacks.0 (same_some (row_of tree p n) node c (row_at holder p name n node d k row) f.row)) row) (above_kept rest lacks.1 (holder_stays holder name node row))
+      below node holder name above
+      (moved_kept holder name node (λ d k. stays (row_at holder q name m node d k row))
+      (λ d k. lacks.0 (same_some (row_of tree p n) node c (row_at holder p name n node d k row) f.row)) row)
+      (above_kept rest lacks.1 (holder_stays holder name node row))
 
   -- the way up from the child, where its old directory has one
   child_up : (above : List ℕ) → Above moved_tree p above → is_directory tree c ≡ true → (up : List ℕ) × Above moved_tree c up
@@ -64,10 +68,12 @@ module _ (tree : TreeState) (s : IsSound tree) (p : ℕ) (n : List ℕ) (q : ℕ
             let child : node ≡ c = same_some (row_of tree p n) node c (row_at holder p name n node same.0 same.1 row) f.row in
             let way = child_up up.0 (subst (λ (d : ℕ). Above moved_tree d up.0) same.0 up.1) (subst (λ (d : ℕ). is_directory tree d ≡ true) child kind) in
             (way.0, subst (λ (d : ℕ). Above moved_tree d way.0) (sym child) way.1)
-        | inr apart ↦ (holder ∷ up.0, below node holder name up.0 (moved_kept holder name node (λ d k. stays (row_at holder q name m node d k row)) apart row) up.1)
+        | inr apart ↦
+            (holder ∷ up.0, below node holder name up.0 (moved_kept holder name node (λ d k. stays (row_at holder q name m node d k row)) apart row) up.1)
       ]
 
-  once_moved : (d o : ℕ) (k l : List ℕ) (x : ℕ) → row_of moved_tree d k ≡ Some x → row_of moved_tree o l ≡ Some x → is_directory tree x ≡ true → (d ≡ o) × (k ≡ l)
+  once_moved : (d o : ℕ) (k l : List ℕ) (x : ℕ) → row_of moved_tree d k ≡ Some x → row_of moved_tree o l ≡ Some x → is_directory tree x ≡ true
+      → (d ≡ o) × (k ≡ l)
   once_moved d o k l x one two kind = elim (moved_cases d k x one) [
     | inl new ↦ elim (moved_cases o l x two) [
       | inl also ↦ (new.0 ∙ sym also.0, new.1 ∙ sym also.1)
@@ -83,8 +89,18 @@ module _ (tree : TreeState) (s : IsSound tree) (p : ℕ) (n : List ℕ) (q : ℕ
   alive_moved d stays alive = elim (alive_named tree d alive) [
     | inl root ↦ root_alive moved_tree d root
     | inr named ↦ named_alive moved_tree d (elim (is_here named.directory p named.name n) [
-      | inl same ↦ record { directory = q; name = m; row = moved_there ∙ ap Some (same_some (row_of tree p n) c d f.row (row_at named.directory p named.name n d same.0 same.1 named.row)) }
-      | inr apart ↦ record { directory = named.directory; name = named.name; row = moved_kept named.directory named.name d (λ e k. stays (row_at named.directory q named.name m d e k named.row)) apart named.row }
+      | inl same ↦
+          record {
+            directory = q;
+            name = m;
+            row = moved_there ∙ ap Some (same_some (row_of tree p n) c d f.row (row_at named.directory p named.name n d same.0 same.1 named.row));
+          }
+      | inr apart ↦
+          record {
+            directory = named.directory;
+            name = named.name;
+            row = moved_kept named.directory named.name d (λ e k. stays (row_at named.directory q named.name m d e k named.row)) apart named.row;
+          }
     ])
   ]
 
@@ -101,7 +117,10 @@ module _ (tree : TreeState) (s : IsSound tree) (p : ℕ) (n : List ℕ) (q : ℕ
     node = λ d k x row. elim (moved_cases d k x row) [ inl new ↦ s.node p n x (f.row ∙ ap Some (sym new.2)) | inr old ↦ s.node d k x old.2 ];
     once = once_moved;
     holds = λ d k x row. elim (moved_cases d k x row) [
-      | inl new ↦ (subst (λ (y : ℕ). is_directory tree y ≡ true) (sym new.0) f.holder.kind, subst (λ (y : ℕ). is_alive moved_tree y ≡ true) (sym new.0) (alive_moved q target_stays f.holder.alive))
+      | inl new ↦ (
+        subst (λ (y : ℕ). is_directory tree y ≡ true) (sym new.0) f.holder.kind,
+        subst (λ (y : ℕ). is_alive moved_tree y ≡ true) (sym new.0) (alive_moved q target_stays f.holder.alive),
+      )
       | inr old ↦ let both = s.holds d k x old.2 in (both.0, alive_moved d (holder_stays d k x old.2) both.1)
     ];
     climbs = climbs_moved;

@@ -12,9 +12,11 @@ use Rattle.sfs_tree.proofs.KeepsSound.{above_up}
 use Rattle.sfs_base.proofs.BasicOptions.{none_not_some}
 
 -- what is found once a node came: it, or what was there
-pub node_cases : (nodes : FinMap nat_cmp Node) (k : ℕ) (v : Node) (x : ℕ) → ((x ≡ k) × (get (insert nodes k v) x ≡ Some v)) ⊎ ((x ≢ k) × (get (insert nodes k v) x ≡ get nodes x))
+pub node_cases : (nodes : FinMap nat_cmp Node) (k : ℕ) (v : Node) (x : ℕ)
+    → ((x ≡ k) × (get (insert nodes k v) x ≡ Some v)) ⊎ ((x ≢ k) × (get (insert nodes k v) x ≡ get nodes x))
 node_cases nodes k v x =
-    let found : get (insert nodes k v) x ≡ cond (nat_eq x k) (Some v) (get nodes x) = get-insert nat_cmp_total nodes k v x ∙ ap (λ b. cond b (Some v) (get nodes x)) (sym (unsigned_ties x k)) in
+    let found : get (insert nodes k v) x ≡ cond (nat_eq x k) (Some v) (get nodes x) =
+    get-insert nat_cmp_total nodes k v x ∙ ap (λ b. cond b (Some v) (get nodes x)) (sym (unsigned_ties x k)) in
     elim (nat_eq x k) as (λ b. nat_eq x k ≡ b → ((x ≡ k) × (get (insert nodes k v) x ≡ Some v)) ⊎ ((x ≢ k) × (get (insert nodes k v) x ≡ get nodes x))) [
       | true ↦ λ t. inl (eqb-true _ _ t, found ∙ ap (λ b. cond b (Some v) (get nodes x)) t)
       | false ↦ λ t. inr (eqb-false _ _ t, found ∙ ap (λ b. cond b (Some v) (get nodes x)) t)
@@ -37,7 +39,8 @@ pub record KeepKinds (tree : TreeState) (nodes : FinMap nat_cmp Node) (made : Li
   pub node : (x : ℕ) → IsSome (get tree.nodes x) → IsSome (get nodes x)
   pub kind : (x : ℕ) → IsSome (get tree.nodes x) → is_directory (with_nodes tree nodes made) x ≡ is_directory tree x
 
-pub IsSound-nodes : (tree : TreeState) (nodes : FinMap nat_cmp Node) (made : List ℕ) → IsSound tree → KeepKinds tree nodes made → IsSound (with_nodes tree nodes made)
+pub IsSound-nodes : (tree : TreeState) (nodes : FinMap nat_cmp Node) (made : List ℕ) → IsSound tree → KeepKinds tree nodes made
+    → IsSound (with_nodes tree nodes made)
 IsSound-nodes tree nodes made s keep =
     let next = with_nodes tree nodes made in
     record {
@@ -49,11 +52,13 @@ IsSound-nodes tree nodes made s keep =
       climbs = λ d n x row kind. let way = s.climbs d n x row (sym (keep.kind x (s.node d n x row)) ∙ kind) in (way.0, above_up tree next (λ e k y r. r) way.1);
     }
 
-kind_at : (tree : TreeState) (nodes : FinMap nat_cmp Node) (made : List ℕ) (x : ℕ) → get nodes x ≡ get tree.nodes x → is_directory (with_nodes tree nodes made) x ≡ is_directory tree x
+kind_at : (tree : TreeState) (nodes : FinMap nat_cmp Node) (made : List ℕ) (x : ℕ) → get nodes x ≡ get tree.nodes x
+    → is_directory (with_nodes tree nodes made) x ≡ is_directory tree x
 kind_at tree nodes made x same = ap (λ o. option_map_or (λ (n : Node). is_directory_kind n.kind) o false) same
 
 -- a new node
-pub KeepKinds-new : (tree : TreeState) (number : ℕ) (node : Node) (made : List ℕ) → get tree.nodes number ≡ None → KeepKinds tree (insert tree.nodes number node) made
+pub KeepKinds-new : (tree : TreeState) (number : ℕ) (node : Node) (made : List ℕ) → get tree.nodes number ≡ None
+    → KeepKinds tree (insert tree.nodes number node) made
 KeepKinds-new tree number node made fresh = record {
   node = λ x some. subst IsSome (sym (same x some)) some;
   kind = λ x some. kind_at tree _ made x (same x some);

@@ -20,14 +20,16 @@ use Rattle.sfs_base.proofs.BasicTruth.{or_first, or_second}
 use Rattle.sfs_base.proofs.BasicOptions.{some_is_no_none}
 
 module _ (tree : TreeState) (core : ℕ) where
-  keeps_part : (c : Call) (directory : ℕ) (test : List ℕ → Bool) (rows : FinMap name_cmp ℕ) → touches_part c directory test ≡ false → (effect : Effect) → own_effect tree core c ≡ Some effect → part_after directory test effect rows ≡ rows
+  keeps_part : (c : Call) (directory : ℕ) (test : List ℕ → Bool) (rows : FinMap name_cmp ℕ) → touches_part c directory test ≡ false → (effect : Effect)
+      → own_effect tree core c ≡ Some effect → part_after directory test effect rows ≡ rows
   keeps_part (call.Look d n) at test rows apart effect own = cc
   keeps_part (call.Read f b k) at test rows apart effect own = cc
   keeps_part (call.Stat d) at test rows apart effect own = cc
   keeps_part (call.List d) at test rows apart effect own = cc
   keeps_part (call.Fsync d) at test rows apart effect own = cc
   keeps_part (call.Make d n k) at test rows apart effect own =
-      of_one (λ e. part_after at test e rows ≡ rows) (Adds d.0 n (next_number tree core)) effect own (ap (λ b. cond b (insert rows n (next_number tree core)) rows) apart)
+      of_one (λ e. part_after at test e rows ≡ rows) (Adds d.0 n (next_number tree core)) effect own
+      (ap (λ b. cond b (insert rows n (next_number tree core)) rows) apart)
   keeps_part (call.Link f d n) at test rows apart effect own =
       of_one (λ e. part_after at test e rows ≡ rows) (Adds d.0 n f.0) effect own (ap (λ b. cond b (insert rows n f.0) rows) apart)
   keeps_part (call.Write f b bytes) at test rows apart effect own = of_one (λ e. part_after at test e rows ≡ rows) (Edits f.0 (Puts b bytes)) effect own refl
@@ -40,23 +42,29 @@ module _ (tree : TreeState) (core : ℕ) where
       of_child (λ e. part_after at test e rows ≡ rows) (Moves d.0 n q.0 m) (row_of tree d.0 n) effect own (λ x e.
       ap₂ (λ a b. cond b (insert (cond a (remove rows n) rows) m x) (cond a (remove rows n) rows)) (or_first _ _ apart) (or_second _ _ apart))
 
-  keeps_bytes : (c : Call) (node : ℕ) (bytes : List ℕ) → touches_bytes c node ≡ false → (effect : Effect) → own_effect tree core c ≡ Some effect → bytes_after effect node bytes ≡ bytes
+  keeps_bytes : (c : Call) (node : ℕ) (bytes : List ℕ) → touches_bytes c node ≡ false → (effect : Effect) → own_effect tree core c ≡ Some effect
+      → bytes_after effect node bytes ≡ bytes
   keeps_bytes (call.Look d n) node bytes apart effect own = cc
   keeps_bytes (call.Read f b k) node bytes apart effect own = cc
   keeps_bytes (call.Stat d) node bytes apart effect own = cc
   keeps_bytes (call.List d) node bytes apart effect own = cc
   keeps_bytes (call.Fsync d) node bytes apart effect own = cc
-  keeps_bytes (call.Make d n k) node bytes apart effect own = of_one (λ e. bytes_after e node bytes ≡ bytes) (Adds d.0 n (next_number tree core)) effect own refl
+  keeps_bytes (call.Make d n k) node bytes apart effect own =
+      of_one (λ e. bytes_after e node bytes ≡ bytes) (Adds d.0 n (next_number tree core)) effect own refl
   keeps_bytes (call.Link f d n) node bytes apart effect own = of_one (λ e. bytes_after e node bytes ≡ bytes) (Adds d.0 n f.0) effect own refl
   keeps_bytes (call.Write f b written) node bytes apart effect own =
       of_one (λ e. bytes_after e node bytes ≡ bytes) (Edits f.0 (Puts b written)) effect own (ap (λ t. cond t (edited (Puts b written) bytes) bytes) apart)
   keeps_bytes (call.Trunc f size) node bytes apart effect own =
       of_one (λ e. bytes_after e node bytes ≡ bytes) (Edits f.0 (Resizes size)) effect own (ap (λ t. cond t (edited (Resizes size) bytes) bytes) apart)
-  keeps_bytes (call.Unlink d n) node bytes apart effect own = of_child (λ e. bytes_after e node bytes ≡ bytes) (Removes d.0 n) (row_of tree d.0 n) effect own (λ x e. refl)
-  keeps_bytes (call.Rmdir d n) node bytes apart effect own = of_child (λ e. bytes_after e node bytes ≡ bytes) (Removes d.0 n) (row_of tree d.0 n) effect own (λ x e. refl)
-  keeps_bytes (call.Rename d n q m) node bytes apart effect own = of_child (λ e. bytes_after e node bytes ≡ bytes) (Moves d.0 n q.0 m) (row_of tree d.0 n) effect own (λ x e. refl)
+  keeps_bytes (call.Unlink d n) node bytes apart effect own =
+      of_child (λ e. bytes_after e node bytes ≡ bytes) (Removes d.0 n) (row_of tree d.0 n) effect own (λ x e. refl)
+  keeps_bytes (call.Rmdir d n) node bytes apart effect own =
+      of_child (λ e. bytes_after e node bytes ≡ bytes) (Removes d.0 n) (row_of tree d.0 n) effect own (λ x e. refl)
+  keeps_bytes (call.Rename d n q m) node bytes apart effect own =
+      of_child (λ e. bytes_after e node bytes ≡ bytes) (Moves d.0 n q.0 m) (row_of tree d.0 n) effect own (λ x e. refl)
 
-  keeps_links : (c : Call) (node links : ℕ) → touches_links tree core c node ≡ false → (effect : Effect) → own_effect tree core c ≡ Some effect → links_after tree effect node links ≡ links
+  keeps_links : (c : Call) (node links : ℕ) → touches_links tree core c node ≡ false → (effect : Effect) → own_effect tree core c ≡ Some effect
+      → links_after tree effect node links ≡ links
   keeps_links (call.Look d n) node links apart effect own = cc
   keeps_links (call.Read f b k) node links apart effect own = cc
   keeps_links (call.Stat d) node links apart effect own = cc
@@ -66,17 +74,21 @@ module _ (tree : TreeState) (core : ℕ) where
       of_one (λ e. links_after tree e node links ≡ links) (Adds d.0 n (next_number tree core)) effect own (ap (λ t. cond t (links + 1) links) apart)
   keeps_links (call.Link f d n) node links apart effect own =
       of_one (λ e. links_after tree e node links ≡ links) (Adds d.0 n f.0) effect own (ap (λ t. cond t (links + 1) links) apart)
-  keeps_links (call.Write f b written) node links apart effect own = of_one (λ e. links_after tree e node links ≡ links) (Edits f.0 (Puts b written)) effect own refl
+  keeps_links (call.Write f b written) node links apart effect own =
+      of_one (λ e. links_after tree e node links ≡ links) (Edits f.0 (Puts b written)) effect own refl
   keeps_links (call.Trunc f size) node links apart effect own = of_one (λ e. links_after tree e node links ≡ links) (Edits f.0 (Resizes size)) effect own refl
   keeps_links (call.Unlink d n) node links apart effect own =
-      of_child (λ e. links_after tree e node links ≡ links) (Removes d.0 n) (row_of tree d.0 n) effect own (λ x e. ap (λ t. cond t (links - 1) links) (sym (ap (is_this node) e) ∙ apart))
+      of_child (λ e. links_after tree e node links ≡ links) (Removes d.0 n) (row_of tree d.0 n) effect own
+      (λ x e. ap (λ t. cond t (links - 1) links) (sym (ap (is_this node) e) ∙ apart))
   keeps_links (call.Rmdir d n) node links apart effect own =
-      of_child (λ e. links_after tree e node links ≡ links) (Removes d.0 n) (row_of tree d.0 n) effect own (λ x e. ap (λ t. cond t (links - 1) links) (sym (ap (is_this node) e) ∙ apart))
+      of_child (λ e. links_after tree e node links ≡ links) (Removes d.0 n) (row_of tree d.0 n) effect own
+      (λ x e. ap (λ t. cond t (links - 1) links) (sym (ap (is_this node) e) ∙ apart))
   keeps_links (call.Rename d n q m) node links apart effect own =
       of_child (λ e. links_after tree e node links ≡ links) (Moves d.0 n q.0 m) (row_of tree d.0 n) effect own (λ x e. ap (λ t. cond t (links - 1) links) apart)
 
 -- a node that is there has no new number
-keeps_kind : (tree : TreeState) (core : ℕ) (effect : Effect) (makes : Option Kind) (node : ℕ) → Fits tree core effect makes → IsSome (get tree.nodes node) → kind_after tree core makes node ≡ kind_of tree node
+keeps_kind : (tree : TreeState) (core : ℕ) (effect : Effect) (makes : Option Kind) (node : ℕ) → Fits tree core effect makes → IsSome (get tree.nodes node)
+    → kind_after tree core makes node ≡ kind_of tree node
 keeps_kind tree core effect None node f some = refl
 keeps_kind tree core Stays (Some kind) node f some = absurd f
 keeps_kind tree core (Removes d n c) (Some kind) node f some = absurd f
@@ -108,13 +120,16 @@ calls_keep_the_rest tree core c is lt =
     record {
       rows = λ d test apart.
           parts_after tree core effect makes d test
-          ∙ of_what_it_does (λ e. part_after d test e (names_where d test tree.rows) ≡ names_where d test tree.rows) tree core c refl (keeps_part tree core c d test (names_where d test tree.rows) apart);
+          ∙ of_what_it_does (λ e. part_after d test e (names_where d test tree.rows) ≡ names_where d test tree.rows) tree core c refl
+          (keeps_part tree core c d test (names_where d test tree.rows) apart);
       bytes = λ node apart.
           (nodes_after tree core effect makes node fits).bytes
-          ∙ of_what_it_does (λ e. bytes_after e node (bytes_of tree node) ≡ bytes_of tree node) tree core c refl (keeps_bytes tree core c node (bytes_of tree node) apart);
+          ∙ of_what_it_does (λ e. bytes_after e node (bytes_of tree node) ≡ bytes_of tree node) tree core c refl
+          (keeps_bytes tree core c node (bytes_of tree node) apart);
       links = λ node apart.
           (nodes_after tree core effect makes node fits).links
-          ∙ of_what_it_does (λ e. links_after tree e node (count_of tree.rows node) ≡ count_of tree.rows node) tree core c refl (keeps_links tree core c node (count_of tree.rows node) apart);
+          ∙ of_what_it_does (λ e. links_after tree e node (count_of tree.rows node) ≡ count_of tree.rows node) tree core c refl
+          (keeps_links tree core c node (count_of tree.rows node) apart);
       kinds = λ node some. (nodes_after tree core effect makes node fits).kind ∙ keeps_kind tree core effect makes node fits some;
       others = λ other apart. counts_after tree core effect makes other lt ∙ keeps_others tree core makes other apart;
       own = λ none. counts_after tree core effect makes core lt ∙ ap (λ k. count_after tree core k core) (makes_none tree core c none);

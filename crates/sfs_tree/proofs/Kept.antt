@@ -14,7 +14,8 @@ use Rattle.sfs_tree.proofs.KeepsMoves.{IsSound-moves}
 use Rattle.sfs_tree.proofs.KeepsNodes.{with_nodes, KeepKinds, KeepKinds-new, KeepKinds-edit, IsSound-nodes, node_cases, directory_node}
 use Rattle.sfs_base.proofs.BasicOptions.{some_is_no_none}
 
-pub IsSound-kept : (tree : TreeState) (core : ℕ) (effect : Effect) (makes : Option Kind) → IsSound tree → Fits tree core effect makes → IsSound (tree_with tree core effect makes)
+pub IsSound-kept : (tree : TreeState) (core : ℕ) (effect : Effect) (makes : Option Kind) → IsSound tree → Fits tree core effect makes
+    → IsSound (tree_with tree core effect makes)
 IsSound-kept tree core Stays None s f = s
 IsSound-kept tree core (Adds d n c) None s f = IsSound-adds tree s d n c f
 IsSound-kept tree core (Removes d n c) None s f = IsSound-removes tree s d n c f
@@ -46,19 +47,28 @@ IsSound-kept tree core (Adds d n c) (Some kind) s f =
     sound = IsSound-nodes tree _ _ s keep
 
 -- numbers that are known stay known where the nodes that are there keep their numbers and no core has made fewer
-module _ (tree next : TreeState) (same_first : next.first ≡ tree.first) (same_share : next.share ≡ tree.share) (as_long : length tree.made ≡ length next.made) where
+module _ (tree next : TreeState) (same_first : next.first ≡ tree.first) (same_share : next.share ≡ tree.share)
+    (as_long : length tree.made ≡ length next.made) where
   IsMade-more : ((core : ℕ) → slice_index tree.made core ≤ slice_index next.made core) → (number : ℕ) → IsMade tree number → IsMade next number
   IsMade-more more number made =
       let lt : made.0 < length tree.made = made.2 in
       let before : made.1 < slice_index tree.made made.0 = made.3 in
-      let le = more made.0 in
-      (made.0, made.1, omega arith, omega arith, made.4 ∙ ap (λ n. n + made.0 * tree.share + made.1) (sym same_first) ∙ ap (λ n. next.first + made.0 * n + made.1) (sym same_share))
+      let le = more made.0 in (
+        made.0,
+        made.1,
+        omega arith,
+        omega arith,
+        made.4 ∙ ap (λ n. n + made.0 * tree.share + made.1) (sym same_first)
+            ∙ ap (λ n. next.first + made.0 * n + made.1) (sym same_share),
+      )
 
-same_made : (tree : TreeState) (nodes : FinMap nat_cmp Node) → IsNumbered tree → ((x : ℕ) → IsSome (get nodes x) → IsSome (get tree.nodes x)) → IsNumbered (with_nodes tree nodes tree.made)
+same_made : (tree : TreeState) (nodes : FinMap nat_cmp Node) → IsNumbered tree → ((x : ℕ) → IsSome (get nodes x) → IsSome (get tree.nodes x))
+    → IsNumbered (with_nodes tree nodes tree.made)
 same_made tree nodes n back = record { known = λ x some. n.known x (back x some); within = n.within }
 
 -- bytes that change give no number
-edit_back : (tree : TreeState) (file : ℕ) (edit : Edit) (x : ℕ) → IsSome (get (with_edit tree.nodes file edit (get tree.nodes file)) x) → IsSome (get tree.nodes x)
+edit_back : (tree : TreeState) (file : ℕ) (edit : Edit) (x : ℕ) → IsSome (get (with_edit tree.nodes file edit (get tree.nodes file)) x)
+    → IsSome (get tree.nodes x)
 edit_back tree file edit x =
     elim (get tree.nodes file) as (λ o. get tree.nodes file ≡ o → IsSome (get (with_edit tree.nodes file edit o) x) → IsSome (get tree.nodes x)) [
       | None ↦ λ e some. some
@@ -73,10 +83,19 @@ module _ (tree : TreeState) (core : ℕ) (node : Node) (n : IsNumbered tree) (lt
   next_tree : TreeState
   next_tree = with_nodes tree (insert tree.nodes (next_number tree core) node) (set tree.made core (made_by tree core + 1))
 
-  made_at : (other : ℕ) → ((other ≡ core) × (slice_index (set tree.made core (made_by tree core + 1)) other ≡ made_by tree core + 1)) ⊎ ((other ≢ core) × (slice_index (set tree.made core (made_by tree core + 1)) other ≡ slice_index tree.made other))
+  made_at : (other : ℕ)
+      → ((other ≡ core) × (slice_index (set tree.made core (made_by tree core + 1)) other ≡ made_by tree core + 1))
+      ⊎ ((other ≢ core) × (slice_index (set tree.made core (made_by tree core + 1)) other ≡ slice_index tree.made other))
   made_at other =
-      elim (nat_eq other core) as (λ b. nat_eq other core ≡ b → ((other ≡ core) × (slice_index (set tree.made core (made_by tree core + 1)) other ≡ made_by tree core + 1)) ⊎ ((other ≢ core) × (slice_index (set tree.made core (made_by tree core + 1)) other ≡ slice_index tree.made other))) [
-        | true ↦ λ t. inl (eqb-true _ _ t, ap (slice_index (set tree.made core (made_by tree core + 1))) (eqb-true _ _ t) ∙ get_or-set_same tree.made core (made_by tree core + 1) 0 lt)
+      elim (nat_eq other core) as (λ b. nat_eq other core ≡ b
+      → ((other ≡ core) × (slice_index (set tree.made core (made_by tree core + 1)) other ≡ made_by tree core + 1))
+      ⊎ ((other ≢ core) × (slice_index (set tree.made core (made_by tree core + 1)) other ≡ slice_index tree.made other))) [
+        | true ↦
+            λ t. inl (
+              eqb-true _ _ t,
+              ap (slice_index (set tree.made core (made_by tree core + 1))) (eqb-true _ _ t)
+                  ∙ get_or-set_same tree.made core (made_by tree core + 1) 0 lt,
+            )
         | false ↦ λ t. inr (eqb-false _ _ t, get_or-set_other tree.made core other (made_by tree core + 1) 0 (eqb-false _ _ t))
       ] refl
 
@@ -89,10 +108,20 @@ module _ (tree : TreeState) (core : ℕ) (node : Node) (n : IsNumbered tree) (lt
   IsNumbered-next : IsNumbered (with_nodes tree (insert tree.nodes (next_number tree core) node) (set tree.made core (made_by tree core + 1)))
   IsNumbered-next = record {
     known = λ x some. elim (node_cases tree.nodes (next_number tree core) node x) [
-      | inl new ↦ inr (core, made_by tree core, subst (λ k. core < k) (sym (length-set tree.made core _)) lt, subst (λ k. made_by tree core < k) (sym (get_or-set_same tree.made core (made_by tree core + 1) 0 lt)) (one_more (made_by tree core)), new.0)
+      | inl new ↦
+          inr (
+            core,
+            made_by tree core,
+            subst (λ k. core < k) (sym (length-set tree.made core _)) lt,
+            subst (λ k. made_by tree core < k) (sym (get_or-set_same tree.made core (made_by tree core + 1) 0 lt)) (one_more (made_by tree core)),
+            new.0,
+          )
       | inr old ↦ elim (n.known x (subst IsSome old.1 some)) [
         | inl low ↦ inl low
-        | inr made ↦ inr (IsMade-more tree (with_nodes tree (insert tree.nodes (next_number tree core) node) (set tree.made core (made_by tree core + 1))) refl refl (sym (length-set tree.made core _)) made_more x made)
+        | inr made ↦
+            inr
+            (IsMade-more tree (with_nodes tree (insert tree.nodes (next_number tree core) node) (set tree.made core (made_by tree core + 1))) refl refl
+            (sym (length-set tree.made core _)) made_more x made)
       ]
     ];
     within = λ other less. elim (made_at other) [
@@ -104,7 +133,8 @@ module _ (tree : TreeState) (core : ℕ) (node : Node) (n : IsNumbered tree) (lt
       one_more : (n : ℕ) → n < n + 1
       one_more n = omega arith
 
-pub IsNumbered-kept : (tree : TreeState) (core : ℕ) (effect : Effect) (makes : Option Kind) → IsNumbered tree → core < length tree.made → Fits tree core effect makes → IsNumbered (tree_with tree core effect makes)
+pub IsNumbered-kept : (tree : TreeState) (core : ℕ) (effect : Effect) (makes : Option Kind) → IsNumbered tree → core < length tree.made
+    → Fits tree core effect makes → IsNumbered (tree_with tree core effect makes)
 IsNumbered-kept tree core Stays None n lt f = n
 IsNumbered-kept tree core (Adds d m c) None n lt f = record { known = n.known; within = n.within }
 IsNumbered-kept tree core (Removes d m c) None n lt f = record { known = n.known; within = n.within }

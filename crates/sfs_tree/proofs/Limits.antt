@@ -41,19 +41,23 @@ or_else_room : (tree : TreeState) (fault : Option Code) (v : Verdict) → (fault
 or_else_room tree (Some code) v room = tt
 or_else_room tree None v room = room refl
 
-place_room : (tree : TreeState) (x q : ℕ) (m : List ℕ) (there : Option ℕ) → there ≡ row_of tree q m → place_fault tree x q m there ≡ None → IsSome (row_of tree q m) ⊎ (is_full tree q m ≡ false)
+place_room : (tree : TreeState) (x q : ℕ) (m : List ℕ) (there : Option ℕ) → there ≡ row_of tree q m → place_fault tree x q m there ≡ None
+    → IsSome (row_of tree q m) ⊎ (is_full tree q m ≡ false)
 place_room tree x q m (Some there) is none = inl (subst IsSome is refl)
 place_room tree x q m None is none = inr (not_so _ _ _ none).0
 
 move_room : (tree : TreeState) (p : ℕ) (n : List ℕ) (q : ℕ) (m : List ℕ) (child : Option ℕ) → HasRoom tree (move_row tree p n q m child).effect
 move_room tree p n q m None = tt
 move_room tree p n q m (Some x) =
-    elim (names_child (row_of tree q m) x) as (λ b. HasRoom tree (cond b (answered Rattle.sfs_tree.specs.declared.reply.Reply.TheVariants.Ok) (or_else (move_fault tree x q m) (done (Moves p n q m x)))).effect) [
+    elim (names_child (row_of tree q m) x) as (λ b. HasRoom tree
+    (cond b (answered Rattle.sfs_tree.specs.declared.reply.Reply.TheVariants.Ok) (or_else (move_fault tree x q m) (done (Moves p n q m x)))).effect) [
       | true ↦ tt
       | false ↦ or_else_room tree (move_fault tree x q m) (done (Moves p n q m x)) (λ none. place_room tree x q m (row_of tree q m) refl (not_so _ _ _ none).1)
     ]
 
-nothing_comes : (tree : TreeState) (core : ℕ) (c : Call) → ((effect : Effect) → Rattle.sfs_tree.specs.Footprints.own_effect tree core c ≡ Some effect → HasRoom tree effect) → HasRoom tree (verdict tree core c).effect
+nothing_comes : (tree : TreeState) (core : ℕ) (c : Call)
+    → ((effect : Effect) → Rattle.sfs_tree.specs.Footprints.own_effect tree core c ≡ Some effect → HasRoom tree effect)
+    → HasRoom tree (verdict tree core c).effect
 nothing_comes tree core c own = of_what_it_does (HasRoom tree) tree core c tt own
 
 make_room : (tree : TreeState) (core directory : ℕ) (name : List ℕ) → make_fault tree core directory name ≡ None → is_full tree directory name ≡ false
@@ -63,7 +67,11 @@ make_room tree core directory name none =
     (not_so _ _ _ absent.1).0
 
 -- the last of the tests that a link passes
-last_test : (dead directory : Bool) (fault : Option Code) (exists many full : Bool) → cond dead (Some NoEntry) (cond directory (Some NotPermitted) (option_or fault (cond exists (Some Exists) (cond many (Some TooManyLinks) (cond full (Some DirFull) None))))) ≡ None → full ≡ false
+last_test : (dead directory : Bool) (fault : Option Code) (exists many full : Bool)
+    → cond dead (Some NoEntry)
+    (cond directory (Some NotPermitted) (option_or fault (cond exists (Some Exists) (cond many (Some TooManyLinks) (cond full (Some DirFull) None)))))
+    ≡ None
+    → full ≡ false
 last_test true directory fault exists many full none = cc
 last_test false true fault exists many full none = cc
 last_test false false (Some code) exists many full none = cc
@@ -74,21 +82,29 @@ last_test false false None false false false none = refl
 
 link_room : (tree : TreeState) (file directory : ℕ) (name : List ℕ) → link_fault tree file directory name ≡ None → is_full tree directory name ≡ false
 link_room tree file directory name none =
-    last_test (not (is_alive tree file)) (is_directory tree file) (directory_fault tree directory) (is_some (row_of tree directory name)) (nat_le MOST_LINKS (count_of tree.rows file)) (is_full tree directory name) none
+    last_test (not (is_alive tree file)) (is_directory tree file) (directory_fault tree directory) (is_some (row_of tree directory name))
+    (nat_le MOST_LINKS (count_of tree.rows file)) (is_full tree directory name) none
 
 calls_have_room : (tree : TreeState) (core : ℕ) (c : Call) → HasRoom tree (verdict tree core c).effect
 calls_have_room tree core (call.Make d n k) = or_else_room tree (make_fault tree core d.0 n) (make_node tree core d.0 n k) (make_room tree core d.0 n)
 calls_have_room tree core (call.Link f d n) = or_else_room tree (link_fault tree f.0 d.0 n) (done (Adds d.0 n f.0)) (link_room tree f.0 d.0 n)
-calls_have_room tree core (call.Rename p n q m) = or_else_room tree (option_or (directory_fault tree p.0) (directory_fault tree q.0)) (move_row tree p.0 n q.0 m (row_of tree p.0 n)) (λ none. move_room tree p.0 n q.0 m (row_of tree p.0 n))
+calls_have_room tree core (call.Rename p n q m) =
+    or_else_room tree (option_or (directory_fault tree p.0) (directory_fault tree q.0)) (move_row tree p.0 n q.0 m (row_of tree p.0 n))
+    (λ none. move_room tree p.0 n q.0 m (row_of tree p.0 n))
 calls_have_room tree core (call.Look d n) = nothing_comes tree core (call.Look d n) (λ effect own. absurd (let never : None ≡ Some effect = own in cc))
-calls_have_room tree core (call.Read f at count) = nothing_comes tree core (call.Read f at count) (λ effect own. absurd (let never : None ≡ Some effect = own in cc))
+calls_have_room tree core (call.Read f at count) =
+    nothing_comes tree core (call.Read f at count) (λ effect own. absurd (let never : None ≡ Some effect = own in cc))
 calls_have_room tree core (call.Stat d) = nothing_comes tree core (call.Stat d) (λ effect own. absurd (let never : None ≡ Some effect = own in cc))
 calls_have_room tree core (call.List d) = nothing_comes tree core (call.List d) (λ effect own. absurd (let never : None ≡ Some effect = own in cc))
 calls_have_room tree core (call.Fsync d) = nothing_comes tree core (call.Fsync d) (λ effect own. absurd (let never : None ≡ Some effect = own in cc))
-calls_have_room tree core (call.Write f at bytes) = nothing_comes tree core (call.Write f at bytes) (λ effect own. of_one (HasRoom tree) (Edits f.0 (Puts at bytes)) effect own tt)
-calls_have_room tree core (call.Trunc f size) = nothing_comes tree core (call.Trunc f size) (λ effect own. of_one (HasRoom tree) (Edits f.0 (Resizes size)) effect own tt)
-calls_have_room tree core (call.Unlink d n) = nothing_comes tree core (call.Unlink d n) (λ effect own. of_child (HasRoom tree) (Removes d.0 n) (row_of tree d.0 n) effect own (λ x e. tt))
-calls_have_room tree core (call.Rmdir d n) = nothing_comes tree core (call.Rmdir d n) (λ effect own. of_child (HasRoom tree) (Removes d.0 n) (row_of tree d.0 n) effect own (λ x e. tt))
+calls_have_room tree core (call.Write f at bytes) =
+    nothing_comes tree core (call.Write f at bytes) (λ effect own. of_one (HasRoom tree) (Edits f.0 (Puts at bytes)) effect own tt)
+calls_have_room tree core (call.Trunc f size) =
+    nothing_comes tree core (call.Trunc f size) (λ effect own. of_one (HasRoom tree) (Edits f.0 (Resizes size)) effect own tt)
+calls_have_room tree core (call.Unlink d n) =
+    nothing_comes tree core (call.Unlink d n) (λ effect own. of_child (HasRoom tree) (Removes d.0 n) (row_of tree d.0 n) effect own (λ x e. tt))
+calls_have_room tree core (call.Rmdir d n) =
+    nothing_comes tree core (call.Rmdir d n) (λ effect own. of_child (HasRoom tree) (Removes d.0 n) (row_of tree d.0 n) effect own (λ x e. tt))
 
 -- how many rows a bucket has with a row more, and with a row less
 with_one : (rows : FinMap name_cmp ℕ) (n : List ℕ) (c : ℕ) → len (insert rows n c) ≡ cond (is_some (get rows n)) (len rows) (len rows + 1)
@@ -127,7 +143,8 @@ in_bucket tree d b n same =
 
 not_full : (tree : TreeState) (d b : ℕ) (n : List ℕ) → bucket n ≡ b → is_full tree d n ≡ false → len (bucket_rows d b tree.rows) < BUCKET_ROWS
 not_full tree d b n same room =
-    let test : nat_le BUCKET_ROWS (len (bucket_rows d b tree.rows)) ≡ false = subst (λ (k : ℕ). nat_le BUCKET_ROWS (len (bucket_rows d k tree.rows)) ≡ false) same room in
+    let test : nat_le BUCKET_ROWS (len (bucket_rows d b tree.rows)) ≡ false =
+    subst (λ (k : ℕ). nat_le BUCKET_ROWS (len (bucket_rows d k tree.rows)) ≡ false) same room in
     grind (arith, nat_tests)
 
 module _ (tree : TreeState) (core : ℕ) (within : IsWithinLimits tree) (d b : ℕ) where
@@ -160,7 +177,8 @@ module _ (tree : TreeState) (core : ℕ) (within : IsWithinLimits tree) (d b : �
       ap (λ t. len (cond t (remove rows n) rows) + 1) is ∙ omega arith
 
   -- a row that comes to this bucket where another one is, which may have moved away before
-  gives_way : (p : ℕ) (n : List ℕ) (q : ℕ) (m : List ℕ) (x : ℕ) → row_of tree p n ≡ Some x → IsSome (row_of tree q m) → (nat_eq q d && test m) ≡ true → len (insert (part_without d test p n rows) m x) ≤ len rows
+  gives_way : (p : ℕ) (n : List ℕ) (q : ℕ) (m : List ℕ) (x : ℕ) → row_of tree p n ≡ Some x → IsSome (row_of tree q m) → (nat_eq q d && test m) ≡ true
+      → len (insert (part_without d test p n rows) m x) ≤ len rows
   gives_way p n q m x row there is =
       elim (nat_eq p d && test n) as (λ t. (nat_eq p d && test n) ≡ t → len (insert (cond t (remove rows n) rows) m x) ≤ len rows) [
         | true ↦ λ from.
@@ -192,7 +210,8 @@ module _ (tree : TreeState) (core : ℕ) (within : IsWithinLimits tree) (d b : �
   bounded (Moves p n q m x) None f room =
       let most = within.buckets d b in
       let less = without p n in
-      elim (nat_eq q d && test m) as (λ t. (nat_eq q d && test m) ≡ t → len (cond t (insert (part_without d test p n rows) m x) (part_without d test p n rows)) ≤ BUCKET_ROWS) [
+      elim (nat_eq q d && test m) as (λ t. (nat_eq q d && test m) ≡ t
+      → len (cond t (insert (part_without d test p n rows) m x) (part_without d test p n rows)) ≤ BUCKET_ROWS) [
         | true ↦ λ is. elim room [
           | inl there ↦ let way = gives_way p n q m x f.row there is in omega arith
           | inr free ↦
@@ -205,26 +224,35 @@ module _ (tree : TreeState) (core : ℕ) (within : IsWithinLimits tree) (d b : �
       ] refl
 
 -- a directory's bytes stay none
-plain_after : (tree : TreeState) (core : ℕ) (effect : Effect) (makes : Option Kind) → Fits tree core effect makes → IsWithinLimits tree → (node : ℕ) → is_directory (tree_with tree core effect makes) node ≡ true → bytes_of (tree_with tree core effect makes) node ≡ []
+plain_after : (tree : TreeState) (core : ℕ) (effect : Effect) (makes : Option Kind) → Fits tree core effect makes → IsWithinLimits tree → (node : ℕ)
+    → is_directory (tree_with tree core effect makes) node ≡ true → bytes_of (tree_with tree core effect makes) node ≡ []
 plain_after tree core effect makes f within node kind =
     bytes_with tree core effect makes node f ∙ of effect makes f kind
   where
-    was : (effect : Effect) (makes : Option Kind) → Fits tree core effect makes → is_directory (tree_with tree core effect makes) node ≡ true → bytes_of tree node ≡ []
+    was : (effect : Effect) (makes : Option Kind) → Fits tree core effect makes → is_directory (tree_with tree core effect makes) node ≡ true
+        → bytes_of tree node ≡ []
     was effect makes f kind = there (get tree.nodes node) refl
       where
         there : (o : Option Rattle.sfs_tree.specs.Tree.Node) → get tree.nodes node ≡ o → bytes_of tree node ≡ []
-        there None none = ap (λ (o : Option Rattle.sfs_tree.specs.Tree.Node). Rattle.std.specs.Option.option_map_or (λ (n : Rattle.sfs_tree.specs.Tree.Node). n.bytes) o []) none
+        there None none =
+            ap (λ (o : Option Rattle.sfs_tree.specs.Tree.Node). Rattle.std.specs.Option.option_map_or (λ (n : Rattle.sfs_tree.specs.Tree.Node). n.bytes) o [])
+            none
         there (Some n) some = within.plain node (sym (directory_stays tree core effect makes node f (subst IsSome (sym some) refl)) ∙ kind)
 
-    of : (effect : Effect) (makes : Option Kind) → Fits tree core effect makes → is_directory (tree_with tree core effect makes) node ≡ true → bytes_after effect node (bytes_of tree node) ≡ []
+    of : (effect : Effect) (makes : Option Kind) → Fits tree core effect makes → is_directory (tree_with tree core effect makes) node ≡ true
+        → bytes_after effect node (bytes_of tree node) ≡ []
     of Stays makes f kind = was Stays makes f kind
     of (Adds d n c) makes f kind = was (Adds d n c) makes f kind
     of (Removes d n c) makes f kind = was (Removes d n c) makes f kind
     of (Moves p n q m x) makes f kind = was (Moves p n q m x) makes f kind
     of (Edits file edit) (Some k) f kind = absurd f
     of (Edits file edit) None f kind =
-        elim (nat_eq file node) as (λ b. nat_eq file node ≡ b → cond b (Rattle.sfs_tree.specs.Effect.edited edit (bytes_of tree node)) (bytes_of tree node) ≡ []) [
-          | true ↦ λ t. absurd (edited_file (subst (λ (z : ℕ). IsSome (get tree.nodes z)) (eqb-true _ _ t) f.node) (subst (λ (z : ℕ). is_directory tree z ≡ false) (eqb-true _ _ t) f.kind))
+        elim (nat_eq file node) as (λ b. nat_eq file node ≡ b
+        → cond b (Rattle.sfs_tree.specs.Effect.edited edit (bytes_of tree node)) (bytes_of tree node) ≡ []) [
+          | true ↦
+              λ t. absurd
+              (edited_file (subst (λ (z : ℕ). IsSome (get tree.nodes z)) (eqb-true _ _ t) f.node)
+              (subst (λ (z : ℕ). is_directory tree z ≡ false) (eqb-true _ _ t) f.kind))
           | false ↦ λ t. was (Edits file edit) None f kind
         ] refl
       where
@@ -232,22 +260,27 @@ plain_after tree core effect makes f within node kind =
         edited_file there kind_was = let same = directory_stays tree core (Edits file edit) None node f there in cc
 
 -- a call keeps a tree within its limits
-pub calls_stay_within : (tree : TreeState) (core : ℕ) (c : Call) → IsSoundTree tree → core < length tree.made → IsWithinLimits tree → IsWithinLimits (Rattle.sfs_tree.specs.Verdict.tree_after_call tree core c)
+pub calls_stay_within : (tree : TreeState) (core : ℕ) (c : Call) → IsSoundTree tree → core < length tree.made → IsWithinLimits tree
+    → IsWithinLimits (Rattle.sfs_tree.specs.Verdict.tree_after_call tree core c)
 calls_stay_within tree core c is lt within =
     let fits = calls_fit tree core c is lt in
     let effect = (verdict tree core c).effect in
     let makes = (verdict tree core c).makes in
     record {
-      buckets = λ d b. subst (λ (m : FinMap name_cmp ℕ). len m ≤ BUCKET_ROWS) (sym (parts_after tree core effect makes d (λ name. nat_eq (bucket name) b))) (bounded tree core within d b effect makes fits (calls_have_room tree core c));
+      buckets =
+          λ d b. subst (λ (m : FinMap name_cmp ℕ). len m ≤ BUCKET_ROWS) (sym (parts_after tree core effect makes d (λ name. nat_eq (bucket name) b)))
+          (bounded tree core within d b effect makes fits (calls_have_room tree core c));
       plain = plain_after tree core effect makes fits within;
     }
 
-within_from : (stamp k : ℕ) (first : TreeState) (history : List Entry) → IsSoundTree first → IsLegalFrom first stamp history → IsWithinLimits first → IsWithinLimits (tree_after first (take k history))
+within_from : (stamp k : ℕ) (first : TreeState) (history : List Entry) → IsSoundTree first → IsLegalFrom first stamp history → IsWithinLimits first
+    → IsWithinLimits (tree_after first (take k history))
 within_from stamp zero first [] is legal within = within
 within_from stamp zero first (entry ∷ history) is legal within = within
 within_from stamp (suc k) first [] is legal within = within
 within_from stamp (suc k) first (entry ∷ history) is legal within =
-    within_from (suc stamp) k (tree_after_entry first entry) history (calls_keep_sound first entry.core.0 entry.call is legal.0.core) legal.1 (calls_stay_within first entry.core.0 entry.call is legal.0.core within)
+    within_from (suc stamp) k (tree_after_entry first entry) history (calls_keep_sound first entry.core.0 entry.call is legal.0.core) legal.1
+    (calls_stay_within first entry.core.0 entry.call is legal.0.core within)
 
 pub histories_stay_within : HistoriesStayWithin
 histories_stay_within first history count is legal within = within_from 0 count first history is legal within

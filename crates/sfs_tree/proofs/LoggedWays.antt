@@ -19,12 +19,14 @@ has_side false p = refl
 turned : (p q : ℕ) → nat_eq q p ≡ nat_eq p q
 turned p q = grind (arith, nat_tests)
 
-ways_told : (tree : TreeState) (p q x : ℕ) → (not (nat_eq p q) && is_directory tree x) ≡ (is_some (option_map numbered_node (other_side q p)) && is_directory_kind (kind_of tree x))
+ways_told : (tree : TreeState) (p q x : ℕ)
+    → (not (nat_eq p q) && is_directory tree x) ≡ (is_some (option_map numbered_node (other_side q p)) && is_directory_kind (kind_of tree x))
 ways_told tree p q x =
     ap (λ d. not (nat_eq p q) && d) (directory_by_kind tree x)
     ∙ ap (λ s. s && is_directory_kind (kind_of tree x)) (ap not (sym (turned p q)) ∙ sym (has_side (nat_eq q p) p))
 
-moved_tells : (tree : TreeState) (stamp p q x : ℕ) (n m : List ℕ) (there : Option ℕ) (others : List Change) → map (λ change. change.above) others ≡ map (above_due tree) others
+moved_tells : (tree : TreeState) (stamp p q x : ℕ) (n m : List ℕ) (there : Option ℕ) (others : List Change)
+    → map (λ change. change.above) others ≡ map (above_due tree) others
     → map (λ change. change.above) (logged_replaced tree stamp p q m there ++ others) ≡ map (above_due tree) (logged_replaced tree stamp p q m there ++ others)
 moved_tells tree stamp p q x n m None others same = same
 moved_tells tree stamp p q x n m (Some there) others same = ap (λ rest. [] ∷ rest) same

@@ -23,7 +23,8 @@ swapped rows k to x differ =
     same_rows _ _ (λ q.
     get-remove key_cmp_total (insert rows to x) k q
     ∙ ap (cond (eq_by_cmp key_cmp q k) None) (get-insert key_cmp_total rows to x q)
-    ∙ elim (eq_by_cmp key_cmp q k) as (λ b. eq_by_cmp key_cmp q k ≡ b → cond b None (cond (eq_by_cmp key_cmp q to) (Some x) (get rows q)) ≡ cond (eq_by_cmp key_cmp q to) (Some x) (cond b None (get rows q))) [
+    ∙ elim (eq_by_cmp key_cmp q k) as (λ b. eq_by_cmp key_cmp q k ≡ b
+    → cond b None (cond (eq_by_cmp key_cmp q to) (Some x) (get rows q)) ≡ cond (eq_by_cmp key_cmp q to) (Some x) (cond b None (get rows q))) [
       | true ↦ λ t. ap (λ b. cond b (Some x) None) (sym (ap (λ p. eq_by_cmp key_cmp p to) (key_cmp-IsAntisymmetric q k (is_equal _ t)) ∙ other_key k to differ))
       | false ↦ λ t. refl
     ] refl
@@ -34,7 +35,8 @@ pub replaced : (rows : FinMap key_cmp ℕ) (k to : Key) (x : ℕ) → insert (re
 replaced rows k to x =
     same_rows _ _ (λ q.
     get-insert key_cmp_total (remove (remove rows to) k) to x q
-    ∙ ap (cond (eq_by_cmp key_cmp q to) (Some x)) (get-remove key_cmp_total (remove rows to) k q ∙ ap (cond (eq_by_cmp key_cmp q k) None) (get-remove key_cmp_total rows to q))
+    ∙ ap (cond (eq_by_cmp key_cmp q to) (Some x))
+    (get-remove key_cmp_total (remove rows to) k q ∙ ap (cond (eq_by_cmp key_cmp q k) None) (get-remove key_cmp_total rows to q))
     ∙ either_way (eq_by_cmp key_cmp q to) (eq_by_cmp key_cmp q k) (get rows q)
     ∙ sym (get-insert key_cmp_total (remove rows k) to x q ∙ ap (cond (eq_by_cmp key_cmp q to) (Some x)) (get-remove key_cmp_total rows k q)))
   where
@@ -56,14 +58,16 @@ still_some rows k to x y some differ = subst IsSome (sym (get_other-insert rows 
 -- a directory that one row names is named by it still once a row of another goes
 pub once_still : (rows : FinMap key_cmp ℕ) (to : Key) (x y : ℕ) → get rows to ≡ Some y → x ≢ y → count_of rows x ≡ 1 → count_of (remove rows to) x ≡ 1
 once_still rows to x y there differ one =
-    let e : count_of rows x ≡ count_of (remove rows to) x + 0 = count-remove rows to y (names_it x) there ∙ ap (λ b. count_of (remove rows to) x + cond b 1 0) (other (nat_eq y x) refl) in
+    let e : count_of rows x ≡ count_of (remove rows to) x + 0 =
+    count-remove rows to y (names_it x) there ∙ ap (λ b. count_of (remove rows to) x + cond b 1 0) (other (nat_eq y x) refl) in
     omega arith
   where
     other : (b : Bool) → nat_eq y x ≡ b → nat_eq y x ≡ false
     other true e = absurd (differ (sym (eqb-true _ _ e)))
     other false e = e
 
-module _ (n : NodesState) (c : Counts) (r : RowsState) (h : IsStored n c r) (directory : ℕ) (name : List ℕ) (child : ℕ) (some : get r.rows (directory, name) ≡ Some child) where
+module _ (n : NodesState) (c : Counts) (r : RowsState) (h : IsStored n c r) (directory : ℕ) (name : List ℕ) (child : ℕ)
+    (some : get r.rows (directory, name) ≡ Some child) where
   -- the rows without that row
   abbrev pub without : RowsState
   without = record { rows = remove r.rows (directory, name); places = r.places }
@@ -75,19 +79,23 @@ module _ (n : NodesState) (c : Counts) (r : RowsState) (h : IsStored n c r) (dir
       IsStored-removed n c r h directory name child d without refl refl (omega arith) counted wide
 
   -- with that row gone there is room in the counts for one more
-  pub may_rise_again : (d : Counts) → IsCounted (remove r.rows (directory, name)) n.nodes d → IsWide d n.places → (to_directory : ℕ) → to_directory < n.places → MayRise d to_directory child
+  pub may_rise_again : (d : Counts) → IsCounted (remove r.rows (directory, name)) n.nodes d → IsWide d n.places → (to_directory : ℕ) → to_directory < n.places
+      → MayRise d to_directory child
   may_rise_again d counted wide to_directory lt =
       let l = len_less r.rows (directory, name) child some in
       let s = rows_small n c r h in
-      MayRise-counted (remove r.rows (directory, name)) n.nodes d counted to_directory child n.places wide lt (h.within child (h.children directory name child some)) (omega arith)
+      MayRise-counted (remove r.rows (directory, name)) n.nodes d counted to_directory child n.places wide lt
+      (h.within child (h.children directory name child some)) (omega arith)
 
 module _ (rows : FinMap key_cmp ℕ) (nodes : FinMap nat_cmp Node) (counts : Counts) (h : IsCounted rows nodes counts) (x : ℕ) where
   -- what no row names has no holder
-  pub holder_none : slice_index counts.named.items x ≡ 0 → ◌≡◌ {A = Option ℕ} None (option_map (λ (row : Key × ℕ). row.0.0) (list.find (names_it x) (entries rows)))
+  pub holder_none : slice_index counts.named.items x ≡ 0
+      → ◌≡◌ {A = Option ℕ} None (option_map (λ (row : Key × ℕ). row.0.0) (list.find (names_it x) (entries rows)))
   holder_none none = sym (ap (option_map (λ (row : Key × ℕ). row.0.0)) (found_none (names_it x) (entries rows) (sym (h.naming x) ∙ none)))
 
   -- a directory that one row names has that row's directory
-  pub holder_some : is_directory_in nodes x ≡ true → count_of rows x ≤ 1 → slice_index counts.named.items x ≢ 0 → Some (slice_index counts.holders.items x) ≡ option_map (λ (row : Key × ℕ). row.0.0) (list.find (names_it x) (entries rows))
+  pub holder_some : is_directory_in nodes x ≡ true → count_of rows x ≤ 1 → slice_index counts.named.items x ≢ 0
+      → Some (slice_index counts.holders.items x) ≡ option_map (λ (row : Key × ℕ). row.0.0) (list.find (names_it x) (entries rows))
   holder_some dir few some =
       let a : slice_index counts.named.items x ≡ count_of rows x = h.naming x in
       let f : Found (names_it x) rows = found (names_it x) rows (omega arith) in

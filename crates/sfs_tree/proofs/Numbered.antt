@@ -35,14 +35,16 @@ find_nodes number (Some n ∷ nodes) (suc k) x e =
     ∙ find_nodes (suc number) nodes k x (omega arith)
   where
     other : (a b : ℕ) → b < a → nat_eq a b ≡ false
-    other a b lt = elim (nat_eq a b) as (λ t. nat_eq a b ≡ t → t ≡ false) [ true ↦ λ e. absurd (let same = eqb-true _ _ e in omega arith) | false ↦ λ _. refl ] refl
+    other a b lt =
+        elim (nat_eq a b) as (λ t. nat_eq a b ≡ t → t ≡ false) [ true ↦ λ e. absurd (let same = eqb-true _ _ e in omega arith) | false ↦ λ _. refl ] refl
 
 pub get-numbered : (nodes : List (Option NodeData)) (x : ℕ) → get (numbered nodes) x ≡ option_map node_of (get_or nodes x None)
 unfolding node_at
 get-numbered nodes x = get-from_entries nat_cmp_total (nodes_from 0 nodes) x ∙ find_nodes 0 nodes x x (omega arith)
 
 -- to store a node is to insert it
-pub numbered-set : (nodes : List (Option NodeData)) (x : ℕ) (n : NodeData) → x < length nodes → numbered (set nodes x (Some n)) ≡ insert (numbered nodes) x (node_of n)
+pub numbered-set : (nodes : List (Option NodeData)) (x : ℕ) (n : NodeData) → x < length nodes
+    → numbered (set nodes x (Some n)) ≡ insert (numbered nodes) x (node_of n)
 numbered-set nodes x n lt =
     same_map nat_cmp_total nat_cmp-IsAntisymmetric _ _ (λ y.
     get-numbered (set nodes x (Some n)) y
@@ -51,8 +53,11 @@ numbered-set nodes x n lt =
   where
     stored : (y : ℕ) → option_map node_of (get_or (set nodes x (Some n)) y None) ≡ cond (eq_by_cmp nat_cmp y x) (Some (node_of n)) (get (numbered nodes) y)
     stored y =
-        elim (nat_eq y x) as (λ t. nat_eq y x ≡ t → option_map node_of (get_or (set nodes x (Some n)) y None) ≡ cond t (Some (node_of n)) (get (numbered nodes) y)) [
-          | true ↦ λ t. ap (λ k. option_map node_of (get_or (set nodes x (Some n)) k None)) (eqb-true _ _ t) ∙ ap (option_map node_of) (get_or-set_same nodes x (Some n) None lt)
+        elim (nat_eq y x) as (λ t. nat_eq y x ≡ t
+        → option_map node_of (get_or (set nodes x (Some n)) y None) ≡ cond t (Some (node_of n)) (get (numbered nodes) y)) [
+          | true ↦
+              λ t. ap (λ k. option_map node_of (get_or (set nodes x (Some n)) k None)) (eqb-true _ _ t)
+              ∙ ap (option_map node_of) (get_or-set_same nodes x (Some n) None lt)
           | false ↦ λ t. ap (option_map node_of) (get_or-set_other nodes x y (Some n) None (eqb-false _ _ t)) ∙ sym (get-numbered nodes y)
         ] refl
         ∙ ap (λ b. cond b (Some (node_of n)) (get (numbered nodes) y)) (unsigned_ties y x)
@@ -66,7 +71,8 @@ none_behind (n ∷ nodes) (suc k) = none_behind nodes k
 -- an empty place behind the last changes nothing
 pub numbered-push : (nodes : List (Option NodeData)) → numbered (nodes ++ None ∷ []) ≡ numbered nodes
 numbered-push nodes =
-    same_map nat_cmp_total nat_cmp-IsAntisymmetric _ _ (λ y. get-numbered (nodes ++ None ∷ []) y ∙ ap (option_map node_of) (none_behind nodes y) ∙ sym (get-numbered nodes y))
+    same_map nat_cmp_total nat_cmp-IsAntisymmetric _ _
+    (λ y. get-numbered (nodes ++ None ∷ []) y ∙ ap (option_map node_of) (none_behind nodes y) ∙ sym (get-numbered nodes y))
 
 -- a node has a place
 pub numbered_within : (nodes : List (Option NodeData)) (x : ℕ) → IsSome (get (numbered nodes) x) → x < length nodes
@@ -101,7 +107,8 @@ module _ (places : List (Option NodeData)) (k : ℕ) (n : NodeData) (at : get_or
   pub numbered_same : (other : NodeData) → node_of other ≡ node_of n → numbered (set places k (Some other)) ≡ numbered places
   numbered_same other e = numbered-set places k other seen_within ∙ ap (insert (numbered places) k) e ∙ put_same (numbered places) k (node_of n) seen
 
-  pub numbered_edited : (other : NodeData) (edit : Edit) → node_of other ≡ record (node_of n) { bytes = edited edit (node_of n).bytes } → numbered (set places k (Some other)) ≡ with_edit (numbered places) k edit (get (numbered places) k)
+  pub numbered_edited : (other : NodeData) (edit : Edit) → node_of other ≡ record (node_of n) { bytes = edited edit (node_of n).bytes }
+      → numbered (set places k (Some other)) ≡ with_edit (numbered places) k edit (get (numbered places) k)
   numbered_edited other edit e =
       numbered-set places k other seen_within ∙ ap (insert (numbered places) k) e
       ∙ sym (ap (with_edit (numbered places) k edit) seen)

@@ -10,7 +10,8 @@ below_next : (share a b x y : ℕ) → a < b → x < share → a * share + x ≡
 below_next share a b x y lt small same = let h = mul-add-lt a share x b lt small in omega arith
 
 -- numbers below the share of one core are not those of another
-pub same_number : (share core other creation before : ℕ) → creation < share → before < share → core * share + creation ≡ other * share + before → (core ≡ other) × (creation ≡ before)
+pub same_number : (share core other creation before : ℕ) → creation < share → before < share → core * share + creation ≡ other * share + before
+    → (core ≡ other) × (creation ≡ before)
 same_number share core other creation before lt below e =
     let up : core < other → ⊥ = λ less. below_next share core other creation before less lt e in
     let down : other < core → ⊥ = λ less. below_next share other core before creation less below (sym e) in
@@ -21,11 +22,13 @@ same_number share core other creation before lt below e =
     rest a b x y same e = omega arith
 
 -- the same, from a first number on
-pub same_drawn : (first share core other creation before : ℕ) → creation < share → before < share → first + core * share + creation ≡ first + other * share + before → (core ≡ other) × (creation ≡ before)
+pub same_drawn : (first share core other creation before : ℕ) → creation < share → before < share
+    → first + core * share + creation ≡ first + other * share + before → (core ≡ other) × (creation ≡ before)
 same_drawn first share core other creation before lt below e = same_number share core other creation before lt below (omega arith)
 
 -- a number that a core draws next is no node's
-pub fresh_number : (tree : TreeState) (core : ℕ) → IsNumbered tree → core < length tree.made → made_by tree core < tree.share → get tree.nodes (next_number tree core) ≡ None
+pub fresh_number : (tree : TreeState) (core : ℕ) → IsNumbered tree → core < length tree.made → made_by tree core < tree.share
+    → get tree.nodes (next_number tree core) ≡ None
 fresh_number tree core n lt room = none_there (get tree.nodes (next_number tree core)) (λ some. elim (n.known (next_number tree core) some) [
   | inl low ↦ omega arith
   | inr made ↦

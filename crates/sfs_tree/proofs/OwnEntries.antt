@@ -13,7 +13,8 @@ pub record IsInPlace (cores stamp place : ℕ) (entry : Entry) : Type 0 where
   pub stamped : entry.stamp.0 ≡ stamp + place
   pub core : entry.core.0 < cores
 
-in_place : (tree : TreeState) (stamp : ℕ) (history : List Entry) (place : ℕ) (entry : Entry) → IsLegalFrom tree stamp history → slice_get history place ≡ Some entry → IsInPlace (length tree.made) stamp place entry
+in_place : (tree : TreeState) (stamp : ℕ) (history : List Entry) (place : ℕ) (entry : Entry) → IsLegalFrom tree stamp history
+    → slice_get history place ≡ Some entry → IsInPlace (length tree.made) stamp place entry
 in_place tree stamp [] place entry legal there = cc
 in_place tree stamp (first ∷ history) zero entry legal there =
     subst (IsInPlace (length tree.made) stamp 0) (some_is first entry there) (record { stamped = legal.0.stamped ∙ omega arith; core = legal.0.core })

@@ -38,7 +38,8 @@ module _ {K X : Type 0} {R : K → K → Ordering} (o : IsTotalOrder R) (same : 
   other q k e less t = ap (λ x. eq_by_cmp R x k) (same q e.0 (is_equal _ t)) ∙ less_not_equal _ less
 
   -- the entry of a key is not found any more, and every other is
-  pub find_removed : (q k : K) (es : List (K × X)) (i : ℕ) → i < length es → T (is_sorted R es) → AllWithin (λ e. R e.0 k ≡ Less) es 0 i → key_at es i k → find R q (take i es ++ drop (suc i) es) ≡ cond (eq_by_cmp R q k) None (find R q es)
+  pub find_removed : (q k : K) (es : List (K × X)) (i : ℕ) → i < length es → T (is_sorted R es) → AllWithin (λ e. R e.0 k ≡ Less) es 0 i → key_at es i k
+      → find R q (take i es ++ drop (suc i) es) ≡ cond (eq_by_cmp R q k) None (find R q es)
   find_removed q k [] i lt s before at = absurd (omega arith)
   find_removed q k (e ∷ es) zero lt s before at =
       elim (eq_by_cmp R q e.0) as (λ b. eq_by_cmp R q e.0 ≡ b → find R q es ≡ cond b None (cond b (Some e.1) (find R q es))) [
@@ -47,8 +48,10 @@ module _ {K X : Type 0} {R : K → K → Ordering} (o : IsTotalOrder R) (same : 
       ] refl
       ∙ ap (λ x. cond (eq_by_cmp R q x) None (cond (eq_by_cmp R q e.0) (Some e.1) (find R q es))) (at e (omega arith))
   find_removed q k (e ∷ es) (suc i) lt s before at =
-      ap (λ r. cond (eq_by_cmp R q e.0) (Some e.1) r) (find_removed q k es i (omega arith) (both_second _ _ s) (λ j d a b. before (suc j) d (omega arith) (omega arith)) (λ d a. at d (omega arith)))
-      ∙ elim (eq_by_cmp R q e.0) as (λ b. eq_by_cmp R q e.0 ≡ b → cond b (Some e.1) (cond (eq_by_cmp R q k) None (find R q es)) ≡ cond (eq_by_cmp R q k) None (cond b (Some e.1) (find R q es))) [
+      ap (λ r. cond (eq_by_cmp R q e.0) (Some e.1) r)
+      (find_removed q k es i (omega arith) (both_second _ _ s) (λ j d a b. before (suc j) d (omega arith) (omega arith)) (λ d a. at d (omega arith)))
+      ∙ elim (eq_by_cmp R q e.0) as (λ b. eq_by_cmp R q e.0 ≡ b
+      → cond b (Some e.1) (cond (eq_by_cmp R q k) None (find R q es)) ≡ cond (eq_by_cmp R q k) None (cond b (Some e.1) (find R q es))) [
         | true ↦ λ t. ap (λ b. cond b None (Some e.1)) (sym (other q k e (before 0 e (omega arith) (omega arith)) t))
         | false ↦ λ t. refl
       ] refl
@@ -62,18 +65,23 @@ module _ {K X : Type 0} {R : K → K → Ordering} (o : IsTotalOrder R) (same : 
   pub sorted_replaced : (k : K) (v : X) (es : List (K × X)) (i : ℕ) → key_at es i k → T (is_sorted R es) → T (is_sorted R (set es i (k, v)))
   sorted_replaced k v [] i at h = tt
   sorted_replaced k v (e ∷ es) zero at h = both_of _ _ (subst (λ y. T (below_all R y es)) (at e (omega arith)) (both_first _ _ h)) (both_second _ _ h)
-  sorted_replaced k v (e ∷ es) (suc i) at h = both_of _ _ (below_replaced e.0 k v es i (λ d a. at d (omega arith)) (both_first _ _ h)) (sorted_replaced k v es i (λ d a. at d (omega arith)) (both_second _ _ h))
+  sorted_replaced k v (e ∷ es) (suc i) at h =
+      both_of _ _ (below_replaced e.0 k v es i (λ d a. at d (omega arith)) (both_first _ _ h))
+      (sorted_replaced k v es i (λ d a. at d (omega arith)) (both_second _ _ h))
 
   -- the new value is found under the key, and under every other what was
-  pub find_replaced : (q k : K) (v : X) (es : List (K × X)) (i : ℕ) → i < length es → AllWithin (λ e. R e.0 k ≡ Less) es 0 i → key_at es i k → find R q (set es i (k, v)) ≡ cond (eq_by_cmp R q k) (Some v) (find R q es)
+  pub find_replaced : (q k : K) (v : X) (es : List (K × X)) (i : ℕ) → i < length es → AllWithin (λ e. R e.0 k ≡ Less) es 0 i → key_at es i k
+      → find R q (set es i (k, v)) ≡ cond (eq_by_cmp R q k) (Some v) (find R q es)
   find_replaced q k v [] i lt before at = absurd (omega arith)
   find_replaced q k v (e ∷ es) zero lt before at =
       ap (λ x. cond (eq_by_cmp R q x) (Some v) (find R q es)) (sym (at e (omega arith)))
       ∙ elim (eq_by_cmp R q e.0) as (λ b. cond b (Some v) (find R q es) ≡ cond b (Some v) (cond b (Some e.1) (find R q es))) [ true ↦ refl | false ↦ refl ]
       ∙ ap (λ x. cond (eq_by_cmp R q x) (Some v) (cond (eq_by_cmp R q e.0) (Some e.1) (find R q es))) (at e (omega arith))
   find_replaced q k v (e ∷ es) (suc i) lt before at =
-      ap (λ r. cond (eq_by_cmp R q e.0) (Some e.1) r) (find_replaced q k v es i (omega arith) (λ j d a b. before (suc j) d (omega arith) (omega arith)) (λ d a. at d (omega arith)))
-      ∙ elim (eq_by_cmp R q e.0) as (λ b. eq_by_cmp R q e.0 ≡ b → cond b (Some e.1) (cond (eq_by_cmp R q k) (Some v) (find R q es)) ≡ cond (eq_by_cmp R q k) (Some v) (cond b (Some e.1) (find R q es))) [
+      ap (λ r. cond (eq_by_cmp R q e.0) (Some e.1) r)
+      (find_replaced q k v es i (omega arith) (λ j d a b. before (suc j) d (omega arith) (omega arith)) (λ d a. at d (omega arith)))
+      ∙ elim (eq_by_cmp R q e.0) as (λ b. eq_by_cmp R q e.0 ≡ b
+      → cond b (Some e.1) (cond (eq_by_cmp R q k) (Some v) (find R q es)) ≡ cond (eq_by_cmp R q k) (Some v) (cond b (Some e.1) (find R q es))) [
         | true ↦ λ t. ap (λ b. cond b (Some v) (Some e.1)) (sym (other q k e (before 0 e (omega arith) (omega arith)) t))
         | false ↦ λ t. refl
       ] refl

@@ -18,15 +18,19 @@ use Rattle.sfs_tree.specs.Buckets.{stands_in}
 use Rattle.sfs_base.proofs.BasicNumbers.{one_is_more, none_left}
 
 -- two rows have one place or not
-pub key_cases : (d e : ℕ) (n m : List ℕ) → ((eq_by_cmp key_cmp (d, n) (e, m) ≡ true) × (d ≡ e) × (n ≡ m)) ⊎ ((eq_by_cmp key_cmp (d, n) (e, m) ≡ false) × (d ≡ e → n ≡ m → ⊥))
+pub key_cases : (d e : ℕ) (n m : List ℕ)
+    → ((eq_by_cmp key_cmp (d, n) (e, m) ≡ true) × (d ≡ e) × (n ≡ m)) ⊎ ((eq_by_cmp key_cmp (d, n) (e, m) ≡ false) × (d ≡ e → n ≡ m → ⊥))
 key_cases d e n m =
-    elim (eq_by_cmp key_cmp (d, n) (e, m)) as (λ b. eq_by_cmp key_cmp (d, n) (e, m) ≡ b → ((b ≡ true) × (d ≡ e) × (n ≡ m)) ⊎ ((b ≡ false) × (d ≡ e → n ≡ m → ⊥))) [
+    elim (eq_by_cmp key_cmp (d, n) (e, m)) as (λ b. eq_by_cmp key_cmp (d, n) (e, m) ≡ b
+    → ((b ≡ true) × (d ≡ e) × (n ≡ m)) ⊎ ((b ≡ false) × (d ≡ e → n ≡ m → ⊥))) [
       | true ↦ λ t. let same = key_cmp-IsAntisymmetric (d, n) (e, m) (is_equal _ t) in inl (refl, ap (λ (k : Key). k.0) same, ap (λ (k : Key). k.1) same)
       | false ↦ λ t. inr (refl, λ p q. differ t (same_key p q))
     ] refl
   where
     same_key : d ≡ e → n ≡ m → eq_by_cmp key_cmp (d, n) (e, m) ≡ true
-    same_key p q = subst (λ (x : ℕ). eq_by_cmp key_cmp (d, n) (x, m) ≡ true) p (subst (λ (y : List ℕ). eq_by_cmp key_cmp (d, n) (d, y) ≡ true) q (ap is_eq (tied_itself key_cmp_total (d, n))))
+    same_key p q =
+        subst (λ (x : ℕ). eq_by_cmp key_cmp (d, n) (x, m) ≡ true) p
+        (subst (λ (y : List ℕ). eq_by_cmp key_cmp (d, n) (d, y) ≡ true) q (ap is_eq (tied_itself key_cmp_total (d, n))))
 
     differ : eq_by_cmp key_cmp (d, n) (e, m) ≡ false → eq_by_cmp key_cmp (d, n) (e, m) ≡ true → ⊥
     differ f t = cc
@@ -49,32 +53,44 @@ reversed Equal h = absurd h
 reversed Greater h = absurd h
 
 -- an entry behind others has another key
-pub behind_apart : {K : Type 0} {R : K → K → Ordering} (o : IsTotalOrder R) → IsAntisymmetric R → (k q : K) (x : ℕ) (es : List (K × ℕ)) → T (below_all R k es) → find R q es ≡ Some x → eq_by_cmp R q k ≡ false
+pub behind_apart : {K : Type 0} {R : K → K → Ordering} (o : IsTotalOrder R) → IsAntisymmetric R → (k q : K) (x : ℕ) (es : List (K × ℕ)) → T (below_all R k es)
+    → find R q es ≡ Some x → eq_by_cmp R q k ≡ false
 behind_apart o anti k q x [] below found = absurd (none_is x found)
 behind_apart {K} {R} o anti k q x (e ∷ es) below found =
     elim (eq_by_cmp R q e.0) as (λ b. eq_by_cmp R q e.0 ≡ b → cond b (Some e.1) (find R q es) ≡ Some x → eq_by_cmp R q k ≡ false) [
-      | true ↦ λ t f. ap is_eq (o.antisymm q k) ∙ ap (λ (z : K). is_eq (ordering_reverse (R k z))) (anti q e.0 (is_equal _ t)) ∙ reversed (R k e.0) (both_first _ _ below)
+      | true ↦
+          λ t f. ap is_eq (o.antisymm q k) ∙ ap (λ (z : K). is_eq (ordering_reverse (R k z))) (anti q e.0 (is_equal _ t))
+          ∙ reversed (R k e.0) (both_first _ _ below)
       | false ↦ λ t f. behind_apart o anti k q x es (both_second _ _ below) f
     ] refl found
 
 -- an entry that is found by a test is the row at its place
-found_entry : (test : Key × ℕ → Bool) (row : Key × ℕ) (es : List (Key × ℕ)) → T (is_sorted key_cmp es) → lists.find test es ≡ Some row → (find key_cmp row.0 es ≡ Some row.1) × (test row ≡ true)
+found_entry : (test : Key × ℕ → Bool) (row : Key × ℕ) (es : List (Key × ℕ)) → T (is_sorted key_cmp es) → lists.find test es ≡ Some row
+    → (find key_cmp row.0 es ≡ Some row.1) × (test row ≡ true)
 found_entry test row [] s found = absurd (none_is row found)
 found_entry test row (e ∷ es) s found =
-    elim (test e) as (λ b. test e ≡ b → cond b (Some e) (lists.find test es) ≡ Some row → (cond (eq_by_cmp key_cmp row.0 e.0) (Some e.1) (find key_cmp row.0 es) ≡ Some row.1) × (test row ≡ true)) [
+    elim (test e) as (λ b. test e ≡ b → cond b (Some e) (lists.find test es) ≡ Some row
+    → (cond (eq_by_cmp key_cmp row.0 e.0) (Some e.1) (find key_cmp row.0 es) ≡ Some row.1) × (test row ≡ true)) [
       | true ↦ λ t f.
           let same : e ≡ row = some_is e row f in
-          subst (λ (r : Key × ℕ). (cond (eq_by_cmp key_cmp r.0 e.0) (Some e.1) (find key_cmp r.0 es) ≡ Some r.1) × (test r ≡ true)) same (ap (λ b. cond b (Some e.1) (find key_cmp e.0 es)) (ap is_eq (tied_itself key_cmp_total e.0)), t)
+          subst (λ (r : Key × ℕ). (cond (eq_by_cmp key_cmp r.0 e.0) (Some e.1) (find key_cmp r.0 es) ≡ Some r.1) × (test r ≡ true)) same
+          (ap (λ b. cond b (Some e.1) (find key_cmp e.0 es)) (ap is_eq (tied_itself key_cmp_total e.0)), t)
       | false ↦ λ t f.
-          let rest = found_entry test row es (both_second _ _ s) f in
-          (ap (λ b. cond b (Some e.1) (find key_cmp row.0 es)) (behind_apart key_cmp_total key_cmp-IsAntisymmetric e.0 row.0 row.1 es (both_first _ _ s) rest.0) ∙ rest.0, rest.1)
+          let rest = found_entry test row es (both_second _ _ s) f in (
+            ap (λ b. cond b (Some e.1) (find key_cmp row.0 es)) (behind_apart key_cmp_total key_cmp-IsAntisymmetric e.0 row.0 row.1 es (both_first _ _ s) rest.0)
+                ∙ rest.0,
+            rest.1,
+          )
     ] refl found
 
 -- a test finds an entry, or it counts none
-found_or_none : (test : Key × ℕ → Bool) (es : List (Key × ℕ)) → ((row : Key × ℕ) × (lists.find test es ≡ Some row)) ⊎ ((lists.find test es ≡ None) × (count_by test es ≡ 0))
+found_or_none : (test : Key × ℕ → Bool) (es : List (Key × ℕ))
+    → ((row : Key × ℕ) × (lists.find test es ≡ Some row)) ⊎ ((lists.find test es ≡ None) × (count_by test es ≡ 0))
 found_or_none test [] = inr (refl, refl)
 found_or_none test (e ∷ es) =
-    elim (test e) as (λ b. test e ≡ b → ((row : Key × ℕ) × (cond b (Some e) (lists.find test es) ≡ Some row)) ⊎ ((cond b (Some e) (lists.find test es) ≡ None) × (count_by test (e ∷ es) ≡ 0))) [
+    elim (test e) as (λ b. test e ≡ b
+    → ((row : Key × ℕ) × (cond b (Some e) (lists.find test es) ≡ Some row))
+    ⊎ ((cond b (Some e) (lists.find test es) ≡ None) × (count_by test (e ∷ es) ≡ 0))) [
       | true ↦ λ t. inl (e, refl)
       | false ↦ λ t. elim (found_or_none test es) [
         | inl f ↦ inl f
@@ -117,7 +133,8 @@ named_or_none rows node = elim (found_or_none (names_it node) (entries rows)) [
 
 -- a node that a row names is counted
 named_counts : (rows : FinMap key_cmp ℕ) (node : ℕ) → IsNamed rows node → count_of rows node ≢ 0
-named_counts rows node h = counted (names_it node) (h.directory, h.name) node (entries rows) (sym (get-entries rows (h.directory, h.name)) ∙ h.row) (eq-eqb node node refl)
+named_counts rows node h =
+    counted (names_it node) (h.directory, h.name) node (entries rows) (sym (get-entries rows (h.directory, h.name)) ∙ h.row) (eq-eqb node node refl)
 
 -- what is alive is the root, or a row names it
 pub alive_named : (tree : TreeState) (node : ℕ) → is_alive tree node ≡ true → (node ≡ 0) ⊎ IsNamed tree.rows node
@@ -165,16 +182,23 @@ pub counts_row : (tree : TreeState) (directory : ℕ) (name : List ℕ) (child :
 counts_row tree directory name child row none = some_not_none (row_of tree directory name) child row (no_rows tree directory none name)
 
 -- a node's holder is the directory of a row that names it, or no row does
-pub holder_found : (tree : TreeState) (node : ℕ) → ((h : ℕ) × (holder_of tree node ≡ Some h) × ((name : List ℕ) × (row_of tree h name ≡ Some node))) ⊎ ((holder_of tree node ≡ None) × (IsNamed tree.rows node → ⊥))
+pub holder_found : (tree : TreeState) (node : ℕ)
+    → ((h : ℕ) × (holder_of tree node ≡ Some h) × ((name : List ℕ) × (row_of tree h name ≡ Some node)))
+    ⊎ ((holder_of tree node ≡ None) × (IsNamed tree.rows node → ⊥))
 holder_found tree node = elim (found_or_none (names_it node) (entries tree.rows)) [
   | inl f ↦
       let both = found_entry (names_it node) f.0 (entries tree.rows) (entries_sorted tree.rows) f.1 in
-      inl (f.0.0.0, ap (Rattle.std.specs.Option.option_map (λ (row : Key × ℕ). row.0.0)) f.1, (f.0.0.1, get-entries tree.rows f.0.0 ∙ both.0 ∙ ap Some (eqb-true _ _ both.1)))
+      inl (
+        f.0.0.0,
+        ap (Rattle.std.specs.Option.option_map (λ (row : Key × ℕ). row.0.0)) f.1,
+        (f.0.0.1, get-entries tree.rows f.0.0 ∙ both.0 ∙ ap Some (eqb-true _ _ both.1)),
+      )
   | inr n ↦ inr (ap (Rattle.std.specs.Option.option_map (λ (row : Key × ℕ). row.0.0)) n.0, λ named. named_counts tree.rows node named n.1)
 ]
 
 -- once a row came: it is this one, or it was there
-pub added_cases : (rows : FinMap key_cmp ℕ) (d e : ℕ) (n m : List ℕ) (c x : ℕ) → get (insert rows (e, m) c) (d, n) ≡ Some x → ((d ≡ e) × (n ≡ m) × (x ≡ c)) ⊎ ((d ≡ e → n ≡ m → ⊥) × (get rows (d, n) ≡ Some x))
+pub added_cases : (rows : FinMap key_cmp ℕ) (d e : ℕ) (n m : List ℕ) (c x : ℕ) → get (insert rows (e, m) c) (d, n) ≡ Some x
+    → ((d ≡ e) × (n ≡ m) × (x ≡ c)) ⊎ ((d ≡ e → n ≡ m → ⊥) × (get rows (d, n) ≡ Some x))
 added_cases rows d e n m c x is =
     let there = sym (get-insert key_cmp_total rows (e, m) c (d, n)) ∙ is in
     elim (key_cases d e n m) [
@@ -193,7 +217,8 @@ added_other rows d e n m c apart =
     ]
 
 -- once a row went: what is there was there, and is another one
-pub removed_cases : (rows : FinMap key_cmp ℕ) (d e : ℕ) (n m : List ℕ) (x : ℕ) → get (remove rows (e, m)) (d, n) ≡ Some x → (d ≡ e → n ≡ m → ⊥) × (get rows (d, n) ≡ Some x)
+pub removed_cases : (rows : FinMap key_cmp ℕ) (d e : ℕ) (n m : List ℕ) (x : ℕ) → get (remove rows (e, m)) (d, n) ≡ Some x
+    → (d ≡ e → n ≡ m → ⊥) × (get rows (d, n) ≡ Some x)
 removed_cases rows d e n m x is =
     let there = sym (get-remove key_cmp_total rows (e, m) (d, n)) ∙ is in
     elim (key_cases d e n m) [

@@ -17,28 +17,37 @@ use Rattle.sfs_tree.proofs.Removed.{sorted_removed, find_removed, sorted_replace
 use Rattle.sfs_tree.proofs.RowsByName.{is_true, was_true, map-take, map-drop, get-map_of}
 
 -- a row of a name stands where the search for the name ended
-pub stands_there : (rows : List NameRow) (name : List ℕ) (place : ℕ) → IsTrue (is_sorted name_cmp (map name_and_child rows)) → IsPlaceOf (map name_and_child rows) name place → IsSome (find name_cmp name (map name_and_child rows)) → (place < length (map name_and_child rows)) × key_at nat_list_cmp_total name_cmp-IsAntisymmetric (map name_and_child rows) place name
+pub stands_there : (rows : List NameRow) (name : List ℕ) (place : ℕ) → IsTrue (is_sorted name_cmp (map name_and_child rows))
+    → IsPlaceOf (map name_and_child rows) name place → IsSome (find name_cmp name (map name_and_child rows))
+    → (place < length (map name_and_child rows)) × key_at nat_list_cmp_total name_cmp-IsAntisymmetric (map name_and_child rows) place name
 stands_there rows name place s p some =
-    found_at nat_list_cmp_total name_cmp-IsAntisymmetric name (map name_and_child rows) place (subst IsSome (find_there nat_list_cmp_total name (map name_and_child rows) place (is_true _ s) p.before p.behind) some)
+    found_at nat_list_cmp_total name_cmp-IsAntisymmetric name (map name_and_child rows) place
+    (subst IsSome (find_there nat_list_cmp_total name (map name_and_child rows) place (is_true _ s) p.before p.behind) some)
 
-pub place_within : (rows : List NameRow) (name : List ℕ) (place : ℕ) → IsTrue (is_sorted name_cmp (map name_and_child rows)) → IsPlaceOf (map name_and_child rows) name place → IsSome (find name_cmp name (map name_and_child rows)) → place < length rows
+pub place_within : (rows : List NameRow) (name : List ℕ) (place : ℕ) → IsTrue (is_sorted name_cmp (map name_and_child rows))
+    → IsPlaceOf (map name_and_child rows) name place → IsSome (find name_cmp name (map name_and_child rows)) → place < length rows
 place_within rows name place s p some =
     let there = stands_there rows name place s p some in
     let n = length-map rows name_and_child in
     let lt : place < length (map name_and_child rows) = there.0 in
     omega arith
 
-map-remove : (rows : List NameRow) (place : ℕ) → map name_and_child (remove rows place) ≡ take place (map name_and_child rows) ++ drop (suc place) (map name_and_child rows)
+map-remove : (rows : List NameRow) (place : ℕ)
+    → map name_and_child (remove rows place) ≡ take place (map name_and_child rows) ++ drop (suc place) (map name_and_child rows)
 map-remove rows place =
     map-append name_and_child (take place rows) (drop (suc place) rows)
     ∙ ap (λ l. l ++ map name_and_child (drop (suc place) rows)) (map-take name_and_child place rows)
     ∙ ap (λ l. take place (map name_and_child rows) ++ l) (map-drop name_and_child (suc place) rows)
 
-pub sorted_without : (rows : List NameRow) (place : ℕ) → IsTrue (is_sorted name_cmp (map name_and_child rows)) → IsTrue (is_sorted name_cmp (map name_and_child (remove rows place)))
+pub sorted_without : (rows : List NameRow) (place : ℕ) → IsTrue (is_sorted name_cmp (map name_and_child rows))
+    → IsTrue (is_sorted name_cmp (map name_and_child (remove rows place)))
 sorted_without rows place s =
-    subst (λ l. IsTrue (is_sorted name_cmp l)) (sym (map-remove rows place)) (was_true _ (sorted_removed nat_list_cmp_total name_cmp-IsAntisymmetric (map name_and_child rows) place (is_true _ s)))
+    subst (λ l. IsTrue (is_sorted name_cmp l)) (sym (map-remove rows place))
+    (was_true _ (sorted_removed nat_list_cmp_total name_cmp-IsAntisymmetric (map name_and_child rows) place (is_true _ s)))
 
-pub map_removed : (rows : List NameRow) (name : List ℕ) (place : ℕ) → IsTrue (is_sorted name_cmp (map name_and_child rows)) → IsPlaceOf (map name_and_child rows) name place → IsSome (find name_cmp name (map name_and_child rows)) → from_sorted {R = name_cmp} (map name_and_child (remove rows place)) ≡ finmap.remove (from_sorted {R = name_cmp} (map name_and_child rows)) name
+pub map_removed : (rows : List NameRow) (name : List ℕ) (place : ℕ) → IsTrue (is_sorted name_cmp (map name_and_child rows))
+    → IsPlaceOf (map name_and_child rows) name place → IsSome (find name_cmp name (map name_and_child rows))
+    → from_sorted {R = name_cmp} (map name_and_child (remove rows place)) ≡ finmap.remove (from_sorted {R = name_cmp} (map name_and_child rows)) name
 map_removed rows name place s p some =
     let there = stands_there rows name place s p some in
     same_map nat_list_cmp_total name_cmp-IsAntisymmetric _ _ (λ q.
@@ -52,18 +61,26 @@ map_removed rows name place s p some =
 abbrev pub with_child : NameRow → ℕ → NameRow
 with_child row child = record row { child = record { 0 = child } }
 
-map-replaced : (rows : List NameRow) (row : NameRow) (name : List ℕ) (place child : ℕ) → place < length rows → row ≡ get_or rows place row → key_at nat_list_cmp_total name_cmp-IsAntisymmetric (map name_and_child rows) place name → map name_and_child (set rows place (with_child row child)) ≡ set (map name_and_child rows) place (name, child)
+map-replaced : (rows : List NameRow) (row : NameRow) (name : List ℕ) (place child : ℕ) → place < length rows → row ≡ get_or rows place row
+    → key_at nat_list_cmp_total name_cmp-IsAntisymmetric (map name_and_child rows) place name
+    → map name_and_child (set rows place (with_child row child)) ≡ set (map name_and_child rows) place (name, child)
 map-replaced rows row name place child lt is at =
     map-set name_and_child rows place (with_child row child)
-    ∙ ap (λ n. set (map name_and_child rows) place (n, child)) (ap (λ (e : List ℕ × ℕ). e.0) (ap name_and_child is ∙ sym (get_or-map name_and_child rows place row)) ∙ at (name_and_child row) (let n = length-map rows name_and_child in omega arith))
+    ∙ ap (λ n. set (map name_and_child rows) place (n, child))
+    (ap (λ (e : List ℕ × ℕ). e.0) (ap name_and_child is ∙ sym (get_or-map name_and_child rows place row))
+    ∙ at (name_and_child row) (let n = length-map rows name_and_child in omega arith))
 
-module _ (rows : List NameRow) (row : NameRow) (name : List ℕ) (place child : ℕ) (is : row ≡ get_or rows place row) (s : IsTrue (is_sorted name_cmp (map name_and_child rows))) (p : IsPlaceOf (map name_and_child rows) name place) (some : IsSome (find name_cmp name (map name_and_child rows))) where
+module _ (rows : List NameRow) (row : NameRow) (name : List ℕ) (place child : ℕ) (is : row ≡ get_or rows place row)
+    (s : IsTrue (is_sorted name_cmp (map name_and_child rows))) (p : IsPlaceOf (map name_and_child rows) name place)
+    (some : IsSome (find name_cmp name (map name_and_child rows))) where
   pub sorted_with : IsTrue (is_sorted name_cmp (map name_and_child (set rows place (with_child row child))))
   sorted_with =
       let there = stands_there rows name place s p some in
-      subst (λ l. IsTrue (is_sorted name_cmp l)) (sym (map-replaced rows row name place child (place_within rows name place s p some) is there.1)) (was_true _ (sorted_replaced nat_list_cmp_total name_cmp-IsAntisymmetric name child (map name_and_child rows) place there.1 (is_true _ s)))
+      subst (λ l. IsTrue (is_sorted name_cmp l)) (sym (map-replaced rows row name place child (place_within rows name place s p some) is there.1))
+      (was_true _ (sorted_replaced nat_list_cmp_total name_cmp-IsAntisymmetric name child (map name_and_child rows) place there.1 (is_true _ s)))
 
-  pub map_replaced : from_sorted {R = name_cmp} (map name_and_child (set rows place (with_child row child))) ≡ finmap.insert (from_sorted {R = name_cmp} (map name_and_child rows)) name child
+  pub map_replaced : from_sorted {R = name_cmp} (map name_and_child (set rows place (with_child row child)))
+      ≡ finmap.insert (from_sorted {R = name_cmp} (map name_and_child rows)) name child
   map_replaced =
       let there = stands_there rows name place s p some in
       same_map nat_list_cmp_total name_cmp-IsAntisymmetric _ _ (λ q.
@@ -74,7 +91,8 @@ module _ (rows : List NameRow) (row : NameRow) (name : List ℕ) (place child : 
       ∙ sym (get-insert nat_list_cmp_total (from_sorted {R = name_cmp} (map name_and_child rows)) name child q))
 
 -- the row at a place
-pub entry_at : (rows : List NameRow) (row : NameRow) (place : ℕ) → place < length rows → row ≡ get_or rows place row → Some (name_and_child row) ≡ slice_get (map name_and_child rows) place
+pub entry_at : (rows : List NameRow) (row : NameRow) (place : ℕ) → place < length rows → row ≡ get_or rows place row
+    → Some (name_and_child row) ≡ slice_get (map name_and_child rows) place
 entry_at [] row place lt is = absurd (omega arith)
 entry_at (r ∷ rows) row zero lt is = ap (λ r. Some (name_and_child r)) is
 entry_at (r ∷ rows) row (suc place) lt is = entry_at rows row place (omega arith) is

@@ -42,7 +42,8 @@ module _ {K X : Type 0} {R : K → K → Ordering} (o : IsTotalOrder R) where
   first_if q (e ∷ es) = cond (eq_by_cmp R q e.0) (Some e.1) None
 
   -- the entry is found where the search ends
-  pub find_there : (q : K) (es : List (K × X)) (i : ℕ) → T (is_sorted R es) → AllWithin (λ e. R e.0 q ≡ Less) es 0 i → AllWithin (λ e. R e.0 q ≢ Less) es i (length es) → find R q es ≡ first_if q (drop i es)
+  pub find_there : (q : K) (es : List (K × X)) (i : ℕ) → T (is_sorted R es) → AllWithin (λ e. R e.0 q ≡ Less) es 0 i
+      → AllWithin (λ e. R e.0 q ≢ Less) es i (length es) → find R q es ≡ first_if q (drop i es)
   find_there q [] zero s before behind = refl
   find_there q [] (suc i) s before behind = refl
   find_there q (e ∷ es) zero s before behind =
@@ -53,14 +54,17 @@ module _ {K X : Type 0} {R : K → K → Ordering} (o : IsTotalOrder R) where
       ] refl
   find_there q (e ∷ es) (suc i) s before behind =
       ap (λ r. cond (is_eq r) (Some e.1) (find R q es)) (not_behind o e.0 q (before 0 e (omega arith) (omega arith)))
-      ∙ find_there q es i (both_second _ _ s) (λ k d a b. before (suc k) d (omega arith) (omega arith)) (λ k d a b. behind (suc k) d (omega arith) (omega arith))
+      ∙ find_there q es i (both_second _ _ s) (λ k d a b. before (suc k) d (omega arith) (omega arith))
+      (λ k d a b. behind (suc k) d (omega arith) (omega arith))
 
   -- an entry whose key is new is put there
-  pub put_there : (q : K) (v : X) (es : List (K × X)) (i : ℕ) → i ≤ length es → T (is_sorted R es) → AllWithin (λ e. R e.0 q ≡ Less) es 0 i → AllWithin (λ e. R e.0 q ≢ Less) es i (length es) → find R q es ≡ None → put R q v es ≡ take i es ++ (q, v) ∷ drop i es
+  pub put_there : (q : K) (v : X) (es : List (K × X)) (i : ℕ) → i ≤ length es → T (is_sorted R es) → AllWithin (λ e. R e.0 q ≡ Less) es 0 i
+      → AllWithin (λ e. R e.0 q ≢ Less) es i (length es) → find R q es ≡ None → put R q v es ≡ take i es ++ (q, v) ∷ drop i es
   put_there q v [] zero le s before behind none = refl
   put_there q v [] (suc i) le s before behind none = absurd (omega arith)
   put_there q v (e ∷ es) zero le s before behind none =
-      elim (R q e.0) as (λ r. R q e.0 ≡ r → cond (is_eq r) (Some e.1) (find R q es) ≡ None → by_order r ((q, v) ∷ e ∷ es) ((e.0, v) ∷ es) (e ∷ put R q v es) ≡ (q, v) ∷ e ∷ es) [
+      elim (R q e.0) as (λ r. R q e.0 ≡ r → cond (is_eq r) (Some e.1) (find R q es) ≡ None
+      → by_order r ((q, v) ∷ e ∷ es) ((e.0, v) ∷ es) (e ∷ put R q v es) ≡ (q, v) ∷ e ∷ es) [
         | Less ↦ λ p n. refl
         | Equal ↦ λ p n. cc
         | Greater ↦ λ p n. absurd (behind 0 e (omega arith) (omega arith) (o.antisymm e.0 q ∙ ap ordering_reverse p))
@@ -69,7 +73,9 @@ module _ {K X : Type 0} {R : K → K → Ordering} (o : IsTotalOrder R) where
       let later : R q e.0 ≡ Greater = not_behind o e.0 q (before 0 e (omega arith) (omega arith)) in
       let none' : find R q es ≡ None = sym (ap (λ r. cond (is_eq r) (Some e.1) (find R q es)) later) ∙ none in
       ap (λ r. by_order r ((q, v) ∷ e ∷ es) ((e.0, v) ∷ es) (e ∷ put R q v es)) later
-      ∙ ap (λ l. e ∷ l) (put_there q v es i (omega arith) (both_second _ _ s) (λ k d a b. before (suc k) d (omega arith) (omega arith)) (λ k d a b. behind (suc k) d (omega arith) (omega arith)) none')
+      ∙ ap (λ l. e ∷ l)
+      (put_there q v es i (omega arith) (both_second _ _ s) (λ k d a b. before (suc k) d (omega arith) (omega arith))
+      (λ k d a b. behind (suc k) d (omega arith) (omega arith)) none')
 
   -- the first key is less than each behind it
   pub above_all : (e : K × X) (es : List (K × X)) (k : ℕ) (d : K × X) → T (is_sorted R (e ∷ es)) → k < length es → R e.0 (get_or es k d).0 ≡ Less
@@ -81,7 +87,8 @@ module _ {K X : Type 0} {R : K → K → Ordering} (o : IsTotalOrder R) where
       above x (f ∷ fs) (suc k) d h lt = above x fs k d (both_second _ _ h) (omega arith)
 
   -- keys that are less than q come first
-  pub sorted_less : (q : K) (es : List (K × X)) (i j : ℕ) (d : K × X) → T (is_sorted R es) → i ≤ j → j < length es → R (get_or es j d).0 q ≡ Less → R (get_or es i d).0 q ≡ Less
+  pub sorted_less : (q : K) (es : List (K × X)) (i j : ℕ) (d : K × X) → T (is_sorted R es) → i ≤ j → j < length es → R (get_or es j d).0 q ≡ Less
+      → R (get_or es i d).0 q ≡ Less
   sorted_less q [] i j d s le lt p = absurd (omega arith)
   sorted_less q (e ∷ es) zero zero d s le lt p = p
   sorted_less q (e ∷ es) zero (suc j) d s le lt p =

@@ -27,7 +27,8 @@ is_directory_by node n = option_map_or (λ x. is_directory_kind x.kind) (node n)
 abbrev met_by : ℕ → Given → List (List ℕ) → ℕ → List Met
 met_by zero given path n = record { path = path; node = n } ∷ []
 met_by (suc steps) given path n =
-    record { path = path; node = n } ∷ flat_map (λ row. met_by steps given (path ++ row.0 ∷ []) row.1) (if is_directory_by given.node n then given.names n else [])
+    record { path = path; node = n }
+    ∷ flat_map (λ row. met_by steps given (path ++ row.0 ∷ []) row.1) (if is_directory_by given.node n then given.names n else [])
 
 abbrev links_by : Given → ℕ → ℕ
 links_by given n =

@@ -30,7 +30,9 @@ IsSound-prop tree a b =
     let root : IsProp (is_directory tree 0 ≡ true) = hlevel props in
     let unnamed : IsProp ((d : ℕ) (n : List ℕ) → row_of tree d n ≢ Some 0) = hlevel props in
     let node : IsProp ((d : ℕ) (n : List ℕ) (c : ℕ) → row_of tree d n ≡ Some c → IsSome (get tree.nodes c)) = hlevel props in
-    let once : IsProp ((d o : ℕ) (n m : List ℕ) (c : ℕ) → row_of tree d n ≡ Some c → row_of tree o m ≡ Some c → is_directory tree c ≡ true → (d ≡ o) × (n ≡ m)) = hlevel props in
+    let once : IsProp
+    ((d o : ℕ) (n m : List ℕ) (c : ℕ) → row_of tree d n ≡ Some c → row_of tree o m ≡ Some c → is_directory tree c ≡ true → (d ≡ o) × (n ≡ m)) =
+    hlevel props in
     let holds : IsProp ((d : ℕ) (n : List ℕ) (c : ℕ) → row_of tree d n ≡ Some c → (is_directory tree d ≡ true) × (is_alive tree d ≡ true)) = hlevel props in
     λ i. record {
       root = root a.root b.root i;
@@ -51,7 +53,9 @@ module _ (tree : TreeState) (n : IsNumbered tree) where
       let creation : x.1 ≡ y.1 = same.1 in
       let cores = is_prop→PathP (λ i. core i < length tree.made) (λ i. less_once (core i) (length tree.made)) x.2 y.2 in
       let creations = is_prop→PathP (λ i. creation i < slice_index tree.made (core i)) (λ i. less_once (creation i) (slice_index tree.made (core i))) x.3 y.3 in
-      let numbers = is_prop→PathP (λ i. node ≡ tree.first + core i * tree.share + creation i) (λ i. number_once node (tree.first + core i * tree.share + creation i)) x.4 y.4 in
+      let numbers =
+      is_prop→PathP (λ i. node ≡ tree.first + core i * tree.share + creation i)
+      (λ i. number_once node (tree.first + core i * tree.share + creation i)) x.4 y.4 in
       λ i. (core i, creation i, cores i, creations i, numbers i)
     where
       less_once : (a b : ℕ) → IsProp (a < b)

@@ -12,7 +12,8 @@ use Rattle.sfs_base.proofs.BasicNumbers.{same_number}
 use Rattle.sfs_base.proofs.BasicTruth.{false_not_true}
 
 -- one row alone names a directory
-pub sound_once : (tree : TreeState) → IsSound tree → (directory : ℕ) (name : List ℕ) (child : ℕ) → row_of tree directory name ≡ Some child → is_directory tree child ≡ true → count_of tree.rows child ≡ 1
+pub sound_once : (tree : TreeState) → IsSound tree → (directory : ℕ) (name : List ℕ) (child : ℕ) → row_of tree directory name ≡ Some child
+    → is_directory tree child ≡ true → count_of tree.rows child ≡ 1
 sound_once tree s directory name child is dir =
     count-remove tree.rows (directory, name) child (names_it child) is
     ∙ ap (λ b. count_of (remove tree.rows (directory, name)) child + cond b 1 0) (same_number child)
@@ -74,8 +75,11 @@ sound_file tree s file alive no_directory =
         some n differ = omega arith
 
 -- one step of the walk up
-pub walk_none : (tree : TreeState) (steps node directory : ℕ) → holder_of tree node ≡ None → list.list_any (λ above. nat_eq above directory) (walk_up (suc steps) tree node) ≡ false
+pub walk_none : (tree : TreeState) (steps node directory : ℕ) → holder_of tree node ≡ None
+    → list.list_any (λ above. nat_eq above directory) (walk_up (suc steps) tree node) ≡ false
 walk_none tree steps node directory none = ap (λ o. list.list_any (λ above. nat_eq above directory) (and_above (walk_up steps tree) o)) none
 
-pub walk_some : (tree : TreeState) (steps node directory holder : ℕ) → holder_of tree node ≡ Some holder → list.list_any (λ above. nat_eq above directory) (walk_up (suc steps) tree node) ≡ (nat_eq holder directory || list.list_any (λ above. nat_eq above directory) (walk_up steps tree holder))
+pub walk_some : (tree : TreeState) (steps node directory holder : ℕ) → holder_of tree node ≡ Some holder
+    → list.list_any (λ above. nat_eq above directory) (walk_up (suc steps) tree node)
+    ≡ (nat_eq holder directory || list.list_any (λ above. nat_eq above directory) (walk_up steps tree holder))
 walk_some tree steps node directory holder some = ap (λ o. list.list_any (λ above. nat_eq above directory) (and_above (walk_up steps tree) o)) some

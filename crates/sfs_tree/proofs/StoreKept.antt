@@ -21,7 +21,8 @@ use Rattle.sfs_base.proofs.BasicOptions.{none_some, none_not_some}
 is_some : {X : Type 0} (o : Option X) (x : X) → o ≡ Some x → IsSome o
 is_some o x e = subst IsSome (sym e) refl
 
-pub IsStored-new : (n : NodesState) (c : Counts) (r : RowsState) → n.nodes ≡ empty → n.places ≡ 0 → r.rows ≡ empty → r.places ≡ 0 → ((nodes : FinMap nat_cmp Node) → IsCounted empty nodes c) → IsWide c 0 → IsStored n c r
+pub IsStored-new : (n : NodesState) (c : Counts) (r : RowsState) → n.nodes ≡ empty → n.places ≡ 0 → r.rows ≡ empty → r.places ≡ 0
+    → ((nodes : FinMap nat_cmp Node) → IsCounted empty nodes c) → IsWide c 0 → IsStored n c r
 IsStored-new n c r nodes places rows buckets counted wide = record {
   counted = subst (λ m. IsCounted m n.nodes c) (sym rows) (counted n.nodes);
   wide = subst (IsWide c) (sym places) wide;
@@ -38,7 +39,9 @@ nodes_after : (nodes : FinMap nat_cmp Node) (k x : ℕ) (node : Node) → get (i
 nodes_after nodes k x node = get-insert nat_cmp_total nodes k node x
 
 pub some_more : (nodes : FinMap nat_cmp Node) (k x : ℕ) (node : Node) → IsSome (get nodes x) → IsSome (get (insert nodes k node) x)
-some_more nodes k x node some = subst IsSome (sym (nodes_after nodes k x node)) (elim (eq_by_cmp nat_cmp x k) as (λ b. IsSome (cond b (Some node) (get nodes x))) [ true ↦ refl | false ↦ some ])
+some_more nodes k x node some =
+    subst IsSome (sym (nodes_after nodes k x node))
+    (elim (eq_by_cmp nat_cmp x k) as (λ b. IsSome (cond b (Some node) (get nodes x))) [ true ↦ refl | false ↦ some ])
 
 pub some_before : (nodes : FinMap nat_cmp Node) (k x : ℕ) (node : Node) → IsSome (get (insert nodes k node) x) → (x ≡ k) ⊎ IsSome (get nodes x)
 some_before nodes k x node some =
@@ -65,7 +68,8 @@ is_directory_node o = option_map_or (λ (n : Node). is_directory_kind n.kind) o 
 
 module _ (n : NodesState) (c : Counts) (r : RowsState) (h : IsStored n c r) where
   -- places for one number more
-  pub IsStored-place : (m : NodesState) (d : Counts) (s : RowsState) → m.nodes ≡ n.nodes → m.places ≤ s.places → n.places ≤ m.places → s.places ≤ 81920 → r.places ≤ s.places → s.rows ≡ r.rows → IsWide d m.places → IsCounted r.rows n.nodes d → IsStored m d s
+  pub IsStored-place : (m : NodesState) (d : Counts) (s : RowsState) → m.nodes ≡ n.nodes → m.places ≤ s.places → n.places ≤ m.places → s.places ≤ 81920
+      → r.places ≤ s.places → s.rows ≡ r.rows → IsWide d m.places → IsCounted r.rows n.nodes d → IsStored m d s
   IsStored-place m d s nodes enough grows few more rows wide counted = record {
     counted = subst (λ rows. IsCounted rows m.nodes d) (sym rows) (subst (λ nodes. IsCounted r.rows nodes d) (sym nodes) counted);
     wide = wide;
@@ -78,16 +82,22 @@ module _ (n : NodesState) (c : Counts) (r : RowsState) (h : IsStored n c r) wher
   }
 
   -- buckets and counts for further numbers
-  pub IsStored-wider : (d : Counts) (s : RowsState) → s.places ≤ 81920 → r.places ≤ s.places → s.rows ≡ r.rows → IsWide d n.places → IsCounted r.rows n.nodes d → IsStored n d s
+  pub IsStored-wider : (d : Counts) (s : RowsState) → s.places ≤ 81920 → r.places ≤ s.places → s.rows ≡ r.rows → IsWide d n.places → IsCounted r.rows n.nodes d
+      → IsStored n d s
   IsStored-wider d s few more rows wide counted = let e = h.enough in IsStored-place n d s refl (omega arith) (omega arith) few more rows wide counted
 
   pub rows_small : len r.rows < 2 ^ 32
   rows_small = let a = h.most in let b = h.few in omega arith
 
   -- a further node
-  pub IsStored-node : (m : NodesState) (k : ℕ) (node : Node) → m.nodes ≡ insert n.nodes k node → m.places ≡ n.places → k < n.places → get n.nodes k ≡ None → IsStored m c r
+  pub IsStored-node : (m : NodesState) (k : ℕ) (node : Node) → m.nodes ≡ insert n.nodes k node → m.places ≡ n.places → k < n.places → get n.nodes k ≡ None
+      → IsStored m c r
   IsStored-node m k node nodes places lt absent = record {
-    counted = subst (λ nodes. IsCounted r.rows nodes c) (sym nodes) (IsCounted-nodes r.rows n.nodes c h.counted (insert n.nodes k node) (λ q x is. ap (λ (o : Option Node). is_directory_node o) (other_node n.nodes k x node (λ same. none_not_some _ (ap (get n.nodes) same ∙ absent) (h.children q.0 q.1 x is)))));
+    counted =
+        subst (λ nodes. IsCounted r.rows nodes c) (sym nodes)
+        (IsCounted-nodes r.rows n.nodes c h.counted (insert n.nodes k node)
+        (λ q x is. ap (λ (o : Option Node). is_directory_node o)
+        (other_node n.nodes k x node (λ same. none_not_some _ (ap (get n.nodes) same ∙ absent) (h.children q.0 q.1 x is)))));
     wide = subst (IsWide c) (sym places) h.wide;
     enough = let e = h.enough in omega arith;
     few = h.few;
@@ -101,9 +111,11 @@ module _ (n : NodesState) (c : Counts) (r : RowsState) (h : IsStored n c r) wher
   }
 
   -- another node of the same kind in its place
-  pub IsStored-edit : (m : NodesState) (k : ℕ) (node : Node) → m.nodes ≡ insert n.nodes k node → m.places ≡ n.places → IsSome (get n.nodes k) → is_directory_in (insert n.nodes k node) k ≡ is_directory_in n.nodes k → IsStored m c r
+  pub IsStored-edit : (m : NodesState) (k : ℕ) (node : Node) → m.nodes ≡ insert n.nodes k node → m.places ≡ n.places → IsSome (get n.nodes k)
+      → is_directory_in (insert n.nodes k node) k ≡ is_directory_in n.nodes k → IsStored m c r
   IsStored-edit m k node nodes places there same = record {
-    counted = subst (λ nodes. IsCounted r.rows nodes c) (sym nodes) (IsCounted-nodes r.rows n.nodes c h.counted (insert n.nodes k node) (λ q x is. either_way x));
+    counted =
+        subst (λ nodes. IsCounted r.rows nodes c) (sym nodes) (IsCounted-nodes r.rows n.nodes c h.counted (insert n.nodes k node) (λ q x is. either_way x));
     wide = subst (IsWide c) (sym places) h.wide;
     enough = let e = h.enough in omega arith;
     few = h.few;
@@ -127,7 +139,8 @@ module _ (n : NodesState) (c : Counts) (r : RowsState) (h : IsStored n c r) wher
 
   -- a further row
   module _ (directory : ℕ) (name : List ℕ) (child : ℕ) where
-    pub IsStored-row : (d : Counts) (s : RowsState) → s.rows ≡ insert r.rows (directory, name) child → s.places ≡ r.places → len s.rows ≤ 32768 * s.places → IsCounted (insert r.rows (directory, name) child) n.nodes d → IsWide d n.places → directory < n.places → IsSome (get n.nodes child) → IsStored n d s
+    pub IsStored-row : (d : Counts) (s : RowsState) → s.rows ≡ insert r.rows (directory, name) child → s.places ≡ r.places → len s.rows ≤ 32768 * s.places
+        → IsCounted (insert r.rows (directory, name) child) n.nodes d → IsWide d n.places → directory < n.places → IsSome (get n.nodes child) → IsStored n d s
     IsStored-row d s rows places most counted wide lt some = record {
       counted = subst (λ m. IsCounted m n.nodes d) (sym rows) counted;
       wide = wide;
@@ -139,20 +152,24 @@ module _ (n : NodesState) (c : Counts) (r : RowsState) (h : IsStored n c r) wher
         | Came.new key same ↦ let k : e ≡ directory = ap (λ (k : Key). k.0) key in omega arith
         | Came.old differ was ↦ h.placed e other x was
       ];
-      children = λ e other x is. elim (came r.rows (directory, name) child (e, other) x (sym (ap (λ m. get m (e, other)) rows) ∙ is)) as (λ _. IsSome (get n.nodes x)) [
-        | Came.new key same ↦ subst (λ x. IsSome (get n.nodes x)) (sym same) some
-        | Came.old differ was ↦ h.children e other x was
-      ];
+      children =
+          λ e other x is. elim (came r.rows (directory, name) child (e, other) x (sym (ap (λ m. get m (e, other)) rows) ∙ is)) as (λ _. IsSome
+          (get n.nodes x)) [
+            | Came.new key same ↦ subst (λ x. IsSome (get n.nodes x)) (sym same) some
+            | Came.old differ was ↦ h.children e other x was
+          ];
     }
 
-    pub may_rise : (s : RowsState) → s.rows ≡ insert r.rows (directory, name) child → s.places ≡ r.places → len s.rows ≤ 32768 * s.places → get r.rows (directory, name) ≡ None → directory < n.places → child < n.places → MayRise c directory child
+    pub may_rise : (s : RowsState) → s.rows ≡ insert r.rows (directory, name) child → s.places ≡ r.places → len s.rows ≤ 32768 * s.places
+        → get r.rows (directory, name) ≡ None → directory < n.places → child < n.places → MayRise c directory child
     may_rise s rows places most none lt within =
         let f = h.few in
         let l : len s.rows ≡ len r.rows + 1 = ap len rows ∙ len_more r.rows (directory, name) child none in
         MayRise-counted r.rows n.nodes c h.counted directory child n.places h.wide lt within (omega arith)
 
     -- a row that goes
-    pub IsStored-removed : (d : Counts) (s : RowsState) → s.rows ≡ remove r.rows (directory, name) → s.places ≡ r.places → len s.rows ≤ 32768 * s.places → IsCounted (remove r.rows (directory, name)) n.nodes d → IsWide d n.places → IsStored n d s
+    pub IsStored-removed : (d : Counts) (s : RowsState) → s.rows ≡ remove r.rows (directory, name) → s.places ≡ r.places → len s.rows ≤ 32768 * s.places
+        → IsCounted (remove r.rows (directory, name)) n.nodes d → IsWide d n.places → IsStored n d s
     IsStored-removed d s rows places most counted wide = record {
       counted = subst (λ m. IsCounted m n.nodes d) (sym rows) counted;
       wide = wide;
@@ -164,9 +181,11 @@ module _ (n : NodesState) (c : Counts) (r : RowsState) (h : IsStored n c r) wher
       children = λ e other x is. h.children e other x (stayed r.rows (directory, name) (e, other) x (sym (ap (λ m. get m (e, other)) rows) ∙ is)).1;
     }
 
-    pub may_fall : (is_directory : Bool) → get r.rows (directory, name) ≡ Some child → is_directory ≡ is_directory_in n.nodes child → MayFall c directory child is_directory
+    pub may_fall : (is_directory : Bool) → get r.rows (directory, name) ≡ Some child → is_directory ≡ is_directory_in n.nodes child
+        → MayFall c directory child is_directory
     may_fall is_directory some is =
-        MayFall-counted r.rows n.nodes c h.counted directory child n.places name is_directory h.wide (h.placed directory name child some) (h.within child (h.children directory name child some)) some is
+        MayFall-counted r.rows n.nodes c h.counted directory child n.places name is_directory h.wide (h.placed directory name child some)
+        (h.within child (h.children directory name child some)) some is
 
 pub IsWide-fewer : (c : Counts) (more places : ℕ) → IsWide c more → places ≤ more → IsWide c places
 IsWide-fewer c more places w le =
@@ -177,12 +196,14 @@ IsWide-fewer c more places w le =
     record { named = omega arith; inside = omega arith; directories = omega arith; holders = omega arith }
 
 -- what a place is, in what a contract sees
-pub has_place : (n : NodesState) (c : Counts) (r : RowsState) (s : StoreState) (number : ℕ) → IsStored n c r → ◌≡◌ {A = StoreState} (record { rows = r.rows; nodes = n.nodes; places = n.places }) s → HasPlace s number → number < n.places
+pub has_place : (n : NodesState) (c : Counts) (r : RowsState) (s : StoreState) (number : ℕ) → IsStored n c r
+    → ◌≡◌ {A = StoreState} (record { rows = r.rows; nodes = n.nodes; places = n.places }) s → HasPlace s number → number < n.places
 has_place n c r s number h is (inl some) = h.within number (subst (λ (s : StoreState). IsSome (get s.nodes number)) (sym is) some)
 has_place n c r s number h is (inr low) = let e : n.places ≡ s.places = ap (λ (s : StoreState). s.places) is in omega arith
 
 -- bytes that change leave all else as it is
-pub IsStored-edited : (n : NodesState) (c : Counts) (r : RowsState) (m : NodesState) (k : ℕ) (edit : Edit) → IsStored n c r → m.nodes ≡ with_edit n.nodes k edit (get n.nodes k) → m.places ≡ n.places → IsStored m c r
+pub IsStored-edited : (n : NodesState) (c : Counts) (r : RowsState) (m : NodesState) (k : ℕ) (edit : Edit) → IsStored n c r
+    → m.nodes ≡ with_edit n.nodes k edit (get n.nodes k) → m.places ≡ n.places → IsStored m c r
 IsStored-edited n c r m k edit h nodes places = by_node (get n.nodes k) refl
   where
     by_node : (o : Option Node) → get n.nodes k ≡ o → IsStored m c r
@@ -191,4 +212,5 @@ IsStored-edited n c r m k edit h nodes places = by_node (get n.nodes k) refl
         (ap is_directory_node (this_node n.nodes k (record node { bytes = edited edit node.bytes })) ∙ sym (ap is_directory_node e))
     by_node None e =
         let x = h.enough in
-        IsStored-place n c r h m c r (nodes ∙ ap (with_edit n.nodes k edit) e) (omega arith) (omega arith) h.few (omega arith) refl (subst (IsWide c) (sym places) h.wide) h.counted
+        IsStored-place n c r h m c r (nodes ∙ ap (with_edit n.nodes k edit) e) (omega arith) (omega arith) h.few (omega arith) refl
+        (subst (IsWide c) (sym places) h.wide) h.counted

@@ -19,7 +19,8 @@ IsPlaced-grown ms (suc n) h = subst IsPlaced (append_assoc ms (empty ∷ []) (re
 
 pub joined-grown : (ms : List Bucket) (n : ℕ) → IsPlaced ms → joined (ms ++ replicate n empty) ≡ joined ms
 joined-grown ms zero h = ap joined (append-nil ms)
-joined-grown ms (suc n) h = ap joined (sym (append_assoc ms (empty ∷ []) (replicate n empty))) ∙ joined-grown (ms ++ empty ∷ []) n (IsPlaced-push ms h) ∙ joined-push ms h
+joined-grown ms (suc n) h =
+    ap joined (sym (append_assoc ms (empty ∷ []) (replicate n empty))) ∙ joined-grown (ms ++ empty ∷ []) n (IsPlaced-push ms h) ∙ joined-push ms h
 
 -- eight buckets more
 pub IsBuilt-grown : (ms : List Bucket) → IsBuilt ms → IsBuilt (ms ++ replicate 8 empty)

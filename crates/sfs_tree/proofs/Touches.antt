@@ -56,11 +56,16 @@ calls_touch_one tree core (call.List at) = record { bytes = λ node e. cc; links
 calls_touch_one tree core (call.Fsync node) = record { bytes = λ node e. cc; links = λ node other a b. cc }
 
 pub trees_agree_with_themselves : TreesAgreeWithThemselves
-trees_agree_with_themselves tree core (call.Look directory name) = (record { node = record { alive = refl; kind = λ alive. refl }; rows = refl }, λ child row. refl)
-trees_agree_with_themselves tree core (call.Make directory name kind) = (record { node = record { alive = refl; kind = λ alive. refl }; rows = refl }, record { first = refl; share = refl; made = refl })
-trees_agree_with_themselves tree core (call.Link file directory name) = (record { node = record { alive = refl; kind = λ alive. refl }; rows = refl }, record { alive = refl; kind = λ alive. refl }, λ kind. refl)
-trees_agree_with_themselves tree core (call.Unlink directory name) = (record { node = record { alive = refl; kind = λ alive. refl }; rows = refl }, λ child row. refl)
-trees_agree_with_themselves tree core (call.Rmdir directory name) = (record { node = record { alive = refl; kind = λ alive. refl }; rows = refl }, (λ child row. refl), λ child row kind. refl)
+trees_agree_with_themselves tree core (call.Look directory name) =
+    (record { node = record { alive = refl; kind = λ alive. refl }; rows = refl }, λ child row. refl)
+trees_agree_with_themselves tree core (call.Make directory name kind) =
+    (record { node = record { alive = refl; kind = λ alive. refl }; rows = refl }, record { first = refl; share = refl; made = refl })
+trees_agree_with_themselves tree core (call.Link file directory name) =
+    (record { node = record { alive = refl; kind = λ alive. refl }; rows = refl }, record { alive = refl; kind = λ alive. refl }, λ kind. refl)
+trees_agree_with_themselves tree core (call.Unlink directory name) =
+    (record { node = record { alive = refl; kind = λ alive. refl }; rows = refl }, λ child row. refl)
+trees_agree_with_themselves tree core (call.Rmdir directory name) =
+    (record { node = record { alive = refl; kind = λ alive. refl }; rows = refl }, (λ child row. refl), λ child row kind. refl)
 trees_agree_with_themselves tree core (call.Rename directory name to_directory to_name) = record {
   from = record { node = record { alive = refl; kind = λ alive. refl }; rows = refl };
   to = record { node = record { alive = refl; kind = λ alive. refl }; rows = refl };

@@ -60,7 +60,8 @@ one_fewer : (x h : ℕ) (es : List (Key × ℕ)) → holder_in es x ≡ Some h �
 unfolding without
 one_fewer x h [] found = cc
 one_fewer x h (e ∷ es) found =
-    elim (nat_eq e.1 x) as (λ b. option_map (λ (row : Key × ℕ). row.0.0) (cond b (Some e) (lists.find (names_it x) es)) ≡ Some h → length (e ∷ es) ≡ suc (length (cond b es (e ∷ without x es)))) [
+    elim (nat_eq e.1 x) as (λ b. option_map (λ (row : Key × ℕ). row.0.0) (cond b (Some e) (lists.find (names_it x) es)) ≡ Some h
+    → length (e ∷ es) ≡ suc (length (cond b es (e ∷ without x es)))) [
       | true ↦ λ f. refl
       | false ↦ λ f. suc_same (one_fewer x h es f)
     ] found
@@ -69,23 +70,29 @@ others_found : (x y : ℕ) (es : List (Key × ℕ)) → y ≢ x → lists.find (
 unfolding without
 others_found x y [] other = refl
 others_found x y (e ∷ es) other =
-    elim (nat_eq e.1 x) as (λ b. nat_eq e.1 x ≡ b → lists.find (names_it y) (cond b es (e ∷ without x es)) ≡ cond (nat_eq e.1 y) (Some e) (lists.find (names_it y) es)) [
+    elim (nat_eq e.1 x) as (λ b. nat_eq e.1 x ≡ b
+    → lists.find (names_it y) (cond b es (e ∷ without x es)) ≡ cond (nat_eq e.1 y) (Some e) (lists.find (names_it y) es)) [
       | true ↦ λ t. sym (ap (λ b. cond b (Some e) (lists.find (names_it y) es)) (differs e.1 (eqb-true _ _ t)))
       | false ↦ λ t. ap (cond (nat_eq e.1 y) (Some e)) (others_found x y es other)
     ] refl
   where
     differs : (z : ℕ) → z ≡ x → nat_eq z y ≡ false
-    differs z same = elim (nat_eq z y) as (λ b. nat_eq z y ≡ b → b ≡ false) [ true ↦ λ t. absurd (other (sym (eqb-true _ _ t) ∙ same)) | false ↦ λ t. refl ] refl
+    differs z same =
+        elim (nat_eq z y) as (λ b. nat_eq z y ≡ b → b ≡ false) [ true ↦ λ t. absurd (other (sym (eqb-true _ _ t) ∙ same)) | false ↦ λ t. refl ] refl
 
 chain_without : (x : ℕ) (es : List (Key × ℕ)) (y : ℕ) (l : List ℕ) → Chain (holder_in es) y l → Lacks (y ∷ l) x → Chain (holder_in (without x es)) y l
 chain_without x es y [] chain lacks = ap (option_map (λ (row : Key × ℕ). row.0.0)) (others_found x y es lacks.0) ∙ chain
-chain_without x es y (h ∷ l) chain lacks = (ap (option_map (λ (row : Key × ℕ). row.0.0)) (others_found x y es lacks.0) ∙ chain.0, chain_without x es h l chain.1 lacks.1)
+chain_without x es y (h ∷ l) chain lacks =
+    (ap (option_map (λ (row : Key × ℕ). row.0.0)) (others_found x y es lacks.0) ∙ chain.0, chain_without x es h l chain.1 lacks.1)
 
 -- a chain is no longer than the entries
 pub chain_within : (es : List (Key × ℕ)) (x : ℕ) (l : List ℕ) → Chain (holder_in es) x l → length l ≤ length es
 chain_within es x [] chain = omega arith
 chain_within es x (h ∷ l) chain =
-    one_more (one_fewer x h es chain.0) (chain_within (without x es) h l (chain_without x es h l chain.1 (no_loop (holder_in es) x (suc (length l)) (λ k other. same_length (holder_in es) x (h ∷ l) k chain other) h l chain.1 (less_next (length l)))))
+    one_more (one_fewer x h es chain.0)
+    (chain_within (without x es) h l
+    (chain_without x es h l chain.1
+    (no_loop (holder_in es) x (suc (length l)) (λ k other. same_length (holder_in es) x (h ∷ l) k chain other) h l chain.1 (less_next (length l)))))
   where
     one_more : {a b n : ℕ} → n ≡ suc b → a ≤ b → suc a ≤ n
     one_more e le = omega arith
@@ -97,7 +104,8 @@ chain_below (e ∷ es) x [] c g named lacks chain = omega arith
 chain_below es x (h ∷ l) c g named lacks chain =
     one_more (one_fewer x h es chain.0)
     (chain_below (without x es) h l c g (ap (option_map (λ (row : Key × ℕ). row.0.0)) (others_found x c es (λ same. lacks.0 (sym same))) ∙ named) lacks.1
-    (chain_without x es h l chain.1 (no_loop (holder_in es) x (suc (length l)) (λ k other. same_length (holder_in es) x (h ∷ l) k chain other) h l chain.1 (less_next (length l)))))
+    (chain_without x es h l chain.1
+    (no_loop (holder_in es) x (suc (length l)) (λ k other. same_length (holder_in es) x (h ∷ l) k chain other) h l chain.1 (less_next (length l)))))
   where
     one_more : {a b n : ℕ} → n ≡ suc b → a < b → suc a < n
     one_more e lt = omega arith
@@ -132,10 +140,12 @@ module _ (tree : TreeState) (s : IsSound tree) where
   pub walk_is : {node : ℕ} {above : List ℕ} → Above tree node above → is_directory tree node ≡ true → walk_up (len tree.rows) tree node ≡ above
   walk_is {node} {above} way kind =
       let chain = above_chain way kind in
-      walk_meets tree (len tree.rows) node above chain (subst (λ n. length above ≤ n) (sym (len-entries tree.rows)) (chain_within (entries tree.rows) node above chain))
+      walk_meets tree (len tree.rows) node above chain
+      (subst (λ n. length above ≤ n) (sym (len-entries tree.rows)) (chain_within (entries tree.rows) node above chain))
 
   -- a directory that another does not lie below is not above it
-  pub not_above : {node : ℕ} {above : List ℕ} (directory : ℕ) → Above tree node above → is_directory tree node ≡ true → lies_below tree node directory ≡ false → Lacks above directory
+  pub not_above : {node : ℕ} {above : List ℕ} (directory : ℕ) → Above tree node above → is_directory tree node ≡ true → lies_below tree node directory ≡ false
+      → Lacks above directory
   not_above {node} {above} directory way kind apart =
       lacks above (subst (λ l. lists.list_any (λ a. nat_eq a directory) l ≡ false) (walk_is way kind) apart)
     where
@@ -144,13 +154,15 @@ module _ (tree : TreeState) (s : IsSound tree) where
       lacks (a ∷ l) e = (eqb-false _ _ (or_first _ _ e), lacks l (or_second _ _ e))
 
   -- those above are directories, so a node that is none is not among them
-  lacks_other : {node : ℕ} {above : List ℕ} (other : ℕ) → Above tree node above → is_directory tree node ≡ true → is_directory tree other ≡ false → Lacks (node ∷ above) other
+  lacks_other : {node : ℕ} {above : List ℕ} (other : ℕ) → Above tree node above → is_directory tree node ≡ true → is_directory tree other ≡ false
+      → Lacks (node ∷ above) other
   lacks_other other at_root kind none = (λ same. not_both (subst (λ x. is_directory tree x ≡ true) same kind) none, tt)
   lacks_other other (below node holder name above row rest) kind none =
       (λ same. not_both (subst (λ x. is_directory tree x ≡ true) same kind) none, lacks_other other rest (s.holds holder name node row).0 none)
 
   -- above a directory that has a row there are fewer than there are rows
-  pub fewer_above : {node : ℕ} {above : List ℕ} (name : List ℕ) (child : ℕ) → Above tree node above → is_directory tree node ≡ true → row_of tree node name ≡ Some child
+  pub fewer_above : {node : ℕ} {above : List ℕ} (name : List ℕ) (child : ℕ) → Above tree node above → is_directory tree node ≡ true
+      → row_of tree node name ≡ Some child
       → length above < len tree.rows
   fewer_above {node} {above} name child way kind row =
       elim (is_directory tree child) as (λ b. is_directory tree child ≡ b → length above < len tree.rows) [
@@ -168,7 +180,8 @@ module _ (tree : TreeState) (s : IsSound tree) where
       ]
 
       shorter : (g : ℕ) × (holder_of tree child ≡ Some g) → Lacks (node ∷ above) child → length above < len tree.rows
-      shorter g lacks = subst (λ n. length above < n) (sym (len-entries tree.rows)) (chain_below (entries tree.rows) node above child g.0 g.1 lacks (above_chain way kind))
+      shorter g lacks =
+          subst (λ n. length above < n) (sym (len-entries tree.rows)) (chain_below (entries tree.rows) node above child g.0 g.1 lacks (above_chain way kind))
 
   list_lacks : (l : List ℕ) (directory : ℕ) → Lacks l directory → lists.list_any (λ a. nat_eq a directory) l ≡ false
   list_lacks [] directory lacks = refl
@@ -179,16 +192,22 @@ module _ (tree : TreeState) (s : IsSound tree) where
       ] refl
 
   -- a directory is not its own child's, and does not lie below it
-  above_own : (holder node : ℕ) (l : List ℕ) → Chain (holder_of tree) node l → holder_of tree node ≡ Some holder → (nat_eq holder node || lies_below tree holder node) ≡ false
+  above_own : (holder node : ℕ) (l : List ℕ) → Chain (holder_of tree) node l → holder_of tree node ≡ Some holder
+      → (nat_eq holder node || lies_below tree holder node) ≡ false
   above_own holder node [] chain is = cc
   above_own holder node (h ∷ l) chain is =
       let same : h ≡ holder = some_is h holder (sym chain.0 ∙ is) in
       let rest : Chain (holder_of tree) holder l = subst (λ y. Chain (holder_of tree) y l) same chain.1 in
-      let lacks : Lacks (holder ∷ l) node = no_loop (holder_of tree) node (suc (length l)) (λ k other. same_length (holder_of tree) node (h ∷ l) k chain other) holder l rest (less_next (length l)) in
-      let walk = walk_meets tree (len tree.rows) holder l rest (subst (λ n. length l ≤ n) (sym (len-entries tree.rows)) (chain_within (entries tree.rows) holder l rest)) in
+      let lacks : Lacks (holder ∷ l) node =
+      no_loop (holder_of tree) node (suc (length l)) (λ k other. same_length (holder_of tree) node (h ∷ l) k chain other) holder l rest
+      (less_next (length l)) in
+      let walk =
+      walk_meets tree (len tree.rows) holder l rest
+      (subst (λ n. length l ≤ n) (sym (len-entries tree.rows)) (chain_within (entries tree.rows) holder l rest)) in
       ap (λ k. nat_eq holder node || lists.list_any (λ a. nat_eq a node) k) walk ∙ list_lacks (holder ∷ l) node lacks
 
-  pub not_below_own : (holder node : ℕ) (name : List ℕ) → row_of tree holder name ≡ Some node → is_directory tree node ≡ true → (nat_eq holder node || lies_below tree holder node) ≡ false
+  pub not_below_own : (holder node : ℕ) (name : List ℕ) → row_of tree holder name ≡ Some node → is_directory tree node ≡ true
+      → (nat_eq holder node || lies_below tree holder node) ≡ false
   not_below_own holder node name row kind =
       let way = s.climbs holder name node row kind in
       above_own holder node way.0 (above_chain way.1 kind) (holder_is node holder name row kind)

@@ -26,7 +26,8 @@ with_row tree directory name child = record tree { rows = insert tree.rows (dire
 
 -- Each node has a number below the first new one, or one that a core has given.
 pub record IsDrawn (nodes : FinMap nat_cmp Node) (first share : ℕ) (made : List ℕ) : Type 0 where
-  pub known : (node : ℕ) → IsSome (get nodes node) → (node < first) ⊎ ((core creation : ℕ) × (core < length made) × (creation < slice_index made core) × (node ≡ first + core * share + creation))
+  pub known : (node : ℕ) → IsSome (get nodes node)
+      → (node < first) ⊎ ((core creation : ℕ) × (core < length made) × (creation < slice_index made core) × (node ≡ first + core * share + creation))
 
 -- the numbers of a tree: those of the disk lie below 16,385, the new ones are at most 65,536
 pub record IsAllowed (first share : ℕ) (made : List ℕ) : Type 0 where

@@ -33,7 +33,8 @@ pub record IsCounted (rows : FinMap key_cmp ℕ) (nodes : FinMap nat_cmp Node) (
   pub naming : (node : ℕ) → slice_index counts.named.items node ≡ count_of rows node
   pub standing : (directory : ℕ) → slice_index counts.inside.items directory ≡ count_inside rows directory
   pub directories : (directory : ℕ) → slice_index counts.directories.items directory ≡ count_directories rows nodes directory
-  pub holders : (directory : ℕ) (name : List ℕ) (child : ℕ) → get rows (directory, name) ≡ Some child → is_directory_in nodes child ≡ true → count_of rows child ≡ 1
+  pub holders : (directory : ℕ) (name : List ℕ) (child : ℕ) → get rows (directory, name) ≡ Some child → is_directory_in nodes child ≡ true
+      → count_of rows child ≡ 1
       → slice_index counts.holders.items child ≡ directory
   pub total : counts.total ≡ len rows
 

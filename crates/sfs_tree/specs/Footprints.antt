@@ -109,7 +109,8 @@ touches_links tree core _ node = false
 -- What a call does not touch it keeps: the rows of other parts of directories, the bytes of other files, how many rows name other
 -- nodes, the kinds of the nodes that are there, and how many nodes other cores have made; and this core too, unless it makes one.
 pub record KeepsRest (tree : TreeState) (core : ℕ) (c : Call) : Type 0 where
-  pub rows : (directory : ℕ) (test : List ℕ → Bool) → touches_part c directory test ≡ false → names_where directory test (tree_after_call tree core c).rows ≡ names_where directory test tree.rows
+  pub rows : (directory : ℕ) (test : List ℕ → Bool) → touches_part c directory test ≡ false
+      → names_where directory test (tree_after_call tree core c).rows ≡ names_where directory test tree.rows
   pub bytes : (node : ℕ) → touches_bytes c node ≡ false → bytes_of (tree_after_call tree core c) node ≡ bytes_of tree node
   pub links : (node : ℕ) → touches_links tree core c node ≡ false → count_of (tree_after_call tree core c).rows node ≡ count_of tree.rows node
   pub kinds : (node : ℕ) → IsSome (get tree.nodes node) → kind_of (tree_after_call tree core c) node ≡ kind_of tree node

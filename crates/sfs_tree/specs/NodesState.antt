@@ -13,4 +13,5 @@ pub record NodesState : Type 0 where
 -- how they are stored
 abbrev pub nodes_code : Coded NodesState
 nodes_code =
-    code_by (FinMap nat_cmp Node × ℕ) (coded× (code coded_ℕ node_code) coded_ℕ) (λ s. (s.nodes, s.places)) (λ p. record { nodes = p.0; places = p.1 }) (λ _. refl)
+    code_by (FinMap nat_cmp Node × ℕ) (coded× (code coded_ℕ node_code) coded_ℕ) (λ s. (s.nodes, s.places)) (λ p. record { nodes = p.0; places = p.1 })
+    (λ _. refl)

@@ -48,7 +48,8 @@ pub record SameMove (tree other : TreeState) (directory : ℕ) (name : List ℕ)
   pub from : SamePlace tree other directory name
   pub to : SamePlace tree other to_directory to_name
   pub child : (child : ℕ) → row_of tree directory name ≡ Some child → SameKind tree other child
-  pub below : MayHold tree to_directory → (child : ℕ) → row_of tree directory name ≡ Some child → is_directory tree child ≡ true → directory ≢ to_directory → lies_below tree to_directory child ≡ lies_below other to_directory child
+  pub below : MayHold tree to_directory → (child : ℕ) → row_of tree directory name ≡ Some child → is_directory tree child ≡ true → directory ≢ to_directory
+      → lies_below tree to_directory child ≡ lies_below other to_directory child
   pub kind : (there : ℕ) → row_of tree to_directory to_name ≡ Some there → SameKind tree other there
   pub rows : (there : ℕ) → row_of tree to_directory to_name ≡ Some there → is_directory tree there ≡ true → SameCount tree other there
 
@@ -62,10 +63,14 @@ pub record SameStat (tree other : TreeState) (node : ℕ) : Type 0 where
 
 -- The trees agree on what a core's call reads.
 abbrev pub Agree : TreeState → TreeState → ℕ → Call → Type 0
-Agree tree other core (call.Look directory name) = SamePlace tree other directory.0 name × ((child : ℕ) → row_of tree directory.0 name ≡ Some child → SameKind tree other child)
+Agree tree other core (call.Look directory name) =
+    SamePlace tree other directory.0 name × ((child : ℕ) → row_of tree directory.0 name ≡ Some child → SameKind tree other child)
 Agree tree other core (call.Make directory name kind) = SamePlace tree other directory.0 name × SameNumbers tree other core
-Agree tree other core (call.Link file directory name) = SamePlace tree other directory.0 name × SameNode tree other file.0 × (is_directory tree file.0 ≡ false → count_of tree.rows file.0 ≡ count_of other.rows file.0)
-Agree tree other core (call.Unlink directory name) = SamePlace tree other directory.0 name × ((child : ℕ) → row_of tree directory.0 name ≡ Some child → SameKind tree other child)
+Agree tree other core (call.Link file directory name) =
+    SamePlace tree other directory.0 name × SameNode tree other file.0
+    × (is_directory tree file.0 ≡ false → count_of tree.rows file.0 ≡ count_of other.rows file.0)
+Agree tree other core (call.Unlink directory name) =
+    SamePlace tree other directory.0 name × ((child : ℕ) → row_of tree directory.0 name ≡ Some child → SameKind tree other child)
 Agree tree other core (call.Rmdir directory name) =
     SamePlace tree other directory.0 name × ((child : ℕ) → row_of tree directory.0 name ≡ Some child → SameKind tree other child)
     × ((child : ℕ) → row_of tree directory.0 name ≡ Some child → is_directory tree child ≡ true → SameCount tree other child)

@@ -12,4 +12,5 @@ pub record RowsState : Type 0 where
 -- how they are stored
 abbrev pub rows_code : Coded RowsState
 rows_code =
-    code_by (FinMap key_cmp ℕ × ℕ) (coded× (code (coded× coded_ℕ (coded_list coded_ℕ)) coded_ℕ) coded_ℕ) (λ s. (s.rows, s.places)) (λ p. record { rows = p.0; places = p.1 }) (λ _. refl)
+    code_by (FinMap key_cmp ℕ × ℕ) (coded× (code (coded× coded_ℕ (coded_list coded_ℕ)) coded_ℕ) coded_ℕ) (λ s. (s.rows, s.places))
+    (λ p. record { rows = p.0; places = p.1 }) (λ _. refl)

@@ -19,13 +19,16 @@ pub record IsSound (tree : TreeState) : Type 0 where
   pub once : (directory other : ℕ) (name other_name : List ℕ) (child : ℕ) → row_of tree directory name ≡ Some child → row_of tree other other_name ≡ Some child
       → is_directory tree child ≡ true → (directory ≡ other) × (name ≡ other_name)
   -- what has a row is a directory, and it is the root or is named
-  pub holds : (directory : ℕ) (name : List ℕ) (child : ℕ) → row_of tree directory name ≡ Some child → (is_directory tree directory ≡ true) × (is_alive tree directory ≡ true)
+  pub holds : (directory : ℕ) (name : List ℕ) (child : ℕ) → row_of tree directory name ≡ Some child
+      → (is_directory tree directory ≡ true) × (is_alive tree directory ≡ true)
   -- walking up from any named directory ends at the root
-  pub climbs : (directory : ℕ) (name : List ℕ) (child : ℕ) → row_of tree directory name ≡ Some child → is_directory tree child ≡ true → (above : List ℕ) × Above tree child above
+  pub climbs : (directory : ℕ) (name : List ℕ) (child : ℕ) → row_of tree directory name ≡ Some child → is_directory tree child ≡ true
+      → (above : List ℕ) × Above tree child above
 
 -- a number that a core has given to a node
 abbrev pub IsMade : TreeState → ℕ → Type 0
-IsMade tree number = (core creation : ℕ) × (core < length tree.made) × (creation < slice_index tree.made core) × (number ≡ tree.first + core * tree.share + creation)
+IsMade tree number =
+    (core creation : ℕ) × (core < length tree.made) × (creation < slice_index tree.made core) × (number ≡ tree.first + core * tree.share + creation)
 
 -- Each node has a number below the first new one, or one that a core has given; and no core has given more than its share.
 pub record IsNumbered (tree : TreeState) : Type 0 where

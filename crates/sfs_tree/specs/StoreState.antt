@@ -15,7 +15,9 @@ pub record StoreState : Type 0 where
 -- how it is stored
 abbrev pub store_code : Coded StoreState
 store_code =
-    code_by (FinMap key_cmp ℕ × (FinMap nat_cmp Node × ℕ)) (coded× (code (coded× coded_ℕ (coded_list coded_ℕ)) coded_ℕ) (coded× (code coded_ℕ node_code) coded_ℕ)) (λ s. (s.rows, (s.nodes, s.places))) (λ p. record {
+    code_by (FinMap key_cmp ℕ × (FinMap nat_cmp Node × ℕ))
+    (coded× (code (coded× coded_ℕ (coded_list coded_ℕ)) coded_ℕ) (coded× (code coded_ℕ node_code) coded_ℕ)) (λ s. (s.rows, (s.nodes, s.places)))
+    (λ p. record {
       rows = p.0;
       nodes = p.1.0;
       places = p.1.1;

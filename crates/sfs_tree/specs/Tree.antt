@@ -35,7 +35,8 @@ node_again node = λ i. record { kind = kind_again node.kind i; bytes = node.byt
 -- how a node is stored
 abbrev pub node_code : Coded Node
 node_code =
-    code_by (Bool × List ℕ) (coded× coded_bool (coded_list coded_ℕ)) (λ node. (is_directory_kind node.kind, node.bytes)) (λ p. record { kind = kind_if p.0; bytes = p.1 }) node_again
+    code_by (Bool × List ℕ) (coded× coded_bool (coded_list coded_ℕ)) (λ node. (is_directory_kind node.kind, node.bytes))
+    (λ p. record { kind = kind_if p.0; bytes = p.1 }) node_again
 
 -- A tree: rows from directory and name to child, nodes by their numbers, the number of the first node that
 -- is made, how many nodes a core may make, and how many each core has made.
@@ -49,7 +50,9 @@ pub record TreeState : Type 0 where
 -- how a tree is stored
 abbrev pub tree_code : Coded TreeState
 tree_code =
-    code_by (FinMap key_cmp ℕ × (FinMap nat_cmp Node × (ℕ × (ℕ × List ℕ)))) (coded× (code (coded× coded_ℕ (coded_list coded_ℕ)) coded_ℕ) (coded× (code coded_ℕ node_code) (coded× coded_ℕ (coded× coded_ℕ (coded_list coded_ℕ))))) (λ t. (t.rows, (t.nodes, (t.first, (t.share, t.made))))) (λ p. record {
+    code_by (FinMap key_cmp ℕ × (FinMap nat_cmp Node × (ℕ × (ℕ × List ℕ))))
+    (coded× (code (coded× coded_ℕ (coded_list coded_ℕ)) coded_ℕ) (coded× (code coded_ℕ node_code) (coded× coded_ℕ (coded× coded_ℕ (coded_list coded_ℕ)))))
+    (λ t. (t.rows, (t.nodes, (t.first, (t.share, t.made))))) (λ p. record {
       rows = p.0;
       nodes = p.1.0;
       first = p.1.1.0;

@@ -31,7 +31,8 @@ module _ (first end : ℕ) (held : ℕ → Type 0) (pool : Pool) (row : IsRowOf 
   status_there n inside =
       let test : leb pool.first (pool.first + n) ≡ true = grind (arith, nat_tests) in
       let at : pool.first + n - pool.first ≡ n = omega arith in
-      ap (λ b. cond b (slice_get pool.statuses (pool.first + n - pool.first)) None) test ∙ ap (slice_get pool.statuses) at ∙ slice_get-get_or pool.statuses n Taken inside
+      ap (λ b. cond b (slice_get pool.statuses (pool.first + n - pool.first)) None) test ∙ ap (slice_get pool.statuses) at
+      ∙ slice_get-get_or pool.statuses n Taken inside
 
   few : length pool.statuses ≤ end
   few = by (length pool.statuses) refl

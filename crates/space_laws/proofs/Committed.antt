@@ -53,9 +53,12 @@ use Rattle.space_laws.proofs.Ended.{HoldsLater, ends_right}
 use Rattle.space_laws.proofs.Holders.{pointer_in, after_place, place_stays, fresh_is_granted, same_number, stands_apart}
 use Rattle.space_laws.proofs.Used.{block_is_used, grant_at}
 
-module _ (first : TreeState) (history : List Entry) (flushes : List Flush) (cut : Cut) (inodes : ℕ → Bool) (flush : Flush) (raised : Cut) (after : ℕ → Bool) (num : Numbering) (layout : Layout)
-    (store : ℕ → List ℕ) (parts : ℕ → Part) (nodes : List ℕ) (entries : List OldEntry) (plan : CommitPlan) (grant : GrantedNumbers) (later : List OldEntry) (tx : Tx) (old new : Space)
-    (is : IsPlannedFsync first history flushes cut inodes flush raised after num layout store parts nodes entries plan grant) (those : AreEntriesAfter nodes entries plan grant later)
+module _ (first : TreeState) (history : List Entry) (flushes : List Flush) (cut : Cut) (inodes : ℕ → Bool) (flush : Flush) (raised : Cut) (after : ℕ → Bool)
+    (num : Numbering) (layout : Layout)
+    (store : ℕ → List ℕ) (parts : ℕ → Part) (nodes : List ℕ) (entries : List OldEntry) (plan : CommitPlan) (grant : GrantedNumbers) (later : List OldEntry)
+    (tx : Tx) (old new : Space)
+    (is : IsPlannedFsync first history flushes cut inodes flush raised after num layout store parts nodes entries plan grant)
+    (those : AreEntriesAfter nodes entries plan grant later)
     (used : WasUsed plan tx old grant new) where
   abbrev old_tree : TreeState
   old_tree = tree_at_cut first history cut
@@ -78,7 +81,8 @@ module _ (first : TreeState) (history : List Entry) (flushes : List Flush) (cut 
   abbrev whole : IsCommitPlan num nodes old_tree new_tree image plan grant
   whole = over.full.sound.whole
 
-  apart : (a b : OldEntry) (place other block : ℕ) → Contains entries a → Contains entries b → place < PLACES → other < PLACES → block ≢ 0 → pointer_in a place ≡ block → pointer_in b other ≡ block → (a ≡ b) × (place ≡ other)
+  apart : (a b : OldEntry) (place other block : ℕ) → Contains entries a → Contains entries b → place < PLACES → other < PLACES → block ≢ 0
+      → pointer_in a place ≡ block → pointer_in b other ≡ block → (a ≡ b) × (place ≡ other)
   apart = stands_apart first history flushes cut inodes num layout store parts entries is.ready is.keeps
 
   -- an entry of the plan is one that memory keeps, of a node that the commit concerns
@@ -102,9 +106,16 @@ module _ (first : TreeState) (history : List Entry) (flushes : List Flush) (cut 
     same : seated_old change.changes entry ≡ seat
     stands : pointer_in entry place ≡ block
 
-  comes_from : (seat : Seated) → Contains change.seats seat → (block place : ℕ) → block ≢ 0 → (rewrite_in seat).pointers place ≡ block → ComesFrom seat block place
+  comes_from : (seat : Seated) → Contains change.seats seat → (block place : ℕ) → block ≢ 0 → (rewrite_in seat).pointers place ≡ block
+      → ComesFrom seat block place
   comes_from seat there block place some stands = elim (seat_comes num nodes old_tree new_tree image plan grant whole seat there) [
-    | inl (entry, stay, same) ↦ record { entry = entry; stays = stay; same = same; stands = sym (seat_pointer entry place) ∙ ap (λ (s : Seated). (rewrite_in s).pointers place) same ∙ stands }
+    | inl (entry, stay, same) ↦
+        record {
+          entry = entry;
+          stays = stay;
+          same = same;
+          stands = sym (seat_pointer entry place) ∙ ap (λ (s : Seated). (rewrite_in s).pointers place) same ∙ stands;
+        }
     | inr (one, enter, same) ↦ absurd (some (sym stands ∙ ap (λ (s : Seated). (rewrite_in s).pointers place) (sym same)
         ∙ begun_pointers change.changes (begun_entering one) (begun_entering one).kind place ∙ no_pointers one place))
   ]
@@ -116,7 +127,8 @@ module _ (first : TreeState) (history : List Entry) (flushes : List Flush) (cut 
   freed = tx.freed_blocks.items
 
   -- a block of an entry is not freed, where its node is not concerned, or it stays and does not give the block up there
-  aside_not_freed : (entry : OldEntry) (place block : ℕ) → Contains entries entry → is_among nodes entry.node.0 ≡ false → place < PLACES → block ≢ 0 → pointer_in entry place ≡ block → Contains freed block → ⊥
+  aside_not_freed : (entry : OldEntry) (place block : ℕ) → Contains entries entry → is_among nodes entry.node.0 ≡ false → place < PLACES → block ≢ 0
+      → pointer_in entry place ≡ block → Contains freed block → ⊥
   aside_not_freed entry place block there aside low some stands has = elim ((used.gives_up.freed_blocks.each block).0 has) [
     | inl seat ↦
         let from = comes_from seat.seat seat.one block seat.place some seat.left.stands in
@@ -130,7 +142,8 @@ module _ (first : TreeState) (history : List Entry) (flushes : List Flush) (cut 
           let same = apart entry twin place at block there own.0 low low_at some stands stands_at in
           true_not_false (sym own.1 ∙ ap (λ (e : OldEntry). is_among nodes e.node.0) (sym same.0) ∙ aside)
 
-  stays_not_freed : (seat : Seated) (place block : ℕ) (from : ComesFrom seat block place) → place < PLACES → block ≢ 0 → gives_up (rewrite_in seat) place ≡ false → Contains freed block → ⊥
+  stays_not_freed : (seat : Seated) (place block : ℕ) (from : ComesFrom seat block place) → place < PLACES → block ≢ 0
+      → gives_up (rewrite_in seat) place ≡ false → Contains freed block → ⊥
   stays_not_freed seat place block from low some keeps has = elim ((used.gives_up.freed_blocks.each block).0 has) [
     | inl left ↦
         let twin = comes_from left.seat left.one block left.place some left.left.stands in
@@ -140,7 +153,9 @@ module _ (first : TreeState) (history : List Entry) (flushes : List Flush) (cut 
         true_not_false (sym left.left.given_up ∙ sym (λ j. gives_up (rewrite_in (seats j)) (same.1 j)) ∙ keeps)
     | inr gone ↦
         let leaver = gone_entry gone.entry gone.one in
-        let same = apart from.entry gone.entry place gone.held.place block own.0 (planned_entry gone.entry leaver.0).0 low gone.held.within some from.stands gone.held.stands in
+        let same =
+        apart from.entry gone.entry place gone.held.place block own.0
+        (planned_entry gone.entry leaver.0).0 low gone.held.within some from.stands gone.held.stands in
         true_not_false (sym leaver.1 ∙ ap (leaves plan.leave) (sym same.0) ∙ (staying_entry from.entry from.stays).1)
   ]
     where
@@ -148,7 +163,8 @@ module _ (first : TreeState) (history : List Entry) (flushes : List Flush) (cut 
       own = planned_entry from.entry (staying_entry from.entry from.stays).0
 
   -- what is built at a place of the commit's nodes has there what its seat leaves there
-  built_pointer : (one : Built) (m : ℕ) (seat : Seated) (place : ℕ) → one ≡ built_by change.changes (numbers_with change grant.inodes) (fresh_cut change.seats grant.blocks m seat) seat → place < PLACES
+  built_pointer : (one : Built) (m : ℕ) (seat : Seated) (place : ℕ)
+      → one ≡ built_by change.changes (numbers_with change grant.inodes) (fresh_cut change.seats grant.blocks m seat) seat → place < PLACES
       → pointer_kept one.meta one.tables place ≡ pointer_remapped (rewrite_in seat) (fresh_cut change.seats grant.blocks m seat) place
   built_pointer one m seat place built_is low =
       ap (λ (b : Built). pointer_kept b.meta b.tables place) built_is
@@ -162,14 +178,23 @@ module _ (first : TreeState) (history : List Entry) (flushes : List Flush) (cut 
       aside_not_freed holder.entry holder.held.place block there aside holder.held.within holder.held.some holder.held.stands,
     )
     | inl made_of ↦
-        let one = mapped_is_in entry_after (nodes_with_grant change grant) holder.entry (ascending_is_in entry_node (map entry_after (nodes_with_grant change grant)) holder.entry made_of) in
-        by_node one.0 (node_built num nodes old_tree new_tree image plan grant over.full one.0 one.1) (ap (λ (e : OldEntry). pointer_in e holder.held.place) one.2 ∙ holder.held.stands)
+        let one =
+        mapped_is_in entry_after (nodes_with_grant change grant) holder.entry
+        (ascending_is_in entry_node (map entry_after (nodes_with_grant change grant)) holder.entry made_of) in
+        by_node one.0 (node_built num nodes old_tree new_tree image plan grant over.full one.0 one.1)
+        (ap (λ (e : OldEntry). pointer_in e holder.held.place) one.2 ∙ holder.held.stands)
   ]
     where
-      by_node : (one : Built) → IsBuiltNode num nodes old_tree new_tree image plan grant over.full one → pointer_kept one.meta one.tables holder.held.place ≡ block → Contains grant.blocks block ⊎ (held block × (Contains freed block → ⊥))
-      by_node one node stands = elim (after_place (rewrite_in node.seat) (fresh_for (rewrite_in node.seat) (fresh_cut change.seats grant.blocks node.m node.seat)) holder.held.place block holder.held.some
+      by_node : (one : Built) → IsBuiltNode num nodes old_tree new_tree image plan grant over.full one
+          → pointer_kept one.meta one.tables holder.held.place ≡ block → Contains grant.blocks block ⊎ (held block × (Contains freed block → ⊥))
+      by_node one node stands =
+          elim (after_place (rewrite_in node.seat)
+          (fresh_for (rewrite_in node.seat) (fresh_cut change.seats grant.blocks node.m node.seat)) holder.held.place block holder.held.some
           (sym (built_pointer one node.m node.seat holder.held.place node.is holder.held.within) ∙ stands)) [
-            | inl fresh ↦ inl (fresh_is_granted (rewrite_in node.seat) (blocks_taken node.seat) (sum_by blocks_taken (take node.m change.seats)) grant.blocks holder.held.place block holder.held.some fresh)
+            | inl fresh ↦
+                inl
+                (fresh_is_granted (rewrite_in node.seat) (blocks_taken node.seat)
+                (sum_by blocks_taken (take node.m change.seats)) grant.blocks holder.held.place block holder.held.some fresh)
             | inr (stood, keeps) ↦
                 let from = comes_from node.seat (there_is_in change.seats node.m node.seat node.at) block holder.held.place holder.held.some stood in
                 inr (
@@ -191,9 +216,17 @@ module _ (first : TreeState) (history : List Entry) (flushes : List Flush) (cut 
     where
       planned : Contains plan.old holder.entry → IsLeftByGone later block
       planned there = elim (cases_Bool (leaves plan.leave holder.entry)) [
-        | inl goes ↦ absurd (free ((used.gives_up.freed_blocks.each block).1 (inr (record { entry = holder.entry; one = in_kept (leaves plan.leave) plan.old holder.entry there goes; held = holder.held }))))
-        | inr stays ↦ seated_in (Contains-append_left (map (seated_old change.changes) (staying plan.old plan.leave)) (map (seated_entering change.changes) plan.enter) (seated_old change.changes holder.entry)
-            (in_mapped (seated_old change.changes) (staying plan.old plan.leave) holder.entry (in_kept (λ e. not (leaves plan.leave e)) plan.old holder.entry there (ap not stays))))
+        | inl goes ↦
+            absurd
+            (free
+            ((used.gives_up.freed_blocks.each block).1
+            (inr (record { entry = holder.entry; one = in_kept (leaves plan.leave) plan.old holder.entry there goes; held = holder.held }))))
+        | inr stays ↦
+            seated_in
+            (Contains-append_left (map (seated_old change.changes) (staying plan.old plan.leave)) (map (seated_entering change.changes) plan.enter)
+            (seated_old change.changes holder.entry)
+            (in_mapped (seated_old change.changes) (staying plan.old plan.leave) holder.entry
+            (in_kept (λ e. not (leaves plan.leave e)) plan.old holder.entry there (ap not stays))))
       ]
         where
           seat : Seated
@@ -208,19 +241,34 @@ module _ (first : TreeState) (history : List Entry) (flushes : List Flush) (cut 
               let built_in = there_is_in (nodes_with_grant change grant) m one (nodes_are_built_by_rank change grant m seat at).built in
               record {
                 entry = entry_after one;
-                one = (those.each (entry_after one)).1 (inl (built_is_kept first history flushes cut inodes flush raised after num layout store parts nodes entries plan grant is one built_in));
+                one =
+                    (those.each (entry_after one)).1
+                    (inl
+                    (built_is_kept first history flushes cut inodes flush raised after num layout store parts nodes entries plan grant is one
+                    built_in));
                 held = record {
                   some = holder.held.some;
                   place = holder.held.place;
                   within = holder.held.within;
                   stands = built_pointer one m seat holder.held.place refl holder.held.within
-                      ∙ place_stays (rewrite_in seat) (fresh_for (rewrite_in seat) (fresh_cut change.seats grant.blocks m seat)) holder.held.place block holder.held.some stands keeps;
+                      ∙ place_stays (rewrite_in seat)
+                      (fresh_for (rewrite_in seat) (fresh_cut change.seats grant.blocks m seat)) holder.held.place block holder.held.some stands keeps;
                 };
               }
 
           seated_in : Contains change.seats seat → IsLeftByGone later block
           seated_in in_seats = elim (cases_Bool (gives_up (rewrite_in seat) holder.held.place)) [
-            | inl given ↦ absurd (free ((used.gives_up.freed_blocks.each block).1 (inl (record { seat = seat; one = in_seats; place = holder.held.place; left = record { within = holder.held.within; given_up = given; stands = stands } }))))
+            | inl given ↦
+                absurd
+                (free
+                ((used.gives_up.freed_blocks.each block).1
+                (inl
+                (record {
+                  seat = seat;
+                  one = in_seats;
+                  place = holder.held.place;
+                  left = record { within = holder.held.within; given_up = given; stands = stands };
+                }))))
             | inr keeps ↦ let at = in_is_there change.seats seat in_seats in built_there at.0 at.1 keeps
           ]
 
@@ -230,7 +278,9 @@ module _ (first : TreeState) (history : List Entry) (flushes : List Flush) (cut 
       let one = block_is_used num nodes old_tree new_tree image plan grant store parts over block there in
       record {
         entry = entry_after one.0;
-        one = (those.each (entry_after one.0)).1 (inl (built_is_kept first history flushes cut inodes flush raised after num layout store parts nodes entries plan grant is one.0 one.1));
+        one =
+            (those.each (entry_after one.0)).1
+            (inl (built_is_kept first history flushes cut inodes flush raised after num layout store parts nodes entries plan grant is one.0 one.1));
         held = one.2;
       }
 
@@ -283,7 +333,8 @@ module _ (first : TreeState) (history : List Entry) (flushes : List Flush) (cut 
         where
           by_number : (o : Option ℕ) → num node ≡ o → Contains grant.inodes i ⊎ (inodes_of entries i × (Contains left i → ⊥))
           by_number None e =
-              let at = granted (map enter_node plan.enter) grant.inodes node i (sym (after_none num nodes old_tree new_tree image plan grant whole node e) ∙ has) in
+              let at =
+              granted (map enter_node plan.enter) grant.inodes node i (sym (after_none num nodes old_tree new_tree image plan grant whole node e) ∙ has) in
               inl (subst (λ n. Contains grant.inodes n) at.number (Contains-get_or grant.inodes at.place 0 at.within))
           by_number (Some j) e = elim (cases_Bool (node_leaves plan.leave node)) [
             | inl goes ↦ absurd (none_some (sym (ap (λ b. cond b None (Some j)) goes) ∙ sym (had_later node j e) ∙ has))
@@ -291,14 +342,19 @@ module _ (first : TreeState) (history : List Entry) (flushes : List Flush) (cut 
                 let same : j ≡ i = some_same (sym (ap (λ b. cond b None (Some j)) stays) ∙ sym (had_later node j e) ∙ has) in
                 let own = is.keeps.all node j e in
                 let number : own.0.old.number ≡ i = some_same (sym (is.keeps.each own.0 own.1).0 ∙ ap num own.2 ∙ e) ∙ same in
-                inr (subst (λ n. inodes_of entries n) number (in_mapped entry_number entries own.0 own.1), not_left own.0 own.1 number (ap (node_leaves plan.leave) own.2 ∙ stays))
+                inr (
+                  subst (λ n. inodes_of entries n) number (in_mapped entry_number entries own.0 own.1),
+                  not_left own.0 own.1 number (ap (node_leaves plan.leave) own.2 ∙ stays),
+                )
           ]
             where
               not_left : (entry : OldEntry) → Contains entries entry → entry.old.number ≡ i → leaves plan.leave entry ≡ false → Contains left i → ⊥
               not_left entry there number stays has_left =
                   let gone = mapped_is_in entry_number change.gone i ((used.gives_up.freed_inodes.each i).0 has_left) in
                   let leaver = gone_entry gone.0 gone.1 in
-                  let same = same_number first history flushes cut inodes num layout store parts entries is.ready is.keeps entry gone.0 there (planned_entry gone.0 leaver.0).0 (number ∙ sym gone.2) in
+                  let same =
+                  same_number first history flushes cut inodes num layout store parts entries is.ready is.keeps entry gone.0 there
+                  (planned_entry gone.0 leaver.0).0 (number ∙ sym gone.2) in
                   true_not_false (sym leaver.1 ∙ ap (leaves plan.leave) (sym same) ∙ stays)
 
   inode_still : (i : ℕ) → inodes_of entries i → (Contains left i → ⊥) → inodes_of later i
@@ -312,8 +368,13 @@ module _ (first : TreeState) (history : List Entry) (flushes : List Flush) (cut 
         | inl among ↦ elim (cases_Bool (leaves plan.leave entry)) [
           | inl goes ↦
               let in_gone = in_kept (leaves plan.leave) plan.old entry (is.plans.old.all entry in_entries among) goes in
-              absurd (free ((used.gives_up.freed_inodes.each i).1 (subst (λ n. inodes_of change.gone n) number (in_mapped entry_number change.gone entry in_gone))))
-          | inr stays ↦ inode_later entry.node.0 i (had_later entry.node.0 entry.old.number (is.keeps.each entry in_entries).0 ∙ ap (λ b. cond b None (Some entry.old.number)) stays ∙ ap Some number)
+              absurd
+              (free
+              ((used.gives_up.freed_inodes.each i).1 (subst (λ n. inodes_of change.gone n) number (in_mapped entry_number change.gone entry in_gone))))
+          | inr stays ↦
+              inode_later entry.node.0 i
+              (had_later entry.node.0 entry.old.number (is.keeps.each entry in_entries).0 ∙ ap (λ b. cond b None (Some entry.old.number)) stays
+              ∙ ap Some number)
         ]
       ]
 
@@ -339,9 +400,14 @@ module _ (first : TreeState) (history : List Entry) (flushes : List Flush) (cut 
   }
 
 pub commits_keep_maps : CommitsKeepMaps
-commits_keep_maps first history flushes cut inodes flush raised after num layout store parts nodes entries plan grant later tx old new is those mapped used = record {
-  blocks = ends_right (data_start layout) layout.blocks (IsLeftByGone entries) (IsLeftByGone later) old.blocks new.blocks grant.blocks tx.freed_blocks.items mapped.blocks used.blocks
-      (blocks_hold first history flushes cut inodes flush raised after num layout store parts nodes entries plan grant later tx old new is those used);
-  inodes = ends_right 0 layout.inodes (Contains (map entry_number entries)) (Contains (map entry_number later)) old.inodes new.inodes grant.inodes tx.freed_inodes.items mapped.inodes used.inodes
-      (inodes_hold first history flushes cut inodes flush raised after num layout store parts nodes entries plan grant later tx old new is those used);
-}
+commits_keep_maps first history flushes cut inodes flush raised after num layout store parts nodes entries plan grant later tx old new is those mapped used =
+    record {
+      blocks =
+          ends_right (data_start layout) layout.blocks (IsLeftByGone entries)
+          (IsLeftByGone later) old.blocks new.blocks grant.blocks tx.freed_blocks.items mapped.blocks used.blocks
+          (blocks_hold first history flushes cut inodes flush raised after num layout store parts nodes entries plan grant later tx old new is those used);
+      inodes =
+          ends_right 0 layout.inodes (Contains (map entry_number entries))
+          (Contains (map entry_number later)) old.inodes new.inodes grant.inodes tx.freed_inodes.items mapped.inodes used.inodes
+          (inodes_hold first history flushes cut inodes flush raised after num layout store parts nodes entries plan grant later tx old new is those used);
+    }

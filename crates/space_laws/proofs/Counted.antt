@@ -41,19 +41,24 @@ use Rattle.space_laws.proofs.Served.{data_behind_super}
 count_is_rank : {X : Type 0} (test : X → Bool) (xs : List X) (d : X) (n : ℕ) → n ≤ length xs → count_by test (take n xs) ≡ rank (λ k. test (get_or xs k d)) n
 count_is_rank test xs d zero low = ap (count_by test) (take_none xs) ∙ sym (none_counted (λ k. test (get_or xs k d)))
 count_is_rank test xs d (suc n) low =
-    ap (λ k. count_by test (take k xs)) (suc_is_one_more n) ∙ by (test (get_or xs n d)) refl (count_is_rank test xs d n (omega (arith, low))) ∙ sym (rank_more (λ k. test (get_or xs k d)) n)
+    ap (λ k. count_by test (take k xs)) (suc_is_one_more n) ∙ by (test (get_or xs n d)) refl (count_is_rank test xs d n (omega (arith, low)))
+    ∙ sym (rank_more (λ k. test (get_or xs k d)) n)
   where
-    by : (b : Bool) → test (get_or xs n d) ≡ b → count_by test (take n xs) ≡ rank (λ k. test (get_or xs k d)) n → count_by test (take (n + 1) xs) ≡ rank (λ k. test (get_or xs k d)) n + cond (test (get_or xs n d)) 1 0
-    by true e rest = count_by_more_yes test xs n d (omega (arith, low)) e ∙ ap (λ k. k + 1) rest ∙ ap (λ b. rank (λ k. test (get_or xs k d)) n + cond b 1 0) (sym e)
+    by : (b : Bool) → test (get_or xs n d) ≡ b → count_by test (take n xs) ≡ rank (λ k. test (get_or xs k d)) n
+        → count_by test (take (n + 1) xs) ≡ rank (λ k. test (get_or xs k d)) n + cond (test (get_or xs n d)) 1 0
+    by true e rest =
+        count_by_more_yes test xs n d (omega (arith, low)) e ∙ ap (λ k. k + 1) rest ∙ ap (λ b. rank (λ k. test (get_or xs k d)) n + cond b 1 0) (sym e)
     by false e rest =
         let none : rank (λ k. test (get_or xs k d)) n ≡ rank (λ k. test (get_or xs k d)) n + 0 = omega arith in
         count_by_more_no test xs n d (omega (arith, low)) e ∙ rest ∙ none ∙ ap (λ b. rank (λ k. test (get_or xs k d)) n + cond b 1 0) (sym e)
 
 -- a number with a status lies in its row
-inside_row : (pool : Pool) (number : ℕ) (status : Status) → status_of pool number ≡ Some status → (pool.first ≤ number) × (number - pool.first < length pool.statuses)
+inside_row : (pool : Pool) (number : ℕ) (status : Status) → status_of pool number ≡ Some status
+    → (pool.first ≤ number) × (number - pool.first < length pool.statuses)
 inside_row pool number status has = by (leb pool.first number) refl has
   where
-    by : (b : Bool) → leb pool.first number ≡ b → cond b (slice_get pool.statuses (number - pool.first)) None ≡ Some status → (pool.first ≤ number) × (number - pool.first < length pool.statuses)
+    by : (b : Bool) → leb pool.first number ≡ b → cond b (slice_get pool.statuses (number - pool.first)) None ≡ Some status
+        → (pool.first ≤ number) × (number - pool.first < length pool.statuses)
     by true e is = (leb-true pool.first number e, slice_get_within pool.statuses (number - pool.first) status is)
     by false e is = absurd (none_some is)
 
@@ -88,7 +93,8 @@ module _ (first end : ℕ) (held : ℕ → Type 0) (pool : Pool) (row : IsRowOf 
       omega (arith, begin, start)
 
   -- so it counts the numbers of its range that are not held
-  pub counts_free : (free : ℕ → Bool) → ((number : ℕ) → status_of pool number ≢ Some Granted) → ((number : ℕ) → first ≤ number → number < end → (free number ≡ false) ↔ held number)
+  pub counts_free : (free : ℕ → Bool) → ((number : ℕ) → status_of pool number ≢ Some Granted)
+      → ((number : ℕ) → first ≤ number → number < end → (free number ≡ false) ↔ held number)
       → free_count pool ≡ rank (λ n. free (first + n)) (end - first)
   counts_free free none_granted tells =
       ap (count_by is_free) (sym (take_all (length pool.statuses) pool.statuses (omega arith)))
@@ -110,7 +116,8 @@ module _ (first end : ℕ) (held : ℕ → Type 0) (pool : Pool) (row : IsRowOf 
             | inr f ↦ absurd (let never : Free ≡ Taken = row.held_is_taken (first + k) Free has ((tells (first + k) spans.0 spans.1).0 f) in cc)
           ]
 
-module _ (first : TreeState) (history : List Entry) (flushes : List Flush) (cut : Cut) (inodes : ℕ → Bool) (num : Numbering) (layout : Layout) (store : ℕ → List ℕ) (parts : ℕ → Part) (entries : List OldEntry)
+module _ (first : TreeState) (history : List Entry) (flushes : List Flush) (cut : Cut) (inodes : ℕ → Bool) (num : Numbering) (layout : Layout)
+    (store : ℕ → List ℕ) (parts : ℕ → Part) (entries : List OldEntry)
     (ready : IsBetweenCommits first history flushes cut inodes num layout store parts) (keeps : KeepsEntries num parts entries) where
   abbrev image : SeenInodes
   image = inodes_shown layout parts
@@ -118,7 +125,8 @@ module _ (first : TreeState) (history : List Entry) (flushes : List Flush) (cut 
   -- the inode of an entry is in use
   in_use : (entry : OldEntry) → Contains entries entry → (image.seen entry.old.number).kind ≢ 0
   in_use entry in_entries none =
-      not_used (kind_of (tree_at_cut first history cut) entry.node.0) (sym (ready.stands.each entry.node.0 entry.old.number (keeps.each entry in_entries).0).kind ∙ none)
+      not_used (kind_of (tree_at_cut first history cut) entry.node.0)
+      (sym (ready.stands.each entry.node.0 entry.old.number (keeps.each entry in_entries).0).kind ∙ none)
 
   -- An inode that is in use is that of an entry.
   used_entry : (i : ℕ) → i < layout.inodes → (image.seen i).kind ≢ 0 → (entry : OldEntry) × Contains entries entry × (entry.old.number ≡ i)
@@ -156,7 +164,9 @@ module _ (first : TreeState) (history : List Entry) (flushes : List Flush) (cut 
               some = λ none. let behind = data_behind_super layout in omega (arith, lies, behind, none);
               place = by.place;
               within = by.low;
-              stands = shown_at first history flushes cut inodes num layout store parts entries ready keeps entry.0 entry.1 by.place by.low ∙ ap (λ n. (image.seen n).blocks by.place) entry.2 ∙ by.has;
+              stands =
+                  shown_at first history flushes cut inodes num layout store parts entries ready keeps entry.0 entry.1 by.place by.low
+                  ∙ ap (λ n. (image.seen n).blocks by.place) entry.2 ∙ by.has;
             };
           }
 
@@ -167,16 +177,22 @@ module _ (first : TreeState) (history : List Entry) (flushes : List Flush) (cut 
         within = low_number first history flushes cut inodes num layout store parts entries ready keeps left.entry left.one;
         low = left.held.within;
         used = in_use left.entry left.one;
-        has = sym (shown_at first history flushes cut inodes num layout store parts entries ready keeps left.entry left.one left.held.place left.held.within) ∙ left.held.stands;
+        has =
+            sym (shown_at first history flushes cut inodes num layout store parts entries ready keeps left.entry left.one left.held.place left.held.within)
+            ∙ left.held.stands;
       }))
 
 pub maps_count_free : MapsCountFree
 maps_count_free first history flushes cut inodes num layout store parts entries space ready keeps mapped none = record {
   inodes =
-      counts_free 0 layout.inodes (Contains (map entry_number entries)) space.inodes mapped.inodes (is_unused (inodes_shown layout parts)) none.inodes (λ i low high. inodes_tell first history flushes cut inodes num layout store parts entries ready keeps i high)
-      ∙ rank_agrees (λ n. is_unused (inodes_shown layout parts) (0 + n)) (is_unused (inodes_shown layout parts)) (layout.inodes - 0) (λ k low. ap (is_unused (inodes_shown layout parts)) (zero_plus k))
+      counts_free 0 layout.inodes (Contains (map entry_number entries)) space.inodes mapped.inodes (is_unused (inodes_shown layout parts)) none.inodes
+      (λ i low high. inodes_tell first history flushes cut inodes num layout store parts entries ready keeps i high)
+      ∙ rank_agrees (λ n. is_unused (inodes_shown layout parts) (0 + n)) (is_unused (inodes_shown layout parts)) (layout.inodes - 0)
+      (λ k low. ap (is_unused (inodes_shown layout parts)) (zero_plus k))
       ∙ ap (rank (is_unused (inodes_shown layout parts))) (whole layout.inodes);
-  blocks = counts_free (data_start layout) layout.blocks (IsLeftByGone entries) space.blocks mapped.blocks (λ block. not (is_held_in (inodes_shown layout parts) block)) none.blocks
+  blocks =
+      counts_free (data_start layout) layout.blocks (IsLeftByGone entries) space.blocks mapped.blocks
+      (λ block. not (is_held_in (inodes_shown layout parts) block)) none.blocks
       (λ block low high. blocks_tell first history flushes cut inodes num layout store parts entries ready keeps block low);
 }
   where

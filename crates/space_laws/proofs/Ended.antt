@@ -19,7 +19,8 @@ never_taken Free e = cc
 never_taken Taken e = cc
 never_taken Granted e = cc
 
-module _ (first end : ℕ) (held later : ℕ → Type 0) (old new : Pool) (granted freed : List ℕ) (row : IsRowOf first end held old) (ends : Ends granted freed old new) (holds : HoldsLater held later granted freed) where
+module _ (first end : ℕ) (held later : ℕ → Type 0) (old new : Pool) (granted freed : List ℕ) (row : IsRowOf first end held old)
+    (ends : Ends granted freed old new) (holds : HoldsLater held later granted freed) where
   abbrev ended : ℕ → Bool → Bool → Option Status
   ended number g f = cond g (option_map (λ _. Taken) (status_of old number)) (cond f (option_map released (status_of old number)) (status_of old number))
 
@@ -27,7 +28,8 @@ module _ (first end : ℕ) (held later : ℕ → Type 0) (old new : Pool) (grant
   came : (number : ℕ) (status : Status) (g f : Bool) → ended number g f ≡ Some status → (before : Status) × (status_of old number ≡ Some before)
   came number status g f has = by (status_of old number) refl g f has
     where
-      by : (o : Option Status) → status_of old number ≡ o → (g f : Bool) → cond g (option_map (λ _. Taken) o) (cond f (option_map released o) o) ≡ Some status → (before : Status) × (status_of old number ≡ Some before)
+      by : (o : Option Status) → status_of old number ≡ o → (g f : Bool) → cond g (option_map (λ _. Taken) o) (cond f (option_map released o) o) ≡ Some status
+          → (before : Status) × (status_of old number ≡ Some before)
       by (Some before) e g f has = (before, e)
       by None e true f has = absurd (none_some has)
       by None e false true has = absurd (none_some has)
@@ -38,7 +40,8 @@ module _ (first end : ℕ) (held later : ℕ → Type 0) (old new : Pool) (grant
   goes number before e false true = (released before, ap (option_map released) e)
   goes number before e false false = (before, e)
 
-  taken : (number : ℕ) (status : Status) → later number → (g f : Bool) → is_listed granted number ≡ g → is_listed freed number ≡ f → ended number g f ≡ Some status → status ≡ Taken
+  taken : (number : ℕ) (status : Status) → later number → (g f : Bool) → is_listed granted number ≡ g → is_listed freed number ≡ f
+      → ended number g f ≡ Some status → status ≡ Taken
   taken number status is true f g_is f_is has =
       let before = came number status true f has in
       some_same (sym has ∙ ap (option_map (λ _. Taken)) before.1)

@@ -116,10 +116,12 @@ rows_named block row none there =
     row_named (part (264 * k.0) 264 block) row (slot_in-sound block none k.0 (in_range k.0 k.1)) k.2
   where
     in_range : (k : ℕ) → Contains (range_with_len 0 15) k → k < 15
-    in_range k (i, within, is) = let low = length-range_with_len 0 15 in let at = get_or-range_with_len 0 15 i k (omega (arith, within, low)) in omega (arith, is, at, within, low)
+    in_range k (i, within, is) = let low = length-range_with_len 0 15 in let at = get_or-range_with_len 0 15 i k (omega (arith, within, low)) in
+        omega (arith, is, at, within, low)
 
 -- what holds of all slots holds of each
-each_of : (image : SeenInodes) (slots : List (Option Row)) → AllByRecursion (MayStand image) slots → (slot : Option Row) → Contains slots slot → MayStand image slot
+each_of : (image : SeenInodes) (slots : List (Option Row)) → AllByRecursion (MayStand image) slots → (slot : Option Row) → Contains slots slot
+    → MayStand image slot
 each_of image [] all slot (k, within, is) = absurd (omega arith)
 each_of image (first ∷ slots) all slot (zero, within, is) = subst (MayStand image) is all.0
 each_of image (first ∷ slots) all slot (suc k, within, is) = each_of image slots all.1 slot (k, omega arith, is)
@@ -133,8 +135,10 @@ number_of_old : (changes : CommitChanges) (begun : Begun) (kind : Kind) → (sea
 number_of_old changes begun File = refl
 number_of_old changes begun Directory = refl
 
-module _ (first : TreeState) (history : List Entry) (flushes : List Flush) (cut : Cut) (inodes : ℕ → Bool) (num : Numbering) (layout : Layout) (store : ℕ → List ℕ) (parts : ℕ → Part) (entries : List OldEntry) (plan : CommitPlan) (grant : GrantedNumbers)
-    (ready : IsBetweenCommits first history flushes cut inodes num layout store parts) (keeps : KeepsEntries num parts entries) (owned : (entry : OldEntry) → Contains plan.old entry → Contains entries entry)
+module _ (first : TreeState) (history : List Entry) (flushes : List Flush) (cut : Cut) (inodes : ℕ → Bool) (num : Numbering) (layout : Layout)
+    (store : ℕ → List ℕ) (parts : ℕ → Part) (entries : List OldEntry) (plan : CommitPlan) (grant : GrantedNumbers)
+    (ready : IsBetweenCommits first history flushes cut inodes num layout store parts) (keeps : KeepsEntries num parts entries)
+    (owned : (entry : OldEntry) → Contains plan.old entry → Contains entries entry)
     (names : BringsNames plan.nets) (serves : ServesPlan (inodes_shown layout parts) plan grant) where
   abbrev image : SeenInodes
   image = inodes_shown layout parts
@@ -152,14 +156,16 @@ module _ (first : TreeState) (history : List Entry) (flushes : List Flush) (cut 
   number_low entry there = ready.stands.within entry.node.0 entry.old.number (keeps.each entry there).0
 
   -- the blocks that an entry has fit any net
-  old_fits : (net : List NetRow) (entry : OldEntry) → Contains entries entry → (block : List (Option Row)) → Contains entry.old.kept.slots block → BlockFits net block
+  old_fits : (net : List NetRow) (entry : OldEntry) → Contains entries entry → (block : List (Option Row)) → Contains entry.old.kept.slots block
+      → BlockFits net block
   old_fits net entry there block in_slots =
       by (is_directory_part (parts entry.old.number)) refl (subst (λ (k : Kept). Contains k.slots block) kept_is in_slots)
     where
       kept_is : entry.old.kept ≡ kept_of (parts entry.old.number)
       kept_is = (keeps.each entry there).1
 
-      by : (b : Bool) → is_directory_part (parts entry.old.number) ≡ b → Contains (cond b (map slots_of (directory_blocks (parts entry.old.number))) []) block → BlockFits net block
+      by : (b : Bool) → is_directory_part (parts entry.old.number) ≡ b → Contains (cond b (map slots_of (directory_blocks (parts entry.old.number))) []) block
+          → BlockFits net block
       by false e (k, within, is) = absurd (omega arith)
       by true e has = record { count = shows.blocks block has_kept; slots = slots_fit net block each }
         where
@@ -173,14 +179,20 @@ module _ (first : TreeState) (history : List Entry) (flushes : List Flush) (cut 
           raw = mapped_is_in slots_of (directory_blocks (parts entry.old.number)) block has
 
           sound : slots_fault raw.0 ≡ None
-          sound = All-contains (λ b. slots_fault b ≡ None) (directory_blocks (parts entry.old.number)) raw.0 ((slots_say (parts entry.old.number)).0 (good_part layout parts ready.sound.good entry.old.number (number_low entry there)).slots e) raw.1
+          sound =
+              All-contains (λ b. slots_fault b ≡ None) (directory_blocks (parts entry.old.number)) raw.0
+              ((slots_say (parts entry.old.number)).0 (good_part layout parts ready.sound.good entry.old.number (number_low entry there)).slots e) raw.1
 
           each : (slot : Option Row) → Contains block slot → SlotFits net slot
           each None in_block = tt
           each (Some row) in_block =
               let in_seen : Contains (seen_of (parts entry.old.number)).slots (Some row) =
-              subst (λ those. Contains those (Some row)) shows.slots (in_flat (λ (b : List (Option Row)). b) (kept_slots (parts entry.old.number)) block (Some row) has_kept in_block) in
-              let may = each_of image (image.seen entry.old.number).slots (rules.children entry.old.number (number_low entry there, eqb-true (inode_in (parts entry.old.number)).kind (kind_byte Directory) e)) (Some row) in_seen in
+              subst (λ those. Contains those (Some row)) shows.slots
+              (in_flat (λ (b : List (Option Row)). b) (kept_slots (parts entry.old.number)) block (Some row) has_kept in_block) in
+              let may =
+              each_of image (image.seen entry.old.number).slots
+              (rules.children entry.old.number (number_low entry there, eqb-true (inode_in (parts entry.old.number)).kind (kind_byte Directory) e))
+              (Some row) in_seen in
               record {
                 name = rows_named raw.0 row sound (subst (λ those. Contains those (Some row)) (sym raw.2) in_block);
                 inode = λ _. let within = may.within in let few = ready.sound.ranges.inodes_high in omega (arith, within, few);
@@ -190,7 +202,8 @@ module _ (first : TreeState) (history : List Entry) (flushes : List Flush) (cut 
   good_names : (node : ℕ) (row : NetRow) → Contains (net_of_node plan.nets node) row → name_fault row.name ≡ None
   good_names node row there = by (item_with net_node node plan.nets) refl there
     where
-      by : (o : Option DirectoryNet) → item_with net_node node plan.nets ≡ o → Contains (option_map_or (λ (one : DirectoryNet). one.net.items) o []) row → name_fault row.name ≡ None
+      by : (o : Option DirectoryNet) → item_with net_node node plan.nets ≡ o → Contains (option_map_or (λ (one : DirectoryNet). one.net.items) o []) row
+          → name_fault row.name ≡ None
       by None e (k, within, is) = absurd (omega arith)
       by (Some one) e has = names one (found_is_in (λ item. nat_eq (net_node item) node) plan.nets one e) row has
 
@@ -211,20 +224,22 @@ module _ (first : TreeState) (history : List Entry) (flushes : List Flush) (cut 
     low : Low begun.number
 
   seat_begun : (seat : Seated) → Contains change.seats seat → IsBegun seat
-  seat_begun seat there = elim (Contains-append_cases (map (seated_old change.changes) (staying plan.old plan.leave)) (map (seated_entering change.changes) plan.enter) seat there) [
-    | inl stays ↦
-        let entry = mapped_is_in (seated_old change.changes) (staying plan.old plan.leave) seat stays in
-        let in_entries = owned entry.0 (kept_in (λ e. not (leaves plan.leave e)) plan.old entry.0 entry.1).0 in
-        record {
-          begun = begun_old entry.0;
-          same = entry.2;
-          slots = old_fits (net_of_node plan.nets entry.0.node.0) entry.0 in_entries;
-          low = let within = number_low entry.0 in_entries in let few = ready.sound.ranges.inodes_high in omega (arith, within, few);
-        }
-    | inr enters ↦
-        let one = mapped_is_in (seated_entering change.changes) plan.enter seat enters in
-        record { begun = begun_entering one.0; same = one.2; slots = λ block has. absurd (let within = has.1 in omega arith); low = omega arith }
-  ]
+  seat_begun seat there =
+      elim (Contains-append_cases (map (seated_old change.changes) (staying plan.old plan.leave))
+      (map (seated_entering change.changes) plan.enter) seat there) [
+        | inl stays ↦
+            let entry = mapped_is_in (seated_old change.changes) (staying plan.old plan.leave) seat stays in
+            let in_entries = owned entry.0 (kept_in (λ e. not (leaves plan.leave e)) plan.old entry.0 entry.1).0 in
+            record {
+              begun = begun_old entry.0;
+              same = entry.2;
+              slots = old_fits (net_of_node plan.nets entry.0.node.0) entry.0 in_entries;
+              low = let within = number_low entry.0 in_entries in let few = ready.sound.ranges.inodes_high in omega (arith, within, few);
+            }
+        | inr enters ↦
+            let one = mapped_is_in (seated_entering change.changes) plan.enter seat enters in
+            record { begun = begun_entering one.0; same = one.2; slots = λ block has. absurd (let within = has.1 in omega arith); low = omega arith }
+      ]
 
   -- each number that the commit gives has 32 bits: it is an old one, or one of the grant
   known_low : (n : ℕ) → IsOwnOrGranted change.seats grant.inodes n → n < 2 ^ 32
@@ -251,17 +266,29 @@ module _ (first : TreeState) (history : List Entry) (flushes : List Flush) (cut 
     | inl old_one ↦
         let entry = mapped_is_in entry_node (staying plan.old plan.leave) node (among_is_in (map entry_node (staying plan.old plan.leave)) node old_one) in
         seated_low node (seated_old change.changes entry.0)
-        (Contains-append_left (map (seated_old change.changes) (staying plan.old plan.leave)) (map (seated_entering change.changes) plan.enter) _ (in_mapped (seated_old change.changes) (staying plan.old plan.leave) entry.0 entry.1))
+        (Contains-append_left (map (seated_old change.changes) (staying plan.old plan.leave)) (map (seated_entering change.changes) plan.enter) _
+        (in_mapped (seated_old change.changes) (staying plan.old plan.leave) entry.0 entry.1))
         (planned_node change.changes (begun_old entry.0) (begun_old entry.0).kind ∙ entry.2)
     | inr no_old ↦ elim (cases_Bool (is_among (map enter_node plan.enter) node)) [
       | inl new_one ↦
           let one = mapped_is_in enter_node plan.enter node (among_is_in (map enter_node plan.enter) node new_one) in
           seated_low node (seated_entering change.changes one.0)
-          (Contains-append_right (map (seated_old change.changes) (staying plan.old plan.leave)) (map (seated_entering change.changes) plan.enter) _ (in_mapped (seated_entering change.changes) plan.enter one.0 one.1))
+          (Contains-append_right (map (seated_old change.changes) (staying plan.old plan.leave)) (map (seated_entering change.changes) plan.enter) _
+          (in_mapped (seated_entering change.changes) plan.enter one.0 one.1))
           (planned_node change.changes (begun_entering one.0) (begun_entering one.0).kind ∙ one.2)
       | inr no_new ↦ subst Low (sym (unnumbered change.changes (staying plan.old plan.leave) plan.enter grant.inodes node
-          (λ entry there same. true_not_false (sym (in_is_among (map entry_node (staying plan.old plan.leave)) node (subst (λ n. Contains (map entry_node (staying plan.old plan.leave)) n) same (in_mapped entry_node (staying plan.old plan.leave) entry there))) ∙ no_old))
-          (λ one there same. true_not_false (sym (in_is_among (map enter_node plan.enter) node (subst (λ n. Contains (map enter_node plan.enter) n) same (in_mapped enter_node plan.enter one there))) ∙ no_new)))) (omega arith)
+          (λ entry there same. true_not_false
+          (sym
+          (in_is_among (map entry_node (staying plan.old plan.leave)) node
+          (subst (λ n. Contains (map entry_node (staying plan.old plan.leave)) n) same
+          (in_mapped entry_node (staying plan.old plan.leave) entry there)))
+          ∙ no_old))
+          (λ one there same. true_not_false
+          (sym
+          (in_is_among (map enter_node plan.enter) node
+          (subst (λ n. Contains (map enter_node plan.enter) n) same (in_mapped enter_node plan.enter one there)))
+          ∙ no_new))))
+          (omega arith)
     ]
   ]
 
@@ -270,25 +297,34 @@ module _ (first : TreeState) (history : List Entry) (flushes : List Flush) (cut 
   filled one there block in_slots =
       let at = in_is_there (nodes_with_grant change grant) one there in
       let within = slice_get_within (nodes_with_grant change grant) at.0 one at.1 in
-      let seat = some_there change.seats at.0 (omega (arith, within, length_built change.changes (numbers_with change grant.inodes) change.seats grant.blocks)) in
-      by seat.0 (seat_begun seat.0 (there_is_in change.seats at.0 seat.0 seat.1)) (fresh_cut change.seats grant.blocks at.0 seat.0) (some_same (sym at.1 ∙ (nodes_are_built_by_rank change grant at.0 seat.0 seat.1).built))
+      let seat =
+      some_there change.seats at.0 (omega (arith, within, length_built change.changes (numbers_with change grant.inodes) change.seats grant.blocks)) in
+      by seat.0 (seat_begun seat.0 (there_is_in change.seats at.0 seat.0 seat.1)) (fresh_cut change.seats grant.blocks at.0 seat.0)
+      (some_same (sym at.1 ∙ (nodes_are_built_by_rank change grant at.0 seat.0 seat.1).built))
     where
       by : (seat : Seated) → IsBegun seat → (fresh : List ℕ) → one ≡ built_by change.changes (numbers_with change grant.inodes) fresh seat → AreSlots block
       by seat is fresh made =
           let node : seat.node ≡ is.begun.node = ap (λ (s : Seated). s.node) (sym is.same) ∙ planned_node change.changes is.begun is.begun.kind in
-          let before = mapped_is_in (block_numbered (numbers_with change grant.inodes) (net_of_node plan.nets seat.node)) seat.slots block (subst (λ (b : Built). Contains b.slots block) made in_slots) in
+          let before =
+          mapped_is_in (block_numbered (numbers_with change grant.inodes) (net_of_node plan.nets seat.node)) seat.slots block
+          (subst (λ (b : Built). Contains b.slots block) made in_slots) in
           let fits = seated_fits is.begun is.begun.kind is.slots before.0 (subst (λ (s : Seated). Contains s.slots before.0) (sym is.same) before.1) in
-          subst AreSlots before.2 (block_stands (net_of_node plan.nets seat.node) (numbers_with change grant.inodes) numbers_are_low before.0 (subst (λ n. BlockFits (net_of_node plan.nets n) before.0) (sym node) fits))
+          subst AreSlots before.2
+          (block_stands (net_of_node plan.nets seat.node) (numbers_with change grant.inodes) numbers_are_low before.0
+          (subst (λ n. BlockFits (net_of_node plan.nets n) before.0) (sym node) fits))
 
 pub plans_fill_slots : PlansFillSlots
 plans_fill_slots first history flushes cut inodes flush raised after num layout store parts nodes entries plan grant ready keeps plans names serves =
     filled first history flushes cut inodes num layout store parts entries plan grant ready keeps (λ entry there. (plans.old.own entry there).0) names serves
 
 pub grants_serve_plans : GrantsServePlans
-grants_serve_plans first history flushes cut inodes flush raised after num layout store parts nodes entries plan old new grant ready keeps plans names mapped granted =
+grants_serve_plans first history flushes cut inodes flush raised after num layout store parts nodes entries plan old new grant ready keeps plans names mapped
+    granted =
     let serves = grants_serve first history flushes cut inodes num layout store parts entries plan old new grant ready keeps mapped granted in
     record {
       serves = serves.serves;
       lies = serves.lies;
-      slots = plans_fill_slots first history flushes cut inodes flush raised after num layout store parts nodes entries plan grant ready keeps plans names serves.serves;
+      slots =
+          plans_fill_slots first history flushes cut inodes flush raised after num layout store parts nodes entries plan grant ready keeps plans names
+          serves.serves;
     }

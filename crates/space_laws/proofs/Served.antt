@@ -36,7 +36,8 @@ use Rattle.space_laws.specs.Map.{IsMapOf, WasGranted}
 use Rattle.space_laws.proofs.Asked.{all_asked, enters_counted}
 
 -- numbers that ascend stand once
-stands_once : (numbers : List ℕ) → IsStrictlyIncreasing numbers → (j k : ℕ) → j < length numbers → k < length numbers → slice_index numbers j ≡ slice_index numbers k → j ≡ k
+stands_once : (numbers : List ℕ) → IsStrictlyIncreasing numbers → (j k : ℕ) → j < length numbers → k < length numbers
+    → slice_index numbers j ≡ slice_index numbers k → j ≡ k
 stands_once numbers rise j k jn kn same = elim (cases_lt j k) [
   | inl below ↦ absurd (let less = AllPairs-from_increasing numbers rise j k 0 below kn in omega (arith, less, same))
   | inr above ↦ elim (cases_lt k j) [
@@ -101,7 +102,8 @@ module _ (first : TreeState) (history : List Entry) (flushes : List Flush) (cut 
   unused_inode i free inside = elim (ready.stands.rest i inside) [
     | inl (node, has) ↦
         let one = entry_of node i has in
-        let held : Contains (map entry_number entries) i = subst (λ n. Contains (map entry_number entries) n) one.number (in_mapped entry_number entries one.entry one.among) in
+        let held : Contains (map entry_number entries) i =
+        subst (λ n. Contains (map entry_number entries) n) one.number (in_mapped entry_number entries one.entry one.among) in
         absurd (let never : Free ≡ Taken = mapped.inodes.held_is_taken i Free free held in cc)
     | inr unused ↦ unused
   ]
@@ -127,7 +129,8 @@ module _ (first : TreeState) (history : List Entry) (flushes : List Flush) (cut 
       within k kn = (mapped.inodes.within (slice_index grant.inodes k) Free (granted.inodes.free k 0 kn)).1
 
   lies_in_data : (block : ℕ) → Contains grant.blocks block → (data_start layout ≤ block) × (block < layout.blocks)
-  lies_in_data block there = mapped.blocks.within block Free (All-contains (λ n. status_of old.blocks n ≡ Some Free) grant.blocks block granted.blocks.free there)
+  lies_in_data block there =
+      mapped.blocks.within block Free (All-contains (λ n. status_of old.blocks n ≡ Some Free) grant.blocks block granted.blocks.free there)
 
 pub grants_serve : GrantsServe
 grants_serve first history flushes cut inodes num layout store parts entries plan old new grant ready keeps mapped granted = record {

@@ -69,7 +69,8 @@ rows_dropped net (suc n) (row ∷ rows) fits = rows_dropped net n rows fits.1
 fill_fits : (net : List NetRow) (slots : List (Option Row)) (rows : List Row) → SlotsFit net slots → RowsFit net rows → SlotsFit net (fill_front slots rows)
 fill_fits net [] rows fits rows_fit = tt
 fill_fits net (None ∷ slots) [] fits rows_fit = (tt, fill_fits net slots [] fits.1 tt)
-fill_fits net (None ∷ slots) (row ∷ rows) fits rows_fit = (rows_fit.0, fill_fits net slots (drop 1 (row ∷ rows)) fits.1 (rows_dropped net 1 (row ∷ rows) rows_fit))
+fill_fits net (None ∷ slots) (row ∷ rows) fits rows_fit =
+    (rows_fit.0, fill_fits net slots (drop 1 (row ∷ rows)) fits.1 (rows_dropped net 1 (row ∷ rows) rows_fit))
 fill_fits net (Some row ∷ slots) rows fits rows_fit = (fits.0, fill_fits net slots rows fits.1 rows_fit)
 
 empty_fits : (net : List NetRow) (n : ℕ) → SlotsFit net (replicate n None)
@@ -84,7 +85,8 @@ module _ (directories : List ℕ) (net : List NetRow) (good : (change : NetRow) 
       found : is_some (row_in_net change.name net) ≡ true
       found = find_some (λ row. bytes_eq change.name row.name) net change there (same_bytes change.name)
 
-      by : (o : Option NodeId) → SlotFits net (option_map (λ child. record { inode = child.0; kind = kind_if (is_among directories child.0); name = change.name }) o)
+      by : (o : Option NodeId)
+          → SlotFits net (option_map (λ child. record { inode = child.0; kind = kind_if (is_among directories child.0); name = change.name }) o)
       by None = tt
       by (Some child) = record { name = good change there; inode = λ none. absurd (true_not_false (sym found ∙ none)) }
 
@@ -104,7 +106,8 @@ module _ (directories : List ℕ) (net : List NetRow) (good : (change : NetRow) 
   -- the rows of the names that are new
   new_fit : (rest : List NetRow) → ((change : NetRow) → Contains rest change → Contains net change) → RowsFit net (rows_new directories rest)
   new_fit [] there = tt
-  new_fit (change ∷ rest) there = with_one (row_new directories change) (by (is_none change.before)) (new_fit rest (λ other is. there other (further_in change other rest is)))
+  new_fit (change ∷ rest) there =
+      with_one (row_new directories change) (by (is_none change.before)) (new_fit rest (λ other is. there other (further_in change other rest is)))
     where
       by : (b : Bool) → SlotFits net (cond b (row_brought directories change) None)
       by true = brought_fits change (there change (first_in change rest))
@@ -115,7 +118,8 @@ module _ (directories : List ℕ) (net : List NetRow) (good : (change : NetRow) 
       with_one (Some row) fits others = (fits, others)
 
   -- the blocks as many as there were, and the rows that they leave
-  old_fit : (blocks : List (List (Option Row))) (rows : List Row) → ((block : List (Option Row)) → Contains blocks block → BlockFits net block) → RowsFit net rows
+  old_fit : (blocks : List (List (Option Row))) (rows : List Row) → ((block : List (Option Row)) → Contains blocks block → BlockFits net block)
+      → RowsFit net rows
       → (block : List (Option Row)) → Contains (old_blocks_after directories net blocks rows) block → BlockFits net block
   old_fit [] rows each rows_fit block (k, within, is) = absurd (omega arith)
   old_fit (first ∷ blocks) rows each rows_fit block (zero, within, is) = subst (BlockFits net) is (record {
@@ -128,19 +132,25 @@ module _ (directories : List ℕ) (net : List NetRow) (good : (change : NetRow) 
 
   behind_fit : (blocks : List (List (Option Row))) (rows : List Row) → RowsFit net rows → RowsFit net (rows_behind directories net blocks rows)
   behind_fit [] rows fits = fits
-  behind_fit (first ∷ blocks) rows fits = behind_fit blocks (rows_left (block_moved directories net first) rows) (rows_dropped net (count_by is_none (block_moved directories net first)) rows fits)
+  behind_fit (first ∷ blocks) rows fits =
+      behind_fit blocks (rows_left (block_moved directories net first) rows) (rows_dropped net (count_by is_none (block_moved directories net first)) rows fits)
 
   -- all blocks after the net
-  pub after_fits : (blocks : List (List (Option Row))) → ((block : List (Option Row)) → Contains blocks block → BlockFits net block) → (block : List (Option Row)) → Contains (slot_blocks_after directories net blocks) block → BlockFits net block
-  after_fits blocks each block there = elim (Contains-append_cases (old_blocks_after directories net blocks (rows_new directories net)) (map (block_added rest) (range_with_len 0 (blocks_for rest))) block there) [
-    | inl old_one ↦ old_fit blocks (rows_new directories net) each (new_fit net (λ change is. is)) block old_one
-    | inr added ↦
-        let n = mapped_is_in (block_added rest) (range_with_len 0 (blocks_for rest)) block added in
-        subst (BlockFits net) n.2 (record {
-          count = length-fill empty_block (drop (15 * n.0) rest) ∙ length-replicate {A = Option Row} 15 None;
-          slots = fill_fits net empty_block (drop (15 * n.0) rest) (empty_fits net 15) (rows_dropped net (15 * n.0) rest (behind_fit blocks (rows_new directories net) (new_fit net (λ change is. is))));
-        })
-  ]
+  pub after_fits : (blocks : List (List (Option Row))) → ((block : List (Option Row)) → Contains blocks block → BlockFits net block)
+      → (block : List (Option Row)) → Contains (slot_blocks_after directories net blocks) block → BlockFits net block
+  after_fits blocks each block there =
+      elim (Contains-append_cases (old_blocks_after directories net blocks (rows_new directories net))
+      (map (block_added rest) (range_with_len 0 (blocks_for rest))) block there) [
+        | inl old_one ↦ old_fit blocks (rows_new directories net) each (new_fit net (λ change is. is)) block old_one
+        | inr added ↦
+            let n = mapped_is_in (block_added rest) (range_with_len 0 (blocks_for rest)) block added in
+            subst (BlockFits net) n.2 (record {
+              count = length-fill empty_block (drop (15 * n.0) rest) ∙ length-replicate {A = Option Row} 15 None;
+              slots =
+                  fill_fits net empty_block (drop (15 * n.0) rest) (empty_fits net 15)
+                  (rows_dropped net (15 * n.0) rest (behind_fit blocks (rows_new directories net) (new_fit net (λ change is. is))));
+            })
+      ]
     where
       rest : List Row
       rest = rows_behind directories net blocks (rows_new directories net)
@@ -157,7 +167,8 @@ module _ (net : List NetRow) (numbers : ℕ → Option ℕ) (low : (node : ℕ) 
 
   all_numbered : (slots : List (Option Row)) → SlotsFit net slots → All IsSlot (map (slot_numbered numbers net) slots)
   all_numbered [] fits = All-nil IsSlot
-  all_numbered (slot ∷ slots) fits = All-cons IsSlot (slot_numbered numbers net slot) (map (slot_numbered numbers net) slots) (numbered_fits slot fits.0) (all_numbered slots fits.1)
+  all_numbered (slot ∷ slots) fits =
+      All-cons IsSlot (slot_numbered numbers net slot) (map (slot_numbered numbers net) slots) (numbered_fits slot fits.0) (all_numbered slots fits.1)
 
   pub block_stands : (block : List (Option Row)) → BlockFits net block → AreSlots (block_numbered numbers net block)
   block_stands block fits = record { count = length-map block (slot_numbered numbers net) ∙ fits.count; sound = all_numbered block fits.slots }

@@ -35,12 +35,15 @@ use Rattle.commit_laws.proofs.GrantWritten.{each_ascends, grant_for as blocks_gr
 use Rattle.commit_laws.proofs.OwnInodes.{mapped_is_in}
 
 -- a node that enters at a place gets the number that a grant has there
-pub grant_at : (entering grant : List ℕ) (k node i : ℕ) → StandOnce entering → slice_get entering k ≡ Some node → slice_get grant k ≡ Some i → grant_for entering grant node ≡ Some i
+pub grant_at : (entering grant : List ℕ) (k node i : ℕ) → StandOnce entering → slice_get entering k ≡ Some node → slice_get grant k ≡ Some i
+    → grant_for entering grant node ≡ Some i
 grant_at [] grant k node i once at gives = absurd (none_some at)
 grant_at (x ∷ entering) [] k node i once at gives = absurd (none_some gives)
-grant_at (x ∷ entering) (j ∷ grant) zero node i once at gives = cond-true (nat_eq x node) (Some j) (grant_for entering grant node) (ap (λ n. nat_eq n node) (some_same at) ∙ same_number node) ∙ gives
+grant_at (x ∷ entering) (j ∷ grant) zero node i once at gives =
+    cond-true (nat_eq x node) (Some j) (grant_for entering grant node) (ap (λ n. nat_eq n node) (some_same at) ∙ same_number node) ∙ gives
 grant_at (x ∷ entering) (j ∷ grant) (suc k) node i once at gives =
-    cond-false (nat_eq x node) (Some j) (grant_for entering grant node) (not_same x node (λ same. let never : zero ≡ suc k = once 0 (suc k) node (ap Some same) at in omega (arith, never)))
+    cond-false (nat_eq x node) (Some j) (grant_for entering grant node)
+    (not_same x node (λ same. let never : zero ≡ suc k = once 0 (suc k) node (ap Some same) at in omega (arith, never)))
     ∙ grant_at entering grant k node i (λ m l n first later. let same : suc m ≡ suc l = once (suc m) (suc l) n first later in omega (arith, same)) at gives
 
 -- what is in all that a function gives of some items is in what it gives of one
@@ -71,13 +74,15 @@ module _ (one : Built) (pages : List Page) where
   table_held : (k : ℕ) → k < 16 → (written : TxBlock) → table_of_place one k ≡ Some written → IsHeld (pointer_kept one.meta one.tables) written.block
   table_held k low written e = by (slice_index_or one.fates k Stays) e
     where
-      by : (fate : TableFate) → indirect_block_written fate (slice_index one.meta.indirect k) (find (λ t. nat_eq t.place k) one.tables) ≡ Some written → IsHeld (pointer_kept one.meta one.tables) written.block
+      by : (fate : TableFate) → indirect_block_written fate (slice_index one.meta.indirect k) (find (λ t. nat_eq t.place k) one.tables) ≡ Some written
+          → IsHeld (pointer_kept one.meta one.tables) written.block
       by Stays e = absurd (none_some e)
       by Goes e = absurd (none_some e)
       by IsWritten e = elim (cases_Bool (nat_eq (slice_index one.meta.indirect k) 0)) [
         | inl t ↦ absurd (none_some (sym (cond-true (nat_eq (slice_index one.meta.indirect k) 0) None _ t) ∙ e))
         | inr f ↦
-            let is : slice_index one.meta.indirect k ≡ written.block = ap (λ (w : TxBlock). w.block) (some_same (sym (cond-false (nat_eq (slice_index one.meta.indirect k) 0) None _ f) ∙ e)) in
+            let is : slice_index one.meta.indirect k ≡ written.block =
+            ap (λ (w : TxBlock). w.block) (some_same (sym (cond-false (nat_eq (slice_index one.meta.indirect k) 0) None _ f) ∙ e)) in
             record {
               some = λ none. eqb-false (slice_index one.meta.indirect k) 0 f (is ∙ none);
               place = FILE_BLOCKS + k;
@@ -87,20 +92,27 @@ module _ (one : Built) (pages : List Page) where
       ]
 
   node_held : (written : TxBlock) → Contains (fresh_written one pages) written → IsHeld (pointer_kept one.meta one.tables) written.block
-  node_held written has = elim (Contains-append_cases (filter_map (data_written one pages) one.changed) (filter_map (table_of_place one) (range_with_len 0 16)) written has) [
-    | inl data_ ↦ let c = given_by (data_written one pages) one.changed written data_ in data_held c.0 written c.2
-    | inr table ↦ let k = given_by (table_of_place one) (range_with_len 0 16) written table in table_held k.0 (in_range k.0 k.1) written k.2
-  ]
+  node_held written has =
+      elim (Contains-append_cases (filter_map (data_written one pages) one.changed) (filter_map (table_of_place one) (range_with_len 0 16)) written has) [
+        | inl data_ ↦ let c = given_by (data_written one pages) one.changed written data_ in data_held c.0 written c.2
+        | inr table ↦ let k = given_by (table_of_place one) (range_with_len 0 16) written table in table_held k.0 (in_range k.0 k.1) written k.2
+      ]
     where
       in_range : (k : ℕ) → Contains (range_with_len 0 16) k → k < 16
-      in_range k (i, within, is) = let low = length-range_with_len 0 16 in let at = get_or-range_with_len 0 16 i k (omega (arith, within, low)) in omega (arith, is, at, within, low)
+      in_range k (i, within, is) = let low = length-range_with_len 0 16 in let at = get_or-range_with_len 0 16 i k (omega (arith, within, low)) in
+          omega (arith, is, at, within, low)
 
 -- so each block of a grant is held by a node that is built
-pub block_is_used : (num : Numbering) (concerned : List ℕ) (old new : TreeState) (image : SeenInodes) (plan : CommitPlan) (grant : GrantedNumbers) (store : ℕ → List ℕ) (parts : ℕ → Part)
+pub block_is_used : (num : Numbering) (concerned : List ℕ) (old new : TreeState) (image : SeenInodes) (plan : CommitPlan) (grant : GrantedNumbers)
+    (store : ℕ → List ℕ) (parts : ℕ → Part)
     → IsPlanOverParts num concerned old new image plan grant store parts → (block : ℕ) → Contains grant.blocks block
     → (one : Built) × Contains (nodes_with_grant (change_planned plan) grant) one × IsHeld (pointer_kept one.meta one.tables) block
 block_is_used num concerned old new image plan grant store parts is block there =
-    let written = granted_blocks_are_written (change_planned plan) grant (each_ascends num concerned old new image plan grant store parts is) (blocks_granted num concerned old new image plan grant store parts is) in
-    let tx = mapped_is_in (λ (one : TxBlock). one.block) (fresh_of_commit (change_planned plan) grant) block (subst (λ those. Contains those block) (sym written) there) in
+    let written =
+    granted_blocks_are_written (change_planned plan) grant (each_ascends num concerned old new image plan grant store parts is)
+    (blocks_granted num concerned old new image plan grant store parts is) in
+    let tx =
+    mapped_is_in (λ (one : TxBlock). one.block) (fresh_of_commit (change_planned plan) grant) block
+    (subst (λ those. Contains those block) (sym written) there) in
     let one = in_some (fresh_of_node plan.files) (nodes_with_grant (change_planned plan) grant) tx.0 tx.1 in
     (one.0, one.1, subst (λ b. IsHeld (pointer_kept one.0.meta one.0.tables) b) tx.2 (node_held one.0 (pages_of_node plan.files one.0.node) tx.0 one.2))

@@ -17,7 +17,8 @@ free_inside statuses place free = ⊎_elim (λ inside. inside) (λ past. absurd 
     go past = let e : is_free (get_or statuses place Taken) ≡ false = ap is_free (get_or_past statuses place Taken past) in cc
 
 -- a free place with none before it is the first
-pub position_first : (statuses : List Status) (place : ℕ) → is_free (get_or statuses place Taken) ≡ true → NoneFreeBelow statuses place → position is_free statuses ≡ Some place
+pub position_first : (statuses : List Status) (place : ℕ) → is_free (get_or statuses place Taken) ≡ true → NoneFreeBelow statuses place
+    → position is_free statuses ≡ Some place
 position_first statuses place free before =
     let inside = free_inside statuses place free in
     let at = position_or_len_is is_free statuses place Taken (omega (arith, inside)) before (λ _. free) in
@@ -26,10 +27,15 @@ position_first statuses place free before =
 -- where none is free there is no first
 pub position_none : (statuses : List Status) (end : ℕ) → length statuses ≤ end → NoneFreeBelow statuses end → position is_free statuses ≡ None
 position_none statuses end all before =
-    let at = position_or_len_is is_free statuses (length statuses) Taken (omega arith) (λ k below. before k (omega (arith, below, all))) (λ inside. absurd (omega (arith, inside))) in
+    let at =
+    position_or_len_is is_free statuses (length statuses) Taken (omega arith) (λ k below. before k (omega (arith, below, all)))
+    (λ inside. absurd (omega (arith, inside))) in
     rw at (grind (arith, nat_tests))
 
 -- the free place that is first in its group, where none is free in the groups before
-pub first_in_group : (statuses : List Status) (group place : ℕ) → place / 64 ≡ group → get_or statuses place Taken ≡ Free → ((other : ℕ) → other / 64 ≡ group → other < place → is_free (get_or statuses other Taken) ≡ false) → NoneFreeBelow statuses (64 * group) → position is_free statuses ≡ Some place
+pub first_in_group : (statuses : List Status) (group place : ℕ) → place / 64 ≡ group → get_or statuses place Taken ≡ Free
+    → ((other : ℕ) → other / 64 ≡ group → other < place → is_free (get_or statuses other Taken) ≡ false) → NoneFreeBelow statuses (64 * group)
+    → position is_free statuses ≡ Some place
 first_in_group statuses group place here free first passed =
-    position_first statuses place (ap is_free free) (λ other below. ⊎_elim (λ same. first other same below) (λ apart. passed other (omega (arith, apart, below, here))) (cases_eq (other / 64) group))
+    position_first statuses place (ap is_free free)
+    (λ other below. ⊎_elim (λ same. first other same below) (λ apart. passed other (omega (arith, apart, below, here))) (cases_eq (other / 64) group))

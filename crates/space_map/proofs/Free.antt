@@ -22,7 +22,8 @@ length-free_from first [] = refl
 length-free_from first (status ∷ statuses) =
     by_test (is_free status) (length-free_from (first + 1) statuses) ∙ sym (sum_by-cons (λ (s : Status). cond (is_free s) 1 0) status statuses)
   where
-    by_test : (b : Bool) → length (free_from (first + 1) statuses) ≡ count_by is_free statuses → length (front first statuses b) ≡ cond b 1 0 + count_by is_free statuses
+    by_test : (b : Bool) → length (free_from (first + 1) statuses) ≡ count_by is_free statuses
+        → length (front first statuses b) ≡ cond b 1 0 + count_by is_free statuses
     by_test true same = omega (arith, same)
     by_test false same = omega (arith, same)
 
@@ -34,7 +35,8 @@ free_from-none first (status ∷ statuses) busy =
     rw head (free_from-none (first + 1) statuses (λ place below. busy (suc place) (omega (arith, below))))
 
 -- the first free number, and then those that are free once it is granted
-pub free_from-first : (first : ℕ) (statuses : List Status) (place : ℕ) → place < length statuses → is_free (get_or statuses place Taken) ≡ true → NoneFreeBelow statuses place → free_from first statuses ≡ (first + place) ∷ free_from first (set statuses place Granted)
+pub free_from-first : (first : ℕ) (statuses : List Status) (place : ℕ) → place < length statuses → is_free (get_or statuses place Taken) ≡ true
+    → NoneFreeBelow statuses place → free_from first statuses ≡ (first + place) ∷ free_from first (set statuses place Granted)
 free_from-first first [] place inside free before = absurd (omega (arith, inside))
 free_from-first first (status ∷ statuses) zero inside free before = rw (free, add-zero first) refl
 free_from-first first (status ∷ statuses) (suc place) inside free before =
@@ -57,7 +59,8 @@ none_free statuses none place below = fails_before_first is_free statuses place 
             cc
 
 -- the free numbers before and after one is granted
-pub free_numbers-first : (pool : Pool) (place : ℕ) → position is_free pool.statuses ≡ Some place → free_numbers pool ≡ (pool.first + place) ∷ free_numbers (record pool { statuses = set pool.statuses place Granted })
+pub free_numbers-first : (pool : Pool) (place : ℕ) → position is_free pool.statuses ≡ Some place
+    → free_numbers pool ≡ (pool.first + place) ∷ free_numbers (record pool { statuses = set pool.statuses place Granted })
 free_numbers-first pool place found =
     let at = position-Some is_free pool.statuses place Taken found in
     free_from-first pool.first pool.statuses place at.0 at.1 at.2
@@ -75,7 +78,9 @@ none_free-more statuses place found other below = ⊎_elim here apart (cases_eq 
         rw (get_or-set_other statuses place other Granted Taken away) (at.2 other (omega (arith, below, away)))
 
 -- the free numbers of the start are those that are granted and those that are free still
-pub free_numbers-more : (numbers : List ℕ) (old mid new : Pool) (number place : ℕ) → position is_free mid.statuses ≡ Some place → new ≡ record mid { statuses = set mid.statuses place Granted } → number ≡ new.first + place → free_numbers old ≡ numbers ++ free_numbers mid → free_numbers old ≡ (numbers ++ number ∷ []) ++ free_numbers new
+pub free_numbers-more : (numbers : List ℕ) (old mid new : Pool) (number place : ℕ) → position is_free mid.statuses ≡ Some place
+    → new ≡ record mid { statuses = set mid.statuses place Granted } → number ≡ new.first + place → free_numbers old ≡ numbers ++ free_numbers mid
+    → free_numbers old ≡ (numbers ++ number ∷ []) ++ free_numbers new
 free_numbers-more numbers old mid new number place found set here before =
     let at : number ≡ mid.first + place = here ∙ ap (λ (p : Pool). p.first + place) set in
     before
@@ -85,7 +90,8 @@ free_numbers-more numbers old mid new number place found set here before =
     ∙ sym (append_assoc numbers (number ∷ []) (free_numbers new))
 
 -- where some free number of the start is not granted yet, one is free still
-pub some_left : (numbers : List ℕ) (old mid : Pool) → free_numbers old ≡ numbers ++ free_numbers mid → length numbers < free_count old → position is_free mid.statuses ≡ None → ⊥
+pub some_left : (numbers : List ℕ) (old mid : Pool) → free_numbers old ≡ numbers ++ free_numbers mid → length numbers < free_count old
+    → position is_free mid.statuses ≡ None → ⊥
 some_left numbers old mid split left none =
     let gone : free_numbers mid ≡ [] = free_from-none mid.first mid.statuses (none_free mid.statuses none) in
     let all : free_numbers old ≡ numbers = split ∙ ap (λ (rest : List ℕ). numbers ++ rest) gone ∙ append-nil numbers in

@@ -18,7 +18,9 @@ still_granted false o is = is
 pub ends_leave_others : EndsLeaveOthers
 ends_leave_others granted freed old new number ends other is =
     ends number
-    ∙ ap (λ b. cond b (option_map (λ _. Taken) (status_of old number)) (cond (is_listed freed number) (option_map released (status_of old number)) (status_of old number))) other
+    ∙ ap (λ b. cond b (option_map (λ _. Taken) (status_of old number))
+    (cond (is_listed freed number) (option_map released (status_of old number)) (status_of old number)))
+    other
     ∙ still_granted (is_listed freed number) (status_of old number) is
 
 pub returns_leave_others : ReturnsLeaveOthers
@@ -34,8 +36,10 @@ listed_passes P (first ∷ rest) number all listed =
       | false ↦ λ t e. listed_passes P rest number all.1 e
     ] refl listed
 
-pub free_now : (pool : Pool) (count : ℕ) (numbers : List ℕ) (new : Pool) (number : ℕ) → Grants pool count numbers new → is_listed numbers number ≡ true → status_of pool number ≡ Some Free
-free_now pool count numbers new number grants listed = listed_passes (λ n. status_of pool n ≡ Some Free) numbers number (recursion_from_All (λ n. status_of pool n ≡ Some Free) numbers grants.free) listed
+pub free_now : (pool : Pool) (count : ℕ) (numbers : List ℕ) (new : Pool) (number : ℕ) → Grants pool count numbers new → is_listed numbers number ≡ true
+    → status_of pool number ≡ Some Free
+free_now pool count numbers new number grants listed =
+    listed_passes (λ n. status_of pool n ≡ Some Free) numbers number (recursion_from_All (λ n. status_of pool n ≡ Some Free) numbers grants.free) listed
 
 pub grants_are_apart : GrantsAreApart
 grants_are_apart old mid new count other_count numbers others number first second listed =
@@ -51,7 +55,8 @@ grants_are_apart old mid new count other_count numbers others number first secon
     ] refl
 
 -- What was granted before a grant stays granted when that one is made and given back.
-pub others_stay_granted : (old mid new : Pool) (count : ℕ) (numbers kept : List ℕ) → Grants old count numbers mid → BecomeAll Free numbers mid new → AllGranted old kept → AllGranted new kept
+pub others_stay_granted : (old mid new : Pool) (count : ℕ) (numbers kept : List ℕ) → Grants old count numbers mid → BecomeAll Free numbers mid new
+    → AllGranted old kept → AllGranted new kept
 others_stay_granted old mid new count numbers kept grants gives all = λ k d within.
     let n : ℕ = slice_index_or kept k d in
     let apart : is_listed numbers n ≡ false = elim (is_listed numbers n) as (λ b. is_listed numbers n ≡ b → b ≡ false) [

@@ -49,10 +49,13 @@ same_whole r h same = record {
   rest = λ not. same;
 }
 
-same_by : (r h : Entry) (b c : Bool) → is_served r ≡ b → is_served h ≡ c → (if b then without_answer r else r) ≡ (if c then without_answer h else h) → IsSameCall r h
+same_by : (r h : Entry) (b c : Bool) → is_served r ≡ b → is_served h ≡ c → (if b then without_answer r else r) ≡ (if c then without_answer h else h)
+    → IsSameCall r h
 same_by r h true true mine other same = same_masked r h mine other same
-same_by r h true false mine other same = let one : is_served (without_answer r) ≡ is_served h = ap is_served same in absurd (cc (masked_served r mine, one, other))
-same_by r h false true mine other same = let one : is_served r ≡ is_served (without_answer h) = ap is_served same in absurd (cc (masked_served h other, one, mine))
+same_by r h true false mine other same = let one : is_served (without_answer r) ≡ is_served h = ap is_served same in
+    absurd (cc (masked_served r mine, one, other))
+same_by r h false true mine other same = let one : is_served r ≡ is_served (without_answer h) = ap is_served same in
+    absurd (cc (masked_served h other, one, mine))
 same_by r h false false mine other same = same_whole r h same
 
 -- entries that are one but for their answers are of one call
@@ -83,11 +86,15 @@ refused : (tree : TreeState) (stamp : ℕ) (entry : Entry) → MayCome tree stam
 refused tree stamp entry may is served =
     let asks : asks_fsync entry.call ≡ true = left_true (asks_fsync entry.call) (not (is_refusal entry.reply)) served in
     let kept : not (is_refusal entry.reply) ≡ true = right_true (asks_fsync entry.call) (not (is_refusal entry.reply)) served in
-    let due : entry.reply ≡ (verdict tree entry.core.0 entry.call).reply = subst (λ b. IsDue b (verdict tree entry.core.0 entry.call).reply entry.reply) is may.due in
+    let due : entry.reply ≡ (verdict tree entry.core.0 entry.call).reply =
+    subst (λ b. IsDue b (verdict tree entry.core.0 entry.call).reply entry.reply) is may.due in
     both_ways (is_refusal entry.reply) (not-true (is_refusal entry.reply) kept) (ap is_refusal due ∙ refused_flush tree entry.core.0 entry.call asks is)
 
 well_by : (tree : TreeState) (stamp : ℕ) (entry : Entry) (b : Bool) → flushes tree entry.call ≡ b → MayCome tree stamp entry → IsWellAnswered entry
-well_by tree stamp entry true is may served = (subst (λ b. IsDue b (verdict tree entry.core.0 entry.call).reply entry.reply) is may.due, subst (λ b. IsSome entry.ack ↔ IsTrue (b && is_ok_reply entry.reply)) is may.acknowledged)
+well_by tree stamp entry true is may served = (
+  subst (λ b. IsDue b (verdict tree entry.core.0 entry.call).reply entry.reply) is may.due,
+  subst (λ b. IsSome entry.ack ↔ IsTrue (b && is_ok_reply entry.reply)) is may.acknowledged,
+)
 well_by tree stamp entry false is may served = absurd (refused tree stamp entry may is served)
 
 -- an entry that may come has an answer that it may have
@@ -95,7 +102,8 @@ pub comes_well : (tree : TreeState) (stamp : ℕ) (entry : Entry) → MayCome tr
 comes_well tree stamp entry may = well_by tree stamp entry (flushes tree entry.call) refl may
 
 -- the last entry of a legal history has an answer that it may have
-pub last_comes_well : (tree : TreeState) (stamp : ℕ) (history : List Entry) (entry : Entry) → IsLegalFrom tree stamp (history ++ entry ∷ []) → IsWellAnswered entry
+pub last_comes_well : (tree : TreeState) (stamp : ℕ) (history : List Entry) (entry : Entry) → IsLegalFrom tree stamp (history ++ entry ∷ [])
+    → IsWellAnswered entry
 last_comes_well tree stamp [] entry legal = comes_well tree stamp entry legal.0
 last_comes_well tree stamp (first ∷ history) entry legal = last_comes_well (tree_after_entry tree first) (suc stamp) history entry legal.1
 
@@ -134,7 +142,8 @@ served_where_flushes tree stamp entry may is =
     rw (flushes_fsync tree entry.call is, fsync_reply_serves entry.reply due) refl
 
 -- the entry with another answer may come, where its node is alive
-flushed_comes : (tree : TreeState) (stamp : ℕ) (r h : Entry) → MayCome tree stamp h → IsSameCall r h → IsWellAnswered r → flushes tree h.call ≡ true → MayCome tree stamp r
+flushed_comes : (tree : TreeState) (stamp : ℕ) (r h : Entry) → MayCome tree stamp h → IsSameCall r h → IsWellAnswered r → flushes tree h.call ≡ true
+    → MayCome tree stamp r
 flushed_comes tree stamp r h may same well is =
     let flush : flushes tree r.call ≡ true = ap (flushes tree) same.call_is ∙ is in
     let answer = well (same.served ∙ served_where_flushes tree stamp h may is) in
@@ -147,9 +156,12 @@ flushed_comes tree stamp r h may same well is =
 
 -- where it is not, the entry is no fsync that was served, and there is no other answer
 other_comes : (tree : TreeState) (stamp : ℕ) (r h : Entry) → MayCome tree stamp h → IsSameCall r h → flushes tree h.call ≡ false → MayCome tree stamp r
-other_comes tree stamp r h may same is = ⊎_elim (λ served. absurd (refused tree stamp h may is served)) (λ not. subst (λ e. MayCome tree stamp e) (sym (same.rest not)) may) (cases_Bool (is_served h))
+other_comes tree stamp r h may same is =
+    ⊎_elim (λ served. absurd (refused tree stamp h may is served)) (λ not. subst (λ e. MayCome tree stamp e) (sym (same.rest not)) may)
+    (cases_Bool (is_served h))
 
-comes_by : (tree : TreeState) (stamp : ℕ) (r h : Entry) (b : Bool) → flushes tree h.call ≡ b → MayCome tree stamp h → IsSameCall r h → IsWellAnswered r → MayCome tree stamp r
+comes_by : (tree : TreeState) (stamp : ℕ) (r h : Entry) (b : Bool) → flushes tree h.call ≡ b → MayCome tree stamp h → IsSameCall r h → IsWellAnswered r
+    → MayCome tree stamp r
 comes_by tree stamp r h true is may same well = flushed_comes tree stamp r h may same well is
 comes_by tree stamp r h false is may same well = other_comes tree stamp r h may same is
 
@@ -158,7 +170,8 @@ pub comes_answered : (tree : TreeState) (stamp : ℕ) (r h : Entry) → unanswer
 comes_answered tree stamp r h same well may = comes_by tree stamp r h (flushes tree h.call) refl may (same_call r h same) well
 
 -- A history that differs from a legal one in its answers alone, which its entries may have, is legal.
-pub legal_answered : (tree : TreeState) (stamp : ℕ) (history filled : List Entry) → map unanswered filled ≡ map unanswered history → AreWellAnswered filled → IsLegalFrom tree stamp history → IsLegalFrom tree stamp filled
+pub legal_answered : (tree : TreeState) (stamp : ℕ) (history filled : List Entry) → map unanswered filled ≡ map unanswered history → AreWellAnswered filled
+    → IsLegalFrom tree stamp history → IsLegalFrom tree stamp filled
 legal_answered tree stamp [] [] same well legal = tt
 legal_answered tree stamp [] (r ∷ filled) same well legal = absurd (cc)
 legal_answered tree stamp (h ∷ history) [] same well legal = absurd (cc)
@@ -166,8 +179,10 @@ legal_answered tree stamp (h ∷ history) (r ∷ filled) same well legal =
     let one : unanswered r ≡ unanswered h = cc (same) in
     let rest : map unanswered filled ≡ map unanswered history = cc (same) in
     let call = same_call r h one in
-    let next : tree_after_entry tree h ≡ tree_after_entry tree r = (λ i. tree_after_call tree (sym call.core i).0 (sym call.call_is i)) in
-    (comes_answered tree stamp r h one well.0 legal.0, subst (λ t. IsLegalFrom t (suc stamp) filled) next (legal_answered (tree_after_entry tree h) (suc stamp) history filled rest well.1 legal.1))
+    let next : tree_after_entry tree h ≡ tree_after_entry tree r = (λ i. tree_after_call tree (sym call.core i).0 (sym call.call_is i)) in (
+      comes_answered tree stamp r h one well.0 legal.0,
+      subst (λ t. IsLegalFrom t (suc stamp) filled) next (legal_answered (tree_after_entry tree h) (suc stamp) history filled rest well.1 legal.1),
+    )
 
 want_serves : (r : Reply) → is_want r ≡ true → is_refusal r ≡ false
 want_serves reply.Ok is = refl
@@ -186,7 +201,8 @@ pub record IsAnsweredAs (last : Entry) (answer : Entry) : Type 0 where
   pub same : unanswered answer ≡ unanswered last
   pub well : IsWellAnswered answer
 
-pub answered_well : (last : Entry) (reply : Reply) (ack : Option ℕ) → waits_for_answer last.call last.reply ≡ true → IsFsyncReply reply → (IsSome ack ↔ IsTrue (is_ok_reply reply)) → IsAnsweredAs last (with_answer last reply ack)
+pub answered_well : (last : Entry) (reply : Reply) (ack : Option ℕ) → waits_for_answer last.call last.reply ≡ true → IsFsyncReply reply
+    → (IsSome ack ↔ IsTrue (is_ok_reply reply)) → IsAnsweredAs last (with_answer last reply ack)
 answered_well last reply ack waits may acknowledged =
     let asks : asks_fsync last.call ≡ true = left_true (asks_fsync last.call) (is_want last.reply) waits in
     let want : is_want last.reply ≡ true = right_true (asks_fsync last.call) (is_want last.reply) waits in

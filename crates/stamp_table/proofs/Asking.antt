@@ -26,7 +26,8 @@ module _ {C X : Type 0} (lawful : TreeState → List (Event X) → Type 0) (stan
   took_or_not word place found me m is tells = let t = tells place is in dite (ℕ_discrete found 0)
       (λ zero_found. rw (eq-eqb found 0 zero_found) (t.0 zero_found)) (λ not. rw (ne_eqb found 0 not) (t.1 not))
 
-module _ {C X : Type 0} (lawful : TreeState → List (Event X) → Type 0) (stands : TreeState → List (Event X) → ℕ → C → Type 0) (first : TreeState) (slots : ℕ) where
+module _ {C X : Type 0} (lawful : TreeState → List (Event X) → Type 0) (stands : TreeState → List (Event X) → ℕ → C → Type 0) (first : TreeState)
+    (slots : ℕ) where
   abbrev V : Type 0
   V = View TreeState (Event X)
 
@@ -36,15 +37,20 @@ module _ {C X : Type 0} (lawful : TreeState → List (Event X) → Type 0) (stan
   -- the lock word may go from 0 to 1
   pub asks_take : (word place id : ℕ) (me : Me (Option C) V) → me.0.gone ≡ false → me.0.gathers ≡ false → place < slots → word ≡ lock_word place
       → Allows Holds slots id me word (λ n. either (eqb n 0) 1 n) (Tells lawful stands word me)
-  asks_take word place id me lives calls within is = may_take_word event_core is_call (IsLawful lawful) (stands_for stands) first slots id word place me (λ n. either (eqb n 0) 1 n) lives calls within locked_not_0 is
+  asks_take word place id me lives calls within is =
+      may_take_word event_core is_call (IsLawful lawful) (stands_for stands) first slots id word place me
+      (λ n. either (eqb n 0) 1 n) lives calls within locked_not_0 is
 
   -- the lock word may become 2
   pub asks_wait : (word place id : ℕ) (me : Me (Option C) V) → me.0.gone ≡ false → me.0.gathers ≡ false → place < slots → word ≡ lock_word place
       → Allows Holds slots id me word (λ _. 2) (Tells lawful stands word me)
-  asks_wait word place id me lives calls within is = may_take_word event_core is_call (IsLawful lawful) (stands_for stands) first slots id word place me (λ _. 2) lives calls within (λ n two. omega (arith, two)) is
+  asks_wait word place id me lives calls within is =
+      may_take_word event_core is_call (IsLawful lawful) (stands_for stands) first slots id word place me (λ _. 2) lives calls within
+      (λ n two. omega (arith, two)) is
 
   -- the lock word may become 0, with the value at home
-  pub asks_give : (word place id : ℕ) (me : Me (Option C) V) → me.0.gone ≡ false → me.0.gathers ≡ false → place < slots → word ≡ lock_word place → GoesHome lawful stands place me
+  pub asks_give : (word place id : ℕ) (me : Me (Option C) V) → me.0.gone ≡ false → me.0.gathers ≡ false → place < slots → word ≡ lock_word place
+      → GoesHome lawful stands place me
       → Allows Holds slots id me word (λ _. 0) (λ _. Gave me)
   asks_give word place id me lives calls within is home = let value = home.top.0 in
       subst (λ (z : ℕ × List (ℕ × Option C)). Allows Holds slots id (me.0, z.1) z.0 (λ _. 0) (λ _. Gave (me.0, z.1))) (λ i. (sym is i, sym home.top.1 i))
@@ -54,7 +60,8 @@ module _ {C X : Type 0} (lawful : TreeState → List (Event X) → Type 0) (stan
   -- the stamp word may count one more
   pub asks_draw : (id : ℕ) (me : Me (Option C) V) (entry : ℕ → Entry) → me.0.gone ≡ false → me.0.gathers ≡ false → MayDrawEntry lawful stands me.0 entry
       → Allows Holds slots id me 0 (λ n. (n + 1) % 2 ^ 64) (AddsEntry lawful stands entry me)
-  asks_draw id me entry lives calls may = may_draw event_core is_call (IsLawful lawful) (stands_for stands) first slots id me.0 me.1 (λ number. Called (entry number))
+  asks_draw id me entry lives calls may =
+      may_draw event_core is_call (IsLawful lawful) (stands_for stands) first slots id me.0 me.1 (λ number. Called (entry number))
       (record { lives = lives; calls = calls; own = may.own; few = may.few; asks = may.may }) (λ number. refl)
 
   -- the stamp word may stay as a fact is told
@@ -64,7 +71,17 @@ module _ {C X : Type 0} (lawful : TreeState → List (Event X) → Type 0) (stan
       (record { lives = lives; calls = calls; own = λ number. refl; few = may.few; asks = may.may }) (λ number. refl)
 
   -- the same, of the fact that was picked
-  pub asks_tell_picked : (id : ℕ) (me : Me (Option C) V) (picked : Option X) (fact : X) → me.0.gone ≡ false → me.0.gathers ≡ false → picked ≡ Some fact → MayTellNow lawful stands me.0 fact
-      → Allows Holds slots id me 0 (λ n. n) (λ n m. (x : X) → picked ≡ Some x → Adds event_core is_call (IsLawful lawful) (stands_for stands) (told_by me.0.core x) me n m)
-  asks_tell_picked id me picked fact lives calls is may s holds wide at lt = let r = asks_tell id me fact lives calls may s holds wide at lt in
-      (r.0, r.1, r.2, r.3, λ x other. let same : fact ≡ x = cc (is, other) in subst (λ (y : X). Adds event_core is_call (IsLawful lawful) (stands_for stands) (told_by me.0.core y) me (get_or s.words 0 0) (r.0, carried_after me.1 r.1)) same r.4)
+  pub asks_tell_picked : (id : ℕ) (me : Me (Option C) V) (picked : Option X) (fact : X) → me.0.gone ≡ false → me.0.gathers ≡ false → picked ≡ Some fact
+      → MayTellNow lawful stands me.0 fact
+      → Allows Holds slots id me 0 (λ n. n)
+      (λ n m. (x : X) → picked ≡ Some x → Adds event_core is_call (IsLawful lawful) (stands_for stands) (told_by me.0.core x) me n m)
+  asks_tell_picked id me picked fact lives calls is may s holds wide at lt = let r = asks_tell id me fact lives calls may s holds wide at lt in (
+    r.0,
+    r.1,
+    r.2,
+    r.3,
+    λ x other. let same : fact ≡ x = cc (is, other) in
+        subst (λ (y : X). Adds event_core is_call (IsLawful lawful) (stands_for stands) (told_by me.0.core y) me (get_or s.words 0 0)
+        (r.0, carried_after me.1 r.1))
+        same r.4,
+  )

@@ -28,11 +28,14 @@ all_zero (suc count) zero = refl
 all_zero (suc count) (suc place) = all_zero count place
 
 module _ {C X : Type 0} where
-  pub ready_snoc : (table : TableId) (cores number : ℕ) (hands : List (Hand C X)) (hand : Hand C X) → AreIdleFrom table cores number hands → IsIdleCore table cores (number + length hands) hand → AreIdleFrom table cores number (hands ++ hand ∷ [])
+  pub ready_snoc : (table : TableId) (cores number : ℕ) (hands : List (Hand C X)) (hand : Hand C X) → AreIdleFrom table cores number hands
+      → IsIdleCore table cores (number + length hands) hand → AreIdleFrom table cores number (hands ++ hand ∷ [])
   ready_snoc table cores number [] hand ready next = (subst (λ n. IsIdleCore table cores n hand) (omega arith) next, tt)
-  ready_snoc table cores number (h ∷ hands) hand ready next = (ready.0, ready_snoc table cores (number + 1) hands hand ready.1 (subst (λ n. IsIdleCore table cores n hand) (omega arith) next))
+  ready_snoc table cores number (h ∷ hands) hand ready next =
+      (ready.0, ready_snoc table cores (number + 1) hands hand ready.1 (subst (λ n. IsIdleCore table cores n hand) (omega arith) next))
 
-  pub ready_next : (table : TableId) (cores : ℕ) (hands : List (Hand C X)) (hand : Hand C X) → AreIdleFrom table cores 0 hands → IsIdleCore table cores (length hands) hand → AreIdleFrom table cores 0 (hands ++ hand ∷ [])
+  pub ready_next : (table : TableId) (cores : ℕ) (hands : List (Hand C X)) (hand : Hand C X) → AreIdleFrom table cores 0 hands
+      → IsIdleCore table cores (length hands) hand → AreIdleFrom table cores 0 (hands ++ hand ∷ [])
   ready_next table cores hands hand ready next = ready_snoc table cores 0 hands hand ready (subst (λ n. IsIdleCore table cores n hand) (omega arith) next)
 
   pub new_snoc : (first : TreeState) (hands : List (Hand C X)) (hand : Hand C X) → AreNew first hands → IsNew first hand → AreNew first (hands ++ hand ∷ [])
@@ -40,27 +43,37 @@ module _ {C X : Type 0} where
   new_snoc first (h ∷ hands) hand new next = (new.0, new_snoc first hands hand new.1 next)
 
   -- one more core may be made
-  pub asks_split : (lawful : TreeState → List (Event X) → Type 0) (stands : TreeState → List (Event X) → ℕ → C → Type 0) (first : TreeState) (id number cores : ℕ) → number < cores → cores < 256
-      → Splits (Kept event_core is_call (IsLawful lawful) (stands_for stands) first) id (gatherer_with first number) (one_more (gatherer_with first number)) (newcomer (gatherer_with first number))
-  asks_split lawful stands first id number cores lt few = may_split event_core is_call (IsLawful lawful) (stands_for stands) first id (gatherer_with first number) refl refl (omega (arith, lt, few))
+  pub asks_split : (lawful : TreeState → List (Event X) → Type 0) (stands : TreeState → List (Event X) → ℕ → C → Type 0) (first : TreeState)
+      (id number cores : ℕ)
+      → number < cores → cores < 256
+      → Splits (Kept event_core is_call (IsLawful lawful) (stands_for stands) first) id (gatherer_with first number) (one_more (gatherer_with first number))
+      (newcomer (gatherer_with first number))
+  asks_split lawful stands first id number cores lt few =
+      may_split event_core is_call (IsLawful lawful) (stands_for stands) first id (gatherer_with first number) refl refl (omega (arith, lt, few))
 
-  stood_at : (stands : TreeState → List (Event X) → ℕ → C → Type 0) (first : TreeState) (more : ℕ) (values : List C) (place : ℕ) (value : Option C) → get_elem? (map Some values) place ≡ some value
+  stood_at : (stands : TreeState → List (Event X) → ℕ → C → Type 0) (first : TreeState) (more : ℕ) (values : List C) (place : ℕ) (value : Option C)
+      → get_elem? (map Some values) place ≡ some value
       → ((p : ℕ) (x : C) → slice_get values p ≡ Some x → stands first [] (more + p) x) → stands_for stands first [] (more + place) value
   stood_at stands first more [] place value at stood = absurd (some-ne-none value (sym at))
-  stood_at stands first more (x ∷ values) zero value at stood = subst (λ v. stands_for stands first [] (more + 0) v) (some-injective (Some x) value at) (stood 0 x refl)
+  stood_at stands first more (x ∷ values) zero value at stood =
+      subst (λ v. stands_for stands first [] (more + 0) v) (some-injective (Some x) value at) (stood 0 x refl)
   stood_at stands first more (x ∷ values) (suc place) value at stood = subst (λ p. stands_for stands first [] p value) (omega arith)
       (stood_at stands first (more + 1) values place value at (λ p y is. subst (λ q. stands first [] q y) (omega arith) (stood (suc p) y is)))
 
   -- the rule holds of a table that begins
-  pub asks_new : (lawful : TreeState → List (Event X) → Type 0) (stands : TreeState → List (Event X) → ℕ → C → Type 0) (first : TreeState) (words : List ℕ) (values : List C)
+  pub asks_new : (lawful : TreeState → List (Event X) → Type 0) (stands : TreeState → List (Event X) → ℕ → C → Type 0) (first : TreeState) (words : List ℕ)
+      (values : List C)
       → get_or words 0 0 ≡ 0 → length words ≡ 16 + length values → lawful first [] → ((p : ℕ) (x : C) → slice_get values p ≡ Some x → stands first [] p x)
       → Kept event_core is_call (IsLawful lawful) (stands_for stands) first (opening words (map Some values) (gatherer first))
-  asks_new lawful stands first words values zero_stamp long told stood = begins event_core is_call (IsLawful lawful) (stands_for stands) first words (map Some values) zero_stamp
+  asks_new lawful stands first words values zero_stamp long told stood =
+      begins event_core is_call (IsLawful lawful) (stands_for stands) first words (map Some values) zero_stamp
       (long ∙ ap (λ k. 16 + k) (sym (length-map values Some))) (record { legal_calls = tt; told = told })
-      (λ p x at. subst (λ q. stands_for stands first [] q x) (omega arith) (stood_at stands first 0 values p x at (λ q y is. subst (λ r. stands first [] r y) (omega arith) (stood q y is))))
+      (λ p x at. subst (λ q. stands_for stands first [] q x) (omega arith)
+      (stood_at stands first 0 values p x at (λ q y is. subst (λ r. stands first [] r y) (omega arith) (stood q y is))))
 
   -- new cores are between two calls
-  pub new_between : (t : TableState) (number : ℕ) (hands : List (Hand C X)) → AreIdleFrom t.table t.cores number hands → AreNew t.first hands → number + length hands ≤ length t.first.made → All (IsBetweenCalls t) hands
+  pub new_between : (t : TableState) (number : ℕ) (hands : List (Hand C X)) → AreIdleFrom t.table t.cores number hands → AreNew t.first hands
+      → number + length hands ≤ length t.first.made → All (IsBetweenCalls t) hands
   new_between t number [] idle new within = All-nil (IsBetweenCalls t)
   new_between t number (h ∷ hands) idle new within = All-cons (IsBetweenCalls t) h hands
       (record {
@@ -75,7 +88,8 @@ module _ {C X : Type 0} where
 
   -- cores that stay what they are and are between two calls again are still all cores of the table
   pub idle_again : (t : TableState) (number : ℕ) (before after : List (Hand C X)) → length after ≡ length before → AreIdleFrom t.table t.cores number before
-      → ((place : ℕ) (d : Hand C X) → place < length before → IsSameCore (get_or before place d) (get_or after place d) × ((get_or after place d).held ≡ [])) → AreIdleFrom t.table t.cores number after
+      → ((place : ℕ) (d : Hand C X) → place < length before → IsSameCore (get_or before place d) (get_or after place d) × ((get_or after place d).held ≡ []))
+      → AreIdleFrom t.table t.cores number after
   idle_again t number [] [] long idle same = tt
   idle_again t number [] (a ∷ after) long idle same = absurd (omega (arith, long))
   idle_again t number (b ∷ before) [] long idle same = absurd (omega (arith, long))
@@ -89,13 +103,17 @@ module _ {C X : Type 0} where
     idle_again t (number + 1) before after (omega (arith, long)) idle.1 (λ place d lt. same (suc place) d (omega (arith, lt))),
   )
 
-  leads_again : (before after : List (Hand C X)) → length after ≡ length before → ((place : ℕ) (d : Hand C X) → place < length before → IsSameCore (get_or before place d) (get_or after place d) × ((get_or after place d).held ≡ [])) → first_leads before ≡ true → first_leads after ≡ true
+  leads_again : (before after : List (Hand C X)) → length after ≡ length before
+      → ((place : ℕ) (d : Hand C X) → place < length before → IsSameCore (get_or before place d) (get_or after place d) × ((get_or after place d).held ≡ []))
+      → first_leads before ≡ true → first_leads after ≡ true
   leads_again [] [] long same leads = leads
   leads_again [] (a ∷ after) long same leads = absurd (omega (arith, long))
   leads_again (b ∷ before) [] long same leads = absurd (omega (arith, long))
   leads_again (b ∷ before) (a ∷ after) long same leads = (same 0 b (omega arith)).0.leads ∙ leads
 
-  pub all_again : (t : TableState) (before after : List (Hand C X)) → length after ≡ length before → ((place : ℕ) (d : Hand C X) → place < length before → IsSameCore (get_or before place d) (get_or after place d) × ((get_or after place d).held ≡ [])) → AreAllCores t before → AreAllCores t after
+  pub all_again : (t : TableState) (before after : List (Hand C X)) → length after ≡ length before
+      → ((place : ℕ) (d : Hand C X) → place < length before → IsSameCore (get_or before place d) (get_or after place d) × ((get_or after place d).held ≡ []))
+      → AreAllCores t before → AreAllCores t after
   all_again t before after long same all = record {
     count = long ∙ all.count;
     leads = leads_again before after long same all.leads;

@@ -30,7 +30,8 @@ module _ {T E S : Type 0} (core_of : E → ℕ) (draws : E → Bool) (legal : T 
   abbrev drawing : List E → E → V → V
   drawing log e v = record v { seen = log ++ e ∷ []; mine = v.mine ++ e ∷ [] }
 
-  module _ (v : V) (entry : ℕ → E) (may : MayStamp v entry) (s : State S V) (log : List E) (owner : ℕ → ℕ) (hub : V) (kept : IsKept core_of draws legal stands first log owner hub s) (core : ℕ) (at : get_elem? s.views (suc core) ≡ some v) where
+  module _ (v : V) (entry : ℕ → E) (may : MayStamp v entry) (s : State S V) (log : List E) (owner : ℕ → ℕ) (hub : V)
+      (kept : IsKept core_of draws legal stands first log owner hub s) (core : ℕ) (at : get_elem? s.views (suc core) ≡ some v) where
     abbrev e : E
     e = entry (stamps_in draws log)
 
@@ -55,14 +56,16 @@ module _ {T E S : Type 0} (core_of : E → ℕ) (draws : E → Bool) (legal : T 
     keeps_others p x not = subst (λ f. stands f log p x → stands f (log ++ e ∷ []) p x) work.hand.first_known (asked.keeps p x not)
 
     small : length log < 2 ^ 60
-    small = let many = kept.log_is.many in let le = few_in_all core_of 256 (2 ^ 50) log (known_more core_of hub.cores 256 log many kept.log_is.known) kept.log_is.few in omega (arith, le)
+    small = let many = kept.log_is.many in
+        let le = few_in_all core_of 256 (2 ^ 50) log (known_more core_of hub.cores 256 log many kept.log_is.known) kept.log_is.few in omega (arith, le)
 
     known_core : core < hub.cores
     known_core = let lt = get_elem_within s.views (suc core) v at in let is = kept.views_are.cores in omega (arith, lt, is)
 
     few_after : (c : ℕ) → length (entries_by core_of c (log ++ e ∷ [])) ≤ 2 ^ 50
     few_after c = dite (ℕ_discrete core c)
-        (λ is. let l = ap length (own_comes core_of c log e (own_core ∙ is)) in let m = length-append (entries_by core_of c log) (e ∷ []) in let h = ap length work.hand.mine in let few = may.few in
+        (λ is. let l = ap length (own_comes core_of c log e (own_core ∙ is)) in let m = length-append (entries_by core_of c log) (e ∷ []) in
+        let h = ap length work.hand.mine in let few = may.few in
         let same = ap (λ k. length (entries_by core_of k log)) is in omega (arith, l, m, h, few, same))
         (λ not. let l = ap length (other_comes core_of c log e (λ is. not (sym own_core ∙ is))) in let few = kept.log_is.few c in omega (arith, l, few))
 
@@ -89,7 +92,8 @@ module _ {T E S : Type 0} (core_of : E → ℕ) (draws : E → Bool) (legal : T 
       waits = work.waits;
     }
 
-    others_work : (c : ℕ) (u : V) → c ≢ core → get_elem? s.views (suc c) ≡ some u → IsAtWork core_of draws legal stands first c log hub u → IsAtWork core_of draws legal stands first c (log ++ e ∷ []) hub u
+    others_work : (c : ℕ) (u : V) → c ≢ core → get_elem? s.views (suc c) ≡ some u → IsAtWork core_of draws legal stands first c log hub u
+        → IsAtWork core_of draws legal stands first c (log ++ e ∷ []) hub u
     others_work c u not there w = record {
       hand = record {
         lives = w.hand.lives;
@@ -98,15 +102,21 @@ module _ {T E S : Type 0} (core_of : E → ℕ) (draws : E → Bool) (legal : T 
         core_known = w.hand.core_known;
         seen = begins_longer u.seen log (e ∷ []) w.hand.seen;
         mine = w.hand.mine ∙ sym (other_comes core_of c log e (λ is. not (sym is ∙ own_core)));
-        held = λ p x has stood. keeps_others p x (λ own. not (let a = kept.views_are.owned core p v at own in let b = kept.views_are.owned c p u there has in omega (arith, a, b))) (w.hand.held p x has stood);
+        held =
+            λ p x has stood. keeps_others p x
+            (λ own. not (let a = kept.views_are.owned core p v at own in let b = kept.views_are.owned c p u there has in omega (arith, a, b)))
+            (w.hand.held p x has stood);
       };
       waits = w.waits;
     }
 
-    drawn : (n : ℕ) (carried : List (ℕ × S)) → n ≡ stamps_in draws (log ++ e ∷ []) → IsKept core_of draws legal stands first (log ++ e ∷ []) owner hub (stepped s 0 n (suc core) carried (drawing log e v) keeps)
+    drawn : (n : ℕ) (carried : List (ℕ × S)) → n ≡ stamps_in draws (log ++ e ∷ [])
+        → IsKept core_of draws legal stands first (log ++ e ∷ []) owner hub (stepped s 0 n (suc core) carried (drawing log e v) keeps)
     drawn n carried is = record {
       log_is = log_after n is;
-      views_are = views_set core_of draws legal stands first log (log ++ e ∷ []) owner owner hub s.views core v (drawing log e v) at drawer_works (λ p has. kept.views_are.owned core p v at has)
+      views_are =
+          views_set core_of draws legal stands first log (log ++ e ∷ []) owner owner hub s.views core v (drawing log e v) at drawer_works
+          (λ p has. kept.views_are.owned core p v at has)
           (record {
             lists_stay = λ c lt. other_comes core_of c log e (λ is. let w = work.waits in omega (arith, lt, w, is, own_core));
             others = others_work;
@@ -147,7 +157,9 @@ module _ {T E S : Type 0} (core_of : E → ℕ) (draws : E → Bool) (legal : T 
           log ++ entry (stamps_in draws log) ∷ [],
           owner,
           hub,
-          subst (λ i. IsKept core_of draws legal stands first (log ++ entry (stamps_in draws log) ∷ []) owner hub (stepped s 0 (f n) i carried (drawing log (entry (stamps_in draws log)) v) keeps)) (sym core.1)
+          subst (λ i. IsKept core_of draws legal stands first (log ++ entry (stamps_in draws log) ∷ []) owner hub
+              (stepped s 0 (f n) i carried (drawing log (entry (stamps_in draws log)) v) keeps))
+              (sym core.1)
               (drawn v entry may s log owner hub kept core.0 here (f n) carried next),
         ),
         (refl, (log, tells v entry may s log owner hub kept core.0 here n is)),
@@ -157,7 +169,8 @@ module _ {T E S : Type 0} (core_of : E → ℕ) (draws : E → Bool) (legal : T 
   pub may_draw : (slots id : ℕ) (v : V) (carried : List (ℕ × S)) (entry : ℕ → E) → MayStamp v entry → ((number : ℕ) → draws (entry number) ≡ true)
       → Allows Keeps slots id (v, carried) 0 (λ n. (n + 1) % 2 ^ 64) (Adds core_of draws legal stands entry (v, carried))
   may_draw slots id v carried entry may does = adds slots id v carried entry (λ n. (n + 1) % 2 ^ 64) may
-      (λ log lt. let c = drawer_counts draws log (entry (stamps_in draws log)) (does (stamps_in draws log)) in let w = stamps_within draws log in omega (arith, c, lt, w))
+      (λ log lt. let c = drawer_counts draws log (entry (stamps_in draws log)) (does (stamps_in draws log)) in let w = stamps_within draws log in
+      omega (arith, c, lt, w))
 
   -- A core may tell what takes no stamp.
   pub may_tell : (slots id : ℕ) (v : V) (carried : List (ℕ × S)) (entry : ℕ → E) → MayStamp v entry → ((number : ℕ) → draws (entry number) ≡ false)

@@ -32,56 +32,75 @@ well_snoc : (entries : List Entry) (entry : Entry) → AreWellAnswered entries �
 well_snoc [] entry well last = (last, tt)
 well_snoc (e ∷ entries) entry well last = (well.0, well_snoc entries entry well.1 last)
 
-well_last : (entries : List Entry) (last entry : Entry) → AreWellAnswered (entries ++ last ∷ []) → IsWellAnswered entry → AreWellAnswered (entries ++ entry ∷ [])
+well_last : (entries : List Entry) (last entry : Entry) → AreWellAnswered (entries ++ last ∷ []) → IsWellAnswered entry
+    → AreWellAnswered (entries ++ entry ∷ [])
 well_last [] last entry well new = (new, tt)
 well_last (e ∷ entries) last entry well new = (well.0, well_last entries last entry well.1 new)
 
 module _ {X : Type 0} where
   -- a core's entries with one more are the calls of its events with one more
-  calls_more : (mine : List (Event X)) (entries : List Entry) (entry : Entry) → AreCallsOf mine entries → IsWellAnswered entry → AreCallsOf (mine ++ Called entry ∷ []) (entries ++ entry ∷ [])
+  calls_more : (mine : List (Event X)) (entries : List Entry) (entry : Entry) → AreCallsOf mine entries → IsWellAnswered entry
+      → AreCallsOf (mine ++ Called entry ∷ []) (entries ++ entry ∷ [])
   calls_more mine entries entry are well = record {
-    same = map-append unanswered entries (entry ∷ []) ∙ (ap (λ l. l ++ unanswered entry ∷ []) are.same ∙ (sym (map-append unanswered (calls_in mine) (entry ∷ [])) ∙ ap (map unanswered) (sym (filter_map-append called mine (Called entry ∷ [])))));
+    same =
+        map-append unanswered entries (entry ∷ [])
+        ∙ (ap (λ l. l ++ unanswered entry ∷ []) are.same
+        ∙ (sym (map-append unanswered (calls_in mine) (entry ∷ [])) ∙ ap (map unanswered) (sym (filter_map-append called mine (Called entry ∷ [])))));
     answered = well_snoc entries entry are.answered well;
   }
 
   -- a core's entries are the calls of its events with a fact more
-  calls_told : (mine : List (Event X)) (entries : List Entry) (core : ℕ) (fact : X) (number : ℕ) → AreCallsOf mine entries → AreCallsOf (mine ++ told_by core fact number ∷ []) entries
+  calls_told : (mine : List (Event X)) (entries : List Entry) (core : ℕ) (fact : X) (number : ℕ) → AreCallsOf mine entries
+      → AreCallsOf (mine ++ told_by core fact number ∷ []) entries
   calls_told mine entries core fact number are = record {
     same = are.same ∙ ap (map unanswered) (sym (append-nil (calls_in mine)) ∙ sym (filter_map-append called mine (told_by core fact number ∷ [])));
     answered = are.answered;
   }
 
   -- so are they once the last one that waits has its answer
-  pub calls_answered : (mine : List (Event X)) (front : List Entry) (last : Entry) (reply : Reply) (ack : Option ℕ) → AreCallsOf mine (front ++ last ∷ []) → waits_for_answer last.call last.reply ≡ true → IsFsyncReply reply → (IsSome ack ↔ IsTrue (is_ok_reply reply))
+  pub calls_answered : (mine : List (Event X)) (front : List Entry) (last : Entry) (reply : Reply) (ack : Option ℕ) → AreCallsOf mine (front ++ last ∷ [])
+      → waits_for_answer last.call last.reply ≡ true → IsFsyncReply reply → (IsSome ack ↔ IsTrue (is_ok_reply reply))
       → AreCallsOf mine (front ++ with_answer last reply ack ∷ [])
   calls_answered mine front last reply ack are waits may acknowledged = let a = answered_well last reply ack waits may acknowledged in record {
-    same = map-append unanswered front (with_answer last reply ack ∷ []) ∙ (ap (λ e. map unanswered front ++ e ∷ []) a.same ∙ (sym (map-append unanswered front (last ∷ [])) ∙ are.same));
+    same =
+        map-append unanswered front (with_answer last reply ack ∷ [])
+        ∙ (ap (λ e. map unanswered front ++ e ∷ []) a.same ∙ (sym (map-append unanswered front (last ∷ [])) ∙ are.same));
     answered = well_last front last (with_answer last reply ack) are.answered a.well;
   }
 
   -- the call that was seen last has an answer that it may have
-  seen_well : (first : TreeState) (log : List (Event X)) (entry : Entry) (seen : List (Event X)) → seen ≡ log ++ Called entry ∷ [] → IsLegal first (calls_in seen) → IsWellAnswered entry
-  seen_well first log entry seen is legal = last_comes_well first 0 (calls_in log) entry (subst (λ l. IsLegal first l) (ap calls_in is ∙ filter_map-append called log (Called entry ∷ [])) legal)
+  seen_well : (first : TreeState) (log : List (Event X)) (entry : Entry) (seen : List (Event X)) → seen ≡ log ++ Called entry ∷ []
+      → IsLegal first (calls_in seen) → IsWellAnswered entry
+  seen_well first log entry seen is legal =
+      last_comes_well first 0 (calls_in log) entry (subst (λ l. IsLegal first l) (ap calls_in is ∙ filter_map-append called log (Called entry ∷ [])) legal)
 
-module _ {C X : Type 0} (lawful : TreeState → List (Event X) → Type 0) (stands : TreeState → List (Event X) → ℕ → C → Type 0) (seat : Seat (Option C) (View TreeState (Event X))) (number events : ℕ) (entries : List Entry) (cells : List (HeldCell C)) (core : IsCore seat number entries events cells) (call : Call) (reply : Reply) where
+module _ {C X : Type 0} (lawful : TreeState → List (Event X) → Type 0) (stands : TreeState → List (Event X) → ℕ → C → Type 0)
+    (seat : Seat (Option C) (View TreeState (Event X))) (number events : ℕ) (entries : List Entry) (cells : List (HeldCell C))
+    (core : IsCore seat number entries events cells) (call : Call) (reply : Reply) where
   -- a call that may come may be entered
   pub may_enter : events < 2 ^ 50 → MayCall lawful stands seat.me.0 call reply → MayDrawEntry lawful stands seat.me.0 (entry_numbered number call reply)
   may_enter few may = record {
     own = λ n. sym core.number_known;
     few = let c = core.counted in omega (arith, c, few);
-    may = subst (λ k. (log : List (Event X)) → IsPast event_core is_call (IsLawful lawful) (stands_for stands) seat.me.0 log → MayDraw event_core is_call (IsLawful lawful) (stands_for stands) seat.me.0 (λ n. Called (entry_numbered k call reply n)) log) core.number_known may;
+    may =
+        subst (λ k. (log : List (Event X)) → IsPast event_core is_call (IsLawful lawful) (stands_for stands) seat.me.0 log
+        → MayDraw event_core is_call (IsLawful lawful) (stands_for stands) seat.me.0 (λ n. Called (entry_numbered k call reply n)) log)
+        core.number_known may;
   }
 
   -- and once it was entered the core's parts fit again
-  pub entered : (after : Seat (Option C) (View TreeState (Event X))) (stamp : ℕ) → events < 2 ^ 50 → IsSameSeat seat after → AddsEntry lawful stands (entry_numbered number call reply) seat.me stamp after.me
+  pub entered : (after : Seat (Option C) (View TreeState (Event X))) (stamp : ℕ) → events < 2 ^ 50 → IsSameSeat seat after
+      → AddsEntry lawful stands (entry_numbered number call reply) seat.me stamp after.me
       → IsCore after number (entries ++ entry_numbered number call reply stamp ∷ []) (events + 1) cells
   entered after stamp few same adds = let drew = adds.1.1 in let held : after.me.0.held ≡ seat.me.0.held = ap (λ v. v.held) drew.frame in record {
     lives = ap (λ v. v.gone) drew.frame ∙ core.lives;
     calls = ap (λ v. v.gathers) drew.frame ∙ core.calls;
     number_known = ap (λ v. v.core) drew.frame ∙ core.number_known;
     entries_are = subst (λ m. AreCallsOf m (entries ++ entry_numbered number call reply stamp ∷ [])) (sym drew.mine)
-        (calls_more seat.me.0.mine entries (entry_numbered number call reply stamp) core.entries_are (seen_well seat.me.0.first adds.1.0 (entry_numbered number call reply stamp) after.me.0.seen drew.entry_last drew.legal_seen.legal_calls));
-    counted = let c = core.counted in let l = ap length drew.mine in let m = length-append seat.me.0.mine (Called (entry_numbered number call reply stamp) ∷ []) in omega (arith, c, l, m);
+        (calls_more seat.me.0.mine entries (entry_numbered number call reply stamp) core.entries_are
+        (seen_well seat.me.0.first adds.1.0 (entry_numbered number call reply stamp) after.me.0.seen drew.entry_last drew.legal_seen.legal_calls));
+    counted = let c = core.counted in let l = ap length drew.mine in
+        let m = length-append seat.me.0.mine (Called (entry_numbered number call reply stamp) ∷ []) in omega (arith, c, l, m);
     few = omega (arith, few);
     places = held ∙ core.places;
     falls = subst Falls (sym held) core.falls;
@@ -89,7 +108,9 @@ module _ {C X : Type 0} (lawful : TreeState → List (Event X) → Type 0) (stan
     within = subst (λ (z : TableId × List ℕ). AreBelow z.0.slots z.1) (λ i. (sym same.table i, sym held i)) core.within;
   }
 
-module _ {C X : Type 0} (lawful : TreeState → List (Event X) → Type 0) (stands : TreeState → List (Event X) → ℕ → C → Type 0) (seat : Seat (Option C) (View TreeState (Event X))) (number events : ℕ) (entries : List Entry) (cells : List (HeldCell C)) (core : IsCore seat number entries events cells) where
+module _ {C X : Type 0} (lawful : TreeState → List (Event X) → Type 0) (stands : TreeState → List (Event X) → ℕ → C → Type 0)
+    (seat : Seat (Option C) (View TreeState (Event X))) (number events : ℕ) (entries : List Entry) (cells : List (HeldCell C))
+    (core : IsCore seat number entries events cells) where
   -- a fact that may stand may be told
   pub may_tell_now : (fact : X) → events < 2 ^ 50 → MayTell lawful stands seat.me.0 fact → MayTellNow lawful stands seat.me.0 fact
   may_tell_now fact few may = record {
@@ -98,13 +119,15 @@ module _ {C X : Type 0} (lawful : TreeState → List (Event X) → Type 0) (stan
   }
 
   -- once a core has told a fact its parts fit again, and its entries are as before
-  pub has_told : (after : Seat (Option C) (View TreeState (Event X))) (fact : X) → events < 2 ^ 50 → IsSameSeat seat after → TellsNow lawful stands fact seat.me after.me → IsCore after number entries (events + 1) cells
+  pub has_told : (after : Seat (Option C) (View TreeState (Event X))) (fact : X) → events < 2 ^ 50 → IsSameSeat seat after
+      → TellsNow lawful stands fact seat.me after.me → IsCore after number entries (events + 1) cells
   has_told after fact few same tells = let drew = tells.1.1.1 in let held : after.me.0.held ≡ seat.me.0.held = ap (λ v. v.held) drew.frame in record {
     lives = ap (λ v. v.gone) drew.frame ∙ core.lives;
     calls = ap (λ v. v.gathers) drew.frame ∙ core.calls;
     number_known = ap (λ v. v.core) drew.frame ∙ core.number_known;
     entries_are = subst (λ m. AreCallsOf m entries) (sym drew.mine) (calls_told seat.me.0.mine entries seat.me.0.core fact tells.0 core.entries_are);
-    counted = let c = core.counted in let l = ap length drew.mine in let m = length-append seat.me.0.mine (told_by seat.me.0.core fact tells.0 ∷ []) in omega (arith, c, l, m);
+    counted = let c = core.counted in let l = ap length drew.mine in let m = length-append seat.me.0.mine (told_by seat.me.0.core fact tells.0 ∷ []) in
+        omega (arith, c, l, m);
     few = omega (arith, few);
     places = held ∙ core.places;
     falls = subst Falls (sym held) core.falls;
@@ -112,9 +135,11 @@ module _ {C X : Type 0} (lawful : TreeState → List (Event X) → Type 0) (stan
     within = subst (λ (z : TableId × List ℕ). AreBelow z.0.slots z.1) (λ i. (sym same.table i, sym held i)) core.within;
   }
 
-module _ {C X : Type 0} (seat : Seat (Option C) (View TreeState (Event X))) (number events : ℕ) (entries : List Entry) (cells : List (HeldCell C)) (core : IsCore seat number entries events cells) where
+module _ {C X : Type 0} (seat : Seat (Option C) (View TreeState (Event X))) (number events : ℕ) (entries : List Entry) (cells : List (HeldCell C))
+    (core : IsCore seat number entries events cells) where
   -- once its last entry has an answer its parts fit again
-  pub has_answered : (front : List Entry) (last : Entry) (answer : Reply) (ack : Option ℕ) → entries ≡ front ++ last ∷ [] → waits_for_answer last.call last.reply ≡ true → IsFsyncReply answer → (IsSome ack ↔ IsTrue (is_ok_reply answer))
+  pub has_answered : (front : List Entry) (last : Entry) (answer : Reply) (ack : Option ℕ) → entries ≡ front ++ last ∷ []
+      → waits_for_answer last.call last.reply ≡ true → IsFsyncReply answer → (IsSome ack ↔ IsTrue (is_ok_reply answer))
       → IsCore seat number (front ++ with_answer last answer ack ∷ []) events cells
   has_answered front last answer ack is waits may acknowledged = record {
     lives = core.lives;
@@ -130,7 +155,8 @@ module _ {C X : Type 0} (seat : Seat (Option C) (View TreeState (Event X))) (num
   }
 
 -- the entry that was added waits where it was noted
-pub waits_now : (entries : List Entry) (call : Call) (reply : Reply) (number stamp : ℕ) → WaitsWell (entries ++ entry_numbered number call reply stamp ∷ []) (if waits_for_answer call reply then Some (record { 0 = stamp }) else None)
+pub waits_now : (entries : List Entry) (call : Call) (reply : Reply) (number stamp : ℕ)
+    → WaitsWell (entries ++ entry_numbered number call reply stamp ∷ []) (if waits_for_answer call reply then Some (record { 0 = stamp }) else None)
 waits_now entries call reply number stamp = ⊎_elim
     (λ is. rw is (record { front = entries; last = entry_numbered number call reply stamp; entries_are = refl; stamped = refl; waits = is }))
     (λ not. rw not tt) (cases_Bool (waits_for_answer call reply))
@@ -146,7 +172,8 @@ pub record IsWaitingEntry (entry : Entry) (stamp : ℕ) : Type 0 where
   pub stamped : entry.stamp.0 ≡ stamp
   pub waits : waits_for_answer entry.call entry.reply ≡ true
 
-pub last_waits : (entries front : List Entry) (last : Entry) (waiting : Option Stamp) (stamp : ℕ) → option_map (λ (s : Stamp). s.0) waiting ≡ Some stamp → WaitsWell entries waiting → entries ≡ front ++ last ∷ [] → IsWaitingEntry last stamp
+pub last_waits : (entries front : List Entry) (last : Entry) (waiting : Option Stamp) (stamp : ℕ) → option_map (λ (s : Stamp). s.0) waiting ≡ Some stamp
+    → WaitsWell entries waiting → entries ≡ front ++ last ∷ [] → IsWaitingEntry last stamp
 last_waits entries front last None stamp is well ends = absurd (cc (is))
 last_waits entries front last (Some noted) stamp is well ends =
     let same : well.last ≡ last = last_same well.front front well.last last (sym well.entries_are ∙ ends) in

@@ -64,10 +64,12 @@ module _ {T E S : Type 0} (core_of : E → ℕ) (draws : E → Bool) (legal : T 
   )
 
   -- the seat that gathers is the first
-  is_the_hub : (log : List E) (owner : ℕ → ℕ) (hub : V) (views : List V) (id : ℕ) (v : V) → v.gathers ≡ true → AreViews core_of draws legal stands first log owner hub views
+  is_the_hub : (log : List E) (owner : ℕ → ℕ) (hub : V) (views : List V) (id : ℕ) (v : V) → v.gathers ≡ true
+      → AreViews core_of draws legal stands first log owner hub views
       → get_elem? views id ≡ some v → (id ≡ 0) × (hub ≡ v)
   is_the_hub log owner hub views zero v does are at = (refl, some-injective hub v (sym are.hub_first ∙ at))
-  is_the_hub log owner hub views (suc core) v does are at = absurd (⊎_elim (λ gone. true≢false (sym does ∙ gone.calls)) (λ work. true≢false (sym does ∙ work.hand.calls)) (are.hands core v at))
+  is_the_hub log owner hub views (suc core) v does are at =
+      absurd (⊎_elim (λ gone. true≢false (sym does ∙ gone.calls)) (λ work. true≢false (sym does ∙ work.hand.calls)) (are.hands core v at))
 
   module _ (s : State S V) (log : List E) (owner : ℕ → ℕ) (v : V) (kept : IsKept core_of draws legal stands first log owner v s) where
     abbrev longer : List V
@@ -103,7 +105,12 @@ module _ {T E S : Type 0} (core_of : E → ℕ) (draws : E → Bool) (legal : T 
           (λ work. inr (record { hand = work.hand; waits = work.waits }))
           (are.hands c u (sym (set_else s.views 0 (suc c) (one_more v) (λ is. omega (arith, is))) ∙ old)))
           (λ new. inr (subst (λ (z : ℕ × V). IsAtWork core_of draws legal stands first z.0 log (one_more v) z.1)
-          (λ i. (let place = new.0 in let m = length-set s.views 0 (one_more v) in let is = are.cores in let same : v.cores ≡ c = omega (arith, place, m, is) in same i, new.1 i)) (newcomer_works none_gathered)))
+          (λ i. (
+            let place = new.0 in let m = length-set s.views 0 (one_more v) in let is = are.cores in let same : v.cores ≡ c = omega (arith, place, m, is) in
+                same i,
+            new.1 i,
+          ))
+          (newcomer_works none_gathered)))
           (snoc_place longer (newcomer v) u (suc c) at);
       owned = λ c p u at has. ⊎_elim
           (λ old. are.owned c p u (sym (set_else s.views 0 (suc c) (one_more v) (λ is. omega (arith, is))) ∙ old) has)
@@ -111,7 +118,8 @@ module _ {T E S : Type 0} (core_of : E → ℕ) (draws : E → Bool) (legal : T 
           (snoc_place longer (newcomer v) u (suc c) at);
     }
 
-    more : v.lists ≡ [] → v.cores < 256 → IsKept core_of draws legal stands first log owner (one_more v) (record { words = s.words; homes = s.homes; views = longer ++ newcomer v ∷ [] })
+    more : v.lists ≡ [] → v.cores < 256
+        → IsKept core_of draws legal stands first log owner (one_more v) (record { words = s.words; homes = s.homes; views = longer ++ newcomer v ∷ [] })
     more none_gathered few = record {
       log_is = record {
         count = kept.log_is.count;
@@ -132,7 +140,9 @@ module _ {T E S : Type 0} (core_of : E → ℕ) (draws : E → Bool) (legal : T 
       subst (λ i. Keeps (record { words = s.words; homes = s.homes; views = set s.views i (one_more v) ++ newcomer v ∷ [] })) (sym is.0)
       (log, owner, one_more v, more s log owner v (subst (λ h. IsKept core_of draws legal stands first log owner h s) is.1 kept) none_gathered few)
 
-  module _ (s : State S V) (log : List E) (owner : ℕ → ℕ) (v w : V) (kept : IsKept core_of draws legal stands first log owner v s) (core : ℕ) (at : get_elem? s.views (suc core) ≡ some w) (lives : w.gone ≡ false) (next : w.core ≡ length v.lists) (left : V) (left_gone : left.gone ≡ true) (left_calls : left.gathers ≡ false) (left_empty : left.held ≡ []) where
+  module _ (s : State S V) (log : List E) (owner : ℕ → ℕ) (v w : V) (kept : IsKept core_of draws legal stands first log owner v s) (core : ℕ)
+      (at : get_elem? s.views (suc core) ≡ some w) (lives : w.gone ≡ false) (next : w.core ≡ length v.lists) (left : V) (left_gone : left.gone ≡ true)
+      (left_calls : left.gathers ≡ false) (left_empty : left.held ≡ []) where
     abbrev held_by_hub : List V
     held_by_hub = set s.views 0 (gathered v w)
 
@@ -150,7 +160,8 @@ module _ {T E S : Type 0} (core_of : E → ℕ) (draws : E → Bool) (legal : T 
 
     with_list : AreViews core_of draws legal stands first log owner (gathered v w) (set held_by_hub (suc core) left)
     with_list = let are = kept.views_are in record {
-      hub_first = set_else held_by_hub (suc core) 0 left (λ is. omega (arith, is)) ∙ set_here s.views 0 (gathered v w) (let is = are.cores in omega (arith, is));
+      hub_first =
+          set_else held_by_hub (suc core) 0 left (λ is. omega (arith, is)) ∙ set_here s.views 0 (gathered v w) (let is = are.cores in omega (arith, is));
       gathers = are.gathers;
       hub_knows = are.hub_knows;
       cores = length-set held_by_hub (suc core) left ∙ (length-set s.views 0 (gathered v w) ∙ are.cores);
@@ -165,8 +176,20 @@ module _ {T E S : Type 0} (core_of : E → ℕ) (draws : E → Bool) (legal : T 
             gathered = let place = here.0 in let n = is_next in let m = count_lists in omega (arith, place, n, m);
           }))
           (λ else. ⊎_elim
-          (λ gone. inl (record { gone = gone.gone; calls = gone.calls; holds_none = gone.holds_none; gathered = let g = gone.gathered in let m = count_lists in omega (arith, g, m) }))
-          (λ still. inr (record { hand = still.hand; waits = let g = still.waits in let m = count_lists in let n = is_next in let apart : c ≢ core = λ is. else.0 (ap suc is) in grind (arith, g, m, n, apart) }))
+          (λ gone. inl
+          (record {
+            gone = gone.gone;
+            calls = gone.calls;
+            holds_none = gone.holds_none;
+            gathered = let g = gone.gathered in let m = count_lists in
+                omega (arith, g, m);
+          }))
+          (λ still. inr
+          (record {
+            hand = still.hand;
+            waits = let g = still.waits in let m = count_lists in let n = is_next in
+                let apart : c ≢ core = λ is. else.0 (ap suc is) in grind (arith, g, m, n, apart);
+          }))
           (are.hands c u (beyond c u else.1)))
           (at_set held_by_hub (suc core) (suc c) left u there);
       owned = λ c p u there has. ⊎_elim
@@ -175,9 +198,11 @@ module _ {T E S : Type 0} (core_of : E → ℕ) (draws : E → Bool) (legal : T 
           (at_set held_by_hub (suc core) (suc c) left u there);
     }
 
-    joined : IsKept core_of draws legal stands first log owner (gathered v w) (record { words = s.words; homes = s.homes; views = set held_by_hub (suc core) left })
+    joined : IsKept core_of draws legal stands first log owner (gathered v w)
+        (record { words = s.words; homes = s.homes; views = set held_by_hub (suc core) left })
     joined = record {
-      log_is = record { count = kept.log_is.count; legal_log = kept.log_is.legal_log; many = kept.log_is.many; known = kept.log_is.known; few = kept.log_is.few };
+      log_is =
+          record { count = kept.log_is.count; legal_log = kept.log_is.legal_log; many = kept.log_is.many; known = kept.log_is.known; few = kept.log_is.few };
       views_are = with_list;
       cells_are = kept.cells_are;
     }
@@ -190,8 +215,14 @@ module _ {T E S : Type 0} (core_of : E → ℕ) (draws : E → Bool) (legal : T 
       let is = is_the_hub log owner hub s.views id v does kept.views_are at in
       let seen : get_elem? s.views other ≡ some w = sym (set_else s.views id other (gathered v w) apart) ∙ there in
       let core = is_a_core core_of draws legal stands first log owner hub s.views other w calls kept.views_are seen in
-      subst (λ (z : ℕ × ℕ). Keeps (record { words = s.words; homes = s.homes; views = set (set s.views z.0 (gathered v w)) z.1 left })) (λ i. (sym is.0 i, sym core.1 i))
-      (log, owner, gathered v w, joined s log owner v w (subst (λ h. IsKept core_of draws legal stands first log owner h s) is.1 kept) core.0 (subst (λ j. get_elem? s.views j ≡ some w) core.1 seen) lives next left gone quiet empty)
+      subst (λ (z : ℕ × ℕ). Keeps (record { words = s.words; homes = s.homes; views = set (set s.views z.0 (gathered v w)) z.1 left }))
+      (λ i. (sym is.0 i, sym core.1 i)) (
+        log,
+        owner,
+        gathered v w,
+        joined s log owner v w (subst (λ h. IsKept core_of draws legal stands first log owner h s) is.1 kept) core.0
+            (subst (λ j. get_elem? s.views j ≡ some w) core.1 seen) lives next left gone quiet empty,
+      )
 
   -- what is known at the end, when all lists were gathered
   pub record IsGathered (lists : List (List E)) (cores : ℕ) (log : List E) : Type 0 where
@@ -210,6 +241,7 @@ module _ {T E S : Type 0} (core_of : E → ℕ) (draws : E → Bool) (legal : T 
           legal_log = kept.log_is.legal_log;
           known = kept'.log_is.known;
           own = kept'.views_are.lists;
-          small = let many = kept'.log_is.many in let le = few_in_all core_of 256 (2 ^ 50) log (known_more core_of v.cores 256 log many kept'.log_is.known) kept.log_is.few in omega (arith, le);
+          small = let many = kept'.log_is.many in
+              let le = few_in_all core_of 256 (2 ^ 50) log (known_more core_of v.cores 256 log many kept'.log_is.known) kept.log_is.few in omega (arith, le);
         },
       )

@@ -51,41 +51,53 @@ module _ {T E S : Type 0} (core_of : E → ℕ) (draws : E → Bool) (legal : T 
 
   -- the cells stay as they are where a lock word is not 0 after a step
   pub cells_locked : (log : List E) (owner : ℕ → ℕ) (words : List ℕ) (homes : List (mathlib.Core.Option.Option S)) (place n : ℕ) → n ≢ 0
-      → AreCells core_of draws legal stands first log owner words homes → AreCells core_of draws legal stands first log owner (set words (lock_word place) n) homes
+      → AreCells core_of draws legal stands first log owner words homes
+      → AreCells core_of draws legal stands first log owner (set words (lock_word place) n) homes
   cells_locked log owner words homes place n not cells = record {
     locks = length-set words (lock_word place) n ∙ cells.locks;
     home = cells.home;
     free = λ p lt is0. dite (ℕ_discrete p place)
-        (λ is. absurd (not (sym (get_or-set_same words (lock_word place) n 0 (let l = cells.locks in omega (arith, l, is, lt))) ∙ (ap (λ q. get_or (set words (lock_word place) n) (16 + q) 0) (sym is) ∙ is0))))
+        (λ is. absurd
+        (not
+        (sym (get_or-set_same words (lock_word place) n 0 (let l = cells.locks in omega (arith, l, is, lt)))
+        ∙ (ap (λ q. get_or (set words (lock_word place) n) (16 + q) 0) (sym is) ∙ is0))))
         (λ other. cells.free p lt (sym (other_word words (lock_word place) (lock_word p) n (λ same. other (omega (arith, same)))) ∙ is0));
   }
 
   -- a cell is taken from home by a new owner
   pub cells_taken : (log : List E) (owner : ℕ → ℕ) (words : List ℕ) (homes : List (mathlib.Core.Option.Option S)) (place n new : ℕ) → n ≢ 0
-      → AreCells core_of draws legal stands first log owner words homes → AreCells core_of draws legal stands first log (owner_with owner place new) (set words (lock_word place) n) (set homes place none)
+      → AreCells core_of draws legal stands first log owner words homes
+      → AreCells core_of draws legal stands first log (owner_with owner place new) (set words (lock_word place) n) (set homes place none)
   cells_taken log owner words homes place n new not cells = let locked = cells_locked log owner words homes place n not cells in record {
     locks = locked.locks ∙ ap (λ k. 16 + k) (sym (length-set homes place none));
     home = λ p x at. ⊎_elim (λ here. absurd (some-ne-none x (sym here.1)))
         (λ there. let old = cells.home p x there.1 in (owner_else owner place new p there.0 ∙ old.0, old.1))
         (at_set homes place p none (some x) at);
     free = λ p lt is0. dite (ℕ_discrete p place)
-        (λ is. absurd (not (sym (get_or-set_same words (lock_word place) n 0 (let l = cells.locks in let h = length-set homes place none in omega (arith, l, is, lt, h))) ∙ (ap (λ q. get_or (set words (lock_word place) n) (16 + q) 0) (sym is) ∙ is0))))
-        (λ other. let old = locked.free p (let h = length-set homes place none in omega (arith, lt, h)) is0 in (old.0, set_else homes place p none other ∙ old.1));
+        (λ is. absurd
+        (not
+        (sym (get_or-set_same words (lock_word place) n 0 (let l = cells.locks in let h = length-set homes place none in omega (arith, l, is, lt, h)))
+        ∙ (ap (λ q. get_or (set words (lock_word place) n) (16 + q) 0) (sym is) ∙ is0))))
+        (λ other. let old = locked.free p (let h = length-set homes place none in omega (arith, lt, h)) is0 in
+        (old.0, set_else homes place p none other ∙ old.1));
   }
 
   -- a cell goes home with a value that stands for what the history leaves of it
-  pub cells_given : (log : List E) (owner : ℕ → ℕ) (words : List ℕ) (homes : List (mathlib.Core.Option.Option S)) (place n : ℕ) (value : S) → place < length homes
+  pub cells_given : (log : List E) (owner : ℕ → ℕ) (words : List ℕ) (homes : List (mathlib.Core.Option.Option S)) (place n : ℕ) (value : S)
+      → place < length homes
       → stands first log place value → AreCells core_of draws legal stands first log owner words homes
       → AreCells core_of draws legal stands first log (owner_with owner place 0) (set words (lock_word place) n) (set homes place (some value))
   cells_given log owner words homes place n value within stood cells = record {
     locks = length-set words (lock_word place) n ∙ (cells.locks ∙ ap (λ k. 16 + k) (sym (length-set homes place (some value))));
     home = λ p x at. ⊎_elim
-        (λ here. (owner_here owner place 0 p here.0, subst (λ (z : ℕ × S). stands first log z.0 z.1) (λ i. (sym here.0 i, some-injective value x here.1 i)) stood))
+        (λ here.
+        (owner_here owner place 0 p here.0, subst (λ (z : ℕ × S). stands first log z.0 z.1) (λ i. (sym here.0 i, some-injective value x here.1 i)) stood))
         (λ there. let old = cells.home p x there.1 in (owner_else owner place 0 p there.0 ∙ old.0, old.1))
         (at_set homes place p (some value) (some x) at);
     free = λ p lt is0. dite (ℕ_discrete p place)
         (λ is. (value, ap (λ q. get_elem? (set homes place (some value)) q) is ∙ set_here homes place (some value) within))
-        (λ other. let old = cells.free p (let h = length-set homes place (some value) in omega (arith, lt, h)) (sym (other_word words (lock_word place) (lock_word p) n (λ same. other (omega (arith, same)))) ∙ is0) in
+        (λ other. let old = cells.free p (let h = length-set homes place (some value) in omega (arith, lt, h))
+        (sym (other_word words (lock_word place) (lock_word p) n (λ same. other (omega (arith, same)))) ∙ is0) in
         (old.0, set_else homes place p (some value) other ∙ old.1));
   }
 
@@ -100,20 +112,24 @@ module _ {T E S : Type 0} (core_of : E → ℕ) (draws : E → Bool) (legal : T 
   }
 
   -- a seat that does not gather is a core's
-  pub is_a_core : (log : List E) (owner : ℕ → ℕ) (hub : V) (views : List V) (id : ℕ) (v : V) → v.gathers ≡ false → AreViews core_of draws legal stands first log owner hub views
+  pub is_a_core : (log : List E) (owner : ℕ → ℕ) (hub : V) (views : List V) (id : ℕ) (v : V) → v.gathers ≡ false
+      → AreViews core_of draws legal stands first log owner hub views
       → get_elem? views id ≡ some v → (core : ℕ) × (id ≡ suc core)
-  is_a_core log owner hub views zero v not are at = let is : hub ≡ v = some-injective hub v (sym are.hub_first ∙ at) in absurd (true≢false (sym are.gathers ∙ (ap (λ (u : V). u.gathers) is ∙ not)))
+  is_a_core log owner hub views zero v not are at = let is : hub ≡ v = some-injective hub v (sym are.hub_first ∙ at) in
+      absurd (true≢false (sym are.gathers ∙ (ap (λ (u : V). u.gathers) is ∙ not)))
   is_a_core log owner hub views (suc core) v not are at = (core, refl)
 
   -- a core whose list was not gathered is at work
-  pub is_at_work : (log : List E) (owner : ℕ → ℕ) (hub : V) (views : List V) (core : ℕ) (v : V) → v.gone ≡ false → AreViews core_of draws legal stands first log owner hub views
+  pub is_at_work : (log : List E) (owner : ℕ → ℕ) (hub : V) (views : List V) (core : ℕ) (v : V) → v.gone ≡ false
+      → AreViews core_of draws legal stands first log owner hub views
       → get_elem? views (suc core) ≡ some v → IsAtWork core_of draws legal stands first core log hub v
   is_at_work log owner hub views core v not are at = ⊎_elim (λ gone. absurd (true≢false (sym gone.gone ∙ not))) (λ work. work) (are.hands core v at)
 
   -- what happens to the other cores where a core's view changes
   pub record AreOthers (log next : List E) (owner after : ℕ → ℕ) (hub : V) (views : List V) (core : ℕ) : Type 0 where
     pub lists_stay : (other : ℕ) → other < length hub.lists → entries_by core_of other next ≡ entries_by core_of other log
-    pub others : (other : ℕ) (u : V) → other ≢ core → get_elem? views (suc other) ≡ some u → IsAtWork core_of draws legal stands first other log hub u → IsAtWork core_of draws legal stands first other next hub u
+    pub others : (other : ℕ) (u : V) → other ≢ core → get_elem? views (suc other) ≡ some u → IsAtWork core_of draws legal stands first other log hub u
+        → IsAtWork core_of draws legal stands first other next hub u
     pub theirs : (other p : ℕ) (u : V) → other ≢ core → get_elem? views (suc other) ≡ some u → Has u.held p → owner p ≡ suc other → after p ≡ suc other
 
   pub slice_within : {A : Type 0} (xs : List A) (k : ℕ) (x : A) → Rattle.std.specs.List.slice_get xs k ≡ Rattle.std.specs.Prelude.Some x → k < length xs
@@ -121,7 +137,8 @@ module _ {T E S : Type 0} (core_of : E → ℕ) (draws : E → Bool) (legal : T 
 
   -- a core's view changes
   pub views_set : (log next : List E) (owner after : ℕ → ℕ) (hub : V) (views : List V) (core : ℕ) (v w : V) → get_elem? views (suc core) ≡ some v
-      → IsAtWork core_of draws legal stands first core next hub w → ((p : ℕ) → Has w.held p → after p ≡ suc core) → AreOthers log next owner after hub views core
+      → IsAtWork core_of draws legal stands first core next hub w → ((p : ℕ) → Has w.held p → after p ≡ suc core)
+      → AreOthers log next owner after hub views core
       → AreViews core_of draws legal stands first log owner hub views → AreViews core_of draws legal stands first next after hub (set views (suc core) w)
   views_set log next owner after hub views core v w at work mine rest are = record {
     hub_first = set_else views (suc core) 0 w (λ is. omega (arith, is)) ∙ are.hub_first;

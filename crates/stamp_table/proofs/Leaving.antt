@@ -25,7 +25,8 @@ module _ {C : Type 0} (from : ℕ) where
   begins_last front cell = ap (begins_from from) (last_first front cell)
 
   -- where the last cell stands from the place on, it makes no difference to what is left
-  pub left_pop : (front : List (HeldCell C)) (cell : HeldCell C) → begins_from from (reverse (front ++ cell ∷ [])) ≡ true → left_below from (front ++ cell ∷ []) ≡ left_below from front
+  pub left_pop : (front : List (HeldCell C)) (cell : HeldCell C) → begins_from from (reverse (front ++ cell ∷ [])) ≡ true
+      → left_below from (front ++ cell ∷ []) ≡ left_below from front
   left_pop front cell does = let here : nat_le from cell.place ≡ true = sym (begins_last front cell) ∙ does in
       ap (λ cells. reverse (drop_from from cells)) (last_first front cell) ∙ rw here refl
 
@@ -50,6 +51,8 @@ module _ {C X : Type 0} where
   pub stands_on : (lawful : TreeState → List (Event X) → Type 0) (stands : TreeState → List (Event X) → ℕ → C → Type 0) (from : ℕ) (a b : Hand C X) → LetsGo a b
       → EachFrom from (Stands lawful stands a.view) b.held → begins_from from (reverse b.held) ≡ true → OfLast (Stands lawful stands b.view) b.held
   stands_on lawful stands from a b lets each does front cell is =
-      let le : from ≤ cell.place = (let e : nat_le from cell.place ≡ true = sym (begins_last from front cell) ∙ (ap (λ cells. begins_from from (reverse cells)) (sym is) ∙ does) in grind (arith, nat_tests, e)) in
+      let le : from ≤ cell.place =
+      (let e : nat_le from cell.place ≡ true = sym (begins_last from front cell) ∙ (ap (λ cells. begins_from from (reverse cells)) (sym is) ∙ does) in
+      grind (arith, nat_tests, e)) in
       let old = each_last from (Stands lawful stands a.view) front cell (subst (λ cells. EachFrom from (Stands lawful stands a.view) cells) is each) le in
       subst (λ (v : View TreeState (Event X)). stands v.first v.seen cell.place cell.value) (sym lets.view) old

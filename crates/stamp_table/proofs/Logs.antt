@@ -9,11 +9,13 @@ use Rattle.stamp_table.specs.Rule.{is_by, entries_by, AreKnown, stamps_in}
 module _ {E : Type 0} (core_of : E → ℕ) where
   -- an entry of the core comes behind its others
   pub own_comes : (core : ℕ) (log : List E) (e : E) → core_of e ≡ core → entries_by core_of core (log ++ e ∷ []) ≡ entries_by core_of core log ++ e ∷ []
-  own_comes core log e own = let here : is_by core_of core e ≡ true = eq-eqb (core_of e) core own in filter-append (is_by core_of core) log (e ∷ []) ∙ rw here refl
+  own_comes core log e own = let here : is_by core_of core e ≡ true = eq-eqb (core_of e) core own in
+      filter-append (is_by core_of core) log (e ∷ []) ∙ rw here refl
 
   -- an entry of another core is none of the core's
   pub other_comes : (core : ℕ) (log : List E) (e : E) → core_of e ≢ core → entries_by core_of core (log ++ e ∷ []) ≡ entries_by core_of core log
-  other_comes core log e other = let here : is_by core_of core e ≡ false = ne_eqb (core_of e) core other in filter-append (is_by core_of core) log (e ∷ []) ∙ rw here (append-nil (entries_by core_of core log))
+  other_comes core log e other = let here : is_by core_of core e ≡ false = ne_eqb (core_of e) core other in
+      filter-append (is_by core_of core) log (e ∷ []) ∙ rw here (append-nil (entries_by core_of core log))
 
   abbrev totals : ℕ → List E → ℕ
   totals zero log = 0
@@ -25,13 +27,17 @@ module _ {E : Type 0} (core_of : E → ℕ) where
 
   totals_past : (n : ℕ) (e : E) (log : List E) → n ≤ core_of e → totals n (e ∷ log) ≡ totals n log
   totals_past zero e log le = refl
-  totals_past (suc n) e log le = let not : is_by core_of n e ≡ false = ne_eqb (core_of e) n (λ is. omega (arith, is)) in let r = totals_past n e log (omega arith) in let l : length (entries_by core_of n (e ∷ log)) ≡ length (entries_by core_of n log) = rw not refl in omega (arith, r, l)
+  totals_past (suc n) e log le = let not : is_by core_of n e ≡ false = ne_eqb (core_of e) n (λ is. omega (arith, is)) in
+      let r = totals_past n e log (omega arith) in let l : length (entries_by core_of n (e ∷ log)) ≡ length (entries_by core_of n log) = rw not refl in
+      omega (arith, r, l)
 
   totals_one : (n : ℕ) (e : E) (log : List E) → core_of e < n → totals n (e ∷ log) ≡ suc (totals n log)
   totals_one zero e log lt = absurd (omega arith)
   totals_one (suc n) e log lt = dite (ℕ_discrete (core_of e) n)
-      (λ is. let yes : is_by core_of n e ≡ true = eq-eqb (core_of e) n is in let past = totals_past n e log (omega (arith, is)) in let l : length (entries_by core_of n (e ∷ log)) ≡ suc (length (entries_by core_of n log)) = rw yes refl in omega (arith, past, l))
-      (λ other. let not : is_by core_of n e ≡ false = ne_eqb (core_of e) n other in let one = totals_one n e log (grind (arith, other)) in let l : length (entries_by core_of n (e ∷ log)) ≡ length (entries_by core_of n log) = rw not refl in omega (arith, one, l))
+      (λ is. let yes : is_by core_of n e ≡ true = eq-eqb (core_of e) n is in let past = totals_past n e log (omega (arith, is)) in
+      let l : length (entries_by core_of n (e ∷ log)) ≡ suc (length (entries_by core_of n log)) = rw yes refl in omega (arith, past, l))
+      (λ other. let not : is_by core_of n e ≡ false = ne_eqb (core_of e) n other in let one = totals_one n e log (grind (arith, other)) in
+      let l : length (entries_by core_of n (e ∷ log)) ≡ length (entries_by core_of n log) = rw not refl in omega (arith, one, l))
 
   totals_all : (n : ℕ) (log : List E) → AreKnown core_of n log → length log ≡ totals n log
   totals_all n [] all = sym (totals_none n)
@@ -56,16 +62,19 @@ module _ {E : Type 0} (core_of : E → ℕ) where
   -- a core that is not among them has no entry
   pub none_yet : (n core : ℕ) (log : List E) → n ≤ core → AreKnown core_of n log → entries_by core_of core log ≡ []
   none_yet n core [] le known = refl
-  none_yet n core (x ∷ log) le known = let lt = known.0 in let not : is_by core_of core x ≡ false = ne_eqb (core_of x) core (λ is. omega (arith, is, lt, le)) in rw not (none_yet n core log le known.1)
+  none_yet n core (x ∷ log) le known = let lt = known.0 in let not : is_by core_of core x ≡ false = ne_eqb (core_of x) core (λ is. omega (arith, is, lt, le)) in
+      rw not (none_yet n core log le known.1)
 
 module _ {E : Type 0} (draws : E → Bool) where
   -- an entry that draws is counted
   pub drawer_counts : (log : List E) (e : E) → draws e ≡ true → stamps_in draws (log ++ e ∷ []) ≡ stamps_in draws log + 1
-  drawer_counts log e does = let l = ap length (filter-append draws log (e ∷ [])) in let m = length-append (filter draws log) (filter draws (e ∷ [])) in let one : length (filter draws (e ∷ [])) ≡ 1 = rw does refl in omega (arith, l, m, one)
+  drawer_counts log e does = let l = ap length (filter-append draws log (e ∷ [])) in let m = length-append (filter draws log) (filter draws (e ∷ [])) in
+      let one : length (filter draws (e ∷ [])) ≡ 1 = rw does refl in omega (arith, l, m, one)
 
   -- any other is not
   pub teller_counts_not : (log : List E) (e : E) → draws e ≡ false → stamps_in draws (log ++ e ∷ []) ≡ stamps_in draws log
-  teller_counts_not log e not = let l = ap length (filter-append draws log (e ∷ [])) in let m = length-append (filter draws log) (filter draws (e ∷ [])) in let none : length (filter draws (e ∷ [])) ≡ 0 = rw not refl in omega (arith, l, m, none)
+  teller_counts_not log e not = let l = ap length (filter-append draws log (e ∷ [])) in let m = length-append (filter draws log) (filter draws (e ∷ [])) in
+      let none : length (filter draws (e ∷ [])) ≡ 0 = rw not refl in omega (arith, l, m, none)
 
   pub stamps_within : (log : List E) → stamps_in draws log ≤ length log
   stamps_within log = let both = length-filter_both draws (λ e. not (draws e)) (λ e. refl) log in omega (arith, both)

@@ -47,7 +47,8 @@ module _ (cores : ℕ) where
 
   module _ (entry : Entry) (history : List Entry) (own : ℕ → List Entry) (known : entry.core.0 < cores) (are : AreOwnOf cores own (entry ∷ history)) where
     first_of : Begins (own entry.core.0) entry (filter (is_core entry.core.0) history)
-    first_of = begins (own entry.core.0) entry (filter (is_core entry.core.0) history) (are.same entry.core.0 known ∙ rw (eq-eqb entry.core.0 entry.core.0 refl) refl)
+    first_of =
+        begins (own entry.core.0) entry (filter (is_core entry.core.0) history) (are.same entry.core.0 known ∙ rw (eq-eqb entry.core.0 entry.core.0 refl) refl)
 
     well_first : IsWellAnswered first_of.first × AreWellAnswered first_of.others
     well_first = subst AreWellAnswered first_of.entries_are (are.well entry.core.0 known)
@@ -55,12 +56,14 @@ module _ (cores : ℕ) where
     left_are : AreOwnOf cores (left entry.core.0 first_of.others own) history
     left_are = record {
       same = λ core lt. ⊎_elim
-          (λ is. let here : entry.core.0 ≡ core = eqb-true entry.core.0 core is in rw is (first_of.same_rest ∙ ap (λ c. map unanswered (filter (is_core c) history)) here))
+          (λ is. let here : entry.core.0 ≡ core = eqb-true entry.core.0 core is in
+          rw is (first_of.same_rest ∙ ap (λ c. map unanswered (filter (is_core c) history)) here))
           (λ not. rw not (are.same core lt ∙ rw not refl)) (cases_Bool (entry.core.0 == core));
       well = λ core lt. ⊎_elim (λ is. rw is well_first.1) (λ not. rw not (are.well core lt)) (cases_Bool (entry.core.0 == core));
     }
 
-    filled_more : (filled : List Entry) → IsFilled cores (left entry.core.0 first_of.others own) history filled → IsFilled cores own (entry ∷ history) (first_of.first ∷ filled)
+    filled_more : (filled : List Entry) → IsFilled cores (left entry.core.0 first_of.others own) history filled
+        → IsFilled cores own (entry ∷ history) (first_of.first ∷ filled)
     filled_more filled is_filled =
         let same_core : first_of.first.core.0 ≡ entry.core.0 = ap (λ (c : CoreId). c.0) (same_call first_of.first entry first_of.same).core in
         record {
@@ -77,7 +80,8 @@ module _ (cores : ℕ) where
         }
 
   -- what the cores have fills the history
-  pub fills : (history : List Entry) (own : ℕ → List Entry) → AreOfCores cores history → AreOwnOf cores own history → (filled : List Entry) × IsFilled cores own history filled
+  pub fills : (history : List Entry) (own : ℕ → List Entry) → AreOfCores cores history → AreOwnOf cores own history
+      → (filled : List Entry) × IsFilled cores own history filled
   fills [] own known are = ([], record { same = refl; own_are = λ core lt. sym (none (own core) (are.same core lt)); well = tt })
   fills (entry ∷ history) own known are =
       let rest = fills history (left entry.core.0 (first_of entry history own known.0 are).others own) known.1 (left_are entry history own known.0 are) in

@@ -24,7 +24,8 @@ module _ {T E S : Type 0} (core_of : E → ℕ) (draws : E → Bool) (legal : T 
   Keeps = Kept core_of draws legal stands first
 
   -- the history stays, and the stamp word with it
-  log_stays : (cores : ℕ) (log : List E) (words : List ℕ) (place n : ℕ) → IsLog core_of draws legal stands first cores log words → IsLog core_of draws legal stands first cores log (set words (lock_word place) n)
+  log_stays : (cores : ℕ) (log : List E) (words : List ℕ) (place n : ℕ) → IsLog core_of draws legal stands first cores log words
+      → IsLog core_of draws legal stands first cores log (set words (lock_word place) n)
   log_stays cores log words place n is = record {
     count = other_word words (lock_word place) 0 n (λ same. omega (arith, same)) ∙ is.count;
     legal_log = is.legal_log;
@@ -37,7 +38,8 @@ module _ {T E S : Type 0} (core_of : E → ℕ) (draws : E → Bool) (legal : T 
   abbrev taking : List E → ℕ → V → V
   taking log place v = record v { seen = log; held = place ∷ v.held }
 
-  taker_works : (log : List E) (hub v : V) (core place : ℕ) → IsAtWork core_of draws legal stands first core log hub v → IsAtWork core_of draws legal stands first core log hub (taking log place v)
+  taker_works : (log : List E) (hub v : V) (core place : ℕ) → IsAtWork core_of draws legal stands first core log hub v
+      → IsAtWork core_of draws legal stands first core log hub (taking log place v)
   taker_works log hub v core place work = record {
     hand = record {
       lives = work.hand.lives;
@@ -51,13 +53,20 @@ module _ {T E S : Type 0} (core_of : E → ℕ) (draws : E → Bool) (legal : T 
     waits = work.waits;
   }
 
-  module _ (place : ℕ) (me : Me S V) (lives : me.0.gone ≡ false) (calls : me.0.gathers ≡ false) (s : State S V) (log : List E) (owner : ℕ → ℕ) (hub : V) (kept : IsKept core_of draws legal stands first log owner hub s) (core : ℕ) (at : get_elem? s.views (suc core) ≡ some me.0) where
+  module _ (place : ℕ) (me : Me S V) (lives : me.0.gone ≡ false) (calls : me.0.gathers ≡ false) (s : State S V) (log : List E) (owner : ℕ → ℕ) (hub : V)
+      (kept : IsKept core_of draws legal stands first log owner hub s) (core : ℕ) (at : get_elem? s.views (suc core) ≡ some me.0) where
     work : IsAtWork core_of draws legal stands first core log hub me.0
     work = is_at_work core_of draws legal stands first log owner hub s.views core me.0 lives kept.views_are at
 
-    taken_views : (homed : owner place ≡ 0) → AreViews core_of draws legal stands first log (owner_with owner place (suc core)) hub (set s.views (suc core) (taking log place me.0))
-    taken_views homed = views_set core_of draws legal stands first log log owner (owner_with owner place (suc core)) hub s.views core me.0 (taking log place me.0) at (taker_works log hub me.0 core place work)
-        (λ p has. ⊎_elim (λ here. owner_here owner place (suc core) p (sym here)) (λ old. dite (ℕ_discrete p place) (λ is. owner_here owner place (suc core) p is) (λ not. owner_else owner place (suc core) p not ∙ kept.views_are.owned core p me.0 at old)) has)
+    taken_views : (homed : owner place ≡ 0)
+        → AreViews core_of draws legal stands first log (owner_with owner place (suc core)) hub (set s.views (suc core) (taking log place me.0))
+    taken_views homed =
+        views_set core_of draws legal stands first log log owner (owner_with owner place (suc core)) hub s.views core me.0 (taking log place me.0) at
+        (taker_works log hub me.0 core place work)
+        (λ p has. ⊎_elim (λ here. owner_here owner place (suc core) p (sym here))
+        (λ old. dite (ℕ_discrete p place) (λ is. owner_here owner place (suc core) p is)
+        (λ not. owner_else owner place (suc core) p not ∙ kept.views_are.owned core p me.0 at old))
+        has)
         (record {
           lists_stay = λ other lt. refl;
           others = λ other u not there w. w;
@@ -66,7 +75,8 @@ module _ {T E S : Type 0} (core_of : E → ℕ) (draws : E → Bool) (legal : T 
         kept.views_are
 
     taken : (n : ℕ) (value : S) → n ≢ 0 → get_elem? s.homes place ≡ some (some value)
-        → IsKept core_of draws legal stands first log (owner_with owner place (suc core)) hub (stepped s (lock_word place) n (suc core) me.1 (taking log place me.0) (takes place value))
+        → IsKept core_of draws legal stands first log (owner_with owner place (suc core)) hub
+        (stepped s (lock_word place) n (suc core) me.1 (taking log place me.0) (takes place value))
     taken n value not there = record {
       log_is = log_stays hub.cores log s.words place n kept.log_is;
       views_are = taken_views (kept.cells_are.home place value there).0;
@@ -94,7 +104,8 @@ module _ {T E S : Type 0} (core_of : E → ℕ) (draws : E → Bool) (legal : T 
     }
 
     takes_or_not : (slots : ℕ) (f : ℕ → ℕ) → place < slots → length s.homes ≡ slots → ((n : ℕ) → f n ≢ 0) → let n = get_or s.words (lock_word place) 0 in
-        (w : V) × (a : Act S) × Rattle.atomic_table.specs.Table.Valid s.homes me.1 a × Keeps (stepped s (lock_word place) (f n) (suc core) me.1 w a) × MayTake core_of draws legal stands place me n (w, Rattle.atomic_table.specs.Table.carried_after me.1 a)
+        (w : V) × (a : Act S) × Rattle.atomic_table.specs.Table.Valid s.homes me.1 a × Keeps (stepped s (lock_word place) (f n) (suc core) me.1 w a)
+        × MayTake core_of draws legal stands place me n (w, Rattle.atomic_table.specs.Table.carried_after me.1 a)
     takes_or_not slots f within wide not = let n = get_or s.words (lock_word place) 0 in dite (ℕ_discrete n 0)
         (λ is. let at_home = kept.cells_are.free place (omega (arith, within, wide)) is in (
           taking log place me.0,
@@ -111,15 +122,28 @@ module _ {T E S : Type 0} (core_of : E → ℕ) (draws : E → Bool) (legal : T 
   may_take slots id place me f lives calls within not s holds wide at _ =
       let log = holds.0 in let owner = holds.1 in let hub = holds.2 in let kept = holds.3 in
       let core = is_a_core core_of draws legal stands first log owner hub s.views id me.0 calls kept.views_are at in
-      subst (λ i. (w : V) × (a : Act S) × Rattle.atomic_table.specs.Table.Valid s.homes me.1 a × Keeps (stepped s (lock_word place) (f (get_or s.words (lock_word place) 0)) i me.1 w a) × MayTake core_of draws legal stands place me (get_or s.words (lock_word place) 0) (w, Rattle.atomic_table.specs.Table.carried_after me.1 a))
-      (sym core.1) (takes_or_not place me lives calls s log owner hub kept core.0 (subst (λ i. get_elem? s.views i ≡ some me.0) core.1 at) slots f within wide not)
+      subst (λ i. (w : V) × (a : Act S) × Rattle.atomic_table.specs.Table.Valid s.homes me.1 a
+      × Keeps (stepped s (lock_word place) (f (get_or s.words (lock_word place) 0)) i me.1 w a)
+      × MayTake core_of draws legal stands place me (get_or s.words (lock_word place) 0) (w, Rattle.atomic_table.specs.Table.carried_after me.1 a))
+      (sym core.1)
+      (takes_or_not place me lives calls s log owner hub kept core.0 (subst (λ i. get_elem? s.views i ≡ some me.0) core.1 at) slots f within wide not)
 
   -- The same, said of the word.
-  pub may_take_word : (slots id word place : ℕ) (me : Me S V) (f : ℕ → ℕ) → me.0.gone ≡ false → me.0.gathers ≡ false → place < slots → ((n : ℕ) → f n ≢ 0) → word ≡ lock_word place
+  pub may_take_word : (slots id word place : ℕ) (me : Me S V) (f : ℕ → ℕ) → me.0.gone ≡ false → me.0.gathers ≡ false → place < slots → ((n : ℕ) → f n ≢ 0)
+      → word ≡ lock_word place
       → Allows Keeps slots id me word f (λ n m. (p : ℕ) → word ≡ lock_word p → MayTake core_of draws legal stands p me n m)
-  may_take_word slots id word place me f lives calls within not is = subst (λ w. Allows Keeps slots id me w f (λ n m. (p : ℕ) → w ≡ lock_word p → MayTake core_of draws legal stands p me n m)) (sym is)
-      (λ s holds wide at lt. let r = may_take slots id place me f lives calls within not s holds wide at lt in
-      (r.0, r.1, r.2, r.3, λ p e. let same : place ≡ p = omega (arith, e) in subst (λ q. MayTake core_of draws legal stands q me (get_or s.words (lock_word place) 0) (r.0, Rattle.atomic_table.specs.Table.carried_after me.1 r.1)) same r.4))
+  may_take_word slots id word place me f lives calls within not is =
+      subst (λ w. Allows Keeps slots id me w f (λ n m. (p : ℕ) → w ≡ lock_word p → MayTake core_of draws legal stands p me n m)) (sym is)
+      (λ s holds wide at lt. let r = may_take slots id place me f lives calls within not s holds wide at lt in (
+        r.0,
+        r.1,
+        r.2,
+        r.3,
+        λ p e. let same : place ≡ p = omega (arith, e) in
+            subst (λ q. MayTake core_of draws legal stands q me (get_or s.words (lock_word place) 0)
+            (r.0, Rattle.atomic_table.specs.Table.carried_after me.1 r.1))
+            same r.4,
+      ))
 
   has_tail : (held : List ℕ) (p : ℕ) → Has (tail held) p → Has held p
   has_tail [] p has = has
@@ -129,7 +153,8 @@ module _ {T E S : Type 0} (core_of : E → ℕ) (draws : E → Bool) (legal : T 
   abbrev giving : V → V
   giving v = record v { held = tail v.held }
 
-  giver_works : (log : List E) (hub v : V) (core : ℕ) → IsAtWork core_of draws legal stands first core log hub v → IsAtWork core_of draws legal stands first core log hub (giving v)
+  giver_works : (log : List E) (hub v : V) (core : ℕ) → IsAtWork core_of draws legal stands first core log hub v
+      → IsAtWork core_of draws legal stands first core log hub (giving v)
   giver_works log hub v core work = record {
     hand = record {
       lives = work.hand.lives;
@@ -151,16 +176,25 @@ module _ {T E S : Type 0} (core_of : E → ℕ) (draws : E → Bool) (legal : T 
     pub once : Has (tail v.held) place → ⊥
     pub stood : stands v.first v.seen place value
 
-  module _ (place : ℕ) (v : V) (value : S) (may : MayGive place v value) (carried : List (ℕ × S)) (s : State S V) (log : List E) (owner : ℕ → ℕ) (hub : V) (kept : IsKept core_of draws legal stands first log owner hub s) (core : ℕ) (at : get_elem? s.views (suc core) ≡ some v) where
-    given : place < length s.homes → IsKept core_of draws legal stands first log (owner_with owner place 0) hub (stepped s (lock_word place) 0 (suc core) ((place, value) ∷ carried) (giving v) gives)
+  module _ (place : ℕ) (v : V) (value : S) (may : MayGive place v value) (carried : List (ℕ × S)) (s : State S V) (log : List E) (owner : ℕ → ℕ) (hub : V)
+      (kept : IsKept core_of draws legal stands first log owner hub s) (core : ℕ) (at : get_elem? s.views (suc core) ≡ some v) where
+    given : place < length s.homes
+        → IsKept core_of draws legal stands first log (owner_with owner place 0) hub
+        (stepped s (lock_word place) 0 (suc core) ((place, value) ∷ carried) (giving v) gives)
     given within = let at_work = is_at_work core_of draws legal stands first log owner hub s.views core v may.lives kept.views_are at in record {
       log_is = log_stays hub.cores log s.words place 0 kept.log_is;
-      views_are = views_set core_of draws legal stands first log log owner (owner_with owner place 0) hub s.views core v (giving v) at (giver_works log hub v core at_work)
-          (λ p has. owner_else owner place 0 p (λ same. may.once (subst (λ q. Has (tail v.held) q) same has)) ∙ kept.views_are.owned core p v at (has_tail v.held p has))
+      views_are =
+          views_set core_of draws legal stands first log log owner (owner_with owner place 0) hub s.views core v (giving v) at
+          (giver_works log hub v core at_work)
+          (λ p has. owner_else owner place 0 p (λ same. may.once (subst (λ q. Has (tail v.held) q) same has))
+          ∙ kept.views_are.owned core p v at (has_tail v.held p has))
           (record {
             lists_stay = λ other lt. refl;
             others = λ other u not there w. w;
-            theirs = λ other p u not there has is. owner_else owner place 0 p (λ same. not (let z = ap owner same in let own = kept.views_are.owned core place v at may.holds in omega (arith, z, own, is))) ∙ is;
+            theirs =
+                λ other p u not there has is. owner_else owner place 0 p
+                (λ same. not (let z = ap owner same in let own = kept.views_are.owned core place v at may.holds in omega (arith, z, own, is)))
+                ∙ is;
           })
           kept.views_are;
       cells_are = cells_given core_of draws legal stands first log owner s.words s.homes place 0 value within
@@ -180,7 +214,9 @@ module _ {T E S : Type 0} (core_of : E → ℕ) (draws : E → Bool) (legal : T 
           log,
           owner_with owner place 0,
           hub,
-          subst (λ i. IsKept core_of draws legal stands first log (owner_with owner place 0) hub (stepped s (lock_word place) 0 i ((place, value) ∷ carried) (giving v) gives)) (sym core.1)
+          subst (λ i. IsKept core_of draws legal stands first log (owner_with owner place 0) hub
+              (stepped s (lock_word place) 0 i ((place, value) ∷ carried) (giving v) gives))
+              (sym core.1)
               (given place v value may carried s log owner hub kept core.0 (subst (λ i. get_elem? s.views i ≡ some v) core.1 at) (omega (arith, within, wide))),
         ),
         refl,

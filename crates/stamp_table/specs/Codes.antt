@@ -30,7 +30,14 @@ event_code {X} entry fact = code_by (Entry ⊎ (ℕ × X)) (coded⊎ entry (code
 -- a view as its fields
 abbrev pub view_code : {T E : Type 0} → Coded T → Coded E → Coded (View T E)
 view_code {T} {E} first event =
-    code_by (Bool × (Bool × (T × (ℕ × (List E × (List E × (List ℕ × (ℕ × List (List E))))))))) (coded× coded_bool (coded× coded_bool (coded× first (coded× coded_ℕ (coded× (coded_list event) (coded× (coded_list event) (coded× (coded_list coded_ℕ) (coded× coded_ℕ (coded_list (coded_list event)))))))))) (λ v. (v.gathers, (v.gone, (v.first, (v.core, (v.seen, (v.mine, (v.held, (v.cores, v.lists))))))))) (λ p. record {
+    code_by (Bool × (Bool × (T × (ℕ × (List E × (List E × (List ℕ × (ℕ × List (List E)))))))))
+    (coded× coded_bool
+    (coded× coded_bool
+    (coded× first
+    (coded× coded_ℕ
+    (coded× (coded_list event)
+    (coded× (coded_list event) (coded× (coded_list coded_ℕ) (coded× coded_ℕ (coded_list (coded_list event))))))))))
+    (λ v. (v.gathers, (v.gone, (v.first, (v.core, (v.seen, (v.mine, (v.held, (v.cores, v.lists))))))))) (λ p. record {
       gathers = p.0;
       gone = p.1.0;
       first = p.1.1.0;
@@ -49,7 +56,12 @@ cell_code {C} value = code_by (ℕ × C) (coded× coded_ℕ value) (λ c. (c.pla
 -- a core as its fields
 abbrev pub hand_code : {C X : Type 0} → Coded Entry → Coded C → Coded X → Coded (Hand C X)
 hand_code {C} {X} entry value fact =
-    code_by (TableId × (View TreeState (Event X) × (List Entry × (Option ℕ × (List (HeldCell C) × (ℕ × (ℕ × (Bool × ℕ)))))))) (coded× table_id_coded (coded× (view_code tree_code (event_code entry fact)) (coded× (coded_list entry) (coded× (coded_option coded_ℕ) (coded× (coded_list (cell_code value)) (coded× coded_ℕ (coded× coded_ℕ (coded× coded_bool coded_ℕ)))))))) (λ h. (h.table, (h.view, (h.entries, (h.waiting, (h.held, (h.spare, (h.room, (h.leads, h.cores))))))))) (λ p. record {
+    code_by (TableId × (View TreeState (Event X) × (List Entry × (Option ℕ × (List (HeldCell C) × (ℕ × (ℕ × (Bool × ℕ))))))))
+    (coded× table_id_coded
+    (coded× (view_code tree_code (event_code entry fact))
+    (coded× (coded_list entry)
+    (coded× (coded_option coded_ℕ) (coded× (coded_list (cell_code value)) (coded× coded_ℕ (coded× coded_ℕ (coded× coded_bool coded_ℕ))))))))
+    (λ h. (h.table, (h.view, (h.entries, (h.waiting, (h.held, (h.spare, (h.room, (h.leads, h.cores))))))))) (λ p. record {
       table = p.0;
       view = p.1.0;
       entries = p.1.1.0;

@@ -67,7 +67,8 @@ module _ {C X : Type 0} where
 
   -- The parts of a core fit: its entries are the calls that it knows as its own, but for their answers, its places fall, and its slots
   -- are empty.
-  pub record IsCore (seat : Seat (Option C) (View TreeState (Event X))) (number : ℕ) (entries : List Entry) (events : ℕ) (cells : List (HeldCell C)) : Type 0 where
+  pub record IsCore (seat : Seat (Option C) (View TreeState (Event X))) (number : ℕ) (entries : List Entry) (events : ℕ)
+      (cells : List (HeldCell C)) : Type 0 where
     pub lives : seat.me.0.gone ≡ false
     pub calls : seat.me.0.gathers ≡ false
     pub number_known : seat.me.0.core ≡ number

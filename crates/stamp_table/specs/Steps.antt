@@ -54,7 +54,8 @@ module _ {T E S : Type 0} (core_of : E → ℕ) (draws : E → Bool) (legal : T 
   -- An entry that may come: the history with it is legal, and it keeps what stands for each cell that the core does not hold.
   pub record MayDraw (v : View T E) (entry : ℕ → E) (log : List E) : Type 0 where
     pub legal_next : legal v.first (log ++ entry (stamps_in draws log) ∷ [])
-    pub keeps : (place : ℕ) (value : S) → (Has v.held place → ⊥) → stands v.first log place value → stands v.first (log ++ entry (stamps_in draws log) ∷ []) place value
+    pub keeps : (place : ℕ) (value : S) → (Has v.held place → ⊥) → stands v.first log place value
+        → stands v.first (log ++ entry (stamps_in draws log) ∷ []) place value
 
 module _ {T E S : Type 0} where
   -- The last cell that the core took has gone home.

@@ -117,7 +117,8 @@ module _ {C X : Type 0} (lawful : TreeState → List (Event X) → Type 0) (stan
   pub record MayDrawEntry (v : View TreeState (Event X)) (entry : ℕ → Entry) : Type 0 where
     pub own : (number : ℕ) → (entry number).core.0 ≡ v.core
     pub few : length v.mine < MOST_ENTRIES
-    pub may : (log : List (Event X)) → IsPast event_core is_call (IsLawful lawful) (stands_for stands) v log → MayDraw event_core is_call (IsLawful lawful) (stands_for stands) v (λ number. Called (entry number)) log
+    pub may : (log : List (Event X)) → IsPast event_core is_call (IsLawful lawful) (stands_for stands) v log
+        → MayDraw event_core is_call (IsLawful lawful) (stands_for stands) v (λ number. Called (entry number)) log
 
   -- the seat has drawn a number for an entry
   abbrev pub AddsEntry : (ℕ → Entry) → Me (Option C) (View TreeState (Event X)) → ℕ → Me (Option C) (View TreeState (Event X)) → Type 0
@@ -141,7 +142,8 @@ module _ {C X : Type 0} (lawful : TreeState → List (Event X) → Type 0) (stan
   pub record TellsFact (fact : X) (before after : Hand C X) : Type 0 where
     pub frame : record after { view = before.view; spare = before.spare } ≡ before
     pub spare : before.spare ≤ after.spare + 1
-    pub told : (log : List (Event X)) × (number : ℕ) × Drew event_core is_call (IsLawful lawful) (stands_for stands) (told_by before.view.core fact) before.view number after.view log
+    pub told : (log : List (Event X)) × (number : ℕ)
+        × Drew event_core is_call (IsLawful lawful) (stands_for stands) (told_by before.view.core fact) before.view number after.view log
 
   -- A core holds one cell more. Its value stands for the history that the core has seen now.
   pub record HoldsMore (place : ℕ) (before after : Hand C X) : Type 0 where
@@ -167,7 +169,9 @@ module _ {C X : Type 0} (lawful : TreeState → List (Event X) → Type 0) (stan
     pub spare : after.spare + 1 ≡ before.spare
     pub entries : after.entries ≡ before.entries ++ entry_numbered before.view.core call reply number ∷ []
     pub waiting : after.waiting ≡ (if waits_for_answer call reply then Some number else None)
-    pub drew : (log : List (Event X)) × Drew event_core is_call (IsLawful lawful) (stands_for stands) (λ number. Called (entry_numbered before.view.core call reply number)) before.view number after.view log
+    pub drew : (log : List (Event X))
+        × Drew event_core is_call (IsLawful lawful) (stands_for stands)
+        (λ number. Called (entry_numbered before.view.core call reply number)) before.view number after.view log
 
 -- an entry with an answer
 abbrev pub with_answer : Entry → Reply → Option ℕ → Entry
@@ -178,7 +182,8 @@ module _ {C X : Type 0} where
   pub record GivesAnswer (stamp : ℕ) (reply : Reply) (ack : Option ℕ) (before after : Hand C X) : Type 0 where
     pub frame : record after { entries = before.entries; waiting = before.waiting } ≡ before
     pub waiting : after.waiting ≡ None
-    pub answered : (front : List Entry) × (last : Entry) × (last.stamp.0 ≡ stamp) × (before.entries ≡ front ++ last ∷ []) × (after.entries ≡ front ++ with_answer last reply ack ∷ [])
+    pub answered : (front : List Entry) × (last : Entry) × (last.stamp.0 ≡ stamp) × (before.entries ≡ front ++ last ∷ [])
+        × (after.entries ≡ front ++ with_answer last reply ack ∷ [])
 
   -- a core of a table, by its number, which holds nothing
   pub record IsIdleCore (table : TableId) (cores number : ℕ) (hand : Hand C X) : Type 0 where

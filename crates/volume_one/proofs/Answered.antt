@@ -66,7 +66,9 @@ module _ (Same : Type 0) (before after : View) (same_view : Same → after ≡ b
     (kept : Volume) (node : NodeId) (stamp : Stamp) where
   -- once it is granted
   module _ (volume : OpenVolume) (plan : FsyncPlan) (grant : GrantedNumbers) (space : Space) (is : IsGranted kept volume node stamp plan grant space)
-      (members : (other : ℕ) → (is_listed (map node_number plan.members.items) other ≡ true) ↔ Closure kept.first kept.history every_entry kept.cut kept.inodes (planned_flush node stamp) other) where
+      (members : (other : ℕ)
+      → (is_listed (map node_number plan.members.items) other ≡ true) ↔ Closure kept.first kept.history every_entry kept.cut kept.inodes
+      (planned_flush node stamp) other) where
     abbrev one : OneFsync
     one = own_fsync kept volume node stamp plan grant space is
 
@@ -78,14 +80,16 @@ module _ (Same : Type 0) (before after : View) (same_view : Same → after ≡ b
           subst (λ (m : ℕ). Wrote share (tree_held kept) (tree_raised kept one) before after (Some m)) (sym (ap ok_value ended))
           (none_wrote kept volume node stamp plan grant space is ready built Same before after same_view goes leaves number none still holds share)
       ended_wrote moment (Some contents) are gone counts holds share =
-          some_wrote kept volume node stamp plan grant space is ready built Same before after same_view goes leaves number contents are.0 counts holds moment gone share
+          some_wrote kept volume node stamp plan grant space is ready built Same before after same_view goes leaves number contents are.0 counts holds moment
+          gone share
 
       ended_holds : (moment : ℕ) (packed : Option Contents) → IsPackedOf built.tx packed → CarriesPacked Same kept.layout number packed before after (Ok moment)
           → (later : ℕ → List ℕ) → CountsOn after → HoldsVolume kept before → HoldsVolume (volume_left kept one later) after
       ended_holds moment None none (still, ended) later counts holds =
           none_holds kept volume node stamp plan grant space is ready built Same before after same_view goes leaves number none still holds later
       ended_holds moment (Some contents) are gone later counts holds =
-          some_holds kept volume node stamp plan grant space is ready built Same before after same_view goes leaves number contents are.0 counts holds moment gone later
+          some_holds kept volume node stamp plan grant space is ready built Same before after same_view goes leaves number contents are.0 counts holds moment
+          gone later
 
       ended_dated : (moment : ℕ) (packed : Option Contents) → CarriesPacked Same kept.layout number packed before after (Ok moment)
           → CountsOn after → (before.now ≤ moment) × (moment ≤ after.now)
@@ -94,7 +98,8 @@ module _ (Same : Type 0) (before after : View) (same_view : Same → after ≡ b
       ended_dated moment (Some contents) gone counts =
           let at = gone.moment counts in let all = gone.takes.all counts in (omega (arith, at), omega (arith, at, all))
 
-      ended_on_disk : (moment : ℕ) (packed : Option Contents) → IsPackedOf built.tx packed → CarriesPacked Same kept.layout number packed before after (Ok moment)
+      ended_on_disk : (moment : ℕ) (packed : Option Contents) → IsPackedOf built.tx packed
+          → CarriesPacked Same kept.layout number packed before after (Ok moment)
           → (later : ℕ → List ℕ) → CountsOn after → IsOnDisk kept one later moment before after
       ended_on_disk moment packed are gone later counts =
           let dated = ended_dated moment packed gone counts in
@@ -106,26 +111,32 @@ module _ (Same : Type 0) (before after : View) (same_view : Same → after ≡ b
           }
 
       -- what is in doubt may be
-      doubt_may : (doubt : Doubt) (packed : Option Contents) → IsPackedOf built.tx packed → CarriesPacked Same kept.layout number packed before after (Err doubt)
+      doubt_may : (doubt : Doubt) (packed : Option Contents) → IsPackedOf built.tx packed
+          → CarriesPacked Same kept.layout number packed before after (Err doubt)
           → CountsOn after → HoldsVolume kept before → (share : ℕ) → Wrote share (tree_held kept) (tree_raised kept one) before after None
       doubt_may doubt None none (still, ended) counts holds share = absurd (never_doubt doubt before.now ended)
       doubt_may doubt (Some contents) are gone counts holds share =
-          doubt_wrote kept volume node stamp plan grant space is ready built Same before after same_view goes leaves number contents are.0 counts holds doubt gone share
+          doubt_wrote kept volume node stamp plan grant space is ready built Same before after same_view goes leaves number contents are.0 counts holds doubt
+          gone share
 
-      doubt_faults : (doubt : Doubt) (packed : Option Contents) → CarriesPacked Same kept.layout number packed before after (Err doubt) → doubt.faults ≡ after.faults
+      doubt_faults : (doubt : Doubt) (packed : Option Contents) → CarriesPacked Same kept.layout number packed before after (Err doubt)
+          → doubt.faults ≡ after.faults
       doubt_faults doubt None (still, ended) = absurd (never_doubt doubt before.now ended)
       doubt_faults doubt (Some contents) gone = gone.doubt.faults
 
-      ended_faults : (moment : ℕ) (packed : Option Contents) → CarriesPacked Same kept.layout number packed before after (Ok moment) → after.faults ≡ before.faults
+      ended_faults : (moment : ℕ) (packed : Option Contents) → CarriesPacked Same kept.layout number packed before after (Ok moment)
+          → after.faults ≡ before.faults
       ended_faults moment None (still, ended) = ap (λ (v : View). v.faults) (same_view still)
       ended_faults moment (Some contents) gone = gone.doubt.cause.kept
 
-      doubt_rises : (doubt : Doubt) (packed : Option Contents) → CarriesPacked Same kept.layout number packed before after (Err doubt) → HasRisen before.faults after.faults
+      doubt_rises : (doubt : Doubt) (packed : Option Contents) → CarriesPacked Same kept.layout number packed before after (Err doubt)
+          → HasRisen before.faults after.faults
       doubt_rises doubt None (still, ended) = absurd (never_doubt doubt before.now ended)
       doubt_rises doubt (Some contents) gone = gone.doubt.cause.risen
 
       -- how far it came
-      doubt_did : (doubt : Doubt) (packed : Option Contents) → IsPackedOf built.tx packed → CarriesPacked Same kept.layout number packed before after (Err doubt)
+      doubt_did : (doubt : Doubt) (packed : Option Contents) → IsPackedOf built.tx packed
+          → CarriesPacked Same kept.layout number packed before after (Err doubt)
           → BeginsByBooks kept (fsync_at node stamp) one → DidFail kept (fsync_at node stamp) one before after (doubtful_deed ready.fresh before.now after.now)
       doubt_did doubt None none (still, ended) books = absurd (never_doubt doubt before.now ended)
       doubt_did doubt (Some contents) are gone books = record {
@@ -136,7 +147,8 @@ module _ (Same : Type 0) (before after : View) (same_view : Same → after ≡ b
             (built.counted ∙ sym (length-map built.tx.fresh.items block_of) ∙ ap (λ (c : Contents). length c.fresh) (sym are.0));
       }
 
-    module _ (working : volume.failed ≡ None) (ready : Ready) (built : IsReadyFor plan grant ready) (room : OpenVolume) (same : IsSameButRoom (with_space volume space) room) where
+    module _ (working : volume.failed ≡ None) (ready : Ready) (built : IsReadyFor plan grant ready) (room : OpenVolume)
+        (same : IsSameButRoom (with_space volume space) room) where
       room_layout : room.layout ≡ kept.layout
       room_layout = ap (λ (v : OpenVolume). v.layout) same.others ∙ is.remembers.disk.layout
 
@@ -168,7 +180,16 @@ module _ (Same : Type 0) (before after : View) (same_view : Same → after ≡ b
           let left = back_left kept volume node stamp plan grant space is room (with_space room other) same back in
           let in_doubt : OpenVolume = record room { space = other; failed = Some doubt.faults } in
           let is_left : IsLeft kept volume in_doubt =
-          record { tree = left.tree; files = left.files; logs = left.logs; layout = left.layout; known = left.known; entries = left.entries; space = left.space; granted = left.granted } in
+          record {
+            tree = left.tree;
+            files = left.files;
+            logs = left.logs;
+            layout = left.layout;
+            known = left.known;
+            entries = left.entries;
+            space = left.space;
+            granted = left.granted;
+          } in
           record {
             one = one;
             is = is_one kept volume node stamp plan grant space is;
@@ -182,7 +203,8 @@ module _ (Same : Type 0) (before after : View) (same_view : Same → after ≡ b
             wrote = doubt_may ready built room.commits doubt ready.packed built.packed there;
           }
 
-    grant_makes : volume.failed ≡ None → (new : OpenVolume) (flushed : Flushed) → GrantEnds Same stamp plan grant before after (with_space volume space) new flushed
+    grant_makes : volume.failed ≡ None → (new : OpenVolume) (flushed : Flushed)
+        → GrantEnds Same stamp plan grant before after (with_space volume space) new flushed
         → FsyncMakes Same (λ k. k) kept (fsync_at node stamp) before after volume new flushed flushed.reply
     grant_makes working new _ (unready still room same back) = record {
       same = still;
@@ -208,30 +230,63 @@ module _ (Same : Type 0) (before after : View) (same_view : Same → after ≡ b
       did = (refl, was_short kept node stamp volume remembers counted alive plan was kind need free lacks);
     }
     plan_makes working new _ (unreserved still new_is fits) =
-        record { same = still; remembers = subst (Remembers kept) (sym new_is) remembers; failed = ap (λ (v : OpenVolume). v.failed) new_is; numbered = ap (λ (v : OpenVolume). v.commits) new_is; refused = refl; did = tt }
+        record {
+          same = still;
+          remembers = subst (Remembers kept) (sym new_is) remembers;
+          failed = ap (λ (v : OpenVolume). v.failed) new_is;
+          numbered = ap (λ (v : OpenVolume). v.commits) new_is;
+          refused = refl;
+          did = tt;
+        }
     plan_makes working new flushed (reserved _ grant space taken ends) =
-        grant_makes volume plan grant space (granted kept node stamp volume remembers counted alive plan was grant space taken) (members_flushed kept volume remembers stamp counted node alive plan was) working new flushed ends
+        grant_makes volume plan grant space (granted kept node stamp volume remembers counted alive plan was grant space taken)
+        (members_flushed kept volume remembers stamp counted node alive plan was) working new flushed ends
 
   -- the whole fsync
   module _ (old : OpenVolume) (remembers : Remembers kept old) (counted : length kept.history ≡ stamp.0) where
     pub flush_makes : (new : OpenVolume) (flushed : Flushed) → FlushEnds Same stamp node before after old new flushed
         → FsyncMakes Same (λ k. k) kept (fsync_at node stamp) before after old new flushed flushed.reply
     flush_makes new _ (dead still new_is gone) =
-        record { same = still; remembers = subst (Remembers kept) (sym new_is) remembers; failed = ap (λ (v : OpenVolume). v.failed) new_is; numbered = ap (λ (v : OpenVolume). v.commits) new_is; refused = refl; did = refl }
+        record {
+          same = still;
+          remembers = subst (Remembers kept) (sym new_is) remembers;
+          failed = ap (λ (v : OpenVolume). v.failed) new_is;
+          numbered = ap (λ (v : OpenVolume). v.commits) new_is;
+          refused = refl;
+          did = refl;
+        }
     flush_makes new _ (stopped still new_is alive faults failed) =
-        record { same = still; remembers = subst (Remembers kept) (sym new_is) remembers; failed = ap (λ (v : OpenVolume). v.failed) new_is; numbered = ap (λ (v : OpenVolume). v.commits) new_is; refused = refl; did = refl }
+        record {
+          same = still;
+          remembers = subst (Remembers kept) (sym new_is) remembers;
+          failed = ap (λ (v : OpenVolume). v.failed) new_is;
+          numbered = ap (λ (v : OpenVolume). v.commits) new_is;
+          refused = refl;
+          did = refl;
+        }
     flush_makes new _ (unplanned still alive working known) =
-        record { same = still; remembers = known_remembers kept old new remembers known; failed = ap (λ (v : OpenVolume). v.failed) known.others; numbered = ap (λ (v : OpenVolume). v.commits) known.others; refused = refl; did = tt }
+        record {
+          same = still;
+          remembers = known_remembers kept old new remembers known;
+          failed = ap (λ (v : OpenVolume). v.failed) known.others;
+          numbered = ap (λ (v : OpenVolume). v.commits) known.others;
+          refused = refl;
+          did = tt;
+        }
     flush_makes new flushed (planned _ alive working plan known was same ends) =
         with_old (sym (ap (λ (v : OpenVolume). v.failed) same.others)) (sym (ap (λ (v : OpenVolume). v.commits) same.others)) flushed.reply
-        (plan_makes known (known_remembers kept old known remembers same) counted (subst (λ (v : OpenVolume). is_alive v.tree node.0 ≡ true) (sym same.others) alive)
+        (plan_makes known (known_remembers kept old known remembers same) counted
+        (subst (λ (v : OpenVolume). is_alive v.tree node.0 ≡ true) (sym same.others) alive)
         plan (was_known node stamp old known same plan was) (ap (λ (v : OpenVolume). v.failed) same.others ∙ working) new flushed ends)
       where
-        stays : old.failed ≡ known.failed → old.commits ≡ known.commits → FsyncStays Same (λ k. k) kept (fsync_at node stamp) known new flushed → FsyncStays Same (λ k. k) kept (fsync_at node stamp) old new flushed
-        stays e m is = record { same = is.same; remembers = is.remembers; failed = is.failed ∙ sym e; numbered = is.numbered ∙ sym m; refused = is.refused; did = is.did }
+        stays : old.failed ≡ known.failed → old.commits ≡ known.commits → FsyncStays Same (λ k. k) kept (fsync_at node stamp) known new flushed
+            → FsyncStays Same (λ k. k) kept (fsync_at node stamp) old new flushed
+        stays e m is =
+            record { same = is.same; remembers = is.remembers; failed = is.failed ∙ sym e; numbered = is.numbered ∙ sym m; refused = is.refused; did = is.did }
 
         -- only the counts of faults and of commits before are told of the volume before
-        with_old : old.failed ≡ known.failed → old.commits ≡ known.commits → (given : Reply) → FsyncMakes Same (λ k. k) kept (fsync_at node stamp) before after known new flushed given
+        with_old : old.failed ≡ known.failed → old.commits ≡ known.commits → (given : Reply)
+            → FsyncMakes Same (λ k. k) kept (fsync_at node stamp) before after known new flushed given
             → FsyncMakes Same (λ k. k) kept (fsync_at node stamp) before after old new flushed given
         with_old e m reply.Ok is = record {
           one = is.one;

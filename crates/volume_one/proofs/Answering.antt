@@ -30,15 +30,18 @@ use Rattle.volume_one.proofs.Entering.{core_within, fsync_remembered, fsync_may_
 
 module _ (Same : Type 0) (stamp : Stamp) (before after : View) where
   -- a commit is answered Ok or DiskFailed
-  ready_answers : (ready : Ready) (grant : GrantedNumbers) (old new : OpenVolume) (flushed : Flushed) → ReadyEnds Same stamp ready grant before after old new flushed → IsLiveAnswer None flushed.reply
+  ready_answers : (ready : Ready) (grant : GrantedNumbers) (old new : OpenVolume) (flushed : Flushed)
+      → ReadyEnds Same stamp ready grant before after old new flushed → IsLiveAnswer None flushed.reply
   ready_answers ready grant old new _ (carried moment packed done) = tt
   ready_answers ready grant old new _ (doubted doubt space packed back is) = tt
 
-  grant_answers : (plan : FsyncPlan) (grant : GrantedNumbers) (old new : OpenVolume) (flushed : Flushed) → GrantEnds Same stamp plan grant before after old new flushed → IsLiveAnswer None flushed.reply
+  grant_answers : (plan : FsyncPlan) (grant : GrantedNumbers) (old new : OpenVolume) (flushed : Flushed)
+      → GrantEnds Same stamp plan grant before after old new flushed → IsLiveAnswer None flushed.reply
   grant_answers plan grant old new _ (unready still room same back) = tt
   grant_answers plan grant old new flushed (readied _ ready room built same ends) = ready_answers ready grant room new flushed ends
 
-  plan_answers : (plan : FsyncPlan) (old new : OpenVolume) (flushed : Flushed) → PlanEnds Same stamp plan before after old new flushed → IsLiveAnswer None flushed.reply
+  plan_answers : (plan : FsyncPlan) (old new : OpenVolume) (flushed : Flushed) → PlanEnds Same stamp plan before after old new flushed
+      → IsLiveAnswer None flushed.reply
   plan_answers plan old new _ (short still is kind need free lacks) = tt
   plan_answers plan old new _ (unreserved still is fits) = tt
   plan_answers plan old new flushed (reserved _ grant space taken ends) = grant_answers plan grant (record old { space = space }) new flushed ends
@@ -48,7 +51,8 @@ module _ (Same : Type 0) (stamp : Stamp) (before after : View) where
       → IsFsyncAnswer (is_alive old.tree node.0) old.failed flushed.reply
   flush_answers node old new _ (dead still is gone) = subst (λ (b : Bool). IsFsyncAnswer b old.failed (reply.Error NoEntry)) (sym gone) refl
   flush_answers node old new _ (stopped still is alive faults failed) =
-      subst (λ (b : Bool). IsFsyncAnswer b old.failed (reply.Stopped faults)) (sym alive) (subst (λ (o : Option ℕ). IsLiveAnswer o (reply.Stopped faults)) (sym failed) refl)
+      subst (λ (b : Bool). IsFsyncAnswer b old.failed (reply.Stopped faults)) (sym alive)
+      (subst (λ (o : Option ℕ). IsLiveAnswer o (reply.Stopped faults)) (sym failed) refl)
   flush_answers node old new _ (unplanned still alive working same) =
       subst (λ (b : Bool). IsFsyncAnswer b old.failed reply.NoMemory) (sym alive) (subst (λ (o : Option ℕ). IsLiveAnswer o reply.NoMemory) (sym working) tt)
   flush_answers node old new flushed (planned _ alive working plan known was same ends) =
@@ -70,7 +74,8 @@ live_reply None (reply.Error c) is = elim is [ ]
 live_reply None (reply.Stopped f) is = elim is [ ]
 
 -- the reply is due
-reply_due : (alive : Bool) (failed : Option ℕ) (given due : Reply) → IsFsyncAnswer alive failed given → (alive ≡ false → due ≡ reply.Error NoEntry) → IsDue alive due given
+reply_due : (alive : Bool) (failed : Option ℕ) (given due : Reply) → IsFsyncAnswer alive failed given → (alive ≡ false → due ≡ reply.Error NoEntry)
+    → IsDue alive due given
 reply_due true failed given due is dead_due = live_reply failed given is
 reply_due false failed given due is dead_due = is ∙ sym (dead_due refl)
 
@@ -83,7 +88,8 @@ not_acked : (alive : Bool) (ack : Option ℕ) → ack ≡ None → IsSome ack �
 not_acked true ack none = ((λ some. let never : IsSome {T = ℕ} None = subst IsSome none some in never), (λ t. absurd (let never : false ≡ true = t in cc)))
 not_acked false ack none = ((λ some. let never : IsSome {T = ℕ} None = subst IsSome none some in never), (λ t. absurd (let never : false ≡ true = t in cc)))
 
-acked_ok : (alive : Bool) (failed : Option ℕ) (given : Reply) (ack : Option ℕ) → IsFsyncAnswer alive failed given → HasAck given ack → IsSome ack ↔ IsTrue (alive && is_ok_reply given)
+acked_ok : (alive : Bool) (failed : Option ℕ) (given : Reply) (ack : Option ℕ) → IsFsyncAnswer alive failed given → HasAck given ack
+    → IsSome ack ↔ IsTrue (alive && is_ok_reply given)
 acked_ok true failed reply.Ok ack is (moment, has) = ((λ some. refl), (λ t. subst IsSome (sym has) refl))
 acked_ok false failed reply.Ok ack is has = absurd (let never : reply.Ok ≡ reply.Error NoEntry = is in cc)
 acked_ok alive failed (reply.Node n k) ack is has = not_acked alive ack has
@@ -161,7 +167,8 @@ module _ (Same : Type 0) (kept : Volume) (before after : View) (old mid new : Op
       (subst (λ (t : TreeState). core.0 < length t.made) (tree_is ∙ sym mid_tree) within)
 
   pub log_core : core.0 < length mid.logs.parts
-  log_core = core_within so.now mid so.remembers core.0 (subst (λ (t : TreeState). core.0 < length t.made) (tree_is ∙ sym mid_tree ∙ so.remembers.calls.tree) within)
+  log_core =
+      core_within so.now mid so.remembers core.0 (subst (λ (t : TreeState). core.0 < length t.made) (tree_is ∙ sym mid_tree ∙ so.remembers.calls.tree) within)
 
   abbrev own_entry : Entry
   own_entry = call_entry stamp core (call.Fsync node) flushed.reply flushed.ack
@@ -171,8 +178,12 @@ module _ (Same : Type 0) (kept : Volume) (before after : View) (old mid new : Op
   may = subst (λ (t : TreeState). MayCome t (length kept.history) own_entry) tree_is (record {
     stamped = sym counted;
     core = within;
-    due = reply_due (is_alive old.tree node.0) old.failed flushed.reply (verdict old.tree core.0 (call.Fsync node)).reply answer (dead_due (is_alive old.tree node.0));
-    acknowledged = acked_ok (is_alive old.tree node.0) old.failed flushed.reply flushed.ack answer (made_ack Same kept (fsync_at node stamp) before after old mid flushed flushed.reply made);
+    due =
+        reply_due (is_alive old.tree node.0) old.failed flushed.reply (verdict old.tree core.0 (call.Fsync node)).reply answer
+        (dead_due (is_alive old.tree node.0));
+    acknowledged =
+        acked_ok (is_alive old.tree node.0) old.failed flushed.reply flushed.ack answer
+        (made_ack Same kept (fsync_at node stamp) before after old mid flushed flushed.reply made);
   })
     where
       dead_due : (b : Bool) → b ≡ false → (or_else (if not b then Some NoEntry else None) (answered reply.Ok)).reply ≡ reply.Error NoEntry

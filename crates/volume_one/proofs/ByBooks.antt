@@ -84,7 +84,9 @@ module _ (kept : Volume) (volume : OpenVolume) (node : NodeId) (stamp : Stamp) (
       fits_are_the_books kept used (planning_of one) volume.space is.tied.has is.tied.touched (resting kept volume is.remembers)
       (ap (shortage volume.space) need_is ∙ is.reserved.enough)
 
-  pub begins_by_books : ((other : ℕ) → (is_listed (map node_number plan.members.items) other ≡ true) ↔ Closure kept.first kept.history every_entry kept.cut kept.inodes (planned_flush node stamp) other)
+  pub begins_by_books : ((other : ℕ)
+      → (is_listed (map node_number plan.members.items) other ≡ true) ↔ Closure kept.first kept.history every_entry kept.cut kept.inodes
+      (planned_flush node stamp) other)
       → BeginsByBooks kept (fsync_at node stamp) one
   begins_by_books members = record {
     tied = is.tied;

@@ -27,7 +27,8 @@ module _ (place : Place) (contents : Contents) (number : ℕ) (old new : View) w
   -- what the contract of a commit says
   pub is_carried_ok : (done : Committed) → (CountsOn new → done.moment ≡ durable_at old.now job)
       → TakesCalls {V = Committed} {E = Doubt} (device_calls job) old new (Ok done) → HasDoubt {V = Committed} old new (Ok done)
-      → ((parts : ℕ → Part) (given : List InodePart) → IsChangeOf job parts given → EachLeft old (IsBefore job parts) → Carries {V = Committed} {E = Doubt} job parts given old new (Ok done))
+      → ((parts : ℕ → Part) (given : List InodePart) → IsChangeOf job parts given → EachLeft old (IsBefore job parts)
+      → Carries {V = Committed} {E = Doubt} job parts given old new (Ok done))
       → IsCarried job old new (Ok done.moment)
   is_carried_ok done moment takes doubt carried = record {
     moment = moment;
@@ -38,8 +39,10 @@ module _ (place : Place) (contents : Contents) (number : ℕ) (old new : View) w
         record { told = is.told; each_moment = is.each_moment; acknowledged = is.acknowledged; ended = is.ended };
   }
 
-  pub is_carried_err : (fault : Doubt) → TakesCalls {V = Committed} {E = Doubt} (device_calls job) old new (Err fault) → HasDoubt {V = Committed} old new (Err fault)
-      → ((parts : ℕ → Part) (given : List InodePart) → IsChangeOf job parts given → EachLeft old (IsBefore job parts) → Carries {V = Committed} {E = Doubt} job parts given old new (Err fault))
+  pub is_carried_err : (fault : Doubt) → TakesCalls {V = Committed} {E = Doubt} (device_calls job) old new (Err fault)
+      → HasDoubt {V = Committed} old new (Err fault)
+      → ((parts : ℕ → Part) (given : List InodePart) → IsChangeOf job parts given → EachLeft old (IsBefore job parts)
+      → Carries {V = Committed} {E = Doubt} job parts given old new (Err fault))
       → IsCarried job old new (Err fault)
   is_carried_err fault takes doubt carried = record {
     moment = tt;
@@ -51,8 +54,10 @@ module _ (place : Place) (contents : Contents) (number : ℕ) (old new : View) w
   }
 
 -- as what is packed is carried
-pub packed_carried : (Same : Type 0) (layout : Layout) (number : ℕ) (packed : Option Contents) (contents : Contents) (place : Place) (old new : View) (result : Result ℕ Doubt)
-    → packed ≡ Some contents → place ≡ first_slot layout → IsCarried (job_for place contents number) old new result → CarriesPacked Same layout number packed old new result
+pub packed_carried : (Same : Type 0) (layout : Layout) (number : ℕ) (packed : Option Contents) (contents : Contents) (place : Place) (old new : View)
+    (result : Result ℕ Doubt)
+    → packed ≡ Some contents → place ≡ first_slot layout → IsCarried (job_for place contents number) old new result
+    → CarriesPacked Same layout number packed old new result
 packed_carried Same layout number packed contents place old new result is same carried =
     subst (λ (o : Option Contents). CarriesPacked Same layout number o old new result) (sym is)
     (subst (λ (p : Place). IsCarried (job_for p contents number) old new result) same carried)

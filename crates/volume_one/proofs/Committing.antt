@@ -36,7 +36,8 @@ use Rattle.volume_one.specs.Stands.{Remembers}
 use Rattle.volume_one.specs.declared.volume.OpenVolume.{OpenVolume}
 
 -- what an fsync comes to whose plan leads to the raised cut
-abbrev pub planning_by : {first : TreeState} {history : List Entry} {cut : Cut} {inodes : ℕ → Bool} (node : NodeId) (stamp : Stamp) (volume : OpenVolume) (plan : FsyncPlan)
+abbrev pub planning_by : {first : TreeState} {history : List Entry} {cut : Cut} {inodes : ℕ → Bool} (node : NodeId) (stamp : Stamp) (volume : OpenVolume)
+    (plan : FsyncPlan)
     → LeadsToCut first history cut inodes (planned_flush node stamp) (disk_entries_in volume.stored) plan → Planning
 planning_by node stamp volume plan leads = record {
   flush = planned_flush node stamp;
@@ -49,7 +50,8 @@ planning_by node stamp volume plan leads = record {
 
 -- A volume at the commit of a planned fsync: its plan leads to the raised cut, its nets have names, what it needs was granted, and it is tied to
 -- the books.
-pub record IsGranted (kept : Volume) (volume : OpenVolume) (node : NodeId) (stamp : Stamp) (plan : FsyncPlan) (grant : GrantedNumbers) (space : Space) : Type 0 where
+pub record IsGranted (kept : Volume) (volume : OpenVolume) (node : NodeId) (stamp : Stamp) (plan : FsyncPlan) (grant : GrantedNumbers)
+    (space : Space) : Type 0 where
   pub remembers : Remembers kept volume
   pub counted : length kept.history ≡ stamp.0
   pub live : HasLiveNode kept.first kept.history (planned_flush node stamp)

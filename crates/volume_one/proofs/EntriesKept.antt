@@ -44,7 +44,8 @@ module _ {X Y : Type 0} (number : X → ℕ) (key : Y → ℕ) (f : X → Option
   above_all [] b above = λ k d within. absurd (omega arith)
   above_all (x ∷ xs) b above = by (f x) (own x) (above 0 x (omega arith)) (above_all xs b (λ k d within. above (suc k) d (omega arith)))
     where
-      by : (o : Option Y) → ((y : Y) → o ≡ Some y → key y ≡ number x) → b < number x → All (λ y. b < key y) (filter_map f xs) → All (λ y. b < key y) (cons_option o (filter_map f xs))
+      by : (o : Option Y) → ((y : Y) → o ≡ Some y → key y ≡ number x) → b < number x → All (λ y. b < key y) (filter_map f xs)
+          → All (λ y. b < key y) (cons_option o (filter_map f xs))
       by None is more rest k d within = rest k d within
       by (Some y) is more rest zero d within = let same = is y refl in omega arith
       by (Some y) is more rest (suc k) d within = rest k d (omega arith)
@@ -56,7 +57,8 @@ module _ {X Y : Type 0} (number : X → ℕ) (key : Y → ℕ) (f : X → Option
       by : (o : Option Y) → ((y : Y) → o ≡ Some y → key y ≡ number x) → All (λ y. number x < key y) (filter_map f xs) → AscendBy key (filter_map f xs)
           → AscendBy key (cons_option o (filter_map f xs))
       by None is above rest = rest
-      by (Some y) is above rest = AllPairs-cons (λ a b. key a < key b) y (filter_map f xs) (λ k d within. let more = above k d within in let same = is y refl in omega arith) rest
+      by (Some y) is above rest =
+          AllPairs-cons (λ a b. key a < key b) y (filter_map f xs) (λ k d within. let more = above k d within in let same = is y refl in omega arith) rest
 
 -- lists that ascend by one number and have the same items are the same
 module _ {X : Type 0} (key : X → ℕ) where
@@ -79,7 +81,8 @@ module _ {X : Type 0} (key : X → ℕ) where
   in_behind : (w : X) (ws : List X) (z : X) → Contains ws z → Contains (w ∷ ws) z
   in_behind w ws z (k, within, is) = (suc k, omega arith, is)
 
-  pub same_list : (xs ys : List X) → AscendBy key xs → AscendBy key ys → ((x : X) → Contains xs x → Contains ys x) → ((x : X) → Contains ys x → Contains xs x) → xs ≡ ys
+  pub same_list : (xs ys : List X) → AscendBy key xs → AscendBy key ys → ((x : X) → Contains xs x → Contains ys x) → ((x : X) → Contains ys x → Contains xs x)
+      → xs ≡ ys
   same_list [] [] up vp there back = refl
   same_list [] (y ∷ ys) up vp there back = let from = back y (0, omega arith, refl) in absurd (omega (arith, from.1))
   same_list (x ∷ xs) [] up vp there back = let to = there x (0, omega arith, refl) in absurd (omega (arith, to.1))
@@ -101,7 +104,8 @@ numbers_ascend : (numbers : List ℕ) → IsStrictlyIncreasing numbers → Ascen
 numbers_ascend numbers up = AllPairs-from_increasing numbers up
 
 pub entries_ascend : (nodes : KeptNodes) (numbers : List ℕ) → IsStrictlyIncreasing numbers → AscendBy entry_node (disk_entries_at nodes numbers)
-entries_ascend nodes numbers up = given_ascend (λ n. n) entry_node (entry_at nodes) (λ n entry e. (entry_own n (old_at nodes n) entry e).1) numbers (numbers_ascend numbers up)
+entries_ascend nodes numbers up =
+    given_ascend (λ n. n) entry_node (entry_at nodes) (λ n entry e. (entry_own n (old_at nodes n) entry e).1) numbers (numbers_ascend numbers up)
 
 module _ (nodes : KeptNodes) (ordered : IsOrdered nat_cmp nodes) where
   -- an entry is there exactly where that is kept of its node
@@ -130,7 +134,8 @@ module _ (nodes : KeptNodes) (ordered : IsOrdered nat_cmp nodes) where
         let own = entry_own from.0 (old_at nodes from.0) entry from.2 in
         (entry_kept entry (ap (old_at nodes) own.1 ∙ own.0), ap (is_among numbers) own.1 ∙ in_is_among numbers from.0 from.1);
     all = λ entry there among.
-        given_is_in (entry_at nodes) numbers entry.node.0 entry (among_is_in numbers entry.node.0 among) (ap (disk_entry_with entry.node.0) (entry_there entry there));
+        given_is_in (entry_at nodes) numbers entry.node.0 entry (among_is_in numbers entry.node.0 among)
+        (ap (disk_entry_with entry.node.0) (entry_there entry there));
   }
 
 less_than : (x y : ℕ) → nat_cmp x y ≡ Less → x < y
@@ -144,10 +149,15 @@ less_than x y e = by (nat_lt x y) (x == y) refl e
 -- all entries ascend
 sorted_ascend : (places : List (ℕ × Option OldKept)) → IsStrictlySortedBy nat_cmp (keys_of places) → AscendBy (λ (place : ℕ × Option OldKept). place.0) places
 sorted_ascend places sorted i j d lt within =
-    let less = Less-from_sorted nat_cmp (keys_of places) i j d.0 sorted lt (omega (arith, within, length-map places (λ (place : ℕ × Option OldKept). place.0))) in
+    let less =
+    Less-from_sorted nat_cmp (keys_of places) i j d.0 sorted lt (omega (arith, within, length-map places (λ (place : ℕ × Option OldKept). place.0))) in
     less_than (get_or places i d).0 (get_or places j d).0
     (subst (λ (z : ℕ × ℕ). nat_cmp z.0 z.1 ≡ Less)
-    (λ k. (get_or-map (λ (place : ℕ × Option OldKept). place.0) places i d d.0 (omega arith) k, get_or-map (λ (place : ℕ × Option OldKept). place.0) places j d d.0 within k)) less)
+    (λ k. (
+      get_or-map (λ (place : ℕ × Option OldKept). place.0) places i d d.0 (omega arith) k,
+      get_or-map (λ (place : ℕ × Option OldKept). place.0) places j d d.0 within k,
+    ))
+    less)
 
 pub all_ascend : (nodes : KeptNodes) → IsOrdered nat_cmp nodes → AscendBy entry_node (disk_entries_in nodes)
 all_ascend nodes ordered =

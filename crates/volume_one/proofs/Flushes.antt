@@ -33,21 +33,25 @@ use Rattle.volume_one.proofs.Committing.{IsGranted, own_fsync, planned_for, can_
 takes_ok : (calls : ℕ) (old new : View) (value : ℕ) → TakesCalls {V = ℕ} {E = Doubt} calls old new (Ok value) → TakesCalls {V = ℕ} {E = ℕ} calls old new (Ok 0)
 takes_ok calls old new value is = record { most = is.most; all = is.all }
 
-takes_err : (calls : ℕ) (old new : View) (doubt : Doubt) → TakesCalls {V = ℕ} {E = Doubt} calls old new (Err doubt) → TakesCalls {V = ℕ} {E = ℕ} calls old new (Err 0)
+takes_err : (calls : ℕ) (old new : View) (doubt : Doubt) → TakesCalls {V = ℕ} {E = Doubt} calls old new (Err doubt)
+    → TakesCalls {V = ℕ} {E = ℕ} calls old new (Err 0)
 takes_err calls old new doubt is = record { most = is.most; all = tt }
 
-carries_ok : (job : Job) (parts : ℕ → Part) (given : List InodePart) (old new : View) (value : ℕ) → Carries {V = ℕ} {E = Doubt} job parts given old new (Ok value)
+carries_ok : (job : Job) (parts : ℕ → Part) (given : List InodePart) (old new : View) (value : ℕ)
+    → Carries {V = ℕ} {E = Doubt} job parts given old new (Ok value)
     → Carries {V = ℕ} {E = ℕ} job parts given old new (Ok 0)
 carries_ok job parts given old new value is = record { told = is.told; each_moment = is.each_moment; acknowledged = is.acknowledged; ended = is.ended }
 
-carries_err : (job : Job) (parts : ℕ → Part) (given : List InodePart) (old new : View) (doubt : Doubt) → Carries {V = ℕ} {E = Doubt} job parts given old new (Err doubt)
+carries_err : (job : Job) (parts : ℕ → Part) (given : List InodePart) (old new : View) (doubt : Doubt)
+    → Carries {V = ℕ} {E = Doubt} job parts given old new (Err doubt)
     → Carries {V = ℕ} {E = ℕ} job parts given old new (Err 0)
 carries_err job parts given old new doubt is = record { told = is.told; each_moment = is.each_moment; acknowledged = tt; ended = tt }
 
 -- the commit of a granted fsync of a volume, once it is ready, on a disk from one view to the next
 module _ (kept : Volume) (volume : OpenVolume) (node : NodeId) (stamp : Stamp) (plan : FsyncPlan) (grant : GrantedNumbers) (space : Space)
     (is : IsGranted kept volume node stamp plan grant space) (ready : Ready) (built : IsReadyFor plan grant ready)
-    (Same : Type 0) (before after : View) (same_view : Same → after ≡ before) (goes : Advances before after) (leaves : IfTold after.content (images after)) (number : ℕ) where
+    (Same : Type 0) (before after : View) (same_view : Same → after ≡ before) (goes : Advances before after) (leaves : IfTold after.content (images after))
+    (number : ℕ) where
   abbrev one : OneFsync
   one = own_fsync kept volume node stamp plan grant space is
 
@@ -66,10 +70,14 @@ module _ (kept : Volume) (volume : OpenVolume) (node : NodeId) (stamp : Stamp) (
     already = empty_commits_write before kept one nothing
 
     pub none_holds : (later : ℕ → List ℕ) → HoldsVolume (volume_left kept one later) after
-    none_holds later = subst (HoldsVolume (volume_left kept one later)) (sym (same_view still)) (record { content = holds.content; tells = holds.tells; parts = already.holds; leaves = holds.leaves })
+    none_holds later =
+        subst (HoldsVolume (volume_left kept one later)) (sym (same_view still))
+        (record { content = holds.content; tells = holds.tells; parts = already.holds; leaves = holds.leaves })
 
     pub none_wrote : (share : ℕ) → Wrote share (tree_held kept) (tree_raised kept one) before after (Some before.now)
-    none_wrote share = subst (λ (v : View). Wrote share (tree_held kept) (tree_raised kept one) before v (Some before.now)) (sym (same_view still)) (already.wrote holds.content holds.tells share)
+    none_wrote share =
+        subst (λ (v : View). Wrote share (tree_held kept) (tree_raised kept one) before v (Some before.now)) (sym (same_view still))
+        (already.wrote holds.content holds.tells share)
 
   -- and else it is carried
   module _ (contents : Contents) (are : contents ≡ contents_of built.tx) where
@@ -87,13 +95,17 @@ module _ (kept : Volume) (volume : OpenVolume) (node : NodeId) (stamp : Stamp) (
     job_held = subst (λ (j : Job). HasJob kept one j) own_job can.job
 
     shows : (share : ℕ) → ShowsCommit share (tree_held kept) (tree_raised kept one) job kept.parts (parts_left kept one) (parts_brought kept one)
-    shows share = subst (λ (j : Job). ShowsCommit share (tree_held kept) (tree_raised kept one) j kept.parts (parts_left kept one) (parts_brought kept one)) own_job (can.shows share)
+    shows share =
+        subst (λ (j : Job). ShowsCommit share (tree_held kept) (tree_raised kept one) j kept.parts (parts_left kept one) (parts_brought kept one)) own_job
+        (can.shows share)
 
     module _ (counts : CountsOn after) (holds : HoldsVolume kept before) where
       -- it ended
       module _ (moment : ℕ) (carried : IsCarried job before after (Ok moment)) where
         whole : Carries {V = ℕ} {E = ℕ} job kept.parts (parts_brought kept one) before after (Ok 0)
-        whole = carries_ok job kept.parts (parts_brought kept one) before after moment (carried.carried kept.parts (parts_brought kept one) (shows 0).change holds.parts)
+        whole =
+            carries_ok job kept.parts (parts_brought kept one) before after moment
+            (carried.carried kept.parts (parts_brought kept one) (shows 0).change holds.parts)
 
         ok_carries : CarriesCommit {V = ℕ} {E = ℕ} job kept.parts (parts_brought kept one) before after (Ok 0)
         ok_carries = record {
@@ -109,7 +121,8 @@ module _ (kept : Volume) (volume : OpenVolume) (node : NodeId) (stamp : Stamp) (
         pub some_wrote : (share : ℕ) → Wrote share (tree_held kept) (tree_raised kept one) before after (Some moment)
         some_wrote share =
             subst (λ (m : ℕ). Wrote share (tree_held kept) (tree_raised kept one) before after (Some m)) (sym (carried.moment counts))
-            (carried_commits_write before after share (tree_held kept) (tree_raised kept one) job kept.parts (parts_left kept one) (parts_brought kept one) (shows share) ok_carries)
+            (carried_commits_write before after share (tree_held kept) (tree_raised kept one) job kept.parts (parts_left kept one) (parts_brought kept one)
+            (shows share) ok_carries)
 
         pub some_holds : (later : ℕ → List ℕ) → HoldsVolume (volume_left kept one later) after
         some_holds later =
@@ -130,10 +143,13 @@ module _ (kept : Volume) (volume : OpenVolume) (node : NodeId) (stamp : Stamp) (
           counts = counts;
           goes = goes;
           takes = takes_err (device_calls job) before after doubt carried.takes;
-          carried = carries_err job kept.parts (parts_brought kept one) before after doubt (carried.carried kept.parts (parts_brought kept one) (shows 0).change holds.parts);
+          carried =
+              carries_err job kept.parts (parts_brought kept one) before after doubt
+              (carried.carried kept.parts (parts_brought kept one) (shows 0).change holds.parts);
           leaves_content = leaves;
         }
 
         pub doubt_wrote : (share : ℕ) → Wrote share (tree_held kept) (tree_raised kept one) before after None
         doubt_wrote share =
-            doubtful_commits_write before after share (tree_held kept) (tree_raised kept one) job kept.parts (parts_left kept one) (parts_brought kept one) (shows share) err_carries
+            doubtful_commits_write before after share (tree_held kept) (tree_raised kept one) job kept.parts (parts_left kept one) (parts_brought kept one)
+            (shows share) err_carries

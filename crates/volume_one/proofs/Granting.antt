@@ -51,7 +51,8 @@ module _ (kept : Volume) (node : NodeId) (stamp : Stamp) (volume : OpenVolume) (
           (may_carry kept volume node stamp plan grant space (granted grant space reserved) built.tx built.built)
 
 -- what was planned holds too where what is known has other room
-pub was_known : (node : NodeId) (stamp : Stamp) (old known : OpenVolume) → IsSameKnown old known → (plan : FsyncPlan) → WasPlanned old node stamp plan → WasPlanned known node stamp plan
+pub was_known : (node : NodeId) (stamp : Stamp) (old known : OpenVolume) → IsSameKnown old known → (plan : FsyncPlan) → WasPlanned old node stamp plan
+    → WasPlanned known node stamp plan
 was_known node stamp old known is plan was = record {
   gathered = was.gathered;
   logs = subst (λ (v : OpenVolume). AreGathered v.logs stamp.0 was.gathered.logs.items) (sym is.others) was.logs;

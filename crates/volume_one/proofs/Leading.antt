@@ -112,7 +112,9 @@ module _ (kept : Volume) (volume : OpenVolume) (remembers : Remembers kept volum
       alive_then = subst (λ (t : TreeState). is_alive t node.0 ≡ true) remembers.calls.tree alive
 
       pub live : HasLiveNode first history (planned_flush node stamp)
-      live = subst (λ (l : List Entry). is_alive (tree_after first l) node.0 ≡ true) (sym (ap (λ n. take n history) (sym counted) ∙ take_all (length history) history (omega arith))) alive_then
+      live =
+          subst (λ (l : List Entry). is_alive (tree_after first l) node.0 ≡ true)
+          (sym (ap (λ n. take n history) (sym counted) ∙ take_all (length history) history (omega arith))) alive_then
 
       whole_history : take (length history) history ≡ history
       whole_history = take_all (length history) history (omega arith)
@@ -158,12 +160,15 @@ module _ (kept : Volume) (volume : OpenVolume) (remembers : Remembers kept volum
       -- the fsync comes in time for its own file
       in_time : is_some own_file ≡ true → IsInTime kept.cut node stamp (is_held own_gathered plans_fsync.plans.enter node.0)
       in_time is_file =
-          live_files_are_held first history kept.flushes kept.cut kept.inodes kept.num kept.layout kept.store kept.parts (disk_entries_in volume.stored) node stamp
-          own_gathered was.planned.concern (disk_entries_at volume.stored (map node_number was.planned.concern.nodes.items)) own_file plan plans_fsync live no_later is_file
+          live_files_are_held first history kept.flushes kept.cut kept.inodes kept.num kept.layout kept.store kept.parts
+          (disk_entries_in volume.stored) node stamp
+          own_gathered was.planned.concern
+          (disk_entries_at volume.stored (map node_number was.planned.concern.nodes.items)) own_file plan plans_fsync live no_later is_file
 
       pub leads : LeadsToCut first history kept.cut kept.inodes (planned_flush node stamp) (disk_entries_in volume.stored) plan
       leads =
-          plans_lead_to_cuts first history kept.flushes kept.cut kept.inodes kept.num kept.layout kept.store kept.parts (disk_entries_in volume.stored) node stamp
+          plans_lead_to_cuts first history kept.flushes kept.cut kept.inodes kept.num kept.layout kept.store kept.parts
+          (disk_entries_in volume.stored) node stamp
           own_gathered was.planned.concern (disk_entries_at volume.stored (map node_number was.planned.concern.nodes.items)) own_file plan plans_fsync
           in_time
 
@@ -184,9 +189,11 @@ module _ (kept : Volume) (volume : OpenVolume) (remembers : Remembers kept volum
       tied = led_plans_are_tied kept sources leads remembers.stands plans_fsync in_time
 
       -- the members are what the fsync flushes
-      pub members_flushed : (one : ℕ) → (is_listed (map node_number plan.members.items) one ≡ true) ↔ Closure first history every_entry kept.cut kept.inodes (planned_flush node stamp) one
+      pub members_flushed : (one : ℕ)
+          → (is_listed (map node_number plan.members.items) one ≡ true) ↔ Closure first history every_entry kept.cut kept.inodes (planned_flush node stamp) one
       members_flushed one =
-          subst (λ (l : List NodeId). (is_listed (map node_number l) one ≡ true) ↔ Closure first history every_entry kept.cut kept.inodes (planned_flush node stamp) one)
+          subst (λ (l : List NodeId). (is_listed (map node_number l) one ≡ true) ↔ Closure first history every_entry kept.cut kept.inodes
+          (planned_flush node stamp) one)
           (sym was.planned.plan_is.members)
           (lists_are_closures first history every_entry kept.cut kept.inodes own_gathered node stamp (map node_number was.planned.concern.members.items)
           (unflushed_is_enough first history every_entry kept.cut kept.inodes own_gathered node stamp remembers.stands.between.history_is.sound legal unflushed)

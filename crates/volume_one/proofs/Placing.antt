@@ -98,12 +98,16 @@ pub all_weaker : (P Q : ℕ → Type 0) (numbers : List ℕ) → ((n : ℕ) → 
 all_weaker P Q numbers more all k d within = more (get_or numbers k d) (all k d within)
 
 -- the entries at nodes, with that of one node more
-pub entries_more : (kept : KeptNodes) (nodes : List NodeId) (i : ℕ) (before new : List OldEntry) → i < length nodes → before ≡ disk_entries_at kept (map node_number (take i nodes))
+pub entries_more : (kept : KeptNodes) (nodes : List NodeId) (i : ℕ) (before new : List OldEntry) → i < length nodes
+    → before ≡ disk_entries_at kept (map node_number (take i nodes))
     → new ≡ before ++ option_to_list (entry_at kept (get_or nodes i (record { 0 = 0 })).0) → new ≡ disk_entries_at kept (map node_number (take (i + 1) nodes))
 entries_more kept nodes i before new within was is =
     is ∙ ap (λ l. l ++ option_to_list (entry_at kept n)) was ∙ ap (λ l. disk_entries_at kept (map node_number (take i nodes)) ++ l) (one (entry_at kept n))
     ∙ sym (filter_map-append (entry_at kept) (map node_number (take i nodes)) (n ∷ []))
-    ∙ ap (disk_entries_at kept) (sym (ap (map node_number) (take_more nodes i (record { 0 = 0 }) within) ∙ map-append node_number (take i nodes) (get_or nodes i (record { 0 = 0 }) ∷ [])))
+    ∙ ap (disk_entries_at kept)
+    (sym
+    (ap (map node_number) (take_more nodes i (record { 0 = 0 }) within)
+    ∙ map-append node_number (take i nodes) (get_or nodes i (record { 0 = 0 }) ∷ [])))
   where
     n : ℕ
     n = (get_or nodes i (record { 0 = 0 })).0
@@ -120,7 +124,8 @@ marked_next false true now before = refl
 marked_next false false now before = refl
 
 -- what is said of a node by its own number
-pub same_node : (kept : KeptNodes) (own node : ℕ) (before : Bool) → cond (nat_eq own node) (is_some (old_at kept own)) before ≡ cond (nat_eq own node) (is_some (old_at kept node)) before
+pub same_node : (kept : KeptNodes) (own node : ℕ) (before : Bool)
+    → cond (nat_eq own node) (is_some (old_at kept own)) before ≡ cond (nat_eq own node) (is_some (old_at kept node)) before
 same_node kept own node before = by (nat_eq own node) refl
   where
     by : (b : Bool) → nat_eq own node ≡ b → cond b (is_some (old_at kept own)) before ≡ cond b (is_some (old_at kept node)) before
@@ -148,7 +153,8 @@ module _ (nodes : List NodeId) (up : IsStrictlyIncreasing (map node_number nodes
   has_place P places = subst P here_is (places place 0 low)
 
   -- what was not yet replaced still is not
-  pub left_one : (before after : List OldEntry) → ((node : ℕ) → is_listed (take (suc place) (map node_number nodes)) node ≡ true → item_with entry_node node before ≡ item_with entry_node node all)
+  pub left_one : (before after : List OldEntry)
+      → ((node : ℕ) → is_listed (take (suc place) (map node_number nodes)) node ≡ true → item_with entry_node node before ≡ item_with entry_node node all)
       → ((other : ℕ) → (here ≡ other → ⊥) → item_with entry_node other after ≡ item_with entry_node other before)
       → (node : ℕ) → is_listed (take place (map node_number nodes)) node ≡ true → item_with entry_node node after ≡ item_with entry_node node all
   left_one before after left rest node listed =
@@ -161,7 +167,8 @@ module _ (nodes : List NodeId) (up : IsStrictlyIncreasing (map node_number nodes
       more (x ∷ xs) zero n t = absurd (true_not_false (sym t))
       more (x ∷ xs) (suc k) n t = by (nat_eq x n) (more xs k n) t
         where
-          by : (b : Bool) → (is_listed (take k xs) n ≡ true → is_listed (take (suc k) xs) n ≡ true) → (b || is_listed (take k xs) n) ≡ true → (b || is_listed (take (suc k) xs) n) ≡ true
+          by : (b : Bool) → (is_listed (take k xs) n ≡ true → is_listed (take (suc k) xs) n ≡ true) → (b || is_listed (take k xs) n) ≡ true
+              → (b || is_listed (take (suc k) xs) n) ≡ true
           by true rest is = refl
           by false rest is = rest is
 
@@ -185,10 +192,12 @@ module _ (nodes : List NodeId) (up : IsStrictlyIncreasing (map node_number nodes
       → (node : ℕ) → old_at new node ≡ cond (is_listed (drop place (map node_number nodes)) node) (kept_in all node) (old_at first node)
   each_one before first old new left each replaced node =
       replaced node ∙ by (nat_eq here node) refl
-      ∙ ap (λ l. cond (is_listed l node) (kept_in all node) (old_at first node)) (sym (dropped (map node_number nodes) up place low ∙ ap (λ n. n ∷ drop (suc place) (map node_number nodes)) here_is))
+      ∙ ap (λ l. cond (is_listed l node) (kept_in all node) (old_at first node))
+      (sym (dropped (map node_number nodes) up place low ∙ ap (λ n. n ∷ drop (suc place) (map node_number nodes)) here_is))
     where
       by : (b : Bool) → nat_eq here node ≡ b
-          → cond b (kept_in before node) (old_at old node) ≡ cond (b || is_listed (drop (suc place) (map node_number nodes)) node) (kept_in all node) (old_at first node)
+          → cond b (kept_in before node) (old_at old node)
+          ≡ cond (b || is_listed (drop (suc place) (map node_number nodes)) node) (kept_in all node) (old_at first node)
       by true t =
           let same : here ≡ node = eqb-true here node t in
           ap (option_map entry_old) (left node (subst (λ n. is_listed (take (suc place) (map node_number nodes)) n ≡ true) same own_listed))

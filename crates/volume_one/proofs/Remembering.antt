@@ -57,7 +57,8 @@ module _ (kept : Volume) (old new : OpenVolume) (remembers : Remembers kept old)
       known = record {
         cuts = λ node. ap (λ l. cut_in l node) is.known.cuts ∙ remembers.calls.known.cuts node;
         births = λ node directory.
-            subst (λ l. IsOneOf (map born_as l) (record { node = node; directory = directory }) ↔ ((at : ℕ) × IsOneOf (births_of kept.first kept.history) (record { stamp = at; directory = directory; node = node })))
+            subst (λ l. IsOneOf (map born_as l) (record { node = node; directory = directory }) ↔
+            ((at : ℕ) × IsOneOf (births_of kept.first kept.history) (record { stamp = at; directory = directory; node = node })))
             (sym is.known.births) (remembers.calls.known.births node directory);
         with_inode = λ node. ap (λ l. is_listed (map node_number l) node) is.known.inodes ∙ remembers.calls.known.with_inode node;
       };
@@ -91,7 +92,8 @@ known_remembers kept old new remembers is =
 
 -- what was granted may be free again, whatever room there is
 module _ (kept : Volume) (volume : OpenVolume) (node : NodeId) (stamp : Stamp) (plan : FsyncPlan) (grant : GrantedNumbers) (space : Space)
-    (is : IsGranted kept volume node stamp plan grant space) (room new : OpenVolume) (same : IsSameButRoom (with_space volume space) room) (back : ReturnsGrant grant room new) where
+    (is : IsGranted kept volume node stamp plan grant space) (room new : OpenVolume) (same : IsSameButRoom (with_space volume space) room)
+    (back : ReturnsGrant grant room new) where
   room_space : room.space ≡ space
   room_space = ap (λ (v : OpenVolume). v.space) same.others
 
@@ -113,12 +115,15 @@ module _ (kept : Volume) (volume : OpenVolume) (node : NodeId) (stamp : Stamp) (
     entries = subst (HasSameEntries volume.stored) (sym (ap (λ (v : OpenVolume). v.stored) back.others)) same.entries;
     space =
         returns_keep_maps kept.layout (disk_entries_in volume.stored) space new.space grant
-        (grants_keep_maps kept.layout (disk_entries_in volume.stored) (commit_plan kept volume node stamp plan grant space is) volume.space space grant is.remembers.disk.space
+        (grants_keep_maps kept.layout (disk_entries_in volume.stored)
+        (commit_plan kept volume node stamp plan grant space is) volume.space space grant is.remembers.disk.space
         (was_granted kept volume node stamp plan grant space is))
         returned;
     granted = record {
-      inodes = none_once_free volume.space.inodes space.inodes _ grant.inodes is.reserved.inodes is.remembers.disk.granted.inodes new.space.inodes returned.inodes;
-      blocks = none_once_free volume.space.blocks space.blocks _ grant.blocks is.reserved.blocks is.remembers.disk.granted.blocks new.space.blocks returned.blocks;
+      inodes =
+          none_once_free volume.space.inodes space.inodes _ grant.inodes is.reserved.inodes is.remembers.disk.granted.inodes new.space.inodes returned.inodes;
+      blocks =
+          none_once_free volume.space.blocks space.blocks _ grant.blocks is.reserved.blocks is.remembers.disk.granted.blocks new.space.blocks returned.blocks;
     };
   }
 

@@ -70,7 +70,8 @@ kept_is_in entries entry is = by (item_with entry_node entry.node.0 entries) ref
     by None e is = absurd (none_some is)
     by (Some found) e is =
         let there = found_is_in (λ (one : OldEntry). nat_eq (entry_node one) entry.node.0) entries found e in
-        let own : entry_node found ≡ entry.node.0 = eqb-true (entry_node found) entry.node.0 (found_in (λ (one : OldEntry). nat_eq (entry_node one) entry.node.0) entries found e).1 in
+        let own : entry_node found ≡ entry.node.0 =
+        eqb-true (entry_node found) entry.node.0 (found_in (λ (one : OldEntry). nat_eq (entry_node one) entry.node.0) entries found e).1 in
         subst (Contains entries) (λ i. record { node = record { 0 = own i }; old = some_same is i }) there
 
 -- what is left of the entries once those of some nodes were replaced
@@ -122,7 +123,8 @@ module _ (kept : Volume) (volume : OpenVolume) (node : NodeId) (stamp : Stamp) (
   entry_among entry there =
       let from = mapped_is_in entry_after (nodes_with_grant change grant) entry
       (ascending_is_in entry_node (map entry_after (nodes_with_grant change grant)) entry there) in
-      let there_built = node_built kept.num nodes (tree_held kept) (tree_raised kept one) (inodes_shown kept.layout kept.parts) one.plan grant over.full from.0 from.1 in
+      let there_built =
+      node_built kept.num nodes (tree_held kept) (tree_raised kept one) (inodes_shown kept.layout kept.parts) one.plan grant over.full from.0 from.1 in
       let own : entry.node.0 ≡ there_built.of.begun.node =
       ap entry_node (sym from.2) ∙ ap (λ (b : Built). b.node) there_built.is ∙ ap (λ (s : Seated). s.node) (sym there_built.of.begins)
       ∙ planned_node change.changes there_built.of.begun there_built.of.begun.kind in
@@ -155,10 +157,12 @@ module _ (kept : Volume) (volume : OpenVolume) (node : NodeId) (stamp : Stamp) (
     after_entries = record {
       ascend = all_ascend new.stored ordered_new;
       each = λ entry. (
-        λ there. subst (λ (l : List OldEntry). Contains (after_commit change grant) entry ⊎ (Contains l entry × (is_listed nodes entry.node.0 ≡ false))) room_entries
+        λ there. subst (λ (l : List OldEntry). Contains (after_commit change grant) entry ⊎ (Contains l entry × (is_listed nodes entry.node.0 ≡ false)))
+            room_entries
             (replaced_there nodes (after_commit change grant) room.stored new.stored ordered_room up entry_among replaced entry there),
         λ either. replaced_back nodes (after_commit change grant) room.stored new.stored ordered_room up entry_among replaced entry
-            (subst (λ (l : List OldEntry). Contains (after_commit change grant) entry ⊎ (Contains l entry × (is_listed nodes entry.node.0 ≡ false))) (sym room_entries) either),
+            (subst (λ (l : List OldEntry). Contains (after_commit change grant) entry ⊎ (Contains l entry × (is_listed nodes entry.node.0 ≡ false)))
+            (sym room_entries) either),
       );
     }
 
@@ -174,18 +178,25 @@ module _ (kept : Volume) (volume : OpenVolume) (node : NodeId) (stamp : Stamp) (
     map_after =
         commits_keep_maps kept.first kept.history kept.flushes kept.cut kept.inodes one.flush one.raised one.after kept.num kept.layout kept.store kept.parts
         nodes one.entries one.plan grant (disk_entries_in new.stored) built.tx space new.space planned after_entries
-        (grants_keep_maps kept.layout one.entries one.plan volume.space space grant is.remembers.disk.space (was_granted kept volume node stamp plan grant space is))
+        (grants_keep_maps kept.layout one.entries one.plan volume.space space grant is.remembers.disk.space
+        (was_granted kept volume node stamp plan grant space is))
         (record {
           gives_up = own_tx kept volume node stamp plan grant space is built.tx built.built;
-          inodes = subst (λ (z : List ℕ × Pool). Ends grant.inodes z.0 z.1 new.space.inodes) (λ i. (built.freed_inodes i, (room_space i).inodes)) done.space_inodes;
-          blocks = subst (λ (z : List ℕ × Pool). Ends grant.blocks z.0 z.1 new.space.blocks) (λ i. (built.freed_blocks i, (room_space i).blocks)) done.space_blocks;
+          inodes =
+              subst (λ (z : List ℕ × Pool). Ends grant.inodes z.0 z.1 new.space.inodes) (λ i. (built.freed_inodes i, (room_space i).inodes)) done.space_inodes;
+          blocks =
+              subst (λ (z : List ℕ × Pool). Ends grant.blocks z.0 z.1 new.space.blocks) (λ i. (built.freed_blocks i, (room_space i).blocks)) done.space_blocks;
         })
 
     granted_after : HasNoneGranted new.space
     granted_after = record {
-      inodes = none_once_ended volume.space.inodes space.inodes _ grant.inodes is.reserved.inodes is.remembers.disk.granted.inodes ready.freed_inodes.items new.space.inodes
+      inodes =
+          none_once_ended volume.space.inodes space.inodes _ grant.inodes is.reserved.inodes is.remembers.disk.granted.inodes ready.freed_inodes.items
+          new.space.inodes
           (subst (λ (s : Space). Ends grant.inodes ready.freed_inodes.items s.inodes new.space.inodes) room_space done.space_inodes);
-      blocks = none_once_ended volume.space.blocks space.blocks _ grant.blocks is.reserved.blocks is.remembers.disk.granted.blocks ready.freed_blocks.items new.space.blocks
+      blocks =
+          none_once_ended volume.space.blocks space.blocks _ grant.blocks is.reserved.blocks is.remembers.disk.granted.blocks ready.freed_blocks.items
+          new.space.blocks
           (subst (λ (s : Space). Ends grant.blocks ready.freed_blocks.items s.blocks new.space.blocks) room_space done.space_blocks);
     }
 
@@ -228,7 +239,9 @@ module _ (kept : Volume) (volume : OpenVolume) (node : NodeId) (stamp : Stamp) (
 
       -- which nodes have an inode afterwards
       inodes_after : (other : ℕ) → is_listed (map node_number new.known.inodes) other ≡ one.after other
-      inodes_after other = done.inodes other ∙ ap (λ l. cond (is_listed l other) (is_some (old_at new.stored other)) (is_listed (map node_number room.known.inodes) other)) nodes_are
+      inodes_after other =
+          done.inodes other
+          ∙ ap (λ l. cond (is_listed l other) (is_some (old_at new.stored other)) (is_listed (map node_number room.known.inodes) other)) nodes_are
           ∙ by (is_listed nodes other) refl
         where
           before : is_listed (map node_number room.known.inodes) other ≡ kept.inodes other
@@ -243,11 +256,15 @@ module _ (kept : Volume) (volume : OpenVolume) (node : NodeId) (stamp : Stamp) (
           stays unlisted false true e t = absurd (aside unlisted ((is.leads.inodes_after.enters other e).0 t).0)
           stays unlisted true false e t = absurd (aside unlisted ((is.leads.inodes_after.leaves other e).0 t).0)
 
-          by : (b : Bool) → is_listed nodes other ≡ b → cond b (is_some (old_at new.stored other)) (is_listed (map node_number room.known.inodes) other) ≡ one.after other
+          by : (b : Bool) → is_listed nodes other ≡ b
+              → cond b (is_some (old_at new.stored other)) (is_listed (map node_number room.known.inodes) other) ≡ one.after other
           by true t = kept_after other
           by false t = before ∙ stays t (kept.inodes other) (one.after other) refl refl
 
-      module _ (members : (other : ℕ) → (is_listed (map node_number plan.members.items) other ≡ true) ↔ Closure kept.first kept.history every_entry kept.cut kept.inodes one.flush other) where
+      module _
+          (members : (other : ℕ)
+          → (is_listed (map node_number plan.members.items) other ≡ true) ↔ Closure kept.first kept.history every_entry kept.cut kept.inodes one.flush
+          other) where
         -- the cuts afterwards
         cuts_after : (other : ℕ) → cut_in new.known.cuts other ≡ cut_of one.raised other
         cuts_after other =
@@ -256,7 +273,8 @@ module _ (kept : Volume) (volume : OpenVolume) (node : NodeId) (stamp : Stamp) (
             (λ i. (map node_number (built.members i), (ap (λ l. cut_in l other) same.known.cuts ∙ is.remembers.calls.known.cuts other) i))
             ∙ by (is_listed (map node_number plan.members.items) other) refl
           where
-            by : (b : Bool) → is_listed (map node_number plan.members.items) other ≡ b → cond b (max (cut_of kept.cut other) stamp.0) (cut_of kept.cut other) ≡ cut_of one.raised other
+            by : (b : Bool) → is_listed (map node_number plan.members.items) other ≡ b
+                → cond b (max (cut_of kept.cut other) stamp.0) (cut_of kept.cut other) ≡ cut_of one.raised other
             by true t = sym (is.leads.raises.member other ((members other).0 t))
             by false t = elim (is.leads.raises.other other) [
               | inl member ↦ absurd (true_not_false (sym ((members other).1 member) ∙ t))
@@ -285,11 +303,14 @@ module _ (kept : Volume) (volume : OpenVolume) (node : NodeId) (stamp : Stamp) (
           known = record {
             cuts = cuts_after;
             births = λ other directory.
-                subst (λ l. IsOneOf (map born_as l) (record { node = other; directory = directory }) ↔ ((at : ℕ) × IsOneOf (births_of kept.first kept.history) (record { stamp = at; directory = directory; node = other })))
+                subst (λ l. IsOneOf (map born_as l) (record { node = other; directory = directory }) ↔
+                ((at : ℕ) × IsOneOf (births_of kept.first kept.history) (record { stamp = at; directory = directory; node = other })))
                 (sym (done.births ∙ same.known.births)) (is.remembers.calls.known.births other directory);
             with_inode = inodes_after;
           };
-          files = subst (HoldsFiles kept.first kept.history) (sym (ap (λ (v : OpenVolume). v.files) done.others ∙ ap (λ (v : OpenVolume). v.files) same.others)) is.remembers.calls.files;
+          files =
+              subst (HoldsFiles kept.first kept.history)
+              (sym (ap (λ (v : OpenVolume). v.files) done.others ∙ ap (λ (v : OpenVolume). v.files) same.others)) is.remembers.calls.files;
         }
 
         pub remembers_after : Remembers left new

@@ -53,7 +53,8 @@ module _ (old mid : Pool) (count : ℕ) (numbers : List ℕ) (granted : Grants o
 
   -- nor once they have ended
   pub none_once_ended : NoneGranted old → (freed : List ℕ) (new : Pool) → Ends numbers freed mid new → NoneGranted new
-  none_once_ended none freed new ends number is = by (is_listed numbers number) (is_listed freed number) (status_of mid number) refl refl (sym (ends number) ∙ is)
+  none_once_ended none freed new ends number is =
+      by (is_listed numbers number) (is_listed freed number) (status_of mid number) refl refl (sym (ends number) ∙ is)
     where
       by : (b c : Bool) (o : Option Status) → is_listed numbers number ≡ b → status_of mid number ≡ o
           → cond b (option_map (λ _. Taken) o) (cond c (option_map released o) o) ≡ Some Granted → ⊥
@@ -66,7 +67,8 @@ module _ (old mid : Pool) (count : ℕ) (numbers : List ℕ) (granted : Grants o
       by false false o t e same = others_not none number t (e ∙ same)
 
 -- a refusal of a map is for its shortage, where it is not for want of memory
-pub is_short : (o : Option SpaceFault) (kind : SpaceKind) (need free : ℕ) → MatchOption o (NoSpace kind need free ≡ NoMemory) (λ due. NoSpace kind need free ≡ due)
+pub is_short : (o : Option SpaceFault) (kind : SpaceKind) (need free : ℕ)
+    → MatchOption o (NoSpace kind need free ≡ NoMemory) (λ due. NoSpace kind need free ≡ due)
     → o ≡ Some (NoSpace kind need free)
 is_short None kind need free cause = absurd (let never : NoSpace kind need free ≡ NoMemory = cause in cc)
 is_short (Some due) kind need free cause = ap Some (sym cause)
@@ -75,8 +77,12 @@ is_short (Some due) kind need free cause = ap Some (sym cause)
 pub is_not_short : (space : Space) (need : Need) → MatchOption (shortage space need) (NoMemory ≡ NoMemory) (λ due. NoMemory ≡ due) → shortage space need ≡ None
 is_not_short space need cause = by (nat_lt (free_count space.inodes) need.inodes) (nat_lt (free_count space.blocks) need.blocks) cause
   where
-    by : (b c : Bool) → MatchOption (cond b (Some (NoSpace Inodes need.inodes (free_count space.inodes))) (cond c (Some (NoSpace Blocks need.blocks (free_count space.blocks))) None)) (NoMemory ≡ NoMemory) (λ due. NoMemory ≡ due)
-        → cond b (Some (NoSpace Inodes need.inodes (free_count space.inodes))) (cond c (Some (NoSpace Blocks need.blocks (free_count space.blocks))) None) ≡ None
+    by : (b c : Bool)
+        → MatchOption
+        (cond b (Some (NoSpace Inodes need.inodes (free_count space.inodes))) (cond c (Some (NoSpace Blocks need.blocks (free_count space.blocks))) None))
+        (NoMemory ≡ NoMemory) (λ due. NoMemory ≡ due)
+        → cond b (Some (NoSpace Inodes need.inodes (free_count space.inodes))) (cond c (Some (NoSpace Blocks need.blocks (free_count space.blocks))) None)
+        ≡ None
     by true c cause = absurd (let never : NoMemory ≡ NoSpace Inodes need.inodes (free_count space.inodes) = cause in cc)
     by false true cause = absurd (let never : NoMemory ≡ NoSpace Blocks need.blocks (free_count space.blocks) = cause in cc)
     by false false cause = refl

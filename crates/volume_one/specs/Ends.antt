@@ -74,7 +74,8 @@ pub record ReturnsGrant (grant : GrantedNumbers) (old new : OpenVolume) : Type 0
 
 -- A commit that was ready was carried to the disk and taken note of, or its disk failed: then what was granted is free again, the count of faults
 -- is kept, and nothing else changes. `Same` says that the disk is as it was.
-pub data ReadyEnds (Same : Type 0) (stamp : Stamp) (ready : Ready) (grant : GrantedNumbers) (before after : View) (old new : OpenVolume) : Flushed → Type 0 where
+pub data ReadyEnds (Same : Type 0) (stamp : Stamp) (ready : Ready) (grant : GrantedNumbers) (before after : View) (old new : OpenVolume) : Flushed
+    → Type 0 where
   carried : (moment : ℕ) → CarriesPacked Same old.layout old.commits ready.packed before after (Ok moment)
       → HasFinished stamp ready grant old new → ReadyEnds Same stamp ready grant before after old new (acknowledged moment (durable_deed ready.packed grant))
   doubted : (doubt : Doubt) (space : Space) → CarriesPacked Same old.layout old.commits ready.packed before after (Err doubt)
@@ -82,7 +83,8 @@ pub data ReadyEnds (Same : Type 0) (stamp : Stamp) (ready : Ready) (grant : Gran
       → ReadyEnds Same stamp ready grant before after old new (refused_with reply.DiskFailed (doubtful_deed ready.fresh before.now after.now))
 
 -- With a grant a commit is made ready, for which memory may be wanting: then what was granted is free again.
-pub data GrantEnds (Same : Type 0) (stamp : Stamp) (plan : FsyncPlan) (grant : GrantedNumbers) (before after : View) (old new : OpenVolume) : Flushed → Type 0 where
+pub data GrantEnds (Same : Type 0) (stamp : Stamp) (plan : FsyncPlan) (grant : GrantedNumbers) (before after : View) (old new : OpenVolume) : Flushed
+    → Type 0 where
   unready : Same → (room : OpenVolume) → IsSameButRoom old room → ReturnsGrant grant room new
       → GrantEnds Same stamp plan grant before after old new (refused_with reply.NoMemory deeds.GivenBack)
   readied : (flushed : Flushed) (ready : Ready) (room : OpenVolume) → IsReadyFor plan grant ready → IsSameButRoom old room

@@ -51,7 +51,8 @@ pub record IsOnDisk (kept : Volume) (one : OneFsync) (later : ℕ → List ℕ) 
 
 -- An fsync was answered Ok: its commit is counted, and durable at the moment of the acknowledgement, no device call failed, the volume is what it
 -- leaves, and so is the disk, where its count of calls goes on.
-pub record FsyncCommits (grown : Volume → Volume) (kept : Volume) (flush : Flush) (before after : View) (old new : OpenVolume) (flushed : Flushed) : Type 0 where
+pub record FsyncCommits (grown : Volume → Volume) (kept : Volume) (flush : Flush) (before after : View) (old new : OpenVolume)
+    (flushed : Flushed) : Type 0 where
   pub one : OneFsync
   pub later : ℕ → List ℕ
   pub moment : ℕ

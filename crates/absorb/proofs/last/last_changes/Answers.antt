@@ -18,4 +18,5 @@ loop-change-preserved c =
     let changes =
     take_more c.args.changes.now c.loop-change.change-index change within
     ∙ ap (λ one. before ++ one ∷ []) (sym c.change-item.is) in
-    subst (λ cs. AreLast cs (lent c.insert.new.self.entries)) (sym changes) (subst (AreLast (before ++ change ∷ [])) (sym entries) (AreLast-push before (lent c.loop-change.last.entries) change c.loop-change.invariant))
+    subst (λ cs. AreLast cs (lent c.insert.new.self.entries)) (sym changes)
+    (subst (AreLast (before ++ change ∷ [])) (sym entries) (AreLast-push before (lent c.loop-change.last.entries) change c.loop-change.invariant))

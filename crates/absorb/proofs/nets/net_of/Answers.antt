@@ -6,4 +6,5 @@ use Rattle.absorb.proofs.nets.net_of.Goals as goal
 
 pub returns : goal.returns
 returns c =
-    IsNet-from_lent c.args.rows.now c.args.changes.now.items c.as_slice.result.now c.in_ok-last.last.entries c.from_vec.result.items c.as_slice.ensures (ap (λ (net : Roomy NetRow). net.items) c.from_vec.ensures ∙ c.in_ok-net.ensures) c.in_ok-last.ensures
+    IsNet-from_lent c.args.rows.now c.args.changes.now.items c.as_slice.result.now c.in_ok-last.last.entries c.from_vec.result.items c.as_slice.ensures
+    (ap (λ (net : Roomy NetRow). net.items) c.from_vec.ensures ∙ c.in_ok-net.ensures) c.in_ok-last.ensures

@@ -10,4 +10,5 @@ invariant-loop-one l = l.freed.items ≡ flat_map (λ one. there (data_left (poi
 
 abbrev pub invariant-loop-k : goal.invariant-loop-k
 invariant-loop-k l = l.freed.items ≡ flat_map (λ one. there (data_left (pointer_kept l.inode l.tables.items) one)) l.changed.items
-    ++ flat_map (λ k. there (table_left (table_fate (rewrite_of l.inode l.tables.items l.changed.items) k) (slice_index l.inode.indirect k))) (range_with_len 0 l.k)
+    ++ flat_map (λ k. there (table_left (table_fate (rewrite_of l.inode l.tables.items l.changed.items) k) (slice_index l.inode.indirect k)))
+    (range_with_len 0 l.k)

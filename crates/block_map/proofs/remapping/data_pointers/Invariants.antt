@@ -8,5 +8,6 @@ abbrev pub invariant-loop-one : goal.invariant-loop-one
 invariant-loop-one l = record {
   taken : l.taken ≡ count_by takes_fresh (take l.one-index l.changed.items);
   count : length l.pointers.items ≡ l.one-index;
-  each : (k : ℕ) (d : ChangedBlock) → k < l.one-index → slice_index l.pointers.items k ≡ pointer_given l.fresh (get_or l.changed.items k d) (count_by takes_fresh (take k l.changed.items));
+  each : (k : ℕ) (d : ChangedBlock) → k < l.one-index
+      → slice_index l.pointers.items k ≡ pointer_given l.fresh (get_or l.changed.items k d) (count_by takes_fresh (take k l.changed.items));
 }

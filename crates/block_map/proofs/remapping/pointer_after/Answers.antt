@@ -9,4 +9,5 @@ ONE = record { block = 0; is_zero = false }
 pub returns-in-Some : goal.returns-in-Some
 returns-in-Some c =
     c.requires.given.each c.in-Some.at ONE c.in-Some.ensures.some.within
-    ∙ given_pointer c.args.inode.now c.args.tables.now.items c.args.changed.now.items c.in-Some.ensures.ascending c.args.fresh.now c.args.n c.in-Some.at ONE c.in-Some.ensures.some c.requires.within
+    ∙ given_pointer c.args.inode.now c.args.tables.now.items c.args.changed.now.items c.in-Some.ensures.ascending c.args.fresh.now c.args.n c.in-Some.at ONE
+    c.in-Some.ensures.some c.requires.within

@@ -11,7 +11,10 @@ loop-entry-preserved c =
     rw c.put.ensures (record {
       place = c.loop-entry.invariant.place;
       count = length-set _ _ _ ∙ c.loop-entry.invariant.count;
-      each = set_more c.loop-entry.table.pointers c.loop-entry.entry _ (λ j. f (first_block c.args.k + j)) (omega (arith, c.loop-entry.invariant.count)) c.loop-entry.invariant.each (c.pointer_after.ensures ∙ ap (λ first. f (first + c.loop-entry.entry)) c.first_of-first.ensures);
+      each =
+          set_more c.loop-entry.table.pointers c.loop-entry.entry _ (λ j. f (first_block c.args.k + j))
+          (omega (arith, c.loop-entry.invariant.count)) c.loop-entry.invariant.each
+          (c.pointer_after.ensures ∙ ap (λ first. f (first + c.loop-entry.entry)) c.first_of-first.ensures);
     })
 
 pub returns : goal.returns

@@ -7,5 +7,6 @@ abbrev pub invariant-loop-entry : goal.invariant-loop-entry
 invariant-loop-entry l = record {
   place : l.table.place ≡ l.k;
   count : length l.table.pointers ≡ 1024;
-  each : (j d : ℕ) → j < l.entry → get_or l.table.pointers j d ≡ pointer_remapped (rewrite_of l.inode l.tables.items l.changed.items) l.fresh (first_block l.k + j);
+  each : (j d : ℕ) → j < l.entry
+      → get_or l.table.pointers j d ≡ pointer_remapped (rewrite_of l.inode l.tables.items l.changed.items) l.fresh (first_block l.k + j);
 }

@@ -9,7 +9,8 @@ use Rattle.call_log.proofs.reply.with_made.Goals as goal
 pub loop-place-preserved : goal.loop-place-preserved
 loop-place-preserved c =
     let counted : vec_len c.into_vec-changes.result ≡ length c.into_vec-changes.result.items = grind (arith, common_steps) in
-    let less : c.loop-place.place < length c.args.changes.items = subst (λ n. c.loop-place.place < n) (c.len-place-end.ensures ∙ counted ∙ ap length c.into_vec-changes.ensures) c.loop-place-test.true in
+    let less : c.loop-place.place < length c.args.changes.items =
+    subst (λ n. c.loop-place.place < n) (c.len-place-end.ensures ∙ counted ∙ ap length c.into_vec-changes.ensures) c.loop-place-test.true in
     let next : suc c.loop-place.place ≡ c.loop-place.place + 1 = omega arith in
     let f : Change → Change = change_of_node c.args.node in
     let old : List Change = c.args.changes.items in

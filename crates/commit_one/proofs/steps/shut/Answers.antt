@@ -41,7 +41,8 @@ returns-in_err-shut_gate-clause-goes g c =
     let second = view c.shut_gate.new.disk in
     let write = subst (λ (j : Job). IsWrite (gate_piece j.place 0) first second c.shut_gate.result) c.in_ok-copy.ensures.ok c.shut_gate.ensures.write in
     let goes_one : Advances old first = call_advances old first c.copy.result (laws.now_fits c.args.disk.now) c.copy.ensures.sync.call in
-    let goes_two : Advances old second = GoesOn-trans old first second goes_one (call_advances first second c.shut_gate.result (laws.now_fits c.copy.new.disk) c.shut_gate.ensures.write.call) in
+    let goes_two : Advances old second =
+    GoesOn-trans old first second goes_one (call_advances first second c.shut_gate.result (laws.now_fits c.copy.new.disk) c.shut_gate.ensures.write.call) in
     goes_two
 
 pub returns-in_err-shut_gate-clause-shuts : goal.returns-in_err-shut_gate-clause-shuts
@@ -58,8 +59,12 @@ returns-in_err-shut_gate-clause-shuts g c parts new is change knows leaves =
     let err = err_from_is_err_and c.from_residual-in_err-shut_gate.result c.from_residual-in_err-shut_gate.ensures.1 in
     subst (λ r. Shuts job parts new old second r) (sym err.1)
     (record {
-      told = shut_tells job is parts new change old first c.copy.result c.copy.ensures.sync lawful leaves second c.shut_gate.result write (laws.now_fits c.copy.new.disk) filled;
-      later = shut_later job is parts new change old first c.copy.result c.copy.ensures.sync lawful leaves second c.shut_gate.result write (laws.now_fits c.copy.new.disk) filled;
+      told =
+          shut_tells job is parts new change old first c.copy.result c.copy.ensures.sync lawful leaves second c.shut_gate.result write
+          (laws.now_fits c.copy.new.disk) filled;
+      later =
+          shut_later job is parts new change old first c.copy.result c.copy.ensures.sync lawful leaves second c.shut_gate.result write
+          (laws.now_fits c.copy.new.disk) filled;
       ended = tt;
     })
 
@@ -76,7 +81,8 @@ returns-clause-goes g c =
     let now = view c.finish.new.disk in
     let lawful_second : IsLawful second = record { whole = laws.whole c.shut_gate.new.disk; read_is_left = laws.read_is_left c.shut_gate.new.disk } in
     let goes_one : Advances old first = call_advances old first c.copy.result (laws.now_fits c.args.disk.now) c.copy.ensures.sync.call in
-    let goes_two : Advances old second = GoesOn-trans old first second goes_one (call_advances first second c.shut_gate.result (laws.now_fits c.copy.new.disk) c.shut_gate.ensures.write.call) in
+    let goes_two : Advances old second =
+    GoesOn-trans old first second goes_one (call_advances first second c.shut_gate.result (laws.now_fits c.copy.new.disk) c.shut_gate.ensures.write.call) in
     GoesOn-trans old second now goes_two (call_advances second now c.finish.result (laws.now_fits c.shut_gate.new.disk) c.finish.ensures.sync.call)
 
 pub returns-clause-time : goal.returns-clause-time
@@ -88,8 +94,13 @@ returns-clause-time g c =
     let first = view c.copy.new.disk in
     let lawful : IsLawful old = record { whole = laws.whole c.args.disk.now; read_is_left = laws.read_is_left c.args.disk.now } in
     record {
-      most = λ counts. omega (arith, c.copy.ensures.sync.call.time.counted, c.shut_gate.ensures.write.call.time.counted, c.finish.ensures.sync.call.time.counted, counts);
-      all = on_ok c.finish.result (λ counts. omega (arith, c.copy.ensures.sync.call.time.counted, c.shut_gate.ensures.write.call.time.counted, c.finish.ensures.sync.call.time.counted, counts));
+      most =
+          λ counts. omega
+          (arith, c.copy.ensures.sync.call.time.counted, c.shut_gate.ensures.write.call.time.counted, c.finish.ensures.sync.call.time.counted, counts);
+      all =
+          on_ok c.finish.result
+          (λ counts. omega
+          (arith, c.copy.ensures.sync.call.time.counted, c.shut_gate.ensures.write.call.time.counted, c.finish.ensures.sync.call.time.counted, counts));
     }
 
 pub returns-clause-closed : goal.returns-clause-closed
@@ -107,7 +118,8 @@ returns-clause-closed g c =
     let same : c.in_ok-shut_gate.field-0 ≡ job = c.in_ok-shut_gate.ensures.ok ∙ c.in_ok-copy.ensures.ok in
     let closing : IsCopied job first → IsClosing job second =
     subst (λ (j : Job). IsCopied j first → IsClosing j second) c.in_ok-copy.ensures.ok c.in_ok-shut_gate.ensures.closing in
-    let closed : OnOk c.finish.result (IsClosing job second → IsEnded job now) = subst (λ (j : Job). OnOk c.finish.result (IsClosing j second → IsEnded j now)) same c.finish.ensures.closed in
+    let closed : OnOk c.finish.result (IsClosing job second → IsEnded job now) =
+    subst (λ (j : Job). OnOk c.finish.result (IsClosing j second → IsEnded j now)) same c.finish.ensures.closed in
     on_ok_weaker c.finish.result (λ last knows. last (closing (c.in_ok-copy.ensures.copied knows))) closed
 
 pub returns-clause-shuts : goal.returns-clause-shuts
@@ -125,11 +137,19 @@ returns-clause-shuts g c parts new is change knows leaves =
     let same : c.in_ok-shut_gate.field-0 ≡ job = c.in_ok-shut_gate.ensures.ok ∙ c.in_ok-copy.ensures.ok in
     let closing : IsCopied job first → IsClosing job second =
     subst (λ (j : Job). IsCopied j first → IsClosing j second) c.in_ok-copy.ensures.ok c.in_ok-shut_gate.ensures.closing in
-    let closed : OnOk c.finish.result (IsClosing job second → IsEnded job now) = subst (λ (j : Job). OnOk c.finish.result (IsClosing j second → IsEnded j now)) same c.finish.ensures.closed in
+    let closed : OnOk c.finish.result (IsClosing job second → IsEnded job now) =
+    subst (λ (j : Job). OnOk c.finish.result (IsClosing j second → IsEnded j now)) same c.finish.ensures.closed in
     let filled = c.in_ok-copy.ensures.copied knows in
     record {
-      told = finish_tells job is parts new change old first c.copy.result c.copy.ensures.sync lawful leaves second c.shut_gate.result write (laws.now_fits c.copy.new.disk) filled now c.finish.result c.finish.ensures.sync (laws.now_fits c.shut_gate.new.disk) lawful_second;
-      later = finish_later job is parts new change old first c.copy.result c.copy.ensures.sync lawful leaves second c.shut_gate.result write (laws.now_fits c.copy.new.disk) filled now c.finish.result c.finish.ensures.sync (laws.now_fits c.shut_gate.new.disk) lawful_second;
-      ended = on_ok_weaker c.finish.result (λ last. finish_leaves job is parts new change old first c.copy.result c.copy.ensures.sync lawful leaves second c.shut_gate.result write (laws.now_fits c.copy.new.disk) filled now c.finish.result c.finish.ensures.sync (laws.now_fits c.shut_gate.new.disk) lawful_second
+      told =
+          finish_tells job is parts new change old first c.copy.result c.copy.ensures.sync lawful leaves second c.shut_gate.result write
+          (laws.now_fits c.copy.new.disk) filled now c.finish.result c.finish.ensures.sync (laws.now_fits c.shut_gate.new.disk) lawful_second;
+      later =
+          finish_later job is parts new change old first c.copy.result c.copy.ensures.sync lawful leaves second c.shut_gate.result write
+          (laws.now_fits c.copy.new.disk) filled now c.finish.result c.finish.ensures.sync (laws.now_fits c.shut_gate.new.disk) lawful_second;
+      ended =
+          on_ok_weaker c.finish.result
+          (λ last. finish_leaves job is parts new change old first c.copy.result c.copy.ensures.sync lawful leaves second c.shut_gate.result write
+          (laws.now_fits c.copy.new.disk) filled now c.finish.result c.finish.ensures.sync (laws.now_fits c.shut_gate.new.disk) lawful_second
           (last (closing (c.in_ok-copy.ensures.copied knows)))) closed;
     }

@@ -16,7 +16,8 @@ returns c =
     let is = c.from_stamp.ensures.items ∙ ap (filter (is_from from)) c.as_slice.ensures in
     on_ok_weaker c.add_children.result
     (λ grows cut from_is.
-    set_as c.args.named.now c.add_children.new.named (OfSome (filter (is_from from) log.changes.items) (λ change other. change.child.0 ≡ other)) (IsNamedByLog cut log)
+    set_as c.args.named.now c.add_children.new.named (OfSome (filter (is_from from) log.changes.items) (λ change other. change.child.0 ≡ other))
+    (IsNamedByLog cut log)
     (subst (λ (l : List Change). AddsTo c.args.named.now c.add_children.new.named (OfSome l (λ change other. change.child.0 ≡ other))) is grows)
     (named_from cut log from from_is) (from_named cut log from from_is))
     c.add_children.ensures

@@ -15,14 +15,18 @@ use Rattle.dep_closure.proofs.births.named_nodes.Goals as goal
 pub add_named-requires : goal.add_named-requires
 add_named-requires c =
     let log = c.log-item.result in
-    let one = subst (λ (l : List DirectoryChanges). IsOneOf l log) c.as_slice-logs.ensures (one_at c.as_slice-logs.result.now c.loop-log.log-index log log c.loop-log-test.true c.log-item.is) in
+    let one =
+    subst (λ (l : List DirectoryChanges). IsOneOf l log) c.as_slice-logs.ensures
+    (one_at c.as_slice-logs.result.now c.loop-log.log-index log log c.loop-log-test.true c.log-item.is) in
     (one_of_all IsOwnLog c.args.gathered.now.logs.items log c.requires.gathered.own_logs one).in_order
 
 pub loop-log-preserved : goal.loop-log-preserved
 loop-log-preserved c =
     let cut : ℕ → ℕ = lifted_cut c.args.gathered.now.cuts.items (map node_number c.args.lifted.now) c.args.to.0 in
     let brings : DirectoryChanges → ℕ → Type 0 = IsNamedByLog cut in
-    set_more brings c.as_slice-logs.result.now c.loop-log.log-index c.log-item.result c.log-item.result c.new-named.result c.loop-log.named c.add_named.new.named c.loop-log-test.true c.log-item.is c.loop-log.invariant (c.in_ok-add_named.ensures cut c.lifted_stamp-cut.ensures)
+    set_more brings c.as_slice-logs.result.now c.loop-log.log-index c.log-item.result c.log-item.result c.new-named.result c.loop-log.named
+    c.add_named.new.named c.loop-log-test.true c.log-item.is c.loop-log.invariant
+    (c.in_ok-add_named.ensures cut c.lifted_stamp-cut.ensures)
 
 pub returns : goal.returns
 returns c = λ start below node.

@@ -17,8 +17,11 @@ returns c =
     on_ok_weaker c.add_some.result
     (λ grows start.
     let look = look_of start c.args.below gathered in
-    let by_birth = grows_as c.follow_log.new.found c.add_some.new.self (λ other. number_of (birthplace_due gathered named node) ≡ Some other) (BirthBrings look node)
+    let by_birth =
+    grows_as c.follow_log.new.found c.add_some.new.self (λ other. number_of (birthplace_due gathered named node) ≡ Some other) (BirthBrings look node)
     (subst (λ (place : Option NodeId). GrowsBy c.follow_log.new.found c.add_some.new.self (λ other. number_of place ≡ Some other)) c.birthplace.ensures grows)
-    (birth_there gathered c.requires.gathered start c.args.below named node (c.requires.named start node)) (birth_back gathered c.requires.gathered start c.args.below named node (c.requires.named start node)) in
-    grows_both c.args.found.now c.follow_log.new.found c.add_some.new.self (SpanBrings look node) (BirthBrings look node) (c.in_ok-follow_log.ensures start) by_birth)
+    (birth_there gathered c.requires.gathered start c.args.below named node (c.requires.named start node))
+    (birth_back gathered c.requires.gathered start c.args.below named node (c.requires.named start node)) in
+    grows_both c.args.found.now c.follow_log.new.found c.add_some.new.self (SpanBrings look node) (BirthBrings look node)
+    (c.in_ok-follow_log.ensures start) by_birth)
     c.add_some.ensures

@@ -9,6 +9,10 @@ use Rattle.disk_change.proofs.after.listed.Goals as goal
 pub from_vec-requires : goal.from_vec-requires
 from_vec-requires c =
     let gives = c.into_iter-node-iterator.ensures.into_iter_gives in
-    let end = YieldsList-end (YieldsList-from_rest c.args.by_node.entries gives.0) c.loop-node.yielded c.loop-node.node-iterator c.loop-node.yielded_by _ c.next.new.self c.in-None.is c.next.ensures.steps in
+    let end =
+    YieldsList-end
+    (YieldsList-from_rest c.args.by_node.entries gives.0) c.loop-node.yielded c.loop-node.node-iterator c.loop-node.yielded_by _ c.next.new.self
+    c.in-None.is c.next.ensures.steps in
     let all = c.loop-node.invariant ∙ ap (map entry_keyed) (sym (map_itself c.loop-node.yielded) ∙ end.0) in
-    sorted_ascend entry_node c.loop-node.list.items (map (λ e. e.0) c.args.by_node.entries) (ap (map entry_node) all ∙ keys_are entry_keyed entry_node (λ e. refl) c.args.by_node.entries) gives.5
+    sorted_ascend entry_node c.loop-node.list.items (map (λ e. e.0) c.args.by_node.entries)
+    (ap (map entry_node) all ∙ keys_are entry_keyed entry_node (λ e. refl) c.args.by_node.entries) gives.5

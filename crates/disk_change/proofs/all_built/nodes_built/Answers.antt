@@ -24,7 +24,10 @@ loop-seat-preserved c =
     let count : c.blocks_needed-count.result ≡ blocks_taken seat = c.blocks_needed-count.ensures ∙ ap blocks_taken c.seat.view_is in
     let first = c.first_of.ensures ∙ (λ i. take (count i) (left i)) in
     record {
-      nodes = c.in_ok-push.ensures.items ∙ (λ i. c.loop-seat.invariant.nodes i ++ (c.in_ok-one.ensures.built ∙ ap (λ fresh. built_by changes numbers fresh seat) first) i ∷ []) ∙ sym (built_last changes numbers before seat c.args.fresh.now);
+      nodes =
+          c.in_ok-push.ensures.items
+          ∙ (λ i. c.loop-seat.invariant.nodes i ++ (c.in_ok-one.ensures.built ∙ ap (λ fresh. built_by changes numbers fresh seat) first) i ∷ [])
+          ∙ sym (built_last changes numbers before seat c.args.fresh.now);
       left = c.rest_of-left.ensures ∙ (λ i. drop (count i) (left i)) ∙ sym (behind_last before seat c.args.fresh.now);
       freed = seats_more before seat c.loop-seat.freed.items _ _ c.loop-seat.invariant.freed c.in_ok-one.ensures.freed (search rules);
     }
@@ -32,6 +35,9 @@ loop-seat-preserved c =
 pub returns-clause-freed : goal.returns-clause-freed
 returns-clause-freed c =
     let gives = c.into_iter-seat-iterator.ensures.into_iter_gives in
-    let end = YieldsList-end (YieldsList-from_vec c.args.seats.items gives.0 (gives.1 ∙ c.args.seats.ok.0)) c.loop-seat.yielded c.loop-seat.seat-iterator c.loop-seat.yielded_by _ c.next.new.self c.in-None.is c.next.ensures.steps in
+    let end =
+    YieldsList-end
+    (YieldsList-from_vec c.args.seats.items gives.0 (gives.1 ∙ c.args.seats.ok.0)) c.loop-seat.yielded c.loop-seat.seat-iterator c.loop-seat.yielded_by
+    _ c.next.new.self c.in-None.is c.next.ensures.steps in
     let all = sym (map_itself c.loop-seat.yielded) ∙ end.0 in
     λ block. subst (λ (seats : List Seated). Contains c.loop-seat.freed.items block ↔ IsLeftBySeat seats block) all (c.loop-seat.invariant.freed block)

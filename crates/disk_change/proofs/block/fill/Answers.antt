@@ -16,8 +16,13 @@ loop-place-preserved c =
           (none_waits _ _ c.loop-place.waiting.items w.pop.result _ w.pop.ensures.cases c.loop-place.waiting.ok.0) in
           let empty = ap is_none (sym slot) ∙ not_lent c.row.result _ c.row.ensures w.if-is_none.ensures in
           record {
-            block = w.block-is ∙ w.put.ensures ∙ step_empty old c.loop-place.block rows c.loop-place.place w.pop.result within empty c.loop-place.invariant.block (next.0 ∙ ap (λ waiting. slice_get waiting 0) c.loop-place.invariant.left);
-            left = ap (λ v. reverse v.items) w.waiting-is ∙ next.1 ∙ ap (drop 1) c.loop-place.invariant.left ∙ sym (left_empty old rows c.loop-place.place within empty);
+            block =
+                w.block-is ∙ w.put.ensures
+                ∙ step_empty old c.loop-place.block rows c.loop-place.place w.pop.result within empty c.loop-place.invariant.block
+                (next.0 ∙ ap (λ waiting. slice_get waiting 0) c.loop-place.invariant.left);
+            left =
+                ap (λ v. reverse v.items) w.waiting-is ∙ next.1 ∙ ap (drop 1) c.loop-place.invariant.left
+                ∙ sym (left_empty old rows c.loop-place.place within empty);
           }
       | else-is_none w ↦
           let taken = ap is_none (sym slot) ∙ is_lent c.row.result _ c.row.ensures w.if-is_none.ensures in

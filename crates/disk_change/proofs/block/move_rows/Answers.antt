@@ -21,13 +21,20 @@ loop-place-preserved c =
     let own = λ (s : Option Row). option_and_then (λ (row : Row). row_in_net row.name c.args.net.now) s in
     elim c.match-changed_at.branch [
       | in-Some+in_ok-brought w ↦
-          let by = moved_by c.args.directories.now c.args.net.now (get_or old c.loop-place.place None) w.in-Some.row.now (ap own (sym slot) ∙ sym w.in-Some.ensures) in
+          let by =
+          moved_by c.args.directories.now c.args.net.now (get_or old c.loop-place.place None) w.in-Some.row.now
+          (ap own (sym slot) ∙ sym w.in-Some.ensures) in
           record {
-            block = w.block-is ∙ w.put.ensures ∙ step_moved f old c.loop-place.block c.loop-place.place None within c.loop-place.invariant.block w.in_ok-brought.field-0 (w.in_ok-brought.ensures ∙ by.0);
+            block =
+                w.block-is ∙ w.put.ensures
+                ∙ step_moved f old c.loop-place.block c.loop-place.place None within c.loop-place.invariant.block w.in_ok-brought.field-0
+                (w.in_ok-brought.ensures ∙ by.0);
             touched = w.touched-is ∙ sym (more ∙ ap (λ b. list_any (is_in_net c.args.net.now) (take c.loop-place.place old) || b) by.1 ∙ or_true _);
           }
       | in_default w ↦
-          let by = stays_by c.args.directories.now c.args.net.now (get_or old c.loop-place.place None) (ap own (sym slot) ∙ sym c.changed_at.ensures ∙ ap option_copied w.in_default.is) in
+          let by =
+          stays_by c.args.directories.now c.args.net.now (get_or old c.loop-place.place None)
+          (ap own (sym slot) ∙ sym c.changed_at.ensures ∙ ap option_copied w.in_default.is) in
           record {
             block = w.block-is ∙ step_stays f old c.loop-place.block c.loop-place.place None within c.loop-place.invariant.block by.0;
             touched = w.touched-is ∙ touched ∙ sym (more ∙ ap (λ b. list_any (is_in_net c.args.net.now) (take c.loop-place.place old) || b) by.1 ∙ or_false _);

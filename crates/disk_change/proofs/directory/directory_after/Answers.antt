@@ -19,8 +19,13 @@ loop-block-preserved c =
     let left = c.loop-block.invariant.left in
     let moved = block_moved dirs net c.in-Some.block in
     record {
-      blocks = c.in_ok-push.ensures.items ∙ (λ i. c.loop-block.invariant.blocks i ++ (c.in_ok-after.ensures.block ∙ ap (fill_front moved) left) i ∷ []) ∙ sym (filled_more dirs net before c.in-Some.block rows);
-      touched = c.in_ok-push-2.ensures.items ∙ (λ i. c.loop-block.invariant.touched i ++ (c.in_ok-after.ensures.touched ∙ ap (block_is_touched dirs net c.in-Some.block) left) i ∷ []) ∙ sym (touched_more dirs net before c.in-Some.block rows);
+      blocks =
+          c.in_ok-push.ensures.items ∙ (λ i. c.loop-block.invariant.blocks i ++ (c.in_ok-after.ensures.block ∙ ap (fill_front moved) left) i ∷ [])
+          ∙ sym (filled_more dirs net before c.in-Some.block rows);
+      touched =
+          c.in_ok-push-2.ensures.items
+          ∙ (λ i. c.loop-block.invariant.touched i ++ (c.in_ok-after.ensures.touched ∙ ap (block_is_touched dirs net c.in-Some.block) left) i ∷ [])
+          ∙ sym (touched_more dirs net before c.in-Some.block rows);
       left = c.in_ok-after.ensures.left ∙ ap (rows_left moved) left ∙ sym (behind_more dirs net before c.in-Some.block rows);
     }
 
@@ -32,7 +37,10 @@ loop-place-init c =
     let gives = c.into_iter-block-iterator.ensures.into_iter_gives in
     let items = gives.0 ∙ c.into_vec-block-items.ensures in
     let long = gives.1 ∙ c.into_vec-block-items.result.ok.0 ∙ ap length c.into_vec-block-items.ensures in
-    let end = YieldsList-end (YieldsList-from_vec c.args.slots.items items long) c.loop-block.yielded c.loop-block.block-iterator c.loop-block.yielded_by _ c.next.new.self c.in-None.is c.next.ensures.steps in
+    let end =
+    YieldsList-end
+    (YieldsList-from_vec c.args.slots.items items long) c.loop-block.yielded c.loop-block.block-iterator c.loop-block.yielded_by _ c.next.new.self
+    c.in-None.is c.next.ensures.steps in
     let all = sym (map_itself c.loop-block.yielded) ∙ end.0 in
     record {
       blocks = c.loop-block.invariant.blocks ∙ ap (λ blocks. old_blocks_after dirs net blocks rows) all ∙ sym (append-nil _);
@@ -51,10 +59,16 @@ loop-place-preserved c =
     let block = c.fill.ensures.block ∙ (λ i. fill_front (c.in_ok-block.ensures.ok i) (c.loop-place.invariant.left i)) in
     let next : 15 * n + 15 ≡ 15 * (n + 1) = omega arith in
     record {
-      blocks = c.in_ok-push-3.ensures.items ∙ (λ i. c.loop-place.invariant.blocks i ++ block i ∷ []) ∙ append_assoc filled (map (block_added rest) (range_with_len 0 n)) (block_added rest n ∷ [])
+      blocks =
+          c.in_ok-push-3.ensures.items ∙ (λ i. c.loop-place.invariant.blocks i ++ block i ∷ [])
+          ∙ append_assoc filled (map (block_added rest) (range_with_len 0 n)) (block_added rest n ∷ [])
           ∙ ap (λ more. filled ++ more) (sym (map-range_with_len_more (block_added rest) 0 n n (zero_plus n)));
-      touched = c.in_ok-push-4.ensures.items ∙ ap (λ items. items ++ true ∷ []) c.loop-place.invariant.touched ∙ append_assoc flags (replicate n true) (true ∷ []) ∙ ap (λ more. flags ++ more) (sym (replicate_more n true));
-      left = c.fill.ensures.left ∙ (λ i. rows_left (c.in_ok-block.ensures.ok i) (c.loop-place.invariant.left i)) ∙ left_of_empty (drop (15 * n) rest) ∙ drop_twice 15 (15 * n) rest ∙ ap (λ k. drop k rest) next;
+      touched =
+          c.in_ok-push-4.ensures.items ∙ ap (λ items. items ++ true ∷ []) c.loop-place.invariant.touched ∙ append_assoc flags (replicate n true) (true ∷ [])
+          ∙ ap (λ more. flags ++ more) (sym (replicate_more n true));
+      left =
+          c.fill.ensures.left ∙ (λ i. rows_left (c.in_ok-block.ensures.ok i) (c.loop-place.invariant.left i)) ∙ left_of_empty (drop (15 * n) rest)
+          ∙ drop_twice 15 (15 * n) rest ∙ ap (λ k. drop k rest) next;
     }
 
 pub returns : goal.returns
@@ -63,12 +77,26 @@ returns c =
     let gives = c.into_iter-block-iterator.ensures.into_iter_gives in
     let items = gives.0 ∙ c.into_vec-block-items.ensures in
     let vec_long = gives.1 ∙ c.into_vec-block-items.result.ok.0 ∙ ap length c.into_vec-block-items.ensures in
-    let end = YieldsList-end (YieldsList-from_vec c.args.slots.items items vec_long) c.loop-block.yielded c.loop-block.block-iterator c.loop-block.yielded_by _ c.next.new.self c.in-None.is c.next.ensures.steps in
-    let left = c.loop-block.invariant.left ∙ ap (λ blocks. rows_behind c.args.directories.now c.args.net.now blocks (rows_new c.args.directories.now c.args.net.now)) (sym (map_itself c.loop-block.yielded) ∙ end.0) in
+    let end =
+    YieldsList-end
+    (YieldsList-from_vec c.args.slots.items items vec_long) c.loop-block.yielded c.loop-block.block-iterator c.loop-block.yielded_by _ c.next.new.self
+    c.in-None.is c.next.ensures.steps in
+    let left =
+    c.loop-block.invariant.left
+    ∙ ap (λ blocks. rows_behind c.args.directories.now c.args.net.now blocks (rows_new c.args.directories.now c.args.net.now))
+    (sym (map_itself c.loop-block.yielded) ∙ end.0) in
     let long = c.len.ensures ∙ c.loop-block.waiting.ok.0 ∙ sym (length-reverse c.loop-block.waiting.items) ∙ ap length left in
     let stop = c.div_ceil-place-end.ensures ∙ ap (λ n. div_ceil n 15) long in
     let count : c.loop-place.place ≡ blocks_for rest = omega (arith, c.loop-place.auto.place-end, c.loop-place-test.false, stop) in
     record {
-      blocks = c.loop-place.invariant.blocks ∙ ap (λ n. old_blocks_after c.args.directories.now c.args.net.now c.args.slots.items (rows_new c.args.directories.now c.args.net.now) ++ map (block_added rest) (range_with_len 0 n)) count;
-      touched = c.loop-place.invariant.touched ∙ ap (λ n. blocks_touched c.args.directories.now c.args.net.now c.args.slots.items (rows_new c.args.directories.now c.args.net.now) ++ replicate n true) count;
+      blocks =
+          c.loop-place.invariant.blocks
+          ∙ ap (λ n. old_blocks_after c.args.directories.now c.args.net.now c.args.slots.items (rows_new c.args.directories.now c.args.net.now)
+          ++ map (block_added rest) (range_with_len 0 n))
+          count;
+      touched =
+          c.loop-place.invariant.touched
+          ∙ ap (λ n. blocks_touched c.args.directories.now c.args.net.now c.args.slots.items (rows_new c.args.directories.now c.args.net.now)
+          ++ replicate n true)
+          count;
     }

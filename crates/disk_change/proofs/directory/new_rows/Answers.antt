@@ -17,8 +17,11 @@ loop-row-preserved c =
       | in-Some+in_ok-push w ↦
           ap (λ v. v.items) w.rows-is ∙ w.in_ok-push.ensures.items ∙ (λ i. c.loop-row.invariant i ++ option_to_list ((sym w.in-Some.is ∙ given) i)) ∙ sym more
       | in_default w ↦
-          ap (λ v. v.items) w.rows-is ∙ c.loop-row.invariant ∙ sym (append-nil before) ∙ ap (λ o. before ++ option_to_list o) (sym w.in_default.is ∙ given) ∙ sym more
+          ap (λ v. v.items) w.rows-is ∙ c.loop-row.invariant ∙ sym (append-nil before) ∙ ap (λ o. before ++ option_to_list o) (sym w.in_default.is ∙ given)
+          ∙ sym more
     ]
 
 pub returns : goal.returns
-returns c = ap reverse c.reverse.ensures.items ∙ reverse_twice c.loop-row.rows.items ∙ c.loop-row.invariant ∙ ap (filter_map (row_new c.args.directories.now)) (take_all c.loop-row.row-index c.args.net.now c.loop-row-test.false)
+returns c =
+    ap reverse c.reverse.ensures.items ∙ reverse_twice c.loop-row.rows.items ∙ c.loop-row.invariant
+    ∙ ap (filter_map (row_new c.args.directories.now)) (take_all c.loop-row.row-index c.args.net.now c.loop-row-test.false)

@@ -10,7 +10,8 @@ use Rattle.disk_change.proofs.fresh.push_tables.Goals as goal
 
 one_more : {Y : Type 0} (f : ℕ → Option Y) (k : ℕ) → filter_map f (range_with_len 0 (k + 1)) ≡ filter_map f (range_with_len 0 k) ++ option_to_list (f k)
 one_more f k =
-    ap (filter_map f) (range_more 0 k ∙ ap (λ m. range_with_len 0 k ++ m ∷ []) (zero_plus k)) ∙ filter_map-append f (range_with_len 0 k) (k ∷ []) ∙ ap (λ rest. filter_map f (range_with_len 0 k) ++ rest) (as_list (f k))
+    ap (filter_map f) (range_more 0 k ∙ ap (λ m. range_with_len 0 k ++ m ∷ []) (zero_plus k)) ∙ filter_map-append f (range_with_len 0 k) (k ∷ [])
+    ∙ ap (λ rest. filter_map f (range_with_len 0 k) ++ rest) (as_list (f k))
 
 pub loop-k-preserved : goal.loop-k-preserved
 loop-k-preserved c =

@@ -10,8 +10,13 @@ use Rattle.disk_change.proofs.given_up.blocks_left.Goals as goal
 
 pub loop-entry-preserved : goal.loop-entry-preserved
 loop-entry-preserved c =
-    gone_more c.args.gone.now c.loop-entry.entry-index c.entry-item.result c.args.freed.items c.loop-entry.blocks.items _ c.loop-entry-test.true c.entry-item.is c.loop-entry.invariant
-    (subst (λ (e : OldEntry). (block : ℕ) → Contains c.push_held.new.blocks.items block ↔ (Contains c.loop-entry.blocks.items block ⊎ IsHeld (pointer_kept e.old.kept.inode e.old.kept.tables) block)) c.entry.view_is c.in_ok-push_held.ensures)
+    gone_more c.args.gone.now c.loop-entry.entry-index c.entry-item.result c.args.freed.items c.loop-entry.blocks.items _ c.loop-entry-test.true c.entry-item.is
+    c.loop-entry.invariant
+    (subst
+    (λ (e : OldEntry). (block : ℕ)
+    → Contains c.push_held.new.blocks.items block ↔
+    (Contains c.loop-entry.blocks.items block ⊎ IsHeld (pointer_kept e.old.kept.inode e.old.kept.tables) block))
+    c.entry.view_is c.in_ok-push_held.ensures)
 
 pub returns-clause-each : goal.returns-clause-each
 returns-clause-each c =
@@ -21,5 +26,6 @@ returns-clause-each c =
       λ has. (c.ascending.ensures.each block).1 ((c.loop-entry.invariant block).1 (both c.args.freed.items (sym all) block has)),
     )
   where
-    both : (freed : List ℕ) {gone others : List OldEntry} → gone ≡ others → (block : ℕ) → (Contains freed block ⊎ IsLeftByGone gone block) → Contains freed block ⊎ IsLeftByGone others block
+    both : (freed : List ℕ) {gone others : List OldEntry} → gone ≡ others → (block : ℕ) → (Contains freed block ⊎ IsLeftByGone gone block)
+        → Contains freed block ⊎ IsLeftByGone others block
     both freed same block has = subst (λ (those : List OldEntry). Contains freed block ⊎ IsLeftByGone those block) same has

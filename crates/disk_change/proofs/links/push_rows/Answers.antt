@@ -13,8 +13,14 @@ loop-row-preserved c =
     let within : c.loop-row.row-index < length c.args.one.now.net.items = omega arith in
     let row = c.row-item.is ∙ ap (λ those. get_or those c.loop-row.row-index c.row-item.result) same in
     record {
-      coming = pushed_more (λ (row : NetRow). linked_by dirs node row.after) c.args.coming.now.items c.args.one.now.net.items c.loop-row.row-index c.row-item.result c.loop-row.coming.items _ c.linked_by.result within c.loop-row.invariant.coming
+      coming =
+          pushed_more
+          (λ (row : NetRow). linked_by dirs node row.after) c.args.coming.now.items c.args.one.now.net.items c.loop-row.row-index c.row-item.result
+          c.loop-row.coming.items _ c.linked_by.result within c.loop-row.invariant.coming
           (c.linked_by.ensures ∙ ap (λ (row : NetRow). linked_by dirs node row.after) row) c.in_ok-push_some.ensures;
-      going = pushed_more (λ (row : NetRow). linked_by dirs node row.before) c.args.going.now.items c.args.one.now.net.items c.loop-row.row-index c.row-item.result c.loop-row.going.items _ c.linked_by-in-loop-row.result within c.loop-row.invariant.going
+      going =
+          pushed_more
+          (λ (row : NetRow). linked_by dirs node row.before) c.args.going.now.items c.args.one.now.net.items c.loop-row.row-index c.row-item.result
+          c.loop-row.going.items _ c.linked_by-in-loop-row.result within c.loop-row.invariant.going
           (c.linked_by-in-loop-row.ensures ∙ ap (λ (row : NetRow). linked_by dirs node row.before) row) c.in_ok-push_some-2.ensures;
     }

@@ -10,7 +10,13 @@ loop-seat-preserved c =
     let seat : Seated = c.seat-item.result in
     let view = c.seat.view_is in
     record {
-      numbers = c.in_ok-push.ensures.items ∙ (λ i. c.loop-seat.invariant.numbers i ++ record { node = (view i).node; number = (c.number_given.ensures ∙ (λ j. number_given (view j).number (c.loop-seat.invariant.left j))) i } ∷ [])
+      numbers =
+          c.in_ok-push.ensures.items
+          ∙ (λ i. c.loop-seat.invariant.numbers i
+          ++ record { node = (view i).node; number = (c.number_given.ensures ∙ (λ j. number_given (view j).number (c.loop-seat.invariant.left j))) i }
+          ∷ [])
           ∙ sym (numbers_more c.args.seats.now c.loop-seat.seat-index seat c.args.grant.now within c.seat-item.is);
-      left = c.grant_left-left.ensures ∙ (λ j. grant_left (view j).number (c.loop-seat.invariant.left j)) ∙ sym (behind_more c.args.seats.now c.loop-seat.seat-index seat c.args.grant.now within c.seat-item.is);
+      left =
+          c.grant_left-left.ensures ∙ (λ j. grant_left (view j).number (c.loop-seat.invariant.left j))
+          ∙ sym (behind_more c.args.seats.now c.loop-seat.seat-index seat c.args.grant.now within c.seat-item.is);
     }

@@ -16,9 +16,14 @@ loop-place-preserved c =
     let slot = moved_there f old c.loop-place.block c.loop-place.place None within c.loop-place.invariant in
     elim c.match-branch-2.branch [
       | in-Some w ↦
-          let put = put_some (get_or c.loop-place.block c.loop-place.place None) c.in_ok-row.field-0 (f (get_or c.loop-place.block c.loop-place.place None)) w.in-Some.row c.in_ok-row.ensures w.in-Some.is in
-          w.block-is ∙ w.put.ensures ∙ step_moved f old c.loop-place.block c.loop-place.place None within c.loop-place.invariant (Some w.in-Some.row) (put ∙ ap f slot)
+          let put =
+          put_some (get_or c.loop-place.block c.loop-place.place None) c.in_ok-row.field-0
+          (f (get_or c.loop-place.block c.loop-place.place None)) w.in-Some.row c.in_ok-row.ensures w.in-Some.is in
+          w.block-is ∙ w.put.ensures
+          ∙ step_moved f old c.loop-place.block c.loop-place.place None within c.loop-place.invariant (Some w.in-Some.row) (put ∙ ap f slot)
       | in_default w ↦
-          let put = put_none (get_or c.loop-place.block c.loop-place.place None) c.in_ok-row.field-0 (f (get_or c.loop-place.block c.loop-place.place None)) c.in_ok-row.ensures w.in_default.is in
+          let put =
+          put_none (get_or c.loop-place.block c.loop-place.place None) c.in_ok-row.field-0
+          (f (get_or c.loop-place.block c.loop-place.place None)) c.in_ok-row.ensures w.in_default.is in
           w.block-is ∙ step_stays f old c.loop-place.block c.loop-place.place None within c.loop-place.invariant (sym slot ∙ put ∙ ap f slot)
     ]

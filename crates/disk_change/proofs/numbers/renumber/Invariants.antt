@@ -6,4 +6,5 @@ use Rattle.disk_change.specs.Numbered.{slot_numbered}
 use Rattle.disk_change.proofs.numbers.renumber.Given as goal
 
 abbrev pub invariant-loop-place : goal.invariant-loop-place
-invariant-loop-place l = l.block ≡ map (slot_numbered (λ node. unwrap_or (get nat_cmp l.numbers node) None) l.net) (take l.place l.fn.block) ++ drop l.place l.fn.block
+invariant-loop-place l =
+    l.block ≡ map (slot_numbered (λ node. unwrap_or (get nat_cmp l.numbers node) None) l.net) (take l.place l.fn.block) ++ drop l.place l.fn.block

@@ -7,4 +7,6 @@ use Rattle.disk_change.proofs.old.place_of.Goals as goal
 
 pub returns-clause-parted : goal.returns-clause-parted
 returns-clause-parted c =
-    IsPartitionPoint-from_clause (λ (one : OldEntry). nat_lt (entry_node one) c.args.node.0) c.args.items.now c.partition_point.result c.partition_point.ensures.partitioned (parted_by entry_node c.args.items.now c.requires c.args.node.0) (λ a r f h. search rules)
+    IsPartitionPoint-from_clause
+    (λ (one : OldEntry). nat_lt (entry_node one) c.args.node.0) c.args.items.now c.partition_point.result c.partition_point.ensures.partitioned
+    (parted_by entry_node c.args.items.now c.requires c.args.node.0) (λ a r f h. search rules)

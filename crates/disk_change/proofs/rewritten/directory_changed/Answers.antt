@@ -9,7 +9,8 @@ use Rattle.disk_change.proofs.rewritten.directory_changed.Goals.{in-Some+in_ok-r
 
 pub push-requires-clause-above : goal.push-requires-clause-above
 push-requires-clause-above c =
-    let at = said_at (pointer_kept c.args.inode.now c.args.tables.now.items) c.args.blocks.now c.args.touched.now c.loop-n.n c.in-Some.one (sym c.in-Some.ensures) in
+    let at =
+    said_at (pointer_kept c.args.inode.now c.args.tables.now.items) c.args.blocks.now c.args.touched.now c.loop-n.n c.in-Some.one (sym c.in-Some.ensures) in
     rw c.in_ok-reserve.ensures.items (λ k d within. let below = c.loop-n.invariant.below k d within in omega arith)
 
 pub loop-n-preserved : goal.loop-n-preserved
@@ -20,8 +21,12 @@ loop-n-preserved c =
           let given = sym w.in-Some.ensures in
           let at = said_at (pointer_kept c.args.inode.now c.args.tables.now.items) c.args.blocks.now c.args.touched.now c.loop-n.n w.in-Some.one given in
           rw (w.changed-is) (record {
-            items = w.push.ensures.items ∙ ap (λ items. items ++ w.in-Some.one ∷ []) (w.in_ok-reserve.ensures.items ∙ c.loop-n.invariant.items) ∙ sym (one_more_given f c.loop-n.n w.in-Some.one given);
-            below = rw (w.push.ensures.items, w.in_ok-reserve.ensures.items) (all_below_more c.loop-n.changed.items c.loop-n.n w.in-Some.one c.loop-n.invariant.below at);
+            items =
+                w.push.ensures.items ∙ ap (λ items. items ++ w.in-Some.one ∷ []) (w.in_ok-reserve.ensures.items ∙ c.loop-n.invariant.items)
+                ∙ sym (one_more_given f c.loop-n.n w.in-Some.one given);
+            below =
+                rw (w.push.ensures.items, w.in_ok-reserve.ensures.items)
+                (all_below_more c.loop-n.changed.items c.loop-n.n w.in-Some.one c.loop-n.invariant.below at);
           })
       | in_default w ↦ rw (w.changed-is) (record {
         items = c.loop-n.invariant.items ∙ sym (one_more_none f c.loop-n.n (sym c.said_of.ensures ∙ w.in_default.is));
@@ -32,4 +37,6 @@ loop-n-preserved c =
 pub returns : goal.returns
 returns c =
     let stop : c.loop-n.n ≡ min (length c.args.blocks.now) 16492 = omega (arith, c.loop-n.auto.n-end, c.min-n-end.ensures) in
-    c.loop-n.invariant.items ∙ ap (λ n. filter_map (block_said (pointer_kept c.args.inode.now c.args.tables.now.items) c.args.blocks.now c.args.touched.now) (range_with_len 0 n)) stop
+    c.loop-n.invariant.items
+    ∙ ap (λ n. filter_map (block_said (pointer_kept c.args.inode.now c.args.tables.now.items) c.args.blocks.now c.args.touched.now) (range_with_len 0 n))
+    stop

@@ -10,8 +10,11 @@ loop-n-preserved c =
     let within : c.loop-n.n < length c.args.blocks.now = omega arith in
     let block = get_or_default c.args.blocks.now c.loop-n.n [] c.index-blocks-n.result within ∙ sym c.index-blocks-n.is in
     elim c.if-not-is_empty.branch [
-      | then-not-is_empty w ↦ w.end-is ∙ sym (end_moves c.args.blocks.now c.loop-n.n within (ap has_no_row block ∙ sym c.is_empty.ensures ∙ w.if-not-is_empty.true))
-      | else-not-is_empty w ↦ w.end-is ∙ c.loop-n.invariant ∙ sym (end_stays c.args.blocks.now c.loop-n.n within (ap has_no_row block ∙ sym c.is_empty.ensures ∙ w.if-not-is_empty.false))
+      | then-not-is_empty w ↦
+          w.end-is ∙ sym (end_moves c.args.blocks.now c.loop-n.n within (ap has_no_row block ∙ sym c.is_empty.ensures ∙ w.if-not-is_empty.true))
+      | else-not-is_empty w ↦
+          w.end-is ∙ c.loop-n.invariant
+          ∙ sym (end_stays c.args.blocks.now c.loop-n.n within (ap has_no_row block ∙ sym c.is_empty.ensures ∙ w.if-not-is_empty.false))
     ]
 
 pub returns : goal.returns

@@ -18,7 +18,9 @@ push-requires-clause-above c =
     let said = c.page_said.ensures ∙ ap (λ those. page_said (get_or those c.loop-page.page-index NO_PAGE)) same in
     let below = pages_below c.args.pages.now.items c.as_slice-pages.ensures.ascending c.loop-page.page-index NO_PAGE within in
     let items = c.in_ok-reserve.ensures.items ∙ c.loop-page.invariant in
-    subst (λ (those : List ChangedBlock). All (λ one. one.block < c.page_said.result.block) those) (sym items) (subst (λ (page : ChangedBlock). All (λ one. one.block < page.block) (map page_said (take c.loop-page.page-index c.args.pages.now.items))) (sym said) below)
+    subst (λ (those : List ChangedBlock). All (λ one. one.block < c.page_said.result.block) those) (sym items)
+    (subst (λ (page : ChangedBlock). All (λ one. one.block < page.block) (map page_said (take c.loop-page.page-index c.args.pages.now.items)))
+    (sym said) below)
 
 pub loop-page-preserved : goal.loop-page-preserved
 loop-page-preserved c =
@@ -26,7 +28,8 @@ loop-page-preserved c =
     let long = ap length same in
     let within : c.loop-page.page-index < length c.args.pages.now.items = omega arith in
     let said = c.page_said.ensures ∙ ap (λ those. page_said (get_or those c.loop-page.page-index NO_PAGE)) same in
-    c.push.ensures.items ∙ (λ i. (c.in_ok-reserve.ensures.items ∙ c.loop-page.invariant) i ++ said i ∷ []) ∙ sym (moved_more page_said c.args.pages.now.items c.loop-page.page-index NO_PAGE within)
+    c.push.ensures.items ∙ (λ i. (c.in_ok-reserve.ensures.items ∙ c.loop-page.invariant) i ++ said i ∷ [])
+    ∙ sym (moved_more page_said c.args.pages.now.items c.loop-page.page-index NO_PAGE within)
 
 pub returns : goal.returns
 returns c =

@@ -10,7 +10,8 @@ use Rattle.disk_change.proofs.seat.directory_seat.Goals as goal
 
 pub directory_changed-requires : goal.directory_changed-requires
 directory_changed-requires c =
-    ap length (c.deref-2.ensures.value ∙ c.in_ok-after.ensures.touched) ∙ length-directory c.args.plans.now.directories c.net_of-net.result.now c.begun.inside.slots.items
+    ap length (c.deref-2.ensures.value ∙ c.in_ok-after.ensures.touched)
+    ∙ length-directory c.args.plans.now.directories c.net_of-net.result.now c.begun.inside.slots.items
     ∙ sym (ap length (c.deref.ensures.value ∙ c.in_ok-after.ensures.blocks))
 
 pub returns : goal.returns
@@ -28,7 +29,10 @@ returns c =
     let size = c.size_of.ensures ∙ ap size_of_blocks end in
     let meta = c.with-meta.ensures ∙ (λ i. record base { kind = 2; links = links i; size = size i }) in
     let cut = ap (λ r. r.items) c.from_vec.ensures ∙ c.truncate.ensures.items ∙ (λ i. take (end i) (blocks i)) in
-    let changed = c.in_ok-changed.ensures ∙ (λ i. directory_changed (pointer_kept base c.begun.inside.tables.items) ((c.deref.ensures.value ∙ blocks) i) ((c.deref-2.ensures.value ∙ touched) i)) in
+    let changed =
+    c.in_ok-changed.ensures
+    ∙ (λ i. directory_changed (pointer_kept base c.begun.inside.tables.items) ((c.deref.ensures.value ∙ blocks) i)
+    ((c.deref-2.ensures.value ∙ touched) i)) in
     rw (← c.begun.view_is) (λ i. record {
       node = node;
       number = c.begun.inside.number;

@@ -14,7 +14,9 @@ returns c =
     let base_is = c.base.view_is in
     let counted = c.args.plans.now.counted in
     let links = c.links_after-links.ensures ∙ (λ i. links_with (base_is i).links (counted.coming node i) (counted.going node i)) in
-    let size = c.file_size.ensures ∙ ap (λ (b : Inode). option_map_or (λ (one : FileChange). one.size) (item_with file_node node c.args.plans.now.files.items) b.size) base_is in
+    let size =
+    c.file_size.ensures
+    ∙ ap (λ (b : Inode). option_map_or (λ (one : FileChange). one.size) (item_with file_node node c.args.plans.now.files.items) b.size) base_is in
     let meta = c.with-meta.ensures ∙ (λ i. record base { kind = 1; links = links i; size = size i }) in
     rw (← c.begun.view_is) (λ i. record {
       node = node;

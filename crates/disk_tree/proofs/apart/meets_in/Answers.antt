@@ -8,4 +8,5 @@ use Rattle.disk_tree.proofs.apart.meets_in.Goals as goal
 pub meets-requires : goal.meets-requires
 meets-requires c = λ k less.
     subst (λ (xs : List ℕ). slice_index xs k < length c.args.held.now) (sym c.pointers.ensures.pointers)
-    (subst (λ (o : Option (Bor Table)). entry_kept k (option_copied o) < length c.args.held.now) c.in-Some.is (c.requires k (omega (arith, c.pointers.ensures.count))))
+    (subst (λ (o : Option (Bor Table)). entry_kept k (option_copied o) < length c.args.held.now) c.in-Some.is
+    (c.requires k (omega (arith, c.pointers.ensures.count))))

@@ -19,7 +19,8 @@ returns-then-meets_in c =
 
 pub loop-place-preserved : goal.loop-place-preserved
 loop-place-preserved c =
-    table_marked c.args.inode.now c.args.tables.now.items c.args.held.now c.loop-place.held c.loop-place.place (omega arith) c.loop-place.invariant c.meets_in.new.held
+    table_marked c.args.inode.now c.args.tables.now.items c.args.held.now c.loop-place.held c.loop-place.place
+    (omega arith) c.loop-place.invariant c.meets_in.new.held
     (subst (λ (o : Option Table). MarksEach c.loop-place.held c.meets_in.new.held (λ k. entry_kept k o) 1024) c.find.ensures c.if-meets_in.ensures)
 
 pub returns-then-meets : goal.returns-then-meets
@@ -41,5 +42,8 @@ returns c =
     let all : c.loop-place.place ≡ 16 = omega arith in
     let e : c.inode.inside.indirect ≡ c.args.inode.now.indirect = ap (λ (i : Inode). i.indirect) c.inode.view_is in
     indirect_answered c.args.inode.now c.args.tables.now.items c.args.held.now c.loop-place.held c.meets-2.new.held
-    (subst (λ (n : ℕ). MarksEach c.args.held.now c.loop-place.held (pointer_kept c.args.inode.now c.args.tables.now.items) (108 + 1024 * n)) all c.loop-place.invariant) c.requires.inode.indirect_count c.meets-2.result
+    (subst
+    (λ (n : ℕ). MarksEach c.args.held.now c.loop-place.held (pointer_kept c.args.inode.now c.args.tables.now.items) (108 + 1024 * n)) all
+    c.loop-place.invariant)
+    c.requires.inode.indirect_count c.meets-2.result
     (subst (λ (xs : List ℕ). AnswersMarks c.loop-place.held c.meets-2.new.held (slice_index xs) (length xs) c.meets-2.result) e c.meets-2.ensures)

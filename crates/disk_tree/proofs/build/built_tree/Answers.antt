@@ -13,4 +13,5 @@ put_nodes-requires-clause-start c =
     start ∙ root_put read.inodes.items c.args.named.now read.contents.items c.layout.inside.inodes 0 c.layout.inside.cores c.requires.may.root
     ∙ ap (λ (t : TreeState). with_nodes t (node_entries read.inodes.items c.args.named.now read.contents.items 1)) (sym start)
     ∙ ap (λ (inodes : List Inode). with_nodes c.in_ok-tree.tree (node_entries inodes c.args.named.now read.contents.items 1)) (sym c.deref.ensures.value)
-    ∙ ap (λ (contents : List (Roomy ℕ)). with_nodes c.in_ok-tree.tree (node_entries c.deref.result.now c.args.named.now contents 1)) (sym c.deref-2.ensures.value)
+    ∙ ap (λ (contents : List (Roomy ℕ)). with_nodes c.in_ok-tree.tree (node_entries c.deref.result.now c.args.named.now contents 1))
+    (sym c.deref-2.ensures.value)

@@ -9,4 +9,6 @@ pub loop-place-init : goal.loop-place-init
 loop-place-init c = c.requires.start ∙ ap (with_entries c.args.tree.now) (sym (no_entries c.args.rows.now))
 
 pub put_rows_of-requires-clause-may : goal.put_rows_of-requires-clause-may
-put_rows_of-requires-clause-may c = subst (λ (t : TreeState). MayPut t c.args.rows.now) (sym c.loop-place.invariant) (may_put_again c.args.tree.now (row_entries c.args.rows.now c.loop-place.place) c.args.rows.now c.requires.may)
+put_rows_of-requires-clause-may c =
+    subst (λ (t : TreeState). MayPut t c.args.rows.now) (sym c.loop-place.invariant)
+    (may_put_again c.args.tree.now (row_entries c.args.rows.now c.loop-place.place) c.args.rows.now c.requires.may)

@@ -12,7 +12,9 @@ returns-then-have_one_name c =
     let rows = c.args.rows.now in
     let before = get_or_read rows (c.loop-place.place - 1) _ (omega arith) c.index-rows-place.is NO_ROW in
     let here = get_or_read rows c.loop-place.place _ (omega arith) c.index-rows-place-in-loop-place.is NO_ROW in
-    let same = ap (λ (row : Row). row.name) (sym before) ∙ bytes_same _ _ (sym c.have_one_name.ensures ∙ c.if-have_one_name.true) ∙ ap (λ (row : Row). row.name) here in
+    let same =
+    ap (λ (row : Row). row.name) (sym before) ∙ bytes_same _ _ (sym c.have_one_name.ensures ∙ c.if-have_one_name.true)
+    ∙ ap (λ (row : Row). row.name) here in
     sym (found_twice rows (c.loop-place.place - 1) c.loop-place.place (omega arith) (omega arith) same)
 
 pub returns : goal.returns

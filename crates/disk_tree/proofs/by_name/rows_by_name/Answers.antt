@@ -7,4 +7,5 @@ use Rattle.disk_tree.specs.ByName.{comes_before}
 use Rattle.disk_tree.proofs.by_name.rows_by_name.Goals as goal
 
 pub returns-clause-ascend : goal.returns-clause-ascend
-returns-clause-ascend c = c.sort_unstable_by.ensures.sorted comes_before (ranks_by nat_list_cmp_total (λ (row : Row). row.name)) (answers_always _ _ _ (λ f a r g h. search rules))
+returns-clause-ascend c =
+    c.sort_unstable_by.ensures.sorted comes_before (ranks_by nat_list_cmp_total (λ (row : Row). row.name)) (answers_always _ _ _ (λ f a r g h. search rules))

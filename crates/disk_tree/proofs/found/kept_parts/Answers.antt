@@ -12,9 +12,11 @@ pub loop-place-preserved : goal.loop-place-preserved
 loop-place-preserved c = elim c.if-inode-ne0.branch [
   | then-inode-ne0+in_ok-part+in_ok-push w ↦ ap (λ (v : Vec KeptPart Global). v.items) w.list-is
       ∙ used_put c.args.inodes.now c.args.tables.now c.args.slots.now c.loop-place.place c.index-inodes-place.result (omega arith) c.index-inodes-place.is
-      w.index-tables-place.result w.index-slots-place.result _ _ w.in_ok-part.part (omega arith) (omega arith) w.index-tables-place.is w.index-slots-place.is c.loop-place.invariant
+      w.index-tables-place.result w.index-slots-place.result _ _ w.in_ok-part.part (omega arith)
+      (omega arith) w.index-tables-place.is w.index-slots-place.is c.loop-place.invariant
       (λ free. w.if-inode-ne0.true (ap (λ (i : Inode). i.kind) c.inode.view_is ∙ free)) w.in_ok-part.ensures w.in_ok-push.ensures.items
   | else-inode-ne0 w ↦ ap (λ (v : Vec KeptPart Global). v.items) w.list-is
-      ∙ free_passed c.args.inodes.now c.args.tables.now c.args.slots.now c.loop-place.place c.index-inodes-place.result (omega arith) c.index-inodes-place.is _ c.loop-place.invariant
+      ∙ free_passed c.args.inodes.now c.args.tables.now c.args.slots.now c.loop-place.place c.index-inodes-place.result
+      (omega arith) c.index-inodes-place.is _ c.loop-place.invariant
       (sym (ap (λ (i : Inode). i.kind) c.inode.view_is) ∙ w.if-inode-ne0.false)
 ]

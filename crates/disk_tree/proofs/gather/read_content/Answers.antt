@@ -17,5 +17,7 @@ loop-n-preserved g c =
     record {
       run = read_more_by _ _ _ c.read_block.result _ c.loop-n.invariant.run c.in_ok-read_block.was c.read_block.ensures.reads;
       content = subst (λ (bytes : List ℕ). HasContent (g.D.Disk.view c.args.disk.now).content c.args.inode.now c.args.tables.now.items (c.loop-n.n + 1) bytes)
-          (sym c.in_ok-extend_from_slice.ensures.items) (more_content _ c.args.inode.now c.args.tables.now.items c.loop-n.n c.loop-n.bytes.items c.read_block.new.block c.loop-n.invariant.content (omega (arith, c.read_block.array_long)) read);
+          (sym c.in_ok-extend_from_slice.ensures.items)
+          (more_content _ c.args.inode.now c.args.tables.now.items c.loop-n.n c.loop-n.bytes.items c.read_block.new.block c.loop-n.invariant.content
+          (omega (arith, c.read_block.array_long)) read);
     }

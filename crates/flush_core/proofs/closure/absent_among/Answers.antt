@@ -8,4 +8,5 @@ returns-then-not-has c = (one_at c.args.nodes.now c.loop-node.node-index 0 _ c.l
 
 pub loop-node-preserved : goal.loop-node-preserved
 loop-node-preserved c =
-    more_hold (λ node. has_node c.args.members.now node ≡ true) c.args.nodes.now c.loop-node.node-index 0 (get_or c.args.nodes.now c.loop-node.node-index 0) c.loop-node-test.true refl c.loop-node.invariant (sym c.has.ensures ∙ c.if-not-has.false)
+    more_hold (λ node. has_node c.args.members.now node ≡ true) c.args.nodes.now c.loop-node.node-index 0
+    (get_or c.args.nodes.now c.loop-node.node-index 0) c.loop-node-test.true refl c.loop-node.invariant (sym c.has.ensures ∙ c.if-not-has.false)

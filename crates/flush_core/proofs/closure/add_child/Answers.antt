@@ -7,7 +7,9 @@ use Rattle.flush_core.proofs.closure.add_child.Goals.{else-has-via-then-has+else
 
 pub returns-in_ok-insert : goal.returns-in_ok-insert
 returns-in_ok-insert c =
-    join_one (NamesFor c.args.cut.now c.args.stamp c.args.members.now c.args.change.now) c.args.change.now.child c.args.concerned.now c.insert.new.self c.in_ok-insert.ensures.ok
+    join_one
+    (NamesFor c.args.cut.now c.args.stamp c.args.members.now c.args.change.now) c.args.change.now.child c.args.concerned.now c.insert.new.self
+    c.in_ok-insert.ensures.ok
     (record { member = sym c.has.ensures ∙ c.if-has.true; spans = c.spans.ensures.0 c.if-spans.true; child = refl })
     (λ x names. names.child)
 

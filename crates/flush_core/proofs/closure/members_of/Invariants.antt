@@ -10,7 +10,8 @@ use Rattle.flush_core.proofs.closure.members_of.Given as goal
 abbrev pub invariant-loop-required : goal.invariant-loop-required
 invariant-loop-required l = record {
   own : has_node l.members l.node ≡ true;
-  sound : (first : TreeState) (history : List Entry) → IsPast first history l.past → (node : ℕ) → has_node l.members node ≡ true → Closure first history every_entry l.cut (has_node l.inodes) (record { node = l.node; stamp = l.stamp }) node;
+  sound : (first : TreeState) (history : List Entry) → IsPast first history l.past → (node : ℕ) → has_node l.members node ≡ true
+      → Closure first history every_entry l.cut (has_node l.inodes) (record { node = l.node; stamp = l.stamp }) node;
 }
 
 abbrev pub decreases-loop-required : goal.decreases-loop-required

@@ -6,4 +6,6 @@ use Rattle.flush_core.specs.Rules.{IsOneOf}
 use Rattle.flush_core.proofs.closure.node_of_change.Given as goal
 
 abbrev pub invariant-loop-change : goal.invariant-loop-change
-invariant-loop-change l = (change : OwnChange) → IsOneOf (take l.change-index l.changes) change → (node : ℕ) → RequiresNodeFor l.cut l.stamp l.members change node → has_node l.members node ≡ true
+invariant-loop-change l =
+    (change : OwnChange) → IsOneOf (take l.change-index l.changes) change → (node : ℕ) → RequiresNodeFor l.cut l.stamp l.members change node
+    → has_node l.members node ≡ true

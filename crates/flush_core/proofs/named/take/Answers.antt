@@ -9,4 +9,5 @@ no_number None none = cc
 no_number (Some node) none = cc
 
 pub returns-else-is_some : goal.returns-else-is_some
-returns-else-is_some c = remove_absent c.args.names.now c.args.name.now (sym c.get.ensures ∙ no_number c.get.result (sym c.is_some.ensures ∙ c.if-is_some.false))
+returns-else-is_some c =
+    remove_absent c.args.names.now c.args.name.now (sym c.get.ensures ∙ no_number c.get.result (sym c.is_some.ensures ∙ c.if-is_some.false))

@@ -9,10 +9,14 @@ use Rattle.flush_core.proofs.plan.planned_move.Goals as goal
 pub returns-clause-above : goal.returns-clause-above
 returns-clause-above c =
     noted_more c.args.tree.now c.push.new.self.items c.push-2.new.self.items c.in_ok-put.field-0 c.in_ok-push-2.ensures.items
-    (noted_more c.args.tree.now c.in_ok-changes.changes.items c.push.new.self.items c.in_ok-taken.field-0 c.in_ok-push.ensures.items c.in_ok-changes.ensures.above
-    (λ kind alive. noted_taken c.args.tree.now c.in_ok-taken.field-0 c.args.stamp c.args.dir.0 c.args.name.now c.in-Some.child.0 c.other_of.result false c.in_ok-taken.ensures.row c.in_ok-taken.ensures.above))
-    (λ kind alive. noted_put c.args.tree.now change c.args.stamp c.args.dir.0 c.args.to_dir.0 c.args.to_name.now c.in-Some.child.0 c.requires row (rw c.in_ok-put.ensures.above c.in_ok-above.ensures)
-    (ap (λ (x : RowChange). is_directory c.args.tree.now x.directory) (sym row) ∙ kind) (ap (λ (x : RowChange). is_alive c.args.tree.now x.directory) (sym row) ∙ alive))
+    (noted_more c.args.tree.now c.in_ok-changes.changes.items c.push.new.self.items c.in_ok-taken.field-0 c.in_ok-push.ensures.items
+    c.in_ok-changes.ensures.above
+    (λ kind alive. noted_taken c.args.tree.now c.in_ok-taken.field-0 c.args.stamp c.args.dir.0 c.args.name.now c.in-Some.child.0 c.other_of.result false
+    c.in_ok-taken.ensures.row c.in_ok-taken.ensures.above))
+    (λ kind alive. noted_put c.args.tree.now change c.args.stamp c.args.dir.0 c.args.to_dir.0 c.args.to_name.now c.in-Some.child.0 c.requires row
+    (rw c.in_ok-put.ensures.above c.in_ok-above.ensures)
+    (ap (λ (x : RowChange). is_directory c.args.tree.now x.directory) (sym row) ∙ kind)
+    (ap (λ (x : RowChange). is_alive c.args.tree.now x.directory) (sym row) ∙ alive))
   where
     change : OwnChange
     change = c.in_ok-put.field-0

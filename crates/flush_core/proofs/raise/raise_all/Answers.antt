@@ -4,7 +4,9 @@ use Rattle.flush_core.proofs.Raised.{raise_more, raise_none, raise_whole}
 use Rattle.flush_core.proofs.raise.raise_all.Goals as goal
 
 pub loop-node-preserved : goal.loop-node-preserved
-loop-node-preserved c = raise_more c.args.cut.now c.loop-node.cut c.raise.new.self c.args.nodes.now c.loop-node.node-index 0 (get_or c.args.nodes.now c.loop-node.node-index 0) c.args.stamp c.loop-node-test.true refl c.loop-node.invariant c.in_ok-raise.ensures.ok
+loop-node-preserved c =
+    raise_more c.args.cut.now c.loop-node.cut c.raise.new.self c.args.nodes.now c.loop-node.node-index 0
+    (get_or c.args.nodes.now c.loop-node.node-index 0) c.args.stamp c.loop-node-test.true refl c.loop-node.invariant c.in_ok-raise.ensures.ok
 
 pub loop-node-init : goal.loop-node-init
 loop-node-init c = raise_none c.args.cut.now c.args.nodes.now c.args.stamp

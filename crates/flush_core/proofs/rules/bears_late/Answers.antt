@@ -11,14 +11,16 @@ no_birth = record { stamp = 0; directory = 0; node = 0 }
 pub returns-then-is_born_late : goal.returns-then-is_born_late
 unfolding no_birth
 returns-then-is_born_late c = (
-  λ _. found (IsBornLate c.args.changes.now c.args.cut.now) c.args.births.now c.loop-born.born-index no_birth (get_or c.args.births.now c.loop-born.born-index no_birth) c.loop-born-test.true refl (c.is_born_late.ensures.0 c.if-is_born_late.true),
+  λ _. found (IsBornLate c.args.changes.now c.args.cut.now) c.args.births.now c.loop-born.born-index no_birth
+      (get_or c.args.births.now c.loop-born.born-index no_birth) c.loop-born-test.true refl (c.is_born_late.ensures.0 c.if-is_born_late.true),
   λ _. refl,
 )
 
 pub loop-born-preserved : goal.loop-born-preserved
 unfolding no_birth
 loop-born-preserved c =
-    none_more (IsBornLate c.args.changes.now c.args.cut.now) c.args.births.now c.loop-born.born-index no_birth (get_or c.args.births.now c.loop-born.born-index no_birth) c.loop-born-test.true refl c.loop-born.invariant
+    none_more (IsBornLate c.args.changes.now c.args.cut.now) c.args.births.now c.loop-born.born-index no_birth
+    (get_or c.args.births.now c.loop-born.born-index no_birth) c.loop-born-test.true refl c.loop-born.invariant
     (λ is. not_both (c.is_born_late.ensures.1 is) c.if-is_born_late.false)
 
 pub returns : goal.returns

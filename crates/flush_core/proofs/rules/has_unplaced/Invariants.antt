@@ -5,5 +5,6 @@ use Rattle.flush_core.proofs.rules.has_unplaced.Given as goal
 abbrev pub invariant-loop-holder : goal.invariant-loop-holder
 invariant-loop-holder l = record {
   node_is : l.node ≡ slice_index (l.change.directory ∷ l.above) l.holder-index;
-  none : (place : ℕ) → place < l.holder-index → IsUnplaced l.changes l.cut l.change.stamp (slice_index (l.change.directory ∷ l.above) place) (slice_index l.above place) → ⊥;
+  none : (place : ℕ) → place < l.holder-index
+      → IsUnplaced l.changes l.cut l.change.stamp (slice_index (l.change.directory ∷ l.above) place) (slice_index l.above place) → ⊥;
 }

@@ -20,7 +20,8 @@ fits c = record {
 pub returns-clause-spelled : goal.returns-clause-spelled
 returns-clause-spelled c =
     let inside = c.inode.inside in
-    record_written (record { kind = inside.kind; links = inside.links; size = inside.size; direct = inside.direct; indirect = inside.indirect }) c.args.bytes.now _ _ _ _ _
+    record_written
+    (record { kind = inside.kind; links = inside.links; size = inside.size; direct = inside.direct; indirect = inside.indirect }) c.args.bytes.now _ _ _ _ _
     c.told-bytes (search rules) c.copy_from_slice.ensures.after c.write_u32.ensures c.write_u64.ensures c.write_u32_into.ensures c.write_u32_into-2.ensures
     ∙ ap inode_bytes c.inode.view_is
 

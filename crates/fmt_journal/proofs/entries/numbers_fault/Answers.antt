@@ -8,4 +8,6 @@ pub returns-then-not-is_next : goal.returns-then-not-is_next
 returns-then-not-is_next c =
     let here : fault_at (not (is_next c.args.inodes c.args.numbers.now c.loop-k.k)) (number_byte c.loop-k.k) ≡ Some (4096 + 4 * c.loop-k.k) =
     ap (λ (b : Bool). fault_at (not b) (number_byte c.loop-k.k)) (sym c.is_next.ensures ∙ c.if-not-is_next.true) in
-    sym (first_of-at (length c.args.numbers.now) c.loop-k.k (λ k. fault_at (not (is_next c.args.inodes c.args.numbers.now k)) (number_byte k)) _ c.loop-k.invariant here c.loop-k-test.true)
+    sym
+    (first_of-at (length c.args.numbers.now) c.loop-k.k
+    (λ k. fault_at (not (is_next c.args.inodes c.args.numbers.now k)) (number_byte k)) _ c.loop-k.invariant here c.loop-k-test.true)

@@ -10,7 +10,9 @@ use Rattle.fmt_slots.proofs.block.decode_in.Goals as goal
 refused : (c : goal.In-Bad) → slot_fault (part (264 * c.args.k) 264 c.args.block.now) ≡ Some c.in-Bad.at
 refused c =
     let whole = part-between (264 * c.args.k) 264 c.args.block.now in
-    ap slot_fault (sym whole) ∙ bad_place _ c.in-Bad.at (slot_fault (take (264 * c.args.k + 264 - 264 * c.args.k) (drop (264 * c.args.k) c.args.block.now))) c.in-Bad.is c.in-Err.ensures.err
+    ap slot_fault (sym whole)
+    ∙ bad_place _ c.in-Bad.at
+    (slot_fault (take (264 * c.args.k + 264 - 264 * c.args.k) (drop (264 * c.args.k) c.args.block.now))) c.in-Bad.is c.in-Err.ensures.err
 
 pub overflow_add-result : goal.overflow_add-result
 overflow_add-result c =

@@ -12,7 +12,8 @@ returns c =
     let names : Change → ℕ → Type 0 = λ change other. change.child.0 ≡ other in
     on_ok_weaker c.add_children.result
     (λ grows.
-    set_both c.args.touched.now c.insert.new.self c.add_children.new.named (λ other. c.args.member.0 ≡ other) (OfSome (span_in c.args.logs.now c.args.below c.args.member.0) names)
+    set_both c.args.touched.now c.insert.new.self c.add_children.new.named (λ other. c.args.member.0 ≡ other)
+    (OfSome (span_in c.args.logs.now c.args.below c.args.member.0) names)
     (set_one c.args.touched.now c.insert.new.self c.args.member.0 c.in_ok-insert.ensures.keys)
     (subst (λ (l : List Change). AddsTo c.insert.new.self c.add_children.new.named (OfSome l names)) c.span.ensures grows))
     c.add_children.ensures

@@ -56,11 +56,14 @@ loop-member-preserved c =
           record {
             are = subst (λ (l : List DirectoryNet). AreNetsOf c.args.logs.now c.args.below (take (i + 1) nodes) l) (sym is)
                 (subst (λ (l : List NodeId). AreNetsOf c.args.logs.now c.args.below l w.push.new.self.items) (sym more)
-                (pushed_net c.args.logs.now c.args.below (take i nodes) member apart c.loop-member.nets.items c.loop-member.invariant.are _ w.reserve.new.self.items w.push.new.self.items w.push.ensures.items w.in_ok-reserve.ensures.items refl net some_row));
+                (pushed_net c.args.logs.now c.args.below
+                (take i nodes) member apart c.loop-member.nets.items c.loop-member.invariant.are _ w.reserve.new.self.items w.push.new.self.items
+                w.push.ensures.items w.in_ok-reserve.ensures.items refl net some_row));
             under = λ b below.
                 let each = apart_from_last (λ (one : NodeId). one.0 < b) (take i nodes) member (subst (All (λ (one : NodeId). one.0 < b)) more below) in
                 subst (All (λ one. net_node one < b)) (sym is)
-                (pushed_below _ c.loop-member.nets.items w.reserve.new.self.items w.push.new.self.items w.push.ensures.items w.in_ok-reserve.ensures.items b (c.loop-member.invariant.under b each.0) each.1);
+                (pushed_below _ c.loop-member.nets.items w.reserve.new.self.items w.push.new.self.items w.push.ensures.items w.in_ok-reserve.ensures.items b
+                (c.loop-member.invariant.under b each.0) each.1);
             ascend = subst (AscendBy net_node) (sym is)
                 (pushed_ascends _ c.loop-member.nets.items w.reserve.new.self.items w.push.new.self.items w.push.ensures.items
                 w.in_ok-reserve.ensures.items c.loop-member.invariant.ascend
@@ -75,7 +78,8 @@ loop-member-preserved c =
           record {
             are = subst (λ (l : List DirectoryNet). AreNetsOf c.args.logs.now c.args.below (take (i + 1) nodes) l) (sym same)
                 (subst (λ (l : List NodeId). AreNetsOf c.args.logs.now c.args.below l c.loop-member.nets.items) (sym more)
-                (none_more c.args.logs.now c.args.below (take i nodes) member apart c.loop-member.nets.items c.loop-member.invariant.are (subst (IsNetBy (span_in c.args.logs.now c.args.below member.0)) empty net)));
+                (none_more c.args.logs.now c.args.below (take i nodes) member apart c.loop-member.nets.items c.loop-member.invariant.are
+                (subst (IsNetBy (span_in c.args.logs.now c.args.below member.0)) empty net)));
             under = λ b below.
                 let each = apart_from_last (λ (one : NodeId). one.0 < b) (take i nodes) member (subst (All (λ (one : NodeId). one.0 < b)) more below) in
                 subst (All (λ one. net_node one < b)) (sym same) (c.loop-member.invariant.under b each.0);

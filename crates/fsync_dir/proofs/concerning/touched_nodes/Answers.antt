@@ -16,7 +16,9 @@ use Rattle.fsync_dir.proofs.concerning.touched_nodes.Goals as goal
 pub loop-member-preserved : goal.loop-member-preserved
 loop-member-preserved c =
     let brings : NodeId → ℕ → Type 0 = IsTouchedBy c.args.logs.now c.args.below in
-    set_more brings c.as_slice-nodes.result.now c.loop-member.member-index (record { 0 = 0 }) _ c.new-touched.result c.loop-member.touched c.add_touched.new.touched c.loop-member-test.true refl c.loop-member.invariant c.in_ok-add_touched.ensures
+    set_more brings c.as_slice-nodes.result.now c.loop-member.member-index
+    (record { 0 = 0 }) _ c.new-touched.result c.loop-member.touched c.add_touched.new.touched c.loop-member-test.true refl c.loop-member.invariant
+    c.in_ok-add_touched.ensures
 
 pub returns : goal.returns
 returns c =
@@ -24,7 +26,8 @@ returns c =
     let keys = c.loop-member.touched.keys in
     let grown = subst (λ (l : List NodeId). AddsTo c.new-touched.result c.loop-member.touched (OfSome l brings))
     (take_all c.loop-member.member-index c.as_slice-nodes.result.now c.loop-member-test.false ∙ c.as_slice-nodes.ensures) c.loop-member.invariant in
-    if_both c.node_list.result (λ nodes. map node_number nodes.items ≡ keys) (λ nodes. IsStrictlyIncreasing (map node_number nodes.items)) (λ nodes. AreNodes nodes.items (OfSome c.args.members.now.items brings))
+    if_both c.node_list.result (λ nodes. map node_number nodes.items ≡ keys) (λ nodes. IsStrictlyIncreasing (map node_number nodes.items))
+    (λ nodes. AreNodes nodes.items (OfSome c.args.members.now.items brings))
     (λ nodes same up. record {
       ascending = up;
       each = λ node. subst (λ (l : List ℕ). (is_listed l node ≡ true) ↔ OfSome c.args.members.now.items brings node) (sym same) (

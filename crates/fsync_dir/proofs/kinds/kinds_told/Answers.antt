@@ -27,4 +27,5 @@ loop-member-preserved c = λ node.
 pub returns : goal.returns
 returns c = λ node.
     c.loop-member.invariant node
-    ∙ ap (λ l. kind_told (spans_in c.args.logs.now c.args.below l) node) (take_all c.loop-member.member-index c.as_slice-nodes.result.now c.loop-member-test.false ∙ c.as_slice-nodes.ensures)
+    ∙ ap (λ l. kind_told (spans_in c.args.logs.now c.args.below l) node)
+    (take_all c.loop-member.member-index c.as_slice-nodes.result.now c.loop-member-test.false ∙ c.as_slice-nodes.ensures)

@@ -18,15 +18,22 @@ push-requires-clause-above c =
     let made = enter_by c.args.start c.args.is_file c.args.facts.now in
     let test : NodeId → Bool = λ node. gets_inode c.args.start c.args.is_file c.args.logs.now c.args.facts.now node.0 in
     let up = subst (λ (l : List NodeId). IsStrictlyIncreasing (map node_number l)) (sym c.as_slice-touched.ensures) c.requires.nodes in
-    let below = picked_below enter_node made (λ node. refl) test (take i nodes) (get_or nodes i (record { 0 = 0 })).0 (below_next nodes up i (record { 0 = 0 }) c.loop-node-test.true) in
+    let below =
+    picked_below enter_node made (λ node. refl) test (take i nodes) (get_or nodes i (record { 0 = 0 })).0
+    (below_next nodes up i (record { 0 = 0 }) c.loop-node-test.true) in
     let items = c.in_ok-reserve.ensures.items ∙ c.loop-node.invariant in
     subst (λ (n : ℕ). All (λ one. enter_node one < n) c.reserve.new.self.items) (sym (ap enter_node c.entered.ensures))
     (subst (All (λ one. enter_node one < (get_or nodes i (record { 0 = 0 })).0)) (sym items) below)
 
-grown : (c : goal.Joined-gets) → c.if-gets.enter.items ≡ c.loop-node.enter.items ++ cond c.gets.result (enter_by c.args.start c.args.is_file c.args.facts.now (get_or c.as_slice-touched.result.now c.loop-node.node-index (record { 0 = 0 })) ∷ []) []
+grown : (c : goal.Joined-gets)
+    → c.if-gets.enter.items
+    ≡ c.loop-node.enter.items
+    ++ cond c.gets.result
+    (enter_by c.args.start c.args.is_file c.args.facts.now (get_or c.as_slice-touched.result.now c.loop-node.node-index (record { 0 = 0 })) ∷ []) []
 grown c =
     elim c.if-gets.branch [
-      | then-gets+in_ok-reserve w ↦ pushed_if c.gets.result c.loop-node.enter.items w.reserve.new.self.items c.if-gets.enter.items _ w.if-gets.true w.in_ok-reserve.ensures.items
+      | then-gets+in_ok-reserve w ↦
+          pushed_if c.gets.result c.loop-node.enter.items w.reserve.new.self.items c.if-gets.enter.items _ w.if-gets.true w.in_ok-reserve.ensures.items
           (ap (λ (l : Roomy Enter). l.items) w.enter-is ∙ w.push.ensures.items ∙ ap (λ one. w.reserve.new.self.items ++ one ∷ []) w.entered.ensures)
       | else-gets w ↦ kept_if c.gets.result c.loop-node.enter.items c.if-gets.enter.items _ w.if-gets.false (ap (λ (l : Roomy Enter). l.items) w.enter-is)
     ]
@@ -34,4 +41,5 @@ grown c =
 pub loop-node-preserved : goal.loop-node-preserved
 loop-node-preserved c =
     let test : NodeId → Bool = λ node. gets_inode c.args.start c.args.is_file c.args.logs.now c.args.facts.now node.0 in
-    picked_as test c.as_slice-touched.result.now c.loop-node.node-index (record { 0 = 0 }) c.loop-node-test.true c.gets.result c.gets.ensures (enter_by c.args.start c.args.is_file c.args.facts.now) c.loop-node.enter.items c.if-gets.enter.items c.loop-node.invariant (grown c)
+    picked_as test c.as_slice-touched.result.now c.loop-node.node-index (record { 0 = 0 }) c.loop-node-test.true c.gets.result c.gets.ensures
+    (enter_by c.args.start c.args.is_file c.args.facts.now) c.loop-node.enter.items c.if-gets.enter.items c.loop-node.invariant (grown c)

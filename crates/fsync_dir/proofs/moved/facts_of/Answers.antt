@@ -11,7 +11,8 @@ pub returns : goal.returns
 returns c = record {
   named = c.in_ok-named.ensures;
   unflushed = λ start late node.
-      subst (λ (l : List NodeId). (contains nat_cmp c.in_ok-unflushed.unflushed node ≡ true) ↔ SeesNaming (look_of start late c.args.logs.now) (lifted_cut c.args.logs.now.cuts.items (map node_number l) c.args.below.0) node)
+      subst (λ (l : List NodeId). (contains nat_cmp c.in_ok-unflushed.unflushed node ≡ true) ↔ SeesNaming (look_of start late c.args.logs.now)
+      (lifted_cut c.args.logs.now.cuts.items (map node_number l) c.args.below.0) node)
       c.as_slice.ensures (c.in_ok-unflushed.ensures start late node);
   kinds = c.in_ok-kinds.ensures;
 }

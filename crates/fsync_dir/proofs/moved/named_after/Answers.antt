@@ -19,7 +19,9 @@ pub loop-node-init : goal.loop-node-init
 loop-node-init c = λ node. ap (list_any (is_at (nat_cmp node))) c.new-named.ensures.empty
 
 -- whether the node at hand is named
-told : (c : goal.Joined-leave_a_name) → c.leave_a_name.result ≡ is_named_after c.args.old.now.items c.args.nets.now.items (get_or c.as_slice-touched.result.now c.loop-node.node-index (record { 0 = 0 })).0
+told : (c : goal.Joined-leave_a_name)
+    → c.leave_a_name.result
+    ≡ is_named_after c.args.old.now.items c.args.nets.now.items (get_or c.as_slice-touched.result.now c.loop-node.node-index (record { 0 = 0 })).0
 told c =
     let own : NodeId = get_or c.as_slice-touched.result.now c.loop-node.node-index (record { 0 = 0 }) in
     c.leave_a_name.ensures ∙ (λ i. nat_lt (c.in_ok-changes.ensures.going own.0 i) (c.names_kept.ensures i + c.in_ok-changes.ensures.coming own.0 i))
@@ -31,7 +33,9 @@ loop-node-preserved c = λ node.
     let own : NodeId = get_or nodes i (record { 0 = 0 }) in
     let passes : ℕ → Bool = is_named_after c.args.old.now.items c.args.nets.now.items in
     let listed = is_listed (map node_number (take i nodes)) node in
-    let more = ap (λ (l : List NodeId). is_listed (map node_number l) node && passes node) (take_more nodes i (record { 0 = 0 }) c.loop-node-test.true) ∙ ap (λ b. b && passes node) (listed_more (take i nodes) own node) in
+    let more =
+    ap (λ (l : List NodeId). is_listed (map node_number l) node && passes node) (take_more nodes i (record { 0 = 0 }) c.loop-node-test.true)
+    ∙ ap (λ b. b && passes node) (listed_more (take i nodes) own node) in
     elim c.if-leave_a_name.branch [
       | then-leave_a_name+in_ok-insert w ↦
           ap (λ (s : BTreeSet ℕ). contains nat_cmp s node) w.named-is
@@ -48,5 +52,6 @@ loop-node-preserved c = λ node.
 pub returns : goal.returns
 returns c = λ node has.
     c.loop-node.invariant node
-    ∙ ap (λ (l : List NodeId). is_listed (map node_number l) node && is_named_after c.args.old.now.items c.args.nets.now.items node) (take_all c.loop-node.node-index c.as_slice-touched.result.now c.loop-node-test.false ∙ c.as_slice-touched.ensures)
+    ∙ ap (λ (l : List NodeId). is_listed (map node_number l) node && is_named_after c.args.old.now.items c.args.nets.now.items node)
+    (take_all c.loop-node.node-index c.as_slice-touched.result.now c.loop-node-test.false ∙ c.as_slice-touched.ensures)
     ∙ ap (λ b. b && is_named_after c.args.old.now.items c.args.nets.now.items node) has

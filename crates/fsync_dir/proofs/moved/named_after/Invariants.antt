@@ -8,4 +8,6 @@ use Rattle.fsync_dir.specs.Names.{is_named_after}
 use Rattle.fsync_dir.proofs.moved.named_after.Given as goal
 
 abbrev pub invariant-loop-node : goal.invariant-loop-node
-invariant-loop-node l = (node : ℕ) → contains nat_cmp l.named node ≡ (is_listed (map node_number (take l.node-index l.touched)) node && is_named_after l.old.items l.nets.items node)
+invariant-loop-node l =
+    (node : ℕ)
+    → contains nat_cmp l.named node ≡ (is_listed (map node_number (take l.node-index l.touched)) node && is_named_after l.old.items l.nets.items node)

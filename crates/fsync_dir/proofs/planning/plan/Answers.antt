@@ -13,13 +13,19 @@ returns c =
     let concern = c.args.concern in
     let gathered = c.args.logs.now in
     let facts = c.in_ok-facts.facts in
-    let entering = subst (λ (b : Bool). c.in_ok-enter.enter.items ≡ map (enter_by c.args.start b facts) (filter (λ node. gets_inode c.args.start b gathered facts node.0) concern.nodes.items)) is_file c.in_ok-enter.ensures in
+    let entering =
+    subst (λ (b : Bool). c.in_ok-enter.enter.items
+    ≡ map (enter_by c.args.start b facts) (filter (λ node. gets_inode c.args.start b gathered facts node.0) concern.nodes.items))
+    is_file c.in_ok-enter.ensures in
     record {
       enter = c.in_ok-enter.enter.items;
       files = c.in_ok-files.files.items;
       members = refl;
       nodes = refl;
-      moves = moves c.args.start c.args.below gathered concern c.args.old.items (option_copied c.args.file) facts c.requires.concern c.in_ok-facts.ensures c.in_ok-enter.enter.items c.in_ok-leave.leave.items entering c.in_ok-leave.ensures;
+      moves =
+          moves c.args.start c.args.below gathered concern c.args.old.items
+          (option_copied c.args.file) facts c.requires.concern c.in_ok-facts.ensures c.in_ok-enter.enter.items c.in_ok-leave.leave.items entering
+          c.in_ok-leave.ensures;
       are_files = c.in_ok-files.ensures;
       made = c.in_ok-change.ensures;
     }

@@ -12,7 +12,8 @@ returns c =
     let bytes = c.args.bytes.now.bytes in
     let rest = drop (4096 * c.args.block) bytes in
     let at : c.from.result * 4096 ≡ 4096 * c.args.block = omega arith in
-    let count : c.read.result ≡ min 4096 (length rest) = omega (arith, c.read.ensures.count, length-drop (4096 * c.args.block) bytes, length-replicate {A = ℕ} 4096 0) in
+    let count : c.read.result ≡ min 4096 (length rest) =
+    omega (arith, c.read.ensures.count, length-drop (4096 * c.args.block) bytes, length-replicate {A = ℕ} 4096 0) in
     let read : c.read.new.into ≡ take 4096 (rest ++ replicate 4096 0) =
     c.read.ensures.bytes
     ∙ ap (λ n. take c.read.result (drop n bytes) ++ drop c.read.result (replicate 4096 0)) at

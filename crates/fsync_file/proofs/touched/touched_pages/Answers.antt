@@ -7,7 +7,8 @@ use Rattle.fsync_file.proofs.Pages.{pages_more, below_more}
 use Rattle.fsync_file.proofs.touched.touched_pages.Goals as goal
 use Rattle.fsync_file.proofs.touched.touched_pages.Goals.{then-is_touched+in_ok-reserve, else-is_touched}
 
-grown : (c : goal.Joined-is_touched) → c.if-is_touched.pages.items ≡ c.loop-block.pages.items ++ cond c.is_touched.result (page_of c.args.bytes.now.bytes c.loop-block.block ∷ []) []
+grown : (c : goal.Joined-is_touched)
+    → c.if-is_touched.pages.items ≡ c.loop-block.pages.items ++ cond c.is_touched.result (page_of c.args.bytes.now.bytes c.loop-block.block ∷ []) []
 grown c =
     elim c.if-is_touched.branch [
       | then-is_touched+in_ok-reserve w ↦
@@ -22,6 +23,10 @@ grown c =
 
 pub loop-block-preserved : goal.loop-block-preserved
 loop-block-preserved c = record {
-  pages = pages_more c.args.cut.0 c.args.bytes.now c.loop-block.block c.is_touched.result c.is_touched.ensures c.loop-block.pages.items c.if-is_touched.pages.items (grown c) c.loop-block.invariant.pages;
-  below = below_more c.args.cut.0 c.args.bytes.now c.loop-block.block c.is_touched.result c.is_touched.ensures c.loop-block.pages.items c.if-is_touched.pages.items (grown c) c.loop-block.invariant.below;
+  pages =
+      pages_more c.args.cut.0 c.args.bytes.now c.loop-block.block c.is_touched.result c.is_touched.ensures c.loop-block.pages.items c.if-is_touched.pages.items
+      (grown c) c.loop-block.invariant.pages;
+  below =
+      below_more c.args.cut.0 c.args.bytes.now c.loop-block.block c.is_touched.result c.is_touched.ensures c.loop-block.pages.items c.if-is_touched.pages.items
+      (grown c) c.loop-block.invariant.below;
 }

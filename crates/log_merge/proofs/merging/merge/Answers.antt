@@ -15,6 +15,10 @@ loop-part-preserved c =
     let part = c.part-item.result in
     let within : index < length parts = omega arith in
     let more = take_more parts index part within ∙ ap (λ (one : CoreLog). take index parts ++ one ∷ []) (sym c.part-item.is) in
-    let both = subst (λ (own : List Change). IsMergeOf (c.loop-part.merged.items ++ own) c.in_ok-merged.merged.items) c.in_ok-own.ensures.own c.in_ok-merged.ensures in
-    let merged = merge-merged (parts_changes directory stamp (take index parts)) c.loop-part.merged.items (part_changes directory stamp part) c.in_ok-merged.merged.items c.loop-part.invariant both in
-    subst (λ (changes : List Change). IsMergeOf changes c.in_ok-merged.merged.items) (sym (ap (parts_changes directory stamp) more ∙ parts_changes-push directory stamp (take index parts) part)) merged
+    let both =
+    subst (λ (own : List Change). IsMergeOf (c.loop-part.merged.items ++ own) c.in_ok-merged.merged.items) c.in_ok-own.ensures.own c.in_ok-merged.ensures in
+    let merged =
+    merge-merged (parts_changes directory stamp (take index parts)) c.loop-part.merged.items
+    (part_changes directory stamp part) c.in_ok-merged.merged.items c.loop-part.invariant both in
+    subst (λ (changes : List Change). IsMergeOf changes c.in_ok-merged.merged.items)
+    (sym (ap (parts_changes directory stamp) more ∙ parts_changes-push directory stamp (take index parts) part)) merged

@@ -13,4 +13,5 @@ loop-change-preserved c =
     let second_after = c.take_next.new.second.items in
     let takes = subst (λ (r : Option Change). TakesNext first second r first_after second_after) c.in-Some.is c.take_next.ensures in
     subst (MergesTo c.args.first.items c.args.second.items first_after second_after) (sym c.in_ok-push.ensures.items)
-    (merges_step c.args.first.items c.args.second.items first second first_after second_after c.loop-change.both.items c.in-Some.change c.loop-change.invariant takes)
+    (merges_step c.args.first.items c.args.second.items first second first_after second_after c.loop-change.both.items c.in-Some.change c.loop-change.invariant
+    takes)

@@ -50,7 +50,8 @@ pub returns-in_default : goal.returns-in_default
 returns-in_default c =
     let tree = c.args.tree.now in
     let past = past_last (entries (bucket_rows c.args.node.0 c.args.number tree.rows)) c.loop-place.place (sym c.in_default.ensures) in
-    shown tree c.args.node.0 c.args.number c.loop-place.place c.loop-place.bucket past c.loop-place.invariant.rows c.loop-place.invariant.directories c.loop-place.invariant.stands
+    shown tree c.args.node.0 c.args.number c.loop-place.place c.loop-place.bucket past c.loop-place.invariant.rows c.loop-place.invariant.directories
+    c.loop-place.invariant.stands
 
 pub returns : goal.returns
 returns c =
@@ -58,4 +59,5 @@ returns c =
     let past : length (entries (bucket_rows c.args.node.0 c.args.number tree.rows)) ≤ c.loop-place.place =
     (let fits = bucket_fits c.args.node.0 c.args.number tree.rows in let all = c.row_count-place-end.ensures in let end = c.loop-place-test.false in
     omega (arith, fits, all, end)) in
-    shown tree c.args.node.0 c.args.number c.loop-place.place c.loop-place.bucket past c.loop-place.invariant.rows c.loop-place.invariant.directories c.loop-place.invariant.stands
+    shown tree c.args.node.0 c.args.number c.loop-place.place c.loop-place.bucket past c.loop-place.invariant.rows c.loop-place.invariant.directories
+    c.loop-place.invariant.stands

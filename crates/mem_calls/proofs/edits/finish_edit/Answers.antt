@@ -30,20 +30,23 @@ stamp-stamp-requires-clause-may g c =
     (sym c.take_file.ensures.held.1)
     (may_come g.T.Given.given c.args.shared.now c.args.nodes c.args.core.now c.requires.table c.requires.work (edit_call c.args.file c.args.edit)
     (done (Edits c.args.file.0 (edit_of c.args.edit))) (not_fsync c.args.file c.args.edit) c.requires.due
-    (keeps g.T.Given.given c.args.shared.now c.args.nodes c.args.core.now c.requires.table c.requires.work c.requires.part c.args.file c.args.edit c.requires.within c.requires.held c.requires.due)))
+    (keeps g.T.Given.given c.args.shared.now c.args.nodes c.args.core.now c.requires.table c.requires.work c.requires.part c.args.file c.args.edit
+    c.requires.within c.requires.held c.requires.due)))
 
 pub put-requires : goal.put-requires
 put-requires g c =
     let drawn = subst (λ x. Stamps (IsLawfulLog g.T.Given.given)
     (StandsAt g.T.Given.given) x reply.Ok c.take_file.new.core c.stamp-stamp.result.0 c.stamp-stamp.new.self) c.into_call.ensures c.stamp-stamp.ensures in
-    put_may g.T.Given.given c.args.shared.now c.args.nodes c.args.core.now c.requires.table c.requires.work c.requires.part c.args.file c.args.edit c.requires.within c.requires.held c.requires.due
+    put_may g.T.Given.given c.args.shared.now c.args.nodes c.args.core.now c.requires.table c.requires.work c.requires.part c.args.file c.args.edit
+    c.requires.within c.requires.held c.requires.due
     c.take_file.ensures.held.0 c.take_file.new.core c.take_file.ensures.held.1 c.stamp-stamp.result.0 c.stamp-stamp.new.self drawn
 
 pub add_entry-requires-clause-part : goal.add_entry-requires-clause-part
 add_entry-requires-clause-part g c =
     let drawn = subst (λ x. Stamps (IsLawfulLog g.T.Given.given)
     (StandsAt g.T.Given.given) x reply.Ok c.take_file.new.core c.stamp-stamp.result.0 c.stamp-stamp.new.self) c.into_call.ensures c.stamp-stamp.ensures in
-    part_may g.T.Given.given c.args.shared.now c.args.nodes c.args.core.now c.requires.table c.requires.work c.requires.part c.args.file c.args.edit c.requires.within c.requires.held c.requires.due
+    part_may g.T.Given.given c.args.shared.now c.args.nodes c.args.core.now c.requires.table c.requires.work c.requires.part c.args.file c.args.edit
+    c.requires.within c.requires.held c.requires.due
     c.take_file.ensures.held.0 c.take_file.new.core c.take_file.ensures.held.1 c.stamp-stamp.result.0 c.stamp-stamp.new.self drawn
     (cell.File c.marked-value.result) c.marked-value.result.value refl c.put.new.core c.put.ensures
 
@@ -52,7 +55,8 @@ add_entry-requires-clause-may g c =
     let drawn = subst (λ x. Stamps (IsLawfulLog g.T.Given.given)
     (StandsAt g.T.Given.given) x reply.Ok c.take_file.new.core c.stamp-stamp.result.0 c.stamp-stamp.new.self) c.into_call.ensures c.stamp-stamp.ensures in
     subst (λ l. MayTake c.args.nodes l c.put.new.core) (sym (ap (λ r. r.items) c.new.ensures))
-    (room_may g.T.Given.given c.args.shared.now c.args.nodes c.args.core.now c.requires.table c.requires.work c.requires.part c.args.file c.args.edit c.requires.within c.requires.held c.requires.due
+    (room_may g.T.Given.given c.args.shared.now c.args.nodes c.args.core.now c.requires.table c.requires.work c.requires.part c.args.file c.args.edit
+    c.requires.within c.requires.held c.requires.due
     c.take_file.ensures.held.0 c.take_file.new.core c.take_file.ensures.held.1 c.stamp-stamp.result.0 c.stamp-stamp.new.self drawn
     (cell.File c.marked-value.result) c.marked-value.result.value refl c.put.new.core c.put.ensures c.events_are_few.ensures)
 
@@ -61,12 +65,14 @@ let_go-requires-clause-home g c =
     let drawn = subst (λ x. Stamps (IsLawfulLog g.T.Given.given)
     (StandsAt g.T.Given.given) x reply.Ok c.take_file.new.core c.stamp-stamp.result.0 c.stamp-stamp.new.self) c.into_call.ensures c.stamp-stamp.ensures in
     let takes = subst (λ l. TakesEntry c.args.nodes l c.put.new.core c.add_entry.new.core) (ap (λ r. r.items) c.new.ensures) c.add_entry.ensures in
-    goes_home g.T.Given.given c.args.shared.now c.args.nodes c.args.core.now c.requires.table c.requires.work c.requires.part c.args.file c.args.edit c.requires.within c.requires.held c.requires.due
+    goes_home g.T.Given.given c.args.shared.now c.args.nodes c.args.core.now c.requires.table c.requires.work c.requires.part c.args.file c.args.edit
+    c.requires.within c.requires.held c.requires.due
     c.take_file.ensures.held.0 c.take_file.new.core c.take_file.ensures.held.1 c.stamp-stamp.result.0 c.stamp-stamp.new.self drawn
     (cell.File c.marked-value.result) c.marked-value.result.value refl c.put.new.core c.put.ensures c.add_entry.new.core takes
     c.take_file.result.value c.edited-value.result.0.value c.take_file.ensures.file c.in-Ok.touched
     (subst (λ r. IfOk r (λ touched.
-    IsEdited c.take_file.result.value c.args.edit touched c.edited-value.result.0.value)) c.in-Ok.is c.edited-value.ensures.ok) c.marked-value.ensures.links c.marked-value.ensures.bytes c.marked-value.ensures.marks
+    IsEdited c.take_file.result.value c.args.edit touched c.edited-value.result.0.value)) c.in-Ok.is c.edited-value.ensures.ok) c.marked-value.ensures.links
+    c.marked-value.ensures.bytes c.marked-value.ensures.marks
 
 pub returns-in-Ok : goal.returns-in-Ok
 returns-in-Ok g c =
@@ -75,13 +81,16 @@ returns-in-Ok g c =
     let takes = subst (λ l. TakesEntry c.args.nodes l c.put.new.core c.add_entry.new.core) (ap (λ r. r.items) c.new.ensures) c.add_entry.ensures in
     ends g.T.Given.given c.args.shared.now c.args.nodes c.args.core.now c.requires.table c.requires.work
     (edit_call c.args.file c.args.edit) reply.Ok c.stamp-stamp.result.0 (record c.stamp-stamp.new.self { held = c.args.core.now.held })
-    (stamps g.T.Given.given c.args.shared.now c.args.nodes c.args.core.now c.requires.table c.requires.work c.requires.part c.args.file c.args.edit c.requires.within c.requires.held c.requires.due
+    (stamps g.T.Given.given c.args.shared.now c.args.nodes c.args.core.now c.requires.table c.requires.work c.requires.part c.args.file c.args.edit
+    c.requires.within c.requires.held c.requires.due
     c.take_file.ensures.held.0 c.take_file.new.core c.take_file.ensures.held.1 c.stamp-stamp.result.0 c.stamp-stamp.new.self drawn)
     (done (Edits c.args.file.0 (edit_of c.args.edit))) c.add_entry.new.core c.let_go.new.self c.requires.due refl (not_fsync c.args.file c.args.edit)
-    (final_is g.T.Given.given c.args.shared.now c.args.nodes c.args.core.now c.requires.table c.requires.work c.requires.part c.args.file c.args.edit c.requires.within c.requires.held c.requires.due
+    (final_is g.T.Given.given c.args.shared.now c.args.nodes c.args.core.now c.requires.table c.requires.work c.requires.part c.args.file c.args.edit
+    c.requires.within c.requires.held c.requires.due
     c.take_file.ensures.held.0 c.take_file.new.core c.take_file.ensures.held.1 c.stamp-stamp.result.0 c.stamp-stamp.new.self drawn
     (cell.File c.marked-value.result) c.marked-value.result.value refl c.put.new.core c.put.ensures c.add_entry.new.core takes)
-    (same_count g.T.Given.given c.args.shared.now c.args.nodes c.args.core.now c.requires.table c.requires.work c.requires.part c.args.file c.args.edit c.requires.within c.requires.held c.requires.due
+    (same_count g.T.Given.given c.args.shared.now c.args.nodes c.args.core.now c.requires.table c.requires.work c.requires.part c.args.file c.args.edit
+    c.requires.within c.requires.held c.requires.due
     c.take_file.ensures.held.0 c.take_file.new.core c.take_file.ensures.held.1 c.stamp-stamp.result.0 c.stamp-stamp.new.self drawn
     (cell.File c.marked-value.result) c.marked-value.result.value refl c.put.new.core c.put.ensures c.add_entry.new.core takes)
     c.let_go.ensures.lets_go c.let_go.ensures.left c.let_go.ensures.places
@@ -95,7 +104,9 @@ put-requires-in-Err g c =
 pub let_go-requires-in-Err-clause-home : goal.let_go-requires-in-Err-clause-home
 let_go-requires-in-Err-clause-home g c =
     let same = subst (λ r. IfErr r (λ fault. c.edited-value.result.0.value ≡ c.take_file.result.value)) c.in-Err.is c.edited-value.ensures.err in
-    let works = works_again g.T.Given.given c.args.shared.now c.args.nodes c.args.core.now c.requires.table c.requires.work c.requires.part c.args.file c.args.edit c.requires.within c.requires.held c.requires.due
+    let works =
+    works_again g.T.Given.given c.args.shared.now c.args.nodes c.args.core.now c.requires.table c.requires.work c.requires.part c.args.file c.args.edit
+    c.requires.within c.requires.held c.requires.due
     c.take_file.ensures.held.0 c.take_file.new.core c.take_file.ensures.held.1 c.take_file.result.value c.take_file.ensures.file
     (cell.File c.edited-value.result.0) (ap (λ v. Some v) same) c.put-in-Err.new.core c.put-in-Err.ensures in
     known_home g.T.Given.given c.put-in-Err.new.core.view c.put-in-Err.new.core.held works.knows
@@ -103,10 +114,14 @@ let_go-requires-in-Err-clause-home g c =
 pub returns-in-Err : goal.returns-in-Err
 returns-in-Err g c =
     let same = subst (λ r. IfErr r (λ fault. c.edited-value.result.0.value ≡ c.take_file.result.value)) c.in-Err.is c.edited-value.ensures.err in
-    let works = works_again g.T.Given.given c.args.shared.now c.args.nodes c.args.core.now c.requires.table c.requires.work c.requires.part c.args.file c.args.edit c.requires.within c.requires.held c.requires.due
+    let works =
+    works_again g.T.Given.given c.args.shared.now c.args.nodes c.args.core.now c.requires.table c.requires.work c.requires.part c.args.file c.args.edit
+    c.requires.within c.requires.held c.requires.due
     c.take_file.ensures.held.0 c.take_file.new.core c.take_file.ensures.held.1 c.take_file.result.value c.take_file.ensures.file
     (cell.File c.edited-value.result.0) (ap (λ v. Some v) same) c.put-in-Err.new.core c.put-in-Err.ensures in
-    back_again g.T.Given.given c.args.shared.now c.args.nodes c.args.core.now c.requires.table c.requires.work c.requires.part c.args.file c.args.edit c.requires.within c.requires.held c.requires.due
+    back_again g.T.Given.given c.args.shared.now c.args.nodes c.args.core.now c.requires.table c.requires.work c.requires.part c.args.file c.args.edit
+    c.requires.within c.requires.held c.requires.due
     c.take_file.ensures.held.0 c.take_file.new.core c.take_file.ensures.held.1 c.take_file.result.value c.take_file.ensures.file
     (cell.File c.edited-value.result.0) (ap (λ v. Some v) same) c.put-in-Err.new.core c.put-in-Err.ensures c.let_go-in-Err.new.self
-    (refused g.T.Given.given c.args.shared.now c.put-in-Err.new.core c.let_go-in-Err.new.self works c.let_go-in-Err.ensures.lets_go c.let_go-in-Err.ensures.left c.let_go-in-Err.ensures.places)
+    (refused g.T.Given.given c.args.shared.now c.put-in-Err.new.core c.let_go-in-Err.new.self works c.let_go-in-Err.ensures.lets_go c.let_go-in-Err.ensures.left
+    c.let_go-in-Err.ensures.places)

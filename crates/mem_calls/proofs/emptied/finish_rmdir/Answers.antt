@@ -28,11 +28,14 @@ stamp-stamp-requires-clause-may g c =
     (sym c.in_ok-ready.ensures.out.1)
     (may_come g.T.Given.given c.args.shared.now c.args.nodes c.args.core.now c.requires.table c.requires.work (call.Rmdir c.args.dir c.args.name)
     (done (Removes c.args.dir.0 c.args.name c.args.child.0)) refl c.requires.due
-    (keeps g.T.Given.given c.args.shared.now c.args.nodes c.args.core.now c.requires.table c.requires.work c.args.dir c.args.name c.args.child c.requires.names c.requires.held.0 c.requires.held.1 c.requires.part c.requires.due))
+    (keeps g.T.Given.given c.args.shared.now c.args.nodes c.args.core.now c.requires.table c.requires.work c.args.dir c.args.name c.args.child c.requires.names
+    c.requires.held.0 c.requires.held.1 c.requires.part c.requires.due))
 
 pub remove_row-requires-clause-held : goal.remove_row-requires-clause-held
 remove_row-requires-clause-held g c =
-    let r : Removal g.T.Given.given c.args.shared.now c.args.nodes c.args.core.now c.args.dir c.args.name c.args.child c.in_ok-ready.ready c.make_ready.new.core c.stamp-stamp.result.0 c.stamp-stamp.new.self = record {
+    let r : Removal g.T.Given.given c.args.shared.now c.args.nodes c.args.core.now c.args.dir c.args.name c.args.child c.in_ok-ready.ready c.make_ready.new.core
+    c.stamp-stamp.result.0 c.stamp-stamp.new.self =
+    record {
       table = c.requires.table;
       work = c.requires.work;
       names = c.requires.names;
@@ -44,11 +47,14 @@ remove_row-requires-clause-held g c =
       drawn = c.stamp-stamp.ensures;
     } in
     subst (λ n. IsSome (bucket_held c.args.nodes c.stamp-stamp.new.self.held c.args.dir n)) (sym c.bucket_of-number.ensures)
-    (bucket_there g.T.Given.given c.args.shared.now c.args.nodes c.args.core.now c.args.dir c.args.name c.args.child c.in_ok-ready.ready c.make_ready.new.core c.stamp-stamp.result.0 c.stamp-stamp.new.self r)
+    (bucket_there g.T.Given.given c.args.shared.now c.args.nodes c.args.core.now c.args.dir c.args.name c.args.child c.in_ok-ready.ready c.make_ready.new.core
+    c.stamp-stamp.result.0 c.stamp-stamp.new.self r)
 
 pub remove_row-requires-clause-row : goal.remove_row-requires-clause-row
 remove_row-requires-clause-row g c = λ b is.
-    let r : Removal g.T.Given.given c.args.shared.now c.args.nodes c.args.core.now c.args.dir c.args.name c.args.child c.in_ok-ready.ready c.make_ready.new.core c.stamp-stamp.result.0 c.stamp-stamp.new.self = record {
+    let r : Removal g.T.Given.given c.args.shared.now c.args.nodes c.args.core.now c.args.dir c.args.name c.args.child c.in_ok-ready.ready c.make_ready.new.core
+    c.stamp-stamp.result.0 c.stamp-stamp.new.self =
+    record {
       table = c.requires.table;
       work = c.requires.work;
       names = c.requires.names;
@@ -60,11 +66,15 @@ remove_row-requires-clause-row g c = λ b is.
       drawn = c.stamp-stamp.ensures;
     } in
     subst (λ n. IsSome (get b.rows n)) (sym c.in_ok-ready.ensures.name_is)
-    (row_there g.T.Given.given c.args.shared.now c.args.nodes c.args.core.now c.args.dir c.args.name c.args.child c.in_ok-ready.ready c.make_ready.new.core c.stamp-stamp.result.0 c.stamp-stamp.new.self r b (ap (λ n. bucket_held c.args.nodes c.stamp-stamp.new.self.held c.args.dir n) (sym c.bucket_of-number.ensures) ∙ is))
+    (row_there g.T.Given.given c.args.shared.now c.args.nodes c.args.core.now c.args.dir c.args.name c.args.child c.in_ok-ready.ready c.make_ready.new.core
+    c.stamp-stamp.result.0 c.stamp-stamp.new.self r b
+    (ap (λ n. bucket_held c.args.nodes c.stamp-stamp.new.self.held c.args.dir n) (sym c.bucket_of-number.ensures) ∙ is))
 
 pub place_directory-requires : goal.place_directory-requires
 place_directory-requires g c =
-    let r : Removal g.T.Given.given c.args.shared.now c.args.nodes c.args.core.now c.args.dir c.args.name c.args.child c.in_ok-ready.ready c.make_ready.new.core c.stamp-stamp.result.0 c.stamp-stamp.new.self = record {
+    let r : Removal g.T.Given.given c.args.shared.now c.args.nodes c.args.core.now c.args.dir c.args.name c.args.child c.in_ok-ready.ready c.make_ready.new.core
+    c.stamp-stamp.result.0 c.stamp-stamp.new.self =
+    record {
       table = c.requires.table;
       work = c.requires.work;
       names = c.requires.names;
@@ -76,12 +86,17 @@ place_directory-requires g c =
       drawn = c.stamp-stamp.ensures;
     } in
     let gone = subst (λ n. RemovesRow c.args.nodes c.args.dir n c.args.name c.stamp-stamp.new.self c.remove_row.new.core) c.bucket_of-number.ensures
-    (subst (λ n. RemovesRow c.args.nodes c.args.dir c.bucket_of-number.result n c.stamp-stamp.new.self c.remove_row.new.core) c.in_ok-ready.ensures.name_is c.remove_row.ensures) in
-    buckets_there g.T.Given.given c.args.shared.now c.args.nodes c.args.core.now c.args.dir c.args.name c.args.child c.in_ok-ready.ready c.make_ready.new.core c.stamp-stamp.result.0 c.stamp-stamp.new.self r c.remove_row.new.core gone
+    (subst
+    (λ n. RemovesRow c.args.nodes c.args.dir c.bucket_of-number.result n c.stamp-stamp.new.self c.remove_row.new.core) c.in_ok-ready.ensures.name_is
+    c.remove_row.ensures) in
+    buckets_there g.T.Given.given c.args.shared.now c.args.nodes c.args.core.now c.args.dir c.args.name c.args.child c.in_ok-ready.ready c.make_ready.new.core
+    c.stamp-stamp.result.0 c.stamp-stamp.new.self r c.remove_row.new.core gone
 
 pub with_entry-requires : goal.with_entry-requires
 with_entry-requires g c =
-    let r : Removal g.T.Given.given c.args.shared.now c.args.nodes c.args.core.now c.args.dir c.args.name c.args.child c.in_ok-ready.ready c.make_ready.new.core c.stamp-stamp.result.0 c.stamp-stamp.new.self = record {
+    let r : Removal g.T.Given.given c.args.shared.now c.args.nodes c.args.core.now c.args.dir c.args.name c.args.child c.in_ok-ready.ready c.make_ready.new.core
+    c.stamp-stamp.result.0 c.stamp-stamp.new.self =
+    record {
       table = c.requires.table;
       work = c.requires.work;
       names = c.requires.names;
@@ -95,11 +110,14 @@ with_entry-requires g c =
     let change = c.removed_row-change.ensures
     ∙ ap (λ n. log_entry c.stamp-stamp.result.0 c.args.dir.0 n c.args.child.0 Directory Remove None [] ∷ []) c.in_ok-ready.ensures.name_is in
     subst (λ l. HasRoomFor l c.in_ok-ready.ready.part.value) (sym change)
-    (has_room g.T.Given.given c.args.shared.now c.args.nodes c.args.core.now c.args.dir c.args.name c.args.child c.in_ok-ready.ready c.make_ready.new.core c.stamp-stamp.result.0 c.stamp-stamp.new.self r c.events_are_few.ensures)
+    (has_room g.T.Given.given c.args.shared.now c.args.nodes c.args.core.now c.args.dir c.args.name c.args.child c.in_ok-ready.ready c.make_ready.new.core
+    c.stamp-stamp.result.0 c.stamp-stamp.new.self r c.events_are_few.ensures)
 
 pub put_part-requires : goal.put_part-requires
 put_part-requires g c =
-    let r : Removal g.T.Given.given c.args.shared.now c.args.nodes c.args.core.now c.args.dir c.args.name c.args.child c.in_ok-ready.ready c.make_ready.new.core c.stamp-stamp.result.0 c.stamp-stamp.new.self = record {
+    let r : Removal g.T.Given.given c.args.shared.now c.args.nodes c.args.core.now c.args.dir c.args.name c.args.child c.in_ok-ready.ready c.make_ready.new.core
+    c.stamp-stamp.result.0 c.stamp-stamp.new.self =
+    record {
       table = c.requires.table;
       work = c.requires.work;
       names = c.requires.names;
@@ -111,13 +129,21 @@ put_part-requires g c =
       drawn = c.stamp-stamp.ensures;
     } in
     let gone = subst (λ n. RemovesRow c.args.nodes c.args.dir n c.args.name c.stamp-stamp.new.self c.remove_row.new.core) c.bucket_of-number.ensures
-    (subst (λ n. RemovesRow c.args.nodes c.args.dir c.bucket_of-number.result n c.stamp-stamp.new.self c.remove_row.new.core) c.in_ok-ready.ensures.name_is c.remove_row.ensures) in
+    (subst
+    (λ n. RemovesRow c.args.nodes c.args.dir c.bucket_of-number.result n c.stamp-stamp.new.self c.remove_row.new.core) c.in_ok-ready.ensures.name_is
+    c.remove_row.ensures) in
     subst (λ (n : ℕ). IsSome (value_held c.args.nodes c.place_directory.new.core.held (id.Part (record { 0 = n }))))
-    (sym (core_three g.T.Given.given c.args.shared.now c.args.nodes c.args.core.now c.args.dir c.args.name c.args.child c.in_ok-ready.ready c.make_ready.new.core c.stamp-stamp.result.0 c.stamp-stamp.new.self r c.remove_row.new.core gone c.place_directory.new.core c.place_directory.ensures)) (part_there g.T.Given.given c.args.shared.now c.args.nodes c.args.core.now c.args.dir c.args.name c.args.child c.in_ok-ready.ready c.make_ready.new.core c.stamp-stamp.result.0 c.stamp-stamp.new.self r c.remove_row.new.core gone c.place_directory.new.core c.place_directory.ensures)
+    (sym
+    (core_three g.T.Given.given c.args.shared.now c.args.nodes c.args.core.now c.args.dir c.args.name c.args.child c.in_ok-ready.ready c.make_ready.new.core
+    c.stamp-stamp.result.0 c.stamp-stamp.new.self r c.remove_row.new.core gone c.place_directory.new.core c.place_directory.ensures))
+    (part_there g.T.Given.given c.args.shared.now c.args.nodes c.args.core.now c.args.dir c.args.name c.args.child c.in_ok-ready.ready c.make_ready.new.core
+    c.stamp-stamp.result.0 c.stamp-stamp.new.self r c.remove_row.new.core gone c.place_directory.new.core c.place_directory.ensures)
 
 pub let_go-requires-clause-home : goal.let_go-requires-clause-home
 let_go-requires-clause-home g c =
-    let r : Removal g.T.Given.given c.args.shared.now c.args.nodes c.args.core.now c.args.dir c.args.name c.args.child c.in_ok-ready.ready c.make_ready.new.core c.stamp-stamp.result.0 c.stamp-stamp.new.self = record {
+    let r : Removal g.T.Given.given c.args.shared.now c.args.nodes c.args.core.now c.args.dir c.args.name c.args.child c.in_ok-ready.ready c.make_ready.new.core
+    c.stamp-stamp.result.0 c.stamp-stamp.new.self =
+    record {
       table = c.requires.table;
       work = c.requires.work;
       names = c.requires.names;
@@ -129,19 +155,26 @@ let_go-requires-clause-home g c =
       drawn = c.stamp-stamp.ensures;
     } in
     let gone = subst (λ n. RemovesRow c.args.nodes c.args.dir n c.args.name c.stamp-stamp.new.self c.remove_row.new.core) c.bucket_of-number.ensures
-    (subst (λ n. RemovesRow c.args.nodes c.args.dir c.bucket_of-number.result n c.stamp-stamp.new.self c.remove_row.new.core) c.in_ok-ready.ensures.name_is c.remove_row.ensures) in
+    (subst
+    (λ n. RemovesRow c.args.nodes c.args.dir c.bucket_of-number.result n c.stamp-stamp.new.self c.remove_row.new.core) c.in_ok-ready.ensures.name_is
+    c.remove_row.ensures) in
     let change = c.removed_row-change.ensures
     ∙ ap (λ n. log_entry c.stamp-stamp.result.0 c.args.dir.0 n c.args.child.0 Directory Remove None [] ∷ []) c.in_ok-ready.ensures.name_is in
     let added = subst (λ l. IsAddedTo c.in_ok-ready.ready.part.value.log l c.with_entry.result.value.log) change c.with_entry.ensures.log in
     let puts = c.put_part.ensures.2
     ∙ ap (λ (n : ℕ). record c.place_directory.new.core
     { held = with_value (32 + 10 * c.args.nodes + 16 * n) c.put_part.ensures.0 c.place_directory.new.core.held })
-    (core_three g.T.Given.given c.args.shared.now c.args.nodes c.args.core.now c.args.dir c.args.name c.args.child c.in_ok-ready.ready c.make_ready.new.core c.stamp-stamp.result.0 c.stamp-stamp.new.self r c.remove_row.new.core gone c.place_directory.new.core c.place_directory.ensures) in
-    goes_home g.T.Given.given c.args.shared.now c.args.nodes c.args.core.now c.args.dir c.args.name c.args.child c.in_ok-ready.ready c.make_ready.new.core c.stamp-stamp.result.0 c.stamp-stamp.new.self r c.remove_row.new.core gone c.place_directory.new.core c.place_directory.ensures c.with_entry.result.value c.put_part.ensures.0 c.put_part.ensures.1 added c.with_entry.ensures.made c.put_part.new.core puts
+    (core_three g.T.Given.given c.args.shared.now c.args.nodes c.args.core.now c.args.dir c.args.name c.args.child c.in_ok-ready.ready c.make_ready.new.core
+    c.stamp-stamp.result.0 c.stamp-stamp.new.self r c.remove_row.new.core gone c.place_directory.new.core c.place_directory.ensures) in
+    goes_home g.T.Given.given c.args.shared.now c.args.nodes c.args.core.now c.args.dir c.args.name c.args.child c.in_ok-ready.ready c.make_ready.new.core
+    c.stamp-stamp.result.0 c.stamp-stamp.new.self r c.remove_row.new.core gone c.place_directory.new.core c.place_directory.ensures
+    c.with_entry.result.value c.put_part.ensures.0 c.put_part.ensures.1 added c.with_entry.ensures.made c.put_part.new.core puts
 
 pub returns : goal.returns
 returns g c =
-    let r : Removal g.T.Given.given c.args.shared.now c.args.nodes c.args.core.now c.args.dir c.args.name c.args.child c.in_ok-ready.ready c.make_ready.new.core c.stamp-stamp.result.0 c.stamp-stamp.new.self = record {
+    let r : Removal g.T.Given.given c.args.shared.now c.args.nodes c.args.core.now c.args.dir c.args.name c.args.child c.in_ok-ready.ready c.make_ready.new.core
+    c.stamp-stamp.result.0 c.stamp-stamp.new.self =
+    record {
       table = c.requires.table;
       work = c.requires.work;
       names = c.requires.names;
@@ -153,12 +186,18 @@ returns g c =
       drawn = c.stamp-stamp.ensures;
     } in
     let gone = subst (λ n. RemovesRow c.args.nodes c.args.dir n c.args.name c.stamp-stamp.new.self c.remove_row.new.core) c.bucket_of-number.ensures
-    (subst (λ n. RemovesRow c.args.nodes c.args.dir c.bucket_of-number.result n c.stamp-stamp.new.self c.remove_row.new.core) c.in_ok-ready.ensures.name_is c.remove_row.ensures) in
+    (subst
+    (λ n. RemovesRow c.args.nodes c.args.dir c.bucket_of-number.result n c.stamp-stamp.new.self c.remove_row.new.core) c.in_ok-ready.ensures.name_is
+    c.remove_row.ensures) in
     let change = c.removed_row-change.ensures
     ∙ ap (λ n. log_entry c.stamp-stamp.result.0 c.args.dir.0 n c.args.child.0 Directory Remove None [] ∷ []) c.in_ok-ready.ensures.name_is in
     let added = subst (λ l. IsAddedTo c.in_ok-ready.ready.part.value.log l c.with_entry.result.value.log) change c.with_entry.ensures.log in
     let puts = c.put_part.ensures.2
     ∙ ap (λ (n : ℕ). record c.place_directory.new.core
     { held = with_value (32 + 10 * c.args.nodes + 16 * n) c.put_part.ensures.0 c.place_directory.new.core.held })
-    (core_three g.T.Given.given c.args.shared.now c.args.nodes c.args.core.now c.args.dir c.args.name c.args.child c.in_ok-ready.ready c.make_ready.new.core c.stamp-stamp.result.0 c.stamp-stamp.new.self r c.remove_row.new.core gone c.place_directory.new.core c.place_directory.ensures) in
-    answers g.T.Given.given c.args.shared.now c.args.nodes c.args.core.now c.args.dir c.args.name c.args.child c.in_ok-ready.ready c.make_ready.new.core c.stamp-stamp.result.0 c.stamp-stamp.new.self r c.remove_row.new.core gone c.place_directory.new.core c.place_directory.ensures c.with_entry.result.value c.put_part.ensures.0 c.put_part.ensures.1 added c.with_entry.ensures.made c.put_part.new.core puts c.let_go.new.self c.let_go.ensures.lets_go c.let_go.ensures.left c.let_go.ensures.places
+    (core_three g.T.Given.given c.args.shared.now c.args.nodes c.args.core.now c.args.dir c.args.name c.args.child c.in_ok-ready.ready c.make_ready.new.core
+    c.stamp-stamp.result.0 c.stamp-stamp.new.self r c.remove_row.new.core gone c.place_directory.new.core c.place_directory.ensures) in
+    answers g.T.Given.given c.args.shared.now c.args.nodes c.args.core.now c.args.dir c.args.name c.args.child c.in_ok-ready.ready c.make_ready.new.core
+    c.stamp-stamp.result.0 c.stamp-stamp.new.self r c.remove_row.new.core gone c.place_directory.new.core c.place_directory.ensures
+    c.with_entry.result.value c.put_part.ensures.0 c.put_part.ensures.1 added c.with_entry.ensures.made c.put_part.new.core puts c.let_go.new.self
+    c.let_go.ensures.lets_go c.let_go.ensures.left c.let_go.ensures.places

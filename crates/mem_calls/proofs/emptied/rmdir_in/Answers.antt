@@ -14,7 +14,9 @@ use Rattle.mem_calls.proofs.Faults.{same_some}
 pub returns-then-is_none-clause-due : goal.returns-then-is_none-clause-due
 returns-then-is_none-clause-due c = λ tree meets.
     let within = c.directory_fault_in.ensures.within c.in_default.is in
-    let shows = name_shows c.args.core.now c.args.nodes c.requires.counted tree meets c.args.dir c.args.name.now c.bucket_of-number.result c.bucket_in-bucket.result.now within c.bucket_of-number.ensures c.bucket_in-bucket.ensures in
+    let shows =
+    name_shows c.args.core.now c.args.nodes c.requires.counted tree meets c.args.dir c.args.name.now c.bucket_of-number.result c.bucket_in-bucket.result.now
+    within c.bucket_of-number.ensures c.bucket_in-bucket.ensures in
     let fault = sym (c.directory_fault_in.ensures.fault tree meets) ∙ c.in_default.is in
     rmdir_missed tree c.args.core.now.view.core c.args.dir c.args.name.now c.bucket_in-bucket.result.now shows fault
     (none_of _ (same_some c.get.result _ c.get.ensures ∙ c.if-is_none.ensures))
@@ -22,7 +24,9 @@ returns-then-is_none-clause-due c = λ tree meets.
 pub returns-in_default-get-clause-due : goal.returns-in_default-get-clause-due
 returns-in_default-get-clause-due c = λ tree meets.
     let within = c.directory_fault_in.ensures.within c.in_default.is in
-    let shows = name_shows c.args.core.now c.args.nodes c.requires.counted tree meets c.args.dir c.args.name.now c.bucket_of-number.result c.bucket_in-bucket.result.now within c.bucket_of-number.ensures c.bucket_in-bucket.ensures in
+    let shows =
+    name_shows c.args.core.now c.args.nodes c.requires.counted tree meets c.args.dir c.args.name.now c.bucket_of-number.result c.bucket_in-bucket.result.now
+    within c.bucket_of-number.ensures c.bucket_in-bucket.ensures in
     let fault = sym (c.directory_fault_in.ensures.fault tree meets) ∙ c.in_default.is in
     rmdir_file tree c.args.core.now.view.core c.args.dir c.args.name.now c.bucket_in-bucket.result.now shows fault
     (same_some c.get.result _ c.get.ensures ∙ c.if-is_none.ensures) (sym c.get-2.ensures ∙ ap number_of c.in_default-get.is)
@@ -68,7 +72,9 @@ directory_counts-rows-requires-clause-small c =
 pub returns-then-rows-gt0-clause-due : goal.returns-then-rows-gt0-clause-due
 returns-then-rows-gt0-clause-due c = λ tree meets.
     let within = c.directory_fault_in.ensures.within c.in_default.is in
-    let shows = name_shows c.args.core.now c.args.nodes c.requires.counted tree meets c.args.dir c.args.name.now c.bucket_of-number.result c.bucket_in-bucket.result.now within c.bucket_of-number.ensures c.bucket_in-bucket.ensures in
+    let shows =
+    name_shows c.args.core.now c.args.nodes c.requires.counted tree meets c.args.dir c.args.name.now c.bucket_of-number.result c.bucket_in-bucket.result.now
+    within c.bucket_of-number.ensures c.bucket_in-bucket.ensures in
     let fault = sym (c.directory_fault_in.ensures.fault tree meets) ∙ c.in_default.is in
     let held = subst (λ n. bucket_held c.args.nodes c.args.core.now.held c.args.dir n
     ≡ Some c.bucket_in-bucket.result.now) c.bucket_of-number.ensures c.bucket_in-bucket.ensures in
@@ -88,7 +94,9 @@ returns-then-rows-gt0-clause-due c = λ tree meets.
 pub returns-clause-due : goal.returns-clause-due
 returns-clause-due c = λ tree meets.
     let within = c.directory_fault_in.ensures.within c.in_default.is in
-    let shows = name_shows c.args.core.now c.args.nodes c.requires.counted tree meets c.args.dir c.args.name.now c.bucket_of-number.result c.bucket_in-bucket.result.now within c.bucket_of-number.ensures c.bucket_in-bucket.ensures in
+    let shows =
+    name_shows c.args.core.now c.args.nodes c.requires.counted tree meets c.args.dir c.args.name.now c.bucket_of-number.result c.bucket_in-bucket.result.now
+    within c.bucket_of-number.ensures c.bucket_in-bucket.ensures in
     let fault = sym (c.directory_fault_in.ensures.fault tree meets) ∙ c.in_default.is in
     let held = subst (λ n. bucket_held c.args.nodes c.args.core.now.held c.args.dir n
     ≡ Some c.bucket_in-bucket.result.now) c.bucket_of-number.ensures c.bucket_in-bucket.ensures in

@@ -17,18 +17,48 @@ stamp-requires-clause-may g c =
 pub add_entry-requires-clause-may : goal.add_entry-requires-clause-may
 add_entry-requires-clause-may g c =
     subst (λ l. MayTake c.args.nodes l c.stamp.new.self) (sym (ap (λ r. r.items) c.new.ensures))
-    (has_room g.T.Given.given c.args.shared.now c.args.nodes c.args.core.now c.requires.table c.requires.work c.args.call c.args.reply c.stamp.result.0 c.stamp.new.self c.stamp.ensures (c.requires.due (stamped.tree g.T.Given.given c.args.shared.now c.args.nodes c.args.core.now c.requires.table c.requires.work c.args.call c.args.reply c.stamp.result.0 c.stamp.new.self c.stamp.ensures) (stamped.meets g.T.Given.given c.args.shared.now c.args.nodes c.args.core.now c.requires.table c.requires.work c.args.call c.args.reply c.stamp.result.0 c.stamp.new.self c.stamp.ensures)) c.events_are_few.ensures)
+    (has_room g.T.Given.given c.args.shared.now c.args.nodes c.args.core.now c.requires.table c.requires.work c.args.call c.args.reply c.stamp.result.0
+    c.stamp.new.self c.stamp.ensures
+    (c.requires.due
+    (stamped.tree g.T.Given.given c.args.shared.now c.args.nodes c.args.core.now c.requires.table c.requires.work c.args.call c.args.reply
+    c.stamp.result.0 c.stamp.new.self c.stamp.ensures)
+    (stamped.meets g.T.Given.given c.args.shared.now c.args.nodes c.args.core.now c.requires.table c.requires.work c.args.call c.args.reply
+    c.stamp.result.0 c.stamp.new.self c.stamp.ensures))
+    c.events_are_few.ensures)
 
 pub let_go-requires-clause-home : goal.let_go-requires-clause-home
 let_go-requires-clause-home g c =
     let takes = subst (λ l. TakesEntry c.args.nodes l c.stamp.new.self c.add_entry.new.core) (ap (λ r. r.items) c.new.ensures) c.add_entry.ensures in
-    goes_home g.T.Given.given c.args.shared.now c.args.nodes c.args.core.now c.requires.table c.requires.work c.args.call c.args.reply c.stamp.result.0 c.stamp.new.self c.stamp.ensures (c.requires.due (stamped.tree g.T.Given.given c.args.shared.now c.args.nodes c.args.core.now c.requires.table c.requires.work c.args.call c.args.reply c.stamp.result.0 c.stamp.new.self c.stamp.ensures) (stamped.meets g.T.Given.given c.args.shared.now c.args.nodes c.args.core.now c.requires.table c.requires.work c.args.call c.args.reply c.stamp.result.0 c.stamp.new.self c.stamp.ensures)) c.add_entry.new.core takes
+    goes_home g.T.Given.given c.args.shared.now c.args.nodes c.args.core.now c.requires.table c.requires.work c.args.call c.args.reply c.stamp.result.0
+    c.stamp.new.self c.stamp.ensures
+    (c.requires.due
+    (stamped.tree g.T.Given.given c.args.shared.now c.args.nodes c.args.core.now c.requires.table c.requires.work c.args.call c.args.reply
+    c.stamp.result.0 c.stamp.new.self c.stamp.ensures)
+    (stamped.meets g.T.Given.given c.args.shared.now c.args.nodes c.args.core.now c.requires.table c.requires.work c.args.call c.args.reply
+    c.stamp.result.0 c.stamp.new.self c.stamp.ensures))
+    c.add_entry.new.core takes
 
 pub returns : goal.returns
 returns g c =
     let takes = subst (λ l. TakesEntry c.args.nodes l c.stamp.new.self c.add_entry.new.core) (ap (λ r. r.items) c.new.ensures) c.add_entry.ensures in
-    ends g.T.Given.given c.args.shared.now c.args.nodes c.args.core.now c.requires.table c.requires.work c.args.call c.args.reply c.stamp.result.0 c.stamp.new.self c.stamp.ensures (answered c.args.reply) c.add_entry.new.core c.let_go.new.self
+    ends g.T.Given.given c.args.shared.now c.args.nodes c.args.core.now c.requires.table c.requires.work c.args.call c.args.reply c.stamp.result.0
+    c.stamp.new.self c.stamp.ensures
+    (answered c.args.reply) c.add_entry.new.core c.let_go.new.self
     c.requires.due refl c.requires.call
-    (final_is g.T.Given.given c.args.shared.now c.args.nodes c.args.core.now c.requires.table c.requires.work c.args.call c.args.reply c.stamp.result.0 c.stamp.new.self c.stamp.ensures (c.requires.due (stamped.tree g.T.Given.given c.args.shared.now c.args.nodes c.args.core.now c.requires.table c.requires.work c.args.call c.args.reply c.stamp.result.0 c.stamp.new.self c.stamp.ensures) (stamped.meets g.T.Given.given c.args.shared.now c.args.nodes c.args.core.now c.requires.table c.requires.work c.args.call c.args.reply c.stamp.result.0 c.stamp.new.self c.stamp.ensures)) c.add_entry.new.core takes)
-    (same_count g.T.Given.given c.args.shared.now c.args.nodes c.args.core.now c.requires.table c.requires.work c.args.call c.args.reply c.stamp.result.0 c.stamp.new.self c.stamp.ensures (c.requires.due (stamped.tree g.T.Given.given c.args.shared.now c.args.nodes c.args.core.now c.requires.table c.requires.work c.args.call c.args.reply c.stamp.result.0 c.stamp.new.self c.stamp.ensures) (stamped.meets g.T.Given.given c.args.shared.now c.args.nodes c.args.core.now c.requires.table c.requires.work c.args.call c.args.reply c.stamp.result.0 c.stamp.new.self c.stamp.ensures)) c.add_entry.new.core takes)
+    (final_is g.T.Given.given c.args.shared.now c.args.nodes c.args.core.now c.requires.table c.requires.work c.args.call c.args.reply c.stamp.result.0
+    c.stamp.new.self c.stamp.ensures
+    (c.requires.due
+    (stamped.tree g.T.Given.given c.args.shared.now c.args.nodes c.args.core.now c.requires.table c.requires.work c.args.call c.args.reply
+    c.stamp.result.0 c.stamp.new.self c.stamp.ensures)
+    (stamped.meets g.T.Given.given c.args.shared.now c.args.nodes c.args.core.now c.requires.table c.requires.work c.args.call c.args.reply
+    c.stamp.result.0 c.stamp.new.self c.stamp.ensures))
+    c.add_entry.new.core takes)
+    (same_count g.T.Given.given c.args.shared.now c.args.nodes c.args.core.now c.requires.table c.requires.work c.args.call c.args.reply c.stamp.result.0
+    c.stamp.new.self c.stamp.ensures
+    (c.requires.due
+    (stamped.tree g.T.Given.given c.args.shared.now c.args.nodes c.args.core.now c.requires.table c.requires.work c.args.call c.args.reply
+    c.stamp.result.0 c.stamp.new.self c.stamp.ensures)
+    (stamped.meets g.T.Given.given c.args.shared.now c.args.nodes c.args.core.now c.requires.table c.requires.work c.args.call c.args.reply
+    c.stamp.result.0 c.stamp.new.self c.stamp.ensures))
+    c.add_entry.new.core takes)
     c.let_go.ensures.lets_go c.let_go.ensures.left c.let_go.ensures.places

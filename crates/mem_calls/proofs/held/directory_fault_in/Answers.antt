@@ -13,7 +13,9 @@ returns-then-node-nodes-clause-fault c = λ tree meets.
 pub returns-then-is_standing-clause-fault : goal.returns-then-is_standing-clause-fault
 returns-then-is_standing-clause-fault c = λ tree meets.
     let within = c.if-node-nodes.false in
-    let shows = bucket_shows c.args.core.now c.args.nodes c.requires.counted tree meets c.args.node c.args.number c.bucket_in.result.now within c.requires.number c.bucket_in.ensures in
+    let shows =
+    bucket_shows c.args.core.now c.args.nodes c.requires.counted tree meets c.args.node c.args.number c.bucket_in.result.now within c.requires.number
+    c.bucket_in.ensures in
     sym (fault_standing tree meets.sound c.args.node c.args.number c.bucket_in.result.now shows (sym c.if-is_standing.ensures))
 
 pub returns-then-file_in-gt0-clause-fault : goal.returns-then-file_in-gt0-clause-fault
@@ -27,7 +29,9 @@ returns-then-file_in-gt0-clause-fault c = λ tree meets.
 pub returns-else-file_in-gt0-clause-fault : goal.returns-else-file_in-gt0-clause-fault
 returns-else-file_in-gt0-clause-fault c = λ tree meets.
     let within = c.if-node-nodes.false in
-    let shows = bucket_shows c.args.core.now c.args.nodes c.requires.counted tree meets c.args.node c.args.number c.bucket_in.result.now within c.requires.number c.bucket_in.ensures in
+    let shows =
+    bucket_shows c.args.core.now c.args.nodes c.requires.counted tree meets c.args.node c.args.number c.bucket_in.result.now within c.requires.number
+    c.bucket_in.ensures in
     let file = file_shows c.args.core.now c.args.nodes c.requires.counted tree meets c.args.node c.file_in.result.now within c.file_in.ensures in
     let links = file.0 in
     let none = c.if-file_in-gt0.false in

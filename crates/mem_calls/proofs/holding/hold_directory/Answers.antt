@@ -6,7 +6,8 @@ use Rattle.mem_calls.proofs.holding.hold_directory.Goals as goal
 
 pub returns-then-not-is_standing-clause-directory : goal.returns-then-not-is_standing-clause-directory
 returns-then-not-is_standing-clause-directory g c =
-    bucket_and_file c.args.nodes c.hold_more.new.core c.hold_more-then-not-is_standing.new.core c.args.node c.args.number c.bucket_in.result.now c.bucket_in.ensures c.hold_more-then-not-is_standing.ensures.gains
+    bucket_and_file c.args.nodes c.hold_more.new.core c.hold_more-then-not-is_standing.new.core c.args.node c.args.number c.bucket_in.result.now
+    c.bucket_in.ensures c.hold_more-then-not-is_standing.ensures.gains
 
 pub returns-then-not-is_standing-clause-bucket : goal.returns-then-not-is_standing-clause-bucket
 returns-then-not-is_standing-clause-bucket g c = λ within. record {

@@ -9,10 +9,12 @@ pub returns-clause-work : goal.returns-clause-work
 returns-clause-work g c =
     let holds = subst (λ p. HoldsMore (IsLawfulLog g.T.Given.given)
     (StandsAt g.T.Given.given) p c.args.core.now c.hold_one.new.self) c.place.ensures c.hold_one.ensures in
-    works g.T.Given.given c.args.shared.now c.args.nodes c.args.cell c.args.core.now c.hold_one.new.self c.requires.table c.requires.work c.requires.cell c.requires.above holds
+    works g.T.Given.given c.args.shared.now c.args.nodes c.args.cell c.args.core.now c.hold_one.new.self c.requires.table c.requires.work c.requires.cell
+    c.requires.above holds
 
 pub returns-clause-gains : goal.returns-clause-gains
 returns-clause-gains g c =
     let holds = subst (λ p. HoldsMore (IsLawfulLog g.T.Given.given)
     (StandsAt g.T.Given.given) p c.args.core.now c.hold_one.new.self) c.place.ensures c.hold_one.ensures in
-    gains g.T.Given.given c.args.shared.now c.args.nodes c.args.cell c.args.core.now c.hold_one.new.self c.requires.table c.requires.work c.requires.cell c.requires.above holds
+    gains g.T.Given.given c.args.shared.now c.args.nodes c.args.cell c.args.core.now c.hold_one.new.self c.requires.table c.requires.work c.requires.cell
+    c.requires.above holds

@@ -7,7 +7,8 @@ use Rattle.mem_calls.proofs.links.hold_link.Goals as goal
 pub returns-then-file-dir-clause-held : goal.returns-then-file-dir-clause-held
 returns-then-file-dir-clause-held g c = record {
   place = subst (λ n. HoldsDirectory c.args.nodes c.hold_directory.new.core.held c.args.dir n) c.bucket_of-number.ensures c.hold_directory.ensures.directory;
-  other = λ apart. still_holds_file c.args.nodes c.hold_file.new.core c.hold_directory.new.core c.args.file c.hold_directory.ensures.still c.hold_file.ensures.file;
+  other =
+      λ apart. still_holds_file c.args.nodes c.hold_file.new.core c.hold_directory.new.core c.args.file c.hold_directory.ensures.still c.hold_file.ensures.file;
 }
 
 pub returns-then-file-nodes-clause-held : goal.returns-then-file-nodes-clause-held
@@ -17,5 +18,6 @@ returns-then-file-nodes-clause-held g c = record {
       (still_directory c.args.nodes c.hold_directory-2.new.core c.hold_more.new.core c.args.dir (bucket c.args.name.now) c.hold_more.ensures.gains.still
       (subst (λ n. HoldsDirectory c.args.nodes c.hold_directory-2.new.core.held c.args.dir n) c.bucket_of-number.ensures c.hold_directory-2.ensures.directory));
   other = λ apart. first_and_file c.args.nodes c.hold_more.new.core c.hold_more-then-file-nodes.new.core c.args.file
-      (holds_bucket c.args.nodes c.hold_directory-2.new.core c.hold_more.new.core c.args.file 0 c.hold_more.ensures.gains) c.hold_more-then-file-nodes.ensures.gains;
+      (holds_bucket c.args.nodes c.hold_directory-2.new.core c.hold_more.new.core c.args.file 0 c.hold_more.ensures.gains)
+      c.hold_more-then-file-nodes.ensures.gains;
 }

@@ -16,7 +16,9 @@ returns-in-Some-file_fault_in-clause-due c = λ tree meets.
 pub returns-then-is_some-clause-due : goal.returns-then-is_some-clause-due
 returns-then-is_some-clause-due c = λ tree meets.
     let within = c.directory_fault_in-2.ensures.within c.in_default-directory_fault_in.is in
-    let shows = name_shows c.args.core.now c.args.nodes c.requires.counted tree meets c.args.dir c.args.name.now c.bucket_of-number.result c.bucket_in-bucket.result.now within c.bucket_of-number.ensures c.bucket_in-bucket.ensures in
+    let shows =
+    name_shows c.args.core.now c.args.nodes c.requires.counted tree meets c.args.dir c.args.name.now c.bucket_of-number.result c.bucket_in-bucket.result.now
+    within c.bucket_of-number.ensures c.bucket_in-bucket.ensures in
     let place = sym (c.directory_fault_in-2.ensures.fault tree meets) ∙ c.in_default-directory_fault_in.is in
     let fault = sym (c.file_fault_in.ensures.fault tree meets) ∙ c.in_default.is in
     link_exists tree c.args.core.now.view.core c.args.file c.args.dir c.args.name.now fault place c.bucket_in-bucket.result.now shows
@@ -25,34 +27,46 @@ returns-then-is_some-clause-due c = λ tree meets.
 pub returns-then-file_in-ge-MOST_LINKS-clause-due : goal.returns-then-file_in-ge-MOST_LINKS-clause-due
 returns-then-file_in-ge-MOST_LINKS-clause-due c = λ tree meets.
     let within = c.directory_fault_in-2.ensures.within c.in_default-directory_fault_in.is in
-    let shows = name_shows c.args.core.now c.args.nodes c.requires.counted tree meets c.args.dir c.args.name.now c.bucket_of-number.result c.bucket_in-bucket.result.now within c.bucket_of-number.ensures c.bucket_in-bucket.ensures in
+    let shows =
+    name_shows c.args.core.now c.args.nodes c.requires.counted tree meets c.args.dir c.args.name.now c.bucket_of-number.result c.bucket_in-bucket.result.now
+    within c.bucket_of-number.ensures c.bucket_in-bucket.ensures in
     let place = sym (c.directory_fault_in-2.ensures.fault tree meets) ∙ c.in_default-directory_fault_in.is in
     let fault = sym (c.file_fault_in.ensures.fault tree meets) ∙ c.in_default.is in
     let file = file_shows c.args.core.now c.args.nodes c.requires.counted tree meets c.args.file c.file_in.result.now
     (c.file_fault_in.ensures.within c.in_default.is) c.file_in.ensures in
-    link_most tree c.args.core.now.view.core c.args.file c.args.dir c.args.name.now fault place c.bucket_in-bucket.result.now shows c.file_in.result.now.links file.0 (same_some c.get.result _ c.get.ensures ∙ sym c.if-is_some.ensures) c.if-file_in-ge-MOST_LINKS.true
+    link_most tree c.args.core.now.view.core c.args.file c.args.dir c.args.name.now fault place c.bucket_in-bucket.result.now shows c.file_in.result.now.links
+    file.0
+    (same_some c.get.result _ c.get.ensures ∙ sym c.if-is_some.ensures) c.if-file_in-ge-MOST_LINKS.true
 
 pub returns-then-len-ge-BUCKET_ROWS-clause-due : goal.returns-then-len-ge-BUCKET_ROWS-clause-due
 returns-then-len-ge-BUCKET_ROWS-clause-due c = λ tree meets.
     let within = c.directory_fault_in-2.ensures.within c.in_default-directory_fault_in.is in
-    let shows = name_shows c.args.core.now c.args.nodes c.requires.counted tree meets c.args.dir c.args.name.now c.bucket_of-number.result c.bucket_in-bucket.result.now within c.bucket_of-number.ensures c.bucket_in-bucket.ensures in
+    let shows =
+    name_shows c.args.core.now c.args.nodes c.requires.counted tree meets c.args.dir c.args.name.now c.bucket_of-number.result c.bucket_in-bucket.result.now
+    within c.bucket_of-number.ensures c.bucket_in-bucket.ensures in
     let place = sym (c.directory_fault_in-2.ensures.fault tree meets) ∙ c.in_default-directory_fault_in.is in
     let fault = sym (c.file_fault_in.ensures.fault tree meets) ∙ c.in_default.is in
     let file = file_shows c.args.core.now c.args.nodes c.requires.counted tree meets c.args.file c.file_in.result.now
     (c.file_fault_in.ensures.within c.in_default.is) c.file_in.ensures in
     let full : 4096 ≤ len c.bucket_in-bucket.result.now.rows = (let l = c.len.ensures in let le = c.if-len-ge-BUCKET_ROWS.true in omega (arith, l, le)) in
-    link_full tree c.args.core.now.view.core c.args.file c.args.dir c.args.name.now fault place c.bucket_in-bucket.result.now shows c.file_in.result.now.links file.0 (same_some c.get.result _ c.get.ensures ∙ sym c.if-is_some.ensures) c.if-file_in-ge-MOST_LINKS.false full
+    link_full tree c.args.core.now.view.core c.args.file c.args.dir c.args.name.now fault place c.bucket_in-bucket.result.now shows c.file_in.result.now.links
+    file.0
+    (same_some c.get.result _ c.get.ensures ∙ sym c.if-is_some.ensures) c.if-file_in-ge-MOST_LINKS.false full
 
 pub returns-clause-due : goal.returns-clause-due
 returns-clause-due c = λ tree meets.
     let within = c.directory_fault_in-2.ensures.within c.in_default-directory_fault_in.is in
-    let shows = name_shows c.args.core.now c.args.nodes c.requires.counted tree meets c.args.dir c.args.name.now c.bucket_of-number.result c.bucket_in-bucket.result.now within c.bucket_of-number.ensures c.bucket_in-bucket.ensures in
+    let shows =
+    name_shows c.args.core.now c.args.nodes c.requires.counted tree meets c.args.dir c.args.name.now c.bucket_of-number.result c.bucket_in-bucket.result.now
+    within c.bucket_of-number.ensures c.bucket_in-bucket.ensures in
     let place = sym (c.directory_fault_in-2.ensures.fault tree meets) ∙ c.in_default-directory_fault_in.is in
     let fault = sym (c.file_fault_in.ensures.fault tree meets) ∙ c.in_default.is in
     let file = file_shows c.args.core.now c.args.nodes c.requires.counted tree meets c.args.file c.file_in.result.now
     (c.file_fault_in.ensures.within c.in_default.is) c.file_in.ensures in
     let free : len c.bucket_in-bucket.result.now.rows < 4096 = (let l = c.len.ensures in let lt = c.if-len-ge-BUCKET_ROWS.false in omega (arith, l, lt)) in
-    link_done tree c.args.core.now.view.core c.args.file c.args.dir c.args.name.now fault place c.bucket_in-bucket.result.now shows c.file_in.result.now.links file.0 (same_some c.get.result _ c.get.ensures ∙ sym c.if-is_some.ensures) c.if-file_in-ge-MOST_LINKS.false free
+    link_done tree c.args.core.now.view.core c.args.file c.args.dir c.args.name.now fault place c.bucket_in-bucket.result.now shows c.file_in.result.now.links
+    file.0
+    (same_some c.get.result _ c.get.ensures ∙ sym c.if-is_some.ensures) c.if-file_in-ge-MOST_LINKS.false free
 
 pub returns-clause-may : goal.returns-clause-may
 returns-clause-may c = λ none. record {

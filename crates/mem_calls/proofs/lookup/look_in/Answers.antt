@@ -13,7 +13,9 @@ bucket_in-bucket-requires c = subst (λ n. IsSome (bucket_held c.args.nodes c.ar
 pub returns-in-Some-get : goal.returns-in-Some-get
 returns-in-Some-get c = λ tree meets.
     let within = c.directory_fault_in.ensures.within c.in_default.is in
-    let shows = name_shows c.args.core.now c.args.nodes c.requires.counted tree meets c.args.dir c.args.name.now c.bucket_of-number.result c.bucket_in-bucket.result.now within c.bucket_of-number.ensures c.bucket_in-bucket.ensures in
+    let shows =
+    name_shows c.args.core.now c.args.nodes c.requires.counted tree meets c.args.dir c.args.name.now c.bucket_of-number.result c.bucket_in-bucket.result.now
+    within c.bucket_of-number.ensures c.bucket_in-bucket.ensures in
     let fault = sym (c.directory_fault_in.ensures.fault tree meets) ∙ c.in_default.is in
     look_found tree c.args.core.now.view.core c.args.dir c.args.name.now c.bucket_in-bucket.result.now shows fault c.in-Some-get.node
     (sym c.in-Some-get.ensures) ∙ ap (λ k. answered (reply.Node c.in-Some-get.node k)) (sym c.kind.ensures)
@@ -21,6 +23,8 @@ returns-in-Some-get c = λ tree meets.
 pub returns-in-None : goal.returns-in-None
 returns-in-None c = λ tree meets.
     let within = c.directory_fault_in.ensures.within c.in_default.is in
-    let shows = name_shows c.args.core.now c.args.nodes c.requires.counted tree meets c.args.dir c.args.name.now c.bucket_of-number.result c.bucket_in-bucket.result.now within c.bucket_of-number.ensures c.bucket_in-bucket.ensures in
+    let shows =
+    name_shows c.args.core.now c.args.nodes c.requires.counted tree meets c.args.dir c.args.name.now c.bucket_of-number.result c.bucket_in-bucket.result.now
+    within c.bucket_of-number.ensures c.bucket_in-bucket.ensures in
     let fault = sym (c.directory_fault_in.ensures.fault tree meets) ∙ c.in_default.is in
     look_missed tree c.args.core.now.view.core c.args.dir c.args.name.now c.bucket_in-bucket.result.now shows fault (sym c.in-None.ensures)

@@ -28,7 +28,8 @@ let_go-requires-clause-home g c =
     (c.put.ensures ∙ ap (λ (n : ℕ). record c.take_part.new.core
     { held = with_value (32 + 10 * c.args.nodes + 16 * n) (cell.Part c.with_room-part.result.0) c.take_part.new.core.held }) number) in
     known_home g.T.Given.given c.put.new.core.view c.put.new.core.held
-    (works_ready g.T.Given.given c.args.shared.now c.args.nodes c.args.core.now c.requires.table c.requires.work c.take_part.result.value c.with_room-part.result.0.value c.take_part.ensures.part c.with_room-part.ensures.same c.with_room-part.ensures.made
+    (works_ready g.T.Given.given c.args.shared.now c.args.nodes c.args.core.now c.requires.table c.requires.work c.take_part.result.value
+    c.with_room-part.result.0.value c.take_part.ensures.part c.with_room-part.ensures.same c.with_room-part.ensures.made
     (cell.Part c.with_room-part.result.0) refl c.put.new.core puts).knows
 
 pub returns-in-Err-outcome : goal.returns-in-Err-outcome
@@ -38,8 +39,11 @@ returns-in-Err-outcome g c =
     (id.Part (record { 0 = c.args.core.now.view.core })) c.take_part.ensures.held.0 (cell.Part c.with_room-part.result.0) c.take_part.ensures.held.1
     (c.put.ensures ∙ ap (λ (n : ℕ). record c.take_part.new.core
     { held = with_value (32 + 10 * c.args.nodes + 16 * n) (cell.Part c.with_room-part.result.0) c.take_part.new.core.held }) number) in
-    let works = works_ready g.T.Given.given c.args.shared.now c.args.nodes c.args.core.now c.requires.table c.requires.work c.take_part.result.value c.with_room-part.result.0.value c.take_part.ensures.part c.with_room-part.ensures.same c.with_room-part.ensures.made
+    let works =
+    works_ready g.T.Given.given c.args.shared.now c.args.nodes c.args.core.now c.requires.table c.requires.work c.take_part.result.value
+    c.with_room-part.result.0.value c.take_part.ensures.part c.with_room-part.ensures.same c.with_room-part.ensures.made
     (cell.Part c.with_room-part.result.0) refl c.put.new.core puts in
-    back_ready g.T.Given.given c.args.shared.now c.args.nodes c.args.core.now c.requires.table c.requires.work c.take_part.result.value c.with_room-part.result.0.value c.take_part.ensures.part c.with_room-part.ensures.same c.with_room-part.ensures.made
+    back_ready g.T.Given.given c.args.shared.now c.args.nodes c.args.core.now c.requires.table c.requires.work c.take_part.result.value
+    c.with_room-part.result.0.value c.take_part.ensures.part c.with_room-part.ensures.same c.with_room-part.ensures.made
     (cell.Part c.with_room-part.result.0) refl c.put.new.core puts c.let_go.new.self
     (refused g.T.Given.given c.args.shared.now c.put.new.core c.let_go.new.self works c.let_go.ensures.lets_go c.let_go.ensures.left c.let_go.ensures.places)

@@ -29,68 +29,110 @@ stamp-stamp-requires-clause-may g c =
     (sym c.in_ok-ready.ensures.out.1)
     (may_come g.T.Given.given c.args.shared.now c.args.nodes c.args.core.now c.requires.table c.requires.work (call.Unlink c.args.dir c.args.name)
     (done (Removes c.args.dir.0 c.args.name c.args.child.0)) refl c.requires.due
-    (keeps g.T.Given.given c.args.shared.now c.args.nodes c.args.core.now c.requires.table c.requires.work c.args.dir c.args.name c.args.child c.requires.names c.requires.part c.requires.held.1 c.requires.due))
+    (keeps g.T.Given.given c.args.shared.now c.args.nodes c.args.core.now c.requires.table c.requires.work c.args.dir c.args.name c.args.child c.requires.names
+    c.requires.part c.requires.held.1 c.requires.due))
 
 pub remove_row-requires-clause-held : goal.remove_row-requires-clause-held
 remove_row-requires-clause-held g c = subst (λ n. IsSome (bucket_held c.args.nodes c.stamp-stamp.new.self.held c.args.dir n)) (sym c.bucket_of-number.ensures)
-    (bucket_there g.T.Given.given c.args.shared.now c.args.nodes c.args.core.now c.requires.table c.requires.work c.args.dir c.args.name c.args.child c.requires.names c.requires.held.0 c.requires.part c.requires.held.1 c.requires.due c.in_ok-ready.ready c.make_ready.new.core c.in_ok-ready.ensures c.stamp-stamp.result.0 c.stamp-stamp.new.self c.stamp-stamp.ensures)
+    (bucket_there g.T.Given.given c.args.shared.now c.args.nodes c.args.core.now c.requires.table c.requires.work c.args.dir c.args.name c.args.child
+    c.requires.names c.requires.held.0 c.requires.part c.requires.held.1 c.requires.due c.in_ok-ready.ready c.make_ready.new.core c.in_ok-ready.ensures
+    c.stamp-stamp.result.0 c.stamp-stamp.new.self c.stamp-stamp.ensures)
 
 pub remove_row-requires-clause-row : goal.remove_row-requires-clause-row
 remove_row-requires-clause-row g c = λ b is. subst (λ n. IsSome (get b.rows n)) (sym c.in_ok-ready.ensures.name_is)
-    (row_there g.T.Given.given c.args.shared.now c.args.nodes c.args.core.now c.requires.table c.requires.work c.args.dir c.args.name c.args.child c.requires.names c.requires.held.0 c.requires.part c.requires.held.1 c.requires.due c.in_ok-ready.ready c.make_ready.new.core c.in_ok-ready.ensures c.stamp-stamp.result.0 c.stamp-stamp.new.self c.stamp-stamp.ensures b (ap (λ n. bucket_held c.args.nodes c.stamp-stamp.new.self.held c.args.dir n) (sym c.bucket_of-number.ensures) ∙ is))
+    (row_there g.T.Given.given c.args.shared.now c.args.nodes c.args.core.now c.requires.table c.requires.work c.args.dir c.args.name c.args.child
+    c.requires.names c.requires.held.0 c.requires.part c.requires.held.1 c.requires.due c.in_ok-ready.ready c.make_ready.new.core c.in_ok-ready.ensures
+    c.stamp-stamp.result.0 c.stamp-stamp.new.self c.stamp-stamp.ensures b
+    (ap (λ n. bucket_held c.args.nodes c.stamp-stamp.new.self.held c.args.dir n) (sym c.bucket_of-number.ensures) ∙ is))
 
 pub lower_links-requires-clause-held : goal.lower_links-requires-clause-held
 lower_links-requires-clause-held g c =
     let gone = subst (λ n. RemovesRow c.args.nodes c.args.dir n c.args.name c.stamp-stamp.new.self c.remove_row.new.core) c.bucket_of-number.ensures
-    (subst (λ n. RemovesRow c.args.nodes c.args.dir c.bucket_of-number.result n c.stamp-stamp.new.self c.remove_row.new.core) c.in_ok-ready.ensures.name_is c.remove_row.ensures) in
-    file_there g.T.Given.given c.args.shared.now c.args.nodes c.args.core.now c.requires.table c.requires.work c.args.dir c.args.name c.args.child c.requires.names c.requires.held.0 c.requires.part c.requires.held.1 c.requires.due c.in_ok-ready.ready c.make_ready.new.core c.in_ok-ready.ensures c.stamp-stamp.result.0 c.stamp-stamp.new.self c.stamp-stamp.ensures c.remove_row.new.core gone
+    (subst
+    (λ n. RemovesRow c.args.nodes c.args.dir c.bucket_of-number.result n c.stamp-stamp.new.self c.remove_row.new.core) c.in_ok-ready.ensures.name_is
+    c.remove_row.ensures) in
+    file_there g.T.Given.given c.args.shared.now c.args.nodes c.args.core.now c.requires.table c.requires.work c.args.dir c.args.name c.args.child
+    c.requires.names c.requires.held.0 c.requires.part c.requires.held.1 c.requires.due c.in_ok-ready.ready c.make_ready.new.core c.in_ok-ready.ensures
+    c.stamp-stamp.result.0 c.stamp-stamp.new.self c.stamp-stamp.ensures c.remove_row.new.core gone
 
 pub lower_links-requires-clause-links : goal.lower_links-requires-clause-links
 lower_links-requires-clause-links g c =
     let gone = subst (λ n. RemovesRow c.args.nodes c.args.dir n c.args.name c.stamp-stamp.new.self c.remove_row.new.core) c.bucket_of-number.ensures
-    (subst (λ n. RemovesRow c.args.nodes c.args.dir c.bucket_of-number.result n c.stamp-stamp.new.self c.remove_row.new.core) c.in_ok-ready.ensures.name_is c.remove_row.ensures) in
-    named_there g.T.Given.given c.args.shared.now c.args.nodes c.args.core.now c.requires.table c.requires.work c.args.dir c.args.name c.args.child c.requires.names c.requires.held.0 c.requires.part c.requires.held.1 c.requires.due c.in_ok-ready.ready c.make_ready.new.core c.in_ok-ready.ensures c.stamp-stamp.result.0 c.stamp-stamp.new.self c.stamp-stamp.ensures c.remove_row.new.core gone
+    (subst
+    (λ n. RemovesRow c.args.nodes c.args.dir c.bucket_of-number.result n c.stamp-stamp.new.self c.remove_row.new.core) c.in_ok-ready.ensures.name_is
+    c.remove_row.ensures) in
+    named_there g.T.Given.given c.args.shared.now c.args.nodes c.args.core.now c.requires.table c.requires.work c.args.dir c.args.name c.args.child
+    c.requires.names c.requires.held.0 c.requires.part c.requires.held.1 c.requires.due c.in_ok-ready.ready c.make_ready.new.core c.in_ok-ready.ensures
+    c.stamp-stamp.result.0 c.stamp-stamp.new.self c.stamp-stamp.ensures c.remove_row.new.core gone
 
 pub with_entry-part-requires : goal.with_entry-part-requires
 with_entry-part-requires g c =
     let gone = subst (λ n. RemovesRow c.args.nodes c.args.dir n c.args.name c.stamp-stamp.new.self c.remove_row.new.core) c.bucket_of-number.ensures
-    (subst (λ n. RemovesRow c.args.nodes c.args.dir c.bucket_of-number.result n c.stamp-stamp.new.self c.remove_row.new.core) c.in_ok-ready.ensures.name_is c.remove_row.ensures) in
+    (subst
+    (λ n. RemovesRow c.args.nodes c.args.dir c.bucket_of-number.result n c.stamp-stamp.new.self c.remove_row.new.core) c.in_ok-ready.ensures.name_is
+    c.remove_row.ensures) in
     let change = c.removed_row-change.ensures
     ∙ ap (λ n. log_entry c.stamp-stamp.result.0 c.args.dir.0 n c.args.child.0 File Remove None [] ∷ []) c.in_ok-ready.ensures.name_is in
     subst (λ l. HasRoomFor l c.in_ok-ready.ready.part.value) (sym change)
-    (has_room g.T.Given.given c.args.shared.now c.args.nodes c.args.core.now c.requires.table c.requires.work c.args.dir c.args.name c.args.child c.requires.names c.requires.held.0 c.requires.part c.requires.held.1 c.requires.due c.in_ok-ready.ready c.make_ready.new.core c.in_ok-ready.ensures c.stamp-stamp.result.0 c.stamp-stamp.new.self c.stamp-stamp.ensures c.remove_row.new.core gone c.lower_links.new.core c.lower_links.ensures c.events_are_few.ensures)
+    (has_room g.T.Given.given c.args.shared.now c.args.nodes c.args.core.now c.requires.table c.requires.work c.args.dir c.args.name c.args.child
+    c.requires.names c.requires.held.0 c.requires.part c.requires.held.1 c.requires.due c.in_ok-ready.ready c.make_ready.new.core c.in_ok-ready.ensures
+    c.stamp-stamp.result.0 c.stamp-stamp.new.self c.stamp-stamp.ensures c.remove_row.new.core gone c.lower_links.new.core c.lower_links.ensures
+    c.events_are_few.ensures)
 
 pub put-requires : goal.put-requires
 put-requires g c =
     let gone = subst (λ n. RemovesRow c.args.nodes c.args.dir n c.args.name c.stamp-stamp.new.self c.remove_row.new.core) c.bucket_of-number.ensures
-    (subst (λ n. RemovesRow c.args.nodes c.args.dir c.bucket_of-number.result n c.stamp-stamp.new.self c.remove_row.new.core) c.in_ok-ready.ensures.name_is c.remove_row.ensures) in
+    (subst
+    (λ n. RemovesRow c.args.nodes c.args.dir c.bucket_of-number.result n c.stamp-stamp.new.self c.remove_row.new.core) c.in_ok-ready.ensures.name_is
+    c.remove_row.ensures) in
     let number : c.number.result.0 ≡ c.args.core.now.view.core = c.number.ensures
-    ∙ core_three g.T.Given.given c.args.shared.now c.args.nodes c.args.core.now c.requires.table c.requires.work c.args.dir c.args.name c.args.child c.requires.names c.requires.held.0 c.requires.part c.requires.held.1 c.requires.due c.in_ok-ready.ready c.make_ready.new.core c.in_ok-ready.ensures c.stamp-stamp.result.0 c.stamp-stamp.new.self c.stamp-stamp.ensures c.remove_row.new.core gone c.lower_links.new.core c.lower_links.ensures in
+    ∙ core_three g.T.Given.given c.args.shared.now c.args.nodes c.args.core.now c.requires.table c.requires.work c.args.dir c.args.name c.args.child
+    c.requires.names c.requires.held.0 c.requires.part c.requires.held.1 c.requires.due c.in_ok-ready.ready c.make_ready.new.core c.in_ok-ready.ensures
+    c.stamp-stamp.result.0 c.stamp-stamp.new.self c.stamp-stamp.ensures c.remove_row.new.core gone c.lower_links.new.core c.lower_links.ensures in
     subst (λ (n : ℕ). IsSome (value_held c.args.nodes c.lower_links.new.core.held (id.Part (record { 0 = n })))) (sym number)
-    (part_there g.T.Given.given c.args.shared.now c.args.nodes c.args.core.now c.requires.table c.requires.work c.args.dir c.args.name c.args.child c.requires.names c.requires.held.0 c.requires.part c.requires.held.1 c.requires.due c.in_ok-ready.ready c.make_ready.new.core c.in_ok-ready.ensures c.stamp-stamp.result.0 c.stamp-stamp.new.self c.stamp-stamp.ensures c.remove_row.new.core gone c.lower_links.new.core c.lower_links.ensures)
+    (part_there g.T.Given.given c.args.shared.now c.args.nodes c.args.core.now c.requires.table c.requires.work c.args.dir c.args.name c.args.child
+    c.requires.names c.requires.held.0 c.requires.part c.requires.held.1 c.requires.due c.in_ok-ready.ready c.make_ready.new.core c.in_ok-ready.ensures
+    c.stamp-stamp.result.0 c.stamp-stamp.new.self c.stamp-stamp.ensures c.remove_row.new.core gone c.lower_links.new.core c.lower_links.ensures)
 
 pub let_go-requires-clause-home : goal.let_go-requires-clause-home
 let_go-requires-clause-home g c =
     let gone = subst (λ n. RemovesRow c.args.nodes c.args.dir n c.args.name c.stamp-stamp.new.self c.remove_row.new.core) c.bucket_of-number.ensures
-    (subst (λ n. RemovesRow c.args.nodes c.args.dir c.bucket_of-number.result n c.stamp-stamp.new.self c.remove_row.new.core) c.in_ok-ready.ensures.name_is c.remove_row.ensures) in
+    (subst
+    (λ n. RemovesRow c.args.nodes c.args.dir c.bucket_of-number.result n c.stamp-stamp.new.self c.remove_row.new.core) c.in_ok-ready.ensures.name_is
+    c.remove_row.ensures) in
     let change = c.removed_row-change.ensures
     ∙ ap (λ n. log_entry c.stamp-stamp.result.0 c.args.dir.0 n c.args.child.0 File Remove None [] ∷ []) c.in_ok-ready.ensures.name_is in
     let added = subst (λ l. IsAddedTo c.in_ok-ready.ready.part.value.log l c.with_entry-part.result.value.log) change c.with_entry-part.ensures.log in
     let number : c.number.result.0 ≡ c.args.core.now.view.core = c.number.ensures
-    ∙ core_three g.T.Given.given c.args.shared.now c.args.nodes c.args.core.now c.requires.table c.requires.work c.args.dir c.args.name c.args.child c.requires.names c.requires.held.0 c.requires.part c.requires.held.1 c.requires.due c.in_ok-ready.ready c.make_ready.new.core c.in_ok-ready.ensures c.stamp-stamp.result.0 c.stamp-stamp.new.self c.stamp-stamp.ensures c.remove_row.new.core gone c.lower_links.new.core c.lower_links.ensures in
+    ∙ core_three g.T.Given.given c.args.shared.now c.args.nodes c.args.core.now c.requires.table c.requires.work c.args.dir c.args.name c.args.child
+    c.requires.names c.requires.held.0 c.requires.part c.requires.held.1 c.requires.due c.in_ok-ready.ready c.make_ready.new.core c.in_ok-ready.ensures
+    c.stamp-stamp.result.0 c.stamp-stamp.new.self c.stamp-stamp.ensures c.remove_row.new.core gone c.lower_links.new.core c.lower_links.ensures in
     let puts = c.put.ensures ∙ ap (λ (n : ℕ). record c.lower_links.new.core
     { held = with_value (32 + 10 * c.args.nodes + 16 * n) (cell.Part c.with_entry-part.result) c.lower_links.new.core.held }) number in
-    goes_home g.T.Given.given c.args.shared.now c.args.nodes c.args.core.now c.requires.table c.requires.work c.args.dir c.args.name c.args.child c.requires.names c.requires.held.0 c.requires.part c.requires.held.1 c.requires.due c.in_ok-ready.ready c.make_ready.new.core c.in_ok-ready.ensures c.stamp-stamp.result.0 c.stamp-stamp.new.self c.stamp-stamp.ensures c.remove_row.new.core gone c.lower_links.new.core c.lower_links.ensures c.with_entry-part.result.value (cell.Part c.with_entry-part.result) refl added c.with_entry-part.ensures.made c.put.new.core puts
+    goes_home g.T.Given.given c.args.shared.now c.args.nodes c.args.core.now c.requires.table c.requires.work c.args.dir c.args.name c.args.child
+    c.requires.names c.requires.held.0 c.requires.part c.requires.held.1 c.requires.due c.in_ok-ready.ready c.make_ready.new.core c.in_ok-ready.ensures
+    c.stamp-stamp.result.0 c.stamp-stamp.new.self c.stamp-stamp.ensures c.remove_row.new.core gone c.lower_links.new.core c.lower_links.ensures
+    c.with_entry-part.result.value
+    (cell.Part c.with_entry-part.result) refl added c.with_entry-part.ensures.made c.put.new.core puts
 
 pub returns : goal.returns
 returns g c =
     let gone = subst (λ n. RemovesRow c.args.nodes c.args.dir n c.args.name c.stamp-stamp.new.self c.remove_row.new.core) c.bucket_of-number.ensures
-    (subst (λ n. RemovesRow c.args.nodes c.args.dir c.bucket_of-number.result n c.stamp-stamp.new.self c.remove_row.new.core) c.in_ok-ready.ensures.name_is c.remove_row.ensures) in
+    (subst
+    (λ n. RemovesRow c.args.nodes c.args.dir c.bucket_of-number.result n c.stamp-stamp.new.self c.remove_row.new.core) c.in_ok-ready.ensures.name_is
+    c.remove_row.ensures) in
     let change = c.removed_row-change.ensures
     ∙ ap (λ n. log_entry c.stamp-stamp.result.0 c.args.dir.0 n c.args.child.0 File Remove None [] ∷ []) c.in_ok-ready.ensures.name_is in
     let added = subst (λ l. IsAddedTo c.in_ok-ready.ready.part.value.log l c.with_entry-part.result.value.log) change c.with_entry-part.ensures.log in
     let number : c.number.result.0 ≡ c.args.core.now.view.core = c.number.ensures
-    ∙ core_three g.T.Given.given c.args.shared.now c.args.nodes c.args.core.now c.requires.table c.requires.work c.args.dir c.args.name c.args.child c.requires.names c.requires.held.0 c.requires.part c.requires.held.1 c.requires.due c.in_ok-ready.ready c.make_ready.new.core c.in_ok-ready.ensures c.stamp-stamp.result.0 c.stamp-stamp.new.self c.stamp-stamp.ensures c.remove_row.new.core gone c.lower_links.new.core c.lower_links.ensures in
+    ∙ core_three g.T.Given.given c.args.shared.now c.args.nodes c.args.core.now c.requires.table c.requires.work c.args.dir c.args.name c.args.child
+    c.requires.names c.requires.held.0 c.requires.part c.requires.held.1 c.requires.due c.in_ok-ready.ready c.make_ready.new.core c.in_ok-ready.ensures
+    c.stamp-stamp.result.0 c.stamp-stamp.new.self c.stamp-stamp.ensures c.remove_row.new.core gone c.lower_links.new.core c.lower_links.ensures in
     let puts = c.put.ensures ∙ ap (λ (n : ℕ). record c.lower_links.new.core
     { held = with_value (32 + 10 * c.args.nodes + 16 * n) (cell.Part c.with_entry-part.result) c.lower_links.new.core.held }) number in
-    answers g.T.Given.given c.args.shared.now c.args.nodes c.args.core.now c.requires.table c.requires.work c.args.dir c.args.name c.args.child c.requires.names c.requires.held.0 c.requires.part c.requires.held.1 c.requires.due c.in_ok-ready.ready c.make_ready.new.core c.in_ok-ready.ensures c.stamp-stamp.result.0 c.stamp-stamp.new.self c.stamp-stamp.ensures c.remove_row.new.core gone c.lower_links.new.core c.lower_links.ensures c.with_entry-part.result.value (cell.Part c.with_entry-part.result) refl added c.with_entry-part.ensures.made c.put.new.core puts c.let_go.new.self c.let_go.ensures.lets_go c.let_go.ensures.left c.let_go.ensures.places
+    answers g.T.Given.given c.args.shared.now c.args.nodes c.args.core.now c.requires.table c.requires.work c.args.dir c.args.name c.args.child c.requires.names
+    c.requires.held.0 c.requires.part c.requires.held.1 c.requires.due c.in_ok-ready.ready c.make_ready.new.core c.in_ok-ready.ensures
+    c.stamp-stamp.result.0 c.stamp-stamp.new.self c.stamp-stamp.ensures c.remove_row.new.core gone c.lower_links.new.core c.lower_links.ensures
+    c.with_entry-part.result.value
+    (cell.Part c.with_entry-part.result) refl added c.with_entry-part.ensures.made c.put.new.core puts c.let_go.new.self c.let_go.ensures.lets_go
+    c.let_go.ensures.left c.let_go.ensures.places

@@ -10,7 +10,8 @@ use Rattle.mem_calls.proofs.removals.try_hold_named.Goals as goal
 
 pub returns-in_default-clause-held : goal.returns-in_default-clause-held
 returns-in_default-clause-held g c = record {
-  directory = subst (λ n. HoldsDirectory c.args.nodes c.hold_directory.new.core.held c.args.dir n) c.bucket_of-number.ensures c.hold_directory.ensures.directory;
+  directory =
+      subst (λ n. HoldsDirectory c.args.nodes c.hold_directory.new.core.held c.args.dir n) c.bucket_of-number.ensures c.hold_directory.ensures.directory;
   file = λ child names. absurd (cc (c.in_default.ensures.all child names));
   below = c.hold_directory.ensures.below;
   few = let on = c.hold_directory.ensures.on.room in let room = c.hold_directory.ensures.room in let none = ap length c.requires.none.0 in
@@ -34,7 +35,8 @@ hold_more-requires-clause-above g c =
 pub returns-then-child-dir-clause-held : goal.returns-then-child-dir-clause-held
 returns-then-child-dir-clause-held g c =
     named_above c.args.nodes c.args.dir c.args.name.now c.hold_directory.new.core c.hold_more.new.core c.in-Some.child
-    (subst (λ n. HoldsDirectory c.args.nodes c.hold_directory.new.core.held c.args.dir n) c.bucket_of-number.ensures c.hold_directory.ensures.directory) c.in-Some.ensures.names c.in-Some.ensures.within
+    (subst (λ n. HoldsDirectory c.args.nodes c.hold_directory.new.core.held c.args.dir n) c.bucket_of-number.ensures c.hold_directory.ensures.directory)
+    c.in-Some.ensures.names c.in-Some.ensures.within
     (let on = c.hold_directory.ensures.on.room in let room = c.hold_directory.ensures.room in let none = ap length c.requires.none.0 in
     omega (arith, on, room, none)) c.hold_more.ensures.gains
 
@@ -45,7 +47,8 @@ returns-then-again-child-clause-held g c =
     (let on = c.hold_more-2.ensures.gains.on.room in let room = c.hold_more-2.ensures.gains.room in let none = ap length c.let_all_go.ensures.none in
     omega (arith, on, room, none))
     (subst (λ n. Gains c.args.nodes
-    (id.Bucket c.args.dir n) c.hold_more-2.new.core c.hold_more-3.new.core) c.bucket_of-number.ensures c.hold_more-3.ensures.gains) c.in-Some-file_named.ensures.names c.if-again-child.true
+    (id.Bucket c.args.dir n) c.hold_more-2.new.core c.hold_more-3.new.core) c.bucket_of-number.ensures c.hold_more-3.ensures.gains)
+    c.in-Some-file_named.ensures.names c.if-again-child.true
 
 pub file_named-requires-clause-met : goal.file_named-requires-clause-met
 file_named-requires-clause-met g c = λ within. (c.hold_directory.ensures.bucket within).met

@@ -11,7 +11,9 @@ unlink_in-requires-clause-held g c = still_directory c.args.nodes c.hold_named.n
 
 pub finish_unlink-requires-clause-held : goal.finish_unlink-requires-clause-held
 finish_unlink-requires-clause-held g c =
-    let names = names_back c.args.nodes c.args.dir c.args.name c.hold_named.new.core c.hold_part.new.core c.in-Ok.child c.hold_part.ensures.still c.hold_named.ensures.held.directory c.in-Ok.ensures.names in
+    let names =
+    names_back c.args.nodes c.args.dir c.args.name c.hold_named.new.core c.hold_part.new.core c.in-Ok.child c.hold_part.ensures.still
+    c.hold_named.ensures.held.directory c.in-Ok.ensures.names in
     let file = c.hold_named.ensures.held.file c.in-Ok.child names in
     let f = is_value (file_held c.args.nodes c.hold_named.new.core.held c.in-Ok.child) file.1 in (
       file.0,

@@ -9,7 +9,9 @@ use Rattle.mem_calls.proofs.Faults.{same_some}
 pub returns-in_default-get-clause-due : goal.returns-in_default-get-clause-due
 returns-in_default-get-clause-due c = λ tree meets.
     let within = c.directory_fault_in.ensures.within c.in_default.is in
-    let shows = name_shows c.args.core.now c.args.nodes c.requires.counted tree meets c.args.dir c.args.name.now c.bucket_of-number.result c.bucket_in-bucket.result.now within c.bucket_of-number.ensures c.bucket_in-bucket.ensures in
+    let shows =
+    name_shows c.args.core.now c.args.nodes c.requires.counted tree meets c.args.dir c.args.name.now c.bucket_of-number.result c.bucket_in-bucket.result.now
+    within c.bucket_of-number.ensures c.bucket_in-bucket.ensures in
     let fault = sym (c.directory_fault_in.ensures.fault tree meets) ∙ c.in_default.is in
     unlink_missed tree c.args.core.now.view.core c.args.dir c.args.name.now c.bucket_in-bucket.result.now shows fault
     (sym c.get.ensures ∙ ap Rattle.sfs_tree.specs.NameRow.number_of c.in_default-get.is)
@@ -17,7 +19,9 @@ returns-in_default-get-clause-due c = λ tree meets.
 pub returns-then-is_some-clause-due : goal.returns-then-is_some-clause-due
 returns-then-is_some-clause-due c = λ tree meets.
     let within = c.directory_fault_in.ensures.within c.in_default.is in
-    let shows = name_shows c.args.core.now c.args.nodes c.requires.counted tree meets c.args.dir c.args.name.now c.bucket_of-number.result c.bucket_in-bucket.result.now within c.bucket_of-number.ensures c.bucket_in-bucket.ensures in
+    let shows =
+    name_shows c.args.core.now c.args.nodes c.requires.counted tree meets c.args.dir c.args.name.now c.bucket_of-number.result c.bucket_in-bucket.result.now
+    within c.bucket_of-number.ensures c.bucket_in-bucket.ensures in
     let fault = sym (c.directory_fault_in.ensures.fault tree meets) ∙ c.in_default.is in
     unlink_directory tree c.args.core.now.view.core c.args.dir c.args.name.now c.bucket_in-bucket.result.now shows fault c.in-Some-get.child.0
     (sym c.in-Some-get.ensures) (same_some c.get-2.result _ c.get-2.ensures ∙ sym c.if-is_some.ensures)
@@ -38,7 +42,9 @@ returns-clause-names c =
 pub returns-clause-due : goal.returns-clause-due
 returns-clause-due c = λ tree meets.
     let within = c.directory_fault_in.ensures.within c.in_default.is in
-    let shows = name_shows c.args.core.now c.args.nodes c.requires.counted tree meets c.args.dir c.args.name.now c.bucket_of-number.result c.bucket_in-bucket.result.now within c.bucket_of-number.ensures c.bucket_in-bucket.ensures in
+    let shows =
+    name_shows c.args.core.now c.args.nodes c.requires.counted tree meets c.args.dir c.args.name.now c.bucket_of-number.result c.bucket_in-bucket.result.now
+    within c.bucket_of-number.ensures c.bucket_in-bucket.ensures in
     let fault = sym (c.directory_fault_in.ensures.fault tree meets) ∙ c.in_default.is in
     unlink_file tree c.args.core.now.view.core c.args.dir c.args.name.now c.bucket_in-bucket.result.now shows fault c.in-Some-get.child.0
     (sym c.in-Some-get.ensures) (same_some c.get-2.result _ c.get-2.ensures ∙ sym c.if-is_some.ensures)

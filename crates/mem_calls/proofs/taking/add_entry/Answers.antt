@@ -27,7 +27,10 @@ put-requires c =
     (id.Part (record { 0 = c.args.core.now.view.core }))) c.take_part.ensures.held.0 out))
 
 pub returns : goal.returns
-returns c = takes_entry c.args.nodes c.args.changes.items c.args.core.now c.take_part.new.core c.put.new.core c.take_part.result.value c.with_entry-part.result.value c.take_part.ensures.held.0 (Part c.with_entry-part.result)
+returns c =
+    takes_entry c.args.nodes c.args.changes.items c.args.core.now c.take_part.new.core c.put.new.core c.take_part.result.value c.with_entry-part.result.value
+    c.take_part.ensures.held.0
+    (Part c.with_entry-part.result)
     c.take_part.ensures.part c.take_part.ensures.held.1 refl
     (c.put.ensures ∙ ap (λ (n : ℕ). record c.take_part.new.core
     { held = with_value (32 + 10 * c.args.nodes + 16 * n) (Part c.with_entry-part.result) c.take_part.new.core.held }) c.number.ensures)

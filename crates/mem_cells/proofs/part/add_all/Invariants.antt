@@ -7,7 +7,9 @@ use Rattle.mem_cells.proofs.part.add_all.Given as goal
 abbrev pub invariant-loop-change : goal.invariant-loop-change
 invariant-loop-change l = record {
   places : length l.logs.items ≡ length l.initial.logs.items;
-  changes : (dir : ℕ) → (log_of l.logs.items dir).changes ++ filter (is_logged_in dir) l.change-iterator.rest.items ≡ (log_of l.initial.logs.items dir).changes ++ filter (is_logged_in dir) l.fn.entry.items;
+  changes : (dir : ℕ)
+      → (log_of l.logs.items dir).changes ++ filter (is_logged_in dir) l.change-iterator.rest.items
+      ≡ (log_of l.initial.logs.items dir).changes ++ filter (is_logged_in dir) l.fn.entry.items;
   marks : (dir : ℕ) → (log_of l.logs.items dir).mark ≡ (log_of l.initial.logs.items dir).mark;
   room : (dir : ℕ) → length (filter (is_logged_in dir) l.change-iterator.rest.items) ≤ (log_of l.logs.items dir).room;
   order : IsInOrder l.change-iterator.rest.items;

@@ -27,13 +27,16 @@ hold_more-requires-clause-cell g c =
 
 pub hold_more-requires-clause-above : goal.hold_more-requires-clause-above
 hold_more-requires-clause-above g c =
-    may_go_on g.T.Given.given c.args.shared.now c.args.nodes c.args.cells.now c.requires.cells c.args.core.now c.loop.last c.loop.core c.loop.invariant c.in-Some-next_above.cell c.in-Some-next_above.ensures
+    may_go_on g.T.Given.given c.args.shared.now c.args.nodes c.args.cells.now c.requires.cells c.args.core.now c.loop.last c.loop.core c.loop.invariant
+    c.in-Some-next_above.cell c.in-Some-next_above.ensures
 
 pub hold_more-requires-clause-room : goal.hold_more-requires-clause-room
 hold_more-requires-clause-room g c =
-    room_for g.T.Given.given c.args.shared.now c.args.nodes c.args.cells.now c.requires.cells c.args.core.now c.loop.last c.loop.core c.loop.invariant c.in-Some-next_above.cell c.in-Some-next_above.ensures c.requires.room
+    room_for g.T.Given.given c.args.shared.now c.args.nodes c.args.cells.now c.requires.cells c.args.core.now c.loop.last c.loop.core c.loop.invariant
+    c.in-Some-next_above.cell c.in-Some-next_above.ensures c.requires.room
 
 pub loop-preserved : goal.loop-preserved
 loop-preserved g c =
     subst (λ p. HoldsSoFar g.T.Given.given c.args.shared.now c.args.nodes c.args.cells.now p c.args.core.now c.hold_more.new.core) (sym c.place-last.ensures)
-    (goes_on g.T.Given.given c.args.shared.now c.args.nodes c.args.cells.now c.requires.cells c.args.core.now c.loop.last c.loop.core c.loop.invariant c.in-Some-next_above.cell c.hold_more.new.core c.in-Some-next_above.ensures c.hold_more.ensures.work c.hold_more.ensures.gains)
+    (goes_on g.T.Given.given c.args.shared.now c.args.nodes c.args.cells.now c.requires.cells c.args.core.now c.loop.last c.loop.core c.loop.invariant
+    c.in-Some-next_above.cell c.hold_more.new.core c.in-Some-next_above.ensures c.hold_more.ensures.work c.hold_more.ensures.gains)

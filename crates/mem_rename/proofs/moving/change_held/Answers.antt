@@ -10,22 +10,30 @@ pub all_stand-requires-clause-held : goal.all_stand-requires-clause-held
 all_stand-requires-clause-held c =
     let one = bucket_step c.args.nodes c.args.move_.now.directory (name_bucket c.args.move_.now.name)
     (without_row c.args.move_.now.name) c.args.core.now c.remove_row.new.core c.requires.within.old (bucket_small c.args.move_.now.name) c.remove_row.ensures in
-    (still_can c.args.nodes c.args.move_.now c.args.plan c.requires.within c.requires.plan _ _ c.args.core.now c.remove_row.new.core one c.requires.held).directory
+    (still_can c.args.nodes c.args.move_.now c.args.plan c.requires.within c.requires.plan _ _ c.args.core.now c.remove_row.new.core one
+    c.requires.held).directory
 
 pub all_stand-requires-2-clause-held : goal.all_stand-requires-2-clause-held
 all_stand-requires-2-clause-held c =
     let one = bucket_step c.args.nodes c.args.move_.now.directory (name_bucket c.args.move_.now.name)
     (without_row c.args.move_.now.name) c.args.core.now c.remove_row.new.core c.requires.within.old (bucket_small c.args.move_.now.name) c.remove_row.ensures in
-    let can = still_can c.args.nodes c.args.move_.now c.args.plan c.requires.within c.requires.plan _ _ c.args.core.now c.remove_row.new.core one c.requires.held in
-    (still_can c.args.nodes c.args.move_.now c.args.plan c.requires.within c.requires.plan _ _ c.remove_row.new.core c.all_stand.new.core c.all_stand.ensures can).comes
+    let can =
+    still_can c.args.nodes c.args.move_.now c.args.plan c.requires.within c.requires.plan _ _ c.args.core.now c.remove_row.new.core one c.requires.held in
+    (still_can c.args.nodes c.args.move_.now c.args.plan c.requires.within c.requires.plan _ _ c.remove_row.new.core c.all_stand.new.core c.all_stand.ensures
+    can).comes
 
 pub lower_links-requires : goal.lower_links-requires
 lower_links-requires c =
     let one = bucket_step c.args.nodes c.args.move_.now.directory (name_bucket c.args.move_.now.name)
     (without_row c.args.move_.now.name) c.args.core.now c.remove_row.new.core c.requires.within.old (bucket_small c.args.move_.now.name) c.remove_row.ensures in
-    let can = still_can c.args.nodes c.args.move_.now c.args.plan c.requires.within c.requires.plan _ _ c.args.core.now c.remove_row.new.core one c.requires.held in
-    let again = still_can c.args.nodes c.args.move_.now c.args.plan c.requires.within c.requires.plan _ _ c.remove_row.new.core c.all_stand.new.core c.all_stand.ensures can in
-    rw c.in-Some.is at (still_can c.args.nodes c.args.move_.now c.args.plan c.requires.within c.requires.plan _ _ c.all_stand.new.core c.all_stand-2.new.core c.all_stand-2.ensures again).file
+    let can =
+    still_can c.args.nodes c.args.move_.now c.args.plan c.requires.within c.requires.plan _ _ c.args.core.now c.remove_row.new.core one c.requires.held in
+    let again =
+    still_can c.args.nodes c.args.move_.now c.args.plan c.requires.within c.requires.plan _ _ c.remove_row.new.core c.all_stand.new.core c.all_stand.ensures
+    can in
+    rw c.in-Some.is at
+    (still_can c.args.nodes c.args.move_.now c.args.plan c.requires.within c.requires.plan _ _ c.all_stand.new.core c.all_stand-2.new.core
+    c.all_stand-2.ensures again).file
 
 pub returns-in-Some : goal.returns-in-Some
 returns-in-Some c =

@@ -41,7 +41,9 @@ set_lock-requires g c = λ comes.
     (StandsAt g.T.Given.given) z reply.Ok c.change_held.new.core c.stamp-stamp.result.0 c.stamp-stamp.new.self) c.into_call.ensures c.stamp-stamp.ensures in
     lock_there g.T.Given.given c.args.shared.now c.args.nodes c.requires.table c.args.move_ c.requires.within c.args.plan c.requires.plan
     (map node_number c.args.above.items) c.args.core.now c.requires.ready c.args.child c.requires.moves c.shift_in-shift.result
-    c.in_ok-noted.noted c.prepare.new.core c.in_ok-noted.ensures c.change_held.new.core c.change_held.ensures c.stamp-stamp.result.0 c.stamp-stamp.new.self stamps (sym c.is_some-comes.ensures ∙ comes)
+    c.in_ok-noted.noted c.prepare.new.core c.in_ok-noted.ensures c.change_held.new.core c.change_held.ensures c.stamp-stamp.result.0 c.stamp-stamp.new.self
+    stamps
+    (sym c.is_some-comes.ensures ∙ comes)
 
 pub add_entry-requires-clause-part : goal.add_entry-requires-clause-part
 add_entry-requires-clause-part g c =
@@ -50,7 +52,8 @@ add_entry-requires-clause-part g c =
     some_of (part_held c.args.nodes c.set_lock.new.core.held c.set_lock.new.core.view.core) _
     (part_locked g.T.Given.given c.args.shared.now c.args.nodes c.requires.table c.args.move_ c.requires.within c.args.plan c.requires.plan
     (map node_number c.args.above.items) c.args.core.now c.requires.ready c.args.child c.requires.moves c.shift_in-shift.result
-    c.in_ok-noted.noted c.prepare.new.core c.in_ok-noted.ensures c.change_held.new.core c.change_held.ensures c.stamp-stamp.result.0 c.stamp-stamp.new.self stamps c.is_some-comes.result c.set_lock.new.core c.set_lock.ensures)
+    c.in_ok-noted.noted c.prepare.new.core c.in_ok-noted.ensures c.change_held.new.core c.change_held.ensures c.stamp-stamp.result.0 c.stamp-stamp.new.self
+    stamps c.is_some-comes.result c.set_lock.new.core c.set_lock.ensures)
 
 pub add_entry-requires-clause-may : goal.add_entry-requires-clause-may
 add_entry-requires-clause-may g c =
@@ -60,7 +63,8 @@ add_entry-requires-clause-may g c =
     subst (λ l. MayTake c.args.nodes l c.set_lock.new.core) (sym c.shifted.ensures)
     (takes_shift g.T.Given.given c.args.shared.now c.args.nodes c.requires.table c.args.move_ c.requires.within c.args.plan c.requires.plan
     (map node_number c.args.above.items) c.args.core.now c.requires.ready c.args.child c.requires.moves c.shift_in-shift.result
-    c.in_ok-noted.noted c.prepare.new.core c.in_ok-noted.ensures c.change_held.new.core c.change_held.ensures c.stamp-stamp.result.0 c.stamp-stamp.new.self stamps c.is_some-comes.result c.set_lock.new.core c.set_lock.ensures
+    c.in_ok-noted.noted c.prepare.new.core c.in_ok-noted.ensures c.change_held.new.core c.change_held.ensures c.stamp-stamp.result.0 c.stamp-stamp.new.self
+    stamps c.is_some-comes.result c.set_lock.new.core c.set_lock.ensures
     c.in_ok-noted.noted.old c.in_ok-noted.noted.new c.way_of-way.result (ap (λ (s : Shift). s.from) shift)
     (ap (λ (s : Shift). s.to) shift) c.events_are_few.ensures)
 
@@ -76,7 +80,9 @@ let_go-requires-clause-home g c =
     let takes = subst (λ l. TakesEntry c.args.nodes l c.set_lock.new.core c.add_entry.new.core) logged c.add_entry.ensures in
     goes_home g.T.Given.given c.args.shared.now c.args.nodes c.requires.table c.args.move_ c.requires.within c.args.plan c.requires.plan
     (map node_number c.args.above.items) c.args.core.now c.requires.ready c.args.child c.requires.moves c.shift_in-shift.result
-    c.in_ok-noted.noted c.prepare.new.core c.in_ok-noted.ensures c.change_held.new.core c.change_held.ensures c.stamp-stamp.result.0 c.stamp-stamp.new.self stamps c.set_lock.new.core lock (c.shift_in-shift.ensures (map node_number c.args.above.items))
+    c.in_ok-noted.noted c.prepare.new.core c.in_ok-noted.ensures c.change_held.new.core c.change_held.ensures c.stamp-stamp.result.0 c.stamp-stamp.new.self
+    stamps c.set_lock.new.core lock
+    (c.shift_in-shift.ensures (map node_number c.args.above.items))
     c.add_entry.new.core takes
 
 pub returns : goal.returns
@@ -91,5 +97,7 @@ returns g c =
     let takes = subst (λ l. TakesEntry c.args.nodes l c.set_lock.new.core c.add_entry.new.core) logged c.add_entry.ensures in
     answers g.T.Given.given c.args.shared.now c.args.nodes c.requires.table c.args.move_ c.requires.within c.args.plan c.requires.plan
     (map node_number c.args.above.items) c.args.core.now c.requires.ready c.args.child c.requires.moves c.shift_in-shift.result
-    c.in_ok-noted.noted c.prepare.new.core c.in_ok-noted.ensures c.change_held.new.core c.change_held.ensures c.stamp-stamp.result.0 c.stamp-stamp.new.self stamps c.set_lock.new.core lock (c.shift_in-shift.ensures (map node_number c.args.above.items))
+    c.in_ok-noted.noted c.prepare.new.core c.in_ok-noted.ensures c.change_held.new.core c.change_held.ensures c.stamp-stamp.result.0 c.stamp-stamp.new.self
+    stamps c.set_lock.new.core lock
+    (c.shift_in-shift.ensures (map node_number c.args.above.items))
     c.add_entry.new.core takes c.let_go.new.self c.let_go.ensures.lets_go c.let_go.ensures.left c.let_go.ensures.places

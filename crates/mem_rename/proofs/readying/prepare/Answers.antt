@@ -6,11 +6,13 @@ use Rattle.mem_rename.proofs.readying.prepare.Goals as goal
 
 pub give_up-requires-in-Err-reserve_log : goal.give_up-requires-in-Err-reserve_log
 give_up-requires-in-Err-reserve_log g c =
-    works_kept g.T.Given.given c.args.shared.now c.args.nodes c.args.core.now c.requires.table c.requires.work c.reserve_log.new.core c.in-Err-reserve_log.ensures
+    works_kept g.T.Given.given c.args.shared.now c.args.nodes c.args.core.now c.requires.table c.requires.work c.reserve_log.new.core
+    c.in-Err-reserve_log.ensures
 
 pub returns-in-Err-reserve_log : goal.returns-in-Err-reserve_log
 returns-in-Err-reserve_log g c =
-    refused_kept g.T.Given.given c.args.shared.now c.args.nodes c.args.core.now c.requires.table c.requires.work c.reserve_log.new.core c.in-Err-reserve_log.ensures c.give_up-in-Err-reserve_log.new.core c.give_up-in-Err-reserve_log.ensures
+    refused_kept g.T.Given.given c.args.shared.now c.args.nodes c.args.core.now c.requires.table c.requires.work c.reserve_log.new.core
+    c.in-Err-reserve_log.ensures c.give_up-in-Err-reserve_log.new.core c.give_up-in-Err-reserve_log.ensures
 
 pub add_row-requires : goal.add_row-requires
 add_row-requires g c = subst IsSome
@@ -19,15 +21,20 @@ add_row-requires g c = subst IsSome
 
 pub give_up-requires-in-Err-add_row : goal.give_up-requires-in-Err-add_row
 give_up-requires-in-Err-add_row g c =
-    let works = works_kept g.T.Given.given c.args.shared.now c.args.nodes c.args.core.now c.requires.table c.requires.work c.reserve_log.new.core c.in_default.ensures.keeps in
+    let works =
+    works_kept g.T.Given.given c.args.shared.now c.args.nodes c.args.core.now c.requires.table c.requires.work c.reserve_log.new.core
+    c.in_default.ensures.keeps in
     works_same g.T.Given.given c.args.shared.now c.args.nodes c.reserve_log.new.core c.requires.table works c.args.move_.now.to_directory
     (name_bucket c.args.move_.now.to_name) c.requires.within.new (bucket_small c.args.move_.now.to_name) c.add_row.new.core
     c.in-Err-add_row.ensures
 
 pub returns-in-Err-add_row : goal.returns-in-Err-add_row
 returns-in-Err-add_row g c =
-    let works = works_kept g.T.Given.given c.args.shared.now c.args.nodes c.args.core.now c.requires.table c.requires.work c.reserve_log.new.core c.in_default.ensures.keeps in
-    refused_kept g.T.Given.given c.args.shared.now c.args.nodes c.args.core.now c.requires.table c.requires.work c.reserve_log.new.core c.in_default.ensures.keeps c.give_up-in-Err-add_row.new.core
+    let works =
+    works_kept g.T.Given.given c.args.shared.now c.args.nodes c.args.core.now c.requires.table c.requires.work c.reserve_log.new.core
+    c.in_default.ensures.keeps in
+    refused_kept g.T.Given.given c.args.shared.now c.args.nodes c.args.core.now c.requires.table c.requires.work c.reserve_log.new.core
+    c.in_default.ensures.keeps c.give_up-in-Err-add_row.new.core
     (refused_same g.T.Given.given c.args.shared.now c.args.nodes c.reserve_log.new.core c.requires.table works c.args.move_.now.to_directory
     (name_bucket c.args.move_.now.to_name) c.requires.within.new (bucket_small c.args.move_.now.to_name) c.add_row.new.core
     c.in-Err-add_row.ensures c.give_up-in-Err-add_row.new.core c.give_up-in-Err-add_row.ensures)

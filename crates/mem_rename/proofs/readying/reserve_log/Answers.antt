@@ -37,4 +37,5 @@ returns c =
       same = c.with_room-part.ensures.same;
       made = c.with_room-part.ensures.made;
     } in
-    room_or_same c.args.nodes c.args.move_.now c.args.core.now c.put.new.core c.with_room-part.result.1 keeps c.with_room-part.ensures.old c.with_room-part.ensures.new
+    room_or_same c.args.nodes c.args.move_.now c.args.core.now c.put.new.core c.with_room-part.result.1 keeps c.with_room-part.ensures.old
+    c.with_room-part.ensures.new

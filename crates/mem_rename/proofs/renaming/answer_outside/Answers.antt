@@ -9,7 +9,8 @@ use Rattle.mem_rename.proofs.renaming.answer_outside.Goals as goal
 
 pub directory_fault_in-requires-clause-held : goal.directory_fault_in-requires-clause-held
 directory_fault_in-requires-clause-held g c =
-    still_directory c.args.nodes c.hold_directory.new.core c.hold_part.new.core c.args.move_.directory c.bucket_of-number.result c.hold_part.ensures.still c.hold_directory.ensures.directory
+    still_directory c.args.nodes c.hold_directory.new.core c.hold_part.new.core c.args.move_.directory c.bucket_of-number.result c.hold_part.ensures.still
+    c.hold_directory.ensures.directory
 
 pub finish-requires-clause-due : goal.finish-requires-clause-due
 finish-requires-clause-due g c = λ tree meets.
@@ -17,4 +18,6 @@ finish-requires-clause-due g c = λ tree meets.
     let counted = stamped.counted g.T.Given.given c.args.shared.now c.args.nodes c.hold_part.new.core c.requires.table c.hold_part.ensures.work in
     let count : node_count tree ≡ c.args.nodes = omega (arith, same, counted) in
     ap (verdict tree c.hold_part.new.core.view.core) c.into_call.ensures
-    ∙ outside_due tree c.hold_part.new.core.view.core c.args.nodes c.args.move_ c.directory_fault_in.result c.fault_or-code.result meets.sound count c.requires.outside (c.directory_fault_in.ensures.fault tree meets) c.directory_fault_in.ensures.within c.fault_or-code.ensures
+    ∙ outside_due tree c.hold_part.new.core.view.core c.args.nodes c.args.move_ c.directory_fault_in.result c.fault_or-code.result meets.sound count
+    c.requires.outside
+    (c.directory_fault_in.ensures.fault tree meets) c.directory_fault_in.ensures.within c.fault_or-code.ensures

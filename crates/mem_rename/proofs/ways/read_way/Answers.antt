@@ -9,7 +9,8 @@ pub loop-init : goal.loop-init
 loop-init g c =
     subst (λ l. HasWalked g.T.Given.given c.args.shared.now c.args.nodes c.args.node.0 c.args.core.now c.args.core.now l c.args.node)
     (sym c.new-above.ensures.items)
-    (walk_begins g.T.Given.given c.args.shared.now c.args.nodes c.requires.table c.args.node.0 c.args.core.now c.args.node refl c.requires.work c.requires.lock c.requires.legal c.requires.node)
+    (walk_begins g.T.Given.given c.args.shared.now c.args.nodes c.requires.table c.args.node.0 c.args.core.now c.args.node refl c.requires.work c.requires.lock
+    c.requires.legal c.requires.node)
 
 pub returns-then-at-eq0-clause-on : goal.returns-then-at-eq0-clause-on
 returns-then-at-eq0-clause-on g c = c.loop.invariant.on
@@ -19,7 +20,8 @@ returns-then-at-eq0-clause-work g c = c.loop.invariant.work
 
 pub returns-then-at-eq0-clause-way : goal.returns-then-at-eq0-clause-way
 returns-then-at-eq0-clause-way g c =
-    walk_ends g.T.Given.given c.args.shared.now c.args.nodes c.requires.table c.args.node.0 c.args.core.now c.loop.core c.loop.above.items c.loop.at c.loop.invariant c.if-at-eq0.true
+    walk_ends g.T.Given.given c.args.shared.now c.args.nodes c.requires.table c.args.node.0 c.args.core.now c.loop.core c.loop.above.items c.loop.at
+    c.loop.invariant c.if-at-eq0.true
 
 pub standing_of-requires-clause-work : goal.standing_of-requires-clause-work
 standing_of-requires-clause-work g c = c.loop.invariant.work
@@ -44,5 +46,6 @@ pub loop-preserved : goal.loop-preserved
 loop-preserved g c =
     subst (λ l. HasWalked g.T.Given.given c.args.shared.now c.args.nodes c.args.node.0 c.args.core.now c.standing_of.new.core l c.in-Some-standing_of.holder)
     (sym c.in_ok-push.ensures.items)
-    (walk_goes_on g.T.Given.given c.args.shared.now c.args.nodes c.requires.table c.args.node.0 c.args.core.now c.loop.core c.loop.above.items c.loop.at c.loop.invariant c.standing_of.new.core c.in-Some-standing_of.holder
+    (walk_goes_on g.T.Given.given c.args.shared.now c.args.nodes c.requires.table c.args.node.0 c.args.core.now c.loop.core c.loop.above.items c.loop.at
+    c.loop.invariant c.standing_of.new.core c.in-Some-standing_of.holder
     c.in-Some-standing_of.ensures.work c.in-Some-standing_of.ensures.saw)

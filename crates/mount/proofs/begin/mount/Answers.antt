@@ -23,13 +23,15 @@ use Rattle.mount.proofs.begin.mount.Goals as goal
 pub entries_of-requires : goal.entries_of-requires
 entries_of-requires g c =
     let sound = c.in_ok-layout.ensures.sound in
-    subst (λ (kept : List NumberedKept). AscendBy entry_node (map entry_mounted kept)) (sym sound.kept) (entries_ascend c.in_ok-layout.field-0.layout.inodes (without_unlinked sound.parts))
+    subst (λ (kept : List NumberedKept). AscendBy entry_node (map entry_mounted kept)) (sym sound.kept)
+    (entries_ascend c.in_ok-layout.field-0.layout.inodes (without_unlinked sound.parts))
 
 pub returns-clause-ok : goal.returns-clause-ok
 returns-clause-ok g c image told =
     let report = c.in_ok-layout.field-0 in
     let own = c.in_ok-layout.ensures.ok image told in
-    let shared : c.allow.new.self ≡ record report.tree { share = share_of_nodes c.args.nodes report.layout } = c.allow.ensures.share ∙ ap (λ share. record report.tree { share = share }) c.share_of.ensures in
+    let shared : c.allow.new.self ≡ record report.tree { share = share_of_nodes c.args.nodes report.layout } =
+    c.allow.ensures.share ∙ ap (λ share. record report.tree { share = share }) c.share_of.ensures in
     record {
       layout_is = own.layout_is;
       whole = own.whole;
@@ -42,7 +44,8 @@ returns-clause-sound g c =
     let report = c.in_ok-layout.field-0 in
     let own = c.in_ok-layout.ensures.sound in
     let share = share_of_nodes c.args.nodes report.layout in
-    let shared : c.allow.new.self ≡ record report.tree { share = share } = c.allow.ensures.share ∙ ap (λ share. record report.tree { share = share }) c.share_of.ensures in
+    let shared : c.allow.new.self ≡ record report.tree { share = share } =
+    c.allow.ensures.share ∙ ap (λ share. record report.tree { share = share }) c.share_of.ensures in
     record {
       fits = own.fits;
       sound = record { sound = subst IsSound (sym shared) (sound_shared report.tree share own.sound.sound); numbered = c.allow.ensures.numbered };
@@ -65,6 +68,7 @@ pub allow-requires-clause-shares : goal.allow-requires-clause-shares
 allow-requires-clause-shares g c =
     let report = c.in_ok-layout.field-0 in
     let own = c.in_ok-layout.ensures.sound in
-    let cores : length report.tree.made ≡ report.layout.cores = ap (λ (tree : TreeState). length tree.made) own.shown ∙ length-replicate {A = ℕ} report.layout.cores 0 in
+    let cores : length report.tree.made ≡ report.layout.cores =
+    ap (λ (tree : TreeState). length tree.made) own.shown ∙ length-replicate {A = ℕ} report.layout.cores 0 in
     subst (λ share. share * length report.tree.made ≤ 65536) (sym c.share_of.ensures) (subst (λ n. c.args.nodes / report.layout.cores * n ≤ 65536) (sym cores)
     (let within = div-mul-le_self c.args.nodes report.layout.cores in let most = c.requires in omega (arith, within, most)))

@@ -14,5 +14,6 @@ abbrev pub invariant-loop-place : goal.invariant-loop-place
 invariant-loop-place g l = let view = g.D.Disk.view in record {
   so_far : Undisturbed (view l.fn.disk) (view l.disk);
   calm : IsCalm (view l.fn.disk) → IsCalm (view l.disk);
-  closed : (parts : ℕ → Part) → EachLeft (view l.fn.disk) (IsToBeClosed l.layout parts l.found None) → ClosesSoFar l.layout parts l.found l.last (view l.fn.disk) (view l.disk);
+  closed : (parts : ℕ → Part) → EachLeft (view l.fn.disk) (IsToBeClosed l.layout parts l.found None)
+      → ClosesSoFar l.layout parts l.found l.last (view l.fn.disk) (view l.disk);
 }

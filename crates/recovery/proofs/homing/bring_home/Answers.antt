@@ -14,7 +14,9 @@ returns-in_err-place_newest-clause-home g c opened parts are to =
     let view = g.D.Disk.view in
     let before = c.loop-inode.invariant.keeps opened parts are to in
     record {
-      keeps = keeps_trans (IsImageOf c.args.layout.now opened parts) (view c.args.disk.now) (view c.loop-inode.disk) (view c.place_newest.new.disk) c.place_newest.ensures.ran.advances before
+      keeps =
+          keeps_trans (IsImageOf c.args.layout.now opened parts) (view c.args.disk.now) (view c.loop-inode.disk)
+          (view c.place_newest.new.disk) c.place_newest.ensures.ran.advances before
           (c.place_newest.ensures.keeps opened parts are before.now);
       full = no_answer _ c.from_residual.result c.from_residual.ensures.0;
     }
@@ -24,10 +26,13 @@ loop-inode-preserved g c =
     let view = g.D.Disk.view in
     record {
       end = c.loop-inode.invariant.end;
-      so_far = undisturbed-ran (view c.args.disk.now) (view c.loop-inode.disk) (view c.place_newest.new.disk) _ c.loop-inode.invariant.so_far c.in_ok-place_newest.ensures.ran;
+      so_far =
+          undisturbed-ran (view c.args.disk.now) (view c.loop-inode.disk)
+          (view c.place_newest.new.disk) _ c.loop-inode.invariant.so_far c.in_ok-place_newest.ensures.ran;
       keeps = λ opened parts are to.
           let before = c.loop-inode.invariant.keeps opened parts are to in
-          keeps_trans (IsImageOf c.args.layout.now opened parts) (view c.args.disk.now) (view c.loop-inode.disk) (view c.place_newest.new.disk) c.place_newest.ensures.ran.advances before
+          keeps_trans (IsImageOf c.args.layout.now opened parts) (view c.args.disk.now) (view c.loop-inode.disk)
+          (view c.place_newest.new.disk) c.place_newest.ensures.ran.advances before
           (c.place_newest.ensures.keeps opened parts are before.now);
       home = c.in_ok-place_newest.ensures.home c.loop-inode.invariant.home;
     }

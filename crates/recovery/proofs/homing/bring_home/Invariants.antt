@@ -11,7 +11,8 @@ abbrev pub invariant-loop-inode : goal.invariant-loop-inode
 invariant-loop-inode g l = let view = g.D.Disk.view in record {
   end : l.inode-end ≡ l.layout.inodes;
   so_far : Undisturbed (view l.fn.disk) (view l.disk);
-  keeps : (opened : ℕ → Option Transaction) (parts : ℕ → Part) → AreNewestOf l.layout opened parts l.stamps l.records → EachLeft (view l.fn.disk) (IsImageOf l.layout opened parts)
+  keeps : (opened : ℕ → Option Transaction) (parts : ℕ → Part) → AreNewestOf l.layout opened parts l.stamps l.records
+      → EachLeft (view l.fn.disk) (IsImageOf l.layout opened parts)
       → Keeps (IsImageOf l.layout opened parts) (view l.fn.disk) (view l.disk);
   home : AreHome l.layout l.stamps l.records l.inode (view l.disk);
 }

@@ -12,7 +12,8 @@ returns-clause-keeps g c opened parts are to =
     let lawful : IsLawful old = record { whole = laws.whole c.args.disk.now; read_is_left = laws.read_is_left c.args.disk.now } in
     let low = c.requires.inode in
     record_kept c.args.layout.now c.args.stamps.now c.args.records.now c.args.inode (slice_index_or c.args.records.now c.args.inode []) old new low refl
-    c.write_record.ensures.long (table_within c.args.layout.now old.size c.args.inode c.requires.layout low) lawful opened parts c.write_record.result c.write_record.ensures.write
+    c.write_record.ensures.long
+    (table_within c.args.layout.now old.size c.args.inode c.requires.layout low) lawful opened parts c.write_record.result c.write_record.ensures.write
     (are.given_one c.args.inode low (some_stamp c.args.stamps.now c.args.inode c.if-is_none.ensures)) to
 
 pub returns-clause-home : goal.returns-clause-home
@@ -23,4 +24,5 @@ returns-clause-home g c =
     let lawful : IsLawful old = record { whole = laws.whole c.args.disk.now; read_is_left = laws.read_is_left c.args.disk.now } in
     let low = c.requires.inode in
     home_where_written c.args.layout.now c.args.stamps.now c.args.records.now c.args.inode (slice_index_or c.args.records.now c.args.inode []) old new low refl
-    c.write_record.ensures.long (table_within c.args.layout.now old.size c.args.inode c.requires.layout low) lawful c.write_record.result c.write_record.ensures.write
+    c.write_record.ensures.long
+    (table_within c.args.layout.now old.size c.args.inode c.requires.layout low) lawful c.write_record.result c.write_record.ensures.write

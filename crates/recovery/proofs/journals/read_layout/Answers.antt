@@ -33,11 +33,15 @@ returns-in-Ok-clause-reads g c =
     let laws = g.met.D.Disk g.world.𝓛 g.world.𝓜 g.world.𝓡 ((λ s x. x), (λ x. x), (λ x. x), λ x. x) in
     let old = g.D.Disk.view c.args.disk.now in
     let new = g.D.Disk.view c.read_at.new.self in
-    read_well old new c.in-Ok.layout (read_call old old new _ (laws.now_fits c.args.disk.now) (none_read old) c.in_ok-read_at.ensures.content c.in_ok-read_at.ensures.images c.in_ok-read_at.ensures.call)
+    read_well old new c.in-Ok.layout
+    (read_call old old new _ (laws.now_fits c.args.disk.now)
+    (none_read old) c.in_ok-read_at.ensures.content c.in_ok-read_at.ensures.images c.in_ok-read_at.ensures.call)
 
 pub returns-in-Err-clause-reads : goal.returns-in-Err-clause-reads
 returns-in-Err-clause-reads g c =
     let laws = g.met.D.Disk g.world.𝓛 g.world.𝓜 g.world.𝓡 ((λ s x. x), (λ x. x), (λ x. x), λ x. x) in
     let old = g.D.Disk.view c.args.disk.now in
     let new = g.D.Disk.view c.read_at.new.self in
-    read_refused old new (BadSuper c.in-Err.bad.at) refl (read_call old old new _ (laws.now_fits c.args.disk.now) (none_read old) c.in_ok-read_at.ensures.content c.in_ok-read_at.ensures.images c.in_ok-read_at.ensures.call)
+    read_refused old new (BadSuper c.in-Err.bad.at) refl
+    (read_call old old new _ (laws.now_fits c.args.disk.now)
+    (none_read old) c.in_ok-read_at.ensures.content c.in_ok-read_at.ensures.images c.in_ok-read_at.ensures.call)

@@ -8,7 +8,8 @@ use Rattle.recovery.proofs.journals.read_slot.Goals as goal
 
 pub returns-in-Some-numbers_fault-clause-err : goal.returns-in-Some-numbers_fault-clause-err
 returns-in-Some-numbers_fault-clause-err g c = λ image told.
-    slot_refused c.args.layout.now image c.args.stamps.now c.args.number c.layout.inside.inodes c.slot_byte.result c.in_ok-head.head c.deref.result.now c.in-Some-numbers_fault.at
+    slot_refused c.args.layout.now image c.args.stamps.now c.args.number c.layout.inside.inodes c.slot_byte.result c.in_ok-head.head c.deref.result.now
+    c.in-Some-numbers_fault.at
     c.bad_journal-in-Some-numbers_fault.result
     (record {
       head_is = c.in_ok-head.ensures.ok image told;
@@ -16,7 +17,9 @@ returns-in-Some-numbers_fault-clause-err g c = λ image told.
       gate = ap (λ (head : Head). head.gate) (sym c.head.view_is) ∙ c.if-not-head.false;
       sound = c.in_default.ensures;
       at_is = c.slot_byte.ensures;
-      numbers_are = c.deref.ensures.value ∙ c.in_ok-numbers.ensures.ok image (c.in_ok-head.ensures.reads.unwritten.content ∙ told) ∙ ap (λ (head : Head). u32s_at (c.slot_byte.result + 4096) head.count image) c.head.view_is;
+      numbers_are =
+          c.deref.ensures.value ∙ c.in_ok-numbers.ensures.ok image (c.in_ok-head.ensures.reads.unwritten.content ∙ told)
+          ∙ ap (λ (head : Head). u32s_at (c.slot_byte.result + 4096) head.count image) c.head.view_is;
     })
     c.in-Some-numbers_fault.ensures c.bad_journal-in-Some-numbers_fault.ensures
 
@@ -29,6 +32,9 @@ returns-clause-ok g c = λ image told.
       gate = ap (λ (head : Head). head.gate) (sym c.head.view_is) ∙ c.if-not-head.false;
       sound = c.in_default.ensures;
       at_is = c.slot_byte.ensures;
-      numbers_are = c.in_ok-numbers.ensures.ok image (c.in_ok-head.ensures.reads.unwritten.content ∙ told) ∙ ap (λ (head : Head). u32s_at (c.slot_byte.result + 4096) head.count image) c.head.view_is;
+      numbers_are =
+          c.in_ok-numbers.ensures.ok image (c.in_ok-head.ensures.reads.unwritten.content ∙ told)
+          ∙ ap (λ (head : Head). u32s_at (c.slot_byte.result + 4096) head.count image) c.head.view_is;
     })
-    (c.in_default-numbers_fault.ensures ∙ ap (numbers_fault c.layout.inside.inodes) c.deref.ensures.value) refl (ap (λ (head : Head). head.stamp) c.head.view_is)
+    (c.in_default-numbers_fault.ensures ∙ ap (numbers_fault c.layout.inside.inodes) c.deref.ensures.value) refl
+    (ap (λ (head : Head). head.stamp) c.head.view_is)

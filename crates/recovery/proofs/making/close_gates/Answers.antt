@@ -22,7 +22,9 @@ loop-number-preserved g c =
     λ content told. subst (λ n. slot_byte layout k + 1 ≤ n) (sym (laws.whole c.loop-number.disk content told)) (gate_within layout old.size k fits there) in
     record {
       end = invariant.end;
-      so_far = undisturbed-call (view c.args.disk.now) old (view c.write_at.new.self) _ (laws.now_fits c.loop-number.disk) invariant.so_far c.in_ok-write_at.ensures.call;
+      so_far =
+          undisturbed-call (view c.args.disk.now) old (view c.write_at.new.self) _
+          (laws.now_fits c.loop-number.disk) invariant.so_far c.in_ok-write_at.ensures.call;
       shut = λ content told j less.
           let t = told_put c.slot_byte.result _ old.content (view c.write_at.new.self).content content c.in_ok-write_at.ensures.ok told in
           subst (λ (content : List ℕ). IsShut (journal_slot layout content j)) (sym (t.2 ∙ ap (λ at. put at (0 ∷ []) t.0) c.slot_byte.ensures))

@@ -6,4 +6,6 @@ use Rattle.recovery.proofs.JustMade.{new_table_is}
 use Rattle.recovery.proofs.making.new_table.Goals as goal
 
 pub returns : goal.returns
-returns c = new_table_is c.args.layout.now _ _ _ _ _ c.requires c.in_ok-table.ensures.items c.encode.ensures.spelled (c.div_ceil-blocks.ensures ∙ ap (λ (layout : Layout). div_ceil layout.inodes 8) c.layout.view_is) c.in_ok-table.ensures.len c.in_ok-resize.ensures.items
+returns c =
+    new_table_is c.args.layout.now _ _ _ _ _ c.requires c.in_ok-table.ensures.items c.encode.ensures.spelled
+    (c.div_ceil-blocks.ensures ∙ ap (λ (layout : Layout). div_ceil layout.inodes 8) c.layout.view_is) c.in_ok-table.ensures.len c.in_ok-resize.ensures.items

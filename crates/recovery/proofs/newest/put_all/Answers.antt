@@ -23,7 +23,11 @@ loop-k-preserved c =
           let was = c.loop-k.invariant.settled table best begins in
           settled_same inodes table _ _ c.put.new.newest
           (record_more inodes numbers c.requires.numbers c.args.stamp c.args.bytes.now best k c.loop-k-test.true)
-          (subst (λ (bytes : List ℕ). AreSettled inodes table (with_record (slice_index numbers k) c.args.stamp bytes (with_body (record { stamp = c.args.stamp; entries = packed_entries numbers c.args.bytes.now k }) best)) c.put.new.newest)
+          (subst
+          (λ (bytes : List ℕ). AreSettled inodes table
+          (with_record (slice_index numbers k) c.args.stamp bytes
+          (with_body (record { stamp = c.args.stamp; entries = packed_entries numbers c.args.bytes.now k }) best))
+          c.put.new.newest)
           (c.copy_from_slice.ensures.after ∙ part-between (512 * k) 512 c.args.bytes.now) (c.put.ensures.settled inodes table _ was));
       stamps = c.put.ensures.stamps ∙ c.loop-k.invariant.stamps;
       records = c.put.ensures.records ∙ c.loop-k.invariant.records;
@@ -31,5 +35,6 @@ loop-k-preserved c =
 
 pub returns-clause-settled : goal.returns-clause-settled
 returns-clause-settled c = λ table best begins.
-    subst (λ n. AreSettled (length c.args.newest.now.stamps.items) table (with_body (record { stamp = c.args.stamp; entries = packed_entries c.args.numbers.now c.args.bytes.now n }) best) c.loop-k.newest)
+    subst (λ n. AreSettled (length c.args.newest.now.stamps.items) table
+    (with_body (record { stamp = c.args.stamp; entries = packed_entries c.args.numbers.now c.args.bytes.now n }) best) c.loop-k.newest)
     (let most = c.loop-k.auto.k-end in let least = c.loop-k-test.false in omega arith) (c.loop-k.invariant.settled table best begins)

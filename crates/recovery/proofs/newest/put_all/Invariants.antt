@@ -6,7 +6,8 @@ use Rattle.recovery.proofs.newest.put_all.Given as goal
 abbrev pub invariant-loop-k : goal.invariant-loop-k
 invariant-loop-k l = record {
   settled : (table : ℕ → List ℕ) (best : ℕ → Option (Stamped (List ℕ))) → AreSettled (length l.fn.newest.stamps.items) table best l.fn.newest
-      → AreSettled (length l.fn.newest.stamps.items) table (with_body (record { stamp = l.stamp; entries = packed_entries l.numbers l.bytes l.k }) best) l.newest;
+      → AreSettled (length l.fn.newest.stamps.items) table
+      (with_body (record { stamp = l.stamp; entries = packed_entries l.numbers l.bytes l.k }) best) l.newest;
   stamps : length l.newest.stamps.items ≡ length l.fn.newest.stamps.items;
   records : length l.newest.records.items ≡ length l.fn.newest.records.items;
 }

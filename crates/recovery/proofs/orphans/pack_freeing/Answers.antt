@@ -12,7 +12,9 @@ use Rattle.recovery.proofs.orphans.pack_freeing.Goals as goal
 pub invariant_of-tx : goal.invariant_of-tx
 invariant_of-tx c = record {
   records_ascend = subst IsStrictlyIncreasing
-      (sym (ap (λ (l : Roomy TxRecord). map (λ (r : TxRecord). r.inode) l.items) c.from_vec.ensures ∙ ap (map (λ (r : TxRecord). r.inode)) c.in_ok-free_records.ensures ∙ free_numbers c.args.inodes.now))
+      (sym
+      (ap (λ (l : Roomy TxRecord). map (λ (r : TxRecord). r.inode) l.items) c.from_vec.ensures
+      ∙ ap (map (λ (r : TxRecord). r.inode)) c.in_ok-free_records.ensures ∙ free_numbers c.args.inodes.now))
       c.requires;
   blocks_ascend = none_ascend c.new-2.result.items (ap (λ (l : Roomy ℕ). l.items) c.new-2.ensures);
   inodes_ascend = none_ascend c.new-3.result.items (ap (λ (l : Roomy ℕ). l.items) c.new-3.ensures);
@@ -24,6 +26,8 @@ some_there (inode ∷ rest) some = omega arith
 
 pub returns : goal.returns
 returns c =
-    let entries = ap (λ (l : Roomy TxRecord). map record_entry l.items) c.from_vec.ensures ∙ ap (map record_entry) c.in_ok-free_records.ensures ∙ free_entries c.args.inodes.now in
+    let entries =
+    ap (λ (l : Roomy TxRecord). map record_entry l.items) c.from_vec.ensures ∙ ap (map record_entry) c.in_ok-free_records.ensures
+    ∙ free_entries c.args.inodes.now in
     let fresh = ap (λ (l : Roomy TxBlock). map block_of l.items) c.new.ensures in
     (some_there c.args.inodes.now c.if-is_empty.ensures, c.in_ok-new.ensures ∙ (λ i. record { entries = entries i; fresh = fresh i }))

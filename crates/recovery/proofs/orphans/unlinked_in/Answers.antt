@@ -11,6 +11,7 @@ pub loop-place-preserved : goal.loop-place-preserved
 loop-place-preserved c = record {
   end = c.loop-place.invariant.end;
   so_far = c.in_ok-add_unlinked.ensures
-      ∙ ap (λ (l : List ℕ). l ++ cond (is_unlinked (slice_index_or c.args.records.now c.loop-place.place [])) (c.loop-place.place ∷ []) []) c.loop-place.invariant.so_far
+      ∙ ap (λ (l : List ℕ). l ++ cond (is_unlinked (slice_index_or c.args.records.now c.loop-place.place [])) (c.loop-place.place ∷ []) [])
+      c.loop-place.invariant.so_far
       ∙ next_unlinked c.args.records.now c.loop-place.place;
 }

@@ -23,7 +23,10 @@ returns-clause-ok g c = λ image told.
       layout_is = layout.1;
       journals = none_wrong c.in_ok-layout.layout image c.in_ok-open.open.items opened;
       open_slots = opened;
-      settled = subst (λ (bodies : List Body). AreSettled c.in_ok-layout.layout.inodes (table_record c.in_ok-layout.layout image) (best_of bodies) c.settle.new.newest)
+      settled =
+          subst (λ (bodies : List Body). AreSettled c.in_ok-layout.layout.inodes (table_record c.in_ok-layout.layout image)
+          (best_of bodies) c.settle.new.newest)
           (ap (bodies_read c.in_ok-layout.layout image) c.deref.ensures.value ∙ bodies_are c.in_ok-layout.layout image c.in_ok-open.open.items opened)
-          (settled (subst (λ (found : List OpenSlot). AllByRecursion (IsOpenSlot c.in_ok-layout.layout image) found) (sym c.deref.ensures.value) opened.each) table);
+          (settled
+          (subst (λ (found : List OpenSlot). AllByRecursion (IsOpenSlot c.in_ok-layout.layout image) found) (sym c.deref.ensures.value) opened.each) table);
     }

@@ -9,7 +9,8 @@ pub returns-clause-ok : goal.returns-clause-ok
 returns-clause-ok g c = λ image told.
     let inodes = ap (λ (layout : Layout). layout.inodes) c.layout.view_is in
     let least = c.loop-i-test.false in
-    table_settled c.args.layout.now image c.in_ok-bytes.bytes.items (record { stamps = c.in_ok-stamps.stamps; records = c.loop-i.records }) (c.in_ok-stamps.ensures.count ∙ inodes) (c.loop-i.invariant.count ∙ inodes)
+    table_settled c.args.layout.now image c.in_ok-bytes.bytes.items (record { stamps = c.in_ok-stamps.stamps; records = c.loop-i.records })
+    (c.in_ok-stamps.ensures.count ∙ inodes) (c.loop-i.invariant.count ∙ inodes)
     c.in_ok-stamps.ensures.none (c.in_ok-bytes.ensures.ok image told ∙ ap₂ (λ at n. part at (512 * n) image) c.table_byte.ensures inodes)
     (λ i less. c.loop-i.invariant.copied i (below i c.args.layout.now.inodes c.layout.inside.inodes c.loop-i.i less inodes least))
   where

@@ -17,8 +17,10 @@ loop-left-preserved g c =
       run = read_more old (g.D.Disk.view c.loop-left.disk) (g.D.Disk.view c.put_slot.new.disk) _ invariant.run c.in_ok-put_slot.ensures.reads;
       counts = c.in_ok-put_slot.ensures.counts;
       settled = λ image told slots begins.
-          slot_settled layout image c.args.found.now c.loop-left.left (c.loop-left.left - 1) c.index-found-left.result c.put_slot.new.newest (suc_again c.loop-left.left c.loop-left-test.true) c.index-found-left.is less
-          (c.in_ok-put_slot.ensures.ok image (invariant.run.unwritten.content ∙ told) (found_has (IsOpenSlot layout image) c.args.found.now (c.loop-left.left - 1) c.index-found-left.result slots less c.index-found-left.is)
+          slot_settled layout image c.args.found.now c.loop-left.left (c.loop-left.left - 1) c.index-found-left.result c.put_slot.new.newest
+          (suc_again c.loop-left.left c.loop-left-test.true) c.index-found-left.is less
+          (c.in_ok-put_slot.ensures.ok image (invariant.run.unwritten.content ∙ told)
+          (found_has (IsOpenSlot layout image) c.args.found.now (c.loop-left.left - 1) c.index-found-left.result slots less c.index-found-left.is)
           _ _ (invariant.settled image told slots begins));
     }
   where

@@ -18,8 +18,10 @@ some_slot size layout fits = go layout.cores layout.slots fits.ranges.cores_low 
 pub returns-in_err-settle_slots-clause-settles : goal.returns-in_err-settle_slots-clause-settles
 returns-in_err-settle_slots-clause-settles g c image told calm ready =
     let old = g.D.Disk.view c.args.disk.now in
-    settling_failed c.args.layout.now (settled_parts c.args.layout.now image) c.args.records.now c.requires.records ready.newest.each old (g.D.Disk.view c.settle_slots.new.disk)
-    c.settle_slots.result c.from_residual.result (some_slot old.size c.args.layout.now c.requires.layout) c.from_residual.ensures.0 (c.settle_slots.ensures.settles image told calm ready)
+    settling_failed c.args.layout.now (settled_parts c.args.layout.now image) c.args.records.now c.requires.records ready.newest.each old
+    (g.D.Disk.view c.settle_slots.new.disk)
+    c.settle_slots.result c.from_residual.result (some_slot old.size c.args.layout.now c.requires.layout) c.from_residual.ensures.0
+    (c.settle_slots.ensures.settles image told calm ready)
 
 packs : (inodes : List ℕ) (packed : Option Contents) (some : Contents) → PacksFreeing inodes packed → packed ≡ Some some → PacksFreeing inodes (Some some)
 packs inodes packed some packing is = subst (PacksFreeing inodes) is packing
@@ -38,7 +40,8 @@ returns-in-Some-clause-settles g c image told calm ready =
     let mid = g.D.Disk.view c.settle_slots.new.disk in
     let closes = c.in_ok-settle_slots.ensures.settles image told calm ready in
     let packing = packs (unlinked_in records) c.args.packed c.in-Some.packed c.requires.packed c.in-Some.is in
-    then_freed layout (settled_parts layout image) records c.requires.records ready.newest.each old mid c.in_ok-settle_slots.field-0 (g.D.Disk.view c.free_unlinked.new.disk) c.free_unlinked.result
+    then_freed layout (settled_parts layout image) records c.requires.records ready.newest.each old mid c.in_ok-settle_slots.field-0
+    (g.D.Disk.view c.free_unlinked.new.disk) c.free_unlinked.result
     (some_slot old.size layout c.requires.layout) c.free_unlinked.ensures.ran.advances closes
     (c.free_unlinked.ensures.frees (settled_parts layout image) (length records) _ (packing.1 ∙ ap freeing (unlinked_is records (length records)))
     (subst (λ n. n ≤ length records) c.requires.records (let le : length records ≤ length records = omega arith in le)) closes.closed)

@@ -13,13 +13,15 @@ none_found (one ∷ rest) some = absurd (let e = eqb-true (length (one ∷ rest)
 
 pub returns-then-is_empty-clause-settles : goal.returns-then-is_empty-clause-settles
 returns-then-is_empty-clause-settles g c image told calm ready =
-    none_to_settle c.args.layout.now c.args.found.now c.args.stamps.now c.args.records.now image ready (g.D.Disk.view c.args.disk.now) told calm tt (none_found c.args.found.now c.if-is_empty.ensures)
+    none_to_settle c.args.layout.now c.args.found.now c.args.stamps.now c.args.records.now image ready (g.D.Disk.view c.args.disk.now) told calm tt
+    (none_found c.args.found.now c.if-is_empty.ensures)
 
 pub returns-in_err-bring_home-clause-settles : goal.returns-in_err-bring_home-clause-settles
 returns-in_err-bring_home-clause-settles g c image told calm ready =
     let layout = c.args.layout.now in
     let old = g.D.Disk.view c.args.disk.now in
-    home_failed layout c.args.found.now c.args.stamps.now c.args.records.now image ready old told calm (g.D.Disk.view c.bring_home.new.disk) c.bring_home.result c.from_residual.result c.from_residual.ensures.0
+    home_failed layout c.args.found.now c.args.stamps.now c.args.records.now image ready old told calm
+    (g.D.Disk.view c.bring_home.new.disk) c.bring_home.result c.from_residual.result c.from_residual.ensures.0
     (c.bring_home.ensures.home (transaction_in layout image) (table_parts layout image) ready.newest
     (first_leaves layout c.args.found.now c.args.stamps.now c.args.records.now image ready old told calm))
 
@@ -30,7 +32,8 @@ returns-clause-settles g c image told calm ready =
     let mid = g.D.Disk.view c.bring_home.new.disk in
     let home = c.in_ok-bring_home.ensures.home (transaction_in layout image) (table_parts layout image) ready.newest
     (first_leaves layout c.args.found.now c.args.stamps.now c.args.records.now image ready old told calm) in
-    closed_after layout c.args.found.now c.args.stamps.now c.args.records.now image ready old told calm mid c.in_ok-bring_home.field-0 home (g.D.Disk.view c.close_slots.new.disk) c.close_slots.result
+    closed_after layout c.args.found.now c.args.stamps.now c.args.records.now image ready old told calm mid c.in_ok-bring_home.field-0 home
+    (g.D.Disk.view c.close_slots.new.disk) c.close_slots.result
     c.close_slots.ensures.ran.advances
     (c.close_slots.ensures.closed (settled_parts layout image)
     (to_be_closed layout c.args.found.now c.args.stamps.now c.args.records.now image ready old told calm mid c.in_ok-bring_home.field-0 home))

@@ -44,10 +44,14 @@ returns-in_err-settle_disk-clause-moments g c image told calm counts =
     let stands = image_stands image judged.layout judged.records.items own.settles some own.faultless in
     let mid_told = c.in_ok-layout.ensures.reads.unwritten.content ∙ told in
     let calm_mid = calm_stays (view c.args.disk.now) (view c.judge.new.disk) c.in_ok-layout.ensures.reads.unwritten calm in
-    let ready = ready_by image judged.layout judged.open_slots.items c.deref-2.result.now judged.stamps.items c.deref-3.result.now judged.records.items c.as_slice-2.result.now
+    let ready =
+    ready_by image judged.layout judged.open_slots.items c.deref-2.result.now judged.stamps.items c.deref-3.result.now judged.records.items
+    c.as_slice-2.result.now
     c.deref-2.ensures.value c.deref-3.ensures.value c.as_slice-2.ensures stands own.open_slots (own.newest stands) in
-    all_moments image judged.layout judged.records.items own.settles some own.faultless (view c.args.disk.now) (view c.judge.new.disk) (view c.settle_disk.new.disk) c.settle_disk.result
-    told mid_told calm c.in_ok-layout.ensures.reads.unwritten counts c.settle_disk.ensures.ran.advances (c.settle_disk.ensures.settles image mid_told calm_mid ready)
+    all_moments image judged.layout judged.records.items own.settles some own.faultless (view c.args.disk.now) (view c.judge.new.disk)
+    (view c.settle_disk.new.disk) c.settle_disk.result
+    told mid_told calm c.in_ok-layout.ensures.reads.unwritten counts c.settle_disk.ensures.ran.advances
+    (c.settle_disk.ensures.settles image mid_told calm_mid ready)
 
 pub returns-in_err-settle_disk-clause-runs : goal.returns-in_err-settle_disk-clause-runs
 returns-in_err-settle_disk-clause-runs g c =
@@ -116,10 +120,14 @@ returns-clause-moments g c image told calm counts =
     let stands = image_stands image judged.layout judged.records.items own.settles some own.faultless in
     let mid_told = c.in_ok-layout.ensures.reads.unwritten.content ∙ told in
     let calm_mid = calm_stays (view c.args.disk.now) (view c.judge.new.disk) c.in_ok-layout.ensures.reads.unwritten calm in
-    let ready = ready_by image judged.layout judged.open_slots.items c.deref-2.result.now judged.stamps.items c.deref-3.result.now judged.records.items c.as_slice-2.result.now
+    let ready =
+    ready_by image judged.layout judged.open_slots.items c.deref-2.result.now judged.stamps.items c.deref-3.result.now judged.records.items
+    c.as_slice-2.result.now
     c.deref-2.ensures.value c.deref-3.ensures.value c.as_slice-2.ensures stands own.open_slots (own.newest stands) in
-    all_moments image judged.layout judged.records.items own.settles some own.faultless (view c.args.disk.now) (view c.judge.new.disk) (view c.settle_disk.new.disk) c.settle_disk.result
-    told mid_told calm c.in_ok-layout.ensures.reads.unwritten counts c.settle_disk.ensures.ran.advances (c.settle_disk.ensures.settles image mid_told calm_mid ready)
+    all_moments image judged.layout judged.records.items own.settles some own.faultless (view c.args.disk.now) (view c.judge.new.disk)
+    (view c.settle_disk.new.disk) c.settle_disk.result
+    told mid_told calm c.in_ok-layout.ensures.reads.unwritten counts c.settle_disk.ensures.ran.advances
+    (c.settle_disk.ensures.settles image mid_told calm_mid ready)
 
 pub returns-clause-ended : goal.returns-clause-ended
 returns-clause-ended g c image told calm =
@@ -130,7 +138,9 @@ returns-clause-ended g c image told calm =
     let stands = image_stands image judged.layout judged.records.items own.settles some own.faultless in
     let mid_told = c.in_ok-layout.ensures.reads.unwritten.content ∙ told in
     let calm_mid = calm_stays (view c.args.disk.now) (view c.judge.new.disk) c.in_ok-layout.ensures.reads.unwritten calm in
-    let ready = ready_by image judged.layout judged.open_slots.items c.deref-2.result.now judged.stamps.items c.deref-3.result.now judged.records.items c.as_slice-2.result.now
+    let ready =
+    ready_by image judged.layout judged.open_slots.items c.deref-2.result.now judged.stamps.items c.deref-3.result.now judged.records.items
+    c.as_slice-2.result.now
     c.deref-2.ensures.value c.deref-3.ensures.value c.as_slice-2.ensures stands own.open_slots (own.newest stands) in
     let done = c.in_ok-settle_disk.ensures.settles image mid_told calm_mid ready in
     record {
@@ -146,6 +156,8 @@ pub returns-clause-runs : goal.returns-clause-runs
 returns-clause-runs g c =
     let view = g.D.Disk.view in
     record {
-      advances = GoesOn-trans (view c.args.disk.now) (view c.judge.new.disk) (view c.settle_disk.new.disk) c.in_ok-layout.ensures.reads.advances c.in_ok-settle_disk.ensures.ran.advances;
+      advances =
+          GoesOn-trans (view c.args.disk.now) (view c.judge.new.disk)
+          (view c.settle_disk.new.disk) c.in_ok-layout.ensures.reads.advances c.in_ok-settle_disk.ensures.ran.advances;
       cause = c.in_ok-settle_disk.ensures.ran.cause.kept ∙ c.in_ok-layout.ensures.reads.cause;
     }

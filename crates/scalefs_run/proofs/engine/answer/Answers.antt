@@ -17,5 +17,7 @@ returns-in-Fsync-clause-fsync g c node is =
     let view = g.D.Disk.view in
     let same : c.in-Fsync.node ≡ node = ap node_in (sym c.in-Fsync.is ∙ is) in
     let new : Engine = record { volume = c.fsync.new.self; entries = c.args.engine.now.entries; turns = c.args.engine.now.turns } in
-    subst (λ n. IsFsyncAnswered (c.fsync.new.disk ≡ c.args.disk.now) c.args.stamp c.args.core n c.args.engine.now new (view c.args.disk.now) (view c.fsync.new.disk) c.fsync.result) same
+    subst (λ n. IsFsyncAnswered (c.fsync.new.disk ≡ c.args.disk.now) c.args.stamp c.args.core n c.args.engine.now new (view c.args.disk.now)
+    (view c.fsync.new.disk) c.fsync.result)
+    same
     (record { entries = refl; turns = refl; answer = c.fsync.ensures.answer; goes_on = c.fsync.ensures.goes_on })

@@ -11,4 +11,5 @@ returns-clause-begins g c =
     let view = g.D.Disk.view in
     let engine : Engine = record { volume = c.in_ok-volume.volume; entries = c.new.result; turns = c.new-2.result } in
     let runs = c.in_ok-volume.ensures.runs in
-    run_begins c.args.nodes engine (view c.args.disk.now) (view c.open.new.disk) c.in_ok-volume.ensures.begins c.new.ensures.items (ap (λ (l : Roomy Turn). l.items) c.new-2.ensures) runs.advances runs.cause
+    run_begins c.args.nodes engine (view c.args.disk.now) (view c.open.new.disk) c.in_ok-volume.ensures.begins c.new.ensures.items
+    (ap (λ (l : Roomy Turn). l.items) c.new-2.ensures) runs.advances runs.cause

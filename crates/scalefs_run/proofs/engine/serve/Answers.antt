@@ -32,8 +32,10 @@ returns-in_err-serve_phase-clause-still g c none =
 
 pub returns-in_err-serve_phase-clause-err : goal.returns-in_err-serve_phase-clause-err
 returns-in_err-serve_phase-clause-err g c =
-    on_err c.from_residual.result (follows_part c.args.phases.now c.loop-phase.phase-index c.phase-item.result c.loop-phase.engine.entries.items c.serve_phase.new.engine.entries.items
-    (let test = c.loop-phase-test.true in let end = c.loop-phase.auto.phase-index-end in omega arith) c.phase-item.is c.loop-phase.invariant.follows c.in_err-serve_phase.ensures.err)
+    on_err c.from_residual.result
+    (follows_part c.args.phases.now c.loop-phase.phase-index c.phase-item.result c.loop-phase.engine.entries.items c.serve_phase.new.engine.entries.items
+    (let test = c.loop-phase-test.true in let end = c.loop-phase.auto.phase-index-end in omega arith) c.phase-item.is c.loop-phase.invariant.follows
+    c.in_err-serve_phase.ensures.err)
 
 pub loop-phase-init : goal.loop-phase-init
 loop-phase-init g c = record {
@@ -52,7 +54,9 @@ loop-phase-preserved g c =
     let new = c.serve_phase.new.engine.entries.items in
     let Whole = IsWholePhase c.phase-item.result in
     record {
-      keeps = keeps_both c.args.engine.now c.loop-phase.engine c.serve_phase.new.engine (view c.args.disk.now) (view c.loop-phase.disk) (view c.serve_phase.new.disk) served.advances invariant.keeps served.invariant;
+      keeps =
+          keeps_both c.args.engine.now c.loop-phase.engine c.serve_phase.new.engine (view c.args.disk.now) (view c.loop-phase.disk)
+          (view c.serve_phase.new.disk) served.advances invariant.keeps served.invariant;
       follows = follows_next c.args.phases.now c.loop-phase.phase-index c.phase-item.result old new
           (let test = c.loop-phase-test.true in let end = c.loop-phase.auto.phase-index-end in omega arith) c.phase-item.is invariant.follows served.ok;
       still = λ none. served.still (none_after Whole old new served.ok none) ∙ invariant.still (none_before Whole old new served.ok none);
@@ -62,7 +66,8 @@ loop-phase-preserved g c =
 pub serve_phase-requires-clause-within : goal.serve_phase-requires-clause-within
 serve_phase-requires-clause-within g c κs within =
     let view = g.D.Disk.view in
-    let same = cores_kept c.args.engine.now c.loop-phase.engine (view c.args.disk.now) (view c.loop-phase.disk) c.loop-phase.invariant.keeps c.requires.invariant in
+    let same =
+    cores_kept c.args.engine.now c.loop-phase.engine (view c.args.disk.now) (view c.loop-phase.disk) c.loop-phase.invariant.keeps c.requires.invariant in
     let cores = c.args.engine.now.volume.layout.cores in
     subst (λ n. HaveCores n c.phase-item.result) (sym same)
     (subst (λ (p : List Line). HaveCores cores p) (sym c.phase-item.is) (c.requires.within c.loop-phase.phase-index c.phase-item.result c.loop-phase-test.true))

@@ -56,11 +56,15 @@ returns-clause-ok g c =
     let stamp : Stamp = record { 0 = c.len.result } in
     let Same = c.answer.new.disk ≡ disk in
     let told = c.in_ok-flushed.ensures in
-    let kept = entries_kept old c.reserve.new.self c.reserve-2.new.self new (view disk) (view c.answer.new.disk) Same stamp c.args.core c.args.call flushed told.other told.fsync in
+    let kept =
+    entries_kept old c.reserve.new.self c.reserve-2.new.self new (view disk)
+    (view c.answer.new.disk) Same stamp c.args.core c.args.call flushed told.other told.fsync in
     let entry = call_entry stamp c.args.core c.args.call flushed.reply flushed.ack in
     record {
       entry = entry;
-      grown = c.push_reserved.ensures.items ∙ ap (λ (v : Vec Entry Global). v.items ++ entry ∷ []) kept ∙ ap (λ (l : List Entry). l ++ entry ∷ []) c.in_ok-reserve.ensures.items;
+      grown =
+          c.push_reserved.ensures.items ∙ ap (λ (v : Vec Entry Global). v.items ++ entry ∷ []) kept
+          ∙ ap (λ (l : List Entry). l ++ entry ∷ []) c.in_ok-reserve.ensures.items;
       core_is = refl;
       call_is = refl;
     }
@@ -76,31 +80,45 @@ returns-clause-invariant g c start image kept stands =
     let Same = c.answer.new.disk ≡ disk in
     let told = c.in_ok-flushed.ensures in
     let entry = call_entry stamp c.args.core c.args.call flushed.reply flushed.ack in
-    let counts : Counts = record { calls_before = c.now-calls_before.result; calls_after = c.now.result; faults_before = c.faults-faults_before.result; faults_after = c.faults.result } in
-    let same = entries_kept old c.reserve.new.self c.reserve-2.new.self new (view disk) (view c.answer.new.disk) Same stamp c.args.core c.args.call flushed told.other told.fsync in
-    let room = turns_kept old c.reserve.new.self c.reserve-2.new.self new (view disk) (view c.answer.new.disk) Same stamp c.args.core c.args.call flushed told.other told.fsync in
+    let counts : Counts =
+    record {
+      calls_before = c.now-calls_before.result;
+      calls_after = c.now.result;
+      faults_before = c.faults-faults_before.result;
+      faults_after = c.faults.result;
+    } in
+    let same =
+    entries_kept old c.reserve.new.self c.reserve-2.new.self new (view disk)
+    (view c.answer.new.disk) Same stamp c.args.core c.args.call flushed told.other told.fsync in
+    let room =
+    turns_kept old c.reserve.new.self c.reserve-2.new.self new (view disk)
+    (view c.answer.new.disk) Same stamp c.args.core c.args.call flushed told.other told.fsync in
     let turns = turns_told entry counts flushed.deed in
-    call_goes_on old c.reserve.new.self c.reserve-2.new.self new (view disk) (view c.answer.new.disk) Same stamp c.args.core c.args.call flushed told.other told.fsync
+    call_goes_on old c.reserve.new.self c.reserve-2.new.self new (view disk)
+    (view c.answer.new.disk) Same stamp c.args.core c.args.call flushed told.other told.fsync
     start image kept stands
     (counted c.reserve.new.self kept.history c.len.result (stands.history ∙ sym c.in_ok-reserve.ensures.items) c.len.ensures)
     c.answer.ensures.advances
     (λ still P here. subst (λ d. P (view d)) (sym still) here)
     counts c.faults-faults_before.ensures.faults c.faults.ensures.faults c.now-calls_before.ensures.now c.now.ensures.now
     c.push_reserved.new.self
-    (c.push_reserved.ensures.items ∙ ap (λ (v : Vec Entry Global). v.items ++ entry ∷ []) same ∙ ap (λ (l : List Entry). l ++ entry ∷ []) c.in_ok-reserve.ensures.items)
+    (c.push_reserved.ensures.items ∙ ap (λ (v : Vec Entry Global). v.items ++ entry ∷ []) same
+    ∙ ap (λ (l : List Entry). l ++ entry ∷ []) c.in_ok-reserve.ensures.items)
     c.add_turns.new.turns
     (c.add_turns.ensures ∙ ap (λ (t : Roomy Turn). t.items ++ turns) room ∙ ap (λ (l : List Turn). l ++ turns) c.in_ok-reserve-2.ensures.items)
 
 pub returns-in_err-reserve-clause-ends : goal.returns-in_err-reserve-clause-ends
 returns-in_err-reserve-clause-ends g c =
     let old = c.args.engine.now in
-    on_err c.from_residual.result (ends_here old (record old { entries = c.reserve.new.self }) (g.D.Disk.view c.args.disk.now) c.in_err-reserve.ensures.items refl)
+    on_err c.from_residual.result
+    (ends_here old (record old { entries = c.reserve.new.self }) (g.D.Disk.view c.args.disk.now) c.in_err-reserve.ensures.items refl)
 
 pub returns-in_err-reserve-2-clause-ends : goal.returns-in_err-reserve-2-clause-ends
 returns-in_err-reserve-2-clause-ends g c =
     let old = c.args.engine.now in
     on_err c.from_residual-in_err-reserve-2.result
-    (ends_here old (record old { entries = c.reserve.new.self; turns = c.reserve-2.new.self }) (g.D.Disk.view c.args.disk.now) c.in_ok-reserve.ensures.items c.in_err-reserve-2.ensures.items)
+    (ends_here old (record old { entries = c.reserve.new.self; turns = c.reserve-2.new.self })
+    (g.D.Disk.view c.args.disk.now) c.in_ok-reserve.ensures.items c.in_err-reserve-2.ensures.items)
 
 pub returns-in_err-flushed-clause-ends : goal.returns-in_err-flushed-clause-ends
 returns-in_err-flushed-clause-ends g c =
@@ -109,7 +127,8 @@ returns-in_err-flushed-clause-ends g c =
     let new = c.answer.new.engine in
     let same = c.in_err-flushed.ensures.err in
     let ends : EndsRun old new (view c.args.disk.now) (view c.args.disk.now) =
-    ends_here old new (view c.args.disk.now) (ap (λ (v : Vec Entry Global). v.items) same.1 ∙ c.in_ok-reserve.ensures.items) (ap (λ (t : Roomy Turn). t.items) same.2 ∙ c.in_ok-reserve-2.ensures.items) in
+    ends_here old new (view c.args.disk.now) (ap (λ (v : Vec Entry Global). v.items) same.1 ∙ c.in_ok-reserve.ensures.items)
+    (ap (λ (t : Roomy Turn). t.items) same.2 ∙ c.in_ok-reserve-2.ensures.items) in
     on_err c.from_residual-in_err-flushed.result (subst (λ d. EndsRun old new (view c.args.disk.now) (view d)) (sym same.0) ends)
 
 pub add_turns-requires-clause-room : goal.add_turns-requires-clause-room
@@ -122,7 +141,9 @@ add_turns-requires-clause-room g c =
     let stamp : Stamp = record { 0 = c.len.result } in
     let Same = c.answer.new.disk ≡ disk in
     let told = c.in_ok-flushed.ensures in
-    let same = turns_kept old c.reserve.new.self c.reserve-2.new.self new (view disk) (view c.answer.new.disk) Same stamp c.args.core c.args.call flushed told.other told.fsync in
+    let same =
+    turns_kept old c.reserve.new.self c.reserve-2.new.self new (view disk)
+    (view c.answer.new.disk) Same stamp c.args.core c.args.call flushed told.other told.fsync in
     subst (λ (t : Roomy Turn). 4 ≤ t.spare) (sym same) c.in_ok-reserve-2.ensures.ok
 
 pub push_reserved-requires : goal.push_reserved-requires
@@ -137,5 +158,7 @@ push_reserved-requires g c =
     let told = c.in_ok-flushed.ensures in
     let room = c.in_ok-reserve.ensures.ok in
     let long = c.in_ok-reserve.ensures.len in
-    let same = entries_kept old c.reserve.new.self c.reserve-2.new.self new (view disk) (view c.answer.new.disk) Same stamp c.args.core c.args.call flushed told.other told.fsync in
+    let same =
+    entries_kept old c.reserve.new.self c.reserve-2.new.self new (view disk)
+    (view c.answer.new.disk) Same stamp c.args.core c.args.call flushed told.other told.fsync in
     subst (λ (v : Vec Entry Global). vec_len v < vec_capacity v) (sym same) (omega (arith, room, long))

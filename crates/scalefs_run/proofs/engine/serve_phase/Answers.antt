@@ -22,7 +22,8 @@ serve_worker-requires-clause-invariant g c κs within =
 pub serve_worker-requires-clause-core : goal.serve_worker-requires-clause-core
 serve_worker-requires-clause-core g c κs within =
     let view = g.D.Disk.view in
-    let same = cores_kept c.args.engine.now c.loop-core.engine (view c.args.disk.now) (view c.loop-core.disk) c.loop-core.invariant.keeps c.requires.invariant in
+    let same =
+    cores_kept c.args.engine.now c.loop-core.engine (view c.args.disk.now) (view c.loop-core.disk) c.loop-core.invariant.keeps c.requires.invariant in
     let test = c.loop-core-test.true in
     let count = c.core_count-core-end.ensures in
     omega (arith, same, test, count)
@@ -42,11 +43,14 @@ returns-in_err-serve_worker-clause-still g c same =
     let made = c.loop-core.invariant.made in
     let more = c.in_err-serve_worker.ensures.err in
     c.serve_worker.ensures.still (none_then (UpTo c.loop-core.core c.args.phase.now) (ByWorker c.loop-core.core c.args.phase.now) start mid end made more same)
-    ∙ c.loop-core.invariant.still (none_first (UpTo c.loop-core.core c.args.phase.now) (ByWorker c.loop-core.core c.args.phase.now) start mid end made more same)
+    ∙ c.loop-core.invariant.still
+    (none_first (UpTo c.loop-core.core c.args.phase.now) (ByWorker c.loop-core.core c.args.phase.now) start mid end made more same)
 
 pub returns-in_err-serve_worker-clause-err : goal.returns-in_err-serve_worker-clause-err
 returns-in_err-serve_worker-clause-err g c =
-    on_err c.from_residual.result (up_to_part c.loop-core.core c.args.phase.now c.args.engine.now.entries.items c.loop-core.engine.entries.items c.serve_worker.new.engine.entries.items c.loop-core.invariant.made c.in_err-serve_worker.ensures.err)
+    on_err c.from_residual.result
+    (up_to_part c.loop-core.core c.args.phase.now c.args.engine.now.entries.items c.loop-core.engine.entries.items c.serve_worker.new.engine.entries.items
+    c.loop-core.invariant.made c.in_err-serve_worker.ensures.err)
 
 pub loop-core-init : goal.loop-core-init
 loop-core-init g c = record {
@@ -67,15 +71,20 @@ loop-core-preserved g c =
     let Part = UpTo c.loop-core.core c.args.phase.now in
     let Whole = ByWorkerWhole c.loop-core.core c.args.phase.now in
     record {
-      keeps = keeps_both c.args.engine.now c.loop-core.engine c.serve_worker.new.engine (view c.args.disk.now) (view c.loop-core.disk) (view c.serve_worker.new.disk) served.advances invariant.keeps served.invariant;
+      keeps =
+          keeps_both c.args.engine.now c.loop-core.engine c.serve_worker.new.engine (view c.args.disk.now) (view c.loop-core.disk)
+          (view c.serve_worker.new.disk) served.advances invariant.keeps served.invariant;
       made = up_to_more c.loop-core.core c.args.phase.now start mid end invariant.made served.ok;
-      still = λ same. served.still (none_then Part Whole start mid end invariant.made served.ok same) ∙ invariant.still (none_first Part Whole start mid end invariant.made served.ok same);
+      still =
+          λ same. served.still (none_then Part Whole start mid end invariant.made served.ok same)
+          ∙ invariant.still (none_first Part Whole start mid end invariant.made served.ok same);
       advances = GoesOn-trans _ _ _ invariant.advances served.advances;
     }
 
 pub returns-clause-ok : goal.returns-clause-ok
 returns-clause-ok g c =
     let cores = c.args.engine.now.volume.layout.cores in
-    let end : c.loop-core.core ≡ cores = let test = c.loop-core-test.false in let most = c.loop-core.auto.core-end in let count = c.core_count-core-end.ensures in omega (arith, test, most, count) in
+    let end : c.loop-core.core ≡ cores = let test = c.loop-core-test.false in let most = c.loop-core.auto.core-end in
+    let count = c.core_count-core-end.ensures in omega (arith, test, most, count) in
     up_to_all cores c.args.phase.now c.args.engine.now.entries.items c.loop-core.engine.entries.items c.requires.within
     (subst (λ n. Grown c.args.engine.now.entries.items c.loop-core.engine.entries.items (UpTo n c.args.phase.now)) end c.loop-core.invariant.made)

@@ -20,4 +20,5 @@ returns-in-Err-clause-err g c =
     subst (λ (s : Status). (script : List ℕ) × IsOf left script × HasReadFault script failed s) (sym c.status_of_source.ensures) found
 
 pub returns-in-Ok-read-clause-ready : goal.returns-in-Ok-read-clause-ready
-returns-in-Ok-read-clause-ready g c = All-from_recursion LinesMayRun c.in-Ok-read.script (phases_may c.deref.result.now c.in-Ok-read.script c.in-Ok-read.ensures.ok)
+returns-in-Ok-read-clause-ready g c =
+    All-from_recursion LinesMayRun c.in-Ok-read.script (phases_may c.deref.result.now c.in-Ok-read.script c.in-Ok-read.ensures.ok)

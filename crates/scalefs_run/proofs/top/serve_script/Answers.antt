@@ -34,10 +34,17 @@ returns-in-Err-clause-served g c =
     let Sink = HasRisen (g.K.Sink.faults sink) (g.K.Sink.faults sink) in
     let written = g.K.Sink.written sink in
     let ends = c.in-Err.ensures in
-    subst (λ (t : Roomy Turn). Served (λ judged. judged_status judged phases) c.args.nodes phases ⊥ Sink written written old new c.status_of_recovery-status.result c.new.result t.items) (sym c.new-in-Err.ensures)
-    (subst (λ (h : List Entry). Served (λ judged. judged_status judged phases) c.args.nodes phases ⊥ Sink written written old new c.status_of_recovery-status.result h []) (sym c.new.ensures)
-    (subst (λ (s : Status). Served (λ judged. judged_status judged phases) c.args.nodes phases ⊥ Sink written written old new s [] []) (sym c.status_of_recovery-status.ensures)
-    (served_refused c.args.nodes phases Sink written old new c.mount.ensures.moments ends.runs.advances.later c.in-Err.fault ends.bad ends.refused ends.runs.cause)))
+    subst (λ (t : Roomy Turn). Served
+    (λ judged. judged_status judged phases) c.args.nodes phases ⊥ Sink written written old new c.status_of_recovery-status.result c.new.result t.items)
+    (sym c.new-in-Err.ensures)
+    (subst
+    (λ (h : List Entry). Served
+    (λ judged. judged_status judged phases) c.args.nodes phases ⊥ Sink written written old new c.status_of_recovery-status.result h [])
+    (sym c.new.ensures)
+    (subst (λ (s : Status). Served (λ judged. judged_status judged phases) c.args.nodes phases ⊥ Sink written written old new s [] [])
+    (sym c.status_of_recovery-status.ensures)
+    (served_refused c.args.nodes phases Sink written old new c.mount.ensures.moments ends.runs.advances.later c.in-Err.fault ends.bad ends.refused
+    ends.runs.cause)))
 
 pub returns-in-Some-clause-served : goal.returns-in-Some-clause-served
 returns-in-Some-clause-served g c =
@@ -51,11 +58,21 @@ returns-in-Some-clause-served g c =
     let engine = c.in-Ok.engine in
     let have_is = c.core_count-have.ensures in
     let found : worker_without_core engine.volume.layout.cores phases ≡ Some c.in-Some.asked =
-    ap (λ n. worker_without_core n phases) (sym have_is) ∙ ap (worker_without_core c.core_count-have.result) (sym c.phases.ensures) ∙ sym c.first_worker_without_core.ensures ∙ c.in-Some.is in
-    subst (λ n. Served (λ judged. judged_status judged phases) c.args.nodes phases ⊥ Sink written written old new (TooManyWorkers n c.from-in-Some.result) c.new-in-Some.result c.new-in-Some-2.result.items) (sym c.from.ensures)
-    (subst (λ (t : Roomy Turn). Served (λ judged. judged_status judged phases) c.args.nodes phases ⊥ Sink written written old new (TooManyWorkers c.in-Some.asked c.from-in-Some.result) c.new-in-Some.result t.items) (sym c.new-in-Some-2.ensures)
-    (subst (λ (h : List Entry). Served (λ judged. judged_status judged phases) c.args.nodes phases ⊥ Sink written written old new (TooManyWorkers c.in-Some.asked c.from-in-Some.result) h []) (sym c.new-in-Some.ensures)
-    (served_without_core c.args.nodes phases Sink written written engine engine old new new c.in-Ok.ensures.begins c.in-Some.asked c.from-in-Some.result (c.from-in-Some.ensures ∙ have_is) found refl c.mount.ensures.moments c.in-Ok.ensures.runs.advances.later)))
+    ap (λ n. worker_without_core n phases) (sym have_is) ∙ ap (worker_without_core c.core_count-have.result) (sym c.phases.ensures)
+    ∙ sym c.first_worker_without_core.ensures ∙ c.in-Some.is in
+    subst (λ n. Served (λ judged. judged_status judged phases) c.args.nodes phases ⊥ Sink written written old new
+    (TooManyWorkers n c.from-in-Some.result) c.new-in-Some.result c.new-in-Some-2.result.items)
+    (sym c.from.ensures)
+    (subst
+    (λ (t : Roomy Turn). Served (λ judged. judged_status judged phases) c.args.nodes phases ⊥ Sink written written old new
+    (TooManyWorkers c.in-Some.asked c.from-in-Some.result) c.new-in-Some.result t.items)
+    (sym c.new-in-Some-2.ensures)
+    (subst
+    (λ (h : List Entry). Served (λ judged. judged_status judged phases) c.args.nodes phases ⊥ Sink written written old new
+    (TooManyWorkers c.in-Some.asked c.from-in-Some.result) h [])
+    (sym c.new-in-Some.ensures)
+    (served_without_core c.args.nodes phases Sink written written engine engine old new new c.in-Ok.ensures.begins c.in-Some.asked c.from-in-Some.result
+    (c.from-in-Some.ensures ∙ have_is) found refl c.mount.ensures.moments c.in-Ok.ensures.runs.advances.later)))
 
 pub serve-served-requires-clause-invariant : goal.serve-served-requires-clause-invariant
 serve-served-requires-clause-invariant g c κs within =
@@ -70,7 +87,8 @@ serve-served-requires-clause-within g c κs within =
     let cores = c.in-Ok.engine.volume.layout.cores in
     let have_is = c.core_count-have.ensures in
     let none : worker_without_core cores c.args.script.now ≡ None =
-    ap (λ n. worker_without_core n c.args.script.now) (sym have_is) ∙ ap (worker_without_core c.core_count-have.result) (sym c.phases.ensures) ∙ sym c.first_worker_without_core.ensures ∙ c.in_default.is in
+    ap (λ n. worker_without_core n c.args.script.now) (sym have_is) ∙ ap (worker_without_core c.core_count-have.result) (sym c.phases.ensures)
+    ∙ sym c.first_worker_without_core.ensures ∙ c.in_default.is in
     subst (λ (p : List (List Line)). All (HaveCores cores) p) (sym c.phases-2.ensures) (all_within cores c.args.script.now none)
 
 pub returns-clause-served : goal.returns-clause-served
@@ -91,16 +109,23 @@ returns-clause-served g c =
     let begun = c.in-Ok.ensures.runs.advances.later in
     let have_is = c.core_count-have.ensures in
     let none : worker_without_core first.volume.layout.cores phases ≡ None =
-    ap (λ n. worker_without_core n phases) (sym have_is) ∙ ap (worker_without_core c.core_count-have.result) (sym c.phases.ensures) ∙ sym c.first_worker_without_core.ensures ∙ c.in_default.is in
-    let shows : history ≡ [] → ShowsEntry old new = λ is. subst (λ d. ShowsEntry old (view d)) (sym (c.serve-served.ensures.still is)) c.mount.ensures.moments in
+    ap (λ n. worker_without_core n phases) (sym have_is) ∙ ap (worker_without_core c.core_count-have.result) (sym c.phases.ensures)
+    ∙ sym c.first_worker_without_core.ensures ∙ c.in_default.is in
+    let shows : history ≡ [] → ShowsEntry old new =
+    λ is. subst (λ d. ShowsEntry old (view d)) (sym (c.serve-served.ensures.still is)) c.mount.ensures.moments in
     let was = c.args.sink.now in
     let is = c.match-served.sink in
     let status = c.match-served.status in
-    subst (λ (h : List Entry). Served (λ judged. judged_status judged phases) nodes phases ⊥ (HasRisen (faults was) (faults is)) (written was) (written is) old new status h engine.turns.items) (sym c.from_entries-history.ensures)
+    subst (λ (h : List Entry). Served (λ judged. judged_status judged phases) nodes phases ⊥ (HasRisen (faults was) (faults is)) (written was)
+    (written is) old new status h engine.turns.items)
+    (sym c.from_entries-history.ensures)
     (elim c.match-served.branch [
       | in-Err-served w ↦
-          subst (λ (s : Status). Served (λ judged. judged_status judged phases) nodes phases ⊥ (HasRisen (faults was) (faults is)) (written was) (written is) old new s history engine.turns.items) (sym w.status-is)
-          (served_run nodes phases (HasRisen (faults was) (faults is)) (written was) (written is) first engine old mid new begins NoMemory w.in-Err-served.ensures.ends begun goes none shows tt
+          subst (λ (s : Status). Served (λ judged. judged_status judged phases) nodes phases ⊥ (HasRisen (faults was) (faults is)) (written was)
+          (written is) old new s history engine.turns.items)
+          (sym w.status-is)
+          (served_run nodes phases (HasRisen (faults was) (faults is)) (written was)
+          (written is) first engine old mid new begins NoMemory w.in-Err-served.ensures.ends begun goes none shows tt
           (subst (λ (p : List (List Line)). FollowsSoFar p history) c.phases-2.ensures w.in-Err-served.ensures.err) (ap written w.sink-is))
       | in-Ok-served w ↦
           let ended = w.write_history-status.ensures in
@@ -110,8 +135,13 @@ returns-clause-served g c =
           (keeps_end first engine mid new w.in-Ok-served.ensures.invariant) begun goes none shows ended.status
           (write_history _ phases history given ended.status (subst (λ (p : List (List Line)). Follows p history) c.phases-2.ensures w.in-Ok-served.ensures.ok))
           (subst (λ (h : List Entry). HasText (history_text h) (written was) (written last) given) c.from_entries-history.ensures ended.text) in
-          subst (λ (s : Status). Served (λ judged. judged_status judged phases) nodes phases ⊥ (HasRisen (faults was) (faults is)) (written was) (written is) old new s history engine.turns.items) (sym w.status-is)
-          (subst (λ k. Served (λ judged. judged_status judged phases) nodes phases ⊥ (HasRisen (faults was) (faults k)) (written was) (written k) old new given history engine.turns.items) (sym w.sink-is) served)
+          subst (λ (s : Status). Served (λ judged. judged_status judged phases) nodes phases ⊥ (HasRisen (faults was) (faults is)) (written was)
+          (written is) old new s history engine.turns.items)
+          (sym w.status-is)
+          (subst
+          (λ k. Served (λ judged. judged_status judged phases) nodes phases ⊥ (HasRisen (faults was) (faults k)) (written was)
+          (written k) old new given history engine.turns.items)
+          (sym w.sink-is) served)
     ])
 
 pub returns-clause-advances : goal.returns-clause-advances

@@ -16,7 +16,8 @@ returns-in-Err-clause-served g c =
     let written = g.K.Sink.written c.args.sink.now in
     let disk = g.D.Disk.view c.args.disk.now in
     let found = c.in-Err.ensures.err in
-    subst (λ (t : Roomy Turn). ServedScript c.args.nodes left Read Wrote written written disk disk c.in-Err.status c.new.result t.items) (sym c.new-in-Err.ensures)
+    subst (λ (t : Roomy Turn). ServedScript c.args.nodes left Read Wrote written written disk disk c.in-Err.status c.new.result t.items)
+    (sym c.new-in-Err.ensures)
     (subst (λ (h : List Entry). ServedScript c.args.nodes left Read Wrote written written disk disk c.in-Err.status h []) (sym c.new.ensures)
     (served_unread c.args.nodes left found.0 Read Wrote written disk c.in-Err.status found.1 found.2))
 
@@ -26,5 +27,6 @@ returns-in-Ok-clause-served g c =
     let Read = HasRisen (g.S.Source.faults c.args.source.now) (g.S.Source.faults c.read_script.new.source) in
     let Wrote = HasRisen (g.K.Sink.faults c.args.sink.now) (g.K.Sink.faults c.serve_script.new.sink) in
     let found = c.in-Ok.ensures.ok in
-    served_read c.args.nodes left found.0 c.in-Ok.script Read Wrote (g.K.Sink.written c.args.sink.now) (g.K.Sink.written c.serve_script.new.sink) (g.D.Disk.view c.args.disk.now) (g.D.Disk.view c.serve_script.new.disk)
+    served_read c.args.nodes left found.0 c.in-Ok.script Read Wrote (g.K.Sink.written c.args.sink.now) (g.K.Sink.written c.serve_script.new.sink)
+    (g.D.Disk.view c.args.disk.now) (g.D.Disk.view c.serve_script.new.disk)
     c.serve_script.result.0 c.serve_script.result.1 c.serve_script.result.2.items found.1 found.2 found.3 c.serve_script.ensures.served

@@ -23,5 +23,6 @@ returns-clause-torn g c =
     let n = length c.args.bytes.now in
     λ content told counts.
     torn_after c.args.at n old mid new counts c.write_at.ensures.call.time c.sync.ensures.call.time c.write_at.ensures.images
-    (torn_synced c.args.at c.args.bytes.now content old mid new (omega (arith, laws.whole c.args.disk.now content told, c.requires.within)) told (laws.read_is_left c.args.disk.now content told)
+    (torn_synced c.args.at c.args.bytes.now content old mid new (omega (arith, laws.whole c.args.disk.now content told, c.requires.within)) told
+    (laws.read_is_left c.args.disk.now content told)
     c.in_ok-write_at.ensures.ok c.sync.ensures.content c.in_ok-sync.ensures.ok)

@@ -9,5 +9,6 @@ returns-then-entry-stamp-clause-entry c =
     let there = c.in_ok-entry.ensures.lookup in
     entry_found c.args.parts.now c.args.list c.args.place c.in_ok-get.field-0.now c.in_ok-entry.entry.now c.args.stamp c.requires
     (slice_get_read c.args.parts.now _ c.args.list c.in_ok-get.field-0.now refl (ltb-true _ _ (sym lists.0)) lists.1)
-    (ap (λ xs. slice_get xs c.args.place) (sym c.deref.ensures.value) ∙ slice_get_read c.deref.result.now _ c.args.place c.in_ok-entry.entry.now refl (ltb-true _ _ (sym there.0)) there.1)
+    (ap (λ xs. slice_get xs c.args.place) (sym c.deref.ensures.value)
+    ∙ slice_get_read c.deref.result.now _ c.args.place c.in_ok-entry.entry.now refl (ltb-true _ _ (sym there.0)) there.1)
     c.if-entry-stamp.true

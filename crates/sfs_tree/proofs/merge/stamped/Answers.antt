@@ -7,7 +7,8 @@ use Rattle.sfs_tree.proofs.merge.stamped.Goals as goal
 
 pub returns-in-Some : goal.returns-in-Some
 returns-in-Some c =
-    here_found c.args.stamp c.args.parts.now c.loop-part.part-index c.part-item.result c.loop-part-test.true c.part-item.is c.loop-part.invariant c.in-Some.entry.now
+    here_found c.args.stamp c.args.parts.now c.loop-part.part-index c.part-item.result c.loop-part-test.true c.part-item.is c.loop-part.invariant
+    c.in-Some.entry.now
     (sym (ap option_copied c.in-Some.is) ∙ c.stamped_in.ensures ∙ ap (find (has_stamp c.args.stamp)) c.deref.ensures.value)
 
 pub loop-part-preserved : goal.loop-part-preserved

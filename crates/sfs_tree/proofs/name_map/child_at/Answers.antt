@@ -14,8 +14,10 @@ returns-then-place-rows c =
 
 pub returns-then-eq : goal.returns-then-eq
 returns-then-eq c =
-    find-at_row c.args.rows.now c.index-rows-place.result c.args.name.now c.args.place true c.index-rows-place.is (omega arith) (sym c.if-eq.true ∙ c.eq.ensures ∙ ap (λ name. bytes_eq name c.args.name.now) c.bytes.ensures.bytes) c.requires.sorted c.requires.place
+    find-at_row c.args.rows.now c.index-rows-place.result c.args.name.now c.args.place true c.index-rows-place.is (omega arith)
+    (sym c.if-eq.true ∙ c.eq.ensures ∙ ap (λ name. bytes_eq name c.args.name.now) c.bytes.ensures.bytes) c.requires.sorted c.requires.place
 
 pub returns-else-eq : goal.returns-else-eq
 returns-else-eq c =
-    find-at_row c.args.rows.now c.index-rows-place.result c.args.name.now c.args.place false c.index-rows-place.is (omega arith) (sym c.if-eq.false ∙ c.eq.ensures ∙ ap (λ name. bytes_eq name c.args.name.now) c.bytes.ensures.bytes) c.requires.sorted c.requires.place
+    find-at_row c.args.rows.now c.index-rows-place.result c.args.name.now c.args.place false c.index-rows-place.is (omega arith)
+    (sym c.if-eq.false ∙ c.eq.ensures ∙ ap (λ name. bytes_eq name c.args.name.now) c.bytes.ensures.bytes) c.requires.sorted c.requires.place

@@ -6,7 +6,8 @@ abbrev pub invariant-loop-place : goal.invariant-loop-place
 invariant-loop-place l = record {
   place : l.place ≤ length l.rows;
   other : l.other ≤ length l.others;
-  both : map name_and_child l.both.items ++ both_lists (map name_and_child (drop l.place l.rows)) (map name_and_child (drop l.other l.others)) ≡ both_lists (map name_and_child l.rows) (map name_and_child l.others);
+  both : map name_and_child l.both.items ++ both_lists (map name_and_child (drop l.place l.rows)) (map name_and_child (drop l.other l.others))
+      ≡ both_lists (map name_and_child l.rows) (map name_and_child l.others);
 }
 
 abbrev pub decreases-loop-place : goal.decreases-loop-place

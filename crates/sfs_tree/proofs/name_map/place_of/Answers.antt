@@ -8,4 +8,7 @@ use Rattle.sfs_tree.proofs.name_map.place_of.Goals as goal
 
 pub returns : goal.returns
 returns c =
-    IsPlaceOf-partition c.args.rows.now c.args.name.now c.partition_point.result c.partition_point.ensures.bound (IsPartitionPoint-from_clause (λ (row : NameRow). is_lt (name_cmp row.name c.args.name.now)) c.args.rows.now c.partition_point.result c.partition_point.ensures.partitioned (IsPartitionedBy-sorted c.args.rows.now c.args.name.now c.requires) (λ a r f h. search rules))
+    IsPlaceOf-partition c.args.rows.now c.args.name.now c.partition_point.result c.partition_point.ensures.bound
+    (IsPartitionPoint-from_clause
+    (λ (row : NameRow). is_lt (name_cmp row.name c.args.name.now)) c.args.rows.now c.partition_point.result c.partition_point.ensures.partitioned
+    (IsPartitionedBy-sorted c.args.rows.now c.args.name.now c.requires) (λ a r f h. search rules))

@@ -4,7 +4,8 @@ use Rattle.std.specs.Mem.Slots.Ownership.{Filled}
 use Rattle.stamp_table.proofs.close.free.Given as goal
 
 abbrev pub invariant-loop-place : goal.invariant-loop-place
-invariant-loop-place g l = Filled (slots_filled l.closed.slots) l.place (slots_len l.closed.slots) × ((k : ℕ) → k < l.place → get_or (slots_filled l.closed.slots) k false ≡ false)
+invariant-loop-place g l =
+    Filled (slots_filled l.closed.slots) l.place (slots_len l.closed.slots) × ((k : ℕ) → k < l.place → get_or (slots_filled l.closed.slots) k false ≡ false)
 
 abbrev pub decreases-loop-place : goal.decreases-loop-place
 decreases-loop-place g l = slots_len l.closed.slots - l.place

@@ -9,5 +9,6 @@ join_seat-requires g c =
       ap (λ h. h.table) c.core.view_is ∙ c.requires.core.0,
       (no_slots c.core.inside.seat _ _ _ _ c.core.invariant.0 none).1,
       search rules,
-      asks_join g.M.Meaning.lawful g.M.Meaning.stands _ _ _ _ c.core.inside.seat _ _ _ _ c.core.invariant.0 none c.requires.lead.1 (ap (λ h. h.view.core) c.core.view_is ∙ c.requires.core.1),
+      asks_join g.M.Meaning.lawful g.M.Meaning.stands _ _ _ _ c.core.inside.seat _ _ _ _ c.core.invariant.0 none c.requires.lead.1
+          (ap (λ h. h.view.core) c.core.view_is ∙ c.requires.core.1),
     )

@@ -20,6 +20,17 @@ loop-core-preserved g c =
       ready = grind (arith, common_steps);
       lists = grind (arith, common_steps);
       parts = grind (arith, common_steps);
-      calls = subst (λ (z : List (List (Event g.row.X.Denot)) × List (List Entry)). AllZip AreCallsOf z.0 z.1) (λ i. (sym (ap (λ v. v.lists) gathered) i, sym (ap (map (λ p. p.items)) pushed ∙ (map-append (λ p. p.items) c.loop-core.parts.items (c.gather-entries.result ∷ []) ∙ ap (λ e. map (λ p. p.items) c.loop-core.parts.items ++ e ∷ []) entries)) i)) (calls_snoc c.loop-core.lead.me.0.lists (map (λ p. p.items) c.loop-core.parts.items) c.in-Some.core.view.mine c.in-Some.core.entries inv.calls c.gather-entries.ensures.calls);
+      calls =
+          subst (λ (z : List (List (Event g.row.X.Denot)) × List (List Entry)). AllZip AreCallsOf z.0 z.1)
+          (λ i. (
+            sym (ap (λ v. v.lists) gathered) i,
+            sym
+                (ap (map (λ p. p.items)) pushed
+                ∙ (map-append (λ p. p.items) c.loop-core.parts.items (c.gather-entries.result ∷ [])
+                ∙ ap (λ e. map (λ p. p.items) c.loop-core.parts.items ++ e ∷ []) entries))
+                i,
+          ))
+          (calls_snoc c.loop-core.lead.me.0.lists
+          (map (λ p. p.items) c.loop-core.parts.items) c.in-Some.core.view.mine c.in-Some.core.entries inv.calls c.gather-entries.ensures.calls);
       room = search rules;
     }

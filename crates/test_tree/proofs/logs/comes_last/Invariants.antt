@@ -5,4 +5,6 @@ use Rattle.mem_cells.specs.Part.{changes_kept}
 use Rattle.test_tree.proofs.logs.comes_last.Given as goal
 
 abbrev pub invariant-loop-place : goal.invariant-loop-place
-invariant-loop-place l = (k : ℕ) (d : Change) → k < l.place → k < length (changes_kept l.part l.one.dir.0) → log_place (get_or (changes_kept l.part l.one.dir.0) k d) ≤ log_place l.one
+invariant-loop-place l =
+    (k : ℕ) (d : Change) → k < l.place → k < length (changes_kept l.part l.one.dir.0)
+    → log_place (get_or (changes_kept l.part l.one.dir.0) k d) ≤ log_place l.one

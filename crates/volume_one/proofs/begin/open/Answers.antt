@@ -48,7 +48,14 @@ returns-clause-begins g c =
     subst (λ (numbers : List ℕ). AreReplaced numbers mounted.old.items c.make_places.new.old c.replace_entries.new.old)
     (ap (map node_number) (c.deref-2.ensures.value ∙ nodes) ∙ numbers_are mounted.old.items) c.replace_entries.ensures in
     begins_open c.args.nodes mounted (g.D.Disk.view before) (g.D.Disk.view after) lawful lawful_later
-    (record { told = own.ok; sound = own.sound; moments = own.moments; ended = λ image told calm. (own.ended image told calm).left; tells = λ image told calm. (own.ended image told calm).tells; advances = own.runs.advances })
+    (record {
+      told = own.ok;
+      sound = own.sound;
+      moments = own.moments;
+      ended = λ image told calm. (own.ended image told calm).left;
+      tells = λ image told calm. (own.ended image told calm).tells;
+      advances = own.runs.advances;
+    })
     _
     (record {
       layout = refl;

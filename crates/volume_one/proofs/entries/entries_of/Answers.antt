@@ -23,18 +23,22 @@ loop-node-preserved c =
     (elim c.match-old_at.branch [
       | in-Some+in_ok-entry_of-in-Some+in_ok-push-in-Some w ↦
           let found : Some w.in-Some.one.now ≡ old_at kept node.0 = sym (ap option_copied w.in-Some.is) ∙ c.old_at.ensures in
-          let own : option_to_list (entry_at kept node.0) ≡ (record { node = node; old = w.in-Some.one.now }) ∷ [] = ap (λ (o : Option OldKept). option_to_list (disk_entry_with node.0 o)) (sym found) in
+          let own : option_to_list (entry_at kept node.0) ≡ (record { node = node; old = w.in-Some.one.now }) ∷ [] =
+          ap (λ (o : Option OldKept). option_to_list (disk_entry_with node.0 o)) (sym found) in
           ap (λ (v : Vec OldEntry Global). v.items) w.entries-is ∙ w.in_ok-push-in-Some.ensures.items
           ∙ ap (λ (e : OldEntry). c.loop-node.entries.items ++ e ∷ []) w.in_ok-entry_of-in-Some.ensures
           ∙ ap (λ l. c.loop-node.entries.items ++ l) (sym own)
       | in-None w ↦
           let found : None ≡ old_at kept node.0 = sym (ap option_copied w.in-None.is) ∙ c.old_at.ensures in
           let own : option_to_list (entry_at kept node.0) ≡ [] = ap (λ (o : Option OldKept). option_to_list (disk_entry_with node.0 o)) (sym found) in
-          ap (λ (v : Vec OldEntry Global). v.items) w.entries-is ∙ sym (append-nil c.loop-node.entries.items) ∙ ap (λ l. c.loop-node.entries.items ++ l) (sym own)
+          ap (λ (v : Vec OldEntry Global). v.items) w.entries-is ∙ sym (append-nil c.loop-node.entries.items)
+          ∙ ap (λ l. c.loop-node.entries.items ++ l) (sym own)
     ])
 
 pub from_vec-requires : goal.from_vec-requires
 from_vec-requires c =
     let nodes = c.args.nodes.now in
-    let all = c.loop-node.invariant ∙ ap (λ (l : List NodeId). disk_entries_at c.args.old.now (map node_number l)) (take_all c.loop-node.node-index nodes c.loop-node-test.false) in
+    let all =
+    c.loop-node.invariant
+    ∙ ap (λ (l : List NodeId). disk_entries_at c.args.old.now (map node_number l)) (take_all c.loop-node.node-index nodes c.loop-node-test.false) in
     subst (AscendBy entry_node) (sym all) (entries_ascend c.args.old.now (map node_number nodes) c.requires)

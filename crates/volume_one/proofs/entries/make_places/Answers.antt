@@ -12,7 +12,8 @@ loop-node-preserved c =
     let nodes : List NodeId = c.args.nodes.now in
     record {
       places = all_next node_number (HasDiskPlace c.make_place.new.old) nodes i (record { 0 = 0 }) c.loop-node-test.true
-          (all_weaker (HasDiskPlace c.loop-node.old) (HasDiskPlace c.make_place.new.old) (map node_number (take i nodes)) c.make_place.ensures.others c.loop-node.invariant.places)
+          (all_weaker (HasDiskPlace c.loop-node.old) (HasDiskPlace c.make_place.new.old)
+          (map node_number (take i nodes)) c.make_place.ensures.others c.loop-node.invariant.places)
           c.in_ok-make_place.ensures.place;
       same = record {
         same = λ node. c.make_place.ensures.same.same node ∙ c.loop-node.invariant.same.same node;
@@ -21,4 +22,6 @@ loop-node-preserved c =
     }
 
 pub returns-clause-places : goal.returns-clause-places
-returns-clause-places c = subst (λ (l : List NodeId). HaveDiskPlaces c.loop-node.old (map node_number l)) (take_all c.loop-node.node-index c.args.nodes.now c.loop-node-test.false) c.loop-node.invariant.places
+returns-clause-places c =
+    subst (λ (l : List NodeId). HaveDiskPlaces c.loop-node.old (map node_number l))
+    (take_all c.loop-node.node-index c.args.nodes.now c.loop-node-test.false) c.loop-node.invariant.places

@@ -19,12 +19,23 @@ loop-place-preserved c =
     let place : ℕ = c.loop-place.place - 1 in
     let lt : place < length nodes = omega (arith, c.loop-place-test.true, is.within) in
     let next : c.loop-place.place ≡ suc place = omega (arith, c.loop-place-test.true) in
-    let left = subst (λ k. (node : ℕ) → is_listed (take k (map node_number nodes)) node ≡ true → item_with entry_node node c.loop-place.after.items ≡ item_with entry_node node c.args.after.items) next is.left in
-    let each = subst (λ k. (node : ℕ) → old_at c.loop-place.old node ≡ cond (is_listed (drop k (map node_number nodes)) node) (kept_in c.args.after.items node) (old_at c.args.old.now node)) next is.each in
+    let left =
+    subst (λ k. (node : ℕ) → is_listed (take k (map node_number nodes)) node ≡ true
+    → item_with entry_node node c.loop-place.after.items ≡ item_with entry_node node c.args.after.items)
+    next is.left in
+    let each =
+    subst (λ k. (node : ℕ)
+    → old_at c.loop-place.old node
+    ≡ cond (is_listed (drop k (map node_number nodes)) node) (kept_in c.args.after.items node) (old_at c.args.old.now node))
+    next is.each in
     record {
       within = omega (arith, is.within);
       places = all_weaker (HasDiskPlace c.loop-place.old) (HasDiskPlace c.replace_one.new.old) (map node_number nodes) c.replace_one.ensures.places is.places;
       ordered = λ up. c.replace_one.ensures.ordered;
-      left = left_one nodes c.requires.ascending place lt c.args.after.items c.loop-place.after.items c.replace_one.new.after.items left c.replace_one.ensures.rest;
-      each = each_one nodes c.requires.ascending place lt c.args.after.items c.loop-place.after.items c.args.old.now c.loop-place.old c.replace_one.new.old left each c.replace_one.ensures.replaced;
+      left =
+          left_one nodes c.requires.ascending place lt c.args.after.items c.loop-place.after.items c.replace_one.new.after.items left
+          c.replace_one.ensures.rest;
+      each =
+          each_one nodes c.requires.ascending place lt c.args.after.items c.loop-place.after.items c.args.old.now c.loop-place.old c.replace_one.new.old left
+          each c.replace_one.ensures.replaced;
     }

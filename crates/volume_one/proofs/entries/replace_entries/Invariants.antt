@@ -13,7 +13,8 @@ invariant-loop-place l = record {
   within : l.place ≤ length l.nodes;
   places : HaveDiskPlaces l.old (map node_number l.nodes);
   ordered : IsOrdered nat_cmp l.fn.old → IsOrdered nat_cmp l.old;
-  left : (node : ℕ) → is_listed (take l.place (map node_number l.nodes)) node ≡ true → item_with entry_node node l.after.items ≡ item_with entry_node node l.fn.after.items;
+  left : (node : ℕ) → is_listed (take l.place (map node_number l.nodes)) node ≡ true
+      → item_with entry_node node l.after.items ≡ item_with entry_node node l.fn.after.items;
   each : (node : ℕ) → old_at l.old node ≡ cond (is_listed (drop l.place (map node_number l.nodes)) node) (kept_in l.fn.after.items node) (old_at l.fn.old node);
 }
 

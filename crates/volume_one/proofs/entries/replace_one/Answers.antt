@@ -5,4 +5,5 @@ use Rattle.volume_one.proofs.Placing.{without_other}
 use Rattle.volume_one.proofs.entries.replace_one.Goals as goal
 
 pub returns-clause-rest : goal.returns-clause-rest
-returns-clause-rest c = λ other differ. ap (item_with entry_node other) c.take.ensures.items ∙ without_other entry_node c.args.after.now.items c.args.node.0 other differ
+returns-clause-rest c =
+    λ other differ. ap (item_with entry_node other) c.take.ensures.items ∙ without_other entry_node c.args.after.now.items c.args.node.0 other differ

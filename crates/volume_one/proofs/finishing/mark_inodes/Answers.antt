@@ -19,8 +19,10 @@ loop-node-preserved c =
           ∙ ap (λ b. cond (nat_eq own.0 node) b (is_listed (map node_number c.loop-node.known.inodes) node)) has
           ∙ same_node kept own.0 node (is_listed (map node_number c.loop-node.known.inodes) node)
           ∙ ap (cond (nat_eq own.0 node) (is_some (old_at kept node))) (c.loop-node.invariant.inodes node)
-          ∙ marked_next (is_listed (map node_number (take i nodes)) node) (nat_eq own.0 node) (is_some (old_at kept node)) (is_listed (map node_number c.args.known.now.inodes) node)
-          ∙ ap (λ b. cond b (is_some (old_at kept node)) (is_listed (map node_number c.args.known.now.inodes) node)) (sym (listed_more node_number nodes i (record { 0 = 0 }) node c.loop-node-test.true));
+          ∙ marked_next (is_listed (map node_number (take i nodes)) node) (nat_eq own.0 node) (is_some (old_at kept node))
+          (is_listed (map node_number c.args.known.now.inodes) node)
+          ∙ ap (λ b. cond b (is_some (old_at kept node)) (is_listed (map node_number c.args.known.now.inodes) node))
+          (sym (listed_more node_number nodes i (record { 0 = 0 }) node c.loop-node-test.true));
       cuts = c.set_inode.ensures.cuts ∙ c.loop-node.invariant.cuts;
       births = c.set_inode.ensures.births ∙ c.loop-node.invariant.births;
       room_for_cuts = c.set_inode.ensures.room_for_cuts ∙ c.loop-node.invariant.room_for_cuts;

@@ -13,7 +13,8 @@ pub returns : goal.returns
 returns c =
     let concern = c.in_ok-concern.concern in
     let entries = c.in_ok-entries.ensures ∙ ap (λ (l : List NodeId). disk_entries_at c.args.old.now (map node_number l)) c.as_slice.ensures in
-    IfOk-weaker c.plan.result (IsPlanOf c.args.node c.args.stamp c.args.gathered.now concern c.in_ok-entries.entries.items (option_copied c.args.file)) (IsPlannedByGathered c.args.node c.args.stamp c.args.gathered.now c.args.old.now (option_copied c.args.file))
+    IfOk-weaker c.plan.result (IsPlanOf c.args.node c.args.stamp c.args.gathered.now concern c.in_ok-entries.entries.items (option_copied c.args.file))
+    (IsPlannedByGathered c.args.node c.args.stamp c.args.gathered.now c.args.old.now (option_copied c.args.file))
     (λ plan is. record {
       concern = concern;
       concern_is = c.in_ok-concern.ensures;

@@ -13,9 +13,14 @@ returns c =
     let files = c.args.files.items in
     let dirs = c.in_ok-directories.ensures in
     let long = ap length c.as_slice-one-items.ensures.items in
-    let listed = ap (λ (numbers : List ℕ). filter (λ entry. not (has_listed_node numbers entry)) old) c.deref.ensures.value ∙ (λ i. filter (λ (entry : OldEntry). not (not (nat_eq (c.in_ok-leaving.ensures.same entry.node.0 i) 0))) old) in
-    let gone = c.in_ok-parted.ensures.gone ∙ ap (λ (numbers : List ℕ). filter (has_listed_node numbers) old) c.deref.ensures.value ∙ (λ i. filter (λ (entry : OldEntry). not (nat_eq (c.in_ok-leaving.ensures.same entry.node.0 i) 0)) old) in
+    let listed =
+    ap (λ (numbers : List ℕ). filter (λ entry. not (has_listed_node numbers entry)) old) c.deref.ensures.value
+    ∙ (λ i. filter (λ (entry : OldEntry). not (not (nat_eq (c.in_ok-leaving.ensures.same entry.node.0 i) 0))) old) in
+    let gone =
+    c.in_ok-parted.ensures.gone ∙ ap (λ (numbers : List ℕ). filter (has_listed_node numbers) old) c.deref.ensures.value
+    ∙ (λ i. filter (λ (entry : OldEntry). not (nat_eq (c.in_ok-leaving.ensures.same entry.node.0 i) 0)) old) in
     let seats = c.loop-one.invariant
-    ∙ (λ i. c.in_ok-parted.ensures.seats i ++ map (seated_entering (changes_in c.in_ok-directories.directories nets files)) (take_all c.loop-one.one-index enter (omega arith) i))
+    ∙ (λ i. c.in_ok-parted.ensures.seats i
+    ++ map (seated_entering (changes_in c.in_ok-directories.directories nets files)) (take_all c.loop-one.one-index enter (omega arith) i))
     ∙ (λ i. map (seated_old (changes_in (dirs i) nets files)) (listed i) ++ map (seated_entering (changes_in (dirs i) nets files)) enter) in
     λ i. record { seats = seats i; gone = gone i; changes = changes_in (dirs i) nets files }

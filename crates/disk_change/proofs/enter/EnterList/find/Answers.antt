@@ -7,10 +7,14 @@ use Rattle.disk_change.proofs.enter.EnterList.find.Goals as goal
 pub returns-in-Ok : goal.returns-in-Ok
 returns-in-Ok c =
     let by_key = c.in-Ok.ensures.position enter_node (answers_always _ _ _ (λ f a r g called. search rules)) in
-    let found = search_finds enter_node c.self.inside.items.items c.self.invariant _ c.in-Ok.at c.index.result.now (rw (← c.deref.ensures.value) c.in-Ok.ensures.bound) (rw (← c.deref.ensures.value) by_key) in
+    let found =
+    search_finds enter_node c.self.inside.items.items c.self.invariant _ c.in-Ok.at c.index.result.now (rw (← c.deref.ensures.value) c.in-Ok.ensures.bound)
+    (rw (← c.deref.ensures.value) by_key) in
     rw (← c.self.view_is) (ap Some c.index.ensures ∙ found)
 
 pub returns-in-Err : goal.returns-in-Err
 returns-in-Err c =
     let by_key = c.in-Err.ensures.position enter_node (answers_always _ _ _ (λ f a r g called. search rules)) in
-    rw (← c.self.view_is) (search_misses enter_node c.self.inside.items.items c.self.invariant _ c.in-Err.field-0 (rw (← c.deref.ensures.value) c.in-Err.ensures.bound) (rw (← c.deref.ensures.value) by_key))
+    rw (← c.self.view_is)
+    (search_misses enter_node c.self.inside.items.items c.self.invariant _ c.in-Err.field-0 (rw (← c.deref.ensures.value) c.in-Err.ensures.bound)
+    (rw (← c.deref.ensures.value) by_key))

@@ -21,18 +21,24 @@ loop-one-preserved c =
     let within : c.loop-one.one-index < length c.args.nets.now.items = omega arith in
     let one = c.one-item.is ∙ ap (λ those. get_or those c.loop-one.one-index c.one-item.result) same in
     record {
-      coming = c.in_ok-push_rows.ensures.coming ∙ (λ i. c.loop-one.invariant.coming i ++ linked_of (λ row. row.after) dirs (one i)) ∙ sym (flat_map_last (linked_of (λ row. row.after) dirs) c.args.nets.now.items c.loop-one.one-index c.one-item.result within);
-      going = c.in_ok-push_rows.ensures.going ∙ (λ i. c.loop-one.invariant.going i ++ linked_of (λ row. row.before) dirs (one i)) ∙ sym (flat_map_last (linked_of (λ row. row.before) dirs) c.args.nets.now.items c.loop-one.one-index c.one-item.result within);
+      coming =
+          c.in_ok-push_rows.ensures.coming ∙ (λ i. c.loop-one.invariant.coming i ++ linked_of (λ row. row.after) dirs (one i))
+          ∙ sym (flat_map_last (linked_of (λ row. row.after) dirs) c.args.nets.now.items c.loop-one.one-index c.one-item.result within);
+      going =
+          c.in_ok-push_rows.ensures.going ∙ (λ i. c.loop-one.invariant.going i ++ linked_of (λ row. row.before) dirs (one i))
+          ∙ sym (flat_map_last (linked_of (λ row. row.before) dirs) c.args.nets.now.items c.loop-one.one-index c.one-item.result within);
     }
 
 pub returns-clause-coming : goal.returns-clause-coming
 returns-clause-coming c =
     let long = ap length c.as_slice-one-items.ensures.items in
     λ node. sum_by-IsPermutation _ c.loop-one.coming.items _ c.sort_unstable.ensures.permutation
-    ∙ ap (λ those. times_in those node) (c.loop-one.invariant.coming ∙ ap (rows_coming c.args.directories.now) (take_all c.loop-one.one-index c.args.nets.now.items (omega arith)))
+    ∙ ap (λ those. times_in those node)
+    (c.loop-one.invariant.coming ∙ ap (rows_coming c.args.directories.now) (take_all c.loop-one.one-index c.args.nets.now.items (omega arith)))
 
 pub returns-clause-going : goal.returns-clause-going
 returns-clause-going c =
     let long = ap length c.as_slice-one-items.ensures.items in
     λ node. sum_by-IsPermutation _ c.loop-one.going.items _ c.sort_unstable-2.ensures.permutation
-    ∙ ap (λ those. times_in those node) (c.loop-one.invariant.going ∙ ap (rows_going c.args.directories.now) (take_all c.loop-one.one-index c.args.nets.now.items (omega arith)))
+    ∙ ap (λ those. times_in those node)
+    (c.loop-one.invariant.going ∙ ap (rows_going c.args.directories.now) (take_all c.loop-one.one-index c.args.nets.now.items (omega arith)))

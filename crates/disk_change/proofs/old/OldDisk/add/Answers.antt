@@ -10,13 +10,18 @@ invariant_of-self-2 c =
     let items = c.self.inside.items.items in
     let entry = old_entry c.args.node c.args.inode c.args.meta c.args.tables.items c.args.slots.items in
     let none = ap (λ l. item_with entry_node c.args.node.0 l.items) c.self.view_is ∙ c.requires in
-    let put = insert_is_put entry_node items entry c.place_of-place.result (rw (← c.deref.ensures.value) c.place_of-place.ensures.bound) none (rw (← c.deref.ensures.value) c.place_of-place.ensures.parted) in
-    subst (λ (those : List OldEntry). AscendBy entry_node those) (sym (c.in_ok-insert.ensures.items ∙ put)) (ascends_put entry_node items entry c.self.invariant none)
+    let put =
+    insert_is_put entry_node items entry c.place_of-place.result (rw (← c.deref.ensures.value) c.place_of-place.ensures.bound) none
+    (rw (← c.deref.ensures.value) c.place_of-place.ensures.parted) in
+    subst (λ (those : List OldEntry). AscendBy entry_node those) (sym (c.in_ok-insert.ensures.items ∙ put))
+    (ascends_put entry_node items entry c.self.invariant none)
 
 pub returns-clause-ok : goal.returns-clause-ok
 returns-clause-ok c =
     let items = c.self.inside.items.items in
     let entry = old_entry c.args.node c.args.inode c.args.meta c.args.tables.items c.args.slots.items in
     let none = ap (λ l. item_with entry_node c.args.node.0 l.items) c.self.view_is ∙ c.requires in
-    let put = insert_is_put entry_node items entry c.place_of-place.result (rw (← c.deref.ensures.value) c.place_of-place.ensures.bound) none (rw (← c.deref.ensures.value) c.place_of-place.ensures.parted) in
+    let put =
+    insert_is_put entry_node items entry c.place_of-place.result (rw (← c.deref.ensures.value) c.place_of-place.ensures.bound) none
+    (rw (← c.deref.ensures.value) c.place_of-place.ensures.parted) in
     rw (← c.self.view_is) (c.in_ok-insert.ensures.items ∙ put)

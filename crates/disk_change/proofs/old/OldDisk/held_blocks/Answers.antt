@@ -5,7 +5,8 @@ use Rattle.disk_change.specs.declared.old.OldEntry.{OldEntry}
 use Rattle.disk_change.proofs.old.OldDisk.held_blocks.Goals as goal
 
 -- what entries hold beside no blocks
-held_alone : (none blocks : List ℕ) (entries others : List OldEntry) → none ≡ [] → others ≡ entries → ((block : ℕ) → Contains blocks block ↔ (Contains none block ⊎ IsLeftByGone others block))
+held_alone : (none blocks : List ℕ) (entries others : List OldEntry) → none ≡ [] → others ≡ entries
+    → ((block : ℕ) → Contains blocks block ↔ (Contains none block ⊎ IsLeftByGone others block))
     → (block : ℕ) → Contains blocks block ↔ IsLeftByGone entries block
 held_alone none blocks entries others empty same each block =
     (λ has. held ((each block).0 has), λ has. (each block).1 (inr (subst (λ (l : List OldEntry). IsLeftByGone l block) (sym same) has)))
@@ -15,4 +16,6 @@ held_alone none blocks entries others empty same each block =
     held (inr has) = subst (λ (l : List OldEntry). IsLeftByGone l block) same has
 
 pub returns-clause-each : goal.returns-clause-each
-returns-clause-each c = held_alone c.new.result.items c.in_ok-blocks.blocks.items c.args.self.now.items c.as_slice.result.now c.new.ensures.items c.as_slice.ensures.items c.in_ok-blocks.ensures.each
+returns-clause-each c =
+    held_alone c.new.result.items c.in_ok-blocks.blocks.items c.args.self.now.items c.as_slice.result.now c.new.ensures.items c.as_slice.ensures.items
+    c.in_ok-blocks.ensures.each

@@ -9,4 +9,5 @@ use Rattle.flush_core.proofs.state.commits.raised_all.Given as goal
 
 abbrev pub invariant-loop-flight : goal.invariant-loop-flight
 invariant-loop-flight l = (history : List Entry) → IsPast l.first history l.past
-    → AreRaised l.first history every_entry l.fn.from.cut (has_node l.fn.from.inodes) (kept_flushes (map flight_as (take l.flight-index l.flights)) l.kept) l.raise.cut (has_node l.raise.inodes)
+    → AreRaised l.first history every_entry l.fn.from.cut (has_node l.fn.from.inodes)
+    (kept_flushes (map flight_as (take l.flight-index l.flights)) l.kept) l.raise.cut (has_node l.raise.inodes)

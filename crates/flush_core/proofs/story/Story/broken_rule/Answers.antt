@@ -6,4 +6,5 @@ use Rattle.flush_core.proofs.story.Story.broken_rule.Goals as goal
 pub returns-in-Some : goal.returns-in-Some
 returns-in-Some c =
     let ready = c.self.invariant.ready c.in-Some.past c.in-Some.is in
-    subst (λ (s : StoryState). FindsBroken s.first s.history c.args.cut.now c.broken_rule.result) c.self.view_is (c.broken_rule.ensures c.self.inside.first c.self.inside.entries.items ready.sound ready.legal ready.is_past)
+    subst (λ (s : StoryState). FindsBroken s.first s.history c.args.cut.now c.broken_rule.result) c.self.view_is
+    (c.broken_rule.ensures c.self.inside.first c.self.inside.entries.items ready.sound ready.legal ready.is_past)

@@ -10,6 +10,7 @@ returns c =
     let whole : take 4096 c.args.block.now ≡ c.args.block.now = take_all 4096 c.args.block.now (let e = c.told-block in omega arith) in
     let count : length c.read_u32_into.new.dst ≡ 1024 = c.read_u32_into.auto.dst ∙ c.deref_mut.ensures.len ∙ c.in_ok-pointers.ensures.len in
     let numbers : c.read_u32_into.new.dst ≡ pointers_of c.args.block.now =
-    u32s_read 0 1024 c.args.block.now c.read_u32_into.new.dst count (λ k h. c.read_u32_into.ensures k h ∙ ap (λ (xs : List ℕ). number_from 0 4 (drop (4 * k) xs)) (sym whole)) in
+    u32s_read 0 1024 c.args.block.now c.read_u32_into.new.dst count
+    (λ k h. c.read_u32_into.ensures k h ∙ ap (λ (xs : List ℕ). number_from 0 4 (drop (4 * k) xs)) (sym whole)) in
     let items = with_items_is c.in_ok-pointers.pointers c.read_u32_into.new.dst (c.read_u32_into.auto.dst ∙ c.deref_mut.ensures.len) ∙ numbers in
     record { ok = λ i. record { place = c.args.place; pointers = items i } }

@@ -22,8 +22,12 @@ loop-one-preserved c =
     let within : c.loop-one.one-index < length c.args.nets.now.items = omega arith in
     let one = c.one-item.is ∙ ap (λ those. get_or those c.loop-one.one-index c.one-item.result) same in
     record {
-      coming = c.in_ok-push_rows.ensures.coming ∙ (λ i. c.loop-one.invariant.coming i ++ named_of (λ row. row.after) (one i)) ∙ sym (flat_map_last (named_of (λ row. row.after)) c.args.nets.now.items c.loop-one.one-index c.one-item.result within);
-      going = c.in_ok-push_rows.ensures.going ∙ (λ i. c.loop-one.invariant.going i ++ named_of (λ row. row.before) (one i)) ∙ sym (flat_map_last (named_of (λ row. row.before)) c.args.nets.now.items c.loop-one.one-index c.one-item.result within);
+      coming =
+          c.in_ok-push_rows.ensures.coming ∙ (λ i. c.loop-one.invariant.coming i ++ named_of (λ row. row.after) (one i))
+          ∙ sym (flat_map_last (named_of (λ row. row.after)) c.args.nets.now.items c.loop-one.one-index c.one-item.result within);
+      going =
+          c.in_ok-push_rows.ensures.going ∙ (λ i. c.loop-one.invariant.going i ++ named_of (λ row. row.before) (one i))
+          ∙ sym (flat_map_last (named_of (λ row. row.before)) c.args.nets.now.items c.loop-one.one-index c.one-item.result within);
     }
 
 pub returns-clause-coming : goal.returns-clause-coming

@@ -17,12 +17,18 @@ returns-in_err-put_gate-clause-err g c =
     let new = g.D.Disk.view c.put_gate.new.disk in
     let lawful : IsLawful old = record { whole = laws.whole c.args.disk.now; read_is_left = laws.read_is_left c.args.disk.now } in
     let large : job.place.layout.blocks ≤ old.size = subst (λ (j : Job). j.place.layout.blocks ≤ old.size) (sym c.self.view_is) c.requires.large in
-    let touches = written_touches (gate_piece (job_of c.self.inside.work).place 0) old new (let w = c.put_gate.ensures.within in omega (arith, w, large)) lawful c.put_gate.result c.put_gate.ensures.write in
-    on_err c.from_residual.result (subst (λ (j : Job). IsCopied j old → IsBetween j new) c.self.view_is (shutting_doubted job c.self.inside.work.sound old new touches))
+    let touches =
+    written_touches (gate_piece (job_of c.self.inside.work).place 0) old new
+    (let w = c.put_gate.ensures.within in omega (arith, w, large)) lawful c.put_gate.result c.put_gate.ensures.write in
+    on_err c.from_residual.result
+    (subst (λ (j : Job). IsCopied j old → IsBetween j new) c.self.view_is (shutting_doubted job c.self.inside.work.sound old new touches))
 
 pub returns-clause-write : goal.returns-clause-write
 returns-clause-write g c =
-    let same = subst (λ (j : Job). IsWrite {V = Unit {0}} {E = Doubt} (gate_piece j.place 0) (g.D.Disk.view c.args.disk.now) (g.D.Disk.view c.put_gate.new.disk) (Ok c.in_ok-put_gate.field-0)) c.self.view_is c.in_ok-put_gate.ensures.write in
+    let same =
+    subst (λ (j : Job). IsWrite {V = Unit {0}} {E = Doubt} (gate_piece j.place 0) (g.D.Disk.view c.args.disk.now) (g.D.Disk.view c.put_gate.new.disk)
+    (Ok c.in_ok-put_gate.field-0))
+    c.self.view_is c.in_ok-put_gate.ensures.write in
     write_ok _ (g.D.Disk.view c.args.disk.now) (g.D.Disk.view c.put_gate.new.disk) c.in_ok-put_gate.field-0 _ same
 
 pub returns-clause-closing : goal.returns-clause-closing
@@ -33,6 +39,10 @@ returns-clause-closing g c =
     let new = g.D.Disk.view c.put_gate.new.disk in
     let lawful : IsLawful old = record { whole = laws.whole c.args.disk.now; read_is_left = laws.read_is_left c.args.disk.now } in
     let large : job.place.layout.blocks ≤ old.size = subst (λ (j : Job). j.place.layout.blocks ≤ old.size) (sym c.self.view_is) c.requires.large in
-    let touches = written_touches (gate_piece (job_of c.self.inside.work).place 0) old new (let w = c.put_gate.ensures.within in omega (arith, w, large)) lawful c.put_gate.result c.put_gate.ensures.write in
-    let stands = written_stands (gate_piece (job_of c.self.inside.work).place 0) old new (let w = c.put_gate.ensures.within in omega (arith, w, large)) lawful c.in_ok-put_gate.ensures.write.ok in
+    let touches =
+    written_touches (gate_piece (job_of c.self.inside.work).place 0) old new
+    (let w = c.put_gate.ensures.within in omega (arith, w, large)) lawful c.put_gate.result c.put_gate.ensures.write in
+    let stands =
+    written_stands (gate_piece (job_of c.self.inside.work).place 0) old new
+    (let w = c.put_gate.ensures.within in omega (arith, w, large)) lawful c.in_ok-put_gate.ensures.write.ok in
     subst (λ (j : Job). IsCopied j old → IsClosing j new) c.self.view_is (closing_then job c.self.inside.work.sound old new touches stands)

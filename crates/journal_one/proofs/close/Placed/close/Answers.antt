@@ -28,10 +28,12 @@ returns-in_err-work-clause-advances g c =
     let old = g.D.Disk.view c.args.disk.now in
     let first = g.D.Disk.view c.sync.new.disk in
     let lawful : IsLawful old = record { whole = laws.whole c.args.disk.now; read_is_left = laws.read_is_left c.args.disk.now } in
-    let one : Span at 1 old first = span_sync at 1 old old first (span_none at 1 old) (laws.now_fits c.args.disk.now) c.sync.result lawful c.sync.ensures.sync in
+    let one : Span at 1 old first =
+    span_sync at 1 old old first (span_none at 1 old) (laws.now_fits c.args.disk.now) c.sync.result lawful c.sync.ensures.sync in
     let second = g.D.Disk.view c.shut_gate.new.disk in
     let same : (gate_piece job.place 0).at ≡ at = ap (λ (j : Job). (gate_piece j.place 0).at) c.self.view_is in
-    let two : Span at 1 old second = span_write at 1 old first second one (laws.now_fits c.sync.new.disk) (gate_piece job.place 0) c.shut_gate.result same refl c.shut_gate.ensures.write in
+    let two : Span at 1 old second =
+    span_write at 1 old first second one (laws.now_fits c.sync.new.disk) (gate_piece job.place 0) c.shut_gate.result same refl c.shut_gate.ensures.write in
     two.goes
 
 pub returns-in_err-work-clause-torn : goal.returns-in_err-work-clause-torn
@@ -42,10 +44,12 @@ returns-in_err-work-clause-torn g c =
     let old = g.D.Disk.view c.args.disk.now in
     let first = g.D.Disk.view c.sync.new.disk in
     let lawful : IsLawful old = record { whole = laws.whole c.args.disk.now; read_is_left = laws.read_is_left c.args.disk.now } in
-    let one : Span at 1 old first = span_sync at 1 old old first (span_none at 1 old) (laws.now_fits c.args.disk.now) c.sync.result lawful c.sync.ensures.sync in
+    let one : Span at 1 old first =
+    span_sync at 1 old old first (span_none at 1 old) (laws.now_fits c.args.disk.now) c.sync.result lawful c.sync.ensures.sync in
     let second = g.D.Disk.view c.shut_gate.new.disk in
     let same : (gate_piece job.place 0).at ≡ at = ap (λ (j : Job). (gate_piece j.place 0).at) c.self.view_is in
-    let two : Span at 1 old second = span_write at 1 old first second one (laws.now_fits c.sync.new.disk) (gate_piece job.place 0) c.shut_gate.result same refl c.shut_gate.ensures.write in
+    let two : Span at 1 old second =
+    span_write at 1 old first second one (laws.now_fits c.sync.new.disk) (gate_piece job.place 0) c.shut_gate.result same refl c.shut_gate.ensures.write in
     span_tears at 1 old second two
 
 pub returns-in_err-work-clause-err : goal.returns-in_err-work-clause-err
@@ -60,7 +64,8 @@ returns-in_err-work-clause-err g c =
     let rests = synced_rests old first c.sync.result lawful c.sync.ensures.sync in
     let second = g.D.Disk.view c.shut_gate.new.disk in
     let doubted : IsCopied job first → IsBetween job second = c.in_err-work.ensures.err in
-    let after : AreAllPlaced job old → IsBetween job second = λ knows. doubted (copied_then job c.self.inside.work.sound old first rests c.in_ok-sync.ensures.sync.ok knows) in
+    let after : AreAllPlaced job old → IsBetween job second =
+    λ knows. doubted (copied_then job c.self.inside.work.sound old first rests c.in_ok-sync.ensures.sync.ok knows) in
     on_err c.from_residual-in_err-work.result (subst (λ (j : Job). AreAllPlaced j old → IsBetween j second) c.self.view_is after)
 
 pub returns-in_err-sync-2-clause-advances : goal.returns-in_err-sync-2-clause-advances
@@ -71,13 +76,16 @@ returns-in_err-sync-2-clause-advances g c =
     let old = g.D.Disk.view c.args.disk.now in
     let first = g.D.Disk.view c.sync.new.disk in
     let lawful : IsLawful old = record { whole = laws.whole c.args.disk.now; read_is_left = laws.read_is_left c.args.disk.now } in
-    let one : Span at 1 old first = span_sync at 1 old old first (span_none at 1 old) (laws.now_fits c.args.disk.now) c.sync.result lawful c.sync.ensures.sync in
+    let one : Span at 1 old first =
+    span_sync at 1 old old first (span_none at 1 old) (laws.now_fits c.args.disk.now) c.sync.result lawful c.sync.ensures.sync in
     let second = g.D.Disk.view c.shut_gate.new.disk in
     let same : (gate_piece job.place 0).at ≡ at = ap (λ (j : Job). (gate_piece j.place 0).at) c.self.view_is in
-    let two : Span at 1 old second = span_write at 1 old first second one (laws.now_fits c.sync.new.disk) (gate_piece job.place 0) c.shut_gate.result same refl c.shut_gate.ensures.write in
+    let two : Span at 1 old second =
+    span_write at 1 old first second one (laws.now_fits c.sync.new.disk) (gate_piece job.place 0) c.shut_gate.result same refl c.shut_gate.ensures.write in
     let lawful_second : IsLawful second = record { whole = laws.whole c.shut_gate.new.disk; read_is_left = laws.read_is_left c.shut_gate.new.disk } in
     let new = g.D.Disk.view c.sync-2.new.disk in
-    let three : Span at 1 old new = span_sync at 1 old second new two (laws.now_fits c.shut_gate.new.disk) c.sync-2.result lawful_second c.sync-2.ensures.sync in
+    let three : Span at 1 old new =
+    span_sync at 1 old second new two (laws.now_fits c.shut_gate.new.disk) c.sync-2.result lawful_second c.sync-2.ensures.sync in
     three.goes
 
 pub returns-in_err-sync-2-clause-torn : goal.returns-in_err-sync-2-clause-torn
@@ -88,13 +96,16 @@ returns-in_err-sync-2-clause-torn g c =
     let old = g.D.Disk.view c.args.disk.now in
     let first = g.D.Disk.view c.sync.new.disk in
     let lawful : IsLawful old = record { whole = laws.whole c.args.disk.now; read_is_left = laws.read_is_left c.args.disk.now } in
-    let one : Span at 1 old first = span_sync at 1 old old first (span_none at 1 old) (laws.now_fits c.args.disk.now) c.sync.result lawful c.sync.ensures.sync in
+    let one : Span at 1 old first =
+    span_sync at 1 old old first (span_none at 1 old) (laws.now_fits c.args.disk.now) c.sync.result lawful c.sync.ensures.sync in
     let second = g.D.Disk.view c.shut_gate.new.disk in
     let same : (gate_piece job.place 0).at ≡ at = ap (λ (j : Job). (gate_piece j.place 0).at) c.self.view_is in
-    let two : Span at 1 old second = span_write at 1 old first second one (laws.now_fits c.sync.new.disk) (gate_piece job.place 0) c.shut_gate.result same refl c.shut_gate.ensures.write in
+    let two : Span at 1 old second =
+    span_write at 1 old first second one (laws.now_fits c.sync.new.disk) (gate_piece job.place 0) c.shut_gate.result same refl c.shut_gate.ensures.write in
     let lawful_second : IsLawful second = record { whole = laws.whole c.shut_gate.new.disk; read_is_left = laws.read_is_left c.shut_gate.new.disk } in
     let new = g.D.Disk.view c.sync-2.new.disk in
-    let three : Span at 1 old new = span_sync at 1 old second new two (laws.now_fits c.shut_gate.new.disk) c.sync-2.result lawful_second c.sync-2.ensures.sync in
+    let three : Span at 1 old new =
+    span_sync at 1 old second new two (laws.now_fits c.shut_gate.new.disk) c.sync-2.result lawful_second c.sync-2.ensures.sync in
     span_tears at 1 old new three
 
 pub returns-in_err-sync-2-clause-err : goal.returns-in_err-sync-2-clause-err
@@ -112,8 +123,11 @@ returns-in_err-sync-2-clause-err g c =
     let new = g.D.Disk.view c.sync-2.new.disk in
     let last = synced_rests second new c.sync-2.result lawful_second c.sync-2.ensures.sync in
     let closing : IsCopied job first → IsClosing job second = c.in_ok-work.ensures.closing in
-    let shut : AreAllPlaced job old → IsClosing job second = λ knows. closing (copied_then job c.self.inside.work.sound old first rests c.in_ok-sync.ensures.sync.ok knows) in
-    on_err c.from_residual-in_err-sync-2.result (subst (λ (j : Job). AreAllPlaced j old → IsBetween j new) c.self.view_is (λ knows. closing_between job c.self.inside.work.sound second new last (shut knows)))
+    let shut : AreAllPlaced job old → IsClosing job second =
+    λ knows. closing (copied_then job c.self.inside.work.sound old first rests c.in_ok-sync.ensures.sync.ok knows) in
+    on_err c.from_residual-in_err-sync-2.result
+    (subst (λ (j : Job). AreAllPlaced j old → IsBetween j new) c.self.view_is
+    (λ knows. closing_between job c.self.inside.work.sound second new last (shut knows)))
 
 pub returns-clause-advances : goal.returns-clause-advances
 returns-clause-advances g c =
@@ -123,13 +137,16 @@ returns-clause-advances g c =
     let old = g.D.Disk.view c.args.disk.now in
     let first = g.D.Disk.view c.sync.new.disk in
     let lawful : IsLawful old = record { whole = laws.whole c.args.disk.now; read_is_left = laws.read_is_left c.args.disk.now } in
-    let one : Span at 1 old first = span_sync at 1 old old first (span_none at 1 old) (laws.now_fits c.args.disk.now) c.sync.result lawful c.sync.ensures.sync in
+    let one : Span at 1 old first =
+    span_sync at 1 old old first (span_none at 1 old) (laws.now_fits c.args.disk.now) c.sync.result lawful c.sync.ensures.sync in
     let second = g.D.Disk.view c.shut_gate.new.disk in
     let same : (gate_piece job.place 0).at ≡ at = ap (λ (j : Job). (gate_piece j.place 0).at) c.self.view_is in
-    let two : Span at 1 old second = span_write at 1 old first second one (laws.now_fits c.sync.new.disk) (gate_piece job.place 0) c.shut_gate.result same refl c.shut_gate.ensures.write in
+    let two : Span at 1 old second =
+    span_write at 1 old first second one (laws.now_fits c.sync.new.disk) (gate_piece job.place 0) c.shut_gate.result same refl c.shut_gate.ensures.write in
     let lawful_second : IsLawful second = record { whole = laws.whole c.shut_gate.new.disk; read_is_left = laws.read_is_left c.shut_gate.new.disk } in
     let new = g.D.Disk.view c.sync-2.new.disk in
-    let three : Span at 1 old new = span_sync at 1 old second new two (laws.now_fits c.shut_gate.new.disk) c.sync-2.result lawful_second c.sync-2.ensures.sync in
+    let three : Span at 1 old new =
+    span_sync at 1 old second new two (laws.now_fits c.shut_gate.new.disk) c.sync-2.result lawful_second c.sync-2.ensures.sync in
     three.goes
 
 pub returns-clause-torn : goal.returns-clause-torn
@@ -140,13 +157,16 @@ returns-clause-torn g c =
     let old = g.D.Disk.view c.args.disk.now in
     let first = g.D.Disk.view c.sync.new.disk in
     let lawful : IsLawful old = record { whole = laws.whole c.args.disk.now; read_is_left = laws.read_is_left c.args.disk.now } in
-    let one : Span at 1 old first = span_sync at 1 old old first (span_none at 1 old) (laws.now_fits c.args.disk.now) c.sync.result lawful c.sync.ensures.sync in
+    let one : Span at 1 old first =
+    span_sync at 1 old old first (span_none at 1 old) (laws.now_fits c.args.disk.now) c.sync.result lawful c.sync.ensures.sync in
     let second = g.D.Disk.view c.shut_gate.new.disk in
     let same : (gate_piece job.place 0).at ≡ at = ap (λ (j : Job). (gate_piece j.place 0).at) c.self.view_is in
-    let two : Span at 1 old second = span_write at 1 old first second one (laws.now_fits c.sync.new.disk) (gate_piece job.place 0) c.shut_gate.result same refl c.shut_gate.ensures.write in
+    let two : Span at 1 old second =
+    span_write at 1 old first second one (laws.now_fits c.sync.new.disk) (gate_piece job.place 0) c.shut_gate.result same refl c.shut_gate.ensures.write in
     let lawful_second : IsLawful second = record { whole = laws.whole c.shut_gate.new.disk; read_is_left = laws.read_is_left c.shut_gate.new.disk } in
     let new = g.D.Disk.view c.sync-2.new.disk in
-    let three : Span at 1 old new = span_sync at 1 old second new two (laws.now_fits c.shut_gate.new.disk) c.sync-2.result lawful_second c.sync-2.ensures.sync in
+    let three : Span at 1 old new =
+    span_sync at 1 old second new two (laws.now_fits c.shut_gate.new.disk) c.sync-2.result lawful_second c.sync-2.ensures.sync in
     span_tears at 1 old new three
 
 pub returns-clause-closed : goal.returns-clause-closed
@@ -164,5 +184,7 @@ returns-clause-closed g c =
     let new = g.D.Disk.view c.sync-2.new.disk in
     let last = synced_rests second new c.sync-2.result lawful_second c.sync-2.ensures.sync in
     let closing : IsCopied job first → IsClosing job second = c.in_ok-work.ensures.closing in
-    let shut : AreAllPlaced job old → IsClosing job second = λ knows. closing (copied_then job c.self.inside.work.sound old first rests c.in_ok-sync.ensures.sync.ok knows) in
-    subst (λ (j : Job). AreAllPlaced j old → IsEnded j new) c.self.view_is (λ knows. closed_then job c.self.inside.work.sound second new last c.in_ok-sync-2.ensures.sync.ok (shut knows))
+    let shut : AreAllPlaced job old → IsClosing job second =
+    λ knows. closing (copied_then job c.self.inside.work.sound old first rests c.in_ok-sync.ensures.sync.ok knows) in
+    subst (λ (j : Job). AreAllPlaced j old → IsEnded j new) c.self.view_is
+    (λ knows. closed_then job c.self.inside.work.sound second new last c.in_ok-sync-2.ensures.sync.ok (shut knows))

@@ -5,7 +5,8 @@ use Rattle.journal_one.proofs.packed.Packed.new.Goals as goal
 
 pub loop-one-preserved : goal.loop-one-preserved
 loop-one-preserved c =
-    packing_next c.as_slice-one-items.result.now c.loop-one.one-index c.loop-one.numbers.items c.loop-one.records.items c.pack.new.numbers.items c.pack.new.records.items
+    packing_next c.as_slice-one-items.result.now c.loop-one.one-index c.loop-one.numbers.items c.loop-one.records.items c.pack.new.numbers.items
+    c.pack.new.records.items
     (omega arith) c.pack.ensures.long c.in_ok-pack.ensures.numbers c.in_ok-pack.ensures.records c.loop-one.invariant
 
 pub invariant_of-result : goal.invariant_of-result

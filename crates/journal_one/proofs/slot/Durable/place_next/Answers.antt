@@ -18,12 +18,19 @@ returns-in_err-put_record-clause-err g c =
     let new = g.D.Disk.view c.put_record.new.disk in
     let lawful : IsLawful old = record { whole = laws.whole c.args.disk.now; read_is_left = laws.read_is_left c.args.disk.now } in
     let large : job.place.layout.blocks ≤ old.size = subst (λ (s : Stage). s.job.place.layout.blocks ≤ old.size) (sym c.self.view_is) c.requires.large in
-    let touches = written_touches (table_piece (job_of c.self.inside.work) c.self.inside.done) old new (let w = c.put_record.ensures.within in omega (arith, w, large)) lawful c.put_record.result c.put_record.ensures.write in
-    on_err c.from_residual.result (subst (λ (s : Stage). IsDurable s.job s.done old → IsDurable s.job s.done new) c.self.view_is (durable_kept job c.self.inside.work.sound c.self.inside.done old new touches c.self.invariant))
+    let touches =
+    written_touches (table_piece (job_of c.self.inside.work) c.self.inside.done) old new
+    (let w = c.put_record.ensures.within in omega (arith, w, large)) lawful c.put_record.result c.put_record.ensures.write in
+    on_err c.from_residual.result
+    (subst (λ (s : Stage). IsDurable s.job s.done old → IsDurable s.job s.done new) c.self.view_is
+    (durable_kept job c.self.inside.work.sound c.self.inside.done old new touches c.self.invariant))
 
 pub returns-clause-write : goal.returns-clause-write
 returns-clause-write g c =
-    let same = subst (λ (s : Stage). IsWrite {V = Unit {0}} {E = Doubt} (table_piece s.job s.done) (g.D.Disk.view c.args.disk.now) (g.D.Disk.view c.put_record.new.disk) (Ok c.in_ok-put_record.field-0)) c.self.view_is c.in_ok-put_record.ensures.write in
+    let same =
+    subst (λ (s : Stage). IsWrite {V = Unit {0}} {E = Doubt} (table_piece s.job s.done) (g.D.Disk.view c.args.disk.now)
+    (g.D.Disk.view c.put_record.new.disk) (Ok c.in_ok-put_record.field-0))
+    c.self.view_is c.in_ok-put_record.ensures.write in
     write_ok _ (g.D.Disk.view c.args.disk.now) (g.D.Disk.view c.put_record.new.disk) c.in_ok-put_record.field-0 _ same
 
 pub returns-clause-placed : goal.returns-clause-placed
@@ -34,6 +41,11 @@ returns-clause-placed g c =
     let new = g.D.Disk.view c.put_record.new.disk in
     let lawful : IsLawful old = record { whole = laws.whole c.args.disk.now; read_is_left = laws.read_is_left c.args.disk.now } in
     let large : job.place.layout.blocks ≤ old.size = subst (λ (s : Stage). s.job.place.layout.blocks ≤ old.size) (sym c.self.view_is) c.requires.large in
-    let touches = written_touches (table_piece (job_of c.self.inside.work) c.self.inside.done) old new (let w = c.put_record.ensures.within in omega (arith, w, large)) lawful c.put_record.result c.put_record.ensures.write in
-    let stands = written_stands (table_piece (job_of c.self.inside.work) c.self.inside.done) old new (let w = c.put_record.ensures.within in omega (arith, w, large)) lawful c.in_ok-put_record.ensures.write.ok in
-    subst (λ (s : Stage). IsDurable s.job s.done old → IsDurable s.job (s.done + 1) new) c.self.view_is (λ knows. durable_more job c.self.inside.work.sound c.self.inside.done old new touches c.self.invariant knows stands)
+    let touches =
+    written_touches (table_piece (job_of c.self.inside.work) c.self.inside.done) old new
+    (let w = c.put_record.ensures.within in omega (arith, w, large)) lawful c.put_record.result c.put_record.ensures.write in
+    let stands =
+    written_stands (table_piece (job_of c.self.inside.work) c.self.inside.done) old new
+    (let w = c.put_record.ensures.within in omega (arith, w, large)) lawful c.in_ok-put_record.ensures.write.ok in
+    subst (λ (s : Stage). IsDurable s.job s.done old → IsDurable s.job (s.done + 1) new) c.self.view_is
+    (λ knows. durable_more job c.self.inside.work.sound c.self.inside.done old new touches c.self.invariant knows stands)

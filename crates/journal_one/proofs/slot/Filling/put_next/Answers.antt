@@ -18,12 +18,19 @@ returns-in_err-put_piece-clause-err g c =
     let new = g.D.Disk.view c.put_piece.new.disk in
     let lawful : IsLawful old = record { whole = laws.whole c.args.disk.now; read_is_left = laws.read_is_left c.args.disk.now } in
     let large : job.place.layout.blocks ≤ old.size = subst (λ (s : Stage). s.job.place.layout.blocks ≤ old.size) (sym c.self.view_is) c.requires.large in
-    let touches = written_touches (fill_piece (job_of c.self.inside.work) c.self.inside.done) old new (let w = c.put_piece.ensures.within in omega (arith, w, large)) lawful c.put_piece.result c.put_piece.ensures.write in
-    on_err c.from_residual.result (subst (λ (s : Stage). IsFilling s.job s.done old → IsFilling s.job s.done new) c.self.view_is (filling_kept job c.self.inside.work.sound c.self.inside.done old new touches c.self.invariant c.put_piece.ensures.whole))
+    let touches =
+    written_touches (fill_piece (job_of c.self.inside.work) c.self.inside.done) old new
+    (let w = c.put_piece.ensures.within in omega (arith, w, large)) lawful c.put_piece.result c.put_piece.ensures.write in
+    on_err c.from_residual.result
+    (subst (λ (s : Stage). IsFilling s.job s.done old → IsFilling s.job s.done new) c.self.view_is
+    (filling_kept job c.self.inside.work.sound c.self.inside.done old new touches c.self.invariant c.put_piece.ensures.whole))
 
 pub returns-clause-write : goal.returns-clause-write
 returns-clause-write g c =
-    let same = subst (λ (s : Stage). IsWrite {V = Unit {0}} {E = Doubt} (fill_piece s.job s.done) (g.D.Disk.view c.args.disk.now) (g.D.Disk.view c.put_piece.new.disk) (Ok c.in_ok-put_piece.field-0)) c.self.view_is c.in_ok-put_piece.ensures.write in
+    let same =
+    subst (λ (s : Stage). IsWrite {V = Unit {0}} {E = Doubt} (fill_piece s.job s.done) (g.D.Disk.view c.args.disk.now) (g.D.Disk.view c.put_piece.new.disk)
+    (Ok c.in_ok-put_piece.field-0))
+    c.self.view_is c.in_ok-put_piece.ensures.write in
     write_ok _ (g.D.Disk.view c.args.disk.now) (g.D.Disk.view c.put_piece.new.disk) c.in_ok-put_piece.field-0 _ same
 
 pub returns-clause-written : goal.returns-clause-written
@@ -34,6 +41,11 @@ returns-clause-written g c =
     let new = g.D.Disk.view c.put_piece.new.disk in
     let lawful : IsLawful old = record { whole = laws.whole c.args.disk.now; read_is_left = laws.read_is_left c.args.disk.now } in
     let large : job.place.layout.blocks ≤ old.size = subst (λ (s : Stage). s.job.place.layout.blocks ≤ old.size) (sym c.self.view_is) c.requires.large in
-    let touches = written_touches (fill_piece (job_of c.self.inside.work) c.self.inside.done) old new (let w = c.put_piece.ensures.within in omega (arith, w, large)) lawful c.put_piece.result c.put_piece.ensures.write in
-    let stands = written_stands (fill_piece (job_of c.self.inside.work) c.self.inside.done) old new (let w = c.put_piece.ensures.within in omega (arith, w, large)) lawful c.in_ok-put_piece.ensures.write.ok in
-    subst (λ (s : Stage). IsFilling s.job s.done old → IsFilling s.job (s.done + 1) new) c.self.view_is (λ knows. filling_more job c.self.inside.work.sound c.self.inside.done old new touches c.self.invariant c.put_piece.ensures.whole knows stands)
+    let touches =
+    written_touches (fill_piece (job_of c.self.inside.work) c.self.inside.done) old new
+    (let w = c.put_piece.ensures.within in omega (arith, w, large)) lawful c.put_piece.result c.put_piece.ensures.write in
+    let stands =
+    written_stands (fill_piece (job_of c.self.inside.work) c.self.inside.done) old new
+    (let w = c.put_piece.ensures.within in omega (arith, w, large)) lawful c.in_ok-put_piece.ensures.write.ok in
+    subst (λ (s : Stage). IsFilling s.job s.done old → IsFilling s.job (s.done + 1) new) c.self.view_is
+    (λ knows. filling_more job c.self.inside.work.sound c.self.inside.done old new touches c.self.invariant c.put_piece.ensures.whole knows stands)

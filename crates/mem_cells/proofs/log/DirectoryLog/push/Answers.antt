@@ -6,4 +6,6 @@ use Rattle.mem_cells.proofs.log.DirectoryLog.push.Goals as goal
 
 pub invariant_of-self : goal.invariant_of-self
 invariant_of-self c =
-    subst IsInOrder (sym c.push_back_reserved.ensures.items) (in_order-push c.self.inside.changes.items c.args.change c.self.invariant (subst (λ (log : Log). All (λ other. log_place other ≤ log_place c.args.change) log.changes) (sym c.self.view_is) c.requires.last))
+    subst IsInOrder (sym c.push_back_reserved.ensures.items)
+    (in_order-push c.self.inside.changes.items c.args.change c.self.invariant
+    (subst (λ (log : Log). All (λ other. log_place other ≤ log_place c.args.change) log.changes) (sym c.self.view_is) c.requires.last))

@@ -9,4 +9,5 @@ add_all-requires-clause-order c = subst IsInOrder (sym c.into_vec.ensures) c.req
 
 pub add_all-requires-clause-behind : goal.add_all-requires-clause-behind
 add_all-requires-clause-behind c =
-    subst (λ (part : CoreLog). StandBehind c.into_vec.result.items (changes_kept part)) (sym c.self.view_is) (subst (λ (entry : List Change). StandBehind entry (changes_kept c.args.self.now)) (sym c.into_vec.ensures) c.requires.behind)
+    subst (λ (part : CoreLog). StandBehind c.into_vec.result.items (changes_kept part)) (sym c.self.view_is)
+    (subst (λ (entry : List Change). StandBehind entry (changes_kept c.args.self.now)) (sym c.into_vec.ensures) c.requires.behind)

@@ -7,5 +7,7 @@ invariant-loop-block l = record {
   size : l.self-inside.size ≡ l.initial.self-inside.size;
   pages : l.self-inside.pages.items ≡ l.initial.self-inside.pages.items;
   long : length l.self-inside.marks.items ≡ length l.fn.self.marks;
-  marks : (block : ℕ) → get_or l.self-inside.marks.items block None ≡ cond (leb l.fn.touched.first block && ltb block l.block) (Some l.stamp) (get_or l.fn.self.marks block None);
+  marks : (block : ℕ)
+      → get_or l.self-inside.marks.items block None
+      ≡ cond (leb l.fn.touched.first block && ltb block l.block) (Some l.stamp) (get_or l.fn.self.marks block None);
 }

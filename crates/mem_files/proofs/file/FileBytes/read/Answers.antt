@@ -19,5 +19,7 @@ returns-then-count-gt0-clause-bytes c =
     let long : length c.copy_to.new.into ≡ count = omega (arith, c.copy_to.auto.into, length-take count c.args.into.now, c.min-count.ensures) in
     let fits : count ≤ size - c.args.at = omega (arith, c.min-count.ensures, c.saturating_sub-left.ensures) in
     let each = rw c.deref.ensures.value at c.copy_to.ensures in
-    let copied = bytes_in-copied c.self.inside.pages.items size c.args.at count c.copy_to.new.into c.self.invariant.kept long fits (λ k below. each k (omega (arith, below, length-take count c.args.into.now, c.min-count.ensures))) in
+    let copied =
+    bytes_in-copied c.self.inside.pages.items size c.args.at count c.copy_to.new.into c.self.invariant.kept long fits
+    (λ k below. each k (omega (arith, below, length-take count c.args.into.now, c.min-count.ensures))) in
     rw (← c.self.view_is) (ap (λ (front : List ℕ). front ++ drop count c.args.into.now) copied)

@@ -8,17 +8,20 @@ use Rattle.mem_files.proofs.file.FileBytes.trunc.Goals as goal
 
 pub returns-then-size-self-clause-ok : goal.returns-then-size-self-clause-ok
 returns-then-size-self-clause-ok c =
-    let long : length c.args.self.now.bytes ≡ c.self.inside.size = sym (ap (λ (f : File). length f.bytes) c.self.view_is) ∙ length-bytes_in c.self.inside.pages.items c.self.inside.size in
+    let long : length c.args.self.now.bytes ≡ c.self.inside.size =
+    sym (ap (λ (f : File). length f.bytes) c.self.view_is) ∙ length-bytes_in c.self.inside.pages.items c.self.inside.size in
     let test : ltb c.args.size c.self.inside.size ≡ false = grind (arith, nat_tests) in
     rw (long, test) c.none.ensures
 
 pub returns-then-size-self-clause-bytes : goal.returns-then-size-self-clause-bytes
 returns-then-size-self-clause-bytes c =
-    rw (← c.self.view_is) (bytes_in-resized c.self.inside.pages.items c.self.inside.pages.items c.self.inside.size c.args.size c.self.invariant.kept (λ _ _. refl))
+    rw (← c.self.view_is)
+    (bytes_in-resized c.self.inside.pages.items c.self.inside.pages.items c.self.inside.size c.args.size c.self.invariant.kept (λ _ _. refl))
 
 pub returns-clause-ok : goal.returns-clause-ok
 returns-clause-ok c =
-    let long : length c.args.self.now.bytes ≡ c.self.inside.size = sym (ap (λ (f : File). length f.bytes) c.self.view_is) ∙ length-bytes_in c.self.inside.pages.items c.self.inside.size in
+    let long : length c.args.self.now.bytes ≡ c.self.inside.size =
+    sym (ap (λ (f : File). length f.bytes) c.self.view_is) ∙ length-bytes_in c.self.inside.pages.items c.self.inside.size in
     let test : ltb c.args.size c.self.inside.size ≡ true = grind (arith, nat_tests) in
     rw (long, test) c.of-touched.ensures
 
@@ -33,7 +36,8 @@ returns-clause-bytes c =
 
 pub returns-in_err-make_room-clause-grows : goal.returns-in_err-make_room-clause-grows
 returns-in_err-make_room-clause-grows c grows =
-    let long : length c.args.self.now.bytes ≡ c.self.inside.size = sym (ap (λ (f : File). length f.bytes) c.self.view_is) ∙ length-bytes_in c.self.inside.pages.items c.self.inside.size in
+    let long : length c.args.self.now.bytes ≡ c.self.inside.size =
+    sym (ap (λ (f : File). length f.bytes) c.self.view_is) ∙ length-bytes_in c.self.inside.pages.items c.self.inside.size in
     absurd (omega (arith, grows, long, c.if-size-self.false))
 
 pub invariant_of-self-2 : goal.invariant_of-self-2

@@ -11,7 +11,9 @@ returns-clause-bytes c =
     let some : 0 < length c.args.from.now = grind (arith, nat_tests) in
     let same : SameBytes c.self.inside.pages.items c.fill.new.pages.items = λ place. c.in_ok-fill.ensures.same place ∙ c.in_ok-grow.ensures.same place in
     ap (λ n. bytes_in c.put.new.pages.items n) c.max-self-inside.ensures
-    ∙ rw (← c.self.view_is) (bytes_in-written c.self.inside.pages.items c.fill.new.pages.items c.put.new.pages.items c.self.inside.size c.args.at c.args.from.now some c.self.invariant.kept same c.put.ensures)
+    ∙ rw (← c.self.view_is)
+    (bytes_in-written c.self.inside.pages.items c.fill.new.pages.items c.put.new.pages.items c.self.inside.size c.args.at c.args.from.now some
+    c.self.invariant.kept same c.put.ensures)
 
 pub invariant_of-self-2 : goal.invariant_of-self-2
 invariant_of-self-2 c =

@@ -12,4 +12,5 @@ returns-in-Some-clause-lines c =
 pub returns-in-None-clause-lines : goal.returns-in-None-clause-lines
 returns-in-None-clause-lines c =
     lines_open c.args.bytes.now c.requires (sym c.place_of.ensures ∙ c.in-None.is)
-    ∙ split_open c.args.bytes.now c.split_at-in-None.result.0.now c.split_at-in-None.result.1.now c.split_at-in-None.ensures.front c.split_at-in-None.ensures.back
+    ∙ split_open c.args.bytes.now c.split_at-in-None.result.0.now c.split_at-in-None.result.1.now c.split_at-in-None.ensures.front
+    c.split_at-in-None.ensures.back

@@ -7,8 +7,15 @@ pub returns : goal.returns
 returns c = at_end c.args.number c.args.lines.now _ c.loop-place.place c.loop-place-test.false c.loop-place.invariant (none_left c.args.lines.now)
 
 pub loop-place-preserved : goal.loop-place-preserved
-loop-place-preserved c = rw add-one (c.loop-place.invariant ∙ passed c.args.number c.args.lines.now c.loop-place.place c.index-lines-place.result c.loop-place-test.true c.index-lines-place.is c.if-line-number.false)
+loop-place-preserved c =
+    rw add-one
+    (c.loop-place.invariant
+    ∙ passed c.args.number c.args.lines.now c.loop-place.place c.index-lines-place.result c.loop-place-test.true c.index-lines-place.is
+    c.if-line-number.false)
 
 pub returns-then-line-number : goal.returns-then-line-number
 returns-then-line-number c =
-    at_own c.args.number c.args.lines.now _ c.loop-place.place (c.loop-place.place + 1) c.index-lines-place.result _ c.loop-place-test.true c.index-lines-place.is c.if-line-number.true c.loop-place.invariant c.begun.ensures (take_rest c.args.lines.now (c.loop-place.place + 1)) (add-one c.loop-place.place)
+    at_own c.args.number c.args.lines.now _ c.loop-place.place
+    (c.loop-place.place + 1) c.index-lines-place.result _ c.loop-place-test.true c.index-lines-place.is c.if-line-number.true c.loop-place.invariant
+    c.begun.ensures
+    (take_rest c.args.lines.now (c.loop-place.place + 1)) (add-one c.loop-place.place)

@@ -9,4 +9,6 @@ returns c =
     let rows = c.rows-rows.result.now in
     let all : c.loop-row.row-index ≡ length rows = omega arith in
     c.loop-row.invariant
-    ∙ ap (λ listed. string_bytes c.args.text.now ++ listed) (ap (λ count. flat_map row_listed (take count rows)) all ∙ ap (flat_map row_listed) (take-length rows) ∙ rows_listed rows ∙ ap (flat_map listed_text) c.rows-rows.ensures)
+    ∙ ap (λ listed. string_bytes c.args.text.now ++ listed)
+    (ap (λ count. flat_map row_listed (take count rows)) all ∙ ap (flat_map row_listed) (take-length rows) ∙ rows_listed rows
+    ∙ ap (flat_map listed_text) c.rows-rows.ensures)

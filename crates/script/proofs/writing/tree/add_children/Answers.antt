@@ -23,7 +23,11 @@ unreachable-requires c =
     let left = c.loop-left.left - 1 in
     let past = sym (c.in_default.ensures ∙ ap (λ names. slice_get (entries names) left) c.in_ok-names.ensures) in
     let within : c.loop-left.left ≤ length (entries rows) = subst (λ n. c.loop-left.left ≤ n) (len-entries rows) c.loop-left.invariant.0 in
-    elim (slice_get_cases (entries rows) left).1 [ inl f ↦ some_not_none (sym f.2 ∙ past) | inr f ↦ beyond c.loop-left.left (length (entries rows)) within f.0 c.loop-left-test.true ]
+    elim (slice_get_cases (entries rows) left).1 [
+      | inl f ↦ some_not_none (sym f.2 ∙ past)
+      | inr f ↦
+          beyond c.loop-left.left (length (entries rows)) within f.0 c.loop-left-test.true
+    ]
   where
     beyond : (n m : ℕ) → n ≤ m → m ≤ n - 1 → 0 < n → ⊥
     beyond n m a b lt = omega arith
@@ -34,7 +38,10 @@ loop-left-preserved c =
     let at = sym (c.in-Some.ensures ∙ ap (λ names. slice_get (entries names) (c.loop-left.left - 1)) c.in_ok-names.ensures) in
     let less = c.loop-left.invariant.0 in (
       omega arith,
-      child_put (entries rows) (item_of c.args.met.now) c.loop-left.left (c.loop-left.left - 1) (c.in-Some.row.now.name, c.in-Some.row.now.child.0) c.push.new.self.items c.loop-left.unmet.items
+      child_put (entries rows) (item_of c.args.met.now) c.loop-left.left (c.loop-left.left - 1)
+          (c.in-Some.row.now.name, c.in-Some.row.now.child.0) c.push.new.self.items c.loop-left.unmet.items
           (record { path = c.in_ok-child_path.field-0; node = c.in-Some.row.now.child })
-          (items_of c.args.unmet.now.items) at (suc_again c.loop-left.left c.loop-left-test.true) c.in_ok-push.ensures.items (c.in_ok-child_path.ensures ∙ ap (λ (path : List ℕ). path ++ (codes "/" ++ name_text c.in-Some.row.now.name)) c.as_str.ensures.value) refl c.loop-left.invariant.1,
+          (items_of c.args.unmet.now.items) at (suc_again c.loop-left.left c.loop-left-test.true) c.in_ok-push.ensures.items
+          (c.in_ok-child_path.ensures
+          ∙ ap (λ (path : List ℕ). path ++ (codes "/" ++ name_text c.in-Some.row.now.name)) c.as_str.ensures.value) refl c.loop-left.invariant.1,
     )

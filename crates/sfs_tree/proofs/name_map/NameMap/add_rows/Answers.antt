@@ -14,12 +14,16 @@ found c name = sym (get-map_of c.self.inside.rows.items name c.self.invariant) �
 apart : (c : In_ok-self-inside) → Apart (map name_and_child c.args.rows.now) (map name_and_child c.self.inside.rows.items)
 apart c = λ name some. found c name ∙ c.requires.apart name some
 
-rows : (c : In_ok-self-inside) → map name_and_child c.in_ok-self-inside.field-0.items ≡ both_lists (map name_and_child c.args.rows.now) (map name_and_child c.self.inside.rows.items)
+rows : (c : In_ok-self-inside)
+    → map name_and_child c.in_ok-self-inside.field-0.items ≡ both_lists (map name_and_child c.args.rows.now) (map name_and_child c.self.inside.rows.items)
 rows c = c.in_ok-self-inside.ensures ∙ ap (λ l. both_lists (map name_and_child c.args.rows.now) (map name_and_child l)) c.deref.ensures.value
 
 sorted : (c : In_ok-self-inside) → IsTrue (is_sorted name_cmp (map name_and_child c.in_ok-self-inside.field-0.items))
 sorted c =
-    subst (λ l. IsTrue (is_sorted name_cmp l)) (sym (rows c)) (was_true _ (sorted-both_lists (map name_and_child c.args.rows.now) (map name_and_child c.self.inside.rows.items) (is_true _ c.requires.sorted) (is_true _ c.self.invariant) (apart c)))
+    subst (λ l. IsTrue (is_sorted name_cmp l)) (sym (rows c))
+    (was_true _
+    (sorted-both_lists (map name_and_child c.args.rows.now) (map name_and_child c.self.inside.rows.items) (is_true _ c.requires.sorted)
+    (is_true _ c.self.invariant) (apart c)))
 
 pub invariant_of-self : goal.invariant_of-self
 invariant_of-self c = sorted (goal.at.invariant_of-self c).In_ok-self-inside

@@ -8,7 +8,8 @@ use Rattle.sfs_tree.proofs.name_map.NameMap.insert.Goals.{In_ok-insert}
 
 place : (c : In_ok-insert) → IsPlaceOf (map name_and_child c.self.inside.rows.items) c.args.name c.place_of-place.result
 place c =
-    let rows : IsPlaceOf (map name_and_child c.self.inside.rows.items) c.bytes.result.now c.place_of-place.result = subst (λ rows. IsPlaceOf (map name_and_child rows) c.bytes.result.now c.place_of-place.result) c.deref.ensures.value c.place_of-place.ensures in
+    let rows : IsPlaceOf (map name_and_child c.self.inside.rows.items) c.bytes.result.now c.place_of-place.result =
+    subst (λ rows. IsPlaceOf (map name_and_child rows) c.bytes.result.now c.place_of-place.result) c.deref.ensures.value c.place_of-place.ensures in
     subst (λ name. IsPlaceOf (map name_and_child c.self.inside.rows.items) name c.place_of-place.result) c.bytes.ensures.bytes rows
 
 none : (c : In_ok-insert) → find name_cmp c.args.name (map name_and_child c.self.inside.rows.items) ≡ None
@@ -16,7 +17,9 @@ none c = sym (get-map_of c.self.inside.rows.items c.args.name c.self.invariant) 
 
 pub invariant_of-self-2 : goal.invariant_of-self-2
 invariant_of-self-2 c =
-    subst (λ rows. IsTrue (is_sorted name_cmp (map name_and_child rows))) (sym c.in_ok-insert.ensures.items) (sorted_inserted c.self.inside.rows.items (record { name = c.args.name; child = c.args.child }) c.place_of-place.result c.self.invariant (place c) (none c))
+    subst (λ rows. IsTrue (is_sorted name_cmp (map name_and_child rows))) (sym c.in_ok-insert.ensures.items)
+    (sorted_inserted c.self.inside.rows.items (record { name = c.args.name; child = c.args.child }) c.place_of-place.result c.self.invariant (place c)
+    (none c))
 
 pub returns-clause-ok : goal.returns-clause-ok
 returns-clause-ok c =

@@ -19,7 +19,8 @@ from_stored number (None ∷ nodes) = from_stored (suc number) nodes
 from_stored number (Some n ∷ nodes) = ap (λ l. (number, node_of n) ∷ l) (from_stored (suc number) nodes)
 
 -- nodes that look alike are seen alike
-seen_alike : (nodes others : List (Option NodeData)) → map (option_map node_of) nodes ≡ map (option_map node_of) others → ◌≡◌ {A = NodesState} (record { nodes = numbered nodes; places = length nodes }) (record { nodes = numbered others; places = length others })
+seen_alike : (nodes others : List (Option NodeData)) → map (option_map node_of) nodes ≡ map (option_map node_of) others
+    → ◌≡◌ {A = NodesState} (record { nodes = numbered nodes; places = length nodes }) (record { nodes = numbered others; places = length others })
 seen_alike nodes others same = λ i. record { nodes = rows i; places = places i }
   where
     rows : numbered nodes ≡ numbered others
@@ -30,5 +31,8 @@ seen_alike nodes others same = λ i. record { nodes = rows i; places = places i 
 
 pub returns : goal.returns
 returns c =
-    seen_alike c.loop-place.places.items c.self.inside.places.items (c.loop-place.invariant ∙ ap (map (option_map node_of)) (take_all c.loop-place.place-index c.deref-place-items.result.now c.loop-place-test.false ∙ c.deref-place-items.ensures.value))
+    seen_alike c.loop-place.places.items c.self.inside.places.items
+    (c.loop-place.invariant
+    ∙ ap (map (option_map node_of))
+    (take_all c.loop-place.place-index c.deref-place-items.result.now c.loop-place-test.false ∙ c.deref-place-items.ensures.value))
     ∙ c.self.view_is

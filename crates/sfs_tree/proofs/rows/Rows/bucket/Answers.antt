@@ -14,6 +14,7 @@ returns-then-place-len-clause-none c =
 
 pub returns-clause-found : goal.returns-clause-found
 returns-clause-found c =
-    get_or_read c.self.inside.buckets.items (8 * c.args.directory + c.args.number) c.index.result.now (omega (arith, c.self.inside.buckets.ok.0)) c.index.ensures empty
+    get_or_read c.self.inside.buckets.items (8 * c.args.directory + c.args.number) c.index.result.now
+    (omega (arith, c.self.inside.buckets.ok.0)) c.index.ensures empty
     ∙ sym (bucket_rows-joined c.self.inside.buckets.items c.args.directory c.args.number c.requires c.self.invariant.rows)
     ∙ ap (λ (s : RowsState). bucket_rows c.args.directory c.args.number s.rows) c.self.view_is

@@ -20,25 +20,37 @@ two : (c : In_ok-insert) → ◌≢◌ {A = Key} (c.args.directory, c.args.name.
 two c = apart c.self.inside.rows.rows (c.args.directory, c.args.name.now) (c.args.to_directory, c.args.to_name) c.args.child.0 (some c) (none c)
 
 once : (c : In_ok-insert) → is_directory_in c.self.inside.nodes.nodes c.args.child.0 ≡ true → count_of c.self.inside.rows.rows c.args.child.0 ≡ 1
-once c = λ is. ap (λ (s : StoreState). count_of s.rows c.args.child.0) c.self.view_is ∙ c.requires.once (ap (λ (s : StoreState). is_directory_in s.nodes c.args.child.0) (sym c.self.view_is) ∙ is)
+once c =
+    λ is. ap (λ (s : StoreState). count_of s.rows c.args.child.0) c.self.view_is
+    ∙ c.requires.once (ap (λ (s : StoreState). is_directory_in s.nodes c.args.child.0) (sym c.self.view_is) ∙ is)
 
 lt : (c : In_ok-insert) → c.args.to_directory < c.self.inside.nodes.places
-lt c = has_place c.self.inside.nodes c.self.inside.counts c.self.inside.rows c.args.self.now c.args.to_directory c.self.invariant c.self.view_is c.requires.directory
+lt c =
+    has_place c.self.inside.nodes c.self.inside.counts c.self.inside.rows c.args.self.now c.args.to_directory c.self.invariant c.self.view_is
+    c.requires.directory
 
 pub remove-requires : goal.remove-requires
 remove-requires c =
     let at = (goal.at.remove-requires c).In_ok-insert in
-    subst (λ rows. IsSome (get rows (c.args.directory, c.args.name.now))) (sym c.in_ok-insert.ensures.ok) (still_some c.self.inside.rows.rows (c.args.directory, c.args.name.now) (c.args.to_directory, c.args.to_name) c.args.child.0 c.args.child.0 (some at) (two at))
+    subst (λ rows. IsSome (get rows (c.args.directory, c.args.name.now))) (sym c.in_ok-insert.ensures.ok)
+    (still_some c.self.inside.rows.rows (c.args.directory, c.args.name.now) (c.args.to_directory, c.args.to_name) c.args.child.0 c.args.child.0 (some at)
+    (two at))
 
 pub take-requires : goal.take-requires
 take-requires c =
     let at = (goal.at.take-requires c).In_ok-insert in
-    may_fall c.self.inside.nodes c.self.inside.counts c.self.inside.rows c.self.invariant c.args.directory c.args.name.now c.args.child.0 c.is_directory-is_directory.result (some at) c.is_directory-is_directory.ensures
+    may_fall c.self.inside.nodes c.self.inside.counts c.self.inside.rows c.self.invariant c.args.directory c.args.name.now c.args.child.0
+    c.is_directory-is_directory.result
+    (some at) c.is_directory-is_directory.ensures
 
 pub add-requires : goal.add-requires
 add-requires c =
     let at = (goal.at.add-requires c).In_ok-insert in
-    may_rise_again c.self.inside.nodes c.self.inside.counts c.self.inside.rows c.self.invariant c.args.directory c.args.name.now c.args.child.0 (some at) c.take.new.self (c.take.ensures.counted c.self.inside.rows.rows c.self.inside.nodes.nodes c.args.name.now c.self.invariant.counted (some at) c.is_directory-is_directory.ensures (λ is. once at (sym c.is_directory-is_directory.ensures ∙ is))) (c.take.ensures.wide c.self.inside.nodes.places c.self.invariant.wide) c.args.to_directory (lt at)
+    may_rise_again c.self.inside.nodes c.self.inside.counts c.self.inside.rows c.self.invariant c.args.directory c.args.name.now c.args.child.0
+    (some at) c.take.new.self
+    (c.take.ensures.counted c.self.inside.rows.rows c.self.inside.nodes.nodes c.args.name.now c.self.invariant.counted
+    (some at) c.is_directory-is_directory.ensures (λ is. once at (sym c.is_directory-is_directory.ensures ∙ is)))
+    (c.take.ensures.wide c.self.inside.nodes.places c.self.invariant.wide) c.args.to_directory (lt at)
 
 pub invariant_of-self-2 : goal.invariant_of-self-2
 invariant_of-self-2 c =
@@ -46,10 +58,16 @@ invariant_of-self-2 c =
     let n = c.self.inside.nodes in
     let k : Key = (c.args.directory, c.args.name.now) in
     let to : Key = (c.args.to_directory, c.args.to_name) in
-    let counted : IsCounted (remove c.self.inside.rows.rows k) n.nodes c.take.new.self = c.take.ensures.counted c.self.inside.rows.rows n.nodes c.args.name.now c.self.invariant.counted (some at) c.is_directory-is_directory.ensures (λ is. once at (sym c.is_directory-is_directory.ensures ∙ is)) in
-    let gone = IsStored-without n c.self.inside.counts c.self.inside.rows c.self.invariant c.args.directory c.args.name.now c.args.child.0 (some at) c.take.new.self counted (c.take.ensures.wide n.places c.self.invariant.wide) in
+    let counted : IsCounted (remove c.self.inside.rows.rows k) n.nodes c.take.new.self =
+    c.take.ensures.counted c.self.inside.rows.rows n.nodes c.args.name.now c.self.invariant.counted (some at) c.is_directory-is_directory.ensures
+    (λ is. once at (sym c.is_directory-is_directory.ensures ∙ is)) in
+    let gone =
+    IsStored-without n c.self.inside.counts c.self.inside.rows c.self.invariant c.args.directory c.args.name.now c.args.child.0
+    (some at) c.take.new.self counted (c.take.ensures.wide n.places c.self.invariant.wide) in
     let none_left : get (remove c.self.inside.rows.rows k) to ≡ None = get_other-remove c.self.inside.rows.rows k to (λ same. two at (sym same)) ∙ none at in
-    IsStored-row n c.take.new.self (without n c.self.inside.counts c.self.inside.rows c.self.invariant c.args.directory c.args.name.now c.args.child.0 (some at)) gone c.args.to_directory c.args.to_name c.args.child.0 c.add.new.self c.remove.new.self
+    IsStored-row n c.take.new.self
+    (without n c.self.inside.counts c.self.inside.rows c.self.invariant c.args.directory c.args.name.now c.args.child.0 (some at)) gone c.args.to_directory
+    c.args.to_name c.args.child.0 c.add.new.self c.remove.new.self
     (c.remove.ensures.rows ∙ ap (λ rows. remove rows k) c.in_ok-insert.ensures.ok ∙ swapped c.self.inside.rows.rows k to c.args.child.0 (two at))
     (c.remove.ensures.places ∙ c.insert.ensures.places) c.remove.ensures.few
     (c.add.ensures.counted (remove c.self.inside.rows.rows k) n.nodes c.args.to_name counted none_left c.is_directory-is_directory.ensures)

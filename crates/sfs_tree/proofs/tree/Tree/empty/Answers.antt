@@ -8,5 +8,10 @@ use Rattle.sfs_tree.proofs.tree.Tree.empty.Goals as goal
 pub invariant_of-result : goal.invariant_of-result
 invariant_of-result c =
     let made : c.in_ok-made.made.items ≡ replicate c.args.cores 0 = search rules in
-    let nodes = c.put_node.ensures.nodes ∙ ap (λ m. insert m 0 (record { kind = Directory; bytes = c.new.result.items })) (c.grow.ensures.nodes ∙ c.new-store.ensures.nodes) in
-    subst (IsFounded c.put_node.new.self.nodes c.args.first c.args.share) (sym made) (IsFounded-new c.put_node.new.self.nodes c.args.first c.args.share c.args.cores c.requires.low c.requires.shares (λ node some. root_below c.args.first (record { kind = Directory; bytes = c.new.result.items }) node c.requires.first (subst (λ m. IsSome (get m node)) nodes some)))
+    let nodes =
+    c.put_node.ensures.nodes
+    ∙ ap (λ m. insert m 0 (record { kind = Directory; bytes = c.new.result.items })) (c.grow.ensures.nodes ∙ c.new-store.ensures.nodes) in
+    subst (IsFounded c.put_node.new.self.nodes c.args.first c.args.share) (sym made)
+    (IsFounded-new c.put_node.new.self.nodes c.args.first c.args.share c.args.cores c.requires.low c.requires.shares
+    (λ node some. root_below c.args.first (record { kind = Directory; bytes = c.new.result.items }) node c.requires.first
+    (subst (λ m. IsSome (get m node)) nodes some)))

@@ -8,7 +8,8 @@ use Rattle.sfs_tree.proofs.SoundTree.{sound_file}
 use Rattle.sfs_tree.proofs.tree.Tree.link.Goals as goal
 
 -- where no condition holds, the file is alive and no directory
-first : (a b : Bool) (rest : Option Code) → ◌≡◌ {A = Option Code} None (cond (not a) (Some NoEntry) (cond b (Some NotPermitted) rest)) → (a ≡ true) × (b ≡ false)
+first : (a b : Bool) (rest : Option Code) → ◌≡◌ {A = Option Code} None (cond (not a) (Some NoEntry) (cond b (Some NotPermitted) rest))
+    → (a ≡ true) × (b ≡ false)
 first true true rest e = absurd (never e)
   where
     never : ◌≡◌ {A = Option Code} None (Some NotPermitted) → ⊥
@@ -19,7 +20,8 @@ first false b rest e = absurd (never e)
     never : ◌≡◌ {A = Option Code} None (Some NoEntry) → ⊥
     never e = cc
 
-alive_file : (tree : TreeState) (file directory : ℕ) (name : List ℕ) → None ≡ link_fault tree file directory name → (is_alive tree file ≡ true) × (is_directory tree file ≡ false)
+alive_file : (tree : TreeState) (file directory : ℕ) (name : List ℕ) → None ≡ link_fault tree file directory name
+    → (is_alive tree file ≡ true) × (is_directory tree file ≡ false)
 alive_file tree file directory name e = first (is_alive tree file) (is_directory tree file) _ e
 
 pub put_row-requires-clause-child : goal.put_row-requires-clause-child

@@ -26,8 +26,21 @@ pub invariant_of-self-2 : goal.invariant_of-self-2
 invariant_of-self-2 c =
     let at = (goal.at.invariant_of-self-2 c).In_ok-grow in
     let node : Node = record { kind = c.args.kind; bytes = c.new.result.items } in
-    let nodes : c.put_both.new.self.nodes ≡ insert c.self.inside.store.nodes (c.self.inside.first + c.args.core.0 * c.self.inside.share + slice_index c.self.inside.made.items c.args.core.0) node = c.in_ok-put_both.ensures.nodes ∙ ap (λ m. insert m c.args.node.0 node) c.grow.ensures.nodes ∙ ap (λ n. insert c.self.inside.store.nodes n node) (number at) in
-    let made : set c.self.inside.made.items c.args.core.0 (c.index_mut.result.now + 1) ≡ set c.self.inside.made.items c.args.core.0 (slice_index c.self.inside.made.items c.args.core.0 + 1) = ap (λ n. set c.self.inside.made.items c.args.core.0 (n + 1)) (get_or_read c.self.inside.made.items c.args.core.0 c.index_mut.result.now (within at) c.index_mut.ensures.value 0) in
+    let nodes : c.put_both.new.self.nodes
+    ≡ insert c.self.inside.store.nodes
+    (c.self.inside.first + c.args.core.0 * c.self.inside.share + slice_index c.self.inside.made.items c.args.core.0) node =
+    c.in_ok-put_both.ensures.nodes ∙ ap (λ m. insert m c.args.node.0 node) c.grow.ensures.nodes
+    ∙ ap (λ n. insert c.self.inside.store.nodes n node) (number at) in
+    let made : set c.self.inside.made.items c.args.core.0 (c.index_mut.result.now + 1)
+    ≡ set c.self.inside.made.items c.args.core.0 (slice_index c.self.inside.made.items c.args.core.0 + 1) =
+    ap (λ n. set c.self.inside.made.items c.args.core.0 (n + 1))
+    (get_or_read c.self.inside.made.items c.args.core.0 c.index_mut.result.now (within at) c.index_mut.ensures.value 0) in
     subst (λ m. IsFounded m c.self.inside.first c.self.inside.share (set c.self.inside.made.items c.args.core.0 (c.index_mut.result.now + 1))) (sym nodes)
-    (subst (IsFounded (insert c.self.inside.store.nodes (c.self.inside.first + c.args.core.0 * c.self.inside.share + slice_index c.self.inside.made.items c.args.core.0) node) c.self.inside.first c.self.inside.share) (sym made)
-    (IsFounded-made c.self.inside.store.nodes c.self.inside.first c.self.inside.share c.self.inside.made.items c.self.invariant c.args.core.0 (within at) (room at) node))
+    (subst
+    (IsFounded
+    (insert c.self.inside.store.nodes
+    (c.self.inside.first + c.args.core.0 * c.self.inside.share + slice_index c.self.inside.made.items c.args.core.0) node)
+    c.self.inside.first c.self.inside.share)
+    (sym made)
+    (IsFounded-made c.self.inside.store.nodes c.self.inside.first c.self.inside.share c.self.inside.made.items c.self.invariant c.args.core.0 (within at)
+    (room at) node))

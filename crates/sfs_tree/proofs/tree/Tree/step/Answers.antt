@@ -18,4 +18,5 @@ stepped tree core call after (Err e) is lt step kept = subst IsSoundTree (sym ke
 pub returns-clause-sound : goal.returns-clause-sound
 returns-clause-sound c =
     let numbered = subst IsNumbered c.self.view_is (founded_numbers _ c.self.invariant) in
-    stepped c.args.self.now c.args.core.0 c.args.call.now _ c.run.result (record { sound = c.requires.sound; numbered = numbered }) c.requires.core c.run.ensures.ok c.run.ensures.err
+    stepped c.args.self.now c.args.core.0 c.args.call.now _ c.run.result
+    (record { sound = c.requires.sound; numbered = numbered }) c.requires.core c.run.ensures.ok c.run.ensures.err

@@ -6,4 +6,6 @@ use Rattle.sfs_tree.proofs.tree.Tree.trunc.Goals as goal
 
 pub invariant_of-self-2 : goal.invariant_of-self-2
 invariant_of-self-2 c =
-    subst (λ m. IsFounded m c.self.inside.first c.self.inside.share c.self.inside.made.items) (sym c.in_ok-resize.ensures.ok) (IsFounded-edited c.self.inside.store.nodes c.self.inside.first c.self.inside.share c.self.inside.made.items c.self.invariant c.args.file.0 (Resizes c.args.size))
+    subst (λ m. IsFounded m c.self.inside.first c.self.inside.share c.self.inside.made.items) (sym c.in_ok-resize.ensures.ok)
+    (IsFounded-edited c.self.inside.store.nodes c.self.inside.first c.self.inside.share c.self.inside.made.items c.self.invariant c.args.file.0
+    (Resizes c.args.size))

@@ -15,13 +15,20 @@ loop-preserved c =
     record {
       counted = ap length c.push.ensures.items ∙ omega (arith, length-append c.loop.numbers.items (c.number_at.result ∷ []), kept.counted);
       room = omega (arith, c.push.ensures.spare);
-      split = rw c.push.ensures.items (free_numbers-more c.loop.numbers.items c.args.self.now c.loop.self c.grant_next.new.self _ c.in-Some.place found granted number kept.split);
+      split =
+          rw c.push.ensures.items
+          (free_numbers-more c.loop.numbers.items c.args.self.now c.loop.self c.grant_next.new.self _ c.in-Some.place found granted number kept.split);
       passed = rw granted (none_free-more _ _ found);
-      granted = rw c.push.ensures.items (grants_more c.loop.numbers.items c.args.self.now c.loop.self c.grant_next.new.self _ c.in-Some.place (position-Some _ _ _ Taken found).0 granted number kept.granted);
+      granted =
+          rw c.push.ensures.items
+          (grants_more c.loop.numbers.items c.args.self.now c.loop.self c.grant_next.new.self _ c.in-Some.place
+          (position-Some _ _ _ Taken found).0 granted number kept.granted);
     }
 
 pub unreachable-requires : goal.unreachable-requires
-unreachable-requires c = some_left c.loop.numbers.items c.args.self.now c.loop.self c.loop.invariant.split (omega (arith, c.loop.invariant.counted, c.requires.enough)) (sym c.in-None.ensures.first)
+unreachable-requires c =
+    some_left c.loop.numbers.items c.args.self.now c.loop.self c.loop.invariant.split (omega (arith, c.loop.invariant.counted, c.requires.enough))
+    (sym c.in-None.ensures.first)
 
 pub returns-clause-grants : goal.returns-clause-grants
 returns-clause-grants c =

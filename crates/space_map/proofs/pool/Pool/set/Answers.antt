@@ -17,7 +17,11 @@ invariant_of-self c =
     let inside : c.args.place < length c.self.inside.statuses.items = rw (ap (λ (p : Pool). p.statuses) c.self.view_is) c.requires in
     let after = count_after _ _ _ _ c.args.place c.index.result.now c.args.status kept inside c.index.ensures in
     let same = ap (λ (s : Status). cond {A = ℕ} (is_free s) 1 0) c.index.ensures in
-    let balanced : c.self.inside.free - c.free_units.result + c.free_units-2.result + cond (is_free (get_or c.self.inside.statuses.items c.args.place c.index.result.now)) 1 0 ≡ c.self.inside.free + cond (is_free c.args.status) 1 0 =
+    let balanced : c.self.inside.free - c.free_units.result + c.free_units-2.result
+    + cond (is_free (get_or c.self.inside.statuses.items c.args.place c.index.result.now)) 1 0
+    ≡ c.self.inside.free + cond (is_free c.args.status) 1 0 =
     omega (arith, same, after.balanced, c.free_units.ensures, c.free_units-2.ensures) in
-    let marked = λ (group : ℕ) (mark : get_or c.unmark.new.marks.items group false ≡ true). marked_later c.args.status c.is_free.result group (c.args.place / 64) c.is_free.ensures (c.unmark.ensures.unmarked group mark) in
+    let marked =
+    λ (group : ℕ) (mark : get_or c.unmark.new.marks.items group false ≡ true). marked_later c.args.status c.is_free.result group
+    (c.args.place / 64) c.is_free.ensures (c.unmark.ensures.unmarked group mark) in
     IsKept-set _ _ _ _ _ _ c.args.place c.args.status c.index.result.now kept inside balanced c.unmark.ensures.groups marked

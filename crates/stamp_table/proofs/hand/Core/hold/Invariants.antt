@@ -10,5 +10,6 @@ invariant-loop-place g l = record {
   cells : AreBelow l.shared.table.slots (drop l.place-index l.places);
   above : RiseAbove l.self.view.held (drop l.place-index l.places);
   room : length (drop l.place-index l.places) ≤ l.self.room;
-  rest : (after : Hand g.row.C.Denot g.row.X.Denot) → HoldsAll g.M.Meaning.lawful g.M.Meaning.stands (drop l.place-index l.places) l.self after → HoldsAll g.M.Meaning.lawful g.M.Meaning.stands l.places l.initial.self after;
+  rest : (after : Hand g.row.C.Denot g.row.X.Denot) → HoldsAll g.M.Meaning.lawful g.M.Meaning.stands (drop l.place-index l.places) l.self after
+      → HoldsAll g.M.Meaning.lawful g.M.Meaning.stands l.places l.initial.self after;
 }

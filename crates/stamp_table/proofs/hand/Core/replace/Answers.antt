@@ -9,13 +9,16 @@ pub index_mut-requires : goal.index_mut-requires
 index_mut-requires g c =
     let held = ap (λ h. h.held) c.self.view_is in
     let index = c.find_index-at.ensures ∙ ap (cells_before c.args.place) c.deref.ensures.value in
-    subst (λ k. c.find_index-at.result < k) (ap length (sym c.deref.ensures.value) ∙ c.deref.ensures.len) (within_found c.args.place c.self.inside.held.items c.args.self.now.held c.find_index-at.result held c.requires index)
+    subst (λ k. c.find_index-at.result < k) (ap length (sym c.deref.ensures.value) ∙ c.deref.ensures.len)
+    (within_found c.args.place c.self.inside.held.items c.args.self.now.held c.find_index-at.result held c.requires index)
 
 pub invariant_of-self : goal.invariant_of-self
 invariant_of-self g c =
     let held = ap (λ h. h.held) c.self.view_is in
     let index = c.find_index-at.ensures ∙ ap (cells_before c.args.place) c.deref.ensures.value in
-    let done = replaced c.args.place c.self.inside.held.items c.args.self.now.held c.find_index-at.result c.index_mut.result.now c.replace.new.dest c.args.value held c.requires index c.index_mut.ensures.value c.replace.ensures.after in
+    let done =
+    replaced c.args.place c.self.inside.held.items c.args.self.now.held c.find_index-at.result c.index_mut.result.now c.replace.new.dest c.args.value held
+    c.requires index c.index_mut.ensures.value c.replace.ensures.after in
     let core = c.self.invariant.0 in (
       record {
         lives = core.lives;
@@ -24,7 +27,10 @@ invariant_of-self g c =
         entries_are = core.entries_are;
         counted = core.counted;
         few = core.few;
-        places = core.places ∙ ap (λ (l : List (HeldCell g.row.C.Denot)). reverse (places_of l)) held ∙ (ap reverse (sym (same_places c.args.place c.args.self.now.held c.args.value)) ∙ ap (λ (l : List (HeldCell g.row.C.Denot)). reverse (places_of l)) (sym done.1));
+        places =
+            core.places ∙ ap (λ (l : List (HeldCell g.row.C.Denot)). reverse (places_of l)) held
+            ∙ (ap reverse (sym (same_places c.args.place c.args.self.now.held c.args.value))
+            ∙ ap (λ (l : List (HeldCell g.row.C.Denot)). reverse (places_of l)) (sym done.1));
         falls = core.falls;
         slots = core.slots;
         within = core.within;
@@ -37,14 +43,18 @@ pub returns-clause-old : goal.returns-clause-old
 returns-clause-old g c =
     let held = ap (λ h. h.held) c.self.view_is in
     let index = c.find_index-at.ensures ∙ ap (cells_before c.args.place) c.deref.ensures.value in
-    let done = replaced c.args.place c.self.inside.held.items c.args.self.now.held c.find_index-at.result c.index_mut.result.now c.replace.new.dest c.args.value held c.requires index c.index_mut.ensures.value c.replace.ensures.after in
+    let done =
+    replaced c.args.place c.self.inside.held.items c.args.self.now.held c.find_index-at.result c.index_mut.result.now c.replace.new.dest c.args.value held
+    c.requires index c.index_mut.ensures.value c.replace.ensures.after in
     ap (option_map (λ (x : HeldCell g.row.C.Denot). x.value)) done.0 ∙ search rules
 
 pub returns-clause-new : goal.returns-clause-new
 returns-clause-new g c =
     let held = ap (λ h. h.held) c.self.view_is in
     let index = c.find_index-at.ensures ∙ ap (cells_before c.args.place) c.deref.ensures.value in
-    let done = replaced c.args.place c.self.inside.held.items c.args.self.now.held c.find_index-at.result c.index_mut.result.now c.replace.new.dest c.args.value held c.requires index c.index_mut.ensures.value c.replace.ensures.after in
+    let done =
+    replaced c.args.place c.self.inside.held.items c.args.self.now.held c.find_index-at.result c.index_mut.result.now c.replace.new.dest c.args.value held
+    c.requires index c.index_mut.ensures.value c.replace.ensures.after in
     (λ i. record {
       table = (c.self.view_is i).table;
       view = (c.self.view_is i).view;

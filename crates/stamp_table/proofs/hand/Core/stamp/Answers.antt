@@ -13,9 +13,12 @@ draw-number-requires-clause-entry g c = may_enter g.M.Meaning.lawful g.M.Meaning
 
 pub invariant_of-self : goal.invariant_of-self
 invariant_of-self g c = (
-  subst (λ (l : List Entry). IsCore c.draw-number.new.seat c.self.inside.number.0 l (c.self.inside.events + 1) c.self.inside.held.items) (sym c.push_reserved.ensures.items)
-      (entered g.M.Meaning.lawful g.M.Meaning.stands c.self.inside.seat _ _ _ _ c.self.invariant.0 c.args.call c.args.reply c.draw-number.new.seat c.draw-number.result
-      (below_most _ _ _ (subst (λ (n : ℕ). 0 < n) (ap (λ h. h.spare) (sym c.self.view_is)) c.requires.spare)) c.draw-number.ensures.same c.draw-number.ensures.adds),
+  subst (λ (l : List Entry). IsCore c.draw-number.new.seat c.self.inside.number.0 l (c.self.inside.events + 1) c.self.inside.held.items)
+      (sym c.push_reserved.ensures.items)
+      (entered g.M.Meaning.lawful g.M.Meaning.stands c.self.inside.seat _ _ _ _ c.self.invariant.0 c.args.call c.args.reply c.draw-number.new.seat
+      c.draw-number.result
+      (below_most _ _ _ (subst (λ (n : ℕ). 0 < n) (ap (λ h. h.spare) (sym c.self.view_is)) c.requires.spare)) c.draw-number.ensures.same
+      c.draw-number.ensures.adds),
   subst (λ t. LeadsWell t c.self.inside.cores c.self.inside.lead) (sym c.draw-number.ensures.same.table) c.self.invariant.1,
   subst (λ (z : List Entry × Option Stamp). WaitsWell z.0 z.1) (λ i. (sym c.push_reserved.ensures.items i, sym c.waiting_with-self-inside.ensures i))
       (waits_now c.self.inside.entries.items c.args.call c.args.reply c.self.inside.number.0 c.draw-number.result),

@@ -12,10 +12,15 @@ use Rattle.stamp_table.proofs.shared.Shared.cores_of.Goals as goal
 pub split_seat-seat-requires : goal.split_seat-seat-requires
 split_seat-seat-requires g c =
     let few : c.args.cores < 256 = search rules in
-    let asked = asks_split g.M.Meaning.lawful g.M.Meaning.stands c.args.table.now.shared.key c.loop-number.lead.id c.loop-number.number c.args.cores c.loop-number-test.true few in (
+    let asked =
+    asks_split g.M.Meaning.lawful g.M.Meaning.stands c.args.table.now.shared.key c.loop-number.lead.id c.loop-number.number c.args.cores
+    c.loop-number-test.true few in (
       search rules,
       search rules,
-      subst (λ v. Splits (Kept event_core is_call (IsLawful g.M.Meaning.lawful) (stands_for g.M.Meaning.stands) c.args.table.now.shared.key) c.loop-number.lead.id v (one_more v) (newcomer v)) (sym (ap (λ m. m.0) c.loop-number.invariant.lead)) asked,
+      subst (λ v. Splits
+          (Kept event_core is_call (IsLawful g.M.Meaning.lawful) (stands_for g.M.Meaning.stands) c.args.table.now.shared.key) c.loop-number.lead.id v
+          (one_more v) (newcomer v))
+          (sym (ap (λ m. m.0) c.loop-number.invariant.lead)) asked,
     )
 
 pub loop-number-preserved : goal.loop-number-preserved
@@ -27,7 +32,8 @@ loop-number-preserved g c =
     let first_is : c.split_seat-seat.result.me.0.first ≡ c.args.table.now.shared.key = ap (λ v. v.first) knows ∙ ap (λ v. v.first) lead in
     let core_is : c.split_seat-seat.result.me.0.core ≡ c.loop-number.number = ap (λ v. v.core) knows ∙ ap (λ v. v.cores) lead in
     let ready : IsIdleCore c.args.table.now.shared.table_id c.args.cores (length c.loop-number.hands.items) c.begin.result =
-    subst (λ (z : TableId × ℕ). IsIdleCore z.0 c.args.cores z.1 c.begin.result) (λ i. ((split.3 ∙ inv.table) i, (core_is ∙ sym inv.count) i)) c.begin.ensures.ready in
+    subst (λ (z : TableId × ℕ). IsIdleCore z.0 c.args.cores z.1 c.begin.result)
+    (λ i. ((split.3 ∙ inv.table) i, (core_is ∙ sym inv.count) i)) c.begin.ensures.ready in
     let new : IsNew c.args.table.now.shared.key c.begin.result = record {
       first_is = ap (λ v. v.first) c.begin.ensures.view ∙ first_is;
       none_seen = ap (λ v. v.seen) c.begin.ensures.view ∙ ap (λ v. v.seen) knows;
@@ -42,6 +48,11 @@ loop-number-preserved g c =
       within = search rules;
       count = search rules;
       room = search rules;
-      ready = subst (λ (hands : List (Hand g.row.C.Denot g.row.X.Denot)). AreIdleFrom c.args.table.now.shared.table_id c.args.cores 0 hands) (sym c.push_reserved.ensures.items) (ready_next c.args.table.now.shared.table_id c.args.cores c.loop-number.hands.items c.begin.result inv.ready ready);
-      new = subst (λ (hands : List (Hand g.row.C.Denot g.row.X.Denot)). AreNew c.args.table.now.shared.key hands) (sym c.push_reserved.ensures.items) (new_snoc c.args.table.now.shared.key c.loop-number.hands.items c.begin.result inv.new new);
+      ready =
+          subst (λ (hands : List (Hand g.row.C.Denot g.row.X.Denot)). AreIdleFrom c.args.table.now.shared.table_id c.args.cores 0 hands)
+          (sym c.push_reserved.ensures.items)
+          (ready_next c.args.table.now.shared.table_id c.args.cores c.loop-number.hands.items c.begin.result inv.ready ready);
+      new =
+          subst (λ (hands : List (Hand g.row.C.Denot g.row.X.Denot)). AreNew c.args.table.now.shared.key hands) (sym c.push_reserved.ensures.items)
+          (new_snoc c.args.table.now.shared.key c.loop-number.hands.items c.begin.result inv.new new);
     }

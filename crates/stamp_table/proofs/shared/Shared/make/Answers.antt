@@ -10,5 +10,9 @@ use Rattle.stamp_table.proofs.shared.Shared.make.Goals as goal
 pub new-requires : goal.new-requires
 new-requires g c =
     let words : c.as_slice.result.now ≡ replicate (16 + length c.args.cells.items) 0 = search rules in
-    subst (λ (slots : List (Option g.row.C.Denot)). Kept event_core is_call (IsLawful g.M.Meaning.lawful) (stands_for g.M.Meaning.stands) c.args.first.now (opening c.as_slice.result.now slots (gatherer c.args.first.now))) (sym c.in_ok-slots.ensures)
-    (asks_new g.M.Meaning.lawful g.M.Meaning.stands c.args.first.now c.as_slice.result.now c.args.cells.items (ap (λ l. get_or l 0 0) words ∙ all_zero (16 + length c.args.cells.items) 0) (ap length words ∙ length-replicate (16 + length c.args.cells.items) 0) c.requires.lawful c.requires.cells)
+    subst (λ (slots : List (Option g.row.C.Denot)). Kept event_core is_call (IsLawful g.M.Meaning.lawful) (stands_for g.M.Meaning.stands) c.args.first.now
+    (opening c.as_slice.result.now slots (gatherer c.args.first.now)))
+    (sym c.in_ok-slots.ensures)
+    (asks_new g.M.Meaning.lawful g.M.Meaning.stands c.args.first.now c.as_slice.result.now c.args.cells.items
+    (ap (λ l. get_or l 0 0) words ∙ all_zero (16 + length c.args.cells.items) 0)
+    (ap length words ∙ length-replicate (16 + length c.args.cells.items) 0) c.requires.lawful c.requires.cells)

@@ -5,11 +5,13 @@ use Rattle.volume_one.specs.declared.volume.OpenVolume.{OpenVolume}
 use Rattle.volume_one.proofs.volume.OpenVolume.commit_granted.Goals as goal
 
 pub returns-in-Ok-clause-ends : goal.returns-in-Ok-clause-ends
-returns-in-Ok-clause-ends g c = readied c.commit_ready.result c.in-Ok.ready c.ready.new.self c.in-Ok.ensures.ready c.in-Ok.ensures.same c.commit_ready.ensures.ends
+returns-in-Ok-clause-ends g c =
+    readied c.commit_ready.result c.in-Ok.ready c.ready.new.self c.in-Ok.ensures.ready c.in-Ok.ensures.same c.commit_ready.ensures.ends
 
 pub returns-in-Err-clause-ends : goal.returns-in-Err-clause-ends
 returns-in-Err-clause-ends g c =
     let before = g.D.Disk.view c.args.disk.now in
     let back : OpenVolume = record c.ready.new.self { space = c.give_back.new.self } in
-    subst (λ (f : Flushed). GrantEnds (c.args.disk.now ≡ c.args.disk.now) c.args.stamp c.args.plan c.args.grant before before c.args.self.now back f) (sym c.refused.ensures)
+    subst (λ (f : Flushed). GrantEnds (c.args.disk.now ≡ c.args.disk.now) c.args.stamp c.args.plan c.args.grant before before c.args.self.now back f)
+    (sym c.refused.ensures)
     (unready refl c.ready.new.self c.in-Err.ensures.same (record { inodes = c.give_back.ensures.inodes; blocks = c.give_back.ensures.blocks; others = refl }))

@@ -15,10 +15,13 @@ returns-in-Ok-clause-ends g c =
     let before = g.D.Disk.view c.args.disk.now in
     let after = g.D.Disk.view c.carry.new.disk in
     let done = c.finish.ensures in
-    subst (λ (deed : Deed). ReadyEnds (c.carry.new.disk ≡ c.args.disk.now) c.args.stamp c.args.ready c.args.grant before after volume c.finish.new.self (acknowledged c.in-Ok.moment deed))
+    subst (λ (deed : Deed). ReadyEnds (c.carry.new.disk ≡ c.args.disk.now) c.args.stamp c.args.ready c.args.grant before after volume c.finish.new.self
+    (acknowledged c.in-Ok.moment deed))
     (sym c.once_durable-deed.ensures)
     (carried c.in-Ok.moment
-    (subst (λ (o : Option Contents). CarriesPacked (c.carry.new.disk ≡ c.args.disk.now) volume.layout volume.commits o before after (Ok c.in-Ok.moment)) c.take.ensures.value c.in-Ok.ensures.carried)
+    (subst
+    (λ (o : Option Contents). CarriesPacked (c.carry.new.disk ≡ c.args.disk.now) volume.layout volume.commits o before after (Ok c.in-Ok.moment))
+    c.take.ensures.value c.in-Ok.ensures.carried)
     (record {
       space_inodes = done.space_inodes;
       space_blocks = done.space_blocks;
@@ -39,8 +42,13 @@ returns-in-Err-clause-ends g c =
     let Same = c.carry.new.disk ≡ c.args.disk.now in
     let in_doubt : OpenVolume = record volume { space = c.give_back.new.self; failed = Some c.in-Err.doubt.faults } in
     subst (λ (f : Flushed). ReadyEnds Same c.args.stamp c.args.ready c.args.grant before after volume in_doubt f)
-    (sym (c.refused.ensures ∙ ap (refused_with reply.DiskFailed) (c.in_doubt-deed.ensures ∙ (λ i. doubtful_deed c.args.ready.fresh (c.now-began.ensures.now i) (c.now.ensures.now i)))))
+    (sym
+    (c.refused.ensures
+    ∙ ap (refused_with reply.DiskFailed)
+    (c.in_doubt-deed.ensures ∙ (λ i. doubtful_deed c.args.ready.fresh (c.now-began.ensures.now i) (c.now.ensures.now i)))))
     (doubted c.in-Err.doubt c.give_back.new.self
-    (subst (λ (o : Option Contents). CarriesPacked Same volume.layout volume.commits o before after (Err c.in-Err.doubt)) c.take.ensures.value c.in-Err.ensures.carried)
+    (subst
+    (λ (o : Option Contents). CarriesPacked Same volume.layout volume.commits o before after (Err c.in-Err.doubt)) c.take.ensures.value
+    c.in-Err.ensures.carried)
     (record { inodes = c.give_back.ensures.inodes; blocks = c.give_back.ensures.blocks; others = refl })
     refl)

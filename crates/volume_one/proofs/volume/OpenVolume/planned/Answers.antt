@@ -23,8 +23,10 @@ returns-clause-planned c =
     let volume = c.args.self.now in
     let gathered = c.lend-gathered.result in
     let from = c.lend-gathered.ensures.gathered in
-    let orderly = c.lend-gathered.ensures.orderly (orderly_logs is.kept volume is.remembers c.args.stamp is.counted c.in_ok-logs.logs.items c.in_ok-logs.ensures) in
-    IfOk-weaker c.plan_of-plan.result (IsPlannedByGathered c.args.node c.args.stamp gathered volume.stored (option_copied c.get-file.result)) (WasPlanned volume c.args.node c.args.stamp)
+    let orderly =
+    c.lend-gathered.ensures.orderly (orderly_logs is.kept volume is.remembers c.args.stamp is.counted c.in_ok-logs.logs.items c.in_ok-logs.ensures) in
+    IfOk-weaker c.plan_of-plan.result (IsPlannedByGathered c.args.node c.args.stamp gathered volume.stored (option_copied c.get-file.result))
+    (WasPlanned volume c.args.node c.args.stamp)
     (λ plan planned. record {
       gathered = gathered;
       logs = subst (AreGathered volume.logs c.args.stamp.0) (sym from.logs_are) c.in_ok-logs.ensures;
