@@ -1,8 +1,9 @@
 -- A tree that is built node by node and row by row is one with which a table may begin.
-use Rattle.std.proofs.Common.{◌≡◌, ℕ, zero, suc, ◌+◌, ◌<◌, ◌≤◌, Bool, true, false, ◌&&◌, cond, List, [], ◌∷◌, length, replicate}
-use Rattle.std.proofs.Common.{Option, None, inl, inr, refl, sym, subst, ap, ◌∙◌, nat_eq, arith}
-use Rattle.std.specs.Prelude.{slice_index, is_some, filter_map}
+use Rattle.std.proofs.Common.{◌≡◌, ℕ, ◌+◌, ◌<◌, ◌≤◌, Bool, true, false, not, ◌&&◌, ◌||◌, cond, List, [], ◌∷◌, length}
+use Rattle.std.proofs.Common.{Option, Some, None, IsSome, inl, inr, refl, sym, subst, ap, ◌∙◌, nat_eq, nat_lt, arith}
+use Rattle.std.specs.Prelude.{is_some, is_none, filter_map}
 use Rattle.std.proofs.lemmas.Bool.{eqb-true}
+use borrow.Author.Tests.{ltb-true}
 use Rattle.std.specs.Cmp.Lexicographic.{nat_list_cmp_total}
 use Rattle.sfs_base.specs.Name.{bucket}
 use Rattle.sfs_tree.specs.Order.{Key, key_cmp, name_cmp}
@@ -11,11 +12,13 @@ use Rattle.std.specs.FinMap.{FinMap, empty, entries, get, insert, len, len-empty
 use Rattle.std.specs.Ordering.{nat_cmp}
 use Rattle.sfs_base.specs.declared.numbers.Kind.{Kind}
 use Rattle.sfs_base.specs.declared.numbers.Kind.TheVariants.{Directory, File}
-use Rattle.sfs_tree.specs.Tree.{BUCKET_ROWS, TreeState, Node, is_alive, is_directory_kind, name_row, bucket_rows}
+use Rattle.sfs_base.proofs.BasicLists.{zeros_read}
+use Rattle.sfs_base.proofs.BasicTruth.{and_first, and_second, not_true, not_both_of}
+use Rattle.sfs_tree.specs.Tree.{BUCKET_ROWS, TreeState, Node, is_alive, is_directory, is_directory_kind, names_of, row_of, name_row, bucket_rows}
 use Rattle.sfs_tree.specs.Build.{root_alone, with_node, with_row}
 use Rattle.sfs_tree.specs.Effect.{Adds}
 use Rattle.sfs_tree.specs.Fits.{FitsAdds, IsUnnamed}
-use Rattle.sfs_tree.specs.Sound.{IsWithinLimits}
+use Rattle.sfs_tree.specs.Sound.{IsSound, IsWithinLimits}
 use Rattle.sfs_tree.specs.Verdict.{LARGEST_FILE}
 use Rattle.sfs_tree.proofs.Kept.{fitting_keeps_sound}
 use Rattle.sfs_tree.proofs.SoundTrees.{root_alone_is_sound}
@@ -24,6 +27,7 @@ use Rattle.sfs_tree.proofs.Parts.{parts_after}
 use Rattle.sfs_tree.proofs.RowFacts.{named_alive}
 use Rattle.sfs_tree.proofs.KeepsNodes.{IsSound-nodes, KeepKinds-new, node_cases}
 use Rattle.mem_begin.specs.Beginning.{CanBeginTable}
+use Rattle.begun_tables.specs.Begun.{may_get_name, may_hold_rows, may_put}
 
 pub begins_with_node : (tree : TreeState) (node : ℕ) (kind : Kind) (bytes : List ℕ) → CanBeginTable tree
     → get tree.nodes node ≡ None → length bytes ≤ LARGEST_FILE → CanBeginTable (with_node tree node kind bytes)
@@ -54,21 +58,60 @@ root_begins first share cores low = record {
     | inr there ↦ subst (λ (o : Option Node). length (option_map_or (λ (n : Node). n.bytes) o []) ≤ LARGEST_FILE)
         (sym (there.1 ∙ get-empty nat_cmp node)) (omega arith)
   ];
-  unmade = λ core. all_zero cores core;
+  unmade = λ core. zeros_read cores core;
 }
-  where
-    all_zero : (cores core : ℕ) → slice_index (replicate cores 0) core ≡ 0
-    all_zero zero core = refl
-    all_zero (suc cores) zero = refl
-    all_zero (suc cores) (suc core) = all_zero cores core
 
 -- what is not alive has no name
 pub unnamed : (tree : TreeState) (node : ℕ) → is_alive tree node ≡ false → IsUnnamed tree node
-unnamed tree node dead directory name row = both (is_alive tree node) (named_alive tree node (record { directory = directory; name = name; row = row })) dead
-  where
-    both : (b : Bool) → b ≡ true → b ≡ false → ⊥
-    both true is isnt = cc
-    both false is isnt = cc
+unnamed tree node dead directory name row =
+    not_both_of (is_alive tree node) (named_alive tree node (record { directory = directory; name = name; row = row })) dead
+
+-- what may get a name is a node, and a directory among these is not alive
+named_node : (o : Option Node) (alive : Bool) → option_map_or (λ (n : Node). not (is_directory_kind n.kind) || not alive) o false ≡ true → IsSome o
+named_node None alive may = absurd (cc (may))
+named_node (Some n) alive may = refl
+
+dead_directory : (o : Option Node) (alive : Bool) → option_map_or (λ (n : Node). not (is_directory_kind n.kind) || not alive) o false ≡ true
+    → option_map_or (λ (n : Node). is_directory_kind n.kind) o false ≡ true → alive ≡ false
+dead_directory None alive may kind = absurd (cc (may))
+dead_directory (Some n) alive may kind = not_true alive (ap (λ b. not b || not alive) (sym kind) ∙ may)
+
+module _ (tree : TreeState) (directory : ℕ) (name : List ℕ) (child : ℕ) (sound : IsSound tree) (may : may_put tree directory name child ≡ true) where
+  first_three : (may_hold_rows tree directory && is_none (row_of tree directory name) && nat_lt (len (names_of directory tree.rows)) BUCKET_ROWS) ≡ true
+  first_three = and_first _ (may_get_name tree child) may
+
+  first_two : (may_hold_rows tree directory && is_none (row_of tree directory name)) ≡ true
+  first_two = and_first _ (nat_lt (len (names_of directory tree.rows)) BUCKET_ROWS) first_three
+
+  holds : may_hold_rows tree directory ≡ true
+  holds = and_first _ (is_none (row_of tree directory name)) first_two
+
+  gets_name : may_get_name tree child ≡ true
+  gets_name = and_second (may_hold_rows tree directory && is_none (row_of tree directory name) && nat_lt (len (names_of directory tree.rows)) BUCKET_ROWS) _ may
+
+  dead : is_directory tree child ≡ true → is_alive tree child ≡ false
+  dead kind = dead_directory (get tree.nodes child) (is_alive tree child) gets_name kind
+
+  pub few_rows : len (names_of directory tree.rows) < BUCKET_ROWS
+  few_rows = ltb-true _ _ (and_second (may_hold_rows tree directory && is_none (row_of tree directory name)) _ first_three)
+
+  -- a row that may be put fits the tree
+  pub row_fits : FitsAdds tree directory name child
+  row_fits = record {
+    holder = record {
+      kind = and_first _ (is_alive tree directory) holds;
+      alive = and_second (is_directory tree directory) _ holds;
+    };
+    free = none_is (row_of tree directory name) (and_second (may_hold_rows tree directory) _ first_two);
+    no_root = λ same. not_both_of (is_alive tree child) (subst (λ c. is_alive tree c ≡ true) (sym same) refl)
+        (dead (subst (λ c. is_directory tree c ≡ true) (sym same) sound.root));
+    placeless = λ kind. unnamed tree child (dead kind);
+    node = named_node (get tree.nodes child) (is_alive tree child) gets_name;
+  }
+    where
+      none_is : (o : Option ℕ) → is_none o ≡ true → o ≡ None
+      none_is None is = refl
+      none_is (Some n) is = absurd (cc (is))
 
 -- a node's bytes are none where it is a directory
 abbrev IsPlain : Option Node → Type 0

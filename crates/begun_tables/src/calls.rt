@@ -3,7 +3,7 @@ ghost use Rattle.std.specs.Prelude.{◌<◌, ◌≤◌};
 ghost use Rattle.sfs_tree.specs.Step.{IsReadable};
 ghost use Rattle.stamp_table.specs.Table.{IsBetweenCalls, IsSameCore};
 ghost use Rattle.mem_calls.specs.Table.{IsFileTable, AreNumbersOf};
-ghost use Rattle.begun_tables.specs.Begun.{IsCallTable};
+ghost use Rattle.begun_tables.specs.Begun.{ComesToReply, IsCallTable};
 
 use crate::tables::Files;
 use mem_calls::{Numbers, call};
@@ -31,6 +31,7 @@ fn make_ready<R: Wait, G: Gate>(
     requires readable { IsReadable asked }
     requires spare { 0 < core.old.spare }
     requires room { RENAME_CELLS ≤ core.old.room }
+    ensures made { ComesToReply shared.now asked core.old core.new result }
     ensures same { IsSameCore core.old core.new }
     ensures between { IsBetweenCalls shared.now core.new }
 {
@@ -68,6 +69,7 @@ pub fn make_call<R: Wait, G: Gate>(
     requires table { IsCallTable shared.now numbers.first numbers.share nodes }
     requires core { IsBetweenCalls shared.now core.old }
     requires readable { IsReadable asked }
+    ensures made { ComesToReply shared.now asked core.old core.new result }
     ensures same { IsSameCore core.old core.new }
     ensures between { IsBetweenCalls shared.now core.new }
 {

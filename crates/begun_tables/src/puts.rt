@@ -1,11 +1,10 @@
 // Nodes and rows that are put into a tree.
-ghost use Rattle.std.specs.Prelude.{◌≡◌, ◌≢◌, ◌*◌, ◌<◌, ◌≤◌, [], true, IfOk, OnOk, IsSome, length};
-ghost use Rattle.sfs_base.specs.declared.numbers.Kind.TheVariants.{Directory};
+ghost use Rattle.std.specs.Prelude.{◌≡◌, ◌*◌, ◌<◌, ◌≤◌, [], if◌then◌else◌, IfOk, OnErr, OnOk, is_none, length};
 ghost use Rattle.std.specs.FinMap as finmap;
-ghost use Rattle.sfs_tree.specs.Tree.{is_directory};
-ghost use Rattle.sfs_tree.specs.Fits.{IsUnnamed, MayHold};
-ghost use Rattle.sfs_tree.specs.Sound.{IsSound};
+ghost use Rattle.sfs_base.specs.declared.numbers.Kind.TheVariants.{Directory};
+ghost use Rattle.sfs_tree.specs.Build as build;
 ghost use Rattle.sfs_tree.specs.Verdict.{LARGEST_FILE};
+ghost use Rattle.begun_tables.specs.Begun as begun;
 ghost use Rattle.begun_tables.specs.Begun.{IsBuiltTree, KeepsNumbers};
 
 use sfs_base::{Kind, Name, NoMemory, NodeId};
@@ -17,8 +16,7 @@ pub fn root_alone(alloc: Global, first: u32, share: u32, cores: u8) -> Result<Tr
     requires first { (1 ≤ first) × (first ≤ 16384) }
     requires shares { share * cores ≤ 65536 }
     ensures built { IfOk result IsBuiltTree }
-    ensures first { IfOk result (λ tree. tree.first ≡ first) }
-    ensures share { IfOk result (λ tree. tree.share ≡ share) }
+    ensures tree { IfOk result (λ tree. tree ≡ build.root_alone first share cores) }
     ensures made { IfOk result (λ tree. length tree.made ≡ cores) }
 {
     let tree = Tree::empty(alloc, first, share, cores)?;
@@ -31,6 +29,9 @@ pub fn put_node(tree: &mut Tree, node: NodeId, kind: Kind, bytes: Vec<u8>) -> Re
     requires low { node.0 < tree.old.first }
     requires directory { kind ≡ Directory → bytes.items ≡ [] }
     requires size { length bytes.items ≤ LARGEST_FILE }
+    ensures due { IfOk result (λ put. put ≡ is_none (finmap.get tree.old.nodes node.0)) }
+    ensures put { IfOk result (λ put. tree.new ≡ (if put then build.with_node tree.old node.0 kind bytes.items else tree.old)) }
+    ensures err { OnErr result (tree.new ≡ tree.old) }
     ensures built { OnOk result (IsBuiltTree tree.new) }
     ensures numbers { OnOk result (KeepsNumbers tree.old tree.new) }
 {
@@ -41,26 +42,36 @@ pub fn put_node(tree: &mut Tree, node: NodeId, kind: Kind, bytes: Vec<u8>) -> Re
     Ok(true)
 }
 
-/// Puts a row where none is, if the directory has fewer than 4,096 rows. Its child is a file, or a directory that no row names yet. Says
-/// whether it was put.
+/// Puts a row where none is, if the directory is alive and has fewer than 4,096 rows. Its child is a file, or a directory that no row names
+/// yet. Says whether it was put.
 pub fn put_row(tree: &mut Tree, dir: NodeId, name: Name, child: NodeId) -> Result<bool, NoMemory>
     requires built { IsBuiltTree tree.old }
+    ensures due { IfOk result (λ put. put ≡ begun.may_put tree.old dir.0 name child.0) }
+    ensures put { IfOk result (λ put. tree.new ≡ (if put then build.with_row tree.old dir.0 name child.0 else tree.old)) }
+    ensures err { OnErr result (tree.new ≡ tree.old) }
     ensures built { OnOk result (IsBuiltTree tree.new) }
     ensures numbers { OnOk result (KeepsNumbers tree.old tree.new) }
 {
-    if !may_hold(tree, dir) || tree.child(dir, &name).is_some() {
-        return Ok(false);
-    }
-    if tree.row_count(dir) >= 4096 || !may_be_named(tree, child) {
+    if !may_put(tree, dir, &name, child) {
         return Ok(false);
     }
     tree.put_row(dir, name, child)?;
     Ok(true)
 }
 
+// Whether a row may be put.
+fn may_put(tree: &Tree, dir: NodeId, name: &Name, child: NodeId) -> bool
+    ensures due { result ≡ begun.may_put tree.now dir.0 name.now child.0 }
+{
+    may_hold_rows(tree, dir)
+        && tree.child(dir, name).is_none()
+        && tree.row_count(dir) < 4096
+        && may_get_name(tree, child)
+}
+
 // Whether a node is a directory that is alive.
-fn may_hold(tree: &Tree, node: NodeId) -> bool
-    ensures { result ≡ true → MayHold tree.now node.0 }
+fn may_hold_rows(tree: &Tree, node: NodeId) -> bool
+    ensures due { result ≡ begun.may_hold_rows tree.now node.0 }
 {
     match tree.kind(node) {
         Some(Kind::Directory) => tree.is_alive(node),
@@ -69,11 +80,8 @@ fn may_hold(tree: &Tree, node: NodeId) -> bool
 }
 
 // Whether a node is a file, or a directory that no row names.
-fn may_be_named(tree: &Tree, node: NodeId) -> bool
-    requires { IsSound tree.now }
-    ensures node { result ≡ true → IsSome (finmap.get tree.now.nodes node.0) }
-    ensures no_root { result ≡ true → node.0 ≢ 0 }
-    ensures placeless { result ≡ true → is_directory tree.now node.0 ≡ true → IsUnnamed tree.now node.0 }
+fn may_get_name(tree: &Tree, node: NodeId) -> bool
+    ensures due { result ≡ begun.may_get_name tree.now node.0 }
 {
     match tree.kind(node) {
         Some(Kind::File) => true,
