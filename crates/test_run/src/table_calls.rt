@@ -9,6 +9,7 @@ mod asked;
 mod begun;
 mod beside;
 mod drawn;
+mod full;
 mod judged;
 mod listed;
 mod loops;

@@ -10,7 +10,7 @@ use std::process::Abort;
 use std::test::Fail;
 
 // The number of the first new node, and how many nodes each core may make.
-pub(crate) const FIRST: u32 = 8;
+pub(crate) const FIRST: u32 = 32;
 
 pub(crate) const SHARE: u32 = 3_000;
 

@@ -19,7 +19,7 @@ use std::sync::Wait;
 use std::test::*;
 
 // Calls of each kind, with their refusals, in this order on one tree.
-static LISTED: [(Asked, Option<Code>); 103] = [
+static LISTED: [(Asked, Option<Code>); 104] = [
     (Look(0, "d"), None),
     (Look(1, "b"), None),
     (Rename(0, "a", 0, "z"), None),
@@ -73,6 +73,7 @@ static LISTED: [(Asked, Option<Code>); 103] = [
     (Read(3, 4_090, 20), None),
     (Trunc(3, 67_551_233), Some(Code::FileTooBig)),
     (Trunc(0, 0), Some(Code::IsDir)),
+    (Trunc(5, 0), Some(Code::NoEntry)),
     (Stat(0), None),
     (Stat(1), None),
     (Stat(3), None),
@@ -115,18 +116,18 @@ static LISTED: [(Asked, Option<Code>); 103] = [
     (Make(0, "n", Kind::Directory), Some(Code::Exists)),
     (Make(3, "n", Kind::File), Some(Code::NotDir)),
     (Make(5, "n", Kind::File), Some(Code::NoEntry)),
-    (Make(9, "n", Kind::File), Some(Code::NoEntry)),
+    (Make(33, "n", Kind::File), Some(Code::NoEntry)),
     (Make(70_000, "n", Kind::File), Some(Code::NoEntry)),
     (Make(1, "m", Kind::Directory), None),
-    (Make(9, "n", Kind::File), None),
-    (Look(9, "n"), None),
-    (Stat(8), None),
-    (Stat(9), None),
-    (List(9), None),
+    (Make(33, "n", Kind::File), None),
+    (Look(33, "n"), None),
+    (Stat(32), None),
+    (Stat(33), None),
+    (List(33), None),
 ];
 
 // Makes listed calls.
-fn make_listed<R: Wait>(
+pub(crate) fn make_listed<R: Wait>(
     rt: &R,
     alloc: Global,
     shared: &Files,
@@ -140,6 +141,8 @@ fn make_listed<R: Wait>(
     requires known { 0 < length tree.old.made }
     ensures same { IsSameCore core.old core.new }
     ensures between { IsBetweenCalls shared.now core.new }
+    ensures sound { IsSound tree.new }
+    ensures known { 0 < length tree.new.made }
 {
     for (asked, code) in listed {
         let reply = agrees(rt, alloc, shared, core, tree, *asked)?;
