@@ -111,21 +111,26 @@ fn add_holders(rt: &impl Abort, alloc: Global, tree: &mut Tree) -> Result<(), Fa
     Ok(())
 }
 
+// Puts both files, with the one name of the second one, and the directories.
+fn add_all(rt: &impl Abort, alloc: Global, tree: &mut Tree) -> Result<(), Fail>
+    requires built { IsBuiltTree tree.old }
+    requires low { FIRST ≤ tree.old.first }
+    ensures built { OnOk result (IsBuiltTree tree.new) }
+    ensures numbers { OnOk result (KeepsNumbers tree.old tree.new) }
+{
+    assert!(rt; put_node(tree, LINKED, Kind::File, Vec::new(alloc))?);
+    assert!(rt; put_node(tree, OTHER, Kind::File, Vec::new(alloc))?);
+    let name = Name::new(alloc, b"o".as_slice())?;
+    add_row(rt, tree, ROOT, name, OTHER)?;
+    add_holders(rt, alloc, tree)
+}
+
 // A tree with a file of 65,535 names and a directory in whose bucket 0 no further row comes.
 fn full_tree(rt: &impl Abort, alloc: Global) -> Result<Tree, Fail>
     ensures { IfOk result (λ tree. BeginsTable tree FIRST SHARE 1) }
 {
     let mut tree = root_alone(alloc, FIRST, SHARE, 1)?;
-    assert!(rt; put_node(&mut tree, LINKED, Kind::File, Vec::new(alloc))?);
-    assert!(rt; put_node(&mut tree, OTHER, Kind::File, Vec::new(alloc))?);
-    add_row(
-        rt,
-        &mut tree,
-        ROOT,
-        Name::new(alloc, b"o".as_slice())?,
-        OTHER,
-    )?;
-    add_holders(rt, alloc, &mut tree)?;
+    add_all(rt, alloc, &mut tree)?;
     tree.allow(SHARE);
     Ok(tree)
 }
