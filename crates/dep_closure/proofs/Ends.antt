@@ -16,7 +16,7 @@ use Rattle.sfs_tree.specs.Tree.{is_directory_kind}
 use Rattle.sfs_tree.specs.NameRow.{node_number, number_of}
 use Rattle.mem_cells.specs.Log.{IsInOrder, log_place}
 use Rattle.flush_core.specs.Rules.{IsOneOf}
-use Rattle.flush_core.specs.Engine.{OfSome}
+use Rattle.flush_core.specs.Elements.{OfSome}
 use Rattle.flush_core.proofs.Listed.{from_map, to_map}
 use Rattle.dep_closure.specs.Brought.{ChangeBrings, LoggedBrings, AreOfOneDirectory}
 use Rattle.dep_closure.specs.Gathered.{noted_as}

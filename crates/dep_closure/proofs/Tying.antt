@@ -17,7 +17,7 @@ use Rattle.sfs_tree.specs.declared.changes.Change.{Change}
 use Rattle.sfs_tree.specs.Logged.{erased}
 use Rattle.sfs_tree.specs.NameRow.{node_number, number_of}
 use Rattle.flush_core.specs.Rules.{IsOneOf}
-use Rattle.flush_core.specs.Engine.{OfSome}
+use Rattle.flush_core.specs.Elements.{OfSome}
 use Rattle.flush_core.proofs.Listed.{from_map, to_map}
 use Rattle.flush_ties.specs.Look.{Noted, Born, Look, InSight, SeesNaming}
 use Rattle.flush_core.proofs.RunFacts.{found_in, in_filter}

@@ -8,7 +8,7 @@ ghost use Rattle.sfs_base.specs.declared.numbers.NodeId.{NodeId};
 ghost use Rattle.sfs_base.specs.declared.numbers.Stamp.{Stamp};
 ghost use Rattle.sfs_tree.specs.NameRow.{node_number};
 ghost use Rattle.mem_cells.specs.Log.{IsInOrder};
-ghost use Rattle.flush_core.specs.Engine.{OfSome};
+ghost use Rattle.flush_core.specs.Elements.{OfSome};
 ghost use Rattle.flush_ties.specs.Look.{SeesNaming};
 ghost use Rattle.dep_closure.specs.Brought.{AddsTo, birthplace_due};
 ghost use Rattle.dep_closure.specs.Gathered.{IsOrderly, look_of, lifted_cut, IsNamedByLog};

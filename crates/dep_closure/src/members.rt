@@ -5,7 +5,7 @@ ghost use Rattle.std.specs.Ordering.{nat_cmp};
 ghost use Rattle.std.specs.BTreeSet.{IsOrdered};
 ghost use Rattle.std.specs.List.Sorted.{IsStrictlyIncreasing};
 ghost use Rattle.sfs_tree.specs.NameRow.{node_number};
-ghost use Rattle.flush_core.specs.Engine.{OfSome};
+ghost use Rattle.flush_core.specs.Elements.{OfSome};
 ghost use Rattle.dep_closure.specs.Brought.{GrowsBy};
 
 use sfs_base::{NoMemory, NodeId, NodeList, RoomyList};

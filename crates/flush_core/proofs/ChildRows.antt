@@ -30,7 +30,8 @@ use Rattle.flush_core.specs.Rules.{IsOneOf}
 use Rattle.flush_core.specs.Closure.{every_entry}
 use Rattle.flush_core.specs.Past.{IsPast, row_change_of}
 use Rattle.flush_core.specs.NodeSets.{has_node}
-use Rattle.flush_core.specs.Engine.{OfSome, Joins}
+use Rattle.flush_core.specs.Engine.{Joins}
+use Rattle.flush_core.specs.Elements.{OfSome}
 use Rattle.flush_core.specs.Named.{kept_rows, IsChild, IsChildOf, IsChildIn, AreChildren, AreNamed}
 use Rattle.flush_core.proofs.CutRows.{names_of-cut}
 use Rattle.flush_core.proofs.Listed.{from_map, to_map}

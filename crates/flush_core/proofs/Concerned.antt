@@ -9,7 +9,8 @@ use Rattle.flush_core.specs.Cut.{Cut}
 use Rattle.flush_core.specs.Closure.{every_entry, Flush, IsConcerned, member, named}
 use Rattle.flush_core.specs.Past.{IsPast, row_change_of}
 use Rattle.flush_core.specs.NodeSets.{has_node}
-use Rattle.flush_core.specs.Engine.{OfSome, Joins, NamesFor}
+use Rattle.flush_core.specs.Engine.{Joins, NamesFor}
+use Rattle.flush_core.specs.Elements.{OfSome}
 use Rattle.flush_core.specs.Members.{AreMembers, AreConcerned}
 use Rattle.flush_core.proofs.Required.{change_kept, in_span, spans_of}
 

@@ -29,6 +29,7 @@ pub mod Counting
 pub mod Gathered
 pub mod Concerned
 pub mod NamedRows
+pub mod Pushed
 pub mod Raised
 pub mod Lists
 pub mod Covered

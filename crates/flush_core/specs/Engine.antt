@@ -62,10 +62,6 @@ abbrev pub Finds : (ℕ → Type 0) → NodeSet → Option ℕ → Type 0
 Finds Needs set (Some node) = Needs node × (has_node set node ≡ false)
 Finds Needs set None = (node : ℕ) → Needs node → has_node set node ≡ true
 
--- One of some elements stands to a node as asked.
-abbrev pub OfSome : {X : Type 0} → List X → (X → ℕ → Type 0) → ℕ → Type 0
-OfSome {X} xs Relates node = (x : X) × IsOneOf xs x × Relates x node
-
 -- A set has the nodes of another one and more.
 abbrev pub Joins : (ℕ → Type 0) → NodeSet → NodeSet → Type 0
 Joins More set joined = (node : ℕ) → (has_node joined node ≡ true) ↔ ((has_node set node ≡ true) ⊎ More node)

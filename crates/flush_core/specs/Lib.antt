@@ -2,6 +2,7 @@ pub mod Broken
 pub mod Closure
 pub mod Covers
 pub mod Cut
+pub mod Elements
 pub mod Flights
 pub mod Grows
 pub mod Engine

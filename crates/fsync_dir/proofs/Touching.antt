@@ -4,7 +4,7 @@ use Rattle.sfs_base.specs.declared.numbers.NodeId.{NodeId}
 use Rattle.sfs_base.specs.declared.numbers.Stamp.{Stamp}
 use Rattle.sfs_base.specs.Listed.{is_listed}
 use Rattle.sfs_tree.specs.NameRow.{node_number}
-use Rattle.flush_core.specs.Engine.{OfSome}
+use Rattle.flush_core.specs.Elements.{OfSome}
 use Rattle.flush_core.specs.Rules.{IsOneOf}
 use Rattle.flush_core.proofs.Listed.{from_map, to_map}
 use Rattle.flush_ties.specs.Look.{Look, Gathers, Touches}

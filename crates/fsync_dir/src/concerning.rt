@@ -2,7 +2,7 @@
 ghost use Rattle.std.specs.Prelude.{◌≡◌, ◌↔◌, ℕ, true, map, IfOk, OnOk};
 ghost use Rattle.std.specs.List.Sorted.{IsStrictlyIncreasing};
 ghost use Rattle.sfs_tree.specs.NameRow.{node_number};
-ghost use Rattle.flush_core.specs.Engine.{OfSome};
+ghost use Rattle.flush_core.specs.Elements.{OfSome};
 ghost use Rattle.dep_closure.specs.Brought.{AddsTo};
 ghost use Rattle.dep_closure.specs.Gathered.{IsOrderly};
 ghost use Rattle.disk_change.specs.Lists.{AscendBy};

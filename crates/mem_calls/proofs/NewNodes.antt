@@ -30,7 +30,7 @@ use Rattle.sfs_tree.proofs.RowFacts.{named_or_none, added_there}
 use Rattle.sfs_tree.proofs.SoundTrees.{calls_fit, calls_keep_sound}
 use Rattle.sfs_tree.proofs.Walks.{holder_is}
 use Rattle.flush_core.specs.Rules.{IsOneOf, Birth, births_by, births_of}
-use Rattle.flush_core.proofs.Grown.{births_of-push}
+use Rattle.flush_core.proofs.Pushed.{births_of-push}
 use Rattle.flush_core.proofs.NewNodes.{births_are_new_nodes}
 use Rattle.mem_values.specs.declared.bucket.Bucket.{Bucket}
 use Rattle.mem_values.specs.declared.cell_id.CellId.{CellId}

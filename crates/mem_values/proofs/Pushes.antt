@@ -15,7 +15,7 @@ use Rattle.sfs_tree.specs.History.{tree_after, tree_after_entry}
 use Rattle.sfs_tree.specs.Lock.{needs_lock}
 use Rattle.sfs_tree.specs.Merged.{is_core}
 use Rattle.flush_core.specs.Rules.{Birth, births_by, births_of}
-use Rattle.flush_core.proofs.Grown.{births_of-push}
+use Rattle.flush_core.proofs.Pushed.{births_of-push}
 use Rattle.stamp_table.specs.declared.event.Event.{Event}
 use Rattle.stamp_table.specs.declared.event.Event.TheVariants.{Called}
 use Rattle.stamp_table.specs.Events.{called}

@@ -30,7 +30,7 @@ use Rattle.mem_cells.specs.Log.{log_place}
 use Rattle.mem_cells.specs.Part.{changes_kept}
 use Rattle.flush_core.specs.Rules.{IsOneOf, Birth, births_by, births_of}
 use Rattle.flush_core.proofs.Basics.{in_left, in_right, in_either}
-use Rattle.flush_core.proofs.Grown.{births_of-push}
+use Rattle.flush_core.proofs.Pushed.{births_of-push}
 use Rattle.cut_trees.specs.Next.{IsMountedHistory}
 use Rattle.core_logs.specs.Kept.{KeepsUnflushed, is_entry_of, logged_in_tree}
 use Rattle.core_logs.specs.Logs.{Logs, AreSameChanges, AreWithEntry, HasRoom, MayAdd, part_of}

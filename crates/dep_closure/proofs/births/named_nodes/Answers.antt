@@ -1,6 +1,6 @@
 use Rattle.std.proofs.Common.{ℕ, ◌∙◌, subst, List, map, inl, inr}
 use Rattle.std.proofs.lemmas.List.{take_all}
-use Rattle.flush_core.specs.Engine.{OfSome}
+use Rattle.flush_core.specs.Elements.{OfSome}
 use Rattle.flush_core.specs.Rules.{IsOneOf}
 use Rattle.flush_core.proofs.Listed.{one_at}
 use Rattle.dep_closure.specs.declared.gathered.DirectoryChanges.{DirectoryChanges}

@@ -1,5 +1,5 @@
 use Rattle.std.proofs.Common.{take, map}
-use Rattle.flush_core.specs.Engine.{OfSome}
+use Rattle.flush_core.specs.Elements.{OfSome}
 use Rattle.dep_closure.specs.Brought.{AddsTo}
 use Rattle.sfs_tree.specs.NameRow.{node_number}
 use Rattle.dep_closure.specs.Gathered.{IsNamedByLog, lifted_cut}

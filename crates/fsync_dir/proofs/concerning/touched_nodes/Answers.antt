@@ -4,7 +4,7 @@ use Rattle.std.specs.List.Sorted.{IsStrictlyIncreasing}
 use Rattle.sfs_base.specs.declared.numbers.NodeId.{NodeId}
 use Rattle.sfs_base.specs.Listed.{is_listed}
 use Rattle.sfs_tree.specs.NameRow.{node_number}
-use Rattle.flush_core.specs.Engine.{OfSome}
+use Rattle.flush_core.specs.Elements.{OfSome}
 use Rattle.flush_core.specs.Rules.{IsOneOf}
 use Rattle.dep_closure.specs.Brought.{AddsTo}
 use Rattle.dep_closure.proofs.Closed.{listed_one}
