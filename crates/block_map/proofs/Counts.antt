@@ -4,7 +4,7 @@ use Rattle.std.specs.Option.{option_map_or}
 use Rattle.std.proofs.lemmas.Bool.{cond-true, cond-false, cases_Bool, lt-ltb, le-ltb, eqb-true}
 use Rattle.std.proofs.lemmas.Bool.Decides.{nat_tests}
 use Rattle.sfs_base.proofs.BasicNumbers.{not_same, zero_plus, plus_zero}
-use Rattle.sfs_tree.proofs.Joined.{count-cons}
+use Rattle.tree_laws.proofs.Joined.{count-cons}
 use Rattle.sfs_image.specs.Inode.{Inode, Table}
 use Rattle.sfs_image.specs.Part.{tabulate}
 use Rattle.sfs_image.specs.Seen.{FILE_BLOCKS}

@@ -15,7 +15,7 @@ use Rattle.sfs_base.proofs.BasicTruth.{and_false, or_true}
 use Rattle.sfs_image.specs.Inode.{pointers_bytes}
 use Rattle.sfs_image.specs.Seen.{FILE_BLOCKS, PLACES}
 use Rattle.sfs_image.proofs.Basics.{get_or-tabulate}
-use Rattle.sfs_tree.proofs.Joined.{count-cons}
+use Rattle.tree_laws.proofs.Joined.{count-cons}
 use Rattle.fmt_journal.specs.declared.tx.TxBlock.{TxBlock}
 use Rattle.absorb.specs.declared.nets.NetRow.{NetRow}
 use Rattle.image_tree.specs.Need.{Rewrite, takes_place, rank, rewrites_table, table_has_pointer}

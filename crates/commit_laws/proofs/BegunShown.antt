@@ -14,9 +14,9 @@ use Rattle.sfs_image.proofs.Basics.{found_passes}
 use Rattle.sfs_image.specs.Rules.{DIRECTORY_BLOCKS}
 use Rattle.sfs_image.specs.Seen.{Seen, SeenInodes}
 use Rattle.sfs_image.specs.Slot.{kind_byte, kind_of as kind_at}
-use Rattle.sfs_tree.specs.Tree.{TreeState, row_of, kind_of, bytes_of, links_of, is_directory, is_directory_kind, count_of, names_it, holds_directory}
-use Rattle.sfs_tree.proofs.Counting.{count_none}
-use Rattle.sfs_tree.proofs.Readings.{directory_by_kind}
+use Rattle.tree_laws.specs.Tree.{TreeState, row_of, kind_of, bytes_of, links_of, is_directory, is_directory_kind, count_of, names_it, holds_directory}
+use Rattle.tree_laws.proofs.Counting.{count_none}
+use Rattle.tree_laws.proofs.Readings.{directory_by_kind}
 use Rattle.image_tree.specs.Commit.{Commit, blank, seen_before, slots_after, IsCommitStep}
 use Rattle.image_tree.specs.Made.{IsMadeFrom}
 use Rattle.image_tree.specs.Renamed.{Numbering}

@@ -15,7 +15,7 @@ use Rattle.sfs_image.specs.Seen.{SeenInodes, FILE_BLOCKS}
 use Rattle.sfs_image.proofs.Basics.{found_passes}
 use Rattle.sfs_image.proofs.MadeLaws.{gathered_is_read}
 use Rattle.sfs_image.proofs.PartLaws.{hole_is_read, block_behind}
-use Rattle.sfs_tree.specs.Tree.{TreeState}
+use Rattle.tree_laws.specs.Tree.{TreeState}
 use Rattle.fmt_journal.specs.declared.tx.TxBlock.{TxBlock}
 use Rattle.image_tree.specs.Commit.{Commit}
 use Rattle.image_tree.specs.Renamed.{Numbering}

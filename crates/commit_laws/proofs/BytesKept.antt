@@ -23,8 +23,8 @@ use Rattle.sfs_image.proofs.AcceptedLaws.{raw_of}
 use Rattle.sfs_image.proofs.InodeLaws.{inode_fault-inode_bytes, inode_of-inode_bytes}
 use Rattle.sfs_image.proofs.RuleFacts.{asked, sizes_say, tails_say, slots_say, blocks_cover}
 use Rattle.sfs_image.proofs.RuleLaws.{good_from_rule, rule_from_good}
-use Rattle.sfs_tree.specs.Tree.{TreeState, kind_of, bytes_of, is_directory, is_directory_kind}
-use Rattle.sfs_tree.proofs.Readings.{directory_by_kind}
+use Rattle.tree_laws.specs.Tree.{TreeState, kind_of, bytes_of, is_directory, is_directory_kind}
+use Rattle.tree_laws.proofs.Readings.{directory_by_kind}
 use Rattle.image_tree.specs.Commit.{Commit, blank, seen_before, slots_after}
 use Rattle.image_tree.specs.Image.{HaveGoodBytes}
 use Rattle.image_tree.specs.Keeps.{IsDirectoryInode}

@@ -9,7 +9,7 @@ use borrow.Author.Tests.{eqb-true, ltb-true}
 use Rattle.sfs_base.proofs.BasicNumbers.{same_number}
 use Rattle.sfs_base.proofs.BasicOptions.{none_some, some_not_none, some_same}
 use Rattle.sfs_base.proofs.BasicTruth.{and_first, and_second, false_not_true}
-use Rattle.sfs_tree.specs.Tree.{TreeState, names_of}
+use Rattle.tree_laws.specs.Tree.{TreeState, names_of}
 use Rattle.sfs_image.specs.Seen.{SeenInodes, PLACES}
 use Rattle.absorb.specs.Net.{IsNet}
 use Rattle.image_tree.specs.Commit.{Commit, TakesBlocks, blank, seen_before}

@@ -22,8 +22,8 @@ use Rattle.sfs_image.specs.SlotBlock.{slots_of, slots_bytes, slots_fault, AreSlo
 use Rattle.sfs_image.proofs.PartLaws.{hole_is_read}
 use Rattle.sfs_image.proofs.SlotBlockLaws.{slots_of-slots_bytes, slots_fault-slots_bytes}
 use Rattle.sfs_image.proofs.RuleFacts.{slots_say}
-use Rattle.sfs_tree.specs.Tree.{TreeState, kind_of, bytes_of, is_directory_kind}
-use Rattle.sfs_tree.proofs.Readings.{directory_by_kind}
+use Rattle.tree_laws.specs.Tree.{TreeState, kind_of, bytes_of, is_directory_kind}
+use Rattle.tree_laws.proofs.Readings.{directory_by_kind}
 use Rattle.image_tree.specs.Commit.{Commit, blank, seen_before, slots_after}
 use Rattle.image_tree.specs.Need.{slots_in_block, rewrites_slots, directory_rewrite}
 use Rattle.image_tree.specs.Renamed.{Numbering}

@@ -22,7 +22,7 @@ use Rattle.sfs_image.specs.Slot.{kind_byte}
 use Rattle.sfs_image.specs.SlotBlock.{slots_of}
 use Rattle.sfs_image.proofs.BytesLaws.{zeros-is, length-zeros, part_from_none}
 use Rattle.sfs_image.proofs.PartLaws.{hole_is_read}
-use Rattle.sfs_tree.specs.Tree.{TreeState, kind_of, bytes_of}
+use Rattle.tree_laws.specs.Tree.{TreeState, kind_of, bytes_of}
 use Rattle.image_tree.specs.Commit.{Commit, blank, seen_before}
 use Rattle.image_tree.specs.Renamed.{Numbering}
 use Rattle.image_tree.proofs.BlockRows.{byte_blocks_show}

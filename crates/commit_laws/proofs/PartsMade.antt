@@ -24,7 +24,7 @@ use Rattle.sfs_image.proofs.InodeLaws.{inode_of-inode_bytes, pointers_of-pointer
 use Rattle.sfs_image.proofs.MadeLaws.{gathered_is_read}
 use Rattle.sfs_image.proofs.PiecesLaws.{length-u32s_at}
 use Rattle.sfs_image.proofs.PartLaws.{table_is_read, pointer_of_table, hole_is_read, block_behind}
-use Rattle.sfs_tree.specs.Tree.{TreeState, kind_of}
+use Rattle.tree_laws.specs.Tree.{TreeState, kind_of}
 use Rattle.absorb.specs.declared.nets.NetRow.{NetRow}
 use Rattle.image_tree.specs.Commit.{Commit, HasBlock, hole as made_hole, kept as made_kept, fresh as made_fresh, blank, seen_before}
 use Rattle.image_tree.specs.ImageTree.{shows_directory}

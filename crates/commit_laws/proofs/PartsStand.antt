@@ -17,7 +17,7 @@ use Rattle.sfs_image.proofs.Basics.{found_passes}
 use Rattle.sfs_image.specs.SlotBlock.{slots_of}
 use Rattle.sfs_image.proofs.InodeLaws.{inode_of-inode_bytes}
 use Rattle.sfs_image.proofs.PartLaws.{holes_have_none}
-use Rattle.sfs_tree.specs.Tree.{TreeState, kind_of}
+use Rattle.tree_laws.specs.Tree.{TreeState, kind_of}
 use Rattle.image_tree.specs.Commit.{Commit, blank}
 use Rattle.image_tree.specs.Made.{has_number, seen_built}
 use Rattle.image_tree.specs.Renamed.{Numbering}

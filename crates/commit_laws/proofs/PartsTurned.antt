@@ -16,7 +16,7 @@ use Rattle.sfs_image.proofs.Basics.{found_passes}
 use Rattle.sfs_image.proofs.InodeLaws.{inode_of-inode_bytes}
 use Rattle.sfs_image.proofs.MadeLaws.{made_turns, gathered_is_read}
 use Rattle.sfs_image.proofs.PartLaws.{holes_have_none, none_past_places, hole_is_read}
-use Rattle.sfs_tree.specs.Tree.{TreeState, kind_of}
+use Rattle.tree_laws.specs.Tree.{TreeState, kind_of}
 use Rattle.fmt_journal.specs.declared.tx.TxRecord.{TxRecord}
 use Rattle.image_tree.specs.Commit.{ComesBy, had, enters}
 use Rattle.image_tree.specs.Renamed.{Numbering}

@@ -12,7 +12,7 @@ use Rattle.sfs_base.proofs.BasicNumbers.{same_number, zero_plus}
 use Rattle.sfs_base.proofs.BasicOptions.{none_some, some_not_none}
 use Rattle.sfs_base.proofs.BasicTruth.{not_true, or_true, true_not_false}
 use Rattle.sfs_image.specs.Seen.{SeenInodes}
-use Rattle.sfs_tree.specs.Tree.{TreeState}
+use Rattle.tree_laws.specs.Tree.{TreeState}
 use Rattle.image_tree.specs.Commit.{Commit}
 use Rattle.image_tree.specs.Numbers.{grant_for, NumbersAreGiven}
 use Rattle.image_tree.specs.Renamed.{Numbering}

@@ -6,7 +6,7 @@ use Rattle.sfs_image.specs.Slot.{Row}
 use Rattle.image_tree.specs.Commit.{filled, slots_after}
 use Rattle.image_tree.specs.Need.{slots_in_block}
 use Rattle.image_tree.specs.Renamed.{Numbering}
-use Rattle.sfs_tree.specs.Tree.{TreeState}
+use Rattle.tree_laws.specs.Tree.{TreeState}
 use Rattle.absorb.specs.declared.nets.NetRow.{NetRow}
 use Rattle.disk_change.specs.Directory.{slot_moved, rows_new, empty_block, slot_blocks_after}
 use Rattle.disk_change.specs.Numbered.{row_numbered, slot_numbered, block_numbered}

@@ -10,9 +10,9 @@ use Rattle.sfs_base.specs.declared.numbers.NodeId.{NodeId}
 use Rattle.sfs_base.proofs.BasicLists.{same_bytes}
 use Rattle.sfs_base.proofs.BasicOptions.{some_same, none_some}
 use Rattle.sfs_image.specs.Slot.{Row}
-use Rattle.sfs_tree.specs.NameRow.{number_of}
-use Rattle.sfs_tree.specs.Tree.{TreeState, is_directory, kind_of, kind_if, kind_again}
-use Rattle.sfs_tree.proofs.Readings.{directory_by_kind}
+use Rattle.tree_laws.specs.NameRow.{number_of}
+use Rattle.tree_laws.specs.Tree.{TreeState, is_directory, kind_of, kind_if, kind_again}
+use Rattle.tree_laws.proofs.Readings.{directory_by_kind}
 use Rattle.absorb.specs.declared.nets.NetRow.{NetRow}
 use Rattle.image_tree.specs.Commit.{row_in_net, brought_row, slot_after, new_rows, filled, slots_after}
 use Rattle.image_tree.specs.Renamed.{Numbering}

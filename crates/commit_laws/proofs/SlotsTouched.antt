@@ -11,7 +11,7 @@ use Rattle.sfs_base.proofs.BasicNumbers.{same_number, not_same, zero_plus}
 use Rattle.sfs_base.proofs.BasicOptions.{none_some, some_same, some_not_none}
 use Rattle.sfs_base.proofs.BasicTruth.{or_true}
 use Rattle.sfs_image.specs.Slot.{Row}
-use Rattle.sfs_tree.proofs.Joined.{count-cons}
+use Rattle.tree_laws.proofs.Joined.{count-cons}
 use Rattle.absorb.specs.declared.nets.NetRow.{NetRow}
 use Rattle.image_tree.specs.Commit.{row_in_net}
 use Rattle.image_tree.specs.Need.{same_row, same_slots}

@@ -3,7 +3,7 @@ use Rattle.std.specs.Prelude.{◌≡◌, ℕ, ◌*◌, ◌<◌, ◌≤◌, true,
 use Rattle.sfs_image.specs.Part.{Part}
 use Rattle.sfs_image.specs.Seen.{SeenInodes}
 use Rattle.sfs_image.specs.Super.{Layout}
-use Rattle.sfs_tree.specs.Tree.{TreeState, bytes_of}
+use Rattle.tree_laws.specs.Tree.{TreeState, bytes_of}
 use Rattle.image_tree.specs.Image.{HaveGoodBytes}
 use Rattle.image_tree.specs.Renamed.{Numbering}
 use Rattle.image_tree.specs.Sizes.{DirectoriesFit}

@@ -2,8 +2,8 @@
 use Rattle.std.specs.Prelude.{◌≡◌, ℕ, true, false, List, map, Some, Contains}
 use Rattle.sfs_base.specs.declared.numbers.NodeId.{NodeId}
 use Rattle.sfs_image.specs.Seen.{SeenInodes}
-use Rattle.sfs_tree.specs.Sound.{IsSound}
-use Rattle.sfs_tree.specs.Tree.{TreeState, kind_of, is_directory}
+use Rattle.tree_laws.specs.Sound.{IsSound}
+use Rattle.tree_laws.specs.Tree.{TreeState, kind_of, is_directory}
 use Rattle.image_tree.specs.Commit.{Commit, IsAside, MayFollow}
 use Rattle.image_tree.specs.ImageTree.{Making}
 use Rattle.image_tree.specs.Laws.{LeavesTree}

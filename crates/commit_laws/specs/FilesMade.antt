@@ -3,7 +3,7 @@ use Rattle.std.specs.Prelude.{◌≡◌, ℕ, ◌*◌, ◌<◌, ◌≤◌, true,
 use Rattle.sfs_base.specs.declared.numbers.Kind.TheVariants.{File}
 use Rattle.sfs_image.specs.Part.{Part, seen_of}
 use Rattle.sfs_image.specs.Seen.{Seen, SeenInodes, PLACES, FILE_BLOCKS}
-use Rattle.sfs_tree.specs.Tree.{TreeState, bytes_of, kind_of}
+use Rattle.tree_laws.specs.Tree.{TreeState, bytes_of, kind_of}
 use Rattle.image_tree.specs.Renamed.{Numbering}
 use Rattle.image_tree.specs.Stands.{BLOCK_BYTES}
 use Rattle.block_map.specs.Kept.{kept_of}

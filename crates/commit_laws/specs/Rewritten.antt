@@ -3,7 +3,7 @@
 use Rattle.std.specs.Prelude.{◌≡◌, ℕ, ◌*◌, ◌<◌, ◌≤◌, true, Bool, List, ◌++◌, length, map, take, drop, is_some, Contains, if◌then◌else◌}
 use Rattle.sfs_image.specs.Bytes.{zeros}
 use Rattle.sfs_image.specs.Seen.{SeenInodes, FILE_BLOCKS, PLACES}
-use Rattle.sfs_tree.specs.Tree.{TreeState, bytes_of, is_directory}
+use Rattle.tree_laws.specs.Tree.{TreeState, bytes_of, is_directory}
 use Rattle.image_tree.specs.Commit.{Commit, seen_before, slots_after}
 use Rattle.image_tree.specs.Keeps.{IsDirectoryInode}
 use Rattle.image_tree.specs.Need.{Rewrite, directory_rewrite, file_rewrite, takes_place, pointer_after, blocks_needed}

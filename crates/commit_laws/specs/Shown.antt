@@ -5,7 +5,7 @@ use Rattle.sfs_base.specs.declared.numbers.Kind.TheVariants.{File}
 use Rattle.sfs_image.specs.Rules.{DIRECTORY_BLOCKS}
 use Rattle.sfs_image.specs.Seen.{Seen, PLACES}
 use Rattle.sfs_image.specs.Slot.{kind_byte}
-use Rattle.sfs_tree.specs.Tree.{TreeState, kind_of, bytes_of, links_of}
+use Rattle.tree_laws.specs.Tree.{TreeState, kind_of, bytes_of, links_of}
 use Rattle.image_tree.specs.Commit.{slots_after}
 use Rattle.image_tree.specs.Need.{pointer_after}
 use Rattle.image_tree.specs.Renamed.{Numbering}

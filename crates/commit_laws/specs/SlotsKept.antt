@@ -1,7 +1,7 @@
 -- That the slots of a directory after a net are those of a commit.
 use Rattle.std.specs.Prelude.{◌≡◌, ℕ, List, length, map, take, Option, Contains}
 use Rattle.std.specs.List.{flat_map}
-use Rattle.sfs_tree.specs.Tree.{TreeState}
+use Rattle.tree_laws.specs.Tree.{TreeState}
 use Rattle.sfs_image.specs.Slot.{Row}
 use Rattle.absorb.specs.declared.nets.NetRow.{NetRow}
 use Rattle.image_tree.specs.Commit.{slots_after}

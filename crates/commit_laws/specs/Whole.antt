@@ -1,7 +1,7 @@
 -- That what is built shows the image that the commit makes, and that this image stands for the new tree.
 use Rattle.std.specs.Prelude.{◌≡◌, ℕ, ◌<◌, List, slice_get, Some}
-use Rattle.sfs_tree.specs.Sound.{IsSound}
-use Rattle.sfs_tree.specs.Tree.{TreeState}
+use Rattle.tree_laws.specs.Sound.{IsSound}
+use Rattle.tree_laws.specs.Tree.{TreeState}
 use Rattle.sfs_image.specs.Seen.{Seen, SeenInodes, PLACES}
 use Rattle.image_tree.specs.Commit.{Commit, MayFollow, seen_before}
 use Rattle.image_tree.specs.ImageTree.{Making}

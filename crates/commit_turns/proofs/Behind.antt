@@ -7,13 +7,13 @@ use Rattle.std.proofs.lemmas.List.Sums.{sum_by-append}
 use borrow.Author.Tests.{eqb-true}
 use Rattle.sfs_base.proofs.BasicNumbers.{zero_plus}
 use Rattle.sfs_base.proofs.BasicOptions.{none_some}
-use Rattle.sfs_tree.specs.declared.history.Entry.{Entry}
-use Rattle.sfs_tree.specs.declared.turns.Turn.{Turn}
-use Rattle.sfs_tree.specs.declared.turns.TurnAct.{TurnAct}
-use Rattle.sfs_tree.specs.declared.turns.TurnAct.TheVariants as act
-use Rattle.sfs_tree.specs.Tree.{TreeState}
-use Rattle.flush_core.specs.Rules.{IsOneOf}
-use Rattle.flush_core.proofs.Basics.{in_left, in_right, in_either}
+use Rattle.tree_laws.specs.declared.history.Entry.{Entry}
+use Rattle.tree_laws.specs.declared.turns.Turn.{Turn}
+use Rattle.tree_laws.specs.declared.turns.TurnAct.{TurnAct}
+use Rattle.tree_laws.specs.declared.turns.TurnAct.TheVariants as act
+use Rattle.tree_laws.specs.Tree.{TreeState}
+use Rattle.cut_laws.specs.Rules.{IsOneOf}
+use Rattle.cut_laws.proofs.Basics.{in_left, in_right, in_either}
 use Rattle.commit_turns.specs.Need.{ImageState, Amount, free_inodes, free_blocks}
 use Rattle.commit_turns.specs.Books.{Grant, Waiting, Books, books_of, flush_at, waiting_for, reserved, free_in, is_other_waiting, grant_for_turn, CountsFaults, Does, IsTurn, AreTurns, no_turns, one_turn}
 use Rattle.commit_turns.specs.LawsTurns.{HaltsOrGivesBack, ComesBehind, FailuresStopCommits, TakesFree, ReservedIsNotFree, IsTakenUp, GrantsAreTakenUp}

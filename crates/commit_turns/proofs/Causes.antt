@@ -7,20 +7,20 @@ use Rattle.sfs_base.proofs.BasicOptions.{none_some, some_same}
 use Rattle.sfs_base.specs.declared.numbers.NodeId.{NodeId}
 use Rattle.sfs_base.specs.declared.numbers.SpaceKind.{SpaceKind}
 use Rattle.sfs_base.specs.declared.numbers.Stamp.{Stamp}
-use Rattle.sfs_tree.specs.declared.call.Call.{Call}
-use Rattle.sfs_tree.specs.declared.call.Call.TheVariants as call
-use Rattle.sfs_tree.specs.declared.history.Entry.{Entry}
-use Rattle.sfs_tree.specs.declared.reply.Reply.{Reply}
-use Rattle.sfs_tree.specs.declared.reply.Reply.TheVariants as reply
-use Rattle.sfs_tree.specs.declared.turns.Turn.{Turn}
-use Rattle.sfs_tree.specs.declared.turns.TurnAct.{TurnAct}
-use Rattle.sfs_tree.specs.declared.turns.TurnAct.TheVariants as act
-use Rattle.sfs_tree.specs.History.{IsLegal}
-use Rattle.sfs_tree.specs.Tree.{TreeState}
-use Rattle.flush_core.specs.Closure.{Flush}
-use Rattle.flush_core.specs.Rules.{IsOneOf}
-use Rattle.flush_core.proofs.Basics.{in_left, in_right, in_either}
-use Rattle.flush_core.proofs.Entries.{stamps_are_once}
+use Rattle.tree_laws.specs.declared.call.Call.{Call}
+use Rattle.tree_laws.specs.declared.call.Call.TheVariants as call
+use Rattle.tree_laws.specs.declared.history.Entry.{Entry}
+use Rattle.tree_laws.specs.declared.reply.Reply.{Reply}
+use Rattle.tree_laws.specs.declared.reply.Reply.TheVariants as reply
+use Rattle.tree_laws.specs.declared.turns.Turn.{Turn}
+use Rattle.tree_laws.specs.declared.turns.TurnAct.{TurnAct}
+use Rattle.tree_laws.specs.declared.turns.TurnAct.TheVariants as act
+use Rattle.tree_laws.specs.History.{IsLegal}
+use Rattle.tree_laws.specs.Tree.{TreeState}
+use Rattle.cut_laws.specs.Closure.{Flush}
+use Rattle.cut_laws.specs.Rules.{IsOneOf}
+use Rattle.cut_laws.proofs.Basics.{in_left, in_right, in_either}
+use Rattle.cut_laws.proofs.Entries.{stamps_are_once}
 use Rattle.commit_turns.specs.Need.{ImageState, IsNeed}
 use Rattle.commit_turns.specs.Books.{Books, books_of, flush_at, CountsFaults, Does, IsTurn, AreTurns, no_turns, one_turn}
 use Rattle.sfs_base.specs.Ends.{HasRisen}

@@ -11,19 +11,19 @@ use Rattle.sfs_base.proofs.BasicOptions.{none_some, some_same}
 use Rattle.sfs_base.specs.declared.numbers.CoreId.{CoreId}
 use Rattle.sfs_base.specs.declared.numbers.NodeId.{NodeId}
 use Rattle.sfs_base.specs.declared.numbers.Stamp.{Stamp}
-use Rattle.sfs_tree.specs.declared.call.Call.TheVariants as call
-use Rattle.sfs_tree.specs.declared.history.Entry.{Entry}
-use Rattle.sfs_tree.specs.declared.reply.Reply.{Reply}
-use Rattle.sfs_tree.specs.declared.turns.Turn.{Turn}
-use Rattle.sfs_tree.specs.declared.turns.TurnAct.{TurnAct}
-use Rattle.sfs_tree.specs.declared.turns.TurnAct.TheVariants as act
-use Rattle.sfs_tree.specs.History.{tree_after, IsLegal}
-use Rattle.sfs_tree.specs.Tree.{TreeState, is_alive}
-use Rattle.flush_core.specs.Closure.{Flush}
-use Rattle.flush_core.specs.Rules.{IsOneOf}
-use Rattle.flush_core.proofs.Basics.{in_left, in_right, in_either}
-use Rattle.flush_core.proofs.Entries.{entries_may_come}
-use Rattle.flush_core.proofs.Prefix.{take_take}
+use Rattle.tree_laws.specs.declared.call.Call.TheVariants as call
+use Rattle.tree_laws.specs.declared.history.Entry.{Entry}
+use Rattle.tree_laws.specs.declared.reply.Reply.{Reply}
+use Rattle.tree_laws.specs.declared.turns.Turn.{Turn}
+use Rattle.tree_laws.specs.declared.turns.TurnAct.{TurnAct}
+use Rattle.tree_laws.specs.declared.turns.TurnAct.TheVariants as act
+use Rattle.tree_laws.specs.History.{tree_after, IsLegal}
+use Rattle.tree_laws.specs.Tree.{TreeState, is_alive}
+use Rattle.cut_laws.specs.Closure.{Flush}
+use Rattle.cut_laws.specs.Rules.{IsOneOf}
+use Rattle.cut_laws.proofs.Basics.{in_left, in_right, in_either}
+use Rattle.cut_laws.proofs.Entries.{entries_may_come}
+use Rattle.cut_laws.proofs.Prefix.{take_take}
 use Rattle.commit_turns.specs.Books.{flush_at}
 use Rattle.commit_turns.specs.LawsTurns.{durable_by_act, durable_flush}
 use Rattle.commit_turns.specs.OneThread.{ComesNext, IsNextFsync}

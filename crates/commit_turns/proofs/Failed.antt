@@ -4,13 +4,13 @@ use Rattle.std.specs.Prelude.{filter}
 use Rattle.std.proofs.lemmas.List.{append-nil}
 use Rattle.sfs_base.proofs.BasicNumbers.{le_itself}
 use Rattle.sfs_base.specs.declared.numbers.NodeId.{NodeId}
-use Rattle.sfs_tree.specs.declared.history.Entry.{Entry}
-use Rattle.sfs_tree.specs.declared.reply.Reply.TheVariants as reply
-use Rattle.sfs_tree.specs.declared.turns.Turn.{Turn}
-use Rattle.sfs_tree.specs.declared.turns.TurnAct.TheVariants as act
-use Rattle.sfs_tree.specs.History.{IsLegal}
-use Rattle.sfs_tree.specs.Tree.{TreeState}
-use Rattle.flush_core.specs.Rules.{IsOneOf}
+use Rattle.tree_laws.specs.declared.history.Entry.{Entry}
+use Rattle.tree_laws.specs.declared.reply.Reply.TheVariants as reply
+use Rattle.tree_laws.specs.declared.turns.Turn.{Turn}
+use Rattle.tree_laws.specs.declared.turns.TurnAct.TheVariants as act
+use Rattle.tree_laws.specs.History.{IsLegal}
+use Rattle.tree_laws.specs.Tree.{TreeState}
+use Rattle.cut_laws.specs.Rules.{IsOneOf}
 use Rattle.commit_turns.specs.Need.{ImageState}
 use Rattle.commit_turns.specs.Books.{Waiting, Books, books_of, is_other_waiting, without_waiting, CountsFaults, IsTurn, AreTurns, one_turn}
 use Rattle.commit_turns.specs.LawsOneThread.{TakesNoTurn, then_turn, HaltsFail, CallsFail, StandingAreRecorded, FailedAreRecorded}

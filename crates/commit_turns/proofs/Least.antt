@@ -8,7 +8,7 @@ use borrow.Author.Tests.{eqb-true}
 use Rattle.sfs_base.proofs.BasicNumbers.{same_number}
 use Rattle.sfs_base.proofs.BasicTruth.{true_not_false, or_true}
 use Rattle.sfs_base.specs.Listed.{is_listed}
-use Rattle.sfs_tree.specs.declared.turns.TurnAct.{TurnAct}
+use Rattle.tree_laws.specs.declared.turns.TurnAct.{TurnAct}
 use Rattle.commit_turns.specs.Books.{Books, Does, is_open_in, grant_for_turn, least_open}
 use Rattle.commit_turns.specs.LawsTurns.{IsLeastOpen, LeastAreTaken}
 

@@ -10,19 +10,19 @@ use Rattle.sfs_base.proofs.BasicNumbers.{same_number, not_same}
 use Rattle.sfs_base.proofs.BasicTruth.{or_true, and_first, and_second, not_both, true_not_false}
 use Rattle.sfs_base.specs.Listed.{is_listed}
 use Rattle.sfs_image.specs.Seen.{SeenInodes, PLACES}
-use Rattle.sfs_tree.specs.declared.history.Entry.{Entry}
-use Rattle.sfs_tree.specs.History.{tree_after, IsLegal}
-use Rattle.sfs_tree.specs.Laws.{IsSoundTree}
-use Rattle.sfs_tree.specs.Sound.{IsMade, IsNumbered}
-use Rattle.sfs_tree.specs.Tree.{TreeState}
-use Rattle.sfs_tree.proofs.Cores.{cores_stay}
-use Rattle.sfs_tree.proofs.FileHistories.{histories_keep_sound}
+use Rattle.tree_laws.specs.declared.history.Entry.{Entry}
+use Rattle.tree_laws.specs.History.{tree_after, IsLegal}
+use Rattle.tree_laws.specs.Laws.{IsSoundTree}
+use Rattle.tree_laws.specs.Sound.{IsMade, IsNumbered}
+use Rattle.tree_laws.specs.Tree.{TreeState}
+use Rattle.tree_laws.proofs.Cores.{cores_stay}
+use Rattle.tree_laws.proofs.FileHistories.{histories_keep_sound}
 use Rattle.std.proofs.Math.Seq.{take-length}
 use Rattle.image_tree.specs.Need.{Rewrite, takes_place, takes_in_row, rank, blocks_needed}
 use Rattle.image_tree.proofs.Ranks.{rank_more, rank_below}
-use Rattle.flush_core.specs.Cut.{Cut}
-use Rattle.flush_core.specs.Machine.{MachineState}
-use Rattle.flush_core.proofs.CutNodes.{cuts_keep_kinds}
+use Rattle.cut_laws.specs.Cut.{Cut}
+use Rattle.cut_laws.specs.Machine.{MachineState}
+use Rattle.cut_laws.proofs.CutNodes.{cuts_keep_kinds}
 use Rattle.commit_turns.specs.LawsNeed.{NodesAreCounted, AreOnce, ListsNodes, BlocksAreListed, InodesAreListed, IsHeldBy, HeldAreFound}
 use Rattle.commit_turns.specs.Need.{ImageState, is_unused, holds_in_row, is_held_in, Made, rewrite_needed, node_bound, enters_by_made, needs_in_row, need_of}
 

@@ -6,15 +6,15 @@ use Rattle.std.proofs.lemmas.List.Elements.{filter-append}
 use Rattle.std.proofs.Math.Seq.{take-append_seam}
 use Rattle.sfs_base.proofs.BasicNumbers.{not_below}
 use Rattle.sfs_base.proofs.BasicTruth.{and_false}
-use Rattle.sfs_tree.specs.declared.history.Entry.{Entry}
-use Rattle.sfs_tree.specs.Changes.{FileChange, edits_by, edits_of, bytes_at}
-use Rattle.sfs_tree.specs.Effect.{Effect, Stays, Adds, Removes, Moves, Edits}
-use Rattle.sfs_tree.specs.History.{tree_after, tree_after_entry, IsLegalFrom, IsLegal}
-use Rattle.sfs_tree.specs.Laws.{IsSoundTree}
-use Rattle.sfs_tree.specs.Tree.{TreeState, bytes_of}
-use Rattle.sfs_tree.specs.Verdict.{verdict}
-use Rattle.sfs_tree.proofs.FileHistories.{bytes_at-tree_after}
-use Rattle.flush_core.proofs.Prefix.{legal_take, take_take}
+use Rattle.tree_laws.specs.declared.history.Entry.{Entry}
+use Rattle.tree_laws.specs.Changes.{FileChange, edits_by, edits_of, bytes_at}
+use Rattle.tree_laws.specs.Effect.{Effect, Stays, Adds, Removes, Moves, Edits}
+use Rattle.tree_laws.specs.History.{tree_after, tree_after_entry, IsLegalFrom, IsLegal}
+use Rattle.tree_laws.specs.Laws.{IsSoundTree}
+use Rattle.tree_laws.specs.Tree.{TreeState, bytes_of}
+use Rattle.tree_laws.specs.Verdict.{verdict}
+use Rattle.tree_laws.proofs.FileHistories.{bytes_at-tree_after}
+use Rattle.cut_laws.proofs.Prefix.{legal_take, take_take}
 use Rattle.cut_trees.specs.Spans.{is_edit_between}
 use Rattle.commit_turns.specs.Touched.{is_touched_by, is_touched_between}
 

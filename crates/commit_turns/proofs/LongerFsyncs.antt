@@ -11,30 +11,30 @@ use Rattle.sfs_base.proofs.BasicTruth.{and_false, and_first}
 use Rattle.sfs_base.proofs.BasicOptions.{none_some, some_same}
 use Rattle.sfs_base.specs.Listed.{is_listed}
 use Rattle.sfs_image.specs.Seen.{PLACES}
-use Rattle.sfs_tree.specs.declared.history.Entry.{Entry}
-use Rattle.sfs_tree.specs.History.{tree_after, IsLegal}
-use Rattle.sfs_tree.specs.Laws.{IsSoundTree}
-use Rattle.sfs_tree.specs.Tree.{TreeState, names_of, is_directory, bytes_of}
+use Rattle.tree_laws.specs.declared.history.Entry.{Entry}
+use Rattle.tree_laws.specs.History.{tree_after, IsLegal}
+use Rattle.tree_laws.specs.Laws.{IsSoundTree}
+use Rattle.tree_laws.specs.Tree.{TreeState, names_of, is_directory, bytes_of}
 use Rattle.absorb.specs.Net.{IsNet}
 use Rattle.image_tree.specs.Commit.{IsCommit, slots_after}
 use Rattle.image_tree.specs.Need.{Rewrite, directory_rewrite, file_rewrite, takes_place, pointer_after, rank}
 use Rattle.image_tree.specs.Numbers.{grant_for, numbers_after}
-use Rattle.flush_core.specs.Closure.{every_entry, Flush, HasLiveNode, Closure, AreFlushed, one_more}
-use Rattle.flush_core.specs.Cut.{Cut, cut_of, tree_at_cut}
-use Rattle.flush_core.specs.LawsGrowth.{HasMoreNodes}
-use Rattle.flush_core.specs.Laws.{KeepsAll}
-use Rattle.flush_core.specs.Rules.{IsOneOf}
-use Rattle.flush_core.specs.Runs.{view_by}
-use Rattle.flush_core.proofs.Alike.{inodes_alike}
-use Rattle.flush_core.proofs.CutNodes.{cuts_keep_kinds}
-use Rattle.flush_core.proofs.Lists.{lists_keep}
-use Rattle.flush_core.proofs.OneCommit.{alike_on}
-use Rattle.flush_core.proofs.Prefix.{legal_take}
-use Rattle.flush_core.proofs.Prefixes.{prefixes_count}
-use Rattle.flush_core.proofs.Recount.{recounts}
-use Rattle.flush_core.proofs.RunFacts.{cuts_stay_low}
-use Rattle.flush_core.proofs.Views.{below, IsHeld, AreAlike}
-use Rattle.flush_core.proofs.WholeHistory.{none_above, cut_trees_grow}
+use Rattle.cut_laws.specs.Closure.{every_entry, Flush, HasLiveNode, Closure, AreFlushed, one_more}
+use Rattle.cut_laws.specs.Cut.{Cut, cut_of, tree_at_cut}
+use Rattle.cut_laws.specs.LawsGrowth.{HasMoreNodes}
+use Rattle.cut_laws.specs.Laws.{KeepsAll}
+use Rattle.cut_laws.specs.Rules.{IsOneOf}
+use Rattle.cut_laws.specs.Runs.{view_by}
+use Rattle.cut_laws.proofs.Alike.{inodes_alike}
+use Rattle.cut_laws.proofs.CutNodes.{cuts_keep_kinds}
+use Rattle.cut_laws.proofs.Lists.{lists_keep}
+use Rattle.cut_laws.proofs.OneCommit.{alike_on}
+use Rattle.cut_laws.proofs.Prefix.{legal_take}
+use Rattle.cut_laws.proofs.Prefixes.{prefixes_count}
+use Rattle.cut_laws.proofs.Recount.{recounts}
+use Rattle.cut_laws.proofs.RunFacts.{cuts_stay_low}
+use Rattle.cut_laws.proofs.Views.{below, IsHeld, AreAlike}
+use Rattle.cut_laws.proofs.WholeHistory.{none_above, cut_trees_grow}
 use Rattle.commit_turns.specs.Need.{ImageState, Made, IsMadeBy, tree_before, tree_made, seen_under, stand_in, rewrite_needed, node_bound, enters_by_made, needs_place, needs_in_row, need_of}
 use Rattle.commit_turns.specs.Books.{commit_made, GivesGranted, IsRewritten, Leaves}
 use Rattle.commit_turns.specs.OneThread.{Resting, machine_at}

@@ -7,21 +7,21 @@ use Rattle.std.proofs.lemmas.List.{append_assoc, append-nil, length-append, leng
 use Rattle.std.proofs.lemmas.List.Elements.{filter_map-append}
 use Rattle.std.proofs.Math.Seq.{take-length}
 use Rattle.sfs_base.proofs.BasicOptions.{some_same}
-use Rattle.sfs_tree.specs.declared.history.Entry.{Entry}
-use Rattle.sfs_tree.specs.declared.turns.Turn.{Turn}
-use Rattle.sfs_tree.specs.declared.turns.TurnAct.{TurnAct}
-use Rattle.sfs_tree.specs.declared.turns.TurnAct.TheVariants as act
-use Rattle.sfs_tree.specs.History.{IsLegal}
-use Rattle.sfs_tree.specs.Tree.{TreeState}
-use Rattle.flush_core.specs.declared.event.Event.{Event}
-use Rattle.flush_core.specs.declared.event.Event.TheVariants as event
-use Rattle.flush_core.specs.Closure.{every_entry, Flush, AreRaised, AreFlushed, none, one_more}
-use Rattle.flush_core.specs.Cut.{Cut}
-use Rattle.flush_core.specs.LawsRuns.{then_state, told}
-use Rattle.flush_core.specs.Machine.{Flight, MachineState, start_of, IsRaisedBy, Accepts}
-use Rattle.flush_core.proofs.Entries.{calls_are_a_run}
-use Rattle.flush_core.proofs.LongerRuns.{runs_lengthen}
-use Rattle.flush_core.proofs.RaiseLists.{raised_once}
+use Rattle.tree_laws.specs.declared.history.Entry.{Entry}
+use Rattle.tree_laws.specs.declared.turns.Turn.{Turn}
+use Rattle.tree_laws.specs.declared.turns.TurnAct.{TurnAct}
+use Rattle.tree_laws.specs.declared.turns.TurnAct.TheVariants as act
+use Rattle.tree_laws.specs.History.{IsLegal}
+use Rattle.tree_laws.specs.Tree.{TreeState}
+use Rattle.cut_laws.specs.declared.event.Event.{Event}
+use Rattle.cut_laws.specs.declared.event.Event.TheVariants as event
+use Rattle.cut_laws.specs.Closure.{every_entry, Flush, AreRaised, AreFlushed, none, one_more}
+use Rattle.cut_laws.specs.Cut.{Cut}
+use Rattle.cut_laws.specs.LawsRuns.{then_state, told}
+use Rattle.cut_laws.specs.Machine.{Flight, MachineState, start_of, IsRaisedBy, Accepts}
+use Rattle.cut_laws.proofs.Entries.{calls_are_a_run}
+use Rattle.cut_laws.proofs.LongerRuns.{runs_lengthen}
+use Rattle.cut_laws.proofs.RaiseLists.{raised_once}
 use Rattle.commit_turns.specs.Need.{ImageState}
 use Rattle.commit_turns.specs.Books.{Books, books_of, flush_at, SettlesCommit, Does, IsTurn, AreTurns, no_turns, one_turn}
 use Rattle.commit_turns.specs.LawsTurns.{durable_by_act, durable_flush, TurnsAreFlushed, event_by, event_of_turn, events_of, IsRunTo, TurnsAreARun}

@@ -10,14 +10,14 @@ use Rattle.sfs_base.specs.declared.numbers.Kind.{Kind}
 use Rattle.sfs_base.specs.declared.numbers.Kind.TheVariants.{File}
 use Rattle.sfs_image.specs.Seen.{SeenInodes}
 use Rattle.sfs_image.specs.Slot.{Row, kind_byte}
-use Rattle.sfs_tree.specs.NameRow.{number_of}
-use Rattle.sfs_tree.specs.Order.{Key, name_cmp}
-use Rattle.sfs_tree.specs.Sound.{IsSound}
-use Rattle.sfs_tree.specs.Tree.{TreeState, Node, row_of, kind_of, bytes_of, links_of, count_of, is_directory, is_directory_kind, holds_directory, names_of}
-use Rattle.sfs_tree.proofs.Names.{get-names_where}
+use Rattle.tree_laws.specs.NameRow.{number_of}
+use Rattle.tree_laws.specs.Order.{Key, name_cmp}
+use Rattle.tree_laws.specs.Sound.{IsSound}
+use Rattle.tree_laws.specs.Tree.{TreeState, Node, row_of, kind_of, bytes_of, links_of, count_of, is_directory, is_directory_kind, holds_directory, names_of}
+use Rattle.tree_laws.proofs.Names.{get-names_where}
 use Rattle.absorb.specs.declared.nets.NetRow.{NetRow}
 use Rattle.absorb.specs.Net.{IsNetRow, IsNet}
-use Rattle.flush_core.specs.LawsGrowth.{HasMoreNodes}
+use Rattle.cut_laws.specs.LawsGrowth.{HasMoreNodes}
 use Rattle.image_tree.specs.Commit.{row_in_net, brought_row, slot_after, new_rows, filled, slots_after, Commit, seen_before, IsBuiltAnew, IsAside, IsCommit}
 use Rattle.image_tree.specs.Renamed.{Numbering}
 use Rattle.image_tree.specs.Slots.{in_blocks}

@@ -4,18 +4,18 @@ use Rattle.std.proofs.Math.Path.{fun_ext}
 use Rattle.std.specs.Prelude.{◌↔◌, max, filter, fold, map}
 use Rattle.std.specs.FinMap.{entries, from_sorted}
 use Rattle.sfs_image.specs.Seen.{PLACES}
-use Rattle.sfs_tree.specs.declared.history.Entry.{Entry}
-use Rattle.sfs_tree.specs.Changes.{RowChange, changes_of, bytes_at}
-use Rattle.sfs_tree.specs.History.{tree_after}
-use Rattle.sfs_tree.specs.Tree.{TreeState, bytes_of, is_directory, names_of}
+use Rattle.tree_laws.specs.declared.history.Entry.{Entry}
+use Rattle.tree_laws.specs.Changes.{RowChange, changes_of, bytes_at}
+use Rattle.tree_laws.specs.History.{tree_after}
+use Rattle.tree_laws.specs.Tree.{TreeState, bytes_of, is_directory, names_of}
 use Rattle.absorb.specs.declared.nets.NetRow.{NetRow}
 use Rattle.absorb.specs.Net.{IsNet}
 use Rattle.absorb.proofs.OneNet.{one_net}
 use Rattle.image_tree.specs.Commit.{slots_after}
 use Rattle.image_tree.specs.Need.{Rewrite, directory_rewrite, file_rewrite, takes_place, rank}
-use Rattle.flush_core.specs.Closure.{every_entry, Flush, Closure, HasNaming, IsNamedIn, IsConcerned, IsRaised, IsReached, IsDead, AreInodesAfter}
-use Rattle.flush_core.specs.Cut.{Cut, cut_of, with_own, counted_rows_at_cut, tree_at_cut}
-use Rattle.flush_core.specs.Machine.{MachineState}
+use Rattle.cut_laws.specs.Closure.{every_entry, Flush, Closure, HasNaming, IsNamedIn, IsConcerned, IsRaised, IsReached, IsDead, AreInodesAfter}
+use Rattle.cut_laws.specs.Cut.{Cut, cut_of, with_own, counted_rows_at_cut, tree_at_cut}
+use Rattle.cut_laws.specs.Machine.{MachineState}
 use Rattle.commit_turns.specs.LawsNeed.{NeedsOnce}
 use Rattle.commit_turns.specs.Need.{ImageState, Amount, Made, IsMadeBy, tree_before, tree_made, seen_under, stand_in, rewrite_needed, node_bound, enters_by_made, needs_place, need_of, IsNeed}
 use Rattle.commit_turns.specs.Touched.{is_touched_between}

@@ -14,10 +14,10 @@ use Rattle.sfs_base.proofs.BasicOptions.{none_some, some_same}
 use Rattle.sfs_image.proofs.BytesLaws.{option_map-Some}
 use Rattle.sfs_image.specs.Seen.{Seen, SeenInodes}
 use Rattle.sfs_image.specs.Slot.{Row}
-use Rattle.sfs_tree.specs.NameRow.{number_of}
-use Rattle.sfs_tree.specs.Order.{name_cmp}
-use Rattle.sfs_tree.specs.Tree.{TreeState, row_of, kind_of, names_of}
-use Rattle.sfs_tree.proofs.Names.{get-names_where}
+use Rattle.tree_laws.specs.NameRow.{number_of}
+use Rattle.tree_laws.specs.Order.{name_cmp}
+use Rattle.tree_laws.specs.Tree.{TreeState, row_of, kind_of, names_of}
+use Rattle.tree_laws.proofs.Names.{get-names_where}
 use Rattle.absorb.specs.declared.nets.NetRow.{NetRow}
 use Rattle.absorb.specs.Last.{node_id_of}
 use Rattle.absorb.specs.Net.{IsNetRow, IsNet}

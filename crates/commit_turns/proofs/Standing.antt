@@ -5,17 +5,17 @@ use Rattle.std.proofs.Math.Seq.{take-append_seam}
 use Rattle.std.proofs.lemmas.List.{append_assoc, append-nil, length-append}
 use Rattle.sfs_base.specs.declared.numbers.NodeId.{NodeId}
 use Rattle.sfs_base.specs.declared.numbers.Stamp.{Stamp}
-use Rattle.sfs_tree.specs.declared.call.Call.TheVariants as call
-use Rattle.sfs_tree.specs.declared.history.Entry.{Entry}
-use Rattle.sfs_tree.specs.declared.turns.Turn.{Turn}
-use Rattle.sfs_tree.specs.declared.turns.TurnAct.TheVariants as act
-use Rattle.sfs_tree.specs.History.{tree_after, IsLegal}
-use Rattle.sfs_tree.specs.Laws.{IsSoundTree}
-use Rattle.sfs_tree.specs.Tree.{TreeState, is_alive}
-use Rattle.flush_core.specs.Closure.{every_entry, Flush, HasLiveNode, AreFlushed}
-use Rattle.flush_core.specs.Machine.{Flight, BeginsFlight}
-use Rattle.flush_core.specs.LawsRuns.{MayCommit}
-use Rattle.flush_core.specs.Rules.{IsOneOf}
+use Rattle.tree_laws.specs.declared.call.Call.TheVariants as call
+use Rattle.tree_laws.specs.declared.history.Entry.{Entry}
+use Rattle.tree_laws.specs.declared.turns.Turn.{Turn}
+use Rattle.tree_laws.specs.declared.turns.TurnAct.TheVariants as act
+use Rattle.tree_laws.specs.History.{tree_after, IsLegal}
+use Rattle.tree_laws.specs.Laws.{IsSoundTree}
+use Rattle.tree_laws.specs.Tree.{TreeState, is_alive}
+use Rattle.cut_laws.specs.Closure.{every_entry, Flush, HasLiveNode, AreFlushed}
+use Rattle.cut_laws.specs.Machine.{Flight, BeginsFlight}
+use Rattle.cut_laws.specs.LawsRuns.{MayCommit}
+use Rattle.cut_laws.specs.Rules.{IsOneOf}
 use Rattle.commit_turns.specs.Need.{ImageState, Amount, nothing, Made, IsMadeBy, need_of}
 use Rattle.commit_turns.specs.Books.{Books, books_of, free_in, least_open, FitsFree, IsShortOf, Leaves, AreTurns, no_turns, one_turn}
 use Rattle.commit_turns.specs.LawsOneThread.{TakesNoTurn, TurnsBegin, CallsStand, then_turn, with_begun, CommitsStand, EmptyCommitsStand, ShortsStand, GivenBackStand}

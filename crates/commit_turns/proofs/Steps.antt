@@ -9,19 +9,19 @@ use Rattle.sfs_base.proofs.BasicOptions.{none_some}
 use Rattle.sfs_base.proofs.BasicTruth.{not_both, true_not_false}
 use Rattle.sfs_base.specs.declared.numbers.NodeId.{NodeId}
 use Rattle.sfs_base.specs.declared.numbers.SpaceKind.{SpaceKind}
-use Rattle.sfs_tree.specs.declared.history.Entry.{Entry}
-use Rattle.sfs_tree.specs.declared.turns.Turn.{Turn}
-use Rattle.sfs_tree.specs.declared.turns.TurnAct.{TurnAct}
-use Rattle.sfs_tree.specs.declared.turns.TurnAct.TheVariants as act
-use Rattle.sfs_tree.specs.Tree.{TreeState}
-use Rattle.flush_core.specs.declared.event.Event.TheVariants as event
-use Rattle.flush_core.specs.declared.event.Refused.{Refused}
-use Rattle.flush_core.specs.declared.event.Refused.TheVariants as refused
-use Rattle.flush_core.specs.Closure.{Flush}
-use Rattle.flush_core.specs.LawsRuns.{MayCommit, with_flight, AcceptsCommit}
-use Rattle.flush_core.specs.Machine.{Flight, MachineState, is_flying, flight_of, Refuses, BeginsFlight, Accepts}
-use Rattle.flush_core.specs.Rules.{IsOneOf}
-use Rattle.flush_core.proofs.LongerRuns.{commits_are_accepted}
+use Rattle.tree_laws.specs.declared.history.Entry.{Entry}
+use Rattle.tree_laws.specs.declared.turns.Turn.{Turn}
+use Rattle.tree_laws.specs.declared.turns.TurnAct.{TurnAct}
+use Rattle.tree_laws.specs.declared.turns.TurnAct.TheVariants as act
+use Rattle.tree_laws.specs.Tree.{TreeState}
+use Rattle.cut_laws.specs.declared.event.Event.TheVariants as event
+use Rattle.cut_laws.specs.declared.event.Refused.{Refused}
+use Rattle.cut_laws.specs.declared.event.Refused.TheVariants as refused
+use Rattle.cut_laws.specs.Closure.{Flush}
+use Rattle.cut_laws.specs.LawsRuns.{MayCommit, with_flight, AcceptsCommit}
+use Rattle.cut_laws.specs.Machine.{Flight, MachineState, is_flying, flight_of, Refuses, BeginsFlight, Accepts}
+use Rattle.cut_laws.specs.Rules.{IsOneOf}
+use Rattle.cut_laws.proofs.LongerRuns.{commits_are_accepted}
 use Rattle.commit_turns.specs.Need.{ImageState, Amount, nothing, Made, IsMadeBy, need_of, IsNeed}
 use Rattle.commit_turns.specs.Books.{Grant, Waiting, Books, free_in, least_open, FitsFree, IsShortOf, is_other_grant, is_other_waiting, inodes_for, Leaves, IsTurn}
 use Rattle.sfs_base.specs.Ends.{HasRisen}

@@ -8,18 +8,18 @@ use Rattle.sfs_base.specs.Listed.{is_listed}
 use Rattle.sfs_base.specs.declared.numbers.SpaceKind.{SpaceKind}
 use Rattle.sfs_base.specs.declared.numbers.SpaceKind.TheVariants.{Inodes, Blocks}
 use Rattle.sfs_image.specs.Seen.{PLACES}
-use Rattle.sfs_tree.specs.declared.history.Entry.{Entry}
-use Rattle.sfs_tree.specs.declared.turns.Turn.{Turn}
-use Rattle.sfs_tree.specs.declared.turns.TurnAct.{TurnAct}
-use Rattle.sfs_tree.specs.declared.turns.TurnAct.TheVariants as act
-use Rattle.sfs_tree.specs.Tree.{TreeState}
+use Rattle.tree_laws.specs.declared.history.Entry.{Entry}
+use Rattle.tree_laws.specs.declared.turns.Turn.{Turn}
+use Rattle.tree_laws.specs.declared.turns.TurnAct.{TurnAct}
+use Rattle.tree_laws.specs.declared.turns.TurnAct.TheVariants as act
+use Rattle.tree_laws.specs.Tree.{TreeState}
 use Rattle.image_tree.specs.Commit.{Commit, IsCommit}
 use Rattle.image_tree.specs.Need.{takes_place, pointer_after}
 use Rattle.image_tree.specs.Numbers.{numbers_after}
-use Rattle.flush_core.specs.declared.event.Event.TheVariants as event
-use Rattle.flush_core.specs.Closure.{Flush}
-use Rattle.flush_core.specs.Machine.{Flight, MachineState, start_of, flight_of, Accepts}
-use Rattle.flush_core.specs.Rules.{IsOneOf}
+use Rattle.cut_laws.specs.declared.event.Event.TheVariants as event
+use Rattle.cut_laws.specs.Closure.{Flush}
+use Rattle.cut_laws.specs.Machine.{Flight, MachineState, start_of, flight_of, Accepts}
+use Rattle.cut_laws.specs.Rules.{IsOneOf}
 use Rattle.commit_turns.specs.Need.{ImageState, Amount, nothing, is_unused, free_inodes, free_blocks, Made, IsMadeBy, tree_before, tree_made, rewrite_needed, enters_by_made, IsNeed}
 
 -- What is reserved for an fsync, which is known by its stamp: how much, and which inodes.

@@ -3,17 +3,17 @@ use Rattle.std.specs.Prelude.{◌≡◌, ◌≢◌, ◌↔◌, ℕ, ◌<◌, ◌
 use Rattle.std.specs.FinMap.{get}
 use Rattle.sfs_base.specs.Listed.{is_listed}
 use Rattle.sfs_image.specs.Seen.{SeenInodes, PLACES}
-use Rattle.sfs_tree.specs.declared.history.Entry.{Entry}
-use Rattle.sfs_tree.specs.History.{tree_after, IsLegal}
-use Rattle.sfs_tree.specs.Laws.{IsSoundTree}
-use Rattle.sfs_tree.specs.Tree.{TreeState, names_of}
+use Rattle.tree_laws.specs.declared.history.Entry.{Entry}
+use Rattle.tree_laws.specs.History.{tree_after, IsLegal}
+use Rattle.tree_laws.specs.Laws.{IsSoundTree}
+use Rattle.tree_laws.specs.Tree.{TreeState, names_of}
 use Rattle.absorb.specs.declared.nets.NetRow.{NetRow}
 use Rattle.absorb.specs.Net.{IsNet}
 use Rattle.image_tree.specs.Commit.{Commit, seen_before, slots_after, GivesNumbers, MayFollow}
 use Rattle.image_tree.specs.Need.{directory_rewrite, blocks_needed}
 use Rattle.image_tree.specs.Stands.{StandsForTree}
-use Rattle.flush_core.specs.Closure.{Flush}
-use Rattle.flush_core.specs.Machine.{MachineState}
+use Rattle.cut_laws.specs.Closure.{Flush}
+use Rattle.cut_laws.specs.Machine.{MachineState}
 use Rattle.commit_turns.specs.Need.{ImageState, Amount, is_unused, is_held_in, Made, stand_in, rewrite_needed, node_bound, enters_by_made, need_of, IsNeed}
 
 -- A commit's numbers go on from an image that stands for the old tree to a tree that may follow it.

@@ -2,14 +2,14 @@
 use Rattle.std.specs.Prelude.{◌≡◌, ℕ, ◌≤◌, Bool, true, List, [], ◌∷◌, ◌++◌, Some}
 use Rattle.sfs_base.specs.declared.numbers.NodeId.{NodeId}
 use Rattle.sfs_base.specs.declared.numbers.SpaceKind.{SpaceKind}
-use Rattle.sfs_tree.specs.declared.call.Call.TheVariants as call
-use Rattle.sfs_tree.specs.declared.history.Entry.{Entry}
-use Rattle.sfs_tree.specs.declared.reply.Reply.TheVariants as reply
-use Rattle.sfs_tree.specs.declared.turns.Turn.{Turn}
-use Rattle.sfs_tree.specs.declared.turns.TurnAct.TheVariants as act
-use Rattle.sfs_tree.specs.History.{tree_after}
-use Rattle.sfs_tree.specs.Laws.{IsSoundTree}
-use Rattle.sfs_tree.specs.Tree.{TreeState, is_alive}
+use Rattle.tree_laws.specs.declared.call.Call.TheVariants as call
+use Rattle.tree_laws.specs.declared.history.Entry.{Entry}
+use Rattle.tree_laws.specs.declared.reply.Reply.TheVariants as reply
+use Rattle.tree_laws.specs.declared.turns.Turn.{Turn}
+use Rattle.tree_laws.specs.declared.turns.TurnAct.TheVariants as act
+use Rattle.tree_laws.specs.History.{tree_after}
+use Rattle.tree_laws.specs.Laws.{IsSoundTree}
+use Rattle.tree_laws.specs.Tree.{TreeState, is_alive}
 use Rattle.commit_turns.specs.Need.{ImageState, nothing, Made, IsMadeBy}
 use Rattle.commit_turns.specs.Books.{free_in, FitsFree, IsShortOf, Leaves}
 use Rattle.sfs_base.specs.Ends.{HasRisen}

@@ -3,19 +3,19 @@ use Rattle.std.specs.Prelude.{◌≡◌, ◌⊎◌, ◌↔◌, ℕ, ◌+◌, ◌
 use Rattle.sfs_base.specs.Listed.{is_listed}
 use Rattle.sfs_base.specs.declared.numbers.NodeId.{NodeId}
 use Rattle.sfs_base.specs.declared.numbers.SpaceKind.{SpaceKind}
-use Rattle.sfs_tree.specs.declared.history.Entry.{Entry}
-use Rattle.sfs_tree.specs.declared.reply.Reply.TheVariants as reply
-use Rattle.sfs_tree.specs.declared.turns.Turn.{Turn}
-use Rattle.sfs_tree.specs.declared.turns.TurnAct.{TurnAct}
-use Rattle.sfs_tree.specs.declared.turns.TurnAct.TheVariants as act
-use Rattle.sfs_tree.specs.History.{IsLegal}
-use Rattle.sfs_tree.specs.Tree.{TreeState}
-use Rattle.flush_core.specs.declared.event.Event.{Event}
-use Rattle.flush_core.specs.declared.event.Event.TheVariants as event
-use Rattle.flush_core.specs.Closure.{every_entry, Flush, AreFlushed}
-use Rattle.flush_core.specs.Machine.{MachineState}
-use Rattle.flush_core.specs.Rules.{IsOneOf}
-use Rattle.flush_core.specs.Runs.{IsRun}
+use Rattle.tree_laws.specs.declared.history.Entry.{Entry}
+use Rattle.tree_laws.specs.declared.reply.Reply.TheVariants as reply
+use Rattle.tree_laws.specs.declared.turns.Turn.{Turn}
+use Rattle.tree_laws.specs.declared.turns.TurnAct.{TurnAct}
+use Rattle.tree_laws.specs.declared.turns.TurnAct.TheVariants as act
+use Rattle.tree_laws.specs.History.{IsLegal}
+use Rattle.tree_laws.specs.Tree.{TreeState}
+use Rattle.cut_laws.specs.declared.event.Event.{Event}
+use Rattle.cut_laws.specs.declared.event.Event.TheVariants as event
+use Rattle.cut_laws.specs.Closure.{every_entry, Flush, AreFlushed}
+use Rattle.cut_laws.specs.Machine.{MachineState}
+use Rattle.cut_laws.specs.Rules.{IsOneOf}
+use Rattle.cut_laws.specs.Runs.{IsRun}
 use Rattle.commit_turns.specs.Need.{ImageState, Amount, IsNeed}
 use Rattle.commit_turns.specs.Books.{Grant, Books, is_open_in, books_of, flush_at, free_in, IsShortOf, IsTurn, AreTurns}
 use Rattle.sfs_base.specs.Ends.{HasRisen}

@@ -2,15 +2,15 @@
 use Rattle.std.specs.Prelude.{◌≡◌, ◌↔◌, ℕ, ◌+◌, ◌-◌, ◌*◌, ◌/◌, ◌%◌, ◌==◌, ◌&&◌, Bool, true, not, List, length, Option, Some, if◌then◌else◌}
 use Rattle.std.specs.Option.{option_map_or}
 use Rattle.sfs_image.specs.Seen.{Seen, SeenInodes, PLACES}
-use Rattle.sfs_tree.specs.Tree.{TreeState, names_of, bytes_of, is_directory}
+use Rattle.tree_laws.specs.Tree.{TreeState, names_of, bytes_of, is_directory}
 use Rattle.absorb.specs.declared.nets.NetRow.{NetRow}
 use Rattle.absorb.specs.Net.{IsNet}
 use Rattle.image_tree.specs.Commit.{blank, slots_after}
 use Rattle.image_tree.specs.Need.{Rewrite, directory_rewrite, file_rewrite, takes_place, rank}
 use Rattle.image_tree.specs.Renamed.{Numbering}
-use Rattle.flush_core.specs.Closure.{every_entry, Flush, IsConcerned, IsRaised, AreInodesAfter}
-use Rattle.flush_core.specs.Cut.{Cut, cut_of, tree_at_cut}
-use Rattle.flush_core.specs.Machine.{MachineState}
+use Rattle.cut_laws.specs.Closure.{every_entry, Flush, IsConcerned, IsRaised, AreInodesAfter}
+use Rattle.cut_laws.specs.Cut.{Cut, cut_of, tree_at_cut}
+use Rattle.cut_laws.specs.Machine.{MachineState}
 use Rattle.commit_turns.specs.Touched.{is_touched_between}
 
 -- What an image has to tell: the numbers of nodes, what its inodes show, and the blocks of the data area, from the first to below the end.

@@ -2,17 +2,17 @@
 use Rattle.std.specs.Prelude.{◌≡◌, ◌↔◌, ℕ, ◌≤◌, Bool, true, false, is_some, List, [], ◌∷◌, ◌++◌, length, Option, Some, None}
 use Rattle.std.specs.FinMap.{get, empty}
 use Rattle.sfs_base.specs.declared.numbers.NodeId.{NodeId}
-use Rattle.sfs_tree.specs.declared.call.Call.TheVariants as call
-use Rattle.sfs_tree.specs.declared.history.Entry.{Entry}
-use Rattle.sfs_tree.specs.declared.turns.Turn.{Turn}
-use Rattle.sfs_tree.specs.declared.turns.TurnAct.{TurnAct}
-use Rattle.sfs_tree.specs.History.{tree_after, IsLegal}
-use Rattle.sfs_tree.specs.Laws.{IsSoundTree}
-use Rattle.sfs_tree.specs.Tree.{TreeState, is_alive}
-use Rattle.flush_core.specs.Closure.{every_entry, Flush, Closure}
-use Rattle.flush_core.specs.Cut.{Cut}
-use Rattle.flush_core.specs.Machine.{MachineState}
-use Rattle.flush_core.specs.Rules.{IsOneOf}
+use Rattle.tree_laws.specs.declared.call.Call.TheVariants as call
+use Rattle.tree_laws.specs.declared.history.Entry.{Entry}
+use Rattle.tree_laws.specs.declared.turns.Turn.{Turn}
+use Rattle.tree_laws.specs.declared.turns.TurnAct.{TurnAct}
+use Rattle.tree_laws.specs.History.{tree_after, IsLegal}
+use Rattle.tree_laws.specs.Laws.{IsSoundTree}
+use Rattle.tree_laws.specs.Tree.{TreeState, is_alive}
+use Rattle.cut_laws.specs.Closure.{every_entry, Flush, Closure}
+use Rattle.cut_laws.specs.Cut.{Cut}
+use Rattle.cut_laws.specs.Machine.{MachineState}
+use Rattle.cut_laws.specs.Rules.{IsOneOf}
 use Rattle.commit_turns.specs.Need.{ImageState, Amount, Made, IsMadeBy, need_of}
 use Rattle.commit_turns.specs.Books.{Books, books_of, free_in, least_open, FitsFree, Leaves, AreTurns}
 use Rattle.commit_turns.specs.Recorded.{IsOfFsync, EachEnds}

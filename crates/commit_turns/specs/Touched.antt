@@ -1,9 +1,9 @@
 -- Which blocks of a file its changes touch.
 use Rattle.std.specs.Prelude.{ℕ, ◌+◌, ◌-◌, ◌/◌, ◌==◌, nat_lt, nat_le, ◌&&◌, ◌||◌, not, Bool, false, List, [], ◌∷◌, length, filter}
-use Rattle.sfs_tree.specs.declared.history.Entry.{Entry}
-use Rattle.sfs_tree.specs.Changes.{FileChange, edits_of, bytes_at}
-use Rattle.sfs_tree.specs.Effect.{Edit, Puts, Resizes, edited}
-use Rattle.sfs_tree.specs.Tree.{TreeState}
+use Rattle.tree_laws.specs.declared.history.Entry.{Entry}
+use Rattle.tree_laws.specs.Changes.{FileChange, edits_of, bytes_at}
+use Rattle.tree_laws.specs.Effect.{Edit, Puts, Resizes, edited}
+use Rattle.tree_laws.specs.Tree.{TreeState}
 use Rattle.image_tree.specs.Stands.{BLOCK_BYTES}
 use Rattle.cut_trees.specs.Spans.{is_edit_between}
 

@@ -6,33 +6,33 @@ use Rattle.std.specs.FinMap.{FinMap, get, len, same_map}
 use Rattle.std.specs.Option.{option_map_or}
 use Rattle.sfs_base.specs.Name.{bucket}
 use Rattle.sfs_base.proofs.BasicTruth.{false_not_true}
-use Rattle.sfs_tree.specs.declared.history.Entry.{Entry}
-use Rattle.sfs_tree.specs.History.{tree_after, IsLegal}
-use Rattle.sfs_tree.specs.Order.{key_cmp, name_cmp}
-use Rattle.sfs_tree.specs.Sound.{IsSound, IsWithinLimits}
-use Rattle.sfs_tree.specs.Tree.{TreeState, Node, row_of, names_of, bucket_rows, bytes_of, kind_of, is_directory, is_directory_kind, BUCKET_ROWS}
-use Rattle.sfs_tree.specs.Changes.{rows_at, bytes_at}
-use Rattle.sfs_tree.proofs.FileHistories.{bytes_at-tree_after}
-use Rattle.sfs_tree.proofs.Histories.{rows_at-tree_after}
-use Rattle.sfs_tree.proofs.Joined.{name_cmp-IsAntisymmetric}
-use Rattle.sfs_tree.proofs.Limits.{histories_stay_within}
-use Rattle.sfs_tree.proofs.Names.{get-names_where}
-use Rattle.sfs_tree.proofs.Readings.{directory_by_kind}
+use Rattle.tree_laws.specs.declared.history.Entry.{Entry}
+use Rattle.tree_laws.specs.History.{tree_after, IsLegal}
+use Rattle.tree_laws.specs.Order.{key_cmp, name_cmp}
+use Rattle.tree_laws.specs.Sound.{IsSound, IsWithinLimits}
+use Rattle.tree_laws.specs.Tree.{TreeState, Node, row_of, names_of, bucket_rows, bytes_of, kind_of, is_directory, is_directory_kind, BUCKET_ROWS}
+use Rattle.tree_laws.specs.Changes.{rows_at, bytes_at}
+use Rattle.tree_laws.proofs.FileHistories.{bytes_at-tree_after}
+use Rattle.tree_laws.proofs.Histories.{rows_at-tree_after}
+use Rattle.tree_laws.proofs.Joined.{name_cmp-IsAntisymmetric}
+use Rattle.tree_laws.proofs.Limits.{histories_stay_within}
+use Rattle.tree_laws.proofs.Names.{get-names_where}
+use Rattle.tree_laws.proofs.Readings.{directory_by_kind}
 use Rattle.image_tree.specs.Commit.{IsAside, MayFollow}
 use Rattle.image_tree.specs.Renamed.{Numbering, HasNumber, IsMet}
 use Rattle.image_tree.specs.Renamed.IsMet.{root as at_root, named as by_row}
 use Rattle.image_tree.specs.Stands.{IsStorable}
-use Rattle.flush_core.specs.Closure.{every_entry, Flush, IsConcerned, IsNamedIn, IsRaised, AreInodesAfter, AreFlushed, AreRaised, one_more}
-use Rattle.flush_core.specs.Cut.{Cut, cut_of, rows_at_cut, tree_at_cut}
-use Rattle.flush_core.specs.Laws.{KeepsAll, HasKindsOf}
-use Rattle.flush_core.specs.LawsInodes.{IsNeverNamed, StaysAsItWas}
-use Rattle.flush_core.proofs.Along.{tree_at-after}
-use Rattle.flush_core.proofs.CutNodes.{cuts_keep_kinds, files_are_cut}
-use Rattle.flush_core.proofs.CutRows.{directories_are_cut}
-use Rattle.flush_core.proofs.KeptInodes.{others_stay, directories_are_named}
-use Rattle.flush_core.proofs.Lists.{lists_keep}
-use Rattle.flush_core.proofs.NewNodes.{inodes_are_named}
-use Rattle.flush_core.proofs.Prefix.{kind_whole}
+use Rattle.cut_laws.specs.Closure.{every_entry, Flush, IsConcerned, IsNamedIn, IsRaised, AreInodesAfter, AreFlushed, AreRaised, one_more}
+use Rattle.cut_laws.specs.Cut.{Cut, cut_of, rows_at_cut, tree_at_cut}
+use Rattle.cut_laws.specs.Laws.{KeepsAll, HasKindsOf}
+use Rattle.cut_laws.specs.LawsInodes.{IsNeverNamed, StaysAsItWas}
+use Rattle.cut_laws.proofs.Along.{tree_at-after}
+use Rattle.cut_laws.proofs.CutNodes.{cuts_keep_kinds, files_are_cut}
+use Rattle.cut_laws.proofs.CutRows.{directories_are_cut}
+use Rattle.cut_laws.proofs.KeptInodes.{others_stay, directories_are_named}
+use Rattle.cut_laws.proofs.Lists.{lists_keep}
+use Rattle.cut_laws.proofs.NewNodes.{inodes_are_named}
+use Rattle.cut_laws.proofs.Prefix.{kind_whole}
 use Rattle.cut_trees.specs.Next.{IsMountedHistory, NumbersInodes, IsStorableAtCut, CutTreesAreStorable, IsOneMore, RaisedTreesFollow, OthersAreAside, KeepsItsOwn, SameStampsKeep}
 
 -- directories that have the same rows have them in the same buckets

@@ -5,17 +5,17 @@ use Rattle.std.proofs.lemmas.Bool.{cases_lt, lt-ltb, le-ltb, le-leb}
 use Rattle.std.proofs.lemmas.Bool.Decides.{nat_tests}
 use Rattle.std.proofs.lemmas.List.Elements.{filter-append}
 use Rattle.std.proofs.lemmas.List.Sums.{fold-append}
-use Rattle.sfs_tree.specs.declared.history.Entry.{Entry}
-use Rattle.sfs_tree.specs.Changes.{RowChange, FileChange, changes_by, changes_of, edits_by, edits_of, with_change, is_own_below, is_edit_below}
-use Rattle.sfs_tree.specs.Effect.{Effect, Stays, Adds, Removes, Moves, Edits, edited}
-use Rattle.sfs_tree.specs.History.{tree_after_entry, IsLegalFrom, IsLegal}
-use Rattle.sfs_tree.specs.Tree.{TreeState, names_of, bytes_of}
-use Rattle.sfs_tree.specs.Verdict.{verdict}
-use Rattle.flush_core.specs.Cut.{cut_of}
-use Rattle.flush_core.specs.Rules.{IsOneOf}
-use Rattle.flush_core.proofs.Basics.{in_either, filter_none, filter_same}
-use Rattle.flush_core.proofs.CutRows.{directories_are_cut}
-use Rattle.flush_core.proofs.Own.{stamp_of}
+use Rattle.tree_laws.specs.declared.history.Entry.{Entry}
+use Rattle.tree_laws.specs.Changes.{RowChange, FileChange, changes_by, changes_of, edits_by, edits_of, with_change, is_own_below, is_edit_below}
+use Rattle.tree_laws.specs.Effect.{Effect, Stays, Adds, Removes, Moves, Edits, edited}
+use Rattle.tree_laws.specs.History.{tree_after_entry, IsLegalFrom, IsLegal}
+use Rattle.tree_laws.specs.Tree.{TreeState, names_of, bytes_of}
+use Rattle.tree_laws.specs.Verdict.{verdict}
+use Rattle.cut_laws.specs.Cut.{cut_of}
+use Rattle.cut_laws.specs.Rules.{IsOneOf}
+use Rattle.cut_laws.proofs.Basics.{in_either, filter_none, filter_same}
+use Rattle.cut_laws.proofs.CutRows.{directories_are_cut}
+use Rattle.cut_laws.proofs.Own.{stamp_of}
 use Rattle.cut_trees.specs.Spans.{is_own_between, SpansMakeRows, SpansMakeCutRows, is_edit_between, SpansMakeBytes}
 
 -- A list of changes of one entry after the other: those of its entry have its stamp, and those behind have later ones.

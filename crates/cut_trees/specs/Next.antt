@@ -1,16 +1,16 @@
 -- The tree at a cut before one fsync more, and the tree at the cut that it raises.
 use Rattle.std.specs.Prelude.{◌≡◌, ◌↔◌, ℕ, Bool, true, List, Some}
-use Rattle.sfs_tree.specs.declared.history.Entry.{Entry}
-use Rattle.sfs_tree.specs.Laws.{IsSoundTree}
-use Rattle.sfs_tree.specs.History.{IsLegal}
-use Rattle.sfs_tree.specs.Sound.{IsSound, IsWithinLimits}
-use Rattle.sfs_tree.specs.Tree.{TreeState, names_of, bytes_of}
+use Rattle.tree_laws.specs.declared.history.Entry.{Entry}
+use Rattle.tree_laws.specs.Laws.{IsSoundTree}
+use Rattle.tree_laws.specs.History.{IsLegal}
+use Rattle.tree_laws.specs.Sound.{IsSound, IsWithinLimits}
+use Rattle.tree_laws.specs.Tree.{TreeState, names_of, bytes_of}
 use Rattle.image_tree.specs.Commit.{IsAside, MayFollow}
 use Rattle.image_tree.specs.Renamed.{Numbering, HasNumber}
 use Rattle.image_tree.specs.Stands.{IsStorable}
-use Rattle.flush_core.specs.Closure.{every_entry, Flush, IsConcerned, IsRaised, AreInodesAfter, AreFlushed}
-use Rattle.flush_core.specs.Cut.{Cut, cut_of, tree_at_cut}
-use Rattle.flush_core.specs.LawsInodes.{AreAllAlive}
+use Rattle.cut_laws.specs.Closure.{every_entry, Flush, IsConcerned, IsRaised, AreInodesAfter, AreFlushed}
+use Rattle.cut_laws.specs.Cut.{Cut, cut_of, tree_at_cut}
+use Rattle.cut_laws.specs.LawsInodes.{AreAllAlive}
 
 -- A first tree from which a mount may begin, and a legal history from it: the tree is sound and within its limits, and each of its nodes
 -- is alive.

@@ -1,11 +1,11 @@
 -- What a directory's changes in a span make of its rows, and a file's of its bytes.
 use Rattle.std.specs.Prelude.{◌≡◌, ℕ, ◌≤◌, ◌==◌, ◌&&◌, nat_le, nat_lt, Bool, List, filter, fold}
-use Rattle.sfs_tree.specs.declared.history.Entry.{Entry}
-use Rattle.sfs_tree.specs.Changes.{RowChange, FileChange, with_change, changes_of, rows_at, edits_of, bytes_at}
-use Rattle.sfs_tree.specs.Effect.{edited}
-use Rattle.sfs_tree.specs.History.{IsLegal}
-use Rattle.sfs_tree.specs.Tree.{TreeState, names_of}
-use Rattle.flush_core.specs.Cut.{Cut, cut_of, tree_at_cut}
+use Rattle.tree_laws.specs.declared.history.Entry.{Entry}
+use Rattle.tree_laws.specs.Changes.{RowChange, FileChange, with_change, changes_of, rows_at, edits_of, bytes_at}
+use Rattle.tree_laws.specs.Effect.{edited}
+use Rattle.tree_laws.specs.History.{IsLegal}
+use Rattle.tree_laws.specs.Tree.{TreeState, names_of}
+use Rattle.cut_laws.specs.Cut.{Cut, cut_of, tree_at_cut}
 
 -- whether a change is this directory's, with a stamp from one to below another
 abbrev pub is_own_between : ℕ → ℕ → ℕ → RowChange → Bool

@@ -19,7 +19,7 @@ use denote.Ref.{Bor}
 use Rattle.absorb.specs.declared.nets.NetRow.{NetRow}
 use Rattle.image_tree.specs.Commit.{row_in_net}
 use Rattle.sfs_image.specs.Slot.{Row}
-use Rattle.sfs_tree.proofs.Joined.{count-cons}
+use Rattle.tree_laws.proofs.Joined.{count-cons}
 use Rattle.disk_change.specs.Directory.{is_among, fill_front, rows_left, row_brought, slot_moved, is_in_net}
 use Rattle.disk_change.proofs.Keyed.{search_misses}
 

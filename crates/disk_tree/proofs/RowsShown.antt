@@ -8,7 +8,7 @@ use Rattle.sfs_base.specs.Lists.{Roomy}
 use Rattle.sfs_image.specs.Inode.{Inode}
 use Rattle.sfs_image.specs.Seen.{SeenInodes}
 use Rattle.sfs_image.specs.Slot.{Row, kind_byte}
-use Rattle.sfs_tree.proofs.Joined.{count-cons}
+use Rattle.tree_laws.proofs.Joined.{count-cons}
 use Rattle.image_tree.specs.ImageTree.{shows_directory}
 use Rattle.image_tree.specs.Rules.{some_row, is_misplaced}
 use Rattle.image_tree.specs.Slots.{has_name, name_count}

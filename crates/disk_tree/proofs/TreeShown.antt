@@ -19,10 +19,10 @@ use Rattle.sfs_image.specs.Slot.{Row, kind_byte, kind_of}
 use Rattle.sfs_image.specs.SlotBlock.{slots_of}
 use Rattle.sfs_image.specs.Super.{Layout}
 use Rattle.sfs_image.proofs.Basics.{pieces_same}
-use Rattle.sfs_tree.specs.Laws.{IsSoundTree}
-use Rattle.sfs_tree.specs.Order.{key_cmp}
-use Rattle.sfs_tree.specs.Sound.{IsWithinLimits}
-use Rattle.sfs_tree.specs.Tree.{Node, count_of, is_directory_kind}
+use Rattle.tree_laws.specs.Laws.{IsSoundTree}
+use Rattle.tree_laws.specs.Order.{key_cmp}
+use Rattle.tree_laws.specs.Sound.{IsWithinLimits}
+use Rattle.tree_laws.specs.Tree.{Node, count_of, is_directory_kind}
 use Rattle.block_map.specs.Kept.{kept_slots}
 use Rattle.image_tree.specs.Image.{inodes_shown}
 use Rattle.image_tree.specs.ImageTree.{image_rows, image_tree, is_node, node_in, nodes_where}

@@ -8,12 +8,12 @@ use Rattle.sfs_base.proofs.Bytes.{length-resized, length-written}
 use Rattle.mem_files.specs.File.{blocks_of, no_blocks, is_touched}
 use Rattle.mem_files.specs.Laws.{byte_in}
 use Rattle.mem_files.proofs.Inside.{writes_stay_inside, truncations_stay_inside}
-use Rattle.sfs_tree.specs.declared.history.Entry.{Entry}
-use Rattle.sfs_tree.specs.Changes.{bytes_at}
-use Rattle.sfs_tree.specs.Effect.{Edit, Puts, Resizes, edited}
-use Rattle.sfs_tree.specs.History.{IsLegal}
-use Rattle.sfs_tree.specs.Laws.{IsSoundTree}
-use Rattle.sfs_tree.specs.Tree.{TreeState}
+use Rattle.tree_laws.specs.declared.history.Entry.{Entry}
+use Rattle.tree_laws.specs.Changes.{bytes_at}
+use Rattle.tree_laws.specs.Effect.{Edit, Puts, Resizes, edited}
+use Rattle.tree_laws.specs.History.{IsLegal}
+use Rattle.tree_laws.specs.Laws.{IsSoundTree}
+use Rattle.tree_laws.specs.Tree.{TreeState}
 use Rattle.commit_laws.specs.Rewritten.{bytes_in_block}
 use Rattle.commit_laws.proofs.FilesMade.{byte_in_block, length_block}
 use Rattle.file_marks.specs.Touched.{touched_by, IsTouchedBetween}

@@ -3,18 +3,18 @@ use Rattle.std.proofs.Common.{◌≡◌, ℕ, zero, suc, ◌+◌, ◌≤◌, tru
 use Rattle.std.specs.Prelude.{◌⊎◌}
 use Rattle.std.proofs.lemmas.Bool.{eqb-true}
 use Rattle.sfs_base.proofs.BasicNumbers.{zero_plus, plus_zero, suc_plus}
-use Rattle.sfs_tree.specs.declared.history.Entry.{Entry}
-use Rattle.sfs_tree.specs.Changes.{FileChange, edits_by, edits_of, bytes_at}
-use Rattle.sfs_tree.specs.Effect.{Effect, Stays, Adds, Removes, Moves, Edits, edited}
-use Rattle.sfs_tree.specs.History.{tree_after_entry, IsLegalFrom, IsLegal}
-use Rattle.sfs_tree.specs.Laws.{IsSoundTree}
-use Rattle.sfs_tree.specs.Parts.{bytes_after}
-use Rattle.sfs_tree.specs.Tree.{TreeState, bytes_of}
-use Rattle.sfs_tree.specs.Verdict.{verdict}
-use Rattle.sfs_tree.proofs.FileHistories.{bytes_with, bytes_at-tree_after}
-use Rattle.flush_core.specs.Rules.{IsOneOf}
-use Rattle.flush_core.proofs.Along.{tree_at, core_at, effect_at, makes_at, tree_at-after, fits_at, next_at}
-use Rattle.flush_core.proofs.Basics.{in_left, in_right, in_either}
+use Rattle.tree_laws.specs.declared.history.Entry.{Entry}
+use Rattle.tree_laws.specs.Changes.{FileChange, edits_by, edits_of, bytes_at}
+use Rattle.tree_laws.specs.Effect.{Effect, Stays, Adds, Removes, Moves, Edits, edited}
+use Rattle.tree_laws.specs.History.{tree_after_entry, IsLegalFrom, IsLegal}
+use Rattle.tree_laws.specs.Laws.{IsSoundTree}
+use Rattle.tree_laws.specs.Parts.{bytes_after}
+use Rattle.tree_laws.specs.Tree.{TreeState, bytes_of}
+use Rattle.tree_laws.specs.Verdict.{verdict}
+use Rattle.tree_laws.proofs.FileHistories.{bytes_with, bytes_at-tree_after}
+use Rattle.cut_laws.specs.Rules.{IsOneOf}
+use Rattle.cut_laws.proofs.Along.{tree_at, core_at, effect_at, makes_at, tree_at-after, fits_at, next_at}
+use Rattle.cut_laws.proofs.Basics.{in_left, in_right, in_either}
 
 -- each change of an effect has its stamp, and is what the effect does
 pub edit_is : (stamp : ℕ) (effect : Effect) (x : FileChange) → IsOneOf (edits_by stamp effect) x → (x.stamp ≡ stamp) × (effect ≡ Edits x.file x.edit)

@@ -9,7 +9,7 @@ use Rattle.sfs_image.specs.Seen.{SeenInodes, FILE_BLOCKS}
 use Rattle.sfs_image.specs.Settled.{SlotFault, layout_of, parts_of, super_fault_of, journal_fault_of}
 use Rattle.sfs_image.proofs.Basics.{length-tabulate}
 use Rattle.sfs_image.proofs.RuleFacts.{sizes_say}
-use Rattle.sfs_tree.specs.Tree.{Node}
+use Rattle.tree_laws.specs.Tree.{Node}
 use Rattle.image_tree.specs.Image.{image_inodes, breaks_bytes_of, ImageFault, first_of_faults, fault_of, making_at_mount}
 use Rattle.image_tree.specs.ImageTree.{is_node, node_shown, image_tree}
 use Rattle.image_tree.specs.Rules.{TreeFault, tree_fault, breaks_rule}

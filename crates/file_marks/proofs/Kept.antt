@@ -11,19 +11,19 @@ use Rattle.sfs_base.proofs.BasicNumbers.{same_number, zero_plus}
 use Rattle.sfs_base.proofs.BasicOptions.{none_not_some}
 use Rattle.sfs_base.proofs.BasicTruth.{not_both, false_not_true}
 use Rattle.mem_files.specs.File.{File, mark_of, is_touched}
-use Rattle.sfs_tree.specs.declared.history.Entry.{Entry}
-use Rattle.sfs_tree.specs.Changes.{edits_by, edits_of, bytes_at}
-use Rattle.sfs_tree.specs.Effect.{Effect, Stays, Adds, Removes, Moves, Edits, Edit, edited}
-use Rattle.sfs_tree.specs.Fits.{Fits}
-use Rattle.sfs_tree.specs.History.{tree_after, tree_after_entry, IsLegal}
-use Rattle.sfs_tree.specs.Laws.{IsSoundTree}
-use Rattle.sfs_tree.specs.Parts.{bytes_after}
-use Rattle.sfs_tree.specs.Tree.{TreeState, Node}
+use Rattle.tree_laws.specs.declared.history.Entry.{Entry}
+use Rattle.tree_laws.specs.Changes.{edits_by, edits_of, bytes_at}
+use Rattle.tree_laws.specs.Effect.{Effect, Stays, Adds, Removes, Moves, Edits, Edit, edited}
+use Rattle.tree_laws.specs.Fits.{Fits}
+use Rattle.tree_laws.specs.History.{tree_after, tree_after_entry, IsLegal}
+use Rattle.tree_laws.specs.Laws.{IsSoundTree}
+use Rattle.tree_laws.specs.Parts.{bytes_after}
+use Rattle.tree_laws.specs.Tree.{TreeState, Node}
 use Rattle.fsync_file.specs.Touched.{is_marked_from}
-use Rattle.flush_core.specs.Rules.{IsOneOf}
-use Rattle.flush_core.proofs.Along.{tree_at, core_at, effect_at, makes_at, fits_at, next_at}
-use Rattle.flush_core.proofs.Basics.{in_left, in_either}
-use Rattle.flush_core.proofs.Nodes.{node_stays}
+use Rattle.cut_laws.specs.Rules.{IsOneOf}
+use Rattle.cut_laws.proofs.Along.{tree_at, core_at, effect_at, makes_at, fits_at, next_at}
+use Rattle.cut_laws.proofs.Basics.{in_left, in_either}
+use Rattle.cut_laws.proofs.Nodes.{node_stays}
 use Rattle.commit_turns.proofs.LongerEdits.{edits_joined, legal_rest, bytes_longer}
 use Rattle.file_marks.specs.FileAt.{IsFileAt, IsMarkedEdit}
 use Rattle.file_marks.specs.Laws.{IsUnmarked, verdict_behind, FilesBegin, NewFilesBegin, LongerHistoriesKeepFiles, EditsKeepFiles, OthersKeepFiles}

@@ -4,21 +4,21 @@ use Rattle.std.proofs.lemmas.Bool.{cases_lt}
 use Rattle.std.proofs.lemmas.Bool.Decides.{nat_tests}
 use Rattle.sfs_base.specs.Files.{written}
 use Rattle.sfs_base.proofs.Bytes.{length-resized, length-written}
-use Rattle.sfs_tree.specs.declared.call.Call.{Call}
-use Rattle.sfs_tree.specs.declared.call.Call.TheVariants as call
-use Rattle.sfs_tree.specs.declared.history.Entry.{Entry}
-use Rattle.sfs_tree.specs.declared.reply.Code.{Code}
-use Rattle.sfs_tree.specs.declared.reply.Code.TheVariants.{FileTooBig}
-use Rattle.sfs_tree.specs.declared.reply.Reply.TheVariants as reply
-use Rattle.sfs_tree.specs.Changes.{bytes_at}
-use Rattle.sfs_tree.specs.Effect.{Effect, Stays, Adds, Removes, Moves, Edits, Puts, Resizes, edited}
-use Rattle.sfs_tree.specs.Footprints.{own_effect}
-use Rattle.sfs_tree.specs.History.{tree_after_entry}
-use Rattle.sfs_tree.specs.Parts.{bytes_after}
-use Rattle.sfs_tree.specs.Tree.{TreeState, bytes_of, row_of}
-use Rattle.sfs_tree.specs.Verdict.{LARGEST_FILE, Verdict, verdict, or_else, done, refused, answered, file_fault, write_bytes, trunc_file}
-use Rattle.sfs_tree.proofs.OwnEffects.{of_one, of_child, of_what_it_does}
-use Rattle.flush_core.proofs.Along.{tree_at-first, effect_at}
+use Rattle.tree_laws.specs.declared.call.Call.{Call}
+use Rattle.tree_laws.specs.declared.call.Call.TheVariants as call
+use Rattle.tree_laws.specs.declared.history.Entry.{Entry}
+use Rattle.tree_laws.specs.declared.reply.Code.{Code}
+use Rattle.tree_laws.specs.declared.reply.Code.TheVariants.{FileTooBig}
+use Rattle.tree_laws.specs.declared.reply.Reply.TheVariants as reply
+use Rattle.tree_laws.specs.Changes.{bytes_at}
+use Rattle.tree_laws.specs.Effect.{Effect, Stays, Adds, Removes, Moves, Edits, Puts, Resizes, edited}
+use Rattle.tree_laws.specs.Footprints.{own_effect}
+use Rattle.tree_laws.specs.History.{tree_after_entry}
+use Rattle.tree_laws.specs.Parts.{bytes_after}
+use Rattle.tree_laws.specs.Tree.{TreeState, bytes_of, row_of}
+use Rattle.tree_laws.specs.Verdict.{LARGEST_FILE, Verdict, verdict, or_else, done, refused, answered, file_fault, write_bytes, trunc_file}
+use Rattle.tree_laws.proofs.OwnEffects.{of_one, of_child, of_what_it_does}
+use Rattle.cut_laws.proofs.Along.{tree_at-first, effect_at}
 use Rattle.file_marks.specs.Laws.{FilesStayShort}
 use Rattle.file_marks.proofs.Edits.{bytes_in_tree, next_bytes}
 

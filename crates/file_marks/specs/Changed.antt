@@ -1,7 +1,7 @@
 -- What a commit changes in a file leads from its bytes at one stamp to those at another.
 use Rattle.std.specs.Prelude.{◌≡◌, ℕ, ◌*◌, ◌<◌, ◌≤◌, true, false, List, length, is_some, Contains}
 use Rattle.sfs_image.specs.Seen.{FILE_BLOCKS}
-use Rattle.sfs_tree.specs.Tree.{TreeState, bytes_of}
+use Rattle.tree_laws.specs.Tree.{TreeState, bytes_of}
 use Rattle.image_tree.specs.Stands.{BLOCK_BYTES}
 use Rattle.disk_change.specs.Lists.{AscendBy, item_with}
 use Rattle.disk_change.specs.Pages.{page_block}

@@ -2,10 +2,10 @@
 use Rattle.std.specs.Prelude.{◌≡◌, ◌↔◌, ℕ, true, List, length, Some, if◌then◌else◌}
 use Rattle.sfs_base.specs.declared.numbers.Stamp.{Stamp}
 use Rattle.mem_files.specs.File.{File, mark_of, is_touched}
-use Rattle.sfs_tree.specs.declared.history.Entry.{Entry}
-use Rattle.sfs_tree.specs.Changes.{bytes_at}
-use Rattle.sfs_tree.specs.Effect.{Edit, edited}
-use Rattle.sfs_tree.specs.Tree.{TreeState}
+use Rattle.tree_laws.specs.declared.history.Entry.{Entry}
+use Rattle.tree_laws.specs.Changes.{bytes_at}
+use Rattle.tree_laws.specs.Effect.{Edit, edited}
+use Rattle.tree_laws.specs.Tree.{TreeState}
 use Rattle.fsync_file.specs.Touched.{is_marked_from}
 use Rattle.file_marks.specs.Touched.{touched_by, IsTouchedBetween}
 

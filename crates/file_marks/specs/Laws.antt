@@ -4,12 +4,12 @@ use Rattle.sfs_base.specs.declared.numbers.Kind.{Kind}
 use Rattle.sfs_base.specs.declared.numbers.NodeId.{NodeId}
 use Rattle.mem_files.specs.File.{File, mark_of}
 use Rattle.sfs_image.specs.Seen.{FILE_BLOCKS}
-use Rattle.sfs_tree.specs.declared.history.Entry.{Entry}
-use Rattle.sfs_tree.specs.Changes.{bytes_at}
-use Rattle.sfs_tree.specs.Effect.{Adds, Edits, Edit}
-use Rattle.sfs_tree.specs.History.{tree_after}
-use Rattle.sfs_tree.specs.Tree.{TreeState, bytes_of}
-use Rattle.sfs_tree.specs.Verdict.{Verdict, verdict}
+use Rattle.tree_laws.specs.declared.history.Entry.{Entry}
+use Rattle.tree_laws.specs.Changes.{bytes_at}
+use Rattle.tree_laws.specs.Effect.{Adds, Edits, Edit}
+use Rattle.tree_laws.specs.History.{tree_after}
+use Rattle.tree_laws.specs.Tree.{TreeState, bytes_of}
+use Rattle.tree_laws.specs.Verdict.{Verdict, verdict}
 use Rattle.image_tree.specs.Image.{tree_of}
 use Rattle.image_tree.specs.Stands.{BLOCK_BYTES}
 use Rattle.disk_change.specs.declared.files.FileChange.{FileChange}

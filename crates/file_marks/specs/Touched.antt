@@ -2,11 +2,11 @@
 use Rattle.std.specs.Prelude.{◌≡◌, ℕ, ◌<◌, ◌≤◌, true, List, length}
 use Rattle.mem_files.specs.File.{write_touches, trunc_touches, is_touched}
 use Rattle.mem_files.specs.declared.touched.Touched.{Touched}
-use Rattle.sfs_tree.specs.declared.history.Entry.{Entry}
-use Rattle.sfs_tree.specs.Changes.{FileChange, edits_of, bytes_at}
-use Rattle.sfs_tree.specs.Effect.{Edit, Puts, Resizes}
-use Rattle.sfs_tree.specs.Tree.{TreeState}
-use Rattle.flush_core.specs.Rules.{IsOneOf}
+use Rattle.tree_laws.specs.declared.history.Entry.{Entry}
+use Rattle.tree_laws.specs.Changes.{FileChange, edits_of, bytes_at}
+use Rattle.tree_laws.specs.Effect.{Edit, Puts, Resizes}
+use Rattle.tree_laws.specs.Tree.{TreeState}
+use Rattle.cut_laws.specs.Rules.{IsOneOf}
 
 -- the blocks that an edit touches in a file of so many bytes
 abbrev pub touched_by : Edit → ℕ → Touched

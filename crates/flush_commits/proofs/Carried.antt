@@ -6,7 +6,7 @@ use Rattle.sfs_dev.specs.Disk.{View, images}
 use Rattle.sfs_dev.specs.Run.{CountsOn, Advances}
 use Rattle.sfs_image.specs.ImageOf.{InodePart}
 use Rattle.sfs_image.specs.Part.{Part}
-use Rattle.sfs_tree.specs.Tree.{TreeState}
+use Rattle.tree_laws.specs.Tree.{TreeState}
 use Rattle.journal_one.specs.Job.{Job}
 use Rattle.commit_one.specs.Carried.{Carries, IsMomentOf, durable_at, sealed_at, device_calls}
 use Rattle.commit_one.specs.Change.{IsBefore, IsByItsSlot, IsAfter}

@@ -18,12 +18,12 @@ use Rattle.sfs_image.specs.Super.{Layout, data_start}
 use Rattle.sfs_image.proofs.RuleLaws.{points_to_data}
 use Rattle.sfs_base.specs.declared.numbers.Kind.{Kind}
 use Rattle.sfs_base.specs.declared.numbers.Kind.TheVariants.{File, Directory}
-use Rattle.sfs_tree.specs.declared.history.Entry.{Entry}
-use Rattle.sfs_tree.specs.History.{tree_after}
-use Rattle.sfs_tree.specs.Sound.{IsSound}
-use Rattle.sfs_tree.specs.Tree.{TreeState, row_of, bytes_of, kind_of, is_directory, is_directory_kind}
-use Rattle.sfs_tree.proofs.Readings.{directory_by_kind}
-use Rattle.sfs_tree.proofs.RowFacts.{alive_named}
+use Rattle.tree_laws.specs.declared.history.Entry.{Entry}
+use Rattle.tree_laws.specs.History.{tree_after}
+use Rattle.tree_laws.specs.Sound.{IsSound}
+use Rattle.tree_laws.specs.Tree.{TreeState, row_of, bytes_of, kind_of, is_directory, is_directory_kind}
+use Rattle.tree_laws.proofs.Readings.{directory_by_kind}
+use Rattle.tree_laws.proofs.RowFacts.{alive_named}
 use Rattle.image_tree.specs.Commit.{MayFollow}
 use Rattle.image_tree.specs.Image.{inodes_shown}
 use Rattle.image_tree.specs.ImageTree.{Making}
@@ -47,10 +47,10 @@ use Rattle.commit_laws.proofs.BytesKept.{good_parts_fit, good_parts_have_none_be
 use Rattle.commit_laws.proofs.CommitOfPlan.{plans_leave_trees}
 use Rattle.commit_laws.proofs.GoodParts.{good_part}
 use Rattle.commit_laws.proofs.KeptShown.{kept_parts_show}
-use Rattle.flush_core.specs.Closure.{every_entry, Flush, IsConcerned, IsRaised, AreInodesAfter, one_more}
-use Rattle.flush_core.specs.Cut.{Cut, tree_at_cut}
-use Rattle.flush_core.proofs.BlankFiles.{files_enter_blank}
-use Rattle.flush_core.proofs.CutNodes.{cuts_keep_kinds}
+use Rattle.cut_laws.specs.Closure.{every_entry, Flush, IsConcerned, IsRaised, AreInodesAfter, one_more}
+use Rattle.cut_laws.specs.Cut.{Cut, tree_at_cut}
+use Rattle.cut_laws.proofs.BlankFiles.{files_enter_blank}
+use Rattle.cut_laws.proofs.CutNodes.{cuts_keep_kinds}
 use Rattle.cut_trees.specs.Next.{NumbersInodes, IsStorableAtCut, IsOneMore}
 use Rattle.cut_trees.proofs.Next.{cut_trees_are_storable, raised_trees_follow, others_are_aside}
 use Rattle.flush_commits.specs.Planned.{IsPlannedFsync}

@@ -8,13 +8,13 @@ use Rattle.std.proofs.lemmas.Bool.{cases_Bool, cases_lt, eqb-false, le-ltb}
 use Rattle.std.proofs.lemmas.Bool.Decides.{nat_tests}
 use Rattle.sfs_base.proofs.BasicNumbers.{not_same}
 use Rattle.sfs_base.proofs.BasicTruth.{true_not_false}
-use Rattle.sfs_tree.specs.Buckets.{stands_in}
-use Rattle.sfs_tree.specs.Order.{Key, key_cmp}
-use Rattle.sfs_tree.specs.Sound.{IsSound, IsWithinLimits}
-use Rattle.sfs_tree.specs.Tree.{TreeState, BUCKET_ROWS, names_it, holds_directory, count_of, links_of, is_directory, row_of}
-use Rattle.sfs_tree.proofs.Counting.{count-le-len, count_agree, count_none, found, Found}
-use Rattle.sfs_tree.proofs.Joined.{count-cons}
-use Rattle.sfs_tree.proofs.Names.{len-names_of}
+use Rattle.tree_laws.specs.Buckets.{stands_in}
+use Rattle.tree_laws.specs.Order.{Key, key_cmp}
+use Rattle.tree_laws.specs.Sound.{IsSound, IsWithinLimits}
+use Rattle.tree_laws.specs.Tree.{TreeState, BUCKET_ROWS, names_it, holds_directory, count_of, links_of, is_directory, row_of}
+use Rattle.tree_laws.proofs.Counting.{count-le-len, count_agree, count_none, found, Found}
+use Rattle.tree_laws.proofs.Joined.{count-cons}
+use Rattle.tree_laws.proofs.Names.{len-names_of}
 use Rattle.image_tree.specs.Renamed.{Numbering, HasNumber}
 use Rattle.image_tree.proofs.Sizes.{rows-le}
 

@@ -19,8 +19,8 @@ use Rattle.sfs_image.proofs.AcceptedLaws.{raw_of}
 use Rattle.sfs_image.proofs.Basics.{found_passes}
 use Rattle.sfs_image.proofs.GivenLaws.{given_newer, given_aside}
 use Rattle.sfs_image.proofs.PartLaws.{none_past_places}
-use Rattle.sfs_tree.specs.declared.history.Entry.{Entry}
-use Rattle.sfs_tree.specs.Tree.{TreeState}
+use Rattle.tree_laws.specs.declared.history.Entry.{Entry}
+use Rattle.tree_laws.specs.Tree.{TreeState}
 use Rattle.fmt_journal.specs.declared.tx.TxRecord.{TxRecord}
 use Rattle.journal_one.specs.Job.{Job, no_block}
 use Rattle.journal_one.specs.Packed.{record_entry}
@@ -30,14 +30,14 @@ use Rattle.image_tree.specs.Image.{inodes_shown, HaveGoodBytes, IsReadAsTree}
 use Rattle.image_tree.specs.Renamed.{Numbering}
 use Rattle.image_tree.specs.Stands.{StandsForTree, IsStorable}
 use Rattle.image_tree.proofs.WholeImages.{rule_alike, standing_parts_are_read}
-use Rattle.sfs_tree.specs.Sound.{IsSound}
+use Rattle.tree_laws.specs.Sound.{IsSound}
 use Rattle.space_map.specs.Space.{GrantedNumbers}
 use Rattle.disk_change.specs.declared.old.OldEntry.{OldEntry}
 use Rattle.commit_laws.specs.CommitOfPlan.{CommitPlan, change_planned, numbers_planned}
 use Rattle.commit_laws.specs.FilesMade.{ShowTheSame}
 use Rattle.commit_laws.proofs.PartsStand.{alike_images_stand}
-use Rattle.flush_core.specs.Closure.{Flush}
-use Rattle.flush_core.specs.Cut.{Cut, tree_at_cut}
+use Rattle.cut_laws.specs.Closure.{Flush}
+use Rattle.cut_laws.specs.Cut.{Cut, tree_at_cut}
 use Rattle.std.specs.Prelude.{◌++◌, bytes_eq}
 use Rattle.std.proofs.lemmas.Bool.{cond-false}
 use Rattle.std.proofs.lemmas.List.Elements.{Contains-append_cases, Contains-get_or}
@@ -50,7 +50,7 @@ use Rattle.sfs_image.specs.ImageOf.{StandIn}
 use Rattle.sfs_image.specs.Part.{IsGathered}
 use Rattle.sfs_image.specs.Slot.{kind_byte}
 use Rattle.sfs_image.proofs.PartLaws.{gather_same}
-use Rattle.sfs_tree.specs.Tree.{kind_of}
+use Rattle.tree_laws.specs.Tree.{kind_of}
 use Rattle.image_tree.proofs.Standing.{not_used}
 use Rattle.journal_one.specs.Job.{HaveOwnBlocks}
 use Rattle.block_map.specs.Kept.{Kept}

@@ -14,8 +14,8 @@ use Rattle.sfs_image.specs.Super.{Layout}
 use Rattle.sfs_image.proofs.AcceptedLaws.{raw_of}
 use Rattle.sfs_image.proofs.Basics.{found_passes}
 use Rattle.sfs_image.proofs.InodeLaws.{length-inode_bytes}
-use Rattle.sfs_tree.specs.declared.history.Entry.{Entry}
-use Rattle.sfs_tree.specs.Tree.{TreeState}
+use Rattle.tree_laws.specs.declared.history.Entry.{Entry}
+use Rattle.tree_laws.specs.Tree.{TreeState}
 use Rattle.image_tree.specs.Image.{inodes_shown}
 use Rattle.image_tree.specs.Renamed.{Numbering}
 use Rattle.block_map.specs.Kept.{kept_of}
@@ -44,8 +44,8 @@ use Rattle.commit_laws.proofs.PlanShown.{IsBuiltNode, node_built, plans_keep_sho
 use Rattle.commit_laws.proofs.Ranked.{nodes_are_built_by_rank}
 use Rattle.commit_laws.proofs.SeatsOfPlan.{there_is_in, in_mapped, among_is_in, node_there, node_seated, nodes_once}
 use Rattle.commit_laws.proofs.Shown.{found_is_in}
-use Rattle.flush_core.specs.Closure.{Flush, one_more}
-use Rattle.flush_core.specs.Cut.{Cut, tree_at_cut}
+use Rattle.cut_laws.specs.Closure.{Flush, one_more}
+use Rattle.cut_laws.specs.Cut.{Cut, tree_at_cut}
 use Rattle.flush_commits.specs.Laws.{FsyncsAreCommits, IsStoreAfter, FsyncsLeaveReady, AreEntriesAfter, FsyncsKeepEntries}
 use Rattle.flush_commits.specs.Planned.{IsPlannedFsync}
 use Rattle.flush_commits.specs.Ready.{AreSoundParts, IsBetweenCommits, KeepsEntries}

@@ -7,7 +7,7 @@ use Rattle.sfs_base.proofs.BasicTruth.{true_not_false}
 use Rattle.sfs_base.proofs.BasicOptions.{none_some}
 use Rattle.sfs_base.proofs.BasicNumbers.{same_number}
 use Rattle.sfs_image.specs.Seen.{SeenInodes}
-use Rattle.sfs_tree.specs.Tree.{TreeState}
+use Rattle.tree_laws.specs.Tree.{TreeState}
 use Rattle.image_tree.specs.Numbers.{grant_for, numbers_after, InodeGrantServes, NumbersAreGiven}
 use Rattle.image_tree.specs.Renamed.{Numbering, HasNumber}
 use Rattle.image_tree.proofs.Numbers.{grants_give_numbers}

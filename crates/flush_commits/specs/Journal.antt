@@ -7,8 +7,8 @@ use Rattle.sfs_image.specs.ImageOf.{InodePart}
 use Rattle.sfs_image.specs.Inode.{inode_bytes}
 use Rattle.sfs_image.specs.Part.{Part, inode_in}
 use Rattle.sfs_image.specs.Settled.{slot_count}
-use Rattle.sfs_tree.specs.declared.history.Entry.{Entry}
-use Rattle.sfs_tree.specs.Tree.{TreeState}
+use Rattle.tree_laws.specs.declared.history.Entry.{Entry}
+use Rattle.tree_laws.specs.Tree.{TreeState}
 use Rattle.fmt_journal.specs.declared.tx.TxRecord.{TxRecord}
 use Rattle.journal_one.specs.Job.{Job}
 use Rattle.journal_one.specs.Packed.{record_entry}
@@ -23,8 +23,8 @@ use Rattle.commit_laws.specs.CommitOfPlan.{CommitPlan, change_planned}
 use Rattle.commit_laws.specs.PartsMade.{blocks_planned}
 use Rattle.commit_laws.specs.PartsStand.{part_next}
 use Rattle.crash_laws.specs.Wrote.{Wrote}
-use Rattle.flush_core.specs.Closure.{Flush}
-use Rattle.flush_core.specs.Cut.{Cut, tree_at_cut}
+use Rattle.cut_laws.specs.Closure.{Flush}
+use Rattle.cut_laws.specs.Cut.{Cut, tree_at_cut}
 use Rattle.flush_commits.specs.Planned.{IsPlannedFsync}
 
 -- A job writes what a plan's commit writes: its records and its fresh blocks.

@@ -3,8 +3,8 @@ use Rattle.std.specs.Prelude.{◌≡◌, ◌⊎◌, ◌↔◌, ℕ, ◌<◌, ◌
 use Rattle.sfs_image.specs.ImageOf.{StandIn}
 use Rattle.sfs_image.specs.Part.{Part, IsGathered}
 use Rattle.sfs_image.specs.Super.{Layout, data_start}
-use Rattle.sfs_tree.specs.declared.history.Entry.{Entry}
-use Rattle.sfs_tree.specs.Tree.{TreeState}
+use Rattle.tree_laws.specs.declared.history.Entry.{Entry}
+use Rattle.tree_laws.specs.Tree.{TreeState}
 use Rattle.image_tree.specs.Image.{inodes_shown}
 use Rattle.image_tree.specs.Renamed.{Numbering}
 use Rattle.space_map.specs.Space.{GrantedNumbers}
@@ -17,8 +17,8 @@ use Rattle.commit_laws.specs.BytesKept.{IsCleanPlan}
 use Rattle.commit_laws.specs.CommitOfPlan.{CommitPlan, change_planned, numbers_planned}
 use Rattle.commit_laws.specs.PartsMade.{blocks_planned, IsPlanOverParts}
 use Rattle.commit_laws.specs.PartsStand.{part_next}
-use Rattle.flush_core.specs.Closure.{Flush}
-use Rattle.flush_core.specs.Cut.{Cut, tree_at_cut}
+use Rattle.cut_laws.specs.Closure.{Flush}
+use Rattle.cut_laws.specs.Cut.{Cut, tree_at_cut}
 use Rattle.flush_commits.specs.Planned.{IsPlannedFsync}
 use Rattle.flush_commits.specs.Ready.{IsBetweenCommits, KeepsEntries}
 

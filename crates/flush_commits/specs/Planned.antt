@@ -7,8 +7,8 @@ use Rattle.sfs_image.specs.Seen.{FILE_BLOCKS}
 use Rattle.sfs_image.specs.Slot.{Row}
 use Rattle.sfs_image.specs.SlotBlock.{AreSlots}
 use Rattle.sfs_image.specs.Super.{Layout, data_start}
-use Rattle.sfs_tree.specs.declared.history.Entry.{Entry}
-use Rattle.sfs_tree.specs.Tree.{TreeState, names_of, bytes_of, kind_of, is_directory}
+use Rattle.tree_laws.specs.declared.history.Entry.{Entry}
+use Rattle.tree_laws.specs.Tree.{TreeState, names_of, bytes_of, kind_of, is_directory}
 use Rattle.absorb.specs.Net.{IsNet}
 use Rattle.image_tree.specs.Image.{inodes_shown}
 use Rattle.image_tree.specs.Renamed.{Numbering}
@@ -30,8 +30,8 @@ use Rattle.commit_laws.specs.CommitOfPlan.{CommitPlan, change_planned, numbers_p
 use Rattle.commit_laws.specs.NumbersGiven.{node_leaves}
 use Rattle.commit_laws.specs.PartsMade.{IsPlanOverParts}
 use Rattle.commit_laws.specs.Rewritten.{has_page, bytes_in_block, HasPages}
-use Rattle.flush_core.specs.Closure.{every_entry, Flush, IsConcerned, IsRaised, AreInodesAfter}
-use Rattle.flush_core.specs.Cut.{Cut, tree_at_cut}
+use Rattle.cut_laws.specs.Closure.{every_entry, Flush, IsConcerned, IsRaised, AreInodesAfter}
+use Rattle.cut_laws.specs.Cut.{Cut, tree_at_cut}
 use Rattle.cut_trees.specs.Next.{IsOneMore}
 use Rattle.flush_commits.specs.Ready.{IsBetweenCommits, KeepsEntries}
 

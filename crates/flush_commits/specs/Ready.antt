@@ -2,8 +2,8 @@
 use Rattle.std.specs.Prelude.{◌≡◌, ◌↔◌, ◌⊎◌, ℕ, ◌<◌, ◌≤◌, Bool, true, false, List, length, Some, Contains}
 use Rattle.sfs_image.specs.Part.{Part, IsGathered}
 use Rattle.sfs_image.specs.Super.{Layout, InRange, data_start}
-use Rattle.sfs_tree.specs.declared.history.Entry.{Entry}
-use Rattle.sfs_tree.specs.Tree.{TreeState}
+use Rattle.tree_laws.specs.declared.history.Entry.{Entry}
+use Rattle.tree_laws.specs.Tree.{TreeState}
 use Rattle.image_tree.specs.Image.{inodes_shown, HaveGoodBytes}
 use Rattle.image_tree.specs.Renamed.{Numbering}
 use Rattle.image_tree.specs.Stands.{StandsForTree}
@@ -11,8 +11,8 @@ use Rattle.block_map.specs.Kept.{kept_of}
 use Rattle.disk_change.specs.Lists.{AscendBy}
 use Rattle.disk_change.specs.Nodes.{entry_node}
 use Rattle.disk_change.specs.declared.old.OldEntry.{OldEntry}
-use Rattle.flush_core.specs.Closure.{every_entry, Flush, AreFlushed}
-use Rattle.flush_core.specs.Cut.{Cut, tree_at_cut}
+use Rattle.cut_laws.specs.Closure.{every_entry, Flush, AreFlushed}
+use Rattle.cut_laws.specs.Cut.{Cut, tree_at_cut}
 use Rattle.cut_trees.specs.Next.{IsMountedHistory, NumbersInodes}
 
 -- Parts of a layout stand in a store of blocks, of which those of the data area are whole, and break no rule on the bytes of one inode.

@@ -1,26 +1,26 @@
 -- A past to which a legal call was added is that of the longer history.
 use Rattle.std.proofs.Common.{◌≡◌, ℕ, ◌<◌, ◌≤◌, List, [], ◌∷◌, ◌++◌, length, take, map, inl, inr, refl, sym, ap, subst, ◌∙◌, arith}
 use Rattle.std.proofs.lemmas.List.{map-append}
-use Rattle.sfs_tree.specs.declared.history.Entry.{Entry}
-use Rattle.sfs_tree.specs.Tree.{TreeState}
-use Rattle.sfs_tree.specs.Effect.{Effect}
-use Rattle.sfs_tree.specs.Verdict.{verdict}
-use Rattle.sfs_tree.specs.Changes.{RowChange, changes_by, changes_of}
-use Rattle.sfs_tree.specs.History.{tree_after, tree_after_entry, IsLegal}
-use Rattle.sfs_tree.specs.Laws.{IsSoundTree}
-use Rattle.sfs_tree.proofs.Histories.{tree_after-push}
-use Rattle.sfs_tree.proofs.SoundTrees.{calls_fit}
-use Rattle.sfs_tree.proofs.FileHistories.{histories_keep_sound}
+use Rattle.tree_laws.specs.declared.history.Entry.{Entry}
+use Rattle.tree_laws.specs.Tree.{TreeState}
+use Rattle.tree_laws.specs.Effect.{Effect}
+use Rattle.tree_laws.specs.Verdict.{verdict}
+use Rattle.tree_laws.specs.Changes.{RowChange, changes_by, changes_of}
+use Rattle.tree_laws.specs.History.{tree_after, tree_after_entry, IsLegal}
+use Rattle.tree_laws.specs.Laws.{IsSoundTree}
+use Rattle.tree_laws.proofs.Histories.{tree_after-push}
+use Rattle.tree_laws.proofs.SoundTrees.{calls_fit}
+use Rattle.tree_laws.proofs.FileHistories.{histories_keep_sound}
 use Rattle.flush_core.specs.declared.past.OwnChange.{OwnChange}
 use Rattle.flush_core.specs.declared.past.Past.{Past}
-use Rattle.flush_core.specs.Rules.{IsOneOf, IsChange, births_by, births_of}
+use Rattle.cut_laws.specs.Rules.{IsOneOf, IsChange, births_by, births_of}
 use Rattle.flush_core.specs.Past.{row_change_of, KeepsAbove, IsPast}
 use Rattle.flush_core.specs.Grows.{Grows}
-use Rattle.flush_core.proofs.Basics.{in_either}
-use Rattle.flush_core.proofs.Pushed.{changes_of-push, births_of-push}
-use Rattle.flush_core.proofs.Own.{stamp_of}
-use Rattle.flush_core.proofs.Lives.{live_own}
-use Rattle.flush_core.proofs.Prefix.{take_take, change_below}
+use Rattle.cut_laws.proofs.Basics.{in_either}
+use Rattle.cut_laws.proofs.Pushed.{changes_of-push, births_of-push}
+use Rattle.cut_laws.proofs.Own.{stamp_of}
+use Rattle.cut_laws.proofs.Lives.{live_own}
+use Rattle.cut_laws.proofs.Prefix.{take_take, change_below}
 
 take_length : {X : Type 0} (xs ys : List X) → take (length xs) (xs ++ ys) ≡ xs
 take_length [] ys = refl

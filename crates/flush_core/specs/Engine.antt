@@ -5,9 +5,9 @@ use Rattle.flush_core.specs.declared.past.OwnChange.{OwnChange}
 use Rattle.flush_core.specs.declared.past.BornNode.{BornNode}
 use Rattle.flush_core.specs.declared.past.Past.{Past}
 use Rattle.flush_core.specs.declared.sets.NodeSet.{NodeSet}
-use Rattle.flush_core.specs.Cut.{Cut, cut_of}
+use Rattle.cut_laws.specs.Cut.{Cut, cut_of}
 use Rattle.flush_core.specs.NodeSets.{has_node}
-use Rattle.flush_core.specs.Rules.{IsOneOf}
+use Rattle.cut_laws.specs.Rules.{IsOneOf}
 
 -- A change lies in the span of its directory: from its cut to below the fsync's stamp.
 pub record Spans (cut : Cut) (stamp : ℕ) (change : OwnChange) : Type 0 where

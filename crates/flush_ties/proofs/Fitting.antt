@@ -1,15 +1,15 @@
 -- A look that knows enough gathers the closure, and touches the concerned nodes.
 use Rattle.std.proofs.Common.{◌≡◌, ℕ, ◌<◌, ◌≤◌, Bool, List, take, refl, sym, ap, ◌∙◌, subst, arith}
-use Rattle.sfs_tree.specs.declared.history.Entry.{Entry}
-use Rattle.sfs_tree.specs.Tree.{TreeState}
-use Rattle.sfs_tree.specs.Sound.{Above}
-use Rattle.sfs_tree.specs.Changes.{RowChange}
-use Rattle.sfs_tree.specs.History.{tree_after}
-use Rattle.flush_core.specs.Cut.{Cut}
-use Rattle.flush_core.specs.Rules.{IsOneOf, IsMove}
-use Rattle.flush_core.specs.Closure.{Counts, every_entry, Flush, HasLiveNode, InSpan, HasNaming, Closure, IsConcerned}
-use Rattle.flush_core.specs.Closure as closure
-use Rattle.flush_core.proofs.Recount.{recounts}
+use Rattle.tree_laws.specs.declared.history.Entry.{Entry}
+use Rattle.tree_laws.specs.Tree.{TreeState}
+use Rattle.tree_laws.specs.Sound.{Above}
+use Rattle.tree_laws.specs.Changes.{RowChange}
+use Rattle.tree_laws.specs.History.{tree_after}
+use Rattle.cut_laws.specs.Cut.{Cut}
+use Rattle.cut_laws.specs.Rules.{IsOneOf, IsMove}
+use Rattle.cut_laws.specs.Closure.{Counts, every_entry, Flush, HasLiveNode, InSpan, HasNaming, Closure, IsConcerned}
+use Rattle.cut_laws.specs.Closure as closure
+use Rattle.cut_laws.proofs.Recount.{recounts}
 use Rattle.flush_ties.specs.Look.{Noted, Look, InSight, SeesNaming, Gathers, itself, other_side, ended, ancestor, birth_place, Touches, member, named}
 use Rattle.flush_ties.specs.Fit.{KnowsEnough}
 use Rattle.flush_ties.specs.Laws.{FitsHistory, LooksFit, LateEntriesMayBeMissing}

@@ -1,15 +1,15 @@
 -- What is made by a look that knows enough is what the fsync makes.
 use Rattle.std.proofs.Common.{◌≡◌, ℕ, ◌≤◌, Bool, max, List, sym, ap, ◌∙◌, subst, inl, inr, arith}
-use Rattle.sfs_tree.specs.declared.history.Entry.{Entry}
-use Rattle.sfs_tree.specs.Tree.{TreeState, is_directory}
-use Rattle.sfs_tree.specs.Changes.{RowChange}
-use Rattle.sfs_tree.specs.History.{tree_after}
+use Rattle.tree_laws.specs.declared.history.Entry.{Entry}
+use Rattle.tree_laws.specs.Tree.{TreeState, is_directory}
+use Rattle.tree_laws.specs.Changes.{RowChange}
+use Rattle.tree_laws.specs.History.{tree_after}
 use Rattle.sfs_base.proofs.BasicNumbers.{not_less}
 use Rattle.sfs_base.proofs.BasicTruth.{not_both, true_or_false}
-use Rattle.flush_core.specs.Cut.{Cut, cut_of}
-use Rattle.flush_core.specs.Closure.{Counts, HasNaming, IsRaised, IsReached, IsDead}
-use Rattle.flush_core.proofs.Basics.{below_or}
-use Rattle.flush_core.proofs.Raises.{cuts_rise}
+use Rattle.cut_laws.specs.Cut.{Cut, cut_of}
+use Rattle.cut_laws.specs.Closure.{Counts, HasNaming, IsRaised, IsReached, IsDead}
+use Rattle.cut_laws.proofs.Basics.{below_or}
+use Rattle.cut_laws.proofs.Raises.{cuts_rise}
 use Rattle.flush_ties.specs.Look.{Look, SeesNaming, Touches, member}
 use Rattle.flush_ties.specs.Made.{Lifts, Found, SeesReached, SeesDead}
 use Rattle.flush_ties.specs.Fit.{KnowsEnough, FindsRight}

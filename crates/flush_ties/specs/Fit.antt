@@ -1,13 +1,13 @@
 -- When what was gathered is enough of a history.
 use Rattle.std.specs.Prelude.{◌≡◌, ◌↔◌, ℕ, ◌≤◌, Bool, true, List, take}
-use Rattle.sfs_tree.specs.declared.history.Entry.{Entry}
-use Rattle.sfs_tree.specs.Tree.{TreeState, is_directory}
-use Rattle.sfs_tree.specs.Sound.{Above}
-use Rattle.sfs_tree.specs.Changes.{RowChange}
-use Rattle.sfs_tree.specs.History.{tree_after}
-use Rattle.flush_core.specs.Cut.{Cut, cut_of, counted_rows_at_cut}
-use Rattle.flush_core.specs.Rules.{IsOneOf, IsChange, IsMove, births_of}
-use Rattle.flush_core.specs.Closure.{Counts, InSpan, IsNamedIn}
+use Rattle.tree_laws.specs.declared.history.Entry.{Entry}
+use Rattle.tree_laws.specs.Tree.{TreeState, is_directory}
+use Rattle.tree_laws.specs.Sound.{Above}
+use Rattle.tree_laws.specs.Changes.{RowChange}
+use Rattle.tree_laws.specs.History.{tree_after}
+use Rattle.cut_laws.specs.Cut.{Cut, cut_of, counted_rows_at_cut}
+use Rattle.cut_laws.specs.Rules.{IsOneOf, IsChange, IsMove, births_of}
+use Rattle.cut_laws.specs.Closure.{Counts, InSpan, IsNamedIn}
 use Rattle.flush_ties.specs.Look.{Noted, Look, Gathers, Touches}
 use Rattle.flush_ties.specs.Made.{Found}
 

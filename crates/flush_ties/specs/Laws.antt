@@ -1,12 +1,12 @@
 -- The laws of looks, each of which a function of the module laws proves.
 use Rattle.std.specs.Prelude.{◌≡◌, ◌↔◌, ℕ, ◌<◌, ◌≤◌, Bool, true, false, List}
-use Rattle.sfs_tree.specs.declared.history.Entry.{Entry}
-use Rattle.sfs_tree.specs.Tree.{TreeState}
-use Rattle.sfs_tree.specs.History.{IsLegal}
-use Rattle.sfs_tree.specs.Laws.{IsSoundTree}
-use Rattle.flush_core.specs.Cut.{Cut, cut_of}
-use Rattle.flush_core.specs.Closure.{Counts, every_entry, HasLiveNode, Closure, IsConcerned, IsRaised, IsReached, IsDead}
-use Rattle.flush_core.specs.Laws.{KeepsAll}
+use Rattle.tree_laws.specs.declared.history.Entry.{Entry}
+use Rattle.tree_laws.specs.Tree.{TreeState}
+use Rattle.tree_laws.specs.History.{IsLegal}
+use Rattle.tree_laws.specs.Laws.{IsSoundTree}
+use Rattle.cut_laws.specs.Cut.{Cut, cut_of}
+use Rattle.cut_laws.specs.Closure.{Counts, every_entry, HasLiveNode, Closure, IsConcerned, IsRaised, IsReached, IsDead}
+use Rattle.cut_laws.specs.Laws.{KeepsAll}
 use Rattle.flush_ties.specs.Look.{Look, Gathers, Touches}
 use Rattle.flush_ties.specs.Made.{Lifts, Found, AreMoved}
 use Rattle.flush_ties.specs.Fit.{KnowsEnough, FindsRight}

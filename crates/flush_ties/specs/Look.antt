@@ -1,8 +1,8 @@
 -- What an fsync has gathered, and which nodes it makes members and touches.
 use Rattle.std.specs.Prelude.{◌≡◌, ℕ, ◌<◌, ◌≤◌, Bool, true, false, List, Some}
-use Rattle.sfs_tree.specs.Changes.{RowChange}
-use Rattle.flush_core.specs.Rules.{IsOneOf}
-use Rattle.flush_core.specs.Closure.{Flush}
+use Rattle.tree_laws.specs.Changes.{RowChange}
+use Rattle.cut_laws.specs.Rules.{IsOneOf}
+use Rattle.cut_laws.specs.Closure.{Flush}
 
 -- A change that was gathered, and the directories above its own that were recorded with it.
 pub record Noted : Type 0 where

@@ -15,7 +15,7 @@ use Rattle.sfs_base.specs.declared.numbers.Kind.TheVariants.{Directory}
 use Rattle.sfs_base.specs.declared.numbers.NodeId.{NodeId}
 use Rattle.sfs_base.specs.declared.numbers.Stamp.{Stamp}
 use Rattle.sfs_base.specs.Listed.{is_listed}
-use Rattle.sfs_tree.specs.NameRow.{node_number}
+use Rattle.tree_laws.specs.NameRow.{node_number}
 use Rattle.mem_files.specs.File.{File}
 use Rattle.flush_ties.specs.Look.{Look, Gathers, Touches}
 use Rattle.flush_ties.specs.Made.{Found, Lifts, SeesReached, SeesDead, AreMoved}

@@ -3,10 +3,10 @@ use Rattle.std.proofs.Common.{◌≡◌, ℕ, true, List, map, inl, inr, refl, s
 use Rattle.sfs_base.specs.declared.numbers.NodeId.{NodeId}
 use Rattle.sfs_base.specs.declared.numbers.Stamp.{Stamp}
 use Rattle.sfs_base.specs.Listed.{is_listed}
-use Rattle.sfs_tree.specs.NameRow.{node_number}
-use Rattle.flush_core.specs.Elements.{OfSome}
-use Rattle.flush_core.specs.Rules.{IsOneOf}
-use Rattle.flush_core.proofs.Listed.{from_map, to_map}
+use Rattle.tree_laws.specs.NameRow.{node_number}
+use Rattle.cut_laws.specs.Elements.{OfSome}
+use Rattle.cut_laws.specs.Rules.{IsOneOf}
+use Rattle.cut_laws.proofs.Listed.{from_map, to_map}
 use Rattle.flush_ties.specs.Look.{Look, Gathers, Touches}
 use Rattle.dep_closure.specs.declared.gathered.Gathered.{Gathered}
 use Rattle.dep_closure.specs.Gathered.{look_of, IsOrderly}

@@ -4,8 +4,8 @@ use Rattle.std.specs.List.Sorted.{IsStrictlyIncreasing}
 use Rattle.sfs_base.specs.declared.numbers.NodeId.{NodeId}
 use Rattle.sfs_base.specs.declared.numbers.Stamp.{Stamp}
 use Rattle.sfs_base.specs.Listed.{is_listed}
-use Rattle.sfs_tree.specs.NameRow.{node_number}
-use Rattle.flush_core.specs.Elements.{OfSome}
+use Rattle.tree_laws.specs.NameRow.{node_number}
+use Rattle.cut_laws.specs.Elements.{OfSome}
 use Rattle.flush_ties.specs.Look.{Gathers, Touches}
 use Rattle.dep_closure.specs.declared.gathered.Gathered.{Gathered}
 use Rattle.dep_closure.specs.Gathered.{look_of, span_in}

@@ -1,10 +1,10 @@
 -- The law of nets by the changes alone, which a function of the module laws proves.
 use Rattle.std.specs.Prelude.{◌≡◌, ℕ, List, [], ◌∷◌, Some, None}
 use Rattle.std.specs.FinMap.{FinMap, get}
-use Rattle.sfs_tree.specs.Order.{name_cmp}
-use Rattle.sfs_tree.specs.declared.changes.Act.{Act}
-use Rattle.sfs_tree.specs.declared.changes.Act.TheVariants.{Add, Remove}
-use Rattle.sfs_tree.specs.declared.changes.Change.{Change}
+use Rattle.tree_laws.specs.Order.{name_cmp}
+use Rattle.tree_laws.specs.declared.changes.Act.{Act}
+use Rattle.tree_laws.specs.declared.changes.Act.TheVariants.{Add, Remove}
+use Rattle.tree_laws.specs.declared.changes.Change.{Change}
 use Rattle.absorb.specs.declared.nets.NetRow.{NetRow}
 use Rattle.absorb.specs.Net.{IsNet, with_act, rows_with_changes}
 use Rattle.fsync_dir.specs.Net.{IsNetBy}

@@ -9,8 +9,8 @@ use Rattle.sfs_base.specs.declared.numbers.Kind.TheVariants.{File, Directory}
 use Rattle.sfs_base.specs.declared.numbers.NodeId.{NodeId}
 use Rattle.sfs_base.specs.declared.numbers.Stamp.{Stamp}
 use Rattle.sfs_base.specs.Listed.{is_listed}
-use Rattle.sfs_tree.specs.NameRow.{node_number}
-use Rattle.sfs_tree.specs.declared.changes.Change.{Change}
+use Rattle.tree_laws.specs.NameRow.{node_number}
+use Rattle.tree_laws.specs.declared.changes.Change.{Change}
 use Rattle.flush_ties.specs.Look.{SeesNaming}
 use Rattle.flush_ties.specs.Made.{Found}
 use Rattle.mem_files.specs.File as mem

@@ -1,8 +1,8 @@
 // What an fsync concerns: the members, what their changes name, and the nets of these changes.
 ghost use Rattle.std.specs.Prelude.{◌≡◌, ◌↔◌, ℕ, true, map, IfOk, OnOk};
 ghost use Rattle.std.specs.List.Sorted.{IsStrictlyIncreasing};
-ghost use Rattle.sfs_tree.specs.NameRow.{node_number};
-ghost use Rattle.flush_core.specs.Elements.{OfSome};
+ghost use Rattle.tree_laws.specs.NameRow.{node_number};
+ghost use Rattle.cut_laws.specs.Elements.{OfSome};
 ghost use Rattle.dep_closure.specs.Brought.{AddsTo};
 ghost use Rattle.dep_closure.specs.Gathered.{IsOrderly};
 ghost use Rattle.disk_change.specs.Lists.{AscendBy};

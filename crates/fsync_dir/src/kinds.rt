@@ -8,7 +8,7 @@ ghost use Rattle.fsync_dir.specs.Kinds.{kind_told, spans_in};
 
 use dep_closure::Gathered;
 use sfs_base::{Kind, NoMemory, NodeList, Stamp};
-use sfs_tree::Change;
+use tree_laws::Change;
 use std::alloc::Global;
 use std::collections::BTreeMap;
 

@@ -4,7 +4,7 @@ ghost use Rattle.std.specs.List.Sorted.{IsStrictlyIncreasing};
 ghost use Rattle.std.specs.Ordering.{nat_cmp};
 ghost use Rattle.std.specs.BTreeSet.{contains};
 ghost use Rattle.sfs_base.specs.Listed.{is_listed};
-ghost use Rattle.sfs_tree.specs.NameRow.{node_number};
+ghost use Rattle.tree_laws.specs.NameRow.{node_number};
 ghost use Rattle.dep_closure.specs.Gathered.{IsOrderly};
 ghost use Rattle.fsync_dir.specs.Moved.{AreFacts, gets_inode, loses_inode, enter_by, kind_of_own_node};
 ghost use Rattle.fsync_dir.specs.Names.{is_named_after};

@@ -2,7 +2,7 @@
 ghost use Rattle.std.specs.Prelude.{◌≡◌, ◌+◌, ℕ, ◌++◌, nat_lt, filter_map, option_to_list, count_by, IfOk, OnOk};
 ghost use Rattle.std.specs.Ordering.{nat_cmp};
 ghost use Rattle.std.specs.List.Sorted.{IsSorted};
-ghost use Rattle.sfs_tree.specs.NameRow.{number_of};
+ghost use Rattle.tree_laws.specs.NameRow.{number_of};
 ghost use Rattle.disk_change.specs.Links.{times_in};
 ghost use Rattle.fsync_dir.specs.Names.{named_coming, named_going, names_on_disk};
 

@@ -8,7 +8,7 @@ ghost use Rattle.fsync_dir.specs.Net.{HasGoodNames, IsNetBy, child_before};
 
 use absorb::{Net, NetRow};
 use sfs_base::{NoMemory, NodeId, RoomyList};
-use sfs_tree::{Act, Change};
+use tree_laws::{Act, Change};
 use std::alloc::Global;
 use std::collections::BTreeMap;
 

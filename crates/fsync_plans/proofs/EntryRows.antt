@@ -5,21 +5,21 @@ use Rattle.std.specs.FinMap.{FinMap, get, insert, remove, get-insert, get-remove
 use Rattle.std.specs.Ordering.{eq_by_cmp}
 use borrow.Author.Tests.{eqb-true}
 use Rattle.sfs_base.specs.declared.numbers.Kind.{Kind}
-use Rattle.sfs_tree.specs.Order.{name_cmp, Key, key_cmp}
-use Rattle.sfs_tree.specs.Tree.{TreeState, names_of, row_of, kind_of}
-use Rattle.sfs_tree.specs.Effect.{Effect, Stays, Adds, Removes, Moves, Edits, rows_after}
-use Rattle.sfs_tree.specs.Fits.{Fits}
-use Rattle.sfs_tree.specs.Changes.{other_side}
-use Rattle.sfs_tree.specs.Parts.{kind_after}
-use Rattle.sfs_tree.specs.Logged.{log_entry, logged_replaced, recorded_above, logged_by, is_logged_in}
-use Rattle.sfs_tree.specs.declared.changes.Act.{Act}
-use Rattle.sfs_tree.specs.declared.changes.Act.TheVariants.{Add, Remove}
-use Rattle.sfs_tree.specs.declared.changes.Change.{Change}
-use Rattle.sfs_tree.proofs.Counting.{none_removed, same_rows}
-use Rattle.sfs_tree.proofs.Histories.{names_of-insert, names_of-remove}
-use Rattle.sfs_tree.proofs.Joined.{key_cmp_total}
-use Rattle.sfs_tree.proofs.Names.{get-names_where}
-use Rattle.sfs_tree.proofs.RowFacts.{removed_other}
+use Rattle.tree_laws.specs.Order.{name_cmp, Key, key_cmp}
+use Rattle.tree_laws.specs.Tree.{TreeState, names_of, row_of, kind_of}
+use Rattle.tree_laws.specs.Effect.{Effect, Stays, Adds, Removes, Moves, Edits, rows_after}
+use Rattle.tree_laws.specs.Fits.{Fits}
+use Rattle.tree_laws.specs.Changes.{other_side}
+use Rattle.tree_laws.specs.Parts.{kind_after}
+use Rattle.tree_laws.specs.Logged.{log_entry, logged_replaced, recorded_above, logged_by, is_logged_in}
+use Rattle.tree_laws.specs.declared.changes.Act.{Act}
+use Rattle.tree_laws.specs.declared.changes.Act.TheVariants.{Add, Remove}
+use Rattle.tree_laws.specs.declared.changes.Change.{Change}
+use Rattle.tree_laws.proofs.Counting.{none_removed, same_rows}
+use Rattle.tree_laws.proofs.Histories.{names_of-insert, names_of-remove}
+use Rattle.tree_laws.proofs.Joined.{key_cmp_total}
+use Rattle.tree_laws.proofs.Names.{get-names_where}
+use Rattle.tree_laws.proofs.RowFacts.{removed_other}
 use Rattle.absorb.specs.Net.{with_act, rows_with_changes}
 use Rattle.fsync_dir.specs.Laws.{FitsRows, FitRows}
 

@@ -7,12 +7,12 @@ use borrow.Author.Tests.{eqb-true}
 use Rattle.sfs_base.proofs.BasicNumbers.{same_number, not_less}
 use Rattle.sfs_base.proofs.BasicOptions.{some_not_none, some_is_no_none, none_there}
 use Rattle.sfs_base.proofs.BasicTruth.{not_both}
-use Rattle.sfs_tree.specs.declared.history.Entry.{Entry}
-use Rattle.sfs_tree.specs.Changes.{bytes_at}
-use Rattle.sfs_tree.specs.History.{tree_after, IsLegal}
-use Rattle.sfs_tree.specs.Laws.{IsSoundTree}
-use Rattle.sfs_tree.specs.Tree.{TreeState, Node, bytes_of}
-use Rattle.sfs_tree.proofs.FileHistories.{bytes_at-tree_after}
+use Rattle.tree_laws.specs.declared.history.Entry.{Entry}
+use Rattle.tree_laws.specs.Changes.{bytes_at}
+use Rattle.tree_laws.specs.History.{tree_after, IsLegal}
+use Rattle.tree_laws.specs.Laws.{IsSoundTree}
+use Rattle.tree_laws.specs.Tree.{TreeState, Node, bytes_of}
+use Rattle.tree_laws.proofs.FileHistories.{bytes_at-tree_after}
 use Rattle.image_tree.specs.Stands.{BLOCK_BYTES}
 use Rattle.commit_laws.specs.CommitOfPlan.{CommitPlan}
 use Rattle.commit_laws.specs.Rewritten.{has_page, bytes_in_block}
@@ -20,9 +20,9 @@ use Rattle.disk_change.specs.Lists.{AscendBy, item_with}
 use Rattle.disk_change.specs.Nodes.{file_node}
 use Rattle.disk_change.specs.Pages.{page_block}
 use Rattle.disk_change.specs.declared.files.FileChange.{FileChange}
-use Rattle.flush_core.specs.Cut.{Cut, cut_of, tree_at_cut}
-use Rattle.flush_core.proofs.Along.{tree_at-after, nodes_at}
-use Rattle.flush_core.proofs.CutNodes.{cuts_keep_kinds, files_are_cut}
+use Rattle.cut_laws.specs.Cut.{Cut, cut_of, tree_at_cut}
+use Rattle.cut_laws.proofs.Along.{tree_at-after, nodes_at}
+use Rattle.cut_laws.proofs.CutNodes.{cuts_keep_kinds, files_are_cut}
 use Rattle.flush_commits.specs.Planned.{HasFiles}
 use Rattle.file_marks.specs.Changed.{HasShortFiles, ChangesFile}
 

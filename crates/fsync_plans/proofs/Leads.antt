@@ -14,32 +14,32 @@ use Rattle.sfs_base.specs.Listed.{is_listed}
 use Rattle.sfs_image.specs.Part.{Part}
 use Rattle.sfs_image.specs.Seen.{FILE_BLOCKS}
 use Rattle.sfs_image.specs.Super.{Layout}
-use Rattle.sfs_tree.specs.declared.history.Entry.{Entry}
-use Rattle.sfs_tree.specs.Changes.{bytes_at}
-use Rattle.sfs_tree.specs.History.{tree_after, IsLegal}
-use Rattle.sfs_tree.specs.Laws.{IsSoundTree}
-use Rattle.sfs_tree.specs.NameRow.{node_number}
-use Rattle.sfs_tree.specs.Order.{name_cmp}
-use Rattle.sfs_tree.specs.Tree.{TreeState, row_of, names_of, bytes_of, kind_of, is_alive, is_directory, is_directory_kind}
-use Rattle.sfs_tree.proofs.FileHistories.{histories_keep_sound}
-use Rattle.sfs_tree.proofs.Histories.{rows_at-tree_after}
-use Rattle.sfs_tree.proofs.Names.{get-names_where}
-use Rattle.sfs_tree.proofs.Readings.{directory_by_kind}
-use Rattle.sfs_tree.proofs.RowFacts.{alive_named}
+use Rattle.tree_laws.specs.declared.history.Entry.{Entry}
+use Rattle.tree_laws.specs.Changes.{bytes_at}
+use Rattle.tree_laws.specs.History.{tree_after, IsLegal}
+use Rattle.tree_laws.specs.Laws.{IsSoundTree}
+use Rattle.tree_laws.specs.NameRow.{node_number}
+use Rattle.tree_laws.specs.Order.{name_cmp}
+use Rattle.tree_laws.specs.Tree.{TreeState, row_of, names_of, bytes_of, kind_of, is_alive, is_directory, is_directory_kind}
+use Rattle.tree_laws.proofs.FileHistories.{histories_keep_sound}
+use Rattle.tree_laws.proofs.Histories.{rows_at-tree_after}
+use Rattle.tree_laws.proofs.Names.{get-names_where}
+use Rattle.tree_laws.proofs.Readings.{directory_by_kind}
+use Rattle.tree_laws.proofs.RowFacts.{alive_named}
 use Rattle.image_tree.specs.Renamed.{Numbering}
 use Rattle.image_tree.specs.Stands.{BLOCK_BYTES}
 use Rattle.mem_files.specs.File.{File}
-use Rattle.flush_core.specs.Closure.{every_entry, Flush, HasLiveNode, Closure, IsNamedIn, IsRaised, IsDead, AreInodesAfter, one_more, AreFlushed}
-use Rattle.flush_core.specs.Cut.{Cut, cut_of, rows_at_cut, tree_at_cut}
-use Rattle.flush_core.proofs.Along.{tree_at, tree_at-after, effect_at, change_in}
-use Rattle.flush_core.proofs.CutNodes.{cuts_keep_kinds}
-use Rattle.flush_core.proofs.CutRows.{directories_are_cut}
-use Rattle.flush_core.proofs.MemberKinds.{members_are_directories}
-use Rattle.flush_core.proofs.Own.{stamp_of}
-use Rattle.flush_core.proofs.Recount.{named_or_open}
-use Rattle.flush_core.proofs.RunFacts.{raised_low}
-use Rattle.flush_core.proofs.KeptInodes.{files_settle}
-use Rattle.flush_core.proofs.Lists.{lists_keep}
+use Rattle.cut_laws.specs.Closure.{every_entry, Flush, HasLiveNode, Closure, IsNamedIn, IsRaised, IsDead, AreInodesAfter, one_more, AreFlushed}
+use Rattle.cut_laws.specs.Cut.{Cut, cut_of, rows_at_cut, tree_at_cut}
+use Rattle.cut_laws.proofs.Along.{tree_at, tree_at-after, effect_at, change_in}
+use Rattle.cut_laws.proofs.CutNodes.{cuts_keep_kinds}
+use Rattle.cut_laws.proofs.CutRows.{directories_are_cut}
+use Rattle.cut_laws.proofs.MemberKinds.{members_are_directories}
+use Rattle.cut_laws.proofs.Own.{stamp_of}
+use Rattle.cut_laws.proofs.Recount.{named_or_open}
+use Rattle.cut_laws.proofs.RunFacts.{raised_low}
+use Rattle.cut_laws.proofs.KeptInodes.{files_settle}
+use Rattle.cut_laws.proofs.Lists.{lists_keep}
 use Rattle.cut_trees.specs.Next.{NumbersInodes, IsStorableAtCut}
 use Rattle.cut_trees.proofs.Next.{cut_trees_are_storable, same_stamps_keep}
 use Rattle.flush_ties.specs.Fit.{FindsRight}

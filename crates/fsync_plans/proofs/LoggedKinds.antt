@@ -2,25 +2,25 @@
 use Rattle.std.proofs.Common.{◌≡◌, ℕ, suc, List, [], ◌∷◌, Option, Some, None, IsSome, inl, inr, refl, sym, ap, subst, ◌∙◌}
 use Rattle.std.specs.FinMap.{get}
 use Rattle.sfs_base.specs.declared.numbers.Kind.{Kind}
-use Rattle.sfs_tree.specs.declared.changes.Change.{Change}
-use Rattle.sfs_tree.specs.declared.history.Entry.{Entry}
-use Rattle.sfs_tree.specs.Effect.{Effect, Stays, Adds, Removes, Moves, Edits, tree_with}
-use Rattle.sfs_tree.specs.Fits.{Fits}
-use Rattle.sfs_tree.specs.History.{tree_after, tree_after_entry, IsLegalFrom}
-use Rattle.sfs_tree.specs.Laws.{IsSoundTree}
-use Rattle.sfs_tree.specs.Logged.{logged_by, logged_replaced}
-use Rattle.sfs_tree.specs.Sound.{IsSound}
-use Rattle.sfs_tree.specs.Tree.{TreeState, row_of, kind_of, is_directory, kind_if, kind_again}
-use Rattle.sfs_tree.specs.Verdict.{verdict}
-use Rattle.sfs_tree.proofs.Holders.{directory_stays}
-use Rattle.sfs_tree.proofs.Parts.{nodes_after}
-use Rattle.sfs_tree.proofs.Readings.{directory_by_kind}
-use Rattle.sfs_tree.proofs.SoundTrees.{calls_keep_sound, calls_fit}
-use Rattle.flush_core.specs.Rules.{IsOneOf}
-use Rattle.flush_core.proofs.Along.{first_nodes}
-use Rattle.flush_core.proofs.Basics.{in_either}
-use Rattle.flush_core.proofs.Lives.{made_node}
-use Rattle.flush_core.proofs.Nodes.{node_stays}
+use Rattle.tree_laws.specs.declared.changes.Change.{Change}
+use Rattle.tree_laws.specs.declared.history.Entry.{Entry}
+use Rattle.tree_laws.specs.Effect.{Effect, Stays, Adds, Removes, Moves, Edits, tree_with}
+use Rattle.tree_laws.specs.Fits.{Fits}
+use Rattle.tree_laws.specs.History.{tree_after, tree_after_entry, IsLegalFrom}
+use Rattle.tree_laws.specs.Laws.{IsSoundTree}
+use Rattle.tree_laws.specs.Logged.{logged_by, logged_replaced}
+use Rattle.tree_laws.specs.Sound.{IsSound}
+use Rattle.tree_laws.specs.Tree.{TreeState, row_of, kind_of, is_directory, kind_if, kind_again}
+use Rattle.tree_laws.specs.Verdict.{verdict}
+use Rattle.tree_laws.proofs.Holders.{directory_stays}
+use Rattle.tree_laws.proofs.Parts.{nodes_after}
+use Rattle.tree_laws.proofs.Readings.{directory_by_kind}
+use Rattle.tree_laws.proofs.SoundTrees.{calls_keep_sound, calls_fit}
+use Rattle.cut_laws.specs.Rules.{IsOneOf}
+use Rattle.cut_laws.proofs.Along.{first_nodes}
+use Rattle.cut_laws.proofs.Basics.{in_either}
+use Rattle.cut_laws.proofs.Lives.{made_node}
+use Rattle.cut_laws.proofs.Nodes.{node_stays}
 use Rattle.dep_closure.specs.History.{logged_of}
 use Rattle.fsync_plans.proofs.SpanRows.{own_log}
 

@@ -5,12 +5,12 @@ use Rattle.std.proofs.lemmas.Bool.{eqb-false}
 use Rattle.sfs_base.proofs.BasicNumbers.{not_same, zero_plus}
 use Rattle.sfs_base.proofs.BasicTruth.{and_first, and_second, not_true, not_both, true_or_false, or_true, true_not_false, false_not_true}
 use Rattle.sfs_base.specs.Listed.{is_listed}
-use Rattle.sfs_tree.specs.declared.history.Entry.{Entry}
-use Rattle.sfs_tree.specs.NameRow.{node_number}
-use Rattle.sfs_tree.specs.Tree.{TreeState, kind_of}
-use Rattle.sfs_tree.proofs.Joined.{count-cons}
-use Rattle.flush_core.specs.Closure.{every_entry, AreInodesAfter}
-use Rattle.flush_core.specs.Cut.{Cut}
+use Rattle.tree_laws.specs.declared.history.Entry.{Entry}
+use Rattle.tree_laws.specs.NameRow.{node_number}
+use Rattle.tree_laws.specs.Tree.{TreeState, kind_of}
+use Rattle.tree_laws.proofs.Joined.{count-cons}
+use Rattle.cut_laws.specs.Closure.{every_entry, AreInodesAfter}
+use Rattle.cut_laws.specs.Cut.{Cut}
 use Rattle.flush_ties.specs.Look.{Look, Touches}
 use Rattle.flush_ties.specs.Laws.{FitsHistory, MakesCommit}
 use Rattle.flush_ties.specs.Made.{Found, AreMoved}

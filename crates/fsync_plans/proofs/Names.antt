@@ -16,14 +16,14 @@ use Rattle.sfs_image.specs.Part.{Part, seen_of}
 use Rattle.sfs_image.specs.Slot.{kind_byte}
 use Rattle.sfs_image.specs.Super.{Layout}
 use Rattle.sfs_image.proofs.Basics.{found_passes}
-use Rattle.sfs_tree.specs.declared.history.Entry.{Entry}
-use Rattle.sfs_tree.specs.NameRow.{number_of}
-use Rattle.sfs_tree.specs.Tree.{TreeState, is_directory, is_directory_kind, kind_of, links_of, count_of, names_it, names_of, holds_directory}
-use Rattle.sfs_tree.proofs.Counting.{count_some}
-use Rattle.sfs_tree.proofs.Joined.{count-cons}
-use Rattle.sfs_tree.proofs.Readings.{directory_by_kind}
-use Rattle.sfs_tree.proofs.RowFacts.{named_or_none}
-use Rattle.sfs_tree.proofs.SoundTree.{sound_once}
+use Rattle.tree_laws.specs.declared.history.Entry.{Entry}
+use Rattle.tree_laws.specs.NameRow.{number_of}
+use Rattle.tree_laws.specs.Tree.{TreeState, is_directory, is_directory_kind, kind_of, links_of, count_of, names_it, names_of, holds_directory}
+use Rattle.tree_laws.proofs.Counting.{count_some}
+use Rattle.tree_laws.proofs.Joined.{count-cons}
+use Rattle.tree_laws.proofs.Readings.{directory_by_kind}
+use Rattle.tree_laws.proofs.RowFacts.{named_or_none}
+use Rattle.tree_laws.proofs.SoundTree.{sound_once}
 use Rattle.absorb.specs.declared.nets.NetRow.{NetRow}
 use Rattle.absorb.specs.Net.{IsNet}
 use Rattle.image_tree.specs.LinkChanges.{NetChange, net_changes, counted_row, AreAllNets}
@@ -34,10 +34,10 @@ use Rattle.commit_laws.specs.KeptShown.{KeepsSeen}
 use Rattle.commit_laws.proofs.KeptShown.{kept_parts_show}
 use Rattle.commit_laws.proofs.Shown.{found_is_in}
 use Rattle.commit_laws.proofs.KnownDirectories.{own_item}
-use Rattle.flush_core.specs.Closure.{Flush, IsNamedIn}
-use Rattle.flush_core.specs.Cut.{Cut, tree_at_cut}
-use Rattle.flush_core.specs.Laws.{KeepsAll}
-use Rattle.flush_core.proofs.Lists.{lists_keep}
+use Rattle.cut_laws.specs.Closure.{Flush, IsNamedIn}
+use Rattle.cut_laws.specs.Cut.{Cut, tree_at_cut}
+use Rattle.cut_laws.specs.Laws.{KeepsAll}
+use Rattle.cut_laws.proofs.Lists.{lists_keep}
 use Rattle.cut_trees.specs.Next.{IsStorableAtCut}
 use Rattle.cut_trees.proofs.Next.{cut_trees_are_storable}
 use Rattle.disk_change.specs.Directory.{is_among}

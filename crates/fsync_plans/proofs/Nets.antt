@@ -12,21 +12,21 @@ use Rattle.std.proofs.lemmas.Map.Keys.{sorted_from_strictly_increasing}
 use Rattle.sfs_base.specs.declared.numbers.NodeId.{NodeId}
 use Rattle.sfs_base.specs.declared.numbers.Stamp.{Stamp}
 use Rattle.sfs_base.specs.Listed.{is_listed}
-use Rattle.sfs_tree.specs.declared.history.Entry.{Entry}
-use Rattle.sfs_tree.specs.History.{IsLegal}
-use Rattle.sfs_tree.specs.Laws.{IsSoundTree}
-use Rattle.sfs_tree.specs.Logged.{is_logged_in}
-use Rattle.sfs_tree.specs.NameRow.{node_number, number_of}
-use Rattle.sfs_tree.specs.Sound.{IsSound}
-use Rattle.sfs_tree.specs.Tree.{TreeState, names_of, row_of, kind_of, is_directory, is_directory_kind}
-use Rattle.sfs_tree.proofs.Names.{get-names_where}
-use Rattle.sfs_tree.proofs.Readings.{directory_by_kind}
+use Rattle.tree_laws.specs.declared.history.Entry.{Entry}
+use Rattle.tree_laws.specs.History.{IsLegal}
+use Rattle.tree_laws.specs.Laws.{IsSoundTree}
+use Rattle.tree_laws.specs.Logged.{is_logged_in}
+use Rattle.tree_laws.specs.NameRow.{node_number, number_of}
+use Rattle.tree_laws.specs.Sound.{IsSound}
+use Rattle.tree_laws.specs.Tree.{TreeState, names_of, row_of, kind_of, is_directory, is_directory_kind}
+use Rattle.tree_laws.proofs.Names.{get-names_where}
+use Rattle.tree_laws.proofs.Readings.{directory_by_kind}
 use Rattle.absorb.specs.declared.nets.NetRow.{NetRow}
 use Rattle.absorb.specs.Net.{IsNetRow, IsNet}
 use Rattle.image_tree.proofs.Elsewhere.{no_net}
 use Rattle.commit_laws.proofs.KnownDirectories.{own_item}
-use Rattle.flush_core.specs.Cut.{Cut, cut_of, tree_at_cut}
-use Rattle.flush_core.proofs.Basics.{filter_same}
+use Rattle.cut_laws.specs.Cut.{Cut, cut_of, tree_at_cut}
+use Rattle.cut_laws.proofs.Basics.{filter_same}
 use Rattle.cut_trees.proofs.Next.{same_stamps_keep}
 use Rattle.dep_closure.specs.declared.gathered.Gathered.{Gathered}
 use Rattle.dep_closure.specs.Gathered.{span_in}

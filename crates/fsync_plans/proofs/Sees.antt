@@ -4,18 +4,18 @@ use Rattle.std.specs.Prelude.{◌↔◌}
 use Rattle.sfs_base.specs.declared.numbers.NodeId.{NodeId}
 use Rattle.sfs_base.specs.declared.numbers.Stamp.{Stamp}
 use Rattle.sfs_base.specs.Listed.{is_listed}
-use Rattle.sfs_tree.specs.declared.history.Entry.{Entry}
-use Rattle.sfs_tree.specs.History.{IsLegal}
-use Rattle.sfs_tree.specs.Laws.{IsSoundTree}
-use Rattle.sfs_tree.specs.NameRow.{node_number}
-use Rattle.sfs_tree.specs.Tree.{TreeState}
-use Rattle.flush_core.specs.Closure.{every_entry, IsNamedIn, IsRaised}
-use Rattle.flush_core.specs.Cut.{Cut, cut_of}
-use Rattle.flush_core.specs.Laws.{KeepsAll}
-use Rattle.flush_core.specs.Runs.{view_by}
-use Rattle.flush_core.proofs.Recount.{recounts, counted_rows-low}
-use Rattle.flush_core.proofs.RunFacts.{raised_low}
-use Rattle.flush_core.proofs.Views.{AreAlike}
+use Rattle.tree_laws.specs.declared.history.Entry.{Entry}
+use Rattle.tree_laws.specs.History.{IsLegal}
+use Rattle.tree_laws.specs.Laws.{IsSoundTree}
+use Rattle.tree_laws.specs.NameRow.{node_number}
+use Rattle.tree_laws.specs.Tree.{TreeState}
+use Rattle.cut_laws.specs.Closure.{every_entry, IsNamedIn, IsRaised}
+use Rattle.cut_laws.specs.Cut.{Cut, cut_of}
+use Rattle.cut_laws.specs.Laws.{KeepsAll}
+use Rattle.cut_laws.specs.Runs.{view_by}
+use Rattle.cut_laws.proofs.Recount.{recounts, counted_rows-low}
+use Rattle.cut_laws.proofs.RunFacts.{raised_low}
+use Rattle.cut_laws.proofs.Views.{AreAlike}
 use Rattle.flush_ties.specs.Fit.{KnowsEnough, FindsRight}
 use Rattle.flush_ties.specs.Laws.{FitsHistory, MakesCommit}
 use Rattle.flush_ties.specs.Look.{Look, Gathers, Touches}

@@ -7,20 +7,20 @@ use Rattle.std.proofs.lemmas.List.Elements.{filter-append}
 use Rattle.sfs_base.proofs.BasicLists.{take_none}
 use Rattle.sfs_base.proofs.BasicNumbers.{zero_plus}
 use Rattle.sfs_base.proofs.BasicTruth.{and_false}
-use Rattle.sfs_tree.specs.declared.changes.Change.{Change}
-use Rattle.sfs_tree.specs.declared.history.Entry.{Entry}
-use Rattle.sfs_tree.specs.History.{tree_after, tree_after_entry, IsLegalFrom, IsLegal}
-use Rattle.sfs_tree.specs.Laws.{IsSoundTree}
-use Rattle.sfs_tree.specs.Logged.{logged_by, is_logged_in}
-use Rattle.sfs_tree.specs.Tree.{TreeState, names_of}
-use Rattle.sfs_tree.specs.Verdict.{verdict}
-use Rattle.sfs_tree.proofs.Histories.{rows_at-tree_after}
-use Rattle.sfs_tree.proofs.SoundTrees.{calls_keep_sound, calls_fit}
-use Rattle.flush_core.specs.Cut.{Cut, cut_of, tree_at_cut}
-use Rattle.flush_core.specs.Rules.{IsOneOf}
-use Rattle.flush_core.proofs.Basics.{filter_all, filter_none}
-use Rattle.flush_core.proofs.CutRows.{directories_are_cut}
-use Rattle.flush_core.proofs.RunFacts.{in_filter}
+use Rattle.tree_laws.specs.declared.changes.Change.{Change}
+use Rattle.tree_laws.specs.declared.history.Entry.{Entry}
+use Rattle.tree_laws.specs.History.{tree_after, tree_after_entry, IsLegalFrom, IsLegal}
+use Rattle.tree_laws.specs.Laws.{IsSoundTree}
+use Rattle.tree_laws.specs.Logged.{logged_by, is_logged_in}
+use Rattle.tree_laws.specs.Tree.{TreeState, names_of}
+use Rattle.tree_laws.specs.Verdict.{verdict}
+use Rattle.tree_laws.proofs.Histories.{rows_at-tree_after}
+use Rattle.tree_laws.proofs.SoundTrees.{calls_keep_sound, calls_fit}
+use Rattle.cut_laws.specs.Cut.{Cut, cut_of, tree_at_cut}
+use Rattle.cut_laws.specs.Rules.{IsOneOf}
+use Rattle.cut_laws.proofs.Basics.{filter_all, filter_none}
+use Rattle.cut_laws.proofs.CutRows.{directories_are_cut}
+use Rattle.cut_laws.proofs.RunFacts.{in_filter}
 use Rattle.dep_closure.specs.History.{logged_of}
 use Rattle.dep_closure.specs.Spans.{is_in_span}
 use Rattle.dep_closure.proofs.True.{logged_stamp, logged_later}

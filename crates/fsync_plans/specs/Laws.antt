@@ -4,12 +4,12 @@ use Rattle.sfs_base.specs.declared.numbers.NodeId.{NodeId}
 use Rattle.sfs_base.specs.declared.numbers.Stamp.{Stamp}
 use Rattle.sfs_image.specs.Part.{Part}
 use Rattle.sfs_image.specs.Super.{Layout}
-use Rattle.sfs_tree.specs.declared.history.Entry.{Entry}
-use Rattle.sfs_tree.specs.Tree.{TreeState}
+use Rattle.tree_laws.specs.declared.history.Entry.{Entry}
+use Rattle.tree_laws.specs.Tree.{TreeState}
 use Rattle.image_tree.specs.Renamed.{Numbering}
 use Rattle.mem_files.specs.File.{File}
-use Rattle.flush_core.specs.Closure.{Flush, HasLiveNode}
-use Rattle.flush_core.specs.Cut.{Cut, cut_of}
+use Rattle.cut_laws.specs.Closure.{Flush, HasLiveNode}
+use Rattle.cut_laws.specs.Cut.{Cut, cut_of}
 use Rattle.dep_closure.specs.declared.gathered.Gathered.{Gathered}
 use Rattle.disk_change.specs.declared.old.OldEntry.{OldEntry}
 use Rattle.fsync_dir.specs.declared.concern.Concern.{Concern}

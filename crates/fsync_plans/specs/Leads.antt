@@ -1,12 +1,12 @@
 -- What the plan of an fsync comes to.
 use Rattle.std.specs.Prelude.{◌≡◌, ℕ, Bool, List, map}
-use Rattle.sfs_tree.specs.declared.history.Entry.{Entry}
-use Rattle.sfs_tree.specs.NameRow.{node_number}
-use Rattle.sfs_tree.specs.Tree.{TreeState}
+use Rattle.tree_laws.specs.declared.history.Entry.{Entry}
+use Rattle.tree_laws.specs.NameRow.{node_number}
+use Rattle.tree_laws.specs.Tree.{TreeState}
 use Rattle.disk_change.specs.declared.old.OldEntry.{OldEntry}
 use Rattle.commit_laws.specs.CommitOfPlan.{CommitPlan, change_planned}
-use Rattle.flush_core.specs.Closure.{every_entry, Flush, IsRaised, AreInodesAfter}
-use Rattle.flush_core.specs.Cut.{Cut}
+use Rattle.cut_laws.specs.Closure.{every_entry, Flush, IsRaised, AreInodesAfter}
+use Rattle.cut_laws.specs.Cut.{Cut}
 use Rattle.flush_commits.specs.Planned.{IsPlanAt}
 use Rattle.fsync_dir.specs.Concerned.{HaveGoodNames}
 use Rattle.fsync_dir.specs.declared.plans.FsyncPlan.{FsyncPlan}

@@ -4,15 +4,15 @@ use Rattle.sfs_base.specs.declared.numbers.NodeId.{NodeId}
 use Rattle.sfs_base.specs.declared.numbers.Stamp.{Stamp}
 use Rattle.sfs_image.specs.Part.{Part}
 use Rattle.sfs_image.specs.Super.{Layout}
-use Rattle.sfs_tree.specs.declared.history.Entry.{Entry}
-use Rattle.sfs_tree.specs.History.{tree_after}
-use Rattle.sfs_tree.specs.NameRow.{node_number}
-use Rattle.sfs_tree.specs.Tree.{TreeState, is_directory}
+use Rattle.tree_laws.specs.declared.history.Entry.{Entry}
+use Rattle.tree_laws.specs.History.{tree_after}
+use Rattle.tree_laws.specs.NameRow.{node_number}
+use Rattle.tree_laws.specs.Tree.{TreeState, is_directory}
 use Rattle.image_tree.specs.Renamed.{Numbering}
 use Rattle.mem_files.specs.File.{File}
-use Rattle.flush_core.specs.Closure.{Counts, every_entry, Flush, HasLiveNode}
-use Rattle.flush_core.specs.Cut.{Cut, cut_of}
-use Rattle.flush_core.specs.Rules.{IsOneOf}
+use Rattle.cut_laws.specs.Closure.{Counts, every_entry, Flush, HasLiveNode}
+use Rattle.cut_laws.specs.Cut.{Cut, cut_of}
+use Rattle.cut_laws.specs.Rules.{IsOneOf}
 use Rattle.flush_ties.specs.Fit.{KnowsEnough}
 use Rattle.dep_closure.specs.declared.gathered.DirectoryChanges.{DirectoryChanges}
 use Rattle.dep_closure.specs.declared.gathered.Gathered.{Gathered}

@@ -5,10 +5,10 @@ use Rattle.std.specs.Prelude.{is_none, ◌↔◌}
 use Rattle.std.specs.Option.{option_and_then, option_map_or}
 use Rattle.std.specs.FinMap.{FinMap, get, entries}
 use Rattle.sfs_base.specs.declared.numbers.NodeId.{NodeId}
-use Rattle.sfs_tree.specs.Order.{Key, key_cmp}
-use Rattle.sfs_tree.specs.NameRow.{number_of}
-use Rattle.sfs_tree.specs.Tree.{TreeState, row_of, is_directory, is_directory_kind, kind_of, count_of, links_of, names_it, names_of, holds_directory}
-use Rattle.sfs_tree.proofs.Names.{get-names_where}
+use Rattle.tree_laws.specs.Order.{Key, key_cmp}
+use Rattle.tree_laws.specs.NameRow.{number_of}
+use Rattle.tree_laws.specs.Tree.{TreeState, row_of, is_directory, is_directory_kind, kind_of, count_of, links_of, names_it, names_of, holds_directory}
+use Rattle.tree_laws.proofs.Names.{get-names_where}
 use Rattle.sfs_image.specs.Slot.{Row, kind_byte}
 use Rattle.sfs_image.specs.Seen.{Seen, SeenInodes, PLACES}
 use Rattle.absorb.specs.declared.nets.NetRow.{NetRow}
@@ -22,7 +22,7 @@ use Rattle.sfs_base.proofs.BasicTruth.{and_first}
 use Rattle.sfs_base.proofs.BasicOptions.{none_some, some_same}
 use Rattle.image_tree.proofs.Paired.{count_paired}
 use Rattle.image_tree.proofs.Renaming.{under_is}
-use Rattle.sfs_tree.proofs.Readings.{directory_by_kind}
+use Rattle.tree_laws.proofs.Readings.{directory_by_kind}
 use Rattle.image_tree.proofs.Standing.{holder_number, not_used, standing_images_show}
 use Rattle.image_tree.proofs.NetRows.{net_row_is, no_net_row, HasNamesOnce, once_ascending, one_if_some, is_made}
 use Rattle.image_tree.proofs.SlotsAfter.{none_counted, count_changed, looked_changed, count_filled, looked_filled_old, looked_filled_new, looked_in_blocks, count_in_blocks}

@@ -7,11 +7,11 @@ use Rattle.std.specs.Option.{option_map_or}
 use Rattle.std.specs.Cmp.Lexicographic.{nat_list_cmp_total}
 use Rattle.std.specs.FinMap.{FinMap, get, same_map}
 use Rattle.std.proofs.lemmas.List.Elements.{All-nil, All-head, All-tail}
-use Rattle.sfs_tree.specs.NameRow.{number_of}
-use Rattle.sfs_tree.specs.Order.{name_cmp}
-use Rattle.sfs_tree.specs.Tree.{TreeState, row_of, kind_of, links_of, names_of}
-use Rattle.sfs_tree.proofs.Joined.{name_cmp-IsAntisymmetric}
-use Rattle.sfs_tree.proofs.Names.{get-names_where}
+use Rattle.tree_laws.specs.NameRow.{number_of}
+use Rattle.tree_laws.specs.Order.{name_cmp}
+use Rattle.tree_laws.specs.Tree.{TreeState, row_of, kind_of, links_of, names_of}
+use Rattle.tree_laws.proofs.Joined.{name_cmp-IsAntisymmetric}
+use Rattle.tree_laws.proofs.Names.{get-names_where}
 use Rattle.sfs_image.specs.Slot.{Row, kind_byte}
 use Rattle.sfs_image.specs.Seen.{Seen, SeenInodes, PLACES}
 use Rattle.absorb.specs.declared.nets.NetRow.{NetRow}

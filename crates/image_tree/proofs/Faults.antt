@@ -5,10 +5,10 @@ use Rattle.std.specs.Prelude.{bytes_eq, filter_map, slice_get}
 use Rattle.std.specs.List.{range_with_len, list_any, find, cons_option, AllByRecursion}
 use Rattle.std.specs.Option.{option_map_or}
 use Rattle.std.specs.FinMap.{len, entries}
-use Rattle.sfs_tree.specs.Tree.{BUCKET_ROWS, TreeState, bucket_rows, walk_up, and_above, lies_below, holds_directory, links_of, count_of}
-use Rattle.sfs_tree.specs.Sound.{Above, at_root, below}
-use Rattle.sfs_tree.proofs.RowFacts.{holder_found}
-use Rattle.sfs_tree.proofs.Walks.{walk_is}
+use Rattle.tree_laws.specs.Tree.{BUCKET_ROWS, TreeState, bucket_rows, walk_up, and_above, lies_below, holds_directory, links_of, count_of}
+use Rattle.tree_laws.specs.Sound.{Above, at_root, below}
+use Rattle.tree_laws.proofs.RowFacts.{holder_found}
+use Rattle.tree_laws.proofs.Walks.{walk_is}
 use Rattle.sfs_image.specs.Slot.{Row, kind_byte}
 use Rattle.sfs_image.specs.Seen.{SeenInodes}
 use Rattle.image_tree.specs.Slots.{name_count}

@@ -10,9 +10,9 @@ use Rattle.std.specs.FinMap.{FinMap, find, get, get-from_entries}
 use Rattle.std.proofs.lemmas.Map.Text.{is_eq-slice_cmp}
 use Rattle.sfs_base.specs.declared.numbers.Kind.{Kind}
 use Rattle.sfs_base.specs.declared.numbers.Kind.TheVariants.{File, Directory}
-use Rattle.sfs_tree.specs.Order.{name_cmp, key_cmp}
-use Rattle.sfs_tree.specs.Tree.{Node, is_directory_kind, count_of, is_directory}
-use Rattle.sfs_tree.proofs.Joined.{key_cmp_total, same_key, find-append}
+use Rattle.tree_laws.specs.Order.{name_cmp, key_cmp}
+use Rattle.tree_laws.specs.Tree.{Node, is_directory_kind, count_of, is_directory}
+use Rattle.tree_laws.proofs.Joined.{key_cmp_total, same_key, find-append}
 use Rattle.sfs_image.specs.Slot.{Row, kind_byte, kind_of}
 use Rattle.sfs_image.specs.Seen.{SeenInodes}
 use Rattle.image_tree.specs.Slots.{looked_up}

@@ -10,13 +10,13 @@ use Rattle.std.specs.Cmp.{tied_itself, nat_cmp_total}
 use Rattle.std.specs.FinMap.{FinMap, get, entries, insert, remove}
 use Rattle.std.proofs.lemmas.List.Elements.{All-head, All-tail}
 use Rattle.std.proofs.lemmas.List.Sums.{sum_by-cons}
-use Rattle.sfs_tree.specs.NameRow.{number_of}
-use Rattle.sfs_tree.specs.Order.{Key, key_cmp}
-use Rattle.sfs_tree.specs.Tree.{TreeState, is_directory, is_directory_kind, count_of, links_of, names_it, names_of, holds_directory}
-use Rattle.sfs_tree.proofs.Counting.{same_rows, none_removed, count-remove, get_other-remove, get_other-insert, get_same-insert, count_agree}
-use Rattle.sfs_tree.proofs.Joined.{is_equal, count-insert}
-use Rattle.sfs_tree.proofs.Names.{get-names_where}
-use Rattle.sfs_tree.proofs.RowFacts.{is_here}
+use Rattle.tree_laws.specs.NameRow.{number_of}
+use Rattle.tree_laws.specs.Order.{Key, key_cmp}
+use Rattle.tree_laws.specs.Tree.{TreeState, is_directory, is_directory_kind, count_of, links_of, names_it, names_of, holds_directory}
+use Rattle.tree_laws.proofs.Counting.{same_rows, none_removed, count-remove, get_other-remove, get_other-insert, get_same-insert, count_agree}
+use Rattle.tree_laws.proofs.Joined.{is_equal, count-insert}
+use Rattle.tree_laws.proofs.Names.{get-names_where}
+use Rattle.tree_laws.proofs.RowFacts.{is_here}
 use Rattle.absorb.specs.declared.nets.NetRow.{NetRow}
 use Rattle.absorb.specs.Net.{IsNetRow, IsNet}
 use Rattle.image_tree.specs.Commit.{row_in_net}
@@ -26,7 +26,7 @@ use Rattle.sfs_base.proofs.BasicTruth.{not_both}
 use Rattle.sfs_base.proofs.BasicOptions.{none_some}
 use Rattle.sfs_base.proofs.BasicLists.{bytes_same, same_bytes}
 use Rattle.image_tree.proofs.NetRows.{no_net_row, HasNamesOnce, once_ascending, equal_not_less}
-use Rattle.sfs_tree.proofs.Readings.{directory_by_kind}
+use Rattle.tree_laws.proofs.Readings.{directory_by_kind}
 use Rattle.sfs_base.proofs.BasicNumbers.{from_plus_zero}
 
 Rows : Type 0

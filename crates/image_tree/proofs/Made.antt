@@ -6,7 +6,7 @@ use Rattle.std.specs.Option.{option_map_or}
 use Rattle.sfs_base.proofs.BasicOptions.{none_some, some_same}
 use Rattle.sfs_base.proofs.BasicTruth.{not_both, or_true}
 use Rattle.sfs_base.proofs.BasicNumbers.{same_number}
-use Rattle.sfs_tree.specs.Tree.{TreeState}
+use Rattle.tree_laws.specs.Tree.{TreeState}
 use Rattle.sfs_image.specs.Seen.{Seen, SeenInodes}
 use Rattle.image_tree.specs.Renamed.{Numbering}
 use Rattle.image_tree.specs.Stands.{IsUnused, StandsForTree}
@@ -182,7 +182,7 @@ no_commit_is_a_step num tree image is = record {
   sound = is.sound;
   commits = record {
     count = refl;
-    nets = λ node. no_net (Rattle.sfs_tree.specs.Tree.names_of node tree.rows);
+    nets = λ node. no_net (Rattle.tree_laws.specs.Tree.names_of node tree.rows);
     numbers =
         record { comes = λ node i has. Rattle.image_tree.specs.Commit.ComesBy.had has; once = λ node twin i none _ has _. absurd (none_some (sym none ∙ has)) };
     built = λ node i has listed. absurd (not_both listed refl);

@@ -10,14 +10,14 @@ use Rattle.std.specs.FinMap.{get, entries, len, empty, get-empty, len-empty, sam
 use Rattle.sfs_base.specs.Name.{bucket}
 use Rattle.sfs_base.specs.declared.numbers.Kind.{Kind}
 use Rattle.sfs_base.specs.declared.numbers.Kind.TheVariants.{File, Directory}
-use Rattle.sfs_tree.specs.Order.{name_cmp, Key}
-use Rattle.sfs_tree.specs.Tree.{BUCKET_ROWS, TreeState, Node, row_of, is_directory, is_alive, kind_of, bytes_of, count_of, links_of, names_it, holds_directory, bucket_rows}
-use Rattle.sfs_tree.specs.Sound.{Above, at_root, below, IsSound, IsWithinLimits}
-use Rattle.sfs_tree.proofs.Counting.{count_some, count_agree, only}
-use Rattle.sfs_tree.proofs.Joined.{name_cmp-IsAntisymmetric, bucket_small}
+use Rattle.tree_laws.specs.Order.{name_cmp, Key}
+use Rattle.tree_laws.specs.Tree.{BUCKET_ROWS, TreeState, Node, row_of, is_directory, is_alive, kind_of, bytes_of, count_of, links_of, names_it, holds_directory, bucket_rows}
+use Rattle.tree_laws.specs.Sound.{Above, at_root, below, IsSound, IsWithinLimits}
+use Rattle.tree_laws.proofs.Counting.{count_some, count_agree, only}
+use Rattle.tree_laws.proofs.Joined.{name_cmp-IsAntisymmetric, bucket_small}
 use Rattle.sfs_base.proofs.BasicNumbers.{not_same, some_counted}
-use Rattle.sfs_tree.proofs.Names.{get-names_where}
-use Rattle.sfs_tree.proofs.RowFacts.{root_alive, named_alive}
+use Rattle.tree_laws.proofs.Names.{get-names_where}
+use Rattle.tree_laws.proofs.RowFacts.{root_alive, named_alive}
 use Rattle.sfs_image.specs.Slot.{Row, kind_byte, kind_of as slot_kind}
 use Rattle.sfs_image.specs.Seen.{SeenInodes}
 use Rattle.image_tree.specs.Slots.{looked_up, name_count}

@@ -11,8 +11,8 @@ use Rattle.std.specs.Cmp.{tied_itself}
 use Rattle.std.specs.Cmp.Lexicographic.{nat_list_cmp_total}
 use Rattle.std.specs.FinMap.{FinMap, get}
 use Rattle.std.proofs.lemmas.List.Elements.{All-nil, All-cons, All-head, All-tail, All-contains}
-use Rattle.sfs_tree.specs.Order.{name_cmp}
-use Rattle.sfs_tree.proofs.Joined.{is_equal}
+use Rattle.tree_laws.specs.Order.{name_cmp}
+use Rattle.tree_laws.proofs.Joined.{is_equal}
 use Rattle.sfs_image.specs.Slot.{Row}
 use Rattle.absorb.specs.declared.nets.NetRow.{NetRow}
 use Rattle.absorb.specs.Net.{net_name, IsNetRow, IsNet}

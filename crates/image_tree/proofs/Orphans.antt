@@ -5,10 +5,10 @@ use Rattle.std.specs.Prelude.{filter_map}
 use Rattle.std.specs.List.{range_with_len, flat_map, AllByRecursion}
 use Rattle.std.specs.FinMap.{FinMap, from_entries, get, len}
 use Rattle.sfs_base.specs.declared.numbers.Kind.TheVariants.{File, Directory}
-use Rattle.sfs_tree.specs.Order.{key_cmp}
-use Rattle.sfs_tree.specs.Tree.{BUCKET_ROWS, TreeState, Node, count_of, names_it, bucket_rows, links_of}
-use Rattle.sfs_tree.specs.Sound.{Above}
-use Rattle.sfs_tree.proofs.Counting.{count_some}
+use Rattle.tree_laws.specs.Order.{key_cmp}
+use Rattle.tree_laws.specs.Tree.{BUCKET_ROWS, TreeState, Node, count_of, names_it, bucket_rows, links_of}
+use Rattle.tree_laws.specs.Sound.{Above}
+use Rattle.tree_laws.proofs.Counting.{count_some}
 use Rattle.sfs_image.specs.Slot.{Row, kind_byte}
 use Rattle.sfs_image.specs.Seen.{Seen, SeenInodes}
 use Rattle.sfs_image.proofs.Basics.{pieces_same}

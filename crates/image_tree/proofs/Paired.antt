@@ -1,12 +1,12 @@
 -- Rows of two maps that stand one to one are counted alike.
 use Rattle.std.proofs.Common.{◌≡◌, ◌≢◌, ℕ, ◌+◌, Bool, true, false, cond, T, List, [], ◌∷◌, Option, Some, inl, inr, refl, sym, ap, ◌∙◌, arith, count_by}
 use Rattle.std.specs.FinMap.{FinMap, find, entries, get, remove, is_sorted, get-entries, entries_sorted}
-use Rattle.sfs_tree.specs.Order.{Key, key_cmp}
-use Rattle.sfs_tree.proofs.Joined.{key_cmp_total, key_cmp-IsAntisymmetric, count-cons}
-use Rattle.sfs_tree.proofs.Counting.{count-remove, count_none, stayed, get_other-remove}
+use Rattle.tree_laws.specs.Order.{Key, key_cmp}
+use Rattle.tree_laws.proofs.Joined.{key_cmp_total, key_cmp-IsAntisymmetric, count-cons}
+use Rattle.tree_laws.proofs.Counting.{count-remove, count_none, stayed, get_other-remove}
 use Rattle.sfs_base.proofs.BasicTruth.{not_both}
 use Rattle.sfs_base.proofs.BasicOptions.{none_some}
-use Rattle.sfs_tree.proofs.Found.{found_cases, found_first, found_behind, found_apart}
+use Rattle.tree_laws.proofs.Found.{found_cases, found_first, found_behind, found_apart}
 use Rattle.sfs_base.proofs.BasicNumbers.{zero_plus}
 
 -- Entries that pass a test stand one to one with the rows of a map that pass another: each has its row, each row is an entry's, and no

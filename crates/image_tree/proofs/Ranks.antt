@@ -4,7 +4,7 @@ use Rattle.std.specs.Prelude.{slice_get}
 use Rattle.std.specs.List.{range_with_len}
 use Rattle.std.specs.Option.{option_map_or}
 use Rattle.std.proofs.lemmas.Bool.{cases_lt}
-use Rattle.sfs_tree.proofs.Joined.{count-cons}
+use Rattle.tree_laws.proofs.Joined.{count-cons}
 use Rattle.sfs_image.specs.Seen.{Seen, SeenInodes, FILE_BLOCKS, PLACES}
 use Rattle.image_tree.specs.Commit.{Commit, seen_before, HasBlock, hole, kept, fresh, TakesBlocks}
 use Rattle.image_tree.specs.Need.{Rewrite, rewrites_table, table_has_pointer, takes_place, pointer_after, place_in_row, takes_in_row, rank, RanksServe, GrantServes, IsListed, TakesByRank}

@@ -2,11 +2,11 @@
 use Rattle.std.proofs.Common.{◌≡◌, ℕ, ◌+◌, Bool, true, false, cond, ◌&&◌, List, [], ◌∷◌, length, Option, Some, None, IsSome, inl, inr, refl, sym, ap, subst, ◌∙◌, arith, count_by, nat_eq}
 use Rattle.std.specs.Option.{unwrap_or, option_and_then, option_map_or}
 use Rattle.std.specs.FinMap.{get, entries, len, len-entries}
-use Rattle.sfs_tree.specs.Order.{Key}
-use Rattle.sfs_tree.specs.Tree.{TreeState, Node, is_directory_kind, row_of, is_directory, is_alive, kind_of, bytes_of, count_of, links_of, names_it, holds_directory}
-use Rattle.sfs_tree.specs.Sound.{Above, at_root, below, IsSound}
-use Rattle.sfs_tree.proofs.Joined.{count-cons}
-use Rattle.sfs_tree.proofs.RowFacts.{alive_named, root_alive, named_alive}
+use Rattle.tree_laws.specs.Order.{Key}
+use Rattle.tree_laws.specs.Tree.{TreeState, Node, is_directory_kind, row_of, is_directory, is_alive, kind_of, bytes_of, count_of, links_of, names_it, holds_directory}
+use Rattle.tree_laws.specs.Sound.{Above, at_root, below, IsSound}
+use Rattle.tree_laws.proofs.Joined.{count-cons}
+use Rattle.tree_laws.proofs.RowFacts.{alive_named, root_alive, named_alive}
 use Rattle.image_tree.specs.Renamed.{Numbering, HasNumber, IsMet, root, named, IsRenamed}
 use Rattle.image_tree.specs.Stands.{inode_under}
 use Rattle.sfs_base.proofs.BasicOptions.{none_some, some_same}

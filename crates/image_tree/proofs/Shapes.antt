@@ -8,15 +8,15 @@ use Rattle.std.specs.Cmp.Lexicographic.{nat_list_cmp_total}
 use Rattle.std.specs.FinMap.{FinMap, find, entries, get, len, from_sorted, is_sorted, get-from_sorted, entries-from_sorted, get-entries, entries_sorted, same_map}
 use Rattle.std.specs.FinMap.Entries.{below_all}
 use Rattle.std.proofs.lemmas.List.{length-map, map-append}
-use Rattle.sfs_tree.specs.Order.{name_cmp}
-use Rattle.sfs_tree.specs.Tree.{TreeState, row_of, is_directory, names_where, names_of}
-use Rattle.sfs_tree.specs.Shape.{Met, met_from, met, with_file, files_met, line_of, shape_of}
-use Rattle.sfs_tree.proofs.Joined.{name_cmp-IsAntisymmetric}
-use Rattle.sfs_tree.proofs.Names.{get-names_where}
+use Rattle.tree_laws.specs.Order.{name_cmp}
+use Rattle.tree_laws.specs.Tree.{TreeState, row_of, is_directory, names_where, names_of}
+use Rattle.tree_laws.specs.Shape.{Met, met_from, met, with_file, files_met, line_of, shape_of}
+use Rattle.tree_laws.proofs.Joined.{name_cmp-IsAntisymmetric}
+use Rattle.tree_laws.proofs.Names.{get-names_where}
 use Rattle.image_tree.specs.Renamed.{Numbering, IsMet, root, named, IsRenamed}
 use Rattle.image_tree.specs.Stands.{inode_under}
 use Rattle.image_tree.specs.Laws.{RenamedTreesHaveOneShape}
-use Rattle.sfs_tree.proofs.Found.{each_entry}
+use Rattle.tree_laws.proofs.Found.{each_entry}
 use Rattle.image_tree.proofs.Renaming.{under_is, met_number, number_same, len_renamed, directory_renamed, kind_renamed, links_renamed, bytes_renamed, sound_renamed}
 
 -- entries with their values changed

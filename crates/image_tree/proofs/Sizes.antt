@@ -10,10 +10,10 @@ use Rattle.std.proofs.lemmas.Map.Text.{is_eq-slice_cmp}
 use Rattle.sfs_base.specs.Name.{bucket}
 use Rattle.sfs_base.specs.declared.numbers.Kind.TheVariants.{File, Directory}
 use Rattle.sfs_base.specs.declared.numbers.Kind.{Kind}
-use Rattle.sfs_tree.specs.Order.{name_cmp, Key, key_cmp}
-use Rattle.sfs_tree.specs.Tree.{BUCKET_ROWS, TreeState, row_of, kind_of, name_row, names_of, bucket_rows}
-use Rattle.sfs_tree.proofs.Joined.{count-cons, bucket_small}
-use Rattle.sfs_tree.proofs.Names.{entries-names_where, get-names_where}
+use Rattle.tree_laws.specs.Order.{name_cmp, Key, key_cmp}
+use Rattle.tree_laws.specs.Tree.{BUCKET_ROWS, TreeState, row_of, kind_of, name_row, names_of, bucket_rows}
+use Rattle.tree_laws.proofs.Joined.{count-cons, bucket_small}
+use Rattle.tree_laws.proofs.Names.{entries-names_where, get-names_where}
 use Rattle.sfs_image.specs.Rules.{DIRECTORY_BLOCKS}
 use Rattle.sfs_image.specs.Slot.{Row, kind_byte}
 use Rattle.sfs_image.specs.Seen.{Seen, SeenInodes}

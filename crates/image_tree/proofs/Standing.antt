@@ -9,12 +9,12 @@ use Rattle.std.proofs.lemmas.List.{length-map}
 use Rattle.sfs_base.specs.Name.{bucket}
 use Rattle.sfs_base.specs.declared.numbers.Kind.{Kind}
 use Rattle.sfs_base.specs.declared.numbers.Kind.TheVariants.{File, Directory}
-use Rattle.sfs_tree.specs.Order.{Key, key_cmp}
-use Rattle.sfs_tree.specs.Tree.{TreeState, Node, is_directory_kind, row_of, is_directory, kind_of, bytes_of, count_of, links_of, names_it, bucket_rows, holds_directory}
-use Rattle.sfs_tree.specs.Sound.{Above, at_root, IsSound}
-use Rattle.sfs_tree.specs.Shape.{shape_of}
-use Rattle.sfs_tree.proofs.Counting.{count-remove, count_none, count_some, found, stayed}
-use Rattle.sfs_tree.proofs.RowFacts.{alive_named}
+use Rattle.tree_laws.specs.Order.{Key, key_cmp}
+use Rattle.tree_laws.specs.Tree.{TreeState, Node, is_directory_kind, row_of, is_directory, kind_of, bytes_of, count_of, links_of, names_it, bucket_rows, holds_directory}
+use Rattle.tree_laws.specs.Sound.{Above, at_root, IsSound}
+use Rattle.tree_laws.specs.Shape.{shape_of}
+use Rattle.tree_laws.proofs.Counting.{count-remove, count_none, count_some, found, stayed}
+use Rattle.tree_laws.proofs.RowFacts.{alive_named}
 use Rattle.sfs_image.specs.Slot.{Row, kind_byte}
 use Rattle.sfs_image.specs.Seen.{SeenInodes}
 use Rattle.image_tree.specs.Slots.{looked_up}
@@ -25,7 +25,7 @@ use Rattle.image_tree.specs.Laws.{StandingImagesShow}
 use Rattle.image_tree.specs.Keeps.{ruled_tree, IsDirectoryInode, MayName, MayStand, KeepsRules}
 use Rattle.sfs_base.proofs.BasicTruth.{not_both}
 use Rattle.sfs_base.proofs.BasicOptions.{none_some, some_same}
-use Rattle.sfs_tree.proofs.Readings.{directory_by_kind}
+use Rattle.tree_laws.proofs.Readings.{directory_by_kind}
 use Rattle.image_tree.proofs.Renaming.{under_is, naming_renamed, links_renamed, sound_renamed, above_renamed}
 use Rattle.image_tree.proofs.Shapes.{part_renamed, shape_renamed, with_value}
 use Rattle.image_tree.proofs.SlotRows.{OnRow, each_found}
@@ -240,10 +240,10 @@ module _ (num : Numbering) (tree : TreeState) (image : SeenInodes) (s : IsSound 
   }
     where
       len_part : (test : List ℕ → Bool) (x i : ℕ) → num x ≡ Some i
-          → len (Rattle.sfs_tree.specs.Tree.names_where i test (image_rows image)) ≡ len (Rattle.sfs_tree.specs.Tree.names_where x test tree.rows)
+          → len (Rattle.tree_laws.specs.Tree.names_where i test (image_rows image)) ≡ len (Rattle.tree_laws.specs.Tree.names_where x test tree.rows)
       len_part test x i is =
           len-entries _ ∙ ap length (part_renamed num tree (ruled_tree image) (shown_renamed num tree image NOTHING_MADE s st) test x i is)
-          ∙ length-map (entries (Rattle.sfs_tree.specs.Tree.names_where x test tree.rows)) (with_value (inode_under num)) ∙ sym (len-entries _)
+          ∙ length-map (entries (Rattle.tree_laws.specs.Tree.names_where x test tree.rows)) (with_value (inode_under num)) ∙ sym (len-entries _)
 
       stand_at : (slot : Option Row) → OnRow (MayName image) slot → MayStand image slot
       stand_at None h = tt

@@ -3,9 +3,9 @@ use Rattle.std.proofs.Common.{Bool, ◌≡◌, ℕ, ◌/◌, ◌<◌, ◌≤◌,
 use borrow.Author.Tests.{ltb-true, ltb-false}
 use Rattle.std.specs.Prelude.{is_none}
 use Rattle.std.specs.FinMap.{get}
-use Rattle.sfs_tree.specs.Tree.{TreeState}
-use Rattle.sfs_tree.specs.Sound.{IsNumbered, IsWithinLimits}
-use Rattle.sfs_tree.specs.Laws.{IsSoundTree}
+use Rattle.tree_laws.specs.Tree.{TreeState}
+use Rattle.tree_laws.specs.Sound.{IsNumbered, IsWithinLimits}
+use Rattle.tree_laws.specs.Laws.{IsSoundTree}
 use Rattle.sfs_image.specs.Super.{Layout}
 use Rattle.sfs_image.specs.Settled.{SlotFault, image_block, layout_of, settled, super_fault_of, journal_fault_of, parts_of}
 use Rattle.sfs_image.specs.Seen.{SeenInodes, Seen}

@@ -2,9 +2,9 @@
 use Rattle.std.specs.Prelude.{◌≡◌, ◌≢◌, ◌⊎◌, ◌↔◌, ℕ, ◌<◌, Bool, true, false, is_none, List, [], ◌∷◌, map, Option, Some, None, option_map, filter_map, bytes_eq, if◌then◌else◌, slice_get}
 use Rattle.std.specs.List.{find}
 use Rattle.std.specs.Option.{option_map_or}
-use Rattle.sfs_tree.specs.NameRow.{number_of}
-use Rattle.sfs_tree.specs.Tree.{TreeState, row_of, kind_of, bytes_of, links_of, names_of}
-use Rattle.sfs_tree.specs.Sound.{IsSound}
+use Rattle.tree_laws.specs.NameRow.{number_of}
+use Rattle.tree_laws.specs.Tree.{TreeState, row_of, kind_of, bytes_of, links_of, names_of}
+use Rattle.tree_laws.specs.Sound.{IsSound}
 use Rattle.absorb.specs.declared.nets.NetRow.{NetRow}
 use Rattle.absorb.specs.Net.{IsNet}
 use Rattle.sfs_image.specs.Slot.{Row, kind_byte}

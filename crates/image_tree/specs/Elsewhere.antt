@@ -1,6 +1,6 @@
 -- A commit that was planned in one state and is made in another, in which all that it concerns is the same.
 use Rattle.std.specs.Prelude.{◌≡◌, ◌≢◌, ◌⊎◌, ◌↔◌, ℕ, ◌<◌, true, false, List, [], Some, None}
-use Rattle.sfs_tree.specs.Tree.{TreeState, row_of, kind_of, bytes_of}
+use Rattle.tree_laws.specs.Tree.{TreeState, row_of, kind_of, bytes_of}
 use Rattle.sfs_image.specs.Seen.{SeenInodes, PLACES}
 use Rattle.image_tree.specs.Renamed.{Numbering}
 use Rattle.image_tree.specs.Stands.{IsUnused, StandsForTree}

@@ -1,9 +1,9 @@
 -- The first fault of an image, and its tree where it has none.
 use Rattle.std.specs.Prelude.{◌≡◌, ◌≢◌, ℕ, ◌<◌, ◌≤◌, Bool, false, List, replicate, is_none, Option, Some, None, option_map, if◌then◌else◌}
-use Rattle.sfs_tree.specs.Tree.{TreeState}
-use Rattle.sfs_tree.specs.Sound.{IsWithinLimits}
-use Rattle.sfs_tree.specs.Laws.{IsSoundTree}
-use Rattle.sfs_tree.specs.Shape.{shape_of}
+use Rattle.tree_laws.specs.Tree.{TreeState}
+use Rattle.tree_laws.specs.Sound.{IsWithinLimits}
+use Rattle.tree_laws.specs.Laws.{IsSoundTree}
+use Rattle.tree_laws.specs.Shape.{shape_of}
 use Rattle.sfs_image.specs.Super.{Layout}
 use Rattle.sfs_image.specs.ImageOf.{Transaction, with_opened, IsImageOf}
 use Rattle.sfs_image.specs.Part.{Part, seen_of}

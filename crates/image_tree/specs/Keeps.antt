@@ -3,8 +3,8 @@ use Rattle.std.specs.Prelude.{◌≡◌, ◌≢◌, ℕ, ◌<◌, ◌≤◌, Lis
 use Rattle.std.specs.List.{AllByRecursion}
 use Rattle.std.specs.FinMap.{len}
 use Rattle.sfs_base.specs.declared.numbers.Kind.TheVariants.{Directory}
-use Rattle.sfs_tree.specs.Tree.{BUCKET_ROWS, TreeState, count_of, links_of, bucket_rows}
-use Rattle.sfs_tree.specs.Sound.{Above}
+use Rattle.tree_laws.specs.Tree.{BUCKET_ROWS, TreeState, count_of, links_of, bucket_rows}
+use Rattle.tree_laws.specs.Sound.{Above}
 use Rattle.sfs_image.specs.Slot.{Row, kind_byte}
 use Rattle.sfs_image.specs.Seen.{SeenInodes}
 use Rattle.image_tree.specs.Slots.{name_count}

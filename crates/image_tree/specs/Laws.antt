@@ -1,9 +1,9 @@
 -- The laws of what an image stands for, each of which a function of the module laws proves.
 use Rattle.std.specs.List.{list_all}
 use Rattle.std.specs.Prelude.{◌≡◌, ◌≢◌, ◌↔◌, ℕ, ◌+◌, ◌<◌, ◌≤◌, Bool, false, List, Option, Some, None, true, slice_get, [], is_none}
-use Rattle.sfs_tree.specs.Shape.{shape_of}
-use Rattle.sfs_tree.specs.Sound.{IsSound}
-use Rattle.sfs_tree.specs.Tree.{TreeState, links_of, bytes_of, names_of}
+use Rattle.tree_laws.specs.Shape.{shape_of}
+use Rattle.tree_laws.specs.Sound.{IsSound}
+use Rattle.tree_laws.specs.Tree.{TreeState, links_of, bytes_of, names_of}
 use Rattle.sfs_image.specs.Bytes.{zeros}
 use Rattle.sfs_image.specs.ImageOf.{Transaction}
 use Rattle.sfs_image.specs.Part.{Part, seen_of}

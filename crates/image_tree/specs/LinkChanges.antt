@@ -5,9 +5,9 @@ use Rattle.std.specs.Option.{option_map_or}
 use Rattle.std.specs.List.Sorted.{IsStrictlySortedBy}
 use Rattle.std.specs.Ordering.{nat_cmp}
 use Rattle.sfs_tree.specs.Counts.{one_if}
-use Rattle.sfs_tree.specs.NameRow.{number_of}
-use Rattle.sfs_tree.specs.Order.{Key}
-use Rattle.sfs_tree.specs.Tree.{TreeState, kind_of, is_directory, names_it, names_of, holds_directory}
+use Rattle.tree_laws.specs.NameRow.{number_of}
+use Rattle.tree_laws.specs.Order.{Key}
+use Rattle.tree_laws.specs.Tree.{TreeState, kind_of, is_directory, names_it, names_of, holds_directory}
 use Rattle.absorb.specs.declared.nets.NetRow.{NetRow}
 use Rattle.absorb.specs.Net.{IsNet}
 

@@ -1,8 +1,8 @@
 -- What a mount reads: the numbering of an image's own tree, and what its inodes show by their kinds.
 use Rattle.std.specs.Prelude.{◌≡◌, ◌≢◌, ◌⊎◌, ℕ, ◌<◌, ◌&&◌, nat_lt, [], Some, None, if◌then◌else◌}
 use Rattle.sfs_base.specs.declared.numbers.Kind.TheVariants.{File, Directory}
-use Rattle.sfs_tree.specs.Tree.{count_of}
-use Rattle.sfs_tree.specs.Sound.{IsSound}
+use Rattle.tree_laws.specs.Tree.{count_of}
+use Rattle.tree_laws.specs.Sound.{IsSound}
 use Rattle.sfs_image.specs.Slot.{kind_byte}
 use Rattle.sfs_image.specs.Seen.{SeenInodes}
 use Rattle.image_tree.specs.ImageTree.{Making, is_used, image_rows, image_tree, tree_with_orphans}

@@ -1,6 +1,6 @@
 -- Orphans, which a mount frees: files that no row names.
 use Rattle.std.specs.Prelude.{◌≡◌, ℕ, ◌<◌, ◌==◌, ◌&&◌, Bool, true, false}
-use Rattle.sfs_tree.specs.Tree.{count_of}
+use Rattle.tree_laws.specs.Tree.{count_of}
 use Rattle.sfs_image.specs.Seen.{SeenInodes}
 use Rattle.image_tree.specs.ImageTree.{Making, shows_file, image_rows, image_tree}
 use Rattle.image_tree.specs.Stands.{IsUnused}

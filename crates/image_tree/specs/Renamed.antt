@@ -2,7 +2,7 @@
 use Rattle.std.specs.Prelude.{◌≡◌, ℕ, List, Option, Some}
 use Rattle.std.specs.Option.{option_and_then}
 use Rattle.std.specs.FinMap.{get}
-use Rattle.sfs_tree.specs.Tree.{TreeState, row_of}
+use Rattle.tree_laws.specs.Tree.{TreeState, row_of}
 
 -- a numbering: the number of a node, where it has one
 abbrev pub Numbering : Type 0

@@ -3,7 +3,7 @@ use Rattle.std.specs.Prelude.{ℕ, ◌==◌, ◌||◌, ◌&&◌, Bool, not, fals
 use Rattle.std.specs.List.{range_with_len, list_any, find}
 use Rattle.std.specs.Option.{option_map_or}
 use Rattle.std.specs.FinMap.{len}
-use Rattle.sfs_tree.specs.Tree.{BUCKET_ROWS, count_of, links_of, bucket_rows, lies_below}
+use Rattle.tree_laws.specs.Tree.{BUCKET_ROWS, count_of, links_of, bucket_rows, lies_below}
 use Rattle.sfs_image.specs.Slot.{Row, kind_byte}
 use Rattle.sfs_image.specs.Seen.{SeenInodes}
 use Rattle.image_tree.specs.Slots.{name_count}

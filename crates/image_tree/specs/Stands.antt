@@ -1,8 +1,8 @@
 -- When the inodes of an image stand for a tree: each numbered node is shown by the inode of its number, and nothing else is.
 use Rattle.std.specs.Prelude.{◌≡◌, ◌≢◌, ◌⊎◌, ℕ, ◌*◌, ◌/◌, ◌<◌, ◌≤◌, true, List, length, Some, option_map, if◌then◌else◌}
 use Rattle.std.specs.Option.{unwrap_or}
-use Rattle.sfs_tree.specs.Tree.{TreeState, row_of, kind_of, bytes_of, links_of, is_directory}
-use Rattle.sfs_tree.specs.Sound.{IsSound, IsWithinLimits}
+use Rattle.tree_laws.specs.Tree.{TreeState, row_of, kind_of, bytes_of, links_of, is_directory}
+use Rattle.tree_laws.specs.Sound.{IsSound, IsWithinLimits}
 use Rattle.sfs_image.specs.Slot.{Row, kind_byte}
 use Rattle.sfs_image.specs.Seen.{Seen, SeenInodes, PLACES}
 use Rattle.image_tree.specs.Slots.{BLOCK_SLOTS, looked_up, name_count}

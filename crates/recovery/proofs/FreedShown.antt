@@ -6,7 +6,7 @@ use Rattle.std.specs.Option.{is_some, is_none}
 use Rattle.std.proofs.lemmas.Bool.{cases_Bool, cases_eq, eqb-true, ne_eqb}
 use Rattle.sfs_base.specs.declared.numbers.Kind.TheVariants.{File}
 use Rattle.sfs_base.proofs.BasicTruth.{and_first}
-use Rattle.sfs_tree.specs.Tree.{TreeState, count_of, holds_directory}
+use Rattle.tree_laws.specs.Tree.{TreeState, count_of, holds_directory}
 use Rattle.sfs_image.specs.Part.{Part, seen_of}
 use Rattle.sfs_image.specs.Rules.{breaks_bytes_rule}
 use Rattle.sfs_image.specs.Seen.{SeenInodes}

@@ -6,8 +6,8 @@ use Rattle.sfs_image.specs.Settled.{layout_of, parts_of}
 use Rattle.sfs_image.specs.Super.{IsLayout}
 use Rattle.sfs_dev.specs.Disk.{View}
 use Rattle.sfs_dev.specs.Run.{Advances, Unwritten, HasReadCause}
-use Rattle.sfs_tree.specs.Laws.{IsSoundTree}
-use Rattle.sfs_tree.specs.Sound.{IsWithinLimits}
+use Rattle.tree_laws.specs.Laws.{IsSoundTree}
+use Rattle.tree_laws.specs.Sound.{IsWithinLimits}
 use Rattle.commit_one.specs.Carried.{GoesOnTelling}
 use Rattle.commit_one.specs.Change.{nothing_open}
 use Rattle.journal_one.specs.Known.{EachLeft}

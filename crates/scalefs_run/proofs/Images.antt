@@ -6,7 +6,7 @@ use Rattle.sfs_base.specs.Ends.{HasRisen}
 use Rattle.sfs_base.proofs.BasicOptions.{none_some, some_same}
 use Rattle.sfs_base.proofs.BasicTruth.{false_not_true}
 use Rattle.sfs_image.specs.Super.{Layout, IsLayout}
-use Rattle.sfs_tree.specs.Laws.{IsSoundTree}
+use Rattle.tree_laws.specs.Laws.{IsSoundTree}
 use Rattle.sfs_dev.specs.Disk.{View, OnlyTold, images}
 use Rattle.sfs_dev.specs.Run.{CountsOn, EachMoment, HasReadCause, Unwritten}
 use Rattle.sfs_dev.specs.Steps.{IfTold}

@@ -12,8 +12,8 @@ use Rattle.sfs_base.proofs.BasicOptions.{none_some, some_same}
 use Rattle.sfs_base.proofs.BasicTruth.{false_not_true}
 use Rattle.sfs_image.specs.Settled.{layout_of}
 use Rattle.sfs_image.specs.Super.{Layout}
-use Rattle.sfs_tree.specs.declared.history.Entry.{Entry}
-use Rattle.sfs_tree.specs.Tree.{TreeState}
+use Rattle.tree_laws.specs.declared.history.Entry.{Entry}
+use Rattle.tree_laws.specs.Tree.{TreeState}
 use Rattle.sfs_dev.specs.Disk.{View, OnlyTold, images}
 use Rattle.sfs_dev.specs.Run.{Advances, CountsOn, EachMoment, HasReadCause, Unwritten}
 use Rattle.sfs_dev.specs.Steps.{IfTold}
@@ -43,7 +43,7 @@ use Rattle.scalefs_run.specs.Due.{Judgement, IsJudged, due, judged_status, mount
 use Rattle.scalefs_run.specs.Image.{IsImageRefused, status_of_recovery}
 use Rattle.scalefs_run.specs.Images.{IfQuiet, HasImagesBy}
 use Rattle.scalefs_run.specs.Outcome.{IsOf, HasStatus, HasHistory, HasText, HasReadFault, IsWriteStatus, IsCommand, ComesToDisk, status_of_source}
-use Rattle.sfs_tree.specs.declared.turns.Turn.{Turn}
+use Rattle.tree_laws.specs.declared.turns.Turn.{Turn}
 use Rattle.commit_turns.specs.Need.{ImageState}
 use Rattle.commit_turns.specs.Recorded.{IsRecorded}
 use Rattle.scalefs_run.specs.Turns.{IsImageAtFirst, HasTurnsBy}

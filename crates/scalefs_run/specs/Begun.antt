@@ -4,7 +4,7 @@ use Rattle.sfs_dev.specs.Disk.{View}
 use Rattle.sfs_dev.specs.Run.{CountsOn}
 use Rattle.sfs_dev.specs.Steps.{IfTold}
 use Rattle.sfs_image.specs.Settled.{layout_of}
-use Rattle.sfs_tree.specs.Laws.{IsSoundTree}
+use Rattle.tree_laws.specs.Laws.{IsSoundTree}
 use Rattle.image_tree.specs.Image.{tree_of}
 use Rattle.journal_one.specs.Calls.{IsCalm}
 use Rattle.mount.specs.Mounted.{share_of_nodes}

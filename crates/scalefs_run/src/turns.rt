@@ -4,7 +4,7 @@ ghost use Rattle.commit_turns.specs.OneThread.{turn_of};
 ghost use Rattle.scalefs_run.specs.Turns.{turns_of, turns_told, short_turns, failed_turns, moment_of};
 
 use sfs_base::NodeId;
-use sfs_tree::{Call, Entry, Reply, Turn, TurnAct, Turns};
+use tree_laws::{Call, Entry, Reply, Turn, TurnAct, Turns};
 use volume_one::Deed;
 
 /// The disk's counts of device calls and of faults when an fsync began and when it ended.

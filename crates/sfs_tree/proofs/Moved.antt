@@ -5,15 +5,15 @@ use Rattle.std.specs.List as list
 use Rattle.std.specs.Ordering.{eq_by_cmp, nat_cmp}
 use Rattle.std.specs.FinMap.{FinMap, get, insert, remove, entries, get-insert, get-remove}
 use Rattle.sfs_tree.specs.declared.counts.Counts.{Counts}
-use Rattle.sfs_tree.specs.Order.{Key, key_cmp}
-use Rattle.sfs_tree.specs.Tree.{Node, count_of, names_it}
+use Rattle.tree_laws.specs.Order.{Key, key_cmp}
+use Rattle.tree_laws.specs.Tree.{Node, count_of, names_it}
 use Rattle.sfs_tree.specs.NodesState.{NodesState}
 use Rattle.sfs_tree.specs.RowsState.{RowsState}
 use Rattle.sfs_tree.specs.Counts.{is_directory_in, IsCounted, IsWide, MayRise}
 use Rattle.sfs_tree.specs.Store.{IsStored}
-use Rattle.sfs_tree.proofs.Joined.{key_cmp_total, key_cmp-IsAntisymmetric, is_equal, other_key}
+use Rattle.tree_laws.proofs.Joined.{key_cmp_total, key_cmp-IsAntisymmetric, is_equal, other_key}
 use Rattle.sfs_tree.proofs.Counted.{MayRise-counted}
-use Rattle.sfs_tree.proofs.Counting.{same_rows, get_other-insert, count-remove, len_less, found, Found, found_none}
+use Rattle.tree_laws.proofs.Counting.{same_rows, get_other-insert, count-remove, len_less, found, Found, found_none}
 use Rattle.sfs_tree.proofs.StoreKept.{IsStored-removed, rows_small}
 use Rattle.sfs_base.proofs.BasicOptions.{none_some, some_same}
 

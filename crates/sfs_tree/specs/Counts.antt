@@ -4,9 +4,9 @@ use Rattle.std.specs.Option.{option_map_or}
 use Rattle.std.specs.Ordering.{nat_cmp}
 use Rattle.std.specs.FinMap.{FinMap, entries, get, len}
 use Rattle.sfs_tree.specs.declared.counts.Counts.{Counts}
-use Rattle.sfs_tree.specs.Order.{Key, key_cmp}
-use Rattle.sfs_tree.specs.Tree.{Node, is_directory_kind, count_of}
-use Rattle.sfs_tree.specs.Buckets.{stands_in}
+use Rattle.tree_laws.specs.Order.{Key, key_cmp}
+use Rattle.tree_laws.specs.Tree.{Node, is_directory_kind, count_of}
+use Rattle.tree_laws.specs.Buckets.{stands_in}
 
 -- whether a number is that of a directory
 abbrev pub is_directory_in : FinMap nat_cmp Node → ℕ → Bool

@@ -12,8 +12,8 @@ use Rattle.sfs_base.proofs.BasicTruth.{not_false}
 use Rattle.sfs_image.specs.Part.{Part}
 use Rattle.sfs_image.specs.Seen.{SeenInodes}
 use Rattle.sfs_image.specs.Super.{Layout, data_start}
-use Rattle.sfs_tree.specs.declared.history.Entry.{Entry}
-use Rattle.sfs_tree.specs.Tree.{TreeState, kind_of}
+use Rattle.tree_laws.specs.declared.history.Entry.{Entry}
+use Rattle.tree_laws.specs.Tree.{TreeState, kind_of}
 use Rattle.image_tree.specs.Image.{inodes_shown}
 use Rattle.image_tree.specs.Need.{rank}
 use Rattle.image_tree.specs.Renamed.{Numbering}
@@ -27,8 +27,8 @@ use Rattle.disk_change.specs.GivenUp.{IsLeftByGone, entry_number}
 use Rattle.disk_change.specs.declared.old.OldEntry.{OldEntry}
 use Rattle.commit_laws.proofs.OwnInodes.{mapped_is_in}
 use Rattle.commit_laws.proofs.SeatsOfPlan.{in_mapped}
-use Rattle.flush_core.specs.Closure.{Flush}
-use Rattle.flush_core.specs.Cut.{Cut, tree_at_cut}
+use Rattle.cut_laws.specs.Closure.{Flush}
+use Rattle.cut_laws.specs.Cut.{Cut, tree_at_cut}
 use Rattle.flush_commits.specs.Ready.{IsBetweenCommits, KeepsEntries}
 use Rattle.commit_turns.specs.Need.{is_unused, is_held_in}
 use Rattle.commit_turns.proofs.ListedNeeds.{none_counted, rank_agrees, held_are_found}

@@ -5,8 +5,8 @@ use Rattle.sfs_image.specs.Part.{Part}
 use Rattle.sfs_image.specs.Slot.{Row}
 use Rattle.sfs_image.specs.SlotBlock.{AreSlots}
 use Rattle.sfs_image.specs.Super.{Layout, data_start}
-use Rattle.sfs_tree.specs.declared.history.Entry.{Entry}
-use Rattle.sfs_tree.specs.Tree.{TreeState}
+use Rattle.tree_laws.specs.declared.history.Entry.{Entry}
+use Rattle.tree_laws.specs.Tree.{TreeState}
 use Rattle.fmt_journal.specs.declared.tx.Tx.{Tx}
 use Rattle.absorb.specs.declared.nets.NetRow.{NetRow}
 use Rattle.image_tree.specs.Image.{inodes_shown}
@@ -20,8 +20,8 @@ use Rattle.disk_change.specs.GivenUp.{IsLeftByGone, entry_number}
 use Rattle.disk_change.specs.declared.directory_net.DirectoryNet.{DirectoryNet}
 use Rattle.disk_change.specs.declared.old.OldEntry.{OldEntry}
 use Rattle.commit_laws.specs.CommitOfPlan.{CommitPlan, change_planned, ServesPlan}
-use Rattle.flush_core.specs.Closure.{Flush}
-use Rattle.flush_core.specs.Cut.{Cut}
+use Rattle.cut_laws.specs.Closure.{Flush}
+use Rattle.cut_laws.specs.Cut.{Cut}
 use Rattle.flush_commits.specs.Laws.{AreEntriesAfter}
 use Rattle.flush_commits.specs.Planned.{IsPlanAt, GrantsPlan, IsPlannedFsync}
 use Rattle.flush_commits.specs.Ready.{IsBetweenCommits, KeepsEntries}

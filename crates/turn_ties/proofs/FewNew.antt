@@ -9,9 +9,9 @@ use Rattle.std.proofs.lemmas.Map.Text.{is_eq-slice_cmp}
 use Rattle.sfs_base.proofs.BasicLists.{bytes_same, same_bytes}
 use Rattle.sfs_base.proofs.BasicOptions.{none_not_some, some_not_none}
 use Rattle.sfs_image.specs.Slot.{Row}
-use Rattle.sfs_tree.specs.NameRow.{number_of}
-use Rattle.sfs_tree.specs.Order.{name_cmp}
-use Rattle.sfs_tree.specs.Tree.{TreeState}
+use Rattle.tree_laws.specs.NameRow.{number_of}
+use Rattle.tree_laws.specs.Order.{name_cmp}
+use Rattle.tree_laws.specs.Tree.{TreeState}
 use Rattle.absorb.specs.declared.nets.NetRow.{NetRow}
 use Rattle.image_tree.specs.Commit.{row_in_net, slot_after, new_rows, filled, slots_after}
 use Rattle.image_tree.specs.Renamed.{Numbering}

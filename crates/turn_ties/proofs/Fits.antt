@@ -12,7 +12,7 @@ use Rattle.sfs_base.specs.declared.numbers.SpaceKind.TheVariants.{Inodes, Blocks
 use Rattle.sfs_base.specs.Listed.{is_listed}
 use Rattle.sfs_image.specs.Seen.{PLACES}
 use Rattle.sfs_image.specs.Super.{data_start}
-use Rattle.sfs_tree.specs.Tree.{TreeState}
+use Rattle.tree_laws.specs.Tree.{TreeState}
 use Rattle.image_tree.specs.Image.{inodes_shown}
 use Rattle.image_tree.specs.Need.{takes_place, rank}
 use Rattle.image_tree.proofs.Ranks.{rank_more}

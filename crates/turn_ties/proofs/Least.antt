@@ -9,7 +9,7 @@ use Rattle.sfs_base.proofs.BasicNumbers.{not_same, plus_zero}
 use Rattle.sfs_base.proofs.BasicOptions.{none_some, some_same}
 use Rattle.sfs_base.proofs.BasicTruth.{and_true}
 use Rattle.sfs_image.specs.Seen.{SeenInodes}
-use Rattle.sfs_tree.specs.Tree.{kind_of}
+use Rattle.tree_laws.specs.Tree.{kind_of}
 use Rattle.image_tree.specs.Image.{inodes_shown}
 use Rattle.image_tree.proofs.Standing.{not_used}
 use Rattle.space_map.specs.Pool.{Pool, status_of, is_free, free_from, free_numbers}
@@ -23,7 +23,7 @@ use Rattle.disk_change.specs.declared.old.OldEntry.{OldEntry}
 use Rattle.commit_laws.specs.CommitOfPlan.{change_planned}
 use Rattle.commit_laws.proofs.OwnInodes.{mapped_is_in}
 use Rattle.commit_laws.proofs.SeatsOfPlan.{in_mapped}
-use Rattle.flush_core.specs.Cut.{tree_at_cut}
+use Rattle.cut_laws.specs.Cut.{tree_at_cut}
 use Rattle.flush_commits.specs.Ready.{IsBetweenCommits, KeepsEntries}
 use Rattle.commit_turns.specs.Books.{least_open}
 use Rattle.commit_turns.specs.Need.{is_unused}

@@ -3,8 +3,8 @@ use Rattle.std.proofs.Common.{◌≡◌, Bool, true, false, Option, Some, None, 
 use Rattle.sfs_base.proofs.BasicTruth.{true_not_false}
 use Rattle.mem_files.specs.File.{File}
 use Rattle.disk_change.specs.Planned.{Planned}
-use Rattle.flush_core.specs.Cut.{cut_of}
-use Rattle.flush_core.proofs.Lists.{lists_keep}
+use Rattle.cut_laws.specs.Cut.{cut_of}
+use Rattle.cut_laws.proofs.Lists.{lists_keep}
 use Rattle.flush_ties.specs.Look.{itself, member}
 use Rattle.dep_closure.specs.Gathered.{cut_in}
 use Rattle.fsync_dir.specs.Plan.{is_held, AreFileChanges}

@@ -12,16 +12,16 @@ use Rattle.commit_laws.specs.CommitMade.{seated_nodes}
 use Rattle.commit_laws.specs.CommitOfPlan.{change_planned}
 use Rattle.commit_laws.proofs.Ranked.{needs_are_those}
 use Rattle.commit_laws.proofs.Rewritten.{take_same, needs_same}
-use Rattle.flush_core.specs.Closure.{one_more}
-use Rattle.flush_core.specs.Cut.{cut_of}
-use Rattle.flush_core.specs.Machine.{MachineState}
-use Rattle.flush_core.proofs.Lists.{lists_keep}
+use Rattle.cut_laws.specs.Closure.{one_more}
+use Rattle.cut_laws.specs.Cut.{cut_of}
+use Rattle.cut_laws.specs.Machine.{MachineState}
+use Rattle.cut_laws.proofs.Lists.{lists_keep}
 use Rattle.commit_turns.specs.LawsNeed.{ListsNodes}
 use Rattle.commit_turns.specs.Need.{Made, rewrite_needed, node_bound, need_of}
 use Rattle.commit_turns.specs.Touched.{is_touched_between}
 use Rattle.commit_turns.proofs.ListedNeeds.{blocks_are_listed, inodes_are_listed, nodes_are_counted}
 use Rattle.space_laws.proofs.Asked.{enters_counted}
-use Rattle.sfs_tree.specs.Tree.{TreeState}
+use Rattle.tree_laws.specs.Tree.{TreeState}
 use Rattle.sfs_image.specs.Seen.{SeenInodes}
 use Rattle.flush_commits.specs.Ready.{IsBetweenCommits}
 use Rattle.commit_laws.specs.Rewritten.{SayTheSame}

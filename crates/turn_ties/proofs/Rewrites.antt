@@ -11,8 +11,8 @@ use Rattle.sfs_image.specs.Bytes.{nonzero_in}
 use Rattle.sfs_image.specs.Seen.{Seen, SeenInodes, FILE_BLOCKS}
 use Rattle.sfs_image.specs.Slot.{kind_byte, kind_of as kind_at}
 use Rattle.sfs_image.proofs.Basics.{found_passes}
-use Rattle.sfs_tree.specs.Tree.{TreeState, kind_of, bytes_of, is_directory, is_directory_kind}
-use Rattle.sfs_tree.proofs.Readings.{directory_by_kind}
+use Rattle.tree_laws.specs.Tree.{TreeState, kind_of, bytes_of, is_directory, is_directory_kind}
+use Rattle.tree_laws.proofs.Readings.{directory_by_kind}
 use Rattle.image_tree.specs.Commit.{blank, slots_after}
 use Rattle.image_tree.specs.Need.{Rewrite, directory_rewrite, file_rewrite}
 use Rattle.image_tree.specs.Renamed.{Numbering}

@@ -9,7 +9,7 @@ use Rattle.sfs_base.proofs.BasicOptions.{none_some, some_not_none}
 use Rattle.sfs_base.proofs.BasicTruth.{true_not_false, and_first, and_second, not_true}
 use Rattle.sfs_base.specs.Listed.{is_listed}
 use Rattle.sfs_image.specs.Seen.{SeenInodes}
-use Rattle.sfs_tree.specs.Tree.{TreeState}
+use Rattle.tree_laws.specs.Tree.{TreeState}
 use Rattle.image_tree.specs.Renamed.{Numbering}
 use Rattle.disk_change.specs.Directory.{is_among}
 use Rattle.disk_change.specs.Lists.{AscendBy}

@@ -2,7 +2,7 @@
 use Rattle.std.specs.Prelude.{◌≡◌, true, is_some, List, map, Option}
 use Rattle.sfs_base.specs.declared.numbers.NodeId.{NodeId}
 use Rattle.sfs_base.specs.declared.numbers.Stamp.{Stamp}
-use Rattle.sfs_tree.specs.NameRow.{node_number}
+use Rattle.tree_laws.specs.NameRow.{node_number}
 use Rattle.mem_files.specs.File.{File}
 use Rattle.disk_change.specs.declared.old.OldEntry.{OldEntry}
 use Rattle.dep_closure.specs.declared.gathered.Gathered.{Gathered}

@@ -10,15 +10,15 @@ use Rattle.sfs_base.proofs.BasicTruth.{true_not_false, and_first, and_second}
 use Rattle.sfs_base.specs.declared.numbers.Kind.TheVariants.{File, Directory}
 use Rattle.sfs_image.specs.Seen.{SeenInodes, FILE_BLOCKS}
 use Rattle.sfs_image.specs.Slot.{kind_byte}
-use Rattle.sfs_tree.specs.Tree.{TreeState, Node, is_alive, is_directory}
-use Rattle.sfs_tree.proofs.RowFacts.{root_alive, named_alive, named_or_none}
+use Rattle.tree_laws.specs.Tree.{TreeState, Node, is_alive, is_directory}
+use Rattle.tree_laws.proofs.RowFacts.{root_alive, named_alive, named_or_none}
 use Rattle.image_tree.specs.ImageTree.{Making, is_used, node_shown, tree_with_orphans}
 use Rattle.image_tree.specs.Mount.{StandsByItself, own_numbers}
 use Rattle.image_tree.specs.Renamed.{Numbering, IsMet, root, named}
 use Rattle.image_tree.specs.Stands.{BLOCK_BYTES, own_size}
 use Rattle.image_tree.proofs.Images.{get_node, no_node_outside}
 use Rattle.image_tree.proofs.Standing.{not_used}
-use Rattle.flush_core.specs.LawsInodes.{AreAllAlive}
+use Rattle.cut_laws.specs.LawsInodes.{AreAllAlive}
 use Rattle.cut_trees.specs.Next.{NumbersInodes}
 use Rattle.file_marks.specs.Changed.{HasShortFiles}
 

@@ -8,14 +8,14 @@ use Rattle.sfs_image.specs.Slot.{kind_byte}
 use Rattle.sfs_image.specs.Super.{Layout}
 use Rattle.sfs_image.proofs.RuleFacts.{sizes_say}
 use Rattle.sfs_base.specs.declared.numbers.Kind.TheVariants.{File}
-use Rattle.sfs_tree.specs.Laws.{IsSoundTree}
-use Rattle.sfs_tree.specs.Sound.{IsWithinLimits}
-use Rattle.sfs_tree.specs.Tree.{TreeState}
+use Rattle.tree_laws.specs.Laws.{IsSoundTree}
+use Rattle.tree_laws.specs.Sound.{IsWithinLimits}
+use Rattle.tree_laws.specs.Tree.{TreeState}
 use Rattle.image_tree.specs.Image.{inodes_shown}
 use Rattle.image_tree.specs.ImageTree.{Making, tree_with_orphans}
 use Rattle.image_tree.specs.Mount.{own_numbers}
-use Rattle.flush_core.specs.Closure.{none}
-use Rattle.flush_core.specs.Cut.{tree_at_cut}
+use Rattle.cut_laws.specs.Closure.{none}
+use Rattle.cut_laws.specs.Cut.{tree_at_cut}
 use Rattle.flush_commits.specs.Ready.{KeepsEntries}
 use Rattle.file_marks.specs.Changed.{HasShortFiles}
 use Rattle.crash_laws.proofs.Begins.{first_nodes}

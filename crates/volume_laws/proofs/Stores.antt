@@ -10,7 +10,7 @@ use Rattle.sfs_image.specs.Part.{part_of, pointer_at, IsGathered}
 use Rattle.sfs_image.specs.Seen.{SeenInodes, PLACES}
 use Rattle.sfs_image.specs.Super.{data_start}
 use Rattle.sfs_image.proofs.PartLaws.{gather_same, none_past_places}
-use Rattle.sfs_tree.specs.Tree.{TreeState, bytes_of}
+use Rattle.tree_laws.specs.Tree.{TreeState, bytes_of}
 use Rattle.fmt_journal.specs.declared.tx.TxBlock.{TxBlock}
 use Rattle.image_tree.specs.Image.{inodes_shown}
 use Rattle.journal_one.specs.Packed.{block_of}
@@ -28,8 +28,8 @@ use Rattle.commit_laws.proofs.OwnInodes.{mapped_is_in}
 use Rattle.commit_laws.proofs.PlanShown.{IsBuiltNode, node_built}
 use Rattle.commit_laws.proofs.RewrittenBlocks.{page_bytes}
 use Rattle.commit_laws.proofs.Shown.{found_is_in}
-use Rattle.flush_core.specs.Closure.{Flush}
-use Rattle.flush_core.proofs.Basics.{in_either}
+use Rattle.cut_laws.specs.Closure.{Flush}
+use Rattle.cut_laws.proofs.Basics.{in_either}
 use Rattle.flush_commits.proofs.Clean.{over_parts}
 use Rattle.flush_commits.proofs.Later.{fsyncs_leave_ready}
 use Rattle.space_laws.proofs.Used.{in_some}
@@ -139,7 +139,7 @@ commits_stay_standing volume one later stands is comes there = record {
       | inl before ↦ stands.among.live flush before
       | inr own ↦ elim own [
         | inl same ↦
-            subst (λ (f : Flush). Rattle.flush_core.specs.Closure.HasLiveNode volume.first volume.history f) same comes.live
+            subst (λ (f : Flush). Rattle.cut_laws.specs.Closure.HasLiveNode volume.first volume.history f) same comes.live
         | inr none ↦ absurd none
       ]
     ];

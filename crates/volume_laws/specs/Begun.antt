@@ -8,7 +8,7 @@ use Rattle.sfs_image.specs.ImageOf.{IsImageOf}
 use Rattle.sfs_image.specs.Part.{Part, IsGathered}
 use Rattle.sfs_image.specs.Settled.{image_block, parts_of}
 use Rattle.sfs_image.specs.Super.{Layout, data_start}
-use Rattle.sfs_tree.specs.Tree.{TreeState}
+use Rattle.tree_laws.specs.Tree.{TreeState}
 use Rattle.journal_one.specs.Known.{EachLeft}
 use Rattle.commit_one.specs.Change.{nothing_open}
 use Rattle.image_tree.specs.Image.{inodes_shown}

@@ -7,7 +7,7 @@ use Rattle.std.proofs.Math.Nat.{div-mul-le_self}
 use Rattle.sfs_base.proofs.BasicNumbers.{le_itself}
 use Rattle.sfs_dev.specs.Disk.{View}
 use Rattle.sfs_image.specs.Super.{Layout, IsLayout}
-use Rattle.sfs_tree.specs.Tree.{TreeState}
+use Rattle.tree_laws.specs.Tree.{TreeState}
 use Rattle.journal_one.proofs.Kept.{IsLawful}
 use Rattle.disk_change.specs.declared.old.OldEntry.{OldEntry}
 use Rattle.core_logs.specs.Logs.{AreBlank}

@@ -8,8 +8,8 @@ use Rattle.sfs_base.specs.declared.numbers.NodeId.{NodeId}
 use Rattle.sfs_base.specs.declared.numbers.SpaceKind.{SpaceKind}
 use Rattle.sfs_base.specs.declared.numbers.Stamp.{Stamp}
 use Rattle.sfs_dev.specs.Disk.{View}
-use Rattle.sfs_tree.specs.NameRow.{node_number}
-use Rattle.sfs_tree.specs.Tree.{is_alive}
+use Rattle.tree_laws.specs.NameRow.{node_number}
+use Rattle.tree_laws.specs.Tree.{is_alive}
 use Rattle.journal_one.specs.Packed.{Contents}
 use Rattle.journal_one.specs.declared.doubt.Doubt.{Doubt}
 use Rattle.space_map.specs.Pool.{free_numbers}
@@ -17,7 +17,7 @@ use Rattle.space_map.specs.Space.{Space, GrantedNumbers, shortage}
 use Rattle.space_map.specs.declared.fault.SpaceFault.TheVariants.{NoSpace}
 use Rattle.space_map.specs.declared.grant.Need.{Need}
 use Rattle.disk_change.specs.Planned.{Planned, as_u32}
-use Rattle.flush_core.specs.Closure.{Closure, every_entry}
+use Rattle.cut_laws.specs.Closure.{Closure, every_entry}
 use Rattle.commit_turns.specs.Need.{Amount, nothing}
 use Rattle.fsync_dir.specs.declared.plans.FsyncPlan.{FsyncPlan}
 use Rattle.fsync_plans.specs.Plans.{planned_flush}

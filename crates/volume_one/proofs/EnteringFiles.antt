@@ -14,16 +14,16 @@ use Rattle.sfs_base.proofs.BasicTruth.{true_not_false}
 use Rattle.sfs_base.specs.declared.numbers.Kind.{Kind}
 use Rattle.sfs_base.specs.declared.numbers.Kind.TheVariants.{File as IsFile, Directory as IsDirectory}
 use Rattle.sfs_base.specs.declared.numbers.Stamp.{Stamp}
-use Rattle.sfs_tree.specs.declared.history.Entry.{Entry}
-use Rattle.sfs_tree.specs.Effect.{Effect, Stays, Adds, Removes, Moves, Edits, Edit, Puts, edited, with_edit, tree_with}
-use Rattle.sfs_tree.specs.Fits.{Fits}
-use Rattle.sfs_tree.specs.History.{tree_after}
-use Rattle.sfs_tree.specs.Tree.{TreeState, Node, is_directory, is_directory_kind, next_number}
-use Rattle.sfs_tree.specs.Verdict.{Verdict}
-use Rattle.sfs_tree.proofs.Histories.{tree_after-push}
-use Rattle.sfs_tree.proofs.Holders.{directory_stays}
-use Rattle.sfs_tree.proofs.KeepsNodes.{node_cases}
-use Rattle.flush_core.proofs.Nodes.{node_stays}
+use Rattle.tree_laws.specs.declared.history.Entry.{Entry}
+use Rattle.tree_laws.specs.Effect.{Effect, Stays, Adds, Removes, Moves, Edits, Edit, Puts, edited, with_edit, tree_with}
+use Rattle.tree_laws.specs.Fits.{Fits}
+use Rattle.tree_laws.specs.History.{tree_after}
+use Rattle.tree_laws.specs.Tree.{TreeState, Node, is_directory, is_directory_kind, next_number}
+use Rattle.tree_laws.specs.Verdict.{Verdict}
+use Rattle.tree_laws.proofs.Histories.{tree_after-push}
+use Rattle.tree_laws.proofs.Holders.{directory_stays}
+use Rattle.tree_laws.proofs.KeepsNodes.{node_cases}
+use Rattle.cut_laws.proofs.Nodes.{node_stays}
 use Rattle.mem_files.specs.File.{File, mark_of, is_touched, no_blocks, blocks_of}
 use Rattle.cut_trees.specs.Next.{IsMountedHistory}
 use Rattle.file_marks.specs.FileAt.{IsFileAt, IsMarkedEdit}

@@ -7,8 +7,8 @@ use Rattle.sfs_base.proofs.BasicTruth.{true_not_false}
 use Rattle.sfs_base.specs.Listed.{is_listed}
 use Rattle.sfs_base.specs.declared.numbers.NodeId.{NodeId}
 use Rattle.sfs_image.specs.Part.{Part}
-use Rattle.sfs_tree.specs.NameRow.{node_number}
-use Rattle.sfs_tree.specs.Tree.{TreeState}
+use Rattle.tree_laws.specs.NameRow.{node_number}
+use Rattle.tree_laws.specs.Tree.{TreeState}
 use Rattle.image_tree.specs.Renamed.{Numbering}
 use Rattle.disk_change.specs.Nodes.{entry_node}
 use Rattle.disk_change.specs.declared.old.OldEntry.{OldEntry}
@@ -18,7 +18,7 @@ use Rattle.cut_trees.specs.Next.{NumbersInodes}
 use Rattle.dep_closure.specs.Gathered.{cut_in, born_as}
 use Rattle.dep_closure.specs.declared.gathered.NodeBirth.{NodeBirth}
 use Rattle.dep_closure.specs.declared.gathered.NodeCut.{NodeCut}
-use Rattle.flush_core.specs.Rules.{IsOneOf}
+use Rattle.cut_laws.specs.Rules.{IsOneOf}
 use Rattle.flush_commits.specs.Ready.{KeepsEntries}
 use Rattle.node_lists.specs.Known.{Known}
 use Rattle.volume_one.specs.Begins.{node_of_old}

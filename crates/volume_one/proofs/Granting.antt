@@ -3,7 +3,7 @@ use Rattle.std.proofs.Common.{◌≡◌, true, length, Option, Some, None, sym, 
 use Rattle.sfs_base.specs.declared.numbers.NodeId.{NodeId}
 use Rattle.sfs_base.specs.declared.numbers.Stamp.{Stamp}
 use Rattle.sfs_image.specs.Super.{Layout}
-use Rattle.sfs_tree.specs.Tree.{is_alive}
+use Rattle.tree_laws.specs.Tree.{is_alive}
 use Rattle.journal_one.specs.Packed.{Contents}
 use Rattle.space_map.specs.Space.{Space, GrantedNumbers}
 use Rattle.core_logs.specs.Logs.{AreGathered}

@@ -18,11 +18,11 @@ use Rattle.disk_change.specs.Seated.{Seated}
 use Rattle.commit_laws.specs.PartsMade.{IsPlanOverParts}
 use Rattle.core_logs.specs.Logs.{AreTrimmedOf}
 use Rattle.dep_closure.specs.Gathered.{cut_in, born_as}
-use Rattle.flush_core.specs.Rules.{IsOneOf, births_of}
+use Rattle.cut_laws.specs.Rules.{IsOneOf, births_of}
 use Rattle.flush_commits.proofs.Clean.{over_parts}
 use Rattle.space_laws.specs.Laws.{HasNoneGranted}
 use Rattle.volume_laws.specs.Volume.{Volume, OneFsync, IsPlannedFor, IsVolumeStanding, tree_held, tree_raised}
-use Rattle.sfs_tree.specs.NameRow.{node_number}
+use Rattle.tree_laws.specs.NameRow.{node_number}
 use Rattle.space_map.specs.Space.{Space, GrantedNumbers}
 use Rattle.disk_change.specs.Lists.{AscendBy, item_with}
 use Rattle.disk_change.specs.Nodes.{entry_node, entry_old}
@@ -37,9 +37,9 @@ use Rattle.commit_laws.proofs.PlanShown.{node_built}
 use Rattle.commit_laws.proofs.Shown.{found_is_in}
 use Rattle.core_logs.specs.Kept.{KeepsUnflushed}
 use Rattle.core_logs.proofs.Keeping.{trims_keep_unflushed}
-use Rattle.flush_core.specs.Cut.{cut_of}
-use Rattle.flush_core.proofs.RunFacts.{found_in}
-use Rattle.flush_core.specs.Closure.{Closure, IsConcerned, every_entry}
+use Rattle.cut_laws.specs.Cut.{cut_of}
+use Rattle.cut_laws.proofs.RunFacts.{found_in}
+use Rattle.cut_laws.specs.Closure.{Closure, IsConcerned, every_entry}
 use Rattle.flush_commits.specs.Laws.{AreEntriesAfter}
 use Rattle.flush_commits.specs.Ready.{KeepsEntries}
 use Rattle.flush_commits.proofs.Later.{fsyncs_keep_entries}

@@ -7,8 +7,8 @@ use Rattle.sfs_dev.specs.Run.{CountsOn}
 use Rattle.sfs_dev.specs.Steps.{IfTold}
 use Rattle.sfs_image.specs.Settled.{layout_of}
 use Rattle.sfs_image.specs.Super.{IsLayout}
-use Rattle.sfs_tree.specs.Laws.{IsSoundTree}
-use Rattle.sfs_tree.specs.Sound.{IsWithinLimits}
+use Rattle.tree_laws.specs.Laws.{IsSoundTree}
+use Rattle.tree_laws.specs.Sound.{IsWithinLimits}
 use Rattle.image_tree.specs.Image.{tree_of}
 use Rattle.disk_change.specs.declared.old.OldEntry.{OldEntry}
 use Rattle.journal_one.specs.Calls.{IsCalm}

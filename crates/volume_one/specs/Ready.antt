@@ -1,7 +1,7 @@
 -- A commit that has all that it needs of memory.
 use Rattle.std.specs.Prelude.{◌≡◌, ◌≤◌, [], length, map, Option, None, Some}
 use Rattle.std.specs.List.Sorted.{IsStrictlyIncreasing}
-use Rattle.sfs_tree.specs.NameRow.{node_number}
+use Rattle.tree_laws.specs.NameRow.{node_number}
 use Rattle.fmt_journal.specs.declared.tx.Tx.{Tx}
 use Rattle.journal_one.specs.Packed.{Contents, AreContents, contents_of}
 use Rattle.space_map.specs.Space.{GrantedNumbers}

@@ -3,7 +3,7 @@ use Rattle.std.specs.Prelude.{◌≡◌, ℕ, length}
 use Rattle.std.specs.BTreeMap.{IsOrdered}
 use Rattle.std.specs.Ordering.{nat_cmp}
 use Rattle.sfs_image.specs.Super.{IsLayout}
-use Rattle.sfs_tree.specs.History.{tree_after}
+use Rattle.tree_laws.specs.History.{tree_after}
 use Rattle.core_logs.specs.Kept.{KeepsUnflushed}
 use Rattle.file_marks.specs.Changed.{HasShortFiles}
 use Rattle.flush_commits.specs.Journal.{AreSpelled}

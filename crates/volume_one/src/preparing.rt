@@ -1,7 +1,7 @@
 // What a commit needs of memory, before its first device call.
 ghost use Rattle.std.specs.Prelude.{map, IfOk};
 ghost use Rattle.std.specs.List.Sorted.{IsStrictlyIncreasing};
-ghost use Rattle.sfs_tree.specs.NameRow.{node_number};
+ghost use Rattle.tree_laws.specs.NameRow.{node_number};
 ghost use Rattle.volume_one.specs.Ready.{IsReadyFor, HasReadyRoom, IsSameButRoom, IsUnpacked};
 
 use crate::OpenVolume;

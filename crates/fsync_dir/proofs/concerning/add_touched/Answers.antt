@@ -1,7 +1,7 @@
 use Rattle.std.proofs.Common.{◌≡◌, ℕ, List, subst}
 use Rattle.std.proofs.lemmas.Result.{on_ok_weaker}
-use Rattle.sfs_tree.specs.declared.changes.Change.{Change}
-use Rattle.flush_core.specs.Elements.{OfSome}
+use Rattle.tree_laws.specs.declared.changes.Change.{Change}
+use Rattle.cut_laws.specs.Elements.{OfSome}
 use Rattle.dep_closure.specs.Brought.{AddsTo}
 use Rattle.dep_closure.specs.Gathered.{span_in}
 use Rattle.dep_closure.proofs.Growing.{set_one, set_both}

@@ -3,9 +3,9 @@ use Rattle.std.proofs.lemmas.List.{take_all}
 use Rattle.std.specs.List.Sorted.{IsStrictlyIncreasing}
 use Rattle.sfs_base.specs.declared.numbers.NodeId.{NodeId}
 use Rattle.sfs_base.specs.Listed.{is_listed}
-use Rattle.sfs_tree.specs.NameRow.{node_number}
-use Rattle.flush_core.specs.Elements.{OfSome}
-use Rattle.flush_core.specs.Rules.{IsOneOf}
+use Rattle.tree_laws.specs.NameRow.{node_number}
+use Rattle.cut_laws.specs.Elements.{OfSome}
+use Rattle.cut_laws.specs.Rules.{IsOneOf}
 use Rattle.dep_closure.specs.Brought.{AddsTo}
 use Rattle.dep_closure.proofs.Closed.{listed_one}
 use Rattle.dep_closure.proofs.Growing.{set_more}

@@ -1,5 +1,5 @@
 use Rattle.std.proofs.Common.{take}
-use Rattle.flush_core.specs.Elements.{OfSome}
+use Rattle.cut_laws.specs.Elements.{OfSome}
 use Rattle.dep_closure.specs.Brought.{AddsTo}
 use Rattle.fsync_dir.specs.Concerned.{IsTouchedBy}
 use Rattle.fsync_dir.proofs.concerning.touched_nodes.Given as goal

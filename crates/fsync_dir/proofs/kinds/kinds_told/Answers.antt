@@ -3,7 +3,7 @@ use Rattle.std.proofs.lemmas.List.{take_all}
 use Rattle.std.specs.Option.{option_or}
 use Rattle.disk_change.proofs.Counted.{flat_map_last}
 use Rattle.sfs_base.specs.declared.numbers.NodeId.{NodeId}
-use Rattle.sfs_tree.specs.declared.changes.Change.{Change}
+use Rattle.tree_laws.specs.declared.changes.Change.{Change}
 use Rattle.dep_closure.specs.Gathered.{span_in}
 use Rattle.std.proofs.Common.{List}
 use Rattle.fsync_dir.specs.Kinds.{kind_told, spans_in}

@@ -2,7 +2,7 @@ use Rattle.std.proofs.Common.{◌≡◌, true, List, map, ◌↔◌, subst}
 use Rattle.std.specs.Ordering.{nat_cmp}
 use Rattle.std.specs.BTreeSet.{contains}
 use Rattle.sfs_base.specs.declared.numbers.NodeId.{NodeId}
-use Rattle.sfs_tree.specs.NameRow.{node_number}
+use Rattle.tree_laws.specs.NameRow.{node_number}
 use Rattle.flush_ties.specs.Look.{SeesNaming}
 use Rattle.dep_closure.specs.Gathered.{look_of, lifted_cut}
 use Rattle.fsync_dir.proofs.moved.facts_of.Goals as goal

@@ -7,7 +7,7 @@ use Rattle.std.specs.List.{list_any}
 use Rattle.std.proofs.lemmas.List.{take_all, take_more}
 use Rattle.sfs_base.specs.declared.numbers.NodeId.{NodeId}
 use Rattle.sfs_base.specs.Listed.{is_listed}
-use Rattle.sfs_tree.specs.NameRow.{node_number}
+use Rattle.tree_laws.specs.NameRow.{node_number}
 use Rattle.fsync_dir.specs.Names.{is_named_after}
 use Rattle.fsync_dir.proofs.MemberNets.{listed_more}
 use Rattle.fsync_dir.proofs.Naming.{comes, stays_out}

@@ -1,6 +1,6 @@
 use Rattle.std.proofs.Common.{◌<◌, length, ap, ◌∙◌, arith, get_or}
 use Rattle.absorb.specs.declared.nets.NetRow.{NetRow}
-use Rattle.sfs_tree.specs.NameRow.{number_of}
+use Rattle.tree_laws.specs.NameRow.{number_of}
 use Rattle.disk_change.proofs.Counted.{pushed_more}
 use Rattle.fsync_dir.proofs.names.push_rows.Goals as goal
 

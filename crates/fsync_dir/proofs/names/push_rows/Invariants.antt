@@ -1,5 +1,5 @@
 use Rattle.std.proofs.Common.{◌≡◌, ◌++◌, take, filter_map}
-use Rattle.sfs_tree.specs.NameRow.{number_of}
+use Rattle.tree_laws.specs.NameRow.{number_of}
 use Rattle.fsync_dir.proofs.names.push_rows.Given as goal
 
 abbrev pub invariant-loop-row : goal.invariant-loop-row

@@ -1,8 +1,8 @@
 use Rattle.std.proofs.Common.{◌≡◌, ◌<◌, ◌+◌, ◌-◌, ◌++◌, ◌∷◌, [], ◌∙◌, sym, ap, subst, length, drop, reverse, arith, List}
 use Rattle.std.specs.FinMap.Entries.{put}
 use Rattle.std.proofs.lemmas.List.{reverse-append}
-use Rattle.sfs_tree.specs.Order.{name_cmp}
-use Rattle.sfs_tree.specs.declared.changes.Change.{Change}
+use Rattle.tree_laws.specs.Order.{name_cmp}
+use Rattle.tree_laws.specs.declared.changes.Change.{Change}
 use Rattle.absorb.specs.Last.{lent, AreLast}
 use Rattle.absorb.proofs.LastChanges.{lent-inserted, AreLast-push}
 use Rattle.dep_closure.proofs.Ends.{from_there}

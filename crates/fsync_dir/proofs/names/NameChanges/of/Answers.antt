@@ -2,7 +2,7 @@ use Rattle.std.proofs.Common.{◌<◌, ◌++◌, length, sym, ap, ◌∙◌, ari
 use Rattle.std.proofs.lemmas.List.{take_all}
 use Rattle.std.proofs.lemmas.List.Sorted.{sum_by-IsPermutation}
 use Rattle.sfs_base.specs.declared.numbers.NodeId.{NodeId}
-use Rattle.sfs_tree.specs.NameRow.{number_of}
+use Rattle.tree_laws.specs.NameRow.{number_of}
 use Rattle.disk_change.specs.Links.{times_in}
 use Rattle.absorb.specs.declared.nets.NetRow.{NetRow}
 use Rattle.disk_change.specs.declared.directory_net.DirectoryNet.{DirectoryNet}
