@@ -15,9 +15,9 @@ use Rattle.tree_laws.proofs.Names.{get-names_where}
 use Rattle.tree_laws.proofs.Readings.{directory_by_kind}
 use Rattle.absorb.specs.declared.nets.NetRow.{NetRow}
 use Rattle.absorb.specs.Net.{IsNetRow}
-use Rattle.image_tree.specs.Renamed.{Numbering, HasNumber}
-use Rattle.image_tree.proofs.Numbers.{granted}
-use Rattle.image_tree.proofs.Standing.{byte_directory}
+use Rattle.image_laws.specs.Renamed.{Numbering, HasNumber}
+use Rattle.image_laws.proofs.Numbers.{granted}
+use Rattle.image_laws.proofs.Standing.{byte_directory}
 use Rattle.space_map.specs.Space.{GrantedNumbers}
 use Rattle.disk_change.specs.Directory.{is_among}
 use Rattle.disk_change.specs.Links.{directory_old, directory_entering, directories_concerned}

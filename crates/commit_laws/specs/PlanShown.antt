@@ -2,8 +2,8 @@
 use Rattle.std.specs.Prelude.{◌≡◌, ℕ, ◌<◌, ◌^◌, List, [], length, None, Some, Contains}
 use Rattle.sfs_image.specs.Seen.{SeenInodes}
 use Rattle.tree_laws.specs.Tree.{TreeState, bytes_of, links_of}
-use Rattle.image_tree.specs.Renamed.{Numbering}
-use Rattle.image_tree.specs.Sizes.{DirectoriesFit}
+use Rattle.image_laws.specs.Renamed.{Numbering}
+use Rattle.image_laws.specs.Sizes.{DirectoriesFit}
 use Rattle.space_map.specs.Space.{GrantedNumbers}
 use Rattle.disk_change.specs.AllBuilt.{nodes_with_grant, after_commit}
 use Rattle.disk_change.specs.Built.{Built}

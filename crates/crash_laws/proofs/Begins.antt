@@ -10,7 +10,7 @@ use Rattle.cut_laws.specs.Closure.{none}
 use Rattle.cut_laws.specs.Cut.{cut_of, tree_at_cut}
 use Rattle.cut_laws.specs.LawsGrowth.{HasMoreNodes}
 use Rattle.cut_laws.proofs.CutNodes.{node_at_cut_is}
-use Rattle.image_tree.specs.Image.{IsReadAsTree}
+use Rattle.image_laws.specs.Image.{IsReadAsTree}
 use Rattle.crash_laws.specs.Laws.{RunsBegin}
 use Rattle.crash_laws.specs.Listed.{AreListed}
 use Rattle.crash_laws.proofs.Shapes.{shape_of_more, read_as}

@@ -9,7 +9,7 @@ use Rattle.cut_laws.specs.Covers.{IsAcknowledged}
 use Rattle.cut_laws.specs.Cut.{Cut, tree_at_cut}
 use Rattle.cut_laws.specs.Rules.{IsOneOf}
 use Rattle.cut_laws.proofs.Basics.{below_or, in_right, in_either}
-use Rattle.image_tree.specs.Image.{IsReadAsTree}
+use Rattle.image_laws.specs.Image.{IsReadAsTree}
 use Rattle.crash_laws.specs.Laws.{CommitsKeep, FailuresKeep}
 use Rattle.crash_laws.specs.Listed.{MayBeWritten, IsAcknowledgedBy, AreListed}
 use Rattle.crash_laws.specs.SoFar.{IsAtACut, SoFar, Stands, StandsSoFar}

@@ -13,7 +13,7 @@ use Rattle.cut_laws.specs.Rules.{IsOneOf}
 use Rattle.cut_laws.proofs.Lists.{lists_keep}
 use Rattle.cut_laws.proofs.RunFacts.{cuts_stay_low}
 use Rattle.cut_laws.proofs.WholeHistory.{none_above, flushes_grow, cut_trees_grow}
-use Rattle.image_tree.specs.Image.{IsReadAsTree}
+use Rattle.image_laws.specs.Image.{IsReadAsTree}
 use Rattle.crash_laws.specs.Listed.{IsListedFsync}
 use Rattle.crash_laws.specs.SoFar.{IsAtACut}
 use Rattle.crash_laws.proofs.Fsyncs.{HasLast, listed_live, listed_within, legal_before}

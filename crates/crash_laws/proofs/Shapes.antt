@@ -8,9 +8,9 @@ use Rattle.tree_laws.specs.Sound.{IsSound}
 use Rattle.tree_laws.specs.Tree.{TreeState, row_of}
 use Rattle.tree_laws.proofs.KeepsNodes.{directory_node}
 use Rattle.cut_laws.specs.LawsGrowth.{HasMoreNodes}
-use Rattle.image_tree.specs.Image.{IsReadAsTree}
-use Rattle.image_tree.specs.Renamed.{Numbering, IsMet, root, named, IsRenamed}
-use Rattle.image_tree.proofs.Shapes.{renamed_trees_have_one_shape}
+use Rattle.image_laws.specs.Image.{IsReadAsTree}
+use Rattle.image_laws.specs.Renamed.{Numbering, IsMet, root, named, IsRenamed}
+use Rattle.image_laws.proofs.Shapes.{renamed_trees_have_one_shape}
 
 -- the numbering that leaves each node its number
 abbrev itself : Numbering

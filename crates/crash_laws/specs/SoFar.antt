@@ -8,7 +8,7 @@ use Rattle.cut_laws.specs.Closure.{every_entry, Flush, AreFlushed}
 use Rattle.cut_laws.specs.Covers.{IsAcknowledged}
 use Rattle.cut_laws.specs.Cut.{Cut, tree_at_cut}
 use Rattle.cut_laws.specs.Rules.{IsOneOf}
-use Rattle.image_tree.specs.Image.{IsReadAsTree}
+use Rattle.image_laws.specs.Image.{IsReadAsTree}
 use Rattle.crash_laws.specs.Listed.{AreListed, IsAcknowledgedBy}
 
 -- An image that a crash at a moment may leave is read as the tree at a cut that listed fsyncs of the history have raised.

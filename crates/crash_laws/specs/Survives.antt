@@ -10,7 +10,7 @@ use Rattle.cut_laws.specs.Closure.{every_entry, Flush, AreFlushed}
 use Rattle.cut_laws.specs.Covers.{IsAcknowledged, Covers}
 use Rattle.cut_laws.specs.Cut.{Cut, tree_at_cut}
 use Rattle.cut_laws.specs.Rules.{IsOneOf, IsClosed}
-use Rattle.image_tree.specs.Image.{IsReadAsTree}
+use Rattle.image_laws.specs.Image.{IsReadAsTree}
 use Rattle.crash_laws.specs.Listed.{IsListedFsync, IsAcknowledgedBy, StampsDiffer}
 
 -- Fsyncs stand in the order in which they were acknowledged.

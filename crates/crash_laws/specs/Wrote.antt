@@ -7,7 +7,7 @@ use Rattle.tree_laws.specs.declared.history.Entry.{Entry}
 use Rattle.tree_laws.specs.Tree.{TreeState}
 use Rattle.cut_laws.specs.Closure.{every_entry, Flush, IsRaised, AreInodesAfter}
 use Rattle.cut_laws.specs.Cut.{Cut}
-use Rattle.image_tree.specs.Image.{IsReadAsTree}
+use Rattle.image_laws.specs.Image.{IsReadAsTree}
 use Rattle.crash_laws.specs.Listed.{IsFsyncOf}
 use Rattle.crash_laws.specs.SoFar.{HoldsTree}
 

@@ -8,7 +8,7 @@ use Rattle.tree_laws.specs.Tree.{TreeState, row_of, is_directory}
 use Rattle.tree_laws.specs.Effect.{Effect, Stays, Adds, Removes, Moves, Edits, rows_after}
 use Rattle.tree_laws.specs.Changes.{RowChange, added, removed, other_side, replaced, changes_by}
 use Rattle.tree_laws.proofs.Joined.{key_cmp_total}
-use Rattle.sfs_tree.proofs.Moved as moved
+use Rattle.tree_laws.proofs.Swapped as swaps
 use Rattle.tree_laws.proofs.RowFacts.{added_other, removed_other}
 use Rattle.cut_laws.specs.Cut.{with_own}
 use Rattle.cut_laws.specs.Rules.{IsOneOf}
@@ -70,7 +70,7 @@ folds rows tree t (Moves p n q m c) =
     elim (row_of tree q m) as (λ o. fold with_own rows (replaced tree t p q m o ++ removed t p n c (other_side p q) false ∷ added t q m c (other_side q p) ∷ [])
     ≡ insert (remove rows (p, n)) (q, m) c) [
       | None ↦ refl
-      | Some there ↦ moved.replaced rows (p, n) (q, m) c
+      | Some there ↦ swaps.replaced rows (p, n) (q, m) c
     ]
 
 -- each change of an effect has its stamp

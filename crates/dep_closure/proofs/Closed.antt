@@ -12,7 +12,7 @@ use Rattle.sfs_base.proofs.BasicNumbers.{same_number}
 use Rattle.sfs_base.proofs.BasicTruth.{or_true}
 use Rattle.cut_laws.specs.Rules.{IsOneOf}
 use Rattle.cut_laws.proofs.Basics.{in_left, in_right, in_either}
-use Rattle.flush_ties.specs.Look.{Look, Gathers, itself, other_side, ended, ancestor, birth_place}
+use Rattle.look_laws.specs.Look.{Look, Gathers, itself, other_side, ended, ancestor, birth_place}
 use Rattle.dep_closure.specs.declared.members.Found.{Found}
 use Rattle.dep_closure.specs.Brought.{ChangeBrings, MemberBrings, GrowsBy}
 

@@ -11,8 +11,8 @@ use Rattle.cut_laws.specs.Cut.{Cut, cut_of}
 use Rattle.cut_laws.specs.Closure.{Counts}
 use Rattle.cut_laws.specs.Rules.{IsChange}
 use Rattle.cut_laws.proofs.Listed.{to_map}
-use Rattle.flush_ties.specs.Look.{Noted}
-use Rattle.flush_ties.specs.Fit.{IsNoted}
+use Rattle.look_laws.specs.Look.{Noted}
+use Rattle.look_laws.specs.Fit.{IsNoted}
 use Rattle.dep_closure.specs.declared.gathered.Gathered.{Gathered}
 use Rattle.dep_closure.specs.Gathered.{look_of, noted_as, noted_in}
 use Rattle.dep_closure.specs.History.{HasUnflushed}

@@ -34,8 +34,8 @@ use Rattle.cut_laws.proofs.Along.{tree_at, core_at, effect_at, makes_at, tree_at
 use Rattle.cut_laws.proofs.Basics.{in_either, filter_all, filter_none}
 use Rattle.cut_laws.proofs.Listed.{from_map, to_map}
 use Rattle.cut_laws.proofs.RunFacts.{in_filter}
-use Rattle.flush_ties.specs.Fit.{IsTrue}
-use Rattle.flush_ties.proofs.Fitting.{looks_fit}
+use Rattle.look_laws.specs.Fit.{IsTrue}
+use Rattle.look_laws.proofs.Fitting.{looks_fit}
 use Rattle.dep_closure.specs.declared.gathered.DirectoryChanges.{DirectoryChanges}
 use Rattle.dep_closure.specs.Gathered.{noted_as, noted_in}
 use Rattle.dep_closure.specs.History.{logged_of, IsLogOf}

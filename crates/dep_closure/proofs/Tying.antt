@@ -19,7 +19,7 @@ use Rattle.tree_laws.specs.NameRow.{node_number, number_of}
 use Rattle.cut_laws.specs.Rules.{IsOneOf}
 use Rattle.cut_laws.specs.Elements.{OfSome}
 use Rattle.cut_laws.proofs.Listed.{from_map, to_map}
-use Rattle.flush_ties.specs.Look.{Noted, Born, Look, InSight, SeesNaming}
+use Rattle.look_laws.specs.Look.{Noted, Born, Look, InSight, SeesNaming}
 use Rattle.cut_laws.proofs.RunFacts.{found_in, in_filter}
 use Rattle.dep_closure.specs.declared.gathered.DirectoryChanges.{DirectoryChanges}
 use Rattle.mem_cells.specs.Log.{is_from}

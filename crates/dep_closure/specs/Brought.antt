@@ -8,7 +8,7 @@ use Rattle.sfs_base.specs.Listed.{is_listed}
 use Rattle.tree_laws.specs.declared.changes.Change.{Change}
 use Rattle.tree_laws.specs.NameRow.{node_number, number_of}
 use Rattle.cut_laws.specs.Rules.{IsOneOf}
-use Rattle.flush_ties.specs.Look.{Noted, Look, InSight, SeesNaming}
+use Rattle.look_laws.specs.Look.{Noted, Look, InSight, SeesNaming}
 use Rattle.dep_closure.specs.declared.gathered.Gathered.{Gathered}
 use Rattle.dep_closure.specs.declared.members.Found.{Found}
 use Rattle.dep_closure.specs.Gathered.{birth_node}

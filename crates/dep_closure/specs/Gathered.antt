@@ -11,7 +11,7 @@ use Rattle.tree_laws.specs.Logged.{erased}
 use Rattle.tree_laws.specs.NameRow.{node_number}
 use Rattle.mem_cells.specs.Log.{IsInOrder}
 use Rattle.cut_laws.specs.Rules.{IsOneOf}
-use Rattle.flush_ties.specs.Look.{Noted, Born, Look}
+use Rattle.look_laws.specs.Look.{Noted, Born, Look}
 use Rattle.dep_closure.specs.declared.gathered.DirectoryChanges.{DirectoryChanges}
 use Rattle.dep_closure.specs.declared.gathered.NodeCut.{NodeCut}
 use Rattle.dep_closure.specs.declared.gathered.NodeBirth.{NodeBirth}

@@ -10,8 +10,8 @@ use Rattle.tree_laws.specs.Laws.{IsSoundTree}
 use Rattle.cut_laws.specs.Cut.{Cut}
 use Rattle.cut_laws.specs.Rules.{IsOneOf}
 use Rattle.cut_laws.specs.Closure.{Counts, Closure}
-use Rattle.flush_ties.specs.Look.{Noted, Gathers}
-use Rattle.flush_ties.specs.Fit.{IsTrue, KnowsEnough}
+use Rattle.look_laws.specs.Look.{Noted, Gathers}
+use Rattle.look_laws.specs.Fit.{IsTrue, KnowsEnough}
 use Rattle.dep_closure.specs.declared.gathered.DirectoryChanges.{DirectoryChanges}
 use Rattle.dep_closure.specs.declared.gathered.Gathered.{Gathered}
 use Rattle.dep_closure.specs.Gathered.{look_of}

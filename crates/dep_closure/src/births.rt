@@ -9,7 +9,7 @@ ghost use Rattle.sfs_base.specs.declared.numbers.Stamp.{Stamp};
 ghost use Rattle.tree_laws.specs.NameRow.{node_number};
 ghost use Rattle.mem_cells.specs.Log.{IsInOrder};
 ghost use Rattle.cut_laws.specs.Elements.{OfSome};
-ghost use Rattle.flush_ties.specs.Look.{SeesNaming};
+ghost use Rattle.look_laws.specs.Look.{SeesNaming};
 ghost use Rattle.dep_closure.specs.Brought.{AddsTo, birthplace_due};
 ghost use Rattle.dep_closure.specs.Gathered.{IsOrderly, look_of, lifted_cut, IsNamedByLog};
 

@@ -5,7 +5,7 @@ ghost use Rattle.std.specs.BTreeSet.{contains};
 ghost use Rattle.sfs_base.specs.declared.numbers.NodeId.{NodeId};
 ghost use Rattle.mem_cells.specs.Log.{IsInOrder};
 ghost use Rattle.cut_laws.specs.Elements.{OfSome};
-ghost use Rattle.flush_ties.specs.Look.{SeesNaming};
+ghost use Rattle.look_laws.specs.Look.{SeesNaming};
 ghost use Rattle.dep_closure.specs.Brought.{GrowsBy, ChangeBrings, LoggedBrings, AreOfOneDirectory, SpanBrings, MemberBrings};
 ghost use Rattle.dep_closure.specs.Gathered.{IsOrderly, look_of, noted_as};
 

@@ -14,7 +14,7 @@ use Rattle.tree_laws.specs.Order.{name_cmp}
 use Rattle.tree_laws.proofs.RowsByName.{less_true}
 use Rattle.absorb.specs.Net.{net_name}
 use Rattle.absorb.specs.declared.nets.NetRow.{NetRow}
-use Rattle.image_tree.specs.Commit.{row_in_net}
+use Rattle.image_laws.specs.Commit.{row_in_net}
 use Rattle.disk_change.specs.Lists.{NamesAscend}
 
 -- a name is less than itself by no order

@@ -7,8 +7,8 @@ use Rattle.std.specs.Option.{option_map_or}
 use Rattle.tree_laws.specs.Tree.{kind_if}
 use Rattle.absorb.specs.declared.nets.NetRow.{NetRow}
 use Rattle.sfs_image.specs.Slot.{Row}
-use Rattle.image_tree.specs.Commit.{row_in_net}
-use Rattle.image_tree.specs.Slots.{BLOCK_SLOTS}
+use Rattle.image_laws.specs.Commit.{row_in_net}
+use Rattle.image_laws.specs.Slots.{BLOCK_SLOTS}
 
 -- whether a node is one of these directories
 abbrev pub is_among : List ℕ → ℕ → Bool

@@ -22,9 +22,9 @@ use Rattle.tree_laws.specs.Tree.{TreeState, row_of, count_of, names_it, is_direc
 use Rattle.tree_laws.proofs.Counting.{count_some, only, same_itself}
 use Rattle.tree_laws.proofs.RowFacts.{holder_found}
 use Rattle.tree_laws.proofs.Walks.{Chain, chain_within, walk_meets}
-use Rattle.image_tree.specs.ImageTree.{image_rows}
-use Rattle.image_tree.specs.Keeps.{ruled_tree}
-use Rattle.image_tree.specs.Rules.{is_unreached}
+use Rattle.image_laws.specs.ImageTree.{image_rows}
+use Rattle.image_laws.specs.Keeps.{ruled_tree}
+use Rattle.image_laws.specs.Rules.{is_unreached}
 use Rattle.disk_tree.specs.Apart.{is_marked}
 use Rattle.disk_tree.specs.Built.{entry_of_row, row_entries, entries_at, entries_to}
 use Rattle.disk_tree.specs.First.{NonePasses}

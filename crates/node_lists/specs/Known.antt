@@ -5,7 +5,7 @@ use Rattle.sfs_base.specs.declared.numbers.NodeId.{NodeId}
 use Rattle.tree_laws.specs.NameRow.{node_number}
 use Rattle.disk_change.specs.Lists.{AscendBy, item_with}
 use Rattle.cut_laws.specs.Rules.{IsOneOf}
-use Rattle.flush_ties.specs.Look.{Born}
+use Rattle.look_laws.specs.Look.{Born}
 use Rattle.dep_closure.specs.declared.gathered.DirectoryChanges.{DirectoryChanges}
 use Rattle.dep_closure.specs.declared.gathered.Gathered.{Gathered}
 use Rattle.dep_closure.specs.declared.gathered.NodeCut.{NodeCut}

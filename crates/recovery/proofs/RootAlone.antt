@@ -24,12 +24,12 @@ use Rattle.tree_laws.specs.Tree.{BUCKET_ROWS, Node, TreeState, bucket_rows, coun
 use Rattle.tree_laws.proofs.Names.{entries-names_where}
 use Rattle.tree_laws.proofs.KeepsNodes.{node_cases}
 use Rattle.tree_laws.proofs.SoundTrees.{root_alone_is_sound}
-use Rattle.image_tree.specs.Image.{HasGoodBytes, HaveGoodBytes, inodes_shown, IsReadAsTree}
-use Rattle.image_tree.specs.Renamed.{Numbering, IsMet}
-use Rattle.image_tree.specs.Renamed.IsMet.{root as met_root}
-use Rattle.image_tree.specs.Slots.{BLOCK_SLOTS, looked_up, name_count}
-use Rattle.image_tree.specs.Stands.{BLOCK_BYTES, row_on, ShowsNode, StandsForSoundTree}
-use Rattle.image_tree.proofs.WholeImages.{standing_images_are_read}
+use Rattle.image_laws.specs.Image.{HasGoodBytes, HaveGoodBytes, inodes_shown, IsReadAsTree}
+use Rattle.image_laws.specs.Renamed.{Numbering, IsMet}
+use Rattle.image_laws.specs.Renamed.IsMet.{root as met_root}
+use Rattle.image_laws.specs.Slots.{BLOCK_SLOTS, looked_up, name_count}
+use Rattle.image_laws.specs.Stands.{BLOCK_BYTES, row_on, ShowsNode, StandsForSoundTree}
+use Rattle.image_laws.proofs.WholeImages.{standing_images_are_read}
 use Rattle.recovery.specs.Mkfs.{JustMadeHasRootAlone}
 
 -- the root has its own number, and no other node has one

@@ -11,8 +11,8 @@ use Rattle.tree_laws.specs.Sound.{IsWithinLimits}
 use Rattle.commit_one.specs.Carried.{GoesOnTelling}
 use Rattle.commit_one.specs.Change.{nothing_open}
 use Rattle.journal_one.specs.Known.{EachLeft}
-use Rattle.image_tree.specs.Image.{fault_of, tree_of, inodes_shown}
-use Rattle.image_tree.specs.ImageTree.{image_tree}
+use Rattle.image_laws.specs.Image.{fault_of, tree_of, inodes_shown}
+use Rattle.image_laws.specs.ImageTree.{image_tree}
 use Rattle.disk_tree.specs.Found.{making_when_read}
 use Rattle.disk_tree.specs.Judged.{fault_of_parts}
 use Rattle.disk_tree.specs.KeptParts.{kept_in_use}

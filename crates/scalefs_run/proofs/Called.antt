@@ -16,8 +16,8 @@ use Rattle.volume_one.specs.declared.flushed.Flushed.{Flushed}
 use Rattle.sfs_base.specs.Lists.{Roomy}
 use Rattle.sfs_base.proofs.BasicTruth.{false_not_true}
 use Rattle.tree_laws.specs.declared.turns.Turn.{Turn}
-use Rattle.commit_turns.specs.Need.{ImageState}
-use Rattle.commit_turns.specs.OneThread.{ComesNext}
+use Rattle.turn_laws.specs.Need.{ImageState}
+use Rattle.turn_laws.specs.OneThread.{ComesNext}
 use Rattle.volume_one.specs.declared.deed.Deed.{Deed}
 use Rattle.scalefs_run.specs.Acks.{MomentsRise}
 use Rattle.scalefs_run.specs.Turns.{TurnsSoFar, turns_by, turns_told}

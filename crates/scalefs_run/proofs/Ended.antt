@@ -13,9 +13,9 @@ use Rattle.scalefs_run.specs.Acks.{AcksRise}
 use Rattle.scalefs_run.specs.Images.{SurvivesRun}
 use Rattle.scalefs_run.specs.Replies.{HasAnswers, HasAnswersSoFar}
 use Rattle.tree_laws.specs.declared.turns.Turn.{Turn}
-use Rattle.commit_turns.specs.Need.{ImageState}
-use Rattle.commit_turns.specs.Recorded.{IsRecorded}
-use Rattle.commit_turns.proofs.Failed.{standing_are_recorded, failed_are_recorded}
+use Rattle.turn_laws.specs.Need.{ImageState}
+use Rattle.turn_laws.specs.Recorded.{IsRecorded}
+use Rattle.turn_laws.proofs.Failed.{standing_are_recorded, failed_are_recorded}
 use Rattle.turn_ties.specs.Plans.{rest_of}
 use Rattle.scalefs_run.specs.Turns.{TurnsSoFar}
 use Rattle.scalefs_run.specs.RunInvariant.{RunStands, StandsNow, IsSafeEnd, StandsAtEnd, HasInvariant, KeepsInvariant, HasEnded, EndsRun}

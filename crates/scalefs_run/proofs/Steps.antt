@@ -30,7 +30,7 @@ use Rattle.volume_one.specs.declared.flushed.Flushed.{Flushed}
 use Rattle.volume_one.specs.declared.volume.OpenVolume.{OpenVolume}
 use Rattle.tree_laws.specs.declared.reply.Code.TheVariants.{NoEntry}
 use Rattle.tree_laws.specs.declared.turns.Turn.{Turn}
-use Rattle.commit_turns.specs.Need.{ImageState, node_bound}
+use Rattle.turn_laws.specs.Need.{ImageState, node_bound}
 use Rattle.commit_one.specs.Carried.{sealed_at}
 use Rattle.volume_one.specs.Deeds.{DidStay, IsDurableDeed}
 use Rattle.volume_one.specs.declared.deed.Deed.{Deed}

@@ -22,12 +22,12 @@ use Rattle.sfs_dev.specs.Disk.{View}
 use Rattle.cut_laws.specs.Closure.{Flush}
 use Rattle.cut_laws.specs.Rules.{IsOneOf as Among}
 use Rattle.cut_laws.proofs.Basics.{in_either}
-use Rattle.commit_turns.specs.LawsOneThread.{TakesNoTurn}
-use Rattle.commit_turns.specs.Need.{ImageState, IsMadeBy, node_bound}
-use Rattle.commit_turns.specs.OneThread.{Resting, TurnsStand, TurnsFailed, ComesNext, IsNextFsync, MayBegin, fsync_of, turn_of}
-use Rattle.commit_turns.proofs.Failed.{calls_fail, halts_fail}
-use Rattle.commit_turns.proofs.Standing.{calls_stand}
-use Rattle.commit_turns.proofs.WholeFsyncs.{commits_stand, empty_commits_stand, shorts_stand, given_back_stand, doubts_fail, opened_doubts_fail}
+use Rattle.turn_laws.specs.LawsOneThread.{TakesNoTurn}
+use Rattle.turn_laws.specs.Need.{ImageState, IsMadeBy, node_bound}
+use Rattle.turn_laws.specs.OneThread.{Resting, TurnsStand, TurnsFailed, ComesNext, IsNextFsync, MayBegin, fsync_of, turn_of}
+use Rattle.turn_laws.proofs.Failed.{calls_fail, halts_fail}
+use Rattle.turn_laws.proofs.Standing.{calls_stand}
+use Rattle.turn_laws.proofs.WholeFsyncs.{commits_stand, empty_commits_stand, shorts_stand, given_back_stand, doubts_fail, opened_doubts_fail}
 use Rattle.turn_ties.specs.Plans.{Planning, planning_of, image_once_left, rest_of, machine_of_rest, made_of, HasPlan}
 use Rattle.turn_ties.proofs.Leaves.{commits_leave_images, empty_commits_leave_images}
 use Rattle.turn_ties.proofs.Made.{plans_are_made, rests_go_on}

@@ -7,7 +7,7 @@ use Rattle.sfs_dev.specs.Disk.{View, images}
 use Rattle.sfs_dev.specs.Run.{CountsOn, EachMoment, Unwritten}
 use Rattle.sfs_dev.specs.Steps.{IfTold}
 use Rattle.sfs_image.specs.Super.{Layout, data_start}
-use Rattle.image_tree.specs.Image.{ImageFault as Fault, Super as SuperFault, Journal as JournalFault, Tree as TreeFault, fault_of, tree_of}
+use Rattle.image_laws.specs.Image.{ImageFault as Fault, Super as SuperFault, Journal as JournalFault, Tree as TreeFault, fault_of, tree_of}
 use Rattle.journal_one.specs.Calls.{IsCalm}
 use Rattle.journal_one.specs.Known.{EachLeft}
 use Rattle.recovery.specs.Mkfs.{HasRootAlone}

@@ -6,8 +6,8 @@ use Rattle.tree_laws.specs.History.{IsLegal}
 use Rattle.tree_laws.specs.Tree.{TreeState}
 use Rattle.sfs_dev.specs.Disk.{View}
 use Rattle.sfs_dev.specs.Run.{CountsOn}
-use Rattle.commit_turns.specs.Need.{ImageState, node_bound}
-use Rattle.commit_turns.specs.Recorded.{IsRecorded}
+use Rattle.turn_laws.specs.Need.{ImageState, node_bound}
+use Rattle.turn_laws.specs.Recorded.{IsRecorded}
 use Rattle.cut_laws.specs.Closure.{Flush}
 use Rattle.cut_laws.specs.Cut.{Cut}
 use Rattle.crash_laws.specs.SoFar.{SoFar, Stands, StandsSoFar}

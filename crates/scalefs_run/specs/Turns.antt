@@ -15,15 +15,15 @@ use Rattle.tree_laws.specs.declared.turns.TurnAct.TheVariants as act
 use Rattle.tree_laws.specs.Tree.{TreeState}
 use Rattle.sfs_dev.specs.Disk.{View}
 use Rattle.sfs_dev.specs.Run.{CountsOn}
-use Rattle.image_tree.specs.Image.{inodes_shown}
-use Rattle.image_tree.specs.Renamed.{Numbering}
-use Rattle.image_tree.specs.Stands.{StandsForTree}
+use Rattle.image_laws.specs.Image.{inodes_shown}
+use Rattle.image_laws.specs.Renamed.{Numbering}
+use Rattle.image_laws.specs.Stands.{StandsForTree}
 use Rattle.commit_one.specs.Change.{nothing_open}
 use Rattle.cut_laws.specs.Cut.{tree_at_cut}
 use Rattle.cut_laws.specs.Rules.{IsOneOf}
-use Rattle.commit_turns.specs.Need.{ImageState}
-use Rattle.commit_turns.specs.OneThread.{TurnsStand, TurnsFailed, turn_of}
-use Rattle.commit_turns.specs.Recorded.{IsRecorded}
+use Rattle.turn_laws.specs.Need.{ImageState}
+use Rattle.turn_laws.specs.OneThread.{TurnsStand, TurnsFailed, turn_of}
+use Rattle.turn_laws.specs.Recorded.{IsRecorded}
 use Rattle.space_laws.specs.Laws.{state_of_parts}
 use Rattle.turn_ties.specs.Plans.{rest_of}
 use Rattle.volume_laws.specs.Volume.{Volume}

@@ -1,6 +1,6 @@
 // The turns at the disk that an fsync took, by what it did.
 ghost use Rattle.std.specs.Prelude.{◌≡◌, ◌≤◌, ◌<◌, ◌-◌, ◌^◌, ◌++◌};
-ghost use Rattle.commit_turns.specs.OneThread.{turn_of};
+ghost use Rattle.turn_laws.specs.OneThread.{turn_of};
 ghost use Rattle.scalefs_run.specs.Turns.{turns_of, turns_told, short_turns, failed_turns, moment_of};
 
 use sfs_base::NodeId;

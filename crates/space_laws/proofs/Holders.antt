@@ -9,8 +9,8 @@ use Rattle.sfs_image.specs.Seen.{PLACES, FILE_BLOCKS}
 use Rattle.sfs_image.specs.Super.{Layout}
 use Rattle.tree_laws.specs.declared.history.Entry.{Entry}
 use Rattle.tree_laws.specs.Tree.{TreeState}
-use Rattle.image_tree.specs.Need.{Rewrite, pointer_after, rewrites_table, table_has_pointer}
-use Rattle.image_tree.specs.Renamed.{Numbering}
+use Rattle.image_laws.specs.Need.{Rewrite, pointer_after, rewrites_table, table_has_pointer}
+use Rattle.image_laws.specs.Renamed.{Numbering}
 use Rattle.block_map.specs.Kept.{Kept, pointer_kept}
 use Rattle.block_map.specs.Remap.{gives_up, fresh_for}
 use Rattle.disk_change.specs.Lists.{item_with}
@@ -21,7 +21,7 @@ use Rattle.commit_laws.proofs.KeptShown.{kept_parts_show}
 use Rattle.commit_laws.proofs.KnownDirectories.{own_item}
 use Rattle.cut_laws.specs.Closure.{Flush}
 use Rattle.cut_laws.specs.Cut.{Cut}
-use Rattle.flush_commits.specs.Ready.{IsBetweenCommits, KeepsEntries}
+use Rattle.flush_laws.specs.Ready.{IsBetweenCommits, KeepsEntries}
 
 -- the block that an entry has at a place
 abbrev pub pointer_in : OldEntry → ℕ → ℕ

@@ -35,3 +35,4 @@ pub mod SoundTree
 pub mod SoundTrees
 pub mod Touches
 pub mod Walks
+pub mod Swapped

@@ -15,6 +15,10 @@ abbrev pub is_directory_kind : Kind → Bool
 is_directory_kind Directory = true
 is_directory_kind File = false
 
+-- 1 where it is so, and else 0
+abbrev pub one_if : Bool → ℕ
+one_if holds = if holds then 1 else 0
+
 -- directory or not, as a kind
 abbrev pub kind_if : Bool → Kind
 kind_if true = Directory

@@ -13,11 +13,11 @@ use Rattle.tree_laws.proofs.Names.{get-names_where}
 use Rattle.tree_laws.proofs.Readings.{directory_by_kind}
 use Rattle.absorb.specs.declared.nets.NetRow.{NetRow}
 use Rattle.absorb.specs.Net.{IsNetRow}
-use Rattle.image_tree.specs.Commit.{blank}
-use Rattle.image_tree.specs.Renamed.{Numbering}
-use Rattle.image_tree.specs.Sizes.{DirectoriesFit}
-use Rattle.image_tree.specs.Stands.{StandsForTree}
-use Rattle.image_tree.proofs.Standing.{byte_directory}
+use Rattle.image_laws.specs.Commit.{blank}
+use Rattle.image_laws.specs.Renamed.{Numbering}
+use Rattle.image_laws.specs.Sizes.{DirectoriesFit}
+use Rattle.image_laws.specs.Stands.{StandsForTree}
+use Rattle.image_laws.proofs.Standing.{byte_directory}
 use Rattle.disk_change.specs.Directory.{is_among}
 use Rattle.disk_change.specs.Links.{directories_concerned}
 use Rattle.disk_change.specs.Nodes.{net_node}

@@ -19,9 +19,9 @@ use Rattle.cut_laws.specs.Closure.{every_entry, itself}
 use Rattle.cut_laws.specs.Cut.{cut_of, tree_at_cut}
 use Rattle.cut_laws.proofs.CutNodes.{cuts_keep_kinds}
 use Rattle.cut_laws.proofs.MemberKinds.{members_are_directories}
-use Rattle.cut_trees.specs.Next.{IsMountedHistory}
-use Rattle.cut_trees.specs.Spans.{is_edit_between}
-use Rattle.commit_turns.specs.Touched.{is_touched_by, is_touched_between}
+use Rattle.raise_laws.specs.Next.{IsMountedHistory}
+use Rattle.raise_laws.specs.Spans.{is_edit_between}
+use Rattle.turn_laws.specs.Touched.{is_touched_by, is_touched_between}
 use Rattle.volume_laws.specs.Volume.{Volume}
 use Rattle.turn_ties.specs.Laws.{OwnFilesAreTouched}
 use Rattle.turn_ties.specs.Plans.{HasPlan, HasTouchedPages, ChangesOwnFile, Planning}

@@ -28,12 +28,12 @@ use Rattle.commit_laws.proofs.OwnInodes.{mapped_is_in}
 use Rattle.commit_laws.proofs.SeatsOfPlan.{in_mapped, in_kept}
 use Rattle.commit_laws.proofs.Shown.{found_is_in}
 use Rattle.cut_laws.specs.Rules.{IsOneOf}
-use Rattle.cut_trees.specs.Spans.{is_edit_between}
-use Rattle.cut_trees.proofs.Spans.{spans_make_bytes}
-use Rattle.commit_turns.specs.Touched.{touches, is_touched_by, is_touched_between}
-use Rattle.fsync_file.specs.Touched.{page_of, is_marked_from, pages_from}
-use Rattle.file_marks.specs.Touched.{touched_by, IsTouchedBetween}
-use Rattle.file_marks.proofs.Edits.{edits_from}
+use Rattle.raise_laws.specs.Spans.{is_edit_between}
+use Rattle.raise_laws.proofs.Spans.{spans_make_bytes}
+use Rattle.turn_laws.specs.Touched.{touches, is_touched_by, is_touched_between}
+use Rattle.flush_plan.specs.Touched.{page_of, is_marked_from, pages_from}
+use Rattle.mark_laws.specs.Touched.{touched_by, IsTouchedBetween}
+use Rattle.mark_laws.proofs.Edits.{edits_from}
 use Rattle.turn_ties.specs.Laws.{MarkedPagesAreTouched}
 
 -- each change of a list has a stamp below those of all later ones

@@ -16,14 +16,14 @@ use Rattle.commit_laws.specs.Rewritten.{has_page}
 use Rattle.cut_laws.specs.Closure.{every_entry, Flush, IsRaised, AreInodesAfter}
 use Rattle.cut_laws.specs.Cut.{Cut, cut_of, tree_at_cut}
 use Rattle.cut_laws.specs.Machine.{MachineState}
-use Rattle.flush_commits.specs.Planned.{IsPlanAt}
-use Rattle.flush_commits.specs.Ready.{KeepsEntries}
-use Rattle.commit_turns.specs.Books.{Books}
-use Rattle.commit_turns.specs.Need.{ImageState, Amount, Made}
-use Rattle.commit_turns.specs.OneThread.{Resting, machine_at, books_at, need_at, granted_at}
-use Rattle.commit_turns.specs.Touched.{is_touched_between}
-use Rattle.fsync_file.specs.Touched.{IsFileChange}
-use Rattle.file_marks.specs.FileAt.{IsFileAt}
+use Rattle.flush_laws.specs.Planned.{IsPlanAt}
+use Rattle.flush_laws.specs.Ready.{KeepsEntries}
+use Rattle.turn_laws.specs.Books.{Books}
+use Rattle.turn_laws.specs.Need.{ImageState, Amount, Made}
+use Rattle.turn_laws.specs.OneThread.{Resting, machine_at, books_at, need_at, granted_at}
+use Rattle.turn_laws.specs.Touched.{is_touched_between}
+use Rattle.flush_plan.specs.Touched.{IsFileChange}
+use Rattle.mark_laws.specs.FileAt.{IsFileAt}
 use Rattle.space_laws.specs.Laws.{HasNoneGranted, state_of_parts}
 use Rattle.space_laws.specs.Map.{IsMapOf}
 use Rattle.volume_laws.specs.Commits.{parts_left}

@@ -6,8 +6,8 @@ use Rattle.std.proofs.lemmas.List.{length-append}
 use Rattle.tree_laws.specs.declared.history.Entry.{Entry}
 use Rattle.tree_laws.specs.History.{tree_after}
 use Rattle.tree_laws.specs.Tree.{TreeState, is_alive}
-use Rattle.image_tree.specs.Image.{inodes_shown}
-use Rattle.image_tree.specs.Stands.{StandsForTree}
+use Rattle.image_laws.specs.Image.{inodes_shown}
+use Rattle.image_laws.specs.Stands.{StandsForTree}
 use Rattle.cut_laws.specs.Closure.{every_entry, Flush, HasLiveNode, AreFlushed}
 use Rattle.cut_laws.specs.Cut.{tree_at_cut}
 use Rattle.cut_laws.specs.Laws.{KeepsAll}
@@ -18,7 +18,7 @@ use Rattle.cut_laws.proofs.Lists.{lists_keep}
 use Rattle.cut_laws.proofs.Prefix.{take_take}
 use Rattle.cut_laws.proofs.RunFacts.{cuts_stay_low}
 use Rattle.cut_laws.proofs.WholeHistory.{none_above, flushes_grow, cut_trees_grow}
-use Rattle.cut_trees.specs.Next.{IsMountedHistory}
+use Rattle.raise_laws.specs.Next.{IsMountedHistory}
 use Rattle.volume_laws.proofs.MoreNodes.{stands_more}
 use Rattle.volume_laws.specs.Laws.{LongerHistoriesStayBetween}
 use Rattle.volume_laws.specs.Volume.{Volume, tree_held, IsVolumeStanding}

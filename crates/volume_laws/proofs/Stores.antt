@@ -12,7 +12,7 @@ use Rattle.sfs_image.specs.Super.{data_start}
 use Rattle.sfs_image.proofs.PartLaws.{gather_same, none_past_places}
 use Rattle.tree_laws.specs.Tree.{TreeState, bytes_of}
 use Rattle.fmt_journal.specs.declared.tx.TxBlock.{TxBlock}
-use Rattle.image_tree.specs.Image.{inodes_shown}
+use Rattle.image_laws.specs.Image.{inodes_shown}
 use Rattle.journal_one.specs.Packed.{block_of}
 use Rattle.disk_change.specs.AllBuilt.{numbers_with, nodes_with_grant, pages_of_node, fresh_of_node, fresh_of_commit}
 use Rattle.disk_change.specs.Built.{Built}
@@ -30,8 +30,8 @@ use Rattle.commit_laws.proofs.RewrittenBlocks.{page_bytes}
 use Rattle.commit_laws.proofs.Shown.{found_is_in}
 use Rattle.cut_laws.specs.Closure.{Flush}
 use Rattle.cut_laws.proofs.Basics.{in_either}
-use Rattle.flush_commits.proofs.Clean.{over_parts}
-use Rattle.flush_commits.proofs.Later.{fsyncs_leave_ready}
+use Rattle.flush_laws.proofs.Clean.{over_parts}
+use Rattle.flush_laws.proofs.Later.{fsyncs_leave_ready}
 use Rattle.space_laws.proofs.Used.{in_some}
 use Rattle.volume_laws.specs.Stores.{IsStoreLeft, StoresGoOn, CommitsStayStanding}
 use Rattle.volume_laws.specs.Volume.{Volume, OneFsync, IsPlannedFor, tree_held, tree_raised}

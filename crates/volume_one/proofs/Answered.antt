@@ -21,8 +21,8 @@ use Rattle.journal_one.specs.declared.doubt.Doubt.{Doubt}
 use Rattle.space_map.specs.Space.{Space, GrantedNumbers}
 use Rattle.crash_laws.specs.Wrote.{Wrote}
 use Rattle.cut_laws.specs.Closure.{Closure, every_entry}
-use Rattle.fsync_dir.specs.declared.plans.FsyncPlan.{FsyncPlan}
-use Rattle.fsync_plans.specs.Plans.{planned_flush}
+use Rattle.flush_plan.specs.declared.plans.FsyncPlan.{FsyncPlan}
+use Rattle.plan_laws.specs.Plans.{planned_flush}
 use Rattle.volume_laws.specs.Stores.{volume_left}
 use Rattle.volume_laws.specs.Volume.{Volume, OneFsync, tree_held, tree_raised}
 use Rattle.volume_laws.proofs.Stores.{stores_go_on}

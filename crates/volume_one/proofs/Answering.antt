@@ -24,7 +24,7 @@ use Rattle.volume_one.specs.Stands.{Remembers}
 use Rattle.volume_one.specs.declared.flushed.Flushed.{Flushed}
 use Rattle.volume_one.specs.declared.preparing.Ready.{Ready}
 use Rattle.volume_one.specs.declared.volume.OpenVolume.{OpenVolume}
-use Rattle.fsync_dir.specs.declared.plans.FsyncPlan.{FsyncPlan}
+use Rattle.flush_plan.specs.declared.plans.FsyncPlan.{FsyncPlan}
 use Rattle.space_map.specs.Space.{GrantedNumbers}
 use Rattle.volume_one.proofs.Entering.{core_within, fsync_remembered, fsync_may_be_added}
 

@@ -15,10 +15,10 @@ use Rattle.disk_change.specs.declared.old.OldEntry.{OldEntry}
 use Rattle.commit_laws.specs.CommitOfPlan.{CommitPlan, change_planned}
 use Rattle.cut_laws.specs.Closure.{HasLiveNode}
 use Rattle.cut_laws.specs.Cut.{Cut}
-use Rattle.flush_commits.specs.Planned.{GrantsPlan}
-use Rattle.fsync_plans.specs.Leads.{LeadsToCut}
-use Rattle.fsync_plans.specs.Plans.{planned_flush}
-use Rattle.fsync_dir.specs.declared.plans.FsyncPlan.{FsyncPlan}
+use Rattle.flush_laws.specs.Planned.{GrantsPlan}
+use Rattle.plan_laws.specs.Leads.{LeadsToCut}
+use Rattle.plan_laws.specs.Plans.{planned_flush}
+use Rattle.flush_plan.specs.declared.plans.FsyncPlan.{FsyncPlan}
 use Rattle.space_laws.specs.Laws.{BringsNames}
 use Rattle.space_laws.specs.Map.{WasGranted}
 use Rattle.space_laws.proofs.Filled.{grants_serve_plans}

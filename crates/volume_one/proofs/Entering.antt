@@ -31,13 +31,13 @@ use Rattle.mem_cells.specs.Part.{changes_kept}
 use Rattle.cut_laws.specs.Rules.{IsOneOf, Birth, births_by, births_of}
 use Rattle.cut_laws.proofs.Basics.{in_left, in_right, in_either}
 use Rattle.cut_laws.proofs.Pushed.{births_of-push}
-use Rattle.cut_trees.specs.Next.{IsMountedHistory}
+use Rattle.raise_laws.specs.Next.{IsMountedHistory}
 use Rattle.core_logs.specs.Kept.{KeepsUnflushed, is_entry_of, logged_in_tree}
 use Rattle.core_logs.specs.Logs.{Logs, AreSameChanges, AreWithEntry, HasRoom, MayAdd, part_of}
 use Rattle.core_logs.proofs.Keeping.{room_keeps, entries_keep}
 use Rattle.core_logs.proofs.Ordered.{logged_in_order}
 use Rattle.dep_closure.specs.Gathered.{born_as, cut_in}
-use Rattle.file_marks.specs.Laws.{verdict_behind}
+use Rattle.mark_laws.specs.Laws.{verdict_behind}
 use Rattle.volume_laws.specs.Volume.{Volume}
 use Rattle.volume_laws.proofs.Longer.{longer_histories_stay_between}
 use Rattle.volume_one.specs.Calls.{kept_with}

@@ -18,8 +18,8 @@ use Rattle.tree_laws.specs.Verdict.{LARGEST_FILE, Verdict, verdict, refused, ans
 use Rattle.mem_files.specs.File.{File, mark_of}
 use Rattle.dep_closure.specs.Gathered.{born_as}
 use Rattle.cut_laws.specs.Rules.{IsOneOf, Birth}
-use Rattle.flush_ties.specs.Look.{Born}
-use Rattle.file_marks.specs.Laws.{IsUnmarked}
+use Rattle.look_laws.specs.Look.{Born}
+use Rattle.mark_laws.specs.Laws.{IsUnmarked}
 use Rattle.volume_one.specs.Calls.{HasKept, HasNew, HasNewFile, new_file}
 use Rattle.volume_one.specs.declared.volume.OpenVolume.{OpenVolume}
 use Rattle.volume_one.proofs.Entering.{IsBornBy, KnowsBirths, HasSameDisk, births_stay}

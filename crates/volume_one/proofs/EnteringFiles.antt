@@ -25,13 +25,13 @@ use Rattle.tree_laws.proofs.Holders.{directory_stays}
 use Rattle.tree_laws.proofs.KeepsNodes.{node_cases}
 use Rattle.cut_laws.proofs.Nodes.{node_stays}
 use Rattle.mem_files.specs.File.{File, mark_of, is_touched, no_blocks, blocks_of}
-use Rattle.cut_trees.specs.Next.{IsMountedHistory}
-use Rattle.file_marks.specs.FileAt.{IsFileAt, IsMarkedEdit}
-use Rattle.file_marks.specs.Laws.{IsUnmarked, verdict_behind}
-use Rattle.file_marks.proofs.Kept.{edits_keep_files, others_keep_files, new_files_begin}
-use Rattle.file_marks.specs.Touched.{touched_by}
+use Rattle.raise_laws.specs.Next.{IsMountedHistory}
+use Rattle.mark_laws.specs.FileAt.{IsFileAt, IsMarkedEdit}
+use Rattle.mark_laws.specs.Laws.{IsUnmarked, verdict_behind}
+use Rattle.mark_laws.proofs.Kept.{edits_keep_files, others_keep_files, new_files_begin}
+use Rattle.mark_laws.specs.Touched.{touched_by}
 use Rattle.file_table.specs.Table.{file_at, HasSameFiles, SetsFile, EditsFile}
-use Rattle.fsync_file.specs.Touched.{is_marked_from}
+use Rattle.flush_plan.specs.Touched.{is_marked_from}
 use Rattle.volume_one.specs.Memory.{HoldsFiles}
 
 -- A file has the bytes of another one, and its marks.

@@ -29,13 +29,13 @@ use Rattle.dep_closure.specs.Gathered.{IsOrderly, cut_in, born_as}
 use Rattle.dep_closure.specs.History.{HasUnflushed}
 use Rattle.dep_closure.proofs.True.{lists_are_closures}
 use Rattle.dep_closure.proofs.Enough.{unflushed_is_enough}
-use Rattle.file_marks.specs.FileAt.{IsFileAt}
+use Rattle.mark_laws.specs.FileAt.{IsFileAt}
 use Rattle.file_table.specs.Table.{file_at}
-use Rattle.fsync_plans.specs.Leads.{LeadsToCut}
-use Rattle.fsync_plans.specs.Plans.{PlansFsync, HasFileOf, IsInTime, planned_flush, whole}
-use Rattle.fsync_plans.proofs.Leads.{plans_lead_to_cuts, live_files_are_held}
-use Rattle.fsync_dir.specs.declared.plans.FsyncPlan.{FsyncPlan}
-use Rattle.fsync_dir.specs.Plan.{is_held}
+use Rattle.plan_laws.specs.Leads.{LeadsToCut}
+use Rattle.plan_laws.specs.Plans.{PlansFsync, HasFileOf, IsInTime, planned_flush, whole}
+use Rattle.plan_laws.proofs.Leads.{plans_lead_to_cuts, live_files_are_held}
+use Rattle.flush_plan.specs.declared.plans.FsyncPlan.{FsyncPlan}
+use Rattle.flush_plan.specs.Plan.{is_held}
 use Rattle.node_lists.specs.Known.{OrderlyLogs}
 use Rattle.turn_ties.specs.Led.{Sources, IsTied, planning_led}
 use Rattle.turn_ties.proofs.Led.{led_plans_are_tied}

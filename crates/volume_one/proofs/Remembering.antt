@@ -11,7 +11,7 @@ use Rattle.core_logs.specs.Kept.{KeepsUnflushed}
 use Rattle.core_logs.specs.Logs.{Logs}
 use Rattle.dep_closure.specs.Gathered.{cut_in, born_as}
 use Rattle.cut_laws.specs.Rules.{IsOneOf, births_of}
-use Rattle.flush_commits.specs.Ready.{KeepsEntries}
+use Rattle.flush_laws.specs.Ready.{KeepsEntries}
 use Rattle.node_lists.specs.Known.{HasSameNodes}
 use Rattle.space_laws.specs.Laws.{HasNoneGranted}
 use Rattle.space_laws.specs.Map.{IsMapOf, WasReturned}
@@ -27,7 +27,7 @@ use Rattle.volume_one.specs.declared.volume.OpenVolume.{OpenVolume}
 use Rattle.volume_one.proofs.Committing.{IsGranted, commit_plan, was_granted}
 use Rattle.volume_one.proofs.EntriesKept.{same_entries}
 use Rattle.volume_one.proofs.Spaces.{all_granted, none_once_free}
-use Rattle.fsync_dir.specs.declared.plans.FsyncPlan.{FsyncPlan}
+use Rattle.flush_plan.specs.declared.plans.FsyncPlan.{FsyncPlan}
 use Rattle.sfs_base.specs.declared.numbers.NodeId.{NodeId}
 use Rattle.sfs_base.specs.declared.numbers.Stamp.{Stamp}
 

@@ -18,7 +18,7 @@ use Rattle.space_map.specs.declared.status.Status.TheVariants.{Free}
 use Rattle.disk_change.specs.Planned.{Planned, as_u32, blocks_taken, enters}
 use Rattle.std.specs.Prelude.{count_by}
 use Rattle.std.specs.List.{sum_by}
-use Rattle.fsync_dir.specs.declared.plans.FsyncPlan.{FsyncPlan}
+use Rattle.flush_plan.specs.declared.plans.FsyncPlan.{FsyncPlan}
 use Rattle.volume_one.specs.Carry.{CarriesPacked}
 use Rattle.volume_one.specs.Finished.{HasFinished}
 use Rattle.volume_one.specs.Planned.{WasPlanned, IsSameKnown}

@@ -10,7 +10,7 @@ use Rattle.mem_files.specs.File.{File}
 use Rattle.cut_laws.specs.Cut.{Cut, cut_of}
 use Rattle.cut_laws.specs.Rules.{IsOneOf, births_of}
 use Rattle.dep_closure.specs.Gathered.{cut_in, born_as}
-use Rattle.file_marks.specs.FileAt.{IsFileAt}
+use Rattle.mark_laws.specs.FileAt.{IsFileAt}
 use Rattle.file_table.specs.Table.{file_at}
 use Rattle.node_lists.specs.Known.{Known}
 

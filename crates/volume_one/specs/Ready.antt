@@ -9,7 +9,7 @@ use Rattle.disk_change.specs.AllBuilt.{after_commit}
 use Rattle.disk_change.specs.Lists.{AscendBy}
 use Rattle.disk_change.specs.Nodes.{entry_node}
 use Rattle.disk_change.specs.Written.{IsTransactionOf}
-use Rattle.fsync_dir.specs.declared.plans.FsyncPlan.{FsyncPlan}
+use Rattle.flush_plan.specs.declared.plans.FsyncPlan.{FsyncPlan}
 use Rattle.node_lists.specs.Known.{HasSameNodes}
 use Rattle.volume_one.specs.Entries.{HaveDiskPlaces, HasSameEntries}
 use Rattle.volume_one.specs.declared.preparing.Ready.{Ready}

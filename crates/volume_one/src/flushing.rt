@@ -21,7 +21,7 @@ use crate::flushed::Flushed;
 use crate::preparing::Ready;
 use commit_one::{Committed, commit};
 use disk_change::need;
-use fsync_dir::FsyncPlan;
+use flush_plan::FsyncPlan;
 use journal_one::{Doubt, Idle, Packed};
 use sfs_base::{CoreId, NodeId, Stamp};
 use sfs_dev::Disk;

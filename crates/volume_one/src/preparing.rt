@@ -8,7 +8,7 @@ use crate::OpenVolume;
 use crate::entries::make_places;
 use disk_change::{Built, OldDisk, build};
 use fmt_journal::Tx;
-use fsync_dir::FsyncPlan;
+use flush_plan::FsyncPlan;
 use journal_one::Packed;
 use sfs_base::{BlockList, InodeList, NoMemory, NodeList, RoomyList};
 use space_map::Grant;

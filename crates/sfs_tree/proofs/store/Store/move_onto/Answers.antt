@@ -8,7 +8,8 @@ use Rattle.sfs_tree.specs.Counts.{is_directory_in, IsCounted, IsWide}
 use Rattle.sfs_tree.specs.Store.{IsStored}
 use Rattle.tree_laws.proofs.Counting.{get_other-remove, none_removed}
 use Rattle.sfs_tree.proofs.StoreKept.{IsStored-row, may_fall}
-use Rattle.sfs_tree.proofs.Moved.{swapped, replaced, apart_by_child, still_some, once_still, IsStored-without, may_rise_again}
+use Rattle.sfs_tree.proofs.Moved.{apart_by_child, still_some, once_still, IsStored-without, may_rise_again}
+use Rattle.tree_laws.proofs.Swapped.{swapped, replaced}
 use Rattle.sfs_tree.proofs.store.Store.move_onto.Goals as goal
 use Rattle.sfs_tree.proofs.store.Store.move_onto.Goals.{After-replace, After-take, After-take-2}
 
