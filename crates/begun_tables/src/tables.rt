@@ -3,7 +3,7 @@ ghost use Rattle.std.specs.Prelude.{◌≡◌, ◌+◌, ◌*◌, ◌<◌, ◌≤
 ghost use Rattle.stamp_table.specs.Table.{AreAllCores, IsBetweenCalls};
 ghost use Rattle.begun_tables.specs.Begun.{BeginsTable, IsCallTable};
 
-use disk_change::OldDisk;
+use disk_nodes::OldDisk;
 use mem_begin::make;
 use mem_values::{FileCore, FileShared, Given};
 use sfs_base::NoMemory;

@@ -11,11 +11,11 @@ use Rattle.sfs_image.specs.Seen.{FILE_BLOCKS}
 use Rattle.sfs_image.proofs.Basics.{get_or-tabulate}
 use Rattle.image_laws.specs.Need.{Rewrite, takes_table, takes_place, rank, rewrites_table, table_has_pointer}
 use Rattle.block_map.specs.declared.changed.ChangedBlock.{ChangedBlock}
-use Rattle.block_map.specs.Changed.{change_of, AscendByBlock}
+use Rattle.block_map.specs.Changed.{changed_block, change_of, AscendByBlock}
 use Rattle.block_map.specs.Remap.{rewrite_of, takes_fresh, fresh_by_fate, table_fate}
 use Rattle.block_map.specs.declared.rewrite.TableFate.{TableFate}
 use Rattle.block_map.specs.declared.rewrite.TableFate.TheVariants.{Stays, Goes, IsWritten}
-use Rattle.block_map.proofs.Changes.{ascends_behind, first_is_least}
+use Rattle.keyed_list.proofs.Searched.{ascends_behind, first_is_least}
 use Rattle.image_laws.proofs.Ranks.{rank_more}
 use Rattle.sfs_base.proofs.BasicTruth.{and_false, and_true}
 
@@ -56,7 +56,7 @@ count_at (one ∷ rest) up p = elim (cases_Bool (nat_eq one.block p)) [
       let is = eqb-true one.block p same in
       let none =
       count_none (takes_at p) rest
-      (λ k d within. let least = first_is_least one rest up k d within in
+      (λ k d within. let least = first_is_least changed_block one rest up k d within in
       ap (λ b. not (get_or rest k d).is_zero && b) (not_same (get_or rest k d).block p (omega arith))
       ∙ and_false (not (get_or rest k d).is_zero)) in
       count-cons (takes_at p) one rest ∙ (λ i. cond (not one.is_zero && same i) 1 0 + none i) ∙ ap (λ b. cond b 1 0 + 0) (and_true (not one.is_zero))
@@ -65,7 +65,7 @@ count_at (one ∷ rest) up p = elim (cases_Bool (nat_eq one.block p)) [
   | inr other ↦
       count-cons (takes_at p) one rest ∙ ap (λ b. cond (not one.is_zero && b) 1 0 + count_by (takes_at p) rest) other
       ∙ ap (λ b. cond b 1 0 + count_by (takes_at p) rest) (and_false (not one.is_zero))
-      ∙ zero_plus _ ∙ count_at rest (ascends_behind one rest up) p
+      ∙ zero_plus _ ∙ count_at rest (ascends_behind changed_block one rest up) p
       ∙ ap (λ o. cond (taken_by o) 1 0) (sym (cond-false (nat_eq one.block p) (Some one) (change_of rest p) other))
 ]
 
@@ -131,14 +131,14 @@ count_before (one ∷ rest) up zero d within small =
     none : (k : ℕ) (e : ChangedBlock) → k < length (one ∷ rest) → takes_below one.block (get_or (one ∷ rest) k e) ≡ false
     none zero e below = ap (λ b. not one.is_zero && b) (le-ltb one.block one.block (omega arith)) ∙ and_false (not one.is_zero)
     none (suc k) e below =
-        let least = first_is_least one rest up k e (omega arith) in
+        let least = first_is_least changed_block one rest up k e (omega arith) in
         ap (λ b. not (get_or rest k e).is_zero && b) (le-ltb (get_or rest k e).block one.block (omega arith)) ∙ and_false (not (get_or rest k e).is_zero)
 count_before (one ∷ rest) up (suc i) d within small =
     let b = (get_or rest i d).block in
-    let least = first_is_least one rest up i d (omega arith) in
+    let least = first_is_least changed_block one rest up i d (omega arith) in
     let same : nat_lt one.block FILE_BLOCKS ≡ nat_lt one.block b = lt-ltb one.block FILE_BLOCKS (omega arith) ∙ sym (lt-ltb one.block b least) in
     count-cons takes_fresh one (take i rest)
-    ∙ (λ j. cond (not one.is_zero && same j) 1 0 + count_before rest (ascends_behind one rest up) i d (omega arith) small j)
+    ∙ (λ j. cond (not one.is_zero && same j) 1 0 + count_before rest (ascends_behind changed_block one rest up) i d (omega arith) small j)
     ∙ sym (count-cons (takes_below b) one rest)
 
 -- a rewritten block's rank counts those before it that take a fresh block

@@ -7,13 +7,7 @@ use Rattle.sfs_image.specs.Part.{Part, inode_in, is_directory_part, directory_bl
 use Rattle.sfs_image.specs.Seen.{FILE_BLOCKS}
 use Rattle.sfs_image.specs.Slot.{Row}
 use Rattle.sfs_image.specs.SlotBlock.{slots_of}
-
--- What is kept in memory of the part of an inode in use: its record's inode, its indirect blocks where it has pointers to them, and of
--- a directory its slots, block by block.
-pub record Kept : Type 0 where
-  pub inode : Inode
-  pub tables : List Table
-  pub slots : List (List (Option Row))
+use Rattle.disk_nodes.specs.OldKept.{Kept}
 
 -- what is kept of the indirect block of a place, where the record's inode has a pointer to it; the blocks are those of the 16 places
 abbrev pub table_kept : Inode → List (List ℕ) → ℕ → Option Table

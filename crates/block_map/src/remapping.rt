@@ -9,7 +9,7 @@ ghost use Rattle.sfs_image.specs.Seen.{FILE_BLOCKS};
 ghost use Rattle.block_map.specs.Remap.{rewrite_of, table_fate, own_pointer as pointer_by_fate, pointer_remapped, inode_remapped, tables_remapped};
 ghost use Rattle.block_map.specs.Remap.{table_by_fate, table_written, AreFreed, HavePointers, TABLES as MOST_TABLES};
 
-use crate::changed::Changed;
+use crate::changed::{Changed, position};
 use crate::freed::freed_blocks;
 use crate::pointers::block_at;
 use crate::rewrite::{POINTERS, TABLES, TableFate, data_needed, first_of, table_fates};
@@ -106,7 +106,7 @@ fn pointer_after(
     requires within { n < FILE_BLOCKS }
     ensures { result ≡ pointer_remapped (rewrite_of inode.now tables.now.items changed.now.items) fresh.now n }
 {
-    match changed.position(n) {
+    match position(changed.as_slice(), n) {
         Some(at) => given[at],
         None => block_at(inode, tables, n),
     }

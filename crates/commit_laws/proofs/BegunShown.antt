@@ -30,14 +30,14 @@ use Rattle.image_laws.proofs.Standing.{holder_number}
 use Rattle.space_map.specs.Space.{GrantedNumbers}
 use Rattle.disk_change.specs.AllBuilt.{numbers_with}
 use Rattle.disk_change.specs.Directory.{is_among}
-use Rattle.disk_change.specs.Lists.{item_with}
+use Rattle.keyed_list.specs.Ascending.{item_with}
 use Rattle.disk_change.specs.Nodes.{net_node, file_node}
 use Rattle.disk_change.specs.Planned.{Planned, leaves, staying}
 use Rattle.disk_change.specs.Seated.{Begun, Seated, seated, begun_old, begun_entering, first_links, net_of_node}
 use Rattle.disk_change.specs.declared.directory_net.DirectoryNet.{DirectoryNet}
 use Rattle.disk_change.specs.declared.enter.Enter.{Enter}
 use Rattle.disk_change.specs.declared.files.FileChange.{FileChange}
-use Rattle.disk_change.specs.declared.old.OldEntry.{OldEntry}
+use Rattle.disk_nodes.specs.declared.old.OldEntry.{OldEntry}
 use Rattle.disk_change.proofs.NumbersGiven.{planned_node, unnumbered}
 use Rattle.commit_laws.specs.CommitMade.{rewrites_of_change}
 use Rattle.commit_laws.specs.CommitOfPlan.{CommitPlan, change_planned, commit_of, image_planned, IsCommitPlan, CommitsPlan}

@@ -35,7 +35,8 @@ use Rattle.image_laws.specs.Stands.{ShowsNode}
 use Rattle.image_laws.proofs.LastBlock.{blocks_end_with_row}
 use Rattle.image_laws.proofs.Places.{blocks_are_kept_or_rewritten}
 use Rattle.image_laws.proofs.Standing.{not_used}
-use Rattle.block_map.specs.Kept.{Kept, kept_of, pointer_kept}
+use Rattle.block_map.specs.Kept.{kept_of, pointer_kept}
+use Rattle.disk_nodes.specs.OldKept.{Kept}
 use Rattle.block_map.specs.Remap.{fresh_for}
 use Rattle.block_map.proofs.Left.{remapped_pointers_stand}
 use Rattle.space_map.specs.Space.{GrantedNumbers}
@@ -43,9 +44,9 @@ use Rattle.disk_change.specs.AllBuilt.{nodes_with_grant, entry_after, after_comm
 use Rattle.disk_change.specs.Built.{Built, rewrite_in}
 use Rattle.disk_change.specs.Directory.{is_among}
 use Rattle.disk_change.specs.GivenUp.{entry_number}
-use Rattle.disk_change.specs.Nodes.{entry_node}
+use Rattle.disk_nodes.specs.Nodes.{entry_node}
 use Rattle.disk_change.specs.Seated.{free_inode}
-use Rattle.disk_change.specs.declared.old.OldEntry.{OldEntry}
+use Rattle.disk_nodes.specs.declared.old.OldEntry.{OldEntry}
 use Rattle.commit_laws.specs.BytesKept.{CutsOffEnds, AreGoodParts, GoodPartsHaveNoneBehind, GoodPartsFit, IsCleanPlan, PlansLeaveGoodBytes, PlansKeepParts}
 use Rattle.commit_laws.specs.CommitOfPlan.{CommitPlan, change_planned, commit_of, image_planned, IsCommitPlan}
 use Rattle.commit_laws.specs.PartsMade.{part_made, IsPlanOverParts, store_planned}

@@ -17,11 +17,11 @@ use Rattle.image_laws.specs.LinkChanges.{NetChange, net_changes, counted_row, ga
 use Rattle.image_laws.proofs.LinkChanges.{nets_give_links}
 use Rattle.disk_change.specs.Directory.{is_among}
 use Rattle.disk_change.specs.Links.{linked, linked_by, rows_coming, rows_going, times_in, links_with}
-use Rattle.disk_change.specs.Lists.{AscendBy, item_with}
+use Rattle.keyed_list.specs.Ascending.{AscendBy, item_with}
 use Rattle.disk_change.specs.Nodes.{net_node}
 use Rattle.disk_change.specs.Seated.{net_of_node}
 use Rattle.disk_change.specs.declared.directory_net.DirectoryNet.{DirectoryNet}
-use Rattle.disk_change.proofs.Keyed.{item_at}
+use Rattle.keyed_list.proofs.Searched.{item_at}
 use Rattle.disk_change.proofs.NumbersGiven.{first_in, further_in}
 use Rattle.commit_laws.specs.Counting.{NetsCountLinks}
 

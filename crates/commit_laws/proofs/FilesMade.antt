@@ -31,7 +31,7 @@ use Rattle.space_map.specs.Space.{GrantedNumbers}
 use Rattle.disk_change.specs.AllBuilt.{numbers_with, nodes_with_grant, pages_of_node}
 use Rattle.disk_change.specs.Built.{Built, built}
 use Rattle.disk_change.specs.Fresh.{content_of, zero_bytes}
-use Rattle.disk_change.specs.Lists.{item_with}
+use Rattle.keyed_list.specs.Ascending.{item_with}
 use Rattle.disk_change.specs.Nodes.{file_node}
 use Rattle.disk_change.specs.Numbered.{block_numbered}
 use Rattle.disk_change.specs.Pages.{page_block}

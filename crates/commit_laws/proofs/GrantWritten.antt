@@ -28,7 +28,7 @@ use Rattle.block_map.specs.declared.changed.ChangedBlock.{ChangedBlock}
 use Rattle.space_map.specs.Space.{GrantedNumbers}
 use Rattle.disk_change.specs.AllBuilt.{fresh_of_commit}
 use Rattle.disk_change.specs.Directory.{slot_blocks_after, directory_touched}
-use Rattle.disk_change.specs.Lists.{AscendBy, item_with}
+use Rattle.keyed_list.specs.Ascending.{AscendBy, item_with}
 use Rattle.disk_change.specs.Nodes.{file_node}
 use Rattle.disk_change.specs.Pages.{page_block}
 use Rattle.disk_change.specs.Planned.{Planned}

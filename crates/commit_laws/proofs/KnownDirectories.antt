@@ -21,13 +21,13 @@ use Rattle.image_laws.proofs.Standing.{byte_directory}
 use Rattle.space_map.specs.Space.{GrantedNumbers}
 use Rattle.disk_change.specs.Directory.{is_among}
 use Rattle.disk_change.specs.Links.{directory_old, directory_entering, directories_concerned}
-use Rattle.disk_change.specs.Lists.{AscendBy, item_with}
+use Rattle.keyed_list.specs.Ascending.{AscendBy, item_with}
 use Rattle.disk_change.specs.Nodes.{net_node, enter_node}
 use Rattle.disk_change.specs.Seated.{net_of_node}
 use Rattle.disk_change.specs.declared.directory_net.DirectoryNet.{DirectoryNet}
 use Rattle.disk_change.specs.declared.enter.Enter.{Enter}
-use Rattle.disk_change.specs.declared.old.OldEntry.{OldEntry}
-use Rattle.disk_change.proofs.Keyed.{item_at}
+use Rattle.disk_nodes.specs.declared.old.OldEntry.{OldEntry}
+use Rattle.keyed_list.proofs.Searched.{item_at}
 use Rattle.disk_change.proofs.NumbersGiven.{further_in}
 use Rattle.commit_laws.specs.CommitOfPlan.{CommitPlan, numbers_planned, IsCommitPlan}
 use Rattle.commit_laws.specs.KnownKinds.{IsNetChild, KnowsDirectories}

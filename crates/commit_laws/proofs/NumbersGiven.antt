@@ -5,7 +5,8 @@ use Rattle.sfs_base.proofs.BasicOptions.{some_not_none}
 use Rattle.sfs_base.proofs.BasicTruth.{not_true}
 use Rattle.image_laws.specs.Numbers.{grant_for}
 use Rattle.disk_change.specs.Links.{directories_concerned}
-use Rattle.disk_change.specs.Nodes.{entry_node, enter_node}
+use Rattle.disk_change.specs.Nodes.{enter_node}
+use Rattle.disk_nodes.specs.Nodes.{entry_node}
 use Rattle.disk_change.specs.Planned.{staying, leaves}
 use Rattle.disk_change.specs.Seated.{CommitChanges, changes_in}
 use Rattle.disk_change.proofs.NumbersGiven.{first_in, further_in, stays_numbered, enters_granted}

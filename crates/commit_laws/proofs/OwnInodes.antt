@@ -15,11 +15,11 @@ use Rattle.space_map.specs.Space.{GrantedNumbers}
 use Rattle.disk_change.specs.AllBuilt.{nodes_built, nodes_with_grant, numbers_with, entry_after}
 use Rattle.disk_change.specs.Built.{Built}
 use Rattle.disk_change.specs.Lists.{put_over, ascending_by}
-use Rattle.disk_change.specs.Nodes.{entry_node}
+use Rattle.disk_nodes.specs.Nodes.{entry_node}
 use Rattle.disk_change.specs.Planned.{Planned, enters, blocks_taken}
 use Rattle.disk_change.specs.Records.{RecordChange, same_inode, record_of_built, record_of_gone, record_written, written_of_built, written_of_gone, record_inode}
 use Rattle.disk_change.specs.Seated.{CommitChanges, Seated}
-use Rattle.disk_change.specs.declared.old.OldEntry.{OldEntry}
+use Rattle.disk_nodes.specs.declared.old.OldEntry.{OldEntry}
 use Rattle.disk_change.proofs.NumbersGiven.{first_in, further_in, IsOwnOrGranted, number_known}
 use Rattle.commit_laws.specs.Granted.{IsOwnInode, InodesAreGrantedOrOld}
 use Rattle.commit_laws.specs.Granted.IsOwnInode.{granted, kept, lost}

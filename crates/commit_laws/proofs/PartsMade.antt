@@ -36,7 +36,8 @@ use Rattle.image_laws.proofs.Sizes.{commits_keep_directories_fit}
 use Rattle.image_laws.proofs.Standing.{not_used}
 use Rattle.journal_one.specs.Packed.{block_of}
 use Rattle.block_map.specs.Changed.{AscendByBlock}
-use Rattle.block_map.specs.Kept.{Kept, table_kept, tables_kept, kept_of, kept_tables, pointer_kept}
+use Rattle.block_map.specs.Kept.{table_kept, tables_kept, kept_of, kept_tables, pointer_kept}
+use Rattle.disk_nodes.specs.OldKept.{Kept}
 use Rattle.block_map.specs.Remap.{pointer_remapped, table_fate, table_by_fate, table_remapped, table_written}
 use Rattle.block_map.specs.declared.rewrite.TableFate.{TableFate}
 use Rattle.block_map.specs.declared.rewrite.TableFate.TheVariants.{Stays, Goes, IsWritten}
@@ -50,7 +51,7 @@ use Rattle.disk_change.specs.Fresh.{table_of_place, data_written, zero_bytes}
 use Rattle.disk_change.specs.Planned.{Planned, seated_old, seated_entering, staying, leaves, blocks_taken}
 use Rattle.disk_change.specs.Seated.{Begun, Seated, seated_as, begun_old, begun_entering, net_of_node}
 use Rattle.disk_change.specs.declared.enter.Enter.{Enter}
-use Rattle.disk_change.specs.declared.old.OldEntry.{OldEntry}
+use Rattle.disk_nodes.specs.declared.old.OldEntry.{OldEntry}
 use Rattle.disk_change.specs.declared.pages.Page.{Page}
 use Rattle.commit_laws.specs.CommitMade.{place_among, inodes_built, rewrites_seated}
 use Rattle.commit_laws.specs.CommitOfPlan.{CommitPlan, change_planned, commit_of, image_planned, IsCommitPlan}

@@ -32,7 +32,7 @@ use Rattle.disk_change.specs.Directory.{is_among}
 use Rattle.disk_change.specs.GivenUp.{entry_number}
 use Rattle.disk_change.specs.Planned.{Planned, leaves}
 use Rattle.disk_change.specs.Seated.{free_inode}
-use Rattle.disk_change.specs.declared.old.OldEntry.{OldEntry}
+use Rattle.disk_nodes.specs.declared.old.OldEntry.{OldEntry}
 use Rattle.commit_laws.specs.CommitMade.{rewrites_of_change}
 use Rattle.commit_laws.specs.CommitOfPlan.{CommitPlan, change_planned, commit_of, image_planned, IsCommitPlan}
 use Rattle.commit_laws.specs.FilesMade.{ShowTheSame}

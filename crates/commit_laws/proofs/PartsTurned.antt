@@ -29,7 +29,7 @@ use Rattle.disk_change.specs.GivenUp.{entry_number}
 use Rattle.disk_change.specs.Planned.{Planned, leaves}
 use Rattle.disk_change.specs.Records.{RecordChange, same_inode, record_inode, record_of_built, record_of_gone, record_written, records_written, written_of_built, written_of_gone}
 use Rattle.disk_change.specs.Seated.{free_inode}
-use Rattle.disk_change.specs.declared.old.OldEntry.{OldEntry}
+use Rattle.disk_nodes.specs.declared.old.OldEntry.{OldEntry}
 use Rattle.commit_laws.specs.CommitOfPlan.{CommitPlan, change_planned, commit_of, image_planned, IsCommitPlan}
 use Rattle.commit_laws.specs.NumbersGiven.{node_leaves}
 use Rattle.commit_laws.specs.PartsMade.{store_over, blocks_planned, part_made, IsPlanOverParts}

@@ -17,7 +17,7 @@ use Rattle.space_map.specs.Space.{GrantedNumbers}
 use Rattle.disk_change.specs.AllBuilt.{numbers_with, built_by, nodes_with_grant, entry_after}
 use Rattle.disk_change.specs.Built.{Built}
 use Rattle.disk_change.specs.Directory.{slot_blocks_after}
-use Rattle.disk_change.specs.Nodes.{entry_node}
+use Rattle.disk_nodes.specs.Nodes.{entry_node}
 use Rattle.disk_change.specs.Numbered.{slot_numbered, block_numbered}
 use Rattle.disk_change.specs.Planned.{Planned}
 use Rattle.disk_change.specs.Seat.{blocks_to_last_row}

@@ -35,7 +35,7 @@ use Rattle.block_map.specs.declared.changed.ChangedBlock.{ChangedBlock}
 use Rattle.disk_change.specs.AllBuilt.{numbers_with, pages_of_node}
 use Rattle.disk_change.specs.Built.{rewrite_in}
 use Rattle.disk_change.specs.Directory.{empty_block, slot_blocks_after, directory_touched}
-use Rattle.disk_change.specs.Lists.{item_with}
+use Rattle.keyed_list.specs.Ascending.{item_with}
 use Rattle.disk_change.specs.Nodes.{file_node}
 use Rattle.disk_change.specs.Numbered.{slot_numbered, block_numbered}
 use Rattle.disk_change.specs.Pages.{page_block}

@@ -13,7 +13,7 @@ use Rattle.tree_laws.specs.Tree.{TreeState, bytes_of}
 use Rattle.block_map.specs.declared.changed.ChangedBlock.{ChangedBlock}
 use Rattle.block_map.specs.Changed.{change_of}
 use Rattle.disk_change.specs.AllBuilt.{pages_of_node}
-use Rattle.disk_change.specs.Lists.{item_with}
+use Rattle.keyed_list.specs.Ascending.{item_with}
 use Rattle.disk_change.specs.Pages.{page_block}
 use Rattle.disk_change.specs.Nodes.{file_node}
 use Rattle.disk_change.specs.Seat.{page_said, file_changed}

@@ -22,12 +22,13 @@ use Rattle.space_map.specs.Space.{GrantedNumbers}
 use Rattle.disk_change.specs.AllBuilt.{numbers_with, nodes_with_grant}
 use Rattle.disk_change.specs.Built.{Built}
 use Rattle.disk_change.specs.Directory.{is_among}
-use Rattle.disk_change.specs.Lists.{AscendBy}
-use Rattle.disk_change.specs.Nodes.{entry_node, enter_node}
+use Rattle.keyed_list.specs.Ascending.{AscendBy}
+use Rattle.disk_change.specs.Nodes.{enter_node}
+use Rattle.disk_nodes.specs.Nodes.{entry_node}
 use Rattle.disk_change.specs.Planned.{Planned, staying, leaves, seated_old, seated_entering}
 use Rattle.disk_change.specs.Seated.{Seated, begun_old, begun_entering}
 use Rattle.disk_change.specs.declared.enter.Enter.{Enter}
-use Rattle.disk_change.specs.declared.old.OldEntry.{OldEntry}
+use Rattle.disk_nodes.specs.declared.old.OldEntry.{OldEntry}
 use Rattle.disk_change.proofs.NumbersGiven.{first_in, further_in, planned_node}
 use Rattle.commit_laws.specs.CommitMade.{StandOnce, inodes_built, seated_nodes}
 use Rattle.commit_laws.specs.CommitOfPlan.{CommitPlan, change_planned, numbers_planned, commit_of, IsCommitPlan}

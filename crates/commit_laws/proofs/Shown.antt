@@ -18,7 +18,7 @@ use Rattle.block_map.proofs.Left.{remapped_pointers_stand}
 use Rattle.disk_change.specs.Built.{built}
 use Rattle.disk_change.specs.Directory.{slot_blocks_after}
 use Rattle.disk_change.specs.Links.{links_by_nets}
-use Rattle.disk_change.specs.Lists.{item_with}
+use Rattle.keyed_list.specs.Ascending.{item_with}
 use Rattle.disk_change.specs.Nodes.{net_node}
 use Rattle.disk_change.specs.Numbered.{slot_numbered}
 use Rattle.disk_change.specs.Seat.{blocks_to_last_row}

@@ -12,7 +12,7 @@ use Rattle.block_map.specs.Kept.{kept_of}
 use Rattle.space_map.specs.Space.{GrantedNumbers}
 use Rattle.disk_change.specs.AllBuilt.{after_commit}
 use Rattle.disk_change.specs.Directory.{is_among}
-use Rattle.disk_change.specs.declared.old.OldEntry.{OldEntry}
+use Rattle.disk_nodes.specs.declared.old.OldEntry.{OldEntry}
 use Rattle.commit_laws.specs.CommitOfPlan.{CommitPlan, change_planned}
 use Rattle.commit_laws.specs.PartsMade.{StandInStore, IsPlanOverParts}
 use Rattle.commit_laws.specs.PartsStand.{HasContents, part_next}

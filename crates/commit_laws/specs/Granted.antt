@@ -8,7 +8,7 @@ use Rattle.disk_change.specs.AllBuilt.{fresh_of_commit, after_commit}
 use Rattle.disk_change.specs.Planned.{Planned, enters, blocks_taken}
 use Rattle.disk_change.specs.Records.{records_written}
 use Rattle.disk_change.specs.Seated.{Seated}
-use Rattle.disk_change.specs.declared.old.OldEntry.{OldEntry}
+use Rattle.disk_nodes.specs.declared.old.OldEntry.{OldEntry}
 
 -- Each fresh block that a commit writes is one of its grant, whatever the change and the grant are.
 abbrev pub FreshBlocksAreGranted : Type 0

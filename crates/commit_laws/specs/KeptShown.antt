@@ -4,7 +4,8 @@ use Rattle.sfs_base.specs.declared.numbers.Kind.TheVariants.{File}
 use Rattle.sfs_image.specs.Part.{Part, IsGathered, seen_of}
 use Rattle.sfs_image.specs.Seen.{Seen, PLACES}
 use Rattle.sfs_image.specs.Slot.{kind_byte}
-use Rattle.block_map.specs.Kept.{Kept, kept_of, pointer_kept}
+use Rattle.block_map.specs.Kept.{kept_of, pointer_kept}
+use Rattle.disk_nodes.specs.OldKept.{Kept}
 use Rattle.commit_laws.specs.SlotsKept.{AreSlotBlocks, slots_joined}
 
 -- What is kept of a node is what an inode shows: kind, link count, size, its slots, block by block, of which a file has none, and the block

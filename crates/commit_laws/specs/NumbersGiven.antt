@@ -6,13 +6,14 @@ use Rattle.image_laws.specs.Numbers.{numbers_after}
 use Rattle.image_laws.specs.Renamed.{Numbering}
 use Rattle.disk_change.specs.AllBuilt.{numbers_with}
 use Rattle.disk_change.specs.Links.{times_in}
-use Rattle.disk_change.specs.Lists.{AscendBy}
-use Rattle.disk_change.specs.Nodes.{entry_node, enter_node}
+use Rattle.keyed_list.specs.Ascending.{AscendBy}
+use Rattle.disk_change.specs.Nodes.{enter_node}
+use Rattle.disk_nodes.specs.Nodes.{entry_node}
 use Rattle.disk_change.specs.Planned.{planned, staying}
 use Rattle.disk_change.specs.declared.directory_net.DirectoryNet.{DirectoryNet}
 use Rattle.disk_change.specs.declared.enter.Enter.{Enter}
 use Rattle.disk_change.specs.declared.files.FileChange.{FileChange}
-use Rattle.disk_change.specs.declared.old.OldEntry.{OldEntry}
+use Rattle.disk_nodes.specs.declared.old.OldEntry.{OldEntry}
 
 -- The nodes of a commit are those of a numbering: those that have an inode ascend and have their numbers, those that enter ascend and have
 -- none.

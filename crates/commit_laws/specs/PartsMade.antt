@@ -14,10 +14,10 @@ use Rattle.block_map.specs.Kept.{kept_of, kept_tables}
 use Rattle.space_map.specs.Space.{GrantedNumbers}
 use Rattle.disk_change.specs.AllBuilt.{fresh_of_commit, nodes_with_grant}
 use Rattle.disk_change.specs.Built.{Built}
-use Rattle.disk_change.specs.Lists.{AscendBy}
+use Rattle.keyed_list.specs.Ascending.{AscendBy}
 use Rattle.disk_change.specs.Pages.{page_block}
 use Rattle.disk_change.specs.declared.files.FileChange.{FileChange}
-use Rattle.disk_change.specs.declared.old.OldEntry.{OldEntry}
+use Rattle.disk_nodes.specs.declared.old.OldEntry.{OldEntry}
 use Rattle.commit_laws.specs.CommitOfPlan.{CommitPlan, change_planned}
 use Rattle.commit_laws.specs.PlanShown.{IsFullPlan}
 

@@ -13,7 +13,7 @@ use Rattle.image_laws.specs.Stands.{BLOCK_BYTES}
 use Rattle.space_map.specs.Space.{GrantedNumbers}
 use Rattle.disk_change.specs.AllBuilt.{pages_of_node}
 use Rattle.disk_change.specs.Built.{rewrite_in}
-use Rattle.disk_change.specs.Lists.{item_with}
+use Rattle.keyed_list.specs.Ascending.{item_with}
 use Rattle.disk_change.specs.Pages.{page_block}
 use Rattle.disk_change.specs.Seated.{Seated}
 use Rattle.disk_change.specs.declared.files.FileChange.{FileChange}

@@ -14,7 +14,7 @@ use Rattle.image_laws.specs.Stands.{BLOCK_BYTES}
 use Rattle.block_map.specs.Kept.{pointer_kept}
 use Rattle.block_map.specs.Remap.{fresh_for}
 use Rattle.disk_change.specs.Built.{Built, built, rewrite_in}
-use Rattle.disk_change.specs.Lists.{item_with}
+use Rattle.keyed_list.specs.Ascending.{item_with}
 use Rattle.disk_change.specs.Nodes.{file_node}
 use Rattle.disk_change.specs.Seated.{CommitChanges, Begun, Seated, seated, net_of_node}
 use Rattle.commit_laws.specs.Counting.{LeadTo}

@@ -10,7 +10,8 @@ use Rattle.std.specs.List.Sorted.{IsStrictlySortedBy}
 use Rattle.std.proofs.lemmas.List.{append-nil, append_assoc, get_or-map, length-map}
 use Rattle.std.proofs.lemmas.List.Sums.{fold-append}
 use Rattle.std.proofs.lemmas.Map.Keys.{below_from_sorted}
-use Rattle.disk_change.specs.Lists.{AscendBy, put_over, put_if, ascending_by}
+use Rattle.disk_change.specs.Lists.{put_over, put_if, ascending_by}
+use Rattle.keyed_list.specs.Ascending.{AscendBy}
 use Rattle.disk_change.proofs.Directories.{filter_map_more}
 
 module _ {X : Type 0} (key : X → ℕ) where

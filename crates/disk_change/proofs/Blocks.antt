@@ -21,7 +21,7 @@ use Rattle.image_laws.specs.Commit.{row_in_net}
 use Rattle.sfs_image.specs.Slot.{Row}
 use Rattle.tree_laws.proofs.Joined.{count-cons}
 use Rattle.disk_change.specs.Directory.{is_among, fill_front, rows_left, row_brought, slot_moved, is_in_net}
-use Rattle.disk_change.proofs.Keyed.{search_misses}
+use Rattle.keyed_list.proofs.Searched.{search_misses}
 
 -- a search among directories finds one of them
 pub node_found : (nodes : List ℕ) (node at : ℕ) → at < length nodes → HoldsAt (λ y. nat_cmp y node ≡ Equal) nodes at → true ≡ is_among nodes node

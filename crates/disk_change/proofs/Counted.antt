@@ -9,10 +9,10 @@ use Rattle.std.proofs.lemmas.Grind.{flat_map-append}
 use borrow.Author.Tests.{ltb-true, ltb-false, leb-true, leb-false, le-leb}
 use Rattle.sfs_base.proofs.BasicNumbers.{not_same, same_number, zero_plus}
 use Rattle.tree_laws.proofs.Joined.{count-cons}
-use Rattle.disk_change.specs.Lists.{AscendBy}
+use Rattle.keyed_list.specs.Ascending.{AscendBy}
 use Rattle.disk_change.specs.Links.{times_in}
 use Rattle.disk_change.proofs.Directories.{filter_map_more}
-use Rattle.disk_change.proofs.Keyed.{ascends_behind, first_is_least}
+use Rattle.keyed_list.proofs.Searched.{ascends_behind, first_is_least}
 
 -- what does not fall is parted by each limit
 pub below_parted : (xs : List ℕ) (n : ℕ) → IsNonDecreasing xs → IsPartitionedBy (λ x. nat_lt x n) xs

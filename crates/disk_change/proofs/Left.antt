@@ -19,7 +19,7 @@ use Rattle.disk_change.specs.Built.{rewrite_in}
 use Rattle.disk_change.specs.GivenUp.{IsLeftBySeat, IsLeftByGone}
 use Rattle.disk_change.specs.Planned.{Planned}
 use Rattle.disk_change.specs.Seated.{Seated}
-use Rattle.disk_change.specs.declared.old.OldEntry.{OldEntry}
+use Rattle.disk_nodes.specs.declared.old.OldEntry.{OldEntry}
 
 -- numbers that are sorted and each once ascend
 pub numbers_increase : (sorted once : List ℕ) → IsSorted nat_cmp sorted → once ≡ dedup eqb sorted → IsStrictlyIncreasing once

@@ -4,10 +4,8 @@ pub mod BuiltNodes
 pub mod Counted
 pub mod Directories
 pub mod Held
-pub mod Keyed
 pub mod Left
 pub mod Names
 pub mod Numbering
 pub mod NumbersGiven
-pub mod Places
 pub mod Rewriting

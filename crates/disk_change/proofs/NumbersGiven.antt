@@ -13,15 +13,16 @@ use Rattle.sfs_base.specs.declared.numbers.Kind.TheVariants.{File, Directory}
 use Rattle.sfs_base.proofs.BasicTruth.{false_not_true}
 use Rattle.tree_laws.proofs.Joined.{is_equal, count-cons}
 use Rattle.image_laws.specs.Numbers.{grant_for}
-use Rattle.disk_change.specs.Lists.{AscendBy}
-use Rattle.disk_change.specs.Nodes.{entry_node, enter_node}
+use Rattle.keyed_list.specs.Ascending.{AscendBy}
+use Rattle.disk_change.specs.Nodes.{enter_node}
+use Rattle.disk_nodes.specs.Nodes.{entry_node}
 use Rattle.disk_change.specs.Numbered.{numbers_given, number_in, number_given, grant_left}
 use Rattle.disk_change.specs.Planned.{seated_old, seated_entering, enters}
 use Rattle.disk_change.specs.Seated.{CommitChanges, Begun, Seated, seated_as, begun_old, begun_entering}
 use Rattle.disk_change.specs.declared.enter.Enter.{Enter}
 use Rattle.disk_change.specs.declared.numbers.NodeNumber.{NodeNumber}
-use Rattle.disk_change.specs.declared.old.OldEntry.{OldEntry}
-use Rattle.disk_change.proofs.Keyed.{ascends_behind, first_is_least}
+use Rattle.disk_nodes.specs.declared.old.OldEntry.{OldEntry}
+use Rattle.keyed_list.proofs.Searched.{ascends_behind, first_is_least}
 
 -- what is first in a list, and what is further in it
 pub first_in : {X : Type 0} (x : X) (xs : List X) → Contains (x ∷ xs) x

@@ -8,9 +8,9 @@ use Rattle.std.specs.Prelude.{nat_le, not, ◌||◌}
 use Rattle.sfs_base.proofs.BasicOptions.{none_some, some_same}
 use Rattle.std.proofs.lemmas.List.Elements.{All-push, All-cons}
 use Rattle.disk_change.specs.declared.pages.Page.{Page}
-use Rattle.disk_change.specs.Lists.{AscendBy}
+use Rattle.keyed_list.specs.Ascending.{AscendBy}
 use Rattle.disk_change.specs.Pages.{page_block}
-use Rattle.disk_change.proofs.Keyed.{ascends_behind}
+use Rattle.keyed_list.proofs.Searched.{ascends_behind}
 use Rattle.disk_change.specs.Seat.{has_no_row, blocks_to_last_row, block_said, page_said}
 use Rattle.block_map.specs.declared.changed.ChangedBlock.{ChangedBlock}
 use Rattle.sfs_base.proofs.BasicTruth.{and_false}

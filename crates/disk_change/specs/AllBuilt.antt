@@ -6,14 +6,16 @@ use Rattle.fmt_journal.specs.declared.tx.TxBlock.{TxBlock}
 use Rattle.space_map.specs.Space.{GrantedNumbers}
 use Rattle.disk_change.specs.Built.{Built, built}
 use Rattle.disk_change.specs.Fresh.{fresh_written}
-use Rattle.disk_change.specs.Lists.{item_with, ascending_by}
-use Rattle.disk_change.specs.Nodes.{entry_node, file_node, old_entry}
+use Rattle.disk_change.specs.Lists.{ascending_by}
+use Rattle.keyed_list.specs.Ascending.{item_with}
+use Rattle.disk_change.specs.Nodes.{file_node}
+use Rattle.disk_nodes.specs.Nodes.{entry_node, old_entry}
 use Rattle.disk_change.specs.Numbered.{numbers_given, number_in}
-use Rattle.disk_change.specs.OldKept.{OldKept}
+use Rattle.disk_nodes.specs.OldKept.{OldKept}
 use Rattle.disk_change.specs.Planned.{Planned, blocks_taken}
 use Rattle.disk_change.specs.Seated.{Seated, CommitChanges, net_of_node}
 use Rattle.disk_change.specs.declared.files.FileChange.{FileChange}
-use Rattle.disk_change.specs.declared.old.OldEntry.{OldEntry}
+use Rattle.disk_nodes.specs.declared.old.OldEntry.{OldEntry}
 use Rattle.disk_change.specs.declared.pages.Page.{Page}
 
 -- the number of each node of a commit, where a grant has these inodes: those that enter get them in the order of their nodes

@@ -13,7 +13,7 @@ use Rattle.block_map.specs.declared.rewrite.TableFate.TheVariants.{Stays, Goes, 
 use Rattle.block_map.specs.Kept.{pointer_kept}
 use Rattle.block_map.specs.Remap.{TABLES}
 use Rattle.disk_change.specs.Built.{Built}
-use Rattle.disk_change.specs.Lists.{item_with}
+use Rattle.keyed_list.specs.Ascending.{item_with}
 use Rattle.disk_change.specs.Pages.{page_block}
 use Rattle.disk_change.specs.declared.pages.Page.{Page}
 

@@ -10,7 +10,7 @@ use Rattle.block_map.specs.RemapLaws.{IsHeld}
 use Rattle.disk_change.specs.Built.{rewrite_in}
 use Rattle.disk_change.specs.Planned.{Planned}
 use Rattle.disk_change.specs.Seated.{Seated}
-use Rattle.disk_change.specs.declared.old.OldEntry.{OldEntry}
+use Rattle.disk_nodes.specs.declared.old.OldEntry.{OldEntry}
 
 -- One of these nodes gives up a block at a place that is rewritten of it.
 pub record IsLeftBySeat (seats : List Seated) (block : ℕ) : Type 0 where

@@ -9,7 +9,6 @@ pub mod Links
 pub mod Lists
 pub mod Nodes
 pub mod Numbered
-pub mod OldKept
 pub mod Pages
 pub mod Planned
 pub mod Records

@@ -8,7 +8,7 @@ use Rattle.block_map.specs.Remap.{rewrite_of}
 use Rattle.disk_change.specs.declared.directory_net.DirectoryNet.{DirectoryNet}
 use Rattle.disk_change.specs.declared.enter.Enter.{Enter}
 use Rattle.disk_change.specs.declared.files.FileChange.{FileChange}
-use Rattle.disk_change.specs.declared.old.OldEntry.{OldEntry}
+use Rattle.disk_nodes.specs.declared.old.OldEntry.{OldEntry}
 use Rattle.disk_change.specs.Links.{directories_concerned, times_in}
 use Rattle.disk_change.specs.Seated.{CommitChanges, Seated, begun_old, begun_entering, changes_in, seated}
 

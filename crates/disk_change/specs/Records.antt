@@ -8,7 +8,7 @@ use Rattle.disk_change.specs.Built.{Built}
 use Rattle.disk_change.specs.Lists.{ascending_by}
 use Rattle.disk_change.specs.Planned.{Planned}
 use Rattle.disk_change.specs.Seated.{free_inode}
-use Rattle.disk_change.specs.declared.old.OldEntry.{OldEntry}
+use Rattle.disk_nodes.specs.declared.old.OldEntry.{OldEntry}
 
 -- The record of a number: the inode that it had, and the one that it gets.
 pub record RecordChange : Type 0 where

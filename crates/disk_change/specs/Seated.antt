@@ -12,10 +12,10 @@ use Rattle.absorb.specs.declared.nets.NetRow.{NetRow}
 use Rattle.disk_change.specs.declared.directory_net.DirectoryNet.{DirectoryNet}
 use Rattle.disk_change.specs.declared.enter.Enter.{Enter}
 use Rattle.disk_change.specs.declared.files.FileChange.{FileChange}
-use Rattle.disk_change.specs.declared.old.OldEntry.{OldEntry}
+use Rattle.disk_nodes.specs.declared.old.OldEntry.{OldEntry}
 use Rattle.disk_change.specs.Directory.{slot_blocks_after, directory_touched}
 use Rattle.disk_change.specs.Links.{links_by_nets}
-use Rattle.disk_change.specs.Lists.{item_with}
+use Rattle.keyed_list.specs.Ascending.{item_with}
 use Rattle.disk_change.specs.Nodes.{net_node, file_node}
 use Rattle.disk_change.specs.Seat.{blocks_to_last_row, directory_changed, file_changed}
 

@@ -2,10 +2,10 @@
 ghost use Rattle.std.specs.Prelude.{◌≡◌, IfOk, OnOk, map};
 ghost use Rattle.disk_change.specs.AllBuilt.{entry_after, entry_keyed};
 ghost use Rattle.disk_change.specs.Lists.{ascending_by, put_over};
-ghost use Rattle.disk_change.specs.Nodes.{entry_node};
+ghost use Rattle.disk_nodes.specs.Nodes.{entry_node};
 
 use crate::node_built::NodeBuilt;
-use crate::old::{OldDisk, OldEntry, OldNode};
+use disk_nodes::{OldDisk, OldEntry, OldNode};
 use sfs_base::{NoMemory, NodeId};
 use std::alloc::Global;
 use std::collections::BTreeMap;

@@ -119,7 +119,7 @@ fn push_blocks(
 ) -> Result<(), NoMemory>
     ensures { OnOk result (blocks.new.items ≡ blocks.old.items ++ fresh_of_node files.now.items node.now) }
 {
-    match files.find(node.node) {
+    match files.find(node.node.0) {
         Some(one) => push_fresh(blocks, node, &one.pages),
         None => push_fresh(blocks, node, &PageList::new(alloc)),
     }

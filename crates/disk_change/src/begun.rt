@@ -5,7 +5,7 @@ ghost use Rattle.disk_change.specs.Seated.{begun_old, begun_entering, free_inode
 
 use crate::enter::Enter;
 use crate::kinds::DIRECTORY;
-use crate::old::OldEntry;
+use disk_nodes::OldEntry;
 use fmt_inode::{Inode, Tables};
 use fmt_slots::SlotList;
 use sfs_base::{Kind, NodeId};

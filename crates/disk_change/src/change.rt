@@ -2,15 +2,15 @@
 ghost use Rattle.std.specs.Prelude.{◌≡◌, ℕ, not, map, filter, IfOk, count_by, sum_by};
 
 use crate::begun::{entering_node, old_node};
+use crate::directory_net::NetList;
 use crate::enter::EnterList;
 use crate::files::FileChangeList;
 use crate::kinds::Directories;
 use crate::links::{LinkChanges, times_of};
-use crate::net_list::NetList;
-use crate::old::{OldDisk, OldEntry};
 use crate::plans::Plans;
 use crate::seat::{Seat, seat_of};
 use block_map::blocks_needed;
+use disk_nodes::{OldDisk, OldEntry};
 use sfs_base::{NoMemory, NodeList};
 use space_map::Need;
 use std::alloc::Global;

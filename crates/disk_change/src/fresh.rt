@@ -5,7 +5,7 @@ ghost use Rattle.std.specs.List.{range_with_len, find};
 ghost use Rattle.block_map.specs.declared.rewrite.TableFate.TheVariants.{Stays};
 ghost use Rattle.sfs_image.specs.Inode.{pointers_bytes};
 ghost use Rattle.sfs_image.specs.SlotBlock.{slots_bytes};
-ghost use Rattle.disk_change.specs.Lists.{item_with};
+ghost use Rattle.keyed_list.specs.Ascending.{item_with};
 ghost use Rattle.disk_change.specs.Pages.{page_block};
 ghost use Rattle.disk_change.specs.Fresh.{zero_bytes, content_of, data_written, indirect_block_written as written_by_fate, table_at, table_of_place, fresh_written};
 

@@ -7,8 +7,8 @@ ghost use Rattle.block_map.specs.Kept.{pointer_kept};
 ghost use Rattle.block_map.specs.RemapLaws.{IsHeld};
 ghost use Rattle.disk_change.specs.GivenUp.{IsLeftByGone, entry_number, pointers_of_place};
 
-use crate::old::{OldDisk, OldEntry};
 use block_map::TABLES;
+use disk_nodes::{OldDisk, OldEntry};
 use fmt_inode::{Inode, Tables};
 use sfs_base::{BlockList, InodeList, NoMemory};
 use std::alloc::Global;
@@ -35,15 +35,13 @@ fn ascending(mut numbers: Vec<u32>) -> BlockList
     BlockList::from_vec(numbers)
 }
 
-impl OldDisk {
-    /// All blocks that its nodes hold, ascending.
-    pub fn held_blocks(&self, alloc: Global) -> Result<BlockList, NoMemory>
-        ensures ascending { IfOk result (λ blocks. IsStrictlyIncreasing blocks.items) }
-        ensures each { IfOk result (λ blocks. (block : ℕ) → Contains blocks.items block ↔ IsLeftByGone self.now.items block) }
-    {
-        let blocks = blocks_left(Vec::new(alloc), self.as_slice())?;
-        Ok(blocks)
-    }
+/// All blocks that nodes hold on the disk, ascending. Only want of memory refuses it.
+pub fn held_blocks(alloc: Global, old: &OldDisk) -> Result<BlockList, NoMemory>
+    ensures ascending { IfOk result (λ blocks. IsStrictlyIncreasing blocks.items) }
+    ensures each { IfOk result (λ blocks. (block : ℕ) → Contains blocks.items block ↔ IsLeftByGone old.now.items block) }
+{
+    let blocks = blocks_left(Vec::new(alloc), old.as_slice())?;
+    Ok(blocks)
 }
 
 // The blocks that a commit gives up, ascending: those that its nodes leave, and all those of nodes that

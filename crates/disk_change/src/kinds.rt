@@ -6,7 +6,7 @@ ghost use Rattle.disk_change.specs.Directory.{is_among};
 ghost use Rattle.disk_change.specs.Links.{directories_concerned, directory_old, directory_entering};
 
 use crate::enter::{Enter, EnterList};
-use crate::old::{OldDisk, OldEntry};
+use disk_nodes::{OldDisk, OldEntry};
 use sfs_base::{Kind, NoMemory, NodeId};
 use std::alloc::Global;
 use std::marker::Model;

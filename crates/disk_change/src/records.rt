@@ -8,7 +8,7 @@ ghost use Rattle.disk_change.specs.Seated.{free_inode};
 
 use crate::begun::free;
 use crate::node_built::NodeBuilt;
-use crate::old::OldEntry;
+use disk_nodes::OldEntry;
 use fmt_inode::{Inode, encode};
 use fmt_journal::TxRecord;
 use sfs_base::{NoMemory, RoomyList};

@@ -1,16 +1,17 @@
 // What a commit makes of one node, before it has numbers and fresh blocks.
 ghost use Rattle.std.specs.Prelude.{◌≡◌, [], IfOk};
 ghost use Rattle.std.specs.Option.{option_map_or};
-ghost use Rattle.disk_change.specs.Lists.{NamesAscend, item_with};
+ghost use Rattle.disk_change.specs.Lists.{NamesAscend};
+ghost use Rattle.keyed_list.specs.Ascending.{item_with};
 ghost use Rattle.disk_change.specs.Nodes.{file_node};
 ghost use Rattle.disk_change.specs.Seat.{file_changed as blocks_of_pages};
 ghost use Rattle.disk_change.specs.Seated.{changes_in, seated, directory_seated, file_seated, net_of_node, size_of_blocks};
 
 use crate::begun::BegunNode;
 use crate::directory::directory_after;
+use crate::directory_net::NetList;
 use crate::files::FileChangeList;
 use crate::kinds::{DIRECTORY, FILE};
-use crate::net_list::NetList;
 use crate::plans::Plans;
 use crate::rewritten::{directory_changed, end_of, file_changed};
 use absorb::NetRow;
@@ -116,7 +117,7 @@ pub(crate) fn net_of(nets: &NetList, node: NodeId) -> &[NetRow]
     ensures rows { result.now ≡ net_of_node nets.now.items node.0 }
     ensures ascending { NamesAscend result.now }
 {
-    match nets.find(node) {
+    match nets.find(node.0) {
         Some(one) => one.net.as_slice(),
         None => &[],
     }
@@ -153,7 +154,7 @@ fn file_seat(alloc: Global, begun: BegunNode, plans: &Plans) -> Result<Seat, NoM
 fn file_size(files: &FileChangeList, node: NodeId, size: u64) -> u64
     ensures { result ≡ option_map_or (λ one. one.size) (item_with file_node node.0 files.now.items) size }
 {
-    match files.find(node) {
+    match files.find(node.0) {
         Some(one) => one.size,
         None => size,
     }
@@ -164,7 +165,7 @@ fn pages_changed(alloc: Global, files: &FileChangeList, node: NodeId) -> Result<
     ensures { IfOk result (λ changed. changed.items
         ≡ option_map_or (λ one. blocks_of_pages one.pages.items) (item_with file_node node.0 files.now.items) []) }
 {
-    match files.find(node) {
+    match files.find(node.0) {
         Some(one) => file_changed(alloc, &one.pages),
         None => Ok(Changed::new(alloc)),
     }

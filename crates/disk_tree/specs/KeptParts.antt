@@ -5,7 +5,8 @@ use Rattle.sfs_base.specs.Lists.{Roomy}
 use Rattle.sfs_image.specs.Inode.{Inode, Table}
 use Rattle.sfs_image.specs.Part.{Part, is_free_part}
 use Rattle.sfs_image.specs.Slot.{Row}
-use Rattle.block_map.specs.Kept.{Kept, kept_of}
+use Rattle.block_map.specs.Kept.{kept_of}
+use Rattle.disk_nodes.specs.OldKept.{Kept}
 use Rattle.disk_tree.specs.Blocks.{slots_at}
 use Rattle.disk_tree.specs.Gathered.{tables_at}
 use Rattle.disk_tree.specs.Inodes.{inode_at}

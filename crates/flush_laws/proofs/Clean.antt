@@ -32,12 +32,12 @@ use Rattle.image_laws.specs.Stands.{StandsForTree, ShowsNode}
 use Rattle.block_map.specs.Kept.{kept_of}
 use Rattle.space_map.specs.Space.{GrantedNumbers}
 use Rattle.disk_change.specs.Directory.{is_among}
-use Rattle.disk_change.specs.Lists.{item_with}
+use Rattle.keyed_list.specs.Ascending.{item_with}
 use Rattle.disk_change.specs.Nodes.{net_node}
 use Rattle.disk_change.specs.Seated.{net_of_node}
 use Rattle.disk_change.specs.declared.directory_net.DirectoryNet.{DirectoryNet}
 use Rattle.disk_change.specs.declared.enter.Enter.{Enter}
-use Rattle.disk_change.specs.declared.old.OldEntry.{OldEntry}
+use Rattle.disk_nodes.specs.declared.old.OldEntry.{OldEntry}
 use Rattle.commit_laws.specs.BytesKept.{AreGoodParts, IsCleanPlan}
 use Rattle.commit_laws.specs.CommitOfPlan.{CommitPlan, numbers_planned, image_planned, IsCommitPlan, IsSoundPlan}
 use Rattle.commit_laws.specs.KeptShown.{KeepsSeen}

@@ -32,7 +32,7 @@ use Rattle.image_laws.specs.Stands.{StandsForTree, IsStorable}
 use Rattle.image_laws.proofs.WholeImages.{rule_alike, standing_parts_are_read}
 use Rattle.tree_laws.specs.Sound.{IsSound}
 use Rattle.space_map.specs.Space.{GrantedNumbers}
-use Rattle.disk_change.specs.declared.old.OldEntry.{OldEntry}
+use Rattle.disk_nodes.specs.declared.old.OldEntry.{OldEntry}
 use Rattle.commit_laws.specs.CommitOfPlan.{CommitPlan, change_planned, numbers_planned}
 use Rattle.commit_laws.specs.FilesMade.{ShowTheSame}
 use Rattle.commit_laws.proofs.PartsStand.{alike_images_stand}
@@ -53,7 +53,7 @@ use Rattle.sfs_image.proofs.PartLaws.{gather_same}
 use Rattle.tree_laws.specs.Tree.{kind_of}
 use Rattle.image_laws.proofs.Standing.{not_used}
 use Rattle.journal_one.specs.Job.{HaveOwnBlocks}
-use Rattle.block_map.specs.Kept.{Kept}
+use Rattle.disk_nodes.specs.OldKept.{Kept}
 use Rattle.disk_change.specs.AllBuilt.{nodes_with_grant}
 use Rattle.disk_change.specs.Built.{Built}
 use Rattle.disk_change.specs.Directory.{is_among}

@@ -24,10 +24,11 @@ use Rattle.disk_change.specs.AllBuilt.{numbers_with, built_by, nodes_with_grant,
 use Rattle.disk_change.specs.Built.{Built}
 use Rattle.disk_change.specs.Directory.{is_among}
 use Rattle.disk_change.specs.GivenUp.{entry_number}
-use Rattle.disk_change.specs.Nodes.{entry_node, enter_node}
+use Rattle.disk_change.specs.Nodes.{enter_node}
+use Rattle.disk_nodes.specs.Nodes.{entry_node}
 use Rattle.disk_change.specs.Planned.{Planned, leaves}
 use Rattle.disk_change.specs.Seated.{free_inode}
-use Rattle.disk_change.specs.declared.old.OldEntry.{OldEntry}
+use Rattle.disk_nodes.specs.declared.old.OldEntry.{OldEntry}
 use Rattle.commit_laws.specs.BytesKept.{IsCleanPlan}
 use Rattle.commit_laws.specs.CommitOfPlan.{CommitPlan, change_planned, numbers_planned}
 use Rattle.commit_laws.specs.PartsMade.{part_made, store_planned, IsPlanOverParts}

@@ -18,7 +18,7 @@ use Rattle.image_laws.specs.Image.{IsReadAsTree}
 use Rattle.image_laws.specs.Renamed.{Numbering}
 use Rattle.space_map.specs.Space.{GrantedNumbers}
 use Rattle.disk_change.specs.Records.{records_written}
-use Rattle.disk_change.specs.declared.old.OldEntry.{OldEntry}
+use Rattle.disk_nodes.specs.declared.old.OldEntry.{OldEntry}
 use Rattle.commit_laws.specs.CommitOfPlan.{CommitPlan, change_planned}
 use Rattle.commit_laws.specs.PartsMade.{blocks_planned}
 use Rattle.commit_laws.specs.PartsStand.{part_next}

@@ -17,14 +17,15 @@ use Rattle.space_map.specs.Space.{GrantedNumbers}
 use Rattle.disk_change.specs.AllBuilt.{nodes_with_grant}
 use Rattle.disk_change.specs.Built.{Built}
 use Rattle.disk_change.specs.Directory.{is_among}
-use Rattle.disk_change.specs.Lists.{AscendBy, item_with}
-use Rattle.disk_change.specs.Nodes.{entry_node, net_node, file_node, enter_node}
+use Rattle.keyed_list.specs.Ascending.{AscendBy, item_with}
+use Rattle.disk_change.specs.Nodes.{net_node, file_node, enter_node}
+use Rattle.disk_nodes.specs.Nodes.{entry_node}
 use Rattle.disk_change.specs.Pages.{page_block}
 use Rattle.disk_change.specs.Seated.{net_of_node}
 use Rattle.disk_change.specs.declared.directory_net.DirectoryNet.{DirectoryNet}
 use Rattle.disk_change.specs.declared.enter.Enter.{Enter}
 use Rattle.disk_change.specs.declared.files.FileChange.{FileChange}
-use Rattle.disk_change.specs.declared.old.OldEntry.{OldEntry}
+use Rattle.disk_nodes.specs.declared.old.OldEntry.{OldEntry}
 use Rattle.commit_laws.specs.BytesKept.{CutsOffEnds, IsCleanPlan}
 use Rattle.commit_laws.specs.CommitOfPlan.{CommitPlan, change_planned, numbers_planned, ServesPlan}
 use Rattle.commit_laws.specs.NumbersGiven.{node_leaves}

@@ -8,9 +8,9 @@ use Rattle.image_laws.specs.Image.{inodes_shown, HaveGoodBytes}
 use Rattle.image_laws.specs.Renamed.{Numbering}
 use Rattle.image_laws.specs.Stands.{StandsForTree}
 use Rattle.block_map.specs.Kept.{kept_of}
-use Rattle.disk_change.specs.Lists.{AscendBy}
-use Rattle.disk_change.specs.Nodes.{entry_node}
-use Rattle.disk_change.specs.declared.old.OldEntry.{OldEntry}
+use Rattle.keyed_list.specs.Ascending.{AscendBy}
+use Rattle.disk_nodes.specs.Nodes.{entry_node}
+use Rattle.disk_nodes.specs.declared.old.OldEntry.{OldEntry}
 use Rattle.cut_laws.specs.Closure.{every_entry, Flush, AreFlushed}
 use Rattle.cut_laws.specs.Cut.{Cut, tree_at_cut}
 use Rattle.raise_laws.specs.Next.{IsMountedHistory, NumbersInodes}

@@ -22,10 +22,10 @@ use Rattle.look_laws.specs.Made.{Found, Lifts, SeesReached, SeesDead, AreMoved}
 use Rattle.dep_closure.specs.declared.gathered.Gathered.{Gathered}
 use Rattle.dep_closure.specs.Gathered.{look_of, cut_in}
 use Rattle.dep_closure.proofs.Searches.{numbers_rise}
-use Rattle.disk_change.specs.Lists.{AscendBy}
+use Rattle.keyed_list.specs.Ascending.{AscendBy}
 use Rattle.disk_change.specs.Nodes.{enter_node}
 use Rattle.disk_change.specs.declared.enter.Enter.{Enter}
-use Rattle.disk_change.specs.declared.old.OldEntry.{OldEntry}
+use Rattle.disk_nodes.specs.declared.old.OldEntry.{OldEntry}
 use Rattle.flush_plan.specs.declared.concern.Concern.{Concern}
 use Rattle.flush_plan.specs.declared.facts.Facts.{Facts}
 use Rattle.flush_plan.specs.Concerned.{IsConcernOf}

@@ -10,7 +10,7 @@ use Rattle.look_laws.specs.Look.{Gathers, Touches}
 use Rattle.dep_closure.specs.declared.gathered.Gathered.{Gathered}
 use Rattle.dep_closure.specs.Gathered.{look_of, span_in}
 use Rattle.disk_change.specs.declared.directory_net.DirectoryNet.{DirectoryNet}
-use Rattle.disk_change.specs.Lists.{AscendBy, item_with}
+use Rattle.keyed_list.specs.Ascending.{AscendBy, item_with}
 use Rattle.disk_change.specs.Nodes.{net_node}
 use Rattle.disk_change.specs.Seated.{net_of_node}
 use Rattle.flush_plan.specs.declared.concern.Concern.{Concern}

@@ -4,7 +4,7 @@ use Rattle.sfs_base.specs.declared.numbers.NodeId.{NodeId}
 use Rattle.mem_files.specs.File.{File}
 use Rattle.disk_change.specs.Planned.{Planned, planned}
 use Rattle.disk_change.specs.declared.files.FileChange.{FileChange}
-use Rattle.disk_change.specs.declared.old.OldEntry.{OldEntry}
+use Rattle.disk_nodes.specs.declared.old.OldEntry.{OldEntry}
 use Rattle.flush_plan.specs.Touched.{IsFileChange}
 
 -- The file is changed from its cut on. No row comes or goes, and no node gets or loses an inode.

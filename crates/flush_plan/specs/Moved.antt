@@ -18,7 +18,7 @@ use Rattle.dep_closure.specs.declared.gathered.Gathered.{Gathered}
 use Rattle.dep_closure.specs.Gathered.{look_of, lifted_cut}
 use Rattle.disk_change.specs.declared.directory_net.DirectoryNet.{DirectoryNet}
 use Rattle.disk_change.specs.declared.enter.Enter.{Enter}
-use Rattle.disk_change.specs.declared.old.OldEntry.{OldEntry}
+use Rattle.disk_nodes.specs.declared.old.OldEntry.{OldEntry}
 use Rattle.flush_plan.specs.declared.concern.Concern.{Concern}
 use Rattle.flush_plan.specs.declared.facts.Facts.{Facts}
 use Rattle.flush_plan.specs.Kinds.{kind_told, spans_in}

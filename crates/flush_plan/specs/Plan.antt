@@ -9,12 +9,12 @@ use Rattle.mem_files.specs.File.{File}
 use Rattle.look_laws.specs.Made.{Lifts, AreMoved}
 use Rattle.dep_closure.specs.declared.gathered.Gathered.{Gathered}
 use Rattle.dep_closure.specs.Gathered.{look_of, cut_in}
-use Rattle.disk_change.specs.Lists.{AscendBy}
+use Rattle.keyed_list.specs.Ascending.{AscendBy}
 use Rattle.disk_change.specs.Nodes.{enter_node}
 use Rattle.disk_change.specs.Planned.{planned}
 use Rattle.disk_change.specs.declared.enter.Enter.{Enter}
 use Rattle.disk_change.specs.declared.files.FileChange.{FileChange}
-use Rattle.disk_change.specs.declared.old.OldEntry.{OldEntry}
+use Rattle.disk_nodes.specs.declared.old.OldEntry.{OldEntry}
 use Rattle.flush_plan.specs.Touched.{IsFileChange}
 use Rattle.flush_plan.specs.declared.concern.Concern.{Concern}
 use Rattle.flush_plan.specs.declared.plans.FsyncPlan.{FsyncPlan}

@@ -5,7 +5,7 @@ ghost use Rattle.tree_laws.specs.NameRow.{node_number};
 ghost use Rattle.cut_laws.specs.Elements.{OfSome};
 ghost use Rattle.dep_closure.specs.Brought.{AddsTo};
 ghost use Rattle.dep_closure.specs.Gathered.{IsOrderly};
-ghost use Rattle.disk_change.specs.Lists.{AscendBy};
+ghost use Rattle.keyed_list.specs.Ascending.{AscendBy};
 ghost use Rattle.disk_change.specs.Nodes.{net_node};
 ghost use Rattle.flush_plan.specs.Concerned.{HaveGoodNames, IsConcernOf, AreNodes, AreNetsOf, IsTouchedBy};
 

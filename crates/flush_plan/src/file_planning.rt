@@ -3,7 +3,8 @@ ghost use Rattle.std.specs.Prelude.{IfOk};
 ghost use Rattle.flush_plan.specs.FilePlan.{IsFilePlan};
 
 use crate::touched::file_change;
-use disk_change::{DiskChange, EnterList, FileChangeList, NetList, OldDisk};
+use disk_change::{DiskChange, EnterList, FileChangeList, NetList};
+use disk_nodes::OldDisk;
 use mem_files::FileBytes;
 use sfs_base::{NoMemory, NodeId, NodeList, Stamp};
 use std::alloc::Global;

@@ -6,7 +6,8 @@ ghost use Rattle.tree_laws.specs.NameRow.{number_of};
 ghost use Rattle.disk_change.specs.Links.{times_in};
 ghost use Rattle.flush_plan.specs.Names.{named_coming, named_going, names_on_disk};
 
-use disk_change::{DirectoryNet, NetList, OldDisk};
+use disk_change::{DirectoryNet, NetList};
+use disk_nodes::OldDisk;
 use sfs_base::{NoMemory, NodeId};
 use std::alloc::Global;
 use std::marker::Model;
@@ -101,7 +102,7 @@ fn times_of(numbers: &[u32], number: u32) -> u64
 pub(crate) fn names_kept(old: &OldDisk, node: NodeId) -> u32
     ensures { result ≡ names_on_disk old.now.items node.0 }
 {
-    match old.find(node) {
+    match old.find(node.0) {
         Some(entry) => {
             if entry.old.meta.kind == DIRECTORY {
                 ONE_NAME

@@ -10,7 +10,8 @@ use crate::moved::{entering, facts_of, leaving};
 use crate::plans::FsyncPlan;
 use crate::touched::file_change;
 use dep_closure::Gathered;
-use disk_change::{DiskChange, EnterList, FileChangeList, OldDisk};
+use disk_change::{DiskChange, EnterList, FileChangeList};
+use disk_nodes::OldDisk;
 use mem_files::FileBytes;
 use sfs_base::{NoMemory, NodeId, Stamp};
 use std::alloc::Global;
@@ -70,5 +71,5 @@ fn has_or_gets_inode(logs: &Gathered, enter: &EnterList, node: NodeId) -> bool
     requires { IsOrderly logs.now }
     ensures { result ≡ is_held logs.now enter.now.items node.0 }
 {
-    logs.has_inode(node) || enter.find(node).is_some()
+    logs.has_inode(node) || enter.find(node.0).is_some()
 }

@@ -11,7 +11,7 @@ use Rattle.sfs_base.proofs.BasicNumbers.{zero_plus}
 use Rattle.sfs_base.specs.declared.numbers.Stamp.{Stamp}
 use Rattle.sfs_base.proofs.BasicTruth.{not_both, true_not_false}
 use Rattle.mem_files.specs.File.{File, room}
-use Rattle.disk_change.specs.Lists.{AscendBy, item_with}
+use Rattle.keyed_list.specs.Ascending.{AscendBy, item_with}
 use Rattle.disk_change.specs.Pages.{page_block}
 use Rattle.disk_change.specs.declared.pages.Page.{Page}
 use Rattle.commit_laws.specs.Rewritten.{bytes_in_block}

@@ -3,7 +3,7 @@ use Rattle.std.specs.Prelude.{◌≡◌, ℕ, ◌*◌, ◌<◌, ◌≤◌, true,
 use Rattle.sfs_image.specs.Seen.{FILE_BLOCKS}
 use Rattle.tree_laws.specs.Tree.{TreeState, bytes_of}
 use Rattle.image_laws.specs.Stands.{BLOCK_BYTES}
-use Rattle.disk_change.specs.Lists.{AscendBy, item_with}
+use Rattle.keyed_list.specs.Ascending.{AscendBy, item_with}
 use Rattle.disk_change.specs.Pages.{page_block}
 use Rattle.disk_change.specs.declared.files.FileChange.{FileChange}
 use Rattle.disk_change.specs.declared.pages.Page.{Page}

@@ -3,10 +3,10 @@ use Rattle.std.proofs.Common.{◌≡◌, ◌≢◌, ℕ, zero, suc, ◌+◌, ◌
 use Rattle.std.specs.Prelude.{slice_get, option_map}
 use borrow.Author.Tests.{eqb-true}
 use Rattle.tree_laws.specs.Tree.{TreeState}
-use Rattle.disk_change.specs.OldKept.{OldKept}
-use Rattle.disk_change.specs.Lists.{item_with, without}
-use Rattle.disk_change.specs.Nodes.{entry_node, entry_old}
-use Rattle.disk_change.specs.declared.old.OldEntry.{OldEntry}
+use Rattle.disk_nodes.specs.OldKept.{OldKept}
+use Rattle.keyed_list.specs.Ascending.{item_with, without}
+use Rattle.disk_nodes.specs.Nodes.{entry_node, entry_old}
+use Rattle.disk_nodes.specs.declared.old.OldEntry.{OldEntry}
 use Rattle.mem_values.specs.declared.cell.Cell.{Cell}
 use Rattle.mem_values.specs.declared.cell_id.CellId.{CellId}
 use Rattle.mem_values.specs.declared.cell_id.CellId.TheVariants.{Lock, Bucket, File, Pending, Part}

@@ -1,7 +1,7 @@
 -- What the values of a table begin as.
 use Rattle.std.specs.Prelude.{◌≡◌, ℕ, ◌+◌, List, [], ◌∷◌, length, reverse, Option}
 use Rattle.tree_laws.specs.Tree.{TreeState}
-use Rattle.disk_change.specs.OldKept.{OldKept}
+use Rattle.disk_nodes.specs.OldKept.{OldKept}
 use Rattle.mem_values.specs.declared.cell.Cell.{Cell}
 use Rattle.mem_values.specs.Places.{node_count, place_count}
 use Rattle.mem_values.specs.Stands.{StandsAt}

@@ -4,10 +4,10 @@ use Rattle.std.specs.FinMap.{get}
 use Rattle.tree_laws.specs.Tree.{TreeState, bytes_of, made_by}
 use Rattle.tree_laws.specs.Sound.{IsSound}
 use Rattle.tree_laws.specs.Verdict.{LARGEST_FILE}
-use Rattle.disk_change.specs.OldKept.{OldKept}
-use Rattle.disk_change.specs.Lists.{item_with}
-use Rattle.disk_change.specs.Nodes.{entry_node, entry_old}
-use Rattle.disk_change.specs.declared.old.OldEntry.{OldEntry}
+use Rattle.disk_nodes.specs.OldKept.{OldKept}
+use Rattle.keyed_list.specs.Ascending.{item_with}
+use Rattle.disk_nodes.specs.Nodes.{entry_node, entry_old}
+use Rattle.disk_nodes.specs.declared.old.OldEntry.{OldEntry}
 use Rattle.mem_values.specs.declared.bucket.Bucket.{Bucket}
 use Rattle.mem_values.specs.declared.cell_id.CellId.{CellId}
 use Rattle.mem_values.specs.declared.cell_id.CellId.TheVariants as id

@@ -5,7 +5,7 @@ ghost use Rattle.mem_begin.specs.Beginning.{CanBeginTable, given_in, given_of, I
 
 use crate::bucket::bucket_of;
 use crate::file::file_of;
-use disk_change::{OldDisk, OldNode};
+use disk_nodes::{OldDisk, OldNode, take_old};
 use mem_cells::LogPart;
 use mem_values::{Cell, CellId, Given, PartCell, Pending, TreeLock};
 use sfs_base::{NoMemory, Stamp};
@@ -18,7 +18,7 @@ pub(crate) fn take_given(given: &mut OldDisk, cell: CellId) -> Option<OldNode>
     ensures left { (node : ℕ) → (IsFlushedOf node cell → ⊥) → given_in given.new.items node ≡ given_in given.old.items node }
 {
     match cell {
-        CellId::Pending { node } => given.take(node),
+        CellId::Pending { node } => take_old(given, node),
         _ => None,
     }
 }

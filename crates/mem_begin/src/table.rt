@@ -7,7 +7,7 @@ ghost use Rattle.mem_begin.specs.Beginning.{CanBeginTable, HasGivenBelow, given_
 
 use crate::cell::{begin_cell, take_given};
 use crate::place::{cell_lying_at, place_count};
-use disk_change::OldDisk;
+use disk_nodes::OldDisk;
 use mem_values::{Cell, FileCore, FileShared, Given};
 use sfs_base::NoMemory;
 use sfs_tree::Tree;

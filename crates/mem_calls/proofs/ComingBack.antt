@@ -1,6 +1,6 @@
 -- A row that does not come: its bucket and the own log are put back.
 use Rattle.std.proofs.Common.{◌≡◌, ℕ, List, Option, Some, IsSome, sym, ap, ◌∙◌}
-use Rattle.disk_change.specs.OldKept.{OldKept}
+use Rattle.disk_nodes.specs.OldKept.{OldKept}
 use Rattle.sfs_base.specs.Name.{bucket}
 use Rattle.sfs_base.specs.declared.numbers.NodeId.{NodeId}
 use Rattle.tree_laws.proofs.Joined.{bucket_small}

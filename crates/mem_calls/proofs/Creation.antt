@@ -1,7 +1,7 @@
 -- A call that makes a node: what it keeps, and what stands once its creation is stamped.
 use Rattle.std.proofs.Common.{◌≡◌, ℕ, List, length, Option, IsSome, inl, inr, arith, ⊎_elim}
 use Rattle.std.proofs.lemmas.Bool.{cases_Bool}
-use Rattle.disk_change.specs.OldKept.{OldKept}
+use Rattle.disk_nodes.specs.OldKept.{OldKept}
 use Rattle.sfs_base.specs.Name.{bucket}
 use Rattle.sfs_base.specs.declared.numbers.NodeId.{NodeId}
 use Rattle.sfs_base.specs.declared.numbers.Kind.{Kind}

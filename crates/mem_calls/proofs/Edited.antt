@@ -4,7 +4,7 @@ use borrow.Author.Tests.{eqb-true}
 use Rattle.std.specs.Prelude.{if◌then◌else◌, ◌||◌, ◌&&◌, not}
 use Rattle.std.proofs.lemmas.Bool.{cases_Bool, both_ways}
 use Rattle.std.proofs.lemmas.Option.{option_and_then_some}
-use Rattle.disk_change.specs.OldKept.{OldKept}
+use Rattle.disk_nodes.specs.OldKept.{OldKept}
 use Rattle.sfs_base.specs.declared.numbers.NodeId.{NodeId}
 use Rattle.tree_laws.specs.Tree.{TreeState, is_directory, bytes_of, made_by}
 use Rattle.tree_laws.specs.declared.call.Call.{Call}

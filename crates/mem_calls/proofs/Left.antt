@@ -1,7 +1,7 @@
 -- A core that lets go of all cells.
 use Rattle.std.proofs.Common.{◌≡◌, append_assoc, ◌++◌, ◌<◌, ℕ, List, [], ◌∷◌, length, reverse, Option, sym, ap, subst, ◌∙◌, arith}
 use mathlib.Core.List.{IsPrefix}
-use Rattle.disk_change.specs.OldKept.{OldKept}
+use Rattle.disk_nodes.specs.OldKept.{OldKept}
 use Rattle.tree_laws.specs.Tree.{TreeState}
 use Rattle.stamp_table.specs.declared.view.View.{View}
 use Rattle.stamp_table.specs.declared.event.Event.{Event}

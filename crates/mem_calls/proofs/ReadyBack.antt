@@ -1,7 +1,7 @@
 -- The own log is put back with more room.
 use Rattle.std.proofs.Common.{◌≡◌, ℕ, Option, Some}
 use Rattle.std.proofs.lemmas.Option.{option_and_then_some}
-use Rattle.disk_change.specs.OldKept.{OldKept}
+use Rattle.disk_nodes.specs.OldKept.{OldKept}
 use Rattle.mem_cells.specs.Part.{IsSamePart}
 use Rattle.stamp_table.specs.Hand.{Hand}
 use Rattle.stamp_table.specs.Table.{TableState, with_value}

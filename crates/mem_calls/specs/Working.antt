@@ -1,7 +1,7 @@
 -- A core in the middle of a call.
 use Rattle.std.specs.Prelude.{◌≡◌, ℕ, ◌+◌, ◌<◌, true, [], ◌∷◌, ◌++◌, Option, Some, None, length, reverse}
 use mathlib.Core.List.{IsPrefix}
-use Rattle.disk_change.specs.OldKept.{OldKept}
+use Rattle.disk_nodes.specs.OldKept.{OldKept}
 use Rattle.sfs_base.specs.declared.numbers.NodeId.{NodeId}
 use Rattle.tree_laws.specs.Tree.{TreeState}
 use Rattle.tree_laws.specs.History.{tree_after, IsLegal}

@@ -4,7 +4,7 @@ use borrow.Author.Tests.{eqb-true}
 use Rattle.std.specs.Prelude.{is_some}
 use Rattle.sfs_base.specs.Name.{bucket as name_bucket}
 use Rattle.sfs_base.proofs.BasicTruth.{true_or_false, true_not_false}
-use Rattle.disk_change.specs.OldKept.{OldKept}
+use Rattle.disk_nodes.specs.OldKept.{OldKept}
 use Rattle.tree_laws.specs.Tree.{TreeState, row_of, is_directory}
 use Rattle.tree_laws.specs.Effect.{Effect}
 use Rattle.tree_laws.specs.Logged.{numbered_node}

@@ -7,7 +7,7 @@ use Rattle.sfs_base.proofs.BasicTruth.{true_or_false, and_first, and_second, not
 use Rattle.sfs_base.specs.Name.{bucket as name_bucket}
 use Rattle.sfs_base.specs.declared.numbers.NodeId.{NodeId}
 use Rattle.sfs_base.proofs.BasicOptions.{some_same}
-use Rattle.disk_change.specs.OldKept.{OldKept}
+use Rattle.disk_nodes.specs.OldKept.{OldKept}
 use Rattle.tree_laws.specs.Tree.{TreeState}
 use Rattle.tree_laws.specs.declared.changes.Change.{Change}
 use Rattle.tree_laws.specs.declared.reply.Reply.TheVariants as reply

@@ -5,7 +5,7 @@ use Rattle.std.specs.Option.{option_and_then}
 use Rattle.std.proofs.lemmas.Option.{option_and_then_some}
 use Rattle.sfs_base.specs.declared.fault.NoMemory.{NoMemory}
 use Rattle.sfs_base.specs.declared.numbers.NodeId.{NodeId}
-use Rattle.disk_change.specs.OldKept.{OldKept}
+use Rattle.disk_nodes.specs.OldKept.{OldKept}
 use Rattle.tree_laws.specs.Tree.{TreeState}
 use Rattle.mem_cells.specs.Part.{IsSamePart, room_kept}
 use Rattle.stamp_table.specs.Hand.{Hand}

@@ -7,7 +7,7 @@ use Rattle.sfs_base.specs.Name.{bucket as name_bucket}
 use Rattle.sfs_base.specs.declared.numbers.NodeId.{NodeId}
 use Rattle.sfs_base.proofs.BasicTruth.{true_or_false, and_first, and_second}
 use Rattle.sfs_base.proofs.BasicOptions.{none_some}
-use Rattle.disk_change.specs.OldKept.{OldKept}
+use Rattle.disk_nodes.specs.OldKept.{OldKept}
 use Rattle.tree_laws.specs.Tree.{TreeState}
 use Rattle.tree_laws.specs.Logged.{numbered_node}
 use Rattle.tree_laws.specs.Verdict.{names_child}

@@ -6,7 +6,7 @@ use Rattle.sfs_base.specs.Name.{bucket as name_bucket}
 use Rattle.sfs_base.specs.declared.numbers.NodeId.{NodeId}
 use Rattle.sfs_base.proofs.BasicTruth.{and_first, and_second, not_true, false_not_true}
 use Rattle.sfs_base.proofs.BasicOptions.{none_some}
-use Rattle.disk_change.specs.OldKept.{OldKept}
+use Rattle.disk_nodes.specs.OldKept.{OldKept}
 use Rattle.cut_laws.specs.Rules.{IsOneOf}
 use Rattle.tree_laws.specs.History.{IsLegal}
 use Rattle.tree_laws.specs.Tree.{TreeState}

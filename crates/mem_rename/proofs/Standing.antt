@@ -3,7 +3,7 @@ use Rattle.std.proofs.Common.{◌≡◌, ℕ, ◌<◌, ◌≤◌, cond, List, []
 use borrow.Author.Tests.{le-leb}
 use mathlib.Core.List.{IsPrefix}
 use Rattle.sfs_base.specs.declared.numbers.NodeId.{NodeId}
-use Rattle.disk_change.specs.OldKept.{OldKept}
+use Rattle.disk_nodes.specs.OldKept.{OldKept}
 use Rattle.tree_laws.specs.Tree.{TreeState}
 use Rattle.tree_laws.specs.History.{tree_after, IsLegal}
 use Rattle.tree_laws.specs.Laws.{IsSoundTree}

@@ -4,7 +4,7 @@ use Rattle.std.specs.Prelude.{is_some, MatchOption}
 use Rattle.std.specs.Option.{option_and_then}
 use Rattle.sfs_base.specs.Name.{bucket as name_bucket}
 use Rattle.sfs_base.specs.declared.numbers.NodeId.{NodeId}
-use Rattle.disk_change.specs.OldKept.{OldKept}
+use Rattle.disk_nodes.specs.OldKept.{OldKept}
 use Rattle.tree_laws.specs.Tree.{TreeState}
 use Rattle.tree_laws.specs.declared.reply.Reply.{Reply}
 use Rattle.tree_laws.specs.declared.reply.Reply.TheVariants as reply

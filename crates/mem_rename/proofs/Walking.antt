@@ -4,7 +4,7 @@ use Rattle.std.proofs.lemmas.List.{map-append}
 use Rattle.std.specs.FinMap.{get}
 use Rattle.sfs_base.specs.declared.numbers.NodeId.{NodeId}
 use Rattle.sfs_base.proofs.BasicOptions.{none_some, some_is}
-use Rattle.disk_change.specs.OldKept.{OldKept}
+use Rattle.disk_nodes.specs.OldKept.{OldKept}
 use Rattle.tree_laws.specs.Tree.{TreeState, is_directory, holder_of}
 use Rattle.tree_laws.specs.Lock.{AreHolders, stands_of}
 use Rattle.tree_laws.specs.NameRow.{number_of, node_number}

@@ -12,7 +12,7 @@ use Rattle.tree_laws.specs.NameRow.{number_of}
 use Rattle.tree_laws.specs.History.{tree_after, IsLegal}
 use Rattle.tree_laws.specs.Laws.{IsSoundTree}
 use Rattle.cut_laws.specs.Rules.{IsOneOf}
-use Rattle.disk_change.specs.OldKept.{OldKept}
+use Rattle.disk_nodes.specs.OldKept.{OldKept}
 use Rattle.stamp_table.specs.declared.event.Event.{Event}
 use Rattle.stamp_table.specs.declared.event.Event.TheVariants.{Called}
 use Rattle.stamp_table.specs.declared.view.View.{View}

@@ -4,7 +4,7 @@ use Rattle.std.specs.FinMap.{empty, len}
 use Rattle.std.specs.List.{list_any}
 use Rattle.sfs_base.specs.Name.{bucket as name_bucket}
 use Rattle.sfs_base.specs.declared.numbers.NodeId.{NodeId}
-use Rattle.disk_change.specs.OldKept.{OldKept}
+use Rattle.disk_nodes.specs.OldKept.{OldKept}
 use Rattle.tree_laws.specs.Tree.{TreeState}
 use Rattle.tree_laws.specs.Lock.{EndsAtRoot, AreHolders}
 use Rattle.stamp_table.specs.declared.held.HeldCell.{HeldCell}

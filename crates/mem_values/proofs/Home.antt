@@ -20,7 +20,7 @@ use Rattle.mem_cells.specs.Part.{IsTrimmed, mark_kept}
 use Rattle.mem_cells.proofs.Left.{entries_are_kept, trims_keep}
 use Rattle.cut_laws.specs.Rules.{IsOneOf}
 use Rattle.cut_laws.proofs.Basics.{in_left, in_right, in_either}
-use Rattle.disk_change.specs.OldKept.{OldKept}
+use Rattle.disk_nodes.specs.OldKept.{OldKept}
 use Rattle.stamp_table.specs.declared.event.Event.{Event}
 use Rattle.stamp_table.specs.declared.event.Event.TheVariants.{Called, Told}
 use Rattle.stamp_table.specs.Events.{called, calls_in}

@@ -14,7 +14,7 @@ use Rattle.tree_laws.specs.History.{tree_after, IsLegal}
 use Rattle.tree_laws.proofs.Histories.{tree_after-push}
 use Rattle.tree_laws.proofs.KeepsRest.{calls_keep_the_rest}
 use Rattle.mem_cells.specs.Laws.{IsLeftOf}
-use Rattle.disk_change.specs.OldKept.{OldKept}
+use Rattle.disk_nodes.specs.OldKept.{OldKept}
 use Rattle.stamp_table.specs.Events.{called}
 use Rattle.stamp_table.specs.declared.event.Event.TheVariants.{Called}
 use Rattle.mem_values.specs.declared.cell.Cell.{Cell}

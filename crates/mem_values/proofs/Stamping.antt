@@ -9,7 +9,7 @@ use Rattle.tree_laws.specs.History.{tree_after, tree_after_entry, flushes, is_ok
 use Rattle.tree_laws.specs.Laws.{IsSoundTree}
 use Rattle.tree_laws.proofs.Histories.{IsLegal-push}
 use Rattle.tree_laws.proofs.Cores.{cores_stay}
-use Rattle.disk_change.specs.OldKept.{OldKept}
+use Rattle.disk_nodes.specs.OldKept.{OldKept}
 use Rattle.stamp_table.specs.declared.event.Event.{Event}
 use Rattle.stamp_table.specs.declared.event.Event.TheVariants.{Called}
 use Rattle.stamp_table.specs.declared.view.View.{View}

@@ -12,7 +12,7 @@ use Rattle.tree_laws.specs.History.{tree_after, IsLegal}
 use Rattle.tree_laws.specs.Lock.{IsHolder, stands_of}
 use Rattle.cut_laws.specs.Rules.{IsOneOf}
 use Rattle.cut_laws.proofs.Basics.{in_left, in_either}
-use Rattle.disk_change.specs.OldKept.{OldKept}
+use Rattle.disk_nodes.specs.OldKept.{OldKept}
 use Rattle.stamp_table.specs.declared.event.Event.{Event}
 use Rattle.stamp_table.specs.declared.view.View.{View}
 use Rattle.stamp_table.specs.Rule.{Has, entries_by}

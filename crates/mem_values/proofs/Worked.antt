@@ -19,7 +19,7 @@ use Rattle.tree_laws.specs.Lock.{stands_of, IsHolder}
 use Rattle.mem_cells.specs.Log.{is_from}
 use Rattle.mem_cells.specs.Part.{mark_kept}
 use Rattle.cut_laws.specs.Rules.{IsOneOf, births_of}
-use Rattle.disk_change.specs.OldKept.{OldKept}
+use Rattle.disk_nodes.specs.OldKept.{OldKept}
 use Rattle.stamp_table.specs.declared.event.Event.{Event}
 use Rattle.mem_values.specs.declared.fact.Fact.{Fact}
 use Rattle.mem_values.specs.declared.fact.HeldNode.{HeldNode}

@@ -8,7 +8,7 @@ use Rattle.tree_laws.specs.Lock.{IsHolder}
 use Rattle.tree_laws.specs.History.{tree_after}
 use Rattle.tree_laws.specs.NameRow.{node_number}
 use Rattle.cut_laws.specs.Rules.{IsOneOf}
-use Rattle.disk_change.specs.OldKept.{OldKept}
+use Rattle.disk_nodes.specs.OldKept.{OldKept}
 use Rattle.stamp_table.specs.declared.event.Event.{Event}
 use Rattle.stamp_table.specs.declared.event.Event.TheVariants.{Called, Told}
 use Rattle.mem_values.specs.declared.fact.Fact.{Fact}

@@ -1,6 +1,6 @@
 -- Whether a node has an inode, as its core saw it.
 use Rattle.std.specs.Prelude.{◌≡◌, ℕ, Bool, false, Option, is_some}
-use Rattle.disk_change.specs.OldKept.{OldKept}
+use Rattle.disk_nodes.specs.OldKept.{OldKept}
 use Rattle.stamp_table.specs.Hand.{Hand}
 use Rattle.mem_values.specs.declared.fact.Fact.{Fact}
 use Rattle.mem_values.specs.declared.cell.Cell.{Cell}

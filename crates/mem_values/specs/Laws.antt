@@ -8,7 +8,7 @@ use Rattle.tree_laws.specs.Lock.{AreHolders}
 use Rattle.tree_laws.specs.History.{tree_after, flushes, is_ok_reply, IsDue, IsLegal}
 use Rattle.tree_laws.specs.Verdict.{verdict}
 use Rattle.tree_laws.specs.Laws.{IsSoundTree}
-use Rattle.disk_change.specs.OldKept.{OldKept}
+use Rattle.disk_nodes.specs.OldKept.{OldKept}
 use Rattle.stamp_table.specs.declared.event.Event.{Event}
 use Rattle.stamp_table.specs.declared.event.Event.TheVariants.{Called}
 use Rattle.stamp_table.specs.declared.view.View.{View}

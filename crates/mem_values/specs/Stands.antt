@@ -10,7 +10,7 @@ use Rattle.tree_laws.specs.NameRow.{number_of}
 use Rattle.mem_cells.specs.Laws.{IsLeftOf}
 use Rattle.mem_cells.specs.Part.{mark_kept}
 use Rattle.cut_laws.specs.Rules.{IsOneOf}
-use Rattle.disk_change.specs.OldKept.{OldKept}
+use Rattle.disk_nodes.specs.OldKept.{OldKept}
 use Rattle.mem_files.specs.File.{mark_of}
 use Rattle.stamp_table.specs.declared.event.Event.{Event}
 use Rattle.mem_values.specs.declared.fact.Fact.{Fact}

@@ -8,7 +8,7 @@ use Rattle.tree_laws.specs.Tree.{TreeState}
 use Rattle.tree_laws.specs.NameRow.{node_number, number_of}
 use Rattle.mem_cells.specs.Part.{mark_kept}
 use Rattle.cut_laws.specs.Rules.{IsOneOf}
-use Rattle.disk_change.specs.OldKept.{OldKept}
+use Rattle.disk_nodes.specs.OldKept.{OldKept}
 use Rattle.stamp_table.specs.declared.event.Event.{Event}
 use Rattle.stamp_table.specs.declared.event.Event.TheVariants.{Told}
 use Rattle.stamp_table.specs.declared.view.View.{View}

@@ -11,7 +11,7 @@ use Rattle.tree_laws.specs.Tree.{TreeState, is_alive, made_by}
 use Rattle.tree_laws.specs.Logged.{numbered_node}
 use Rattle.tree_laws.specs.Lock.{stands_of}
 use Rattle.mem_cells.specs.Part.{changes_kept, mark_kept}
-use Rattle.disk_change.specs.OldKept.{OldKept}
+use Rattle.disk_nodes.specs.OldKept.{OldKept}
 use Rattle.stamp_table.specs.declared.event.Event.{Event}
 use Rattle.stamp_table.specs.declared.event.Event.TheVariants.{Called, Told}
 use Rattle.stamp_table.specs.Events.{IsLawful}

@@ -1,6 +1,6 @@
 // The five values that cells hold.
 use crate::Bucket;
-use disk_change::OldNode;
+use disk_nodes::OldNode;
 use mem_cells::LogPart;
 use mem_files::FileBytes;
 use sfs_base::{NodeId, Stamp};

@@ -1,5 +1,5 @@
 // What cores tell.
-use disk_change::OldNode;
+use disk_nodes::OldNode;
 use sfs_base::{CoreId, NodeId, Stamp};
 
 /// A node that a commit holds: the number of the last commit before it, its cut, and what the disk has of it, each as the commit saw it

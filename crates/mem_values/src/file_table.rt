@@ -1,6 +1,6 @@
 // What the cells of a file tree stand for.
 ghost use Rattle.std.specs.Prelude.{ℕ, Option, None};
-ghost use Rattle.disk_change.specs.OldKept.{OldKept};
+ghost use Rattle.disk_nodes.specs.OldKept.{OldKept};
 ghost use Rattle.mem_values.specs.Facts.{IsLawfulLog};
 ghost use Rattle.mem_values.specs.Stands.{StandsAt};
 

@@ -10,8 +10,8 @@ use Rattle.image_laws.specs.ImageTree.{Making, image_tree}
 use Rattle.space_map.specs.Pool.{status_of, first_status}
 use Rattle.space_map.specs.Space.{Space}
 use Rattle.disk_change.specs.GivenUp.{IsLeftByGone, entry_number}
-use Rattle.disk_change.specs.Nodes.{old_entry}
-use Rattle.disk_change.specs.declared.old.OldEntry.{OldEntry}
+use Rattle.disk_nodes.specs.Nodes.{old_entry}
+use Rattle.disk_nodes.specs.declared.old.OldEntry.{OldEntry}
 use Rattle.disk_tree.specs.Found.{making_when_read}
 use Rattle.disk_tree.specs.Judged.{fault_of_parts}
 use Rattle.disk_tree.specs.KeptParts.{NumberedKept, kept_in_use}

@@ -10,7 +10,7 @@ ghost use Rattle.mount.specs.Mounted.{IsMountOf, IsSoundMount, share_of_nodes};
 
 use crate::entries::entries_of;
 use crate::free::free_space;
-use disk_change::OldDisk;
+use disk_nodes::OldDisk;
 use fmt_super::Layout;
 use recovery::{RecoverFault, Report, recover};
 use sfs_dev::Disk;

@@ -1,10 +1,10 @@
 // What the disk has of each node, from the parts that a recovery kept.
 ghost use Rattle.std.specs.Prelude.{◌≡◌, map, IfOk};
-ghost use Rattle.disk_change.specs.Lists.{AscendBy};
-ghost use Rattle.disk_change.specs.Nodes.{entry_node};
+ghost use Rattle.keyed_list.specs.Ascending.{AscendBy};
+ghost use Rattle.disk_nodes.specs.Nodes.{entry_node};
 ghost use Rattle.mount.specs.Mounted.{entry_mounted};
 
-use disk_change::{OldDisk, OldEntry, OldNode};
+use disk_nodes::{OldDisk, OldEntry, OldNode};
 use disk_tree::{KeptPart, PartList};
 use sfs_base::{NoMemory, NodeId};
 use std::alloc::Global;

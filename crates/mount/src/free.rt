@@ -4,7 +4,8 @@ ghost use Rattle.sfs_image.specs.Super.{InRange};
 ghost use Rattle.disk_change.specs.GivenUp.{entry_number};
 ghost use Rattle.mount.specs.Mounted.{IsFreeSpace};
 
-use disk_change::{OldDisk, OldEntry};
+use disk_change::held_blocks;
+use disk_nodes::{OldDisk, OldEntry};
 use fmt_super::Layout;
 use sfs_base::NoMemory;
 use space_map::SpaceMap;
@@ -15,7 +16,7 @@ pub fn free_space(alloc: Global, layout: &Layout, old: &OldDisk) -> Result<Space
     requires { InRange layout.now }
     ensures { IfOk result (IsFreeSpace layout.now old.now.items) }
 {
-    let held = old.held_blocks(alloc)?;
+    let held = held_blocks(alloc, old)?;
     let used = inodes_of(alloc, old.as_slice())?;
     let space = SpaceMap::new(
         alloc,

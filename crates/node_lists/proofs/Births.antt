@@ -1,7 +1,7 @@
 -- Which births there are once one more is put in.
 use Rattle.std.proofs.Common.{◌≡◌, ℕ, true, false, cond, List, [], ◌∷◌, map, inl, inr, nat_lt}
 use Rattle.std.specs.Prelude.{◌↔◌, ◌⊎◌}
-use Rattle.disk_change.specs.Lists.{put_in}
+use Rattle.keyed_list.specs.Ascending.{put_in}
 use Rattle.cut_laws.specs.Rules.{IsOneOf}
 
 -- one of two things or a third, in another order

@@ -7,8 +7,8 @@ use Rattle.std.proofs.lemmas.Bool.{cond-true, cond-false, cases_Bool}
 use Rattle.std.proofs.lemmas.Bool.Decides.{nat_tests}
 use Rattle.std.proofs.lemmas.List.Folds.{list_any_more}
 use Rattle.sfs_base.specs.Listed.{is_listed}
-use Rattle.disk_change.specs.Lists.{AscendBy, item_with, put_in}
-use Rattle.disk_change.proofs.Keyed.{ascends_behind, first_is_least}
+use Rattle.keyed_list.specs.Ascending.{AscendBy, item_with, put_in}
+use Rattle.keyed_list.proofs.Searched.{ascends_behind, first_is_least}
 use Rattle.dep_closure.specs.declared.gathered.NodeCut.{NodeCut}
 use Rattle.dep_closure.specs.Gathered.{cut_node, cut_in, lifted_cut}
 use Rattle.node_lists.proofs.Items.{item_with-put_in}

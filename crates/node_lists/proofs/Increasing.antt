@@ -2,7 +2,7 @@
 use Rattle.std.proofs.Common.{ℕ, ◌+◌, ◌<◌, List, [], ◌∷◌, length, map, arith}
 use Rattle.std.specs.List.Sorted.{IsStrictlyIncreasing}
 use Rattle.std.proofs.lemmas.List.{length-map, get_or-map}
-use Rattle.disk_change.specs.Lists.{AscendBy}
+use Rattle.keyed_list.specs.Ascending.{AscendBy}
 
 pub ascending_increases : {X : Type 0} (key : X → ℕ) (items : List X) → AscendBy key items → IsStrictlyIncreasing (map key items)
 ascending_increases key [] up k within = absurd (omega arith)

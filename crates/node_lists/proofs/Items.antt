@@ -6,8 +6,8 @@ use Rattle.std.proofs.lemmas.Bool.Decides.{nat_tests}
 use Rattle.sfs_base.proofs.BasicOptions.{some_not_none}
 use Rattle.sfs_base.proofs.BasicTruth.{true_not_false}
 use Rattle.sfs_base.specs.Listed.{is_listed}
-use Rattle.disk_change.specs.Lists.{AscendBy, item_with, put_in, without}
-use Rattle.disk_change.proofs.Keyed.{ascends_behind, first_is_least, item_at, no_item}
+use Rattle.keyed_list.specs.Ascending.{AscendBy, item_with, put_in, without}
+use Rattle.keyed_list.proofs.Searched.{ascends_behind, first_is_least, item_at, no_item}
 use Rattle.std.proofs.lemmas.List.Kept.{AllPairs-cons}
 use Rattle.dep_closure.proofs.Looked.{found_listed}
 use Rattle.node_lists.specs.Known.{IsItemPlace}

@@ -1,7 +1,7 @@
 // Lists that ascend by node: where a node stands, one more, and one less.
 ghost use Rattle.std.specs.Prelude.{◌≡◌, ◌+◌, ◌<◌, ◌≤◌, None, vec_len, vec_capacity, length, nat_lt, true, false};
 ghost use Rattle.std.specs.List.Sorted.{IsPartitionPoint};
-ghost use Rattle.disk_change.specs.Lists.{AscendBy, item_with, put_in, without};
+ghost use Rattle.keyed_list.specs.Ascending.{AscendBy, item_with, put_in, without};
 ghost use Rattle.node_lists.specs.Known.{IsItemPlace};
 
 use crate::by_node::HasNode;

@@ -16,7 +16,7 @@ use Rattle.tree_laws.proofs.FileHistories.{bytes_at-tree_after}
 use Rattle.image_laws.specs.Stands.{BLOCK_BYTES}
 use Rattle.commit_laws.specs.CommitOfPlan.{CommitPlan}
 use Rattle.commit_laws.specs.Rewritten.{has_page, bytes_in_block}
-use Rattle.disk_change.specs.Lists.{AscendBy, item_with}
+use Rattle.keyed_list.specs.Ascending.{AscendBy, item_with}
 use Rattle.disk_change.specs.Nodes.{file_node}
 use Rattle.disk_change.specs.Pages.{page_block}
 use Rattle.disk_change.specs.declared.files.FileChange.{FileChange}

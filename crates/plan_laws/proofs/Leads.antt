@@ -50,7 +50,7 @@ use Rattle.dep_closure.specs.declared.gathered.Gathered.{Gathered}
 use Rattle.dep_closure.specs.Gathered.{look_of, cut_in, span_in}
 use Rattle.disk_change.specs.Nodes.{enter_node}
 use Rattle.disk_change.specs.declared.enter.Enter.{Enter}
-use Rattle.disk_change.specs.declared.old.OldEntry.{OldEntry}
+use Rattle.disk_nodes.specs.declared.old.OldEntry.{OldEntry}
 use Rattle.commit_laws.specs.CommitOfPlan.{CommitPlan}
 use Rattle.commit_laws.proofs.SeatsOfPlan.{in_mapped, in_is_among}
 use Rattle.flush_laws.specs.Planned.{HasNets, HasMoves, HasFiles, IsPlanAt}

@@ -16,7 +16,7 @@ use Rattle.look_laws.specs.Laws.{FitsHistory, MakesCommit}
 use Rattle.look_laws.specs.Made.{Found, AreMoved}
 use Rattle.disk_change.specs.Directory.{is_among}
 use Rattle.disk_change.specs.Links.{times_in}
-use Rattle.disk_change.specs.Lists.{AscendBy}
+use Rattle.keyed_list.specs.Ascending.{AscendBy}
 use Rattle.disk_change.specs.Nodes.{enter_node}
 use Rattle.disk_change.specs.declared.enter.Enter.{Enter}
 use Rattle.commit_laws.specs.CommitOfPlan.{CommitPlan}

@@ -42,11 +42,12 @@ use Rattle.raise_laws.specs.Next.{IsStorableAtCut}
 use Rattle.raise_laws.proofs.Next.{cut_trees_are_storable}
 use Rattle.disk_change.specs.Directory.{is_among}
 use Rattle.disk_change.specs.Links.{times_in}
-use Rattle.disk_change.specs.Lists.{AscendBy, item_with}
-use Rattle.disk_change.specs.Nodes.{entry_node, net_node}
+use Rattle.keyed_list.specs.Ascending.{AscendBy, item_with}
+use Rattle.disk_change.specs.Nodes.{net_node}
+use Rattle.disk_nodes.specs.Nodes.{entry_node}
 use Rattle.disk_change.specs.Seated.{net_of_node}
 use Rattle.disk_change.specs.declared.directory_net.DirectoryNet.{DirectoryNet}
-use Rattle.disk_change.specs.declared.old.OldEntry.{OldEntry}
+use Rattle.disk_nodes.specs.declared.old.OldEntry.{OldEntry}
 use Rattle.disk_change.proofs.NumbersGiven.{first_in, further_in}
 use Rattle.flush_laws.specs.Planned.{HasOldEntries}
 use Rattle.flush_laws.specs.Ready.{IsBetweenCommits, KeepsEntries}

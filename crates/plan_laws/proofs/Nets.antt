@@ -32,11 +32,11 @@ use Rattle.dep_closure.specs.declared.gathered.Gathered.{Gathered}
 use Rattle.dep_closure.specs.Gathered.{span_in}
 use Rattle.dep_closure.specs.History.{logged_of}
 use Rattle.dep_closure.specs.Spans.{is_in_span}
-use Rattle.disk_change.specs.Lists.{AscendBy, item_with}
+use Rattle.keyed_list.specs.Ascending.{AscendBy, item_with}
 use Rattle.disk_change.specs.Nodes.{net_node}
 use Rattle.disk_change.specs.Seated.{net_of_node}
 use Rattle.disk_change.specs.declared.directory_net.DirectoryNet.{DirectoryNet}
-use Rattle.disk_change.proofs.Keyed.{item_at}
+use Rattle.keyed_list.proofs.Searched.{item_at}
 use Rattle.flush_laws.specs.Planned.{HasNets}
 use Rattle.flush_plan.specs.Concerned.{AreNetsOf}
 use Rattle.flush_plan.proofs.Stood.{nets_need_no_rows}

@@ -11,7 +11,7 @@ use Rattle.mem_files.specs.File.{File}
 use Rattle.cut_laws.specs.Closure.{Flush, HasLiveNode}
 use Rattle.cut_laws.specs.Cut.{Cut, cut_of}
 use Rattle.dep_closure.specs.declared.gathered.Gathered.{Gathered}
-use Rattle.disk_change.specs.declared.old.OldEntry.{OldEntry}
+use Rattle.disk_nodes.specs.declared.old.OldEntry.{OldEntry}
 use Rattle.flush_plan.specs.declared.concern.Concern.{Concern}
 use Rattle.flush_plan.specs.declared.plans.FsyncPlan.{FsyncPlan}
 use Rattle.flush_plan.specs.Plan.{is_held}

@@ -18,7 +18,7 @@ use Rattle.dep_closure.specs.declared.gathered.DirectoryChanges.{DirectoryChange
 use Rattle.dep_closure.specs.declared.gathered.Gathered.{Gathered}
 use Rattle.dep_closure.specs.Gathered.{look_of, IsOrderly}
 use Rattle.dep_closure.specs.History.{IsLogOf, HasUnflushed}
-use Rattle.disk_change.specs.declared.old.OldEntry.{OldEntry}
+use Rattle.disk_nodes.specs.declared.old.OldEntry.{OldEntry}
 use Rattle.flush_laws.specs.Planned.{HasOldEntries}
 use Rattle.flush_laws.specs.Ready.{IsBetweenCommits, KeepsEntries}
 use Rattle.flush_plan.specs.declared.concern.Concern.{Concern}

@@ -15,7 +15,7 @@ use Rattle.disk_change.specs.Nodes.{enter_node}
 use Rattle.disk_change.specs.Planned.{as_u32, enters, staying, seated_old, seated_entering}
 use Rattle.disk_change.specs.Seated.{CommitChanges, Seated, Begun, begun_old, begun_entering, seated_as}
 use Rattle.disk_change.specs.declared.enter.Enter.{Enter}
-use Rattle.disk_change.specs.declared.old.OldEntry.{OldEntry}
+use Rattle.disk_nodes.specs.declared.old.OldEntry.{OldEntry}
 use Rattle.commit_laws.specs.CommitOfPlan.{CommitPlan, change_planned}
 use Rattle.space_laws.specs.Map.{IsRowOf}
 

@@ -24,10 +24,11 @@ use Rattle.disk_change.specs.AllBuilt.{numbers_with, built_by, nodes_with_grant,
 use Rattle.disk_change.specs.Built.{Built, rewrite_in}
 use Rattle.disk_change.specs.Directory.{is_among}
 use Rattle.disk_change.specs.GivenUp.{IsLeftByGone, entry_number}
-use Rattle.disk_change.specs.Nodes.{entry_node, enter_node}
+use Rattle.disk_change.specs.Nodes.{enter_node}
+use Rattle.disk_nodes.specs.Nodes.{entry_node}
 use Rattle.disk_change.specs.Planned.{Planned, leaves, staying, seated_old, seated_entering, blocks_taken}
 use Rattle.disk_change.specs.Seated.{Seated, begun_old, begun_entering}
-use Rattle.disk_change.specs.declared.old.OldEntry.{OldEntry}
+use Rattle.disk_nodes.specs.declared.old.OldEntry.{OldEntry}
 use Rattle.commit_laws.specs.CommitOfPlan.{CommitPlan, change_planned, numbers_planned, IsCommitPlan}
 use Rattle.commit_laws.specs.NumbersGiven.{node_leaves}
 use Rattle.commit_laws.specs.PartsMade.{IsPlanOverParts}

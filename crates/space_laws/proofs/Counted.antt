@@ -24,7 +24,7 @@ use Rattle.space_map.specs.declared.status.Status.{Status}
 use Rattle.space_map.specs.declared.status.Status.TheVariants.{Free, Taken, Granted}
 use Rattle.space_map.proofs.Changes.{status_of-here}
 use Rattle.disk_change.specs.GivenUp.{IsLeftByGone, entry_number}
-use Rattle.disk_change.specs.declared.old.OldEntry.{OldEntry}
+use Rattle.disk_nodes.specs.declared.old.OldEntry.{OldEntry}
 use Rattle.commit_laws.proofs.OwnInodes.{mapped_is_in}
 use Rattle.commit_laws.proofs.SeatsOfPlan.{in_mapped}
 use Rattle.cut_laws.specs.Closure.{Flush}

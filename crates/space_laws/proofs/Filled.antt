@@ -31,19 +31,21 @@ use Rattle.image_laws.specs.Image.{inodes_shown}
 use Rattle.image_laws.specs.Keeps.{MayStand, KeepsRules}
 use Rattle.image_laws.specs.Renamed.{Numbering}
 use Rattle.image_laws.proofs.Standing.{keeps as standing_keeps}
-use Rattle.block_map.specs.Kept.{Kept, kept_of, kept_slots}
+use Rattle.block_map.specs.Kept.{kept_of, kept_slots}
+use Rattle.disk_nodes.specs.OldKept.{Kept}
 use Rattle.space_map.specs.Space.{GrantedNumbers}
 use Rattle.disk_change.specs.AllBuilt.{numbers_with, built_by, nodes_with_grant}
 use Rattle.disk_change.specs.Built.{Built}
 use Rattle.disk_change.specs.Directory.{is_among, slot_blocks_after}
-use Rattle.disk_change.specs.Lists.{item_with}
-use Rattle.disk_change.specs.Nodes.{entry_node, enter_node, net_node}
+use Rattle.keyed_list.specs.Ascending.{item_with}
+use Rattle.disk_change.specs.Nodes.{enter_node, net_node}
+use Rattle.disk_nodes.specs.Nodes.{entry_node}
 use Rattle.disk_change.specs.Numbered.{block_numbered}
 use Rattle.disk_change.specs.Planned.{Planned, staying, leaves, seated_old, seated_entering}
 use Rattle.disk_change.specs.Seat.{blocks_to_last_row}
 use Rattle.disk_change.specs.Seated.{CommitChanges, Begun, Seated, seated_as, begun_old, begun_entering, net_of_node}
 use Rattle.disk_change.specs.declared.directory_net.DirectoryNet.{DirectoryNet}
-use Rattle.disk_change.specs.declared.old.OldEntry.{OldEntry}
+use Rattle.disk_nodes.specs.declared.old.OldEntry.{OldEntry}
 use Rattle.disk_change.proofs.NumbersGiven.{IsOwnOrGranted, planned_node, number_known, unnumbered}
 use Rattle.commit_laws.specs.CommitOfPlan.{CommitPlan, change_planned, ServesPlan}
 use Rattle.commit_laws.specs.KeptShown.{KeepsSeen}

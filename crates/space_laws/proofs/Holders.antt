@@ -11,11 +11,12 @@ use Rattle.tree_laws.specs.declared.history.Entry.{Entry}
 use Rattle.tree_laws.specs.Tree.{TreeState}
 use Rattle.image_laws.specs.Need.{Rewrite, pointer_after, rewrites_table, table_has_pointer}
 use Rattle.image_laws.specs.Renamed.{Numbering}
-use Rattle.block_map.specs.Kept.{Kept, pointer_kept}
+use Rattle.block_map.specs.Kept.{pointer_kept}
+use Rattle.disk_nodes.specs.OldKept.{Kept}
 use Rattle.block_map.specs.Remap.{gives_up, fresh_for}
-use Rattle.disk_change.specs.Lists.{item_with}
-use Rattle.disk_change.specs.Nodes.{entry_node}
-use Rattle.disk_change.specs.declared.old.OldEntry.{OldEntry}
+use Rattle.keyed_list.specs.Ascending.{item_with}
+use Rattle.disk_nodes.specs.Nodes.{entry_node}
+use Rattle.disk_nodes.specs.declared.old.OldEntry.{OldEntry}
 use Rattle.commit_laws.proofs.Granted.{is_in, in_dropped}
 use Rattle.commit_laws.proofs.KeptShown.{kept_parts_show}
 use Rattle.commit_laws.proofs.KnownDirectories.{own_item}

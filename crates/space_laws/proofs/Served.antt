@@ -22,7 +22,7 @@ use Rattle.space_map.specs.Space.{Space, GrantedNumbers}
 use Rattle.space_map.specs.declared.status.Status.TheVariants.{Free, Taken}
 use Rattle.disk_change.specs.GivenUp.{IsLeftByGone, entry_number}
 use Rattle.disk_change.specs.Nodes.{enter_node}
-use Rattle.disk_change.specs.declared.old.OldEntry.{OldEntry}
+use Rattle.disk_nodes.specs.declared.old.OldEntry.{OldEntry}
 use Rattle.commit_laws.specs.CommitMade.{rewrites_seated}
 use Rattle.commit_laws.specs.CommitOfPlan.{CommitPlan, change_planned}
 use Rattle.commit_laws.proofs.KeptShown.{kept_parts_show}

@@ -9,7 +9,7 @@ use Rattle.space_map.specs.declared.status.Status.TheVariants.{Free, Taken}
 use Rattle.disk_change.specs.GivenUp.{IsLeftByGone, entry_number}
 use Rattle.disk_change.specs.Planned.{as_u32, blocks_taken, enters}
 use Rattle.disk_change.specs.Written.{IsTransactionOf}
-use Rattle.disk_change.specs.declared.old.OldEntry.{OldEntry}
+use Rattle.disk_nodes.specs.declared.old.OldEntry.{OldEntry}
 use Rattle.commit_laws.specs.CommitOfPlan.{CommitPlan, change_planned}
 
 -- A row of numbers has those of a range and no others, and of these exactly the held ones are taken.

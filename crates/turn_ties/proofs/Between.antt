@@ -24,7 +24,7 @@ use Rattle.disk_change.specs.Nodes.{net_node}
 use Rattle.disk_change.specs.Seated.{net_of_node}
 use Rattle.disk_change.specs.declared.directory_net.DirectoryNet.{DirectoryNet}
 use Rattle.disk_change.specs.declared.enter.Enter.{Enter}
-use Rattle.disk_change.specs.declared.old.OldEntry.{OldEntry}
+use Rattle.disk_nodes.specs.declared.old.OldEntry.{OldEntry}
 use Rattle.commit_laws.specs.CommitOfPlan.{CommitPlan, PlansFrom, PlansTo}
 use Rattle.commit_laws.specs.KnownKinds.{IsNetChild, KnowsDirectories}
 use Rattle.commit_laws.specs.PlanShown.{HasFileSizes}

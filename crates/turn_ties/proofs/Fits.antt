@@ -22,7 +22,8 @@ use Rattle.space_map.specs.declared.fault.SpaceFault.{SpaceFault}
 use Rattle.space_map.specs.declared.fault.SpaceFault.TheVariants.{NoSpace, NoMemory}
 use Rattle.disk_change.specs.Built.{rewrite_in}
 use Rattle.disk_change.specs.GivenUp.{entry_number}
-use Rattle.disk_change.specs.Nodes.{entry_node, enter_node}
+use Rattle.disk_change.specs.Nodes.{enter_node}
+use Rattle.disk_nodes.specs.Nodes.{entry_node}
 use Rattle.disk_change.specs.Planned.{as_u32, blocks_taken, enters, leaves, staying, seated_old, seated_entering}
 use Rattle.disk_change.specs.Seated.{Seated}
 use Rattle.commit_laws.specs.CommitMade.{StandOnce}

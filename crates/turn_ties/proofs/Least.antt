@@ -19,7 +19,7 @@ use Rattle.space_map.specs.declared.status.Status.TheVariants.{Free, Taken, Gran
 use Rattle.space_map.proofs.Changes.{status_of-here}
 use Rattle.disk_change.specs.GivenUp.{entry_number}
 use Rattle.disk_change.specs.Planned.{as_u32, enters}
-use Rattle.disk_change.specs.declared.old.OldEntry.{OldEntry}
+use Rattle.disk_nodes.specs.declared.old.OldEntry.{OldEntry}
 use Rattle.commit_laws.specs.CommitOfPlan.{change_planned}
 use Rattle.commit_laws.proofs.OwnInodes.{mapped_is_in}
 use Rattle.commit_laws.proofs.SeatsOfPlan.{in_mapped}

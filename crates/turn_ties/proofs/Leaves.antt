@@ -19,7 +19,7 @@ use Rattle.image_laws.proofs.Made.{built_seen}
 use Rattle.image_laws.proofs.Ranks.{rank_below}
 use Rattle.disk_change.specs.Built.{rewrite_in}
 use Rattle.disk_change.specs.Directory.{is_among}
-use Rattle.disk_change.specs.Lists.{AscendBy}
+use Rattle.keyed_list.specs.Ascending.{AscendBy}
 use Rattle.disk_change.specs.Nodes.{enter_node}
 use Rattle.disk_change.specs.Planned.{Planned}
 use Rattle.disk_change.specs.Seated.{Seated}

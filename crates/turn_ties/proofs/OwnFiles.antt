@@ -11,7 +11,7 @@ use Rattle.tree_laws.specs.History.{tree_after}
 use Rattle.tree_laws.specs.Tree.{TreeState, is_directory, is_directory_kind}
 use Rattle.tree_laws.proofs.Readings.{directory_by_kind}
 use Rattle.sfs_base.specs.declared.numbers.NodeId.{NodeId}
-use Rattle.disk_change.specs.Lists.{item_with}
+use Rattle.keyed_list.specs.Ascending.{item_with}
 use Rattle.disk_change.specs.Pages.{page_block}
 use Rattle.disk_change.specs.declared.files.FileChange.{FileChange}
 use Rattle.commit_laws.specs.Rewritten.{has_page}

@@ -12,7 +12,7 @@ use Rattle.image_laws.specs.Image.{inodes_shown}
 use Rattle.image_laws.specs.Renamed.{Numbering}
 use Rattle.disk_change.specs.Directory.{is_among}
 use Rattle.disk_change.specs.declared.enter.Enter.{Enter}
-use Rattle.disk_change.specs.declared.old.OldEntry.{OldEntry}
+use Rattle.disk_nodes.specs.declared.old.OldEntry.{OldEntry}
 use Rattle.commit_laws.specs.CommitOfPlan.{PlansFrom, PlansTo}
 use Rattle.commit_laws.specs.KeptShown.{KeepsSeen}
 use Rattle.commit_laws.proofs.BytesKept.{good_parts_fit, good_parts_have_none_behind}

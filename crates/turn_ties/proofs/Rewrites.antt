@@ -22,7 +22,7 @@ use Rattle.block_map.specs.declared.changed.ChangedBlock.{ChangedBlock}
 use Rattle.disk_change.specs.AllBuilt.{pages_of_node}
 use Rattle.disk_change.specs.Built.{rewrite_in}
 use Rattle.disk_change.specs.Directory.{is_among}
-use Rattle.disk_change.specs.Lists.{item_with}
+use Rattle.keyed_list.specs.Ascending.{item_with}
 use Rattle.disk_change.specs.Nodes.{file_node}
 use Rattle.disk_change.specs.Pages.{page_block}
 use Rattle.disk_change.specs.Planned.{Planned, leaves, staying, seated_old, seated_entering}
@@ -30,7 +30,7 @@ use Rattle.disk_change.specs.Seat.{page_said}
 use Rattle.disk_change.specs.Seated.{Begun, Seated, seated, seated_as, begun_old, begun_entering, net_of_node}
 use Rattle.disk_change.specs.declared.enter.Enter.{Enter}
 use Rattle.disk_change.specs.declared.files.FileChange.{FileChange}
-use Rattle.disk_change.specs.declared.old.OldEntry.{OldEntry}
+use Rattle.disk_nodes.specs.declared.old.OldEntry.{OldEntry}
 use Rattle.disk_change.specs.declared.pages.Page.{Page}
 use Rattle.commit_laws.specs.CommitOfPlan.{CommitPlan, change_planned}
 use Rattle.commit_laws.specs.KeptShown.{KeepsSeen}

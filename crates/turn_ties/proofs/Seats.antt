@@ -12,12 +12,13 @@ use Rattle.sfs_image.specs.Seen.{SeenInodes}
 use Rattle.tree_laws.specs.Tree.{TreeState}
 use Rattle.image_laws.specs.Renamed.{Numbering}
 use Rattle.disk_change.specs.Directory.{is_among}
-use Rattle.disk_change.specs.Lists.{AscendBy}
-use Rattle.disk_change.specs.Nodes.{entry_node, enter_node}
+use Rattle.keyed_list.specs.Ascending.{AscendBy}
+use Rattle.disk_change.specs.Nodes.{enter_node}
+use Rattle.disk_nodes.specs.Nodes.{entry_node}
 use Rattle.disk_change.specs.Planned.{Planned, leaves, staying, seated_old, seated_entering}
 use Rattle.disk_change.specs.Seated.{CommitChanges, Seated, begun_old, begun_entering}
 use Rattle.disk_change.specs.declared.enter.Enter.{Enter}
-use Rattle.disk_change.specs.declared.old.OldEntry.{OldEntry}
+use Rattle.disk_nodes.specs.declared.old.OldEntry.{OldEntry}
 use Rattle.disk_change.proofs.NumbersGiven.{planned_node}
 use Rattle.commit_laws.specs.CommitMade.{StandOnce, seated_nodes}
 use Rattle.commit_laws.specs.CommitOfPlan.{CommitPlan, change_planned, PlansFrom}

@@ -19,7 +19,7 @@ use Rattle.tree_laws.specs.History.{tree_after_entry, IsLegalFrom, IsLegal}
 use Rattle.tree_laws.specs.Tree.{TreeState}
 use Rattle.tree_laws.specs.Verdict.{verdict}
 use Rattle.mem_files.specs.File.{File, room, blocks_of, no_blocks, is_touched}
-use Rattle.disk_change.specs.Lists.{AscendBy, item_with}
+use Rattle.keyed_list.specs.Ascending.{AscendBy, item_with}
 use Rattle.disk_change.specs.Pages.{page_block}
 use Rattle.disk_change.specs.declared.pages.Page.{Page}
 use Rattle.commit_laws.proofs.KnownDirectories.{own_item}

@@ -9,7 +9,7 @@ use Rattle.mem_files.specs.File.{File}
 use Rattle.space_map.specs.Pool.{free_numbers}
 use Rattle.space_map.specs.Space.{Space, shortage}
 use Rattle.space_map.specs.declared.fault.SpaceFault.TheVariants.{NoSpace}
-use Rattle.disk_change.specs.Lists.{item_with}
+use Rattle.keyed_list.specs.Ascending.{item_with}
 use Rattle.disk_change.specs.Pages.{page_block}
 use Rattle.disk_change.specs.declared.files.FileChange.{FileChange}
 use Rattle.turn_laws.specs.Books.{free_in, FitsFree, IsShortOf, Leaves}

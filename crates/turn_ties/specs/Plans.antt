@@ -10,7 +10,7 @@ use Rattle.disk_change.specs.Directory.{is_among}
 use Rattle.disk_change.specs.Planned.{as_u32, blocks_taken, enters}
 use Rattle.disk_change.specs.Seated.{net_of_node}
 use Rattle.disk_change.specs.declared.files.FileChange.{FileChange}
-use Rattle.disk_change.specs.declared.old.OldEntry.{OldEntry}
+use Rattle.disk_nodes.specs.declared.old.OldEntry.{OldEntry}
 use Rattle.commit_laws.specs.CommitOfPlan.{CommitPlan, change_planned, numbers_planned}
 use Rattle.commit_laws.specs.Rewritten.{has_page}
 use Rattle.cut_laws.specs.Closure.{every_entry, Flush, IsRaised, AreInodesAfter}

@@ -13,7 +13,7 @@ use Rattle.image_laws.specs.Image.{inodes_shown}
 use Rattle.image_laws.specs.ImageTree.{NOTHING_MADE}
 use Rattle.image_laws.specs.Mount.{own_numbers}
 use Rattle.block_map.specs.Kept.{kept_of}
-use Rattle.disk_change.specs.declared.old.OldEntry.{OldEntry}
+use Rattle.disk_nodes.specs.declared.old.OldEntry.{OldEntry}
 use Rattle.disk_tree.specs.KeptParts.{NumberedKept, kept_if_used, kept_in_use}
 use Rattle.commit_laws.proofs.Granted.{given_by}
 use Rattle.commit_laws.proofs.KnownDirectories.{given_is_in}

@@ -23,7 +23,7 @@ use Rattle.block_map.proofs.KeptPointers.{found_at}
 use Rattle.block_map.proofs.Places.{remapped_at_place}
 use Rattle.disk_change.specs.Built.{Built, built, rewrite_in}
 use Rattle.disk_change.specs.Fresh.{zero_bytes, content_of, data_written, table_of_place, indirect_block_written}
-use Rattle.disk_change.specs.Lists.{item_with}
+use Rattle.keyed_list.specs.Ascending.{item_with}
 use Rattle.disk_change.specs.Pages.{page_block}
 use Rattle.disk_change.specs.Seated.{Seated}
 use Rattle.disk_change.specs.declared.pages.Page.{Page}

@@ -6,7 +6,7 @@ use Rattle.tree_laws.specs.declared.history.Entry.{Entry}
 use Rattle.tree_laws.specs.Tree.{TreeState}
 use Rattle.image_laws.specs.Renamed.{Numbering}
 use Rattle.space_map.specs.Space.{GrantedNumbers}
-use Rattle.disk_change.specs.declared.old.OldEntry.{OldEntry}
+use Rattle.disk_nodes.specs.declared.old.OldEntry.{OldEntry}
 use Rattle.commit_laws.specs.CommitOfPlan.{CommitPlan}
 use Rattle.cut_laws.specs.Closure.{Flush}
 use Rattle.cut_laws.specs.Cut.{Cut, tree_at_cut}

@@ -9,7 +9,7 @@ use Rattle.sfs_dev.specs.Disk.{View}
 use Rattle.sfs_image.specs.Super.{Layout, IsLayout}
 use Rattle.tree_laws.specs.Tree.{TreeState}
 use Rattle.journal_one.proofs.Kept.{IsLawful}
-use Rattle.disk_change.specs.declared.old.OldEntry.{OldEntry}
+use Rattle.disk_nodes.specs.declared.old.OldEntry.{OldEntry}
 use Rattle.core_logs.specs.Logs.{AreBlank}
 use Rattle.core_logs.proofs.Keeping.{blank_logs_keep}
 use Rattle.mark_laws.specs.Changed.{HasShortFiles}

@@ -11,7 +11,7 @@ use Rattle.space_map.specs.Pool.{Grants}
 use Rattle.space_map.specs.Space.{Space, GrantedNumbers}
 use Rattle.disk_change.specs.Planned.{Planned}
 use Rattle.disk_change.specs.Written.{IsTransactionOf}
-use Rattle.disk_change.specs.declared.old.OldEntry.{OldEntry}
+use Rattle.disk_nodes.specs.declared.old.OldEntry.{OldEntry}
 use Rattle.commit_laws.specs.CommitOfPlan.{CommitPlan, change_planned}
 use Rattle.cut_laws.specs.Closure.{HasLiveNode}
 use Rattle.cut_laws.specs.Cut.{Cut}

@@ -36,7 +36,7 @@ use Rattle.core_logs.specs.Logs.{Logs, AreSameChanges, AreWithEntry, HasRoom, Ma
 use Rattle.core_logs.proofs.Keeping.{room_keeps, entries_may_be_added}
 use Rattle.dep_closure.specs.Gathered.{birth_node, born_as}
 use Rattle.dep_closure.specs.declared.gathered.NodeBirth.{NodeBirth}
-use Rattle.disk_change.specs.Lists.{item_with}
+use Rattle.keyed_list.specs.Ascending.{item_with}
 use Rattle.cut_laws.specs.Rules.{IsOneOf}
 use Rattle.cut_laws.proofs.NewNodes.{births_are_new_nodes}
 use Rattle.cut_laws.proofs.Prefixes.{alive_node}

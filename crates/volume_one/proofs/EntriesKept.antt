@@ -15,12 +15,12 @@ use Rattle.std.proofs.lemmas.Map.Keys.{Less-from_sorted}
 use Rattle.std.proofs.lemmas.Map.Lookups.{exact_unsigned}
 use Rattle.std.proofs.lemmas.Map.Views.{btree_map_get_iff}
 use Rattle.sfs_base.proofs.BasicOptions.{none_some, some_same}
-use Rattle.disk_change.specs.declared.old.OldEntry.{OldEntry}
+use Rattle.disk_nodes.specs.declared.old.OldEntry.{OldEntry}
 use Rattle.disk_change.specs.Directory.{is_among}
-use Rattle.disk_change.specs.Lists.{AscendBy}
-use Rattle.disk_change.specs.Nodes.{entry_node}
-use Rattle.disk_change.specs.OldKept.{OldKept}
-use Rattle.disk_change.proofs.Keyed.{ascends_behind, first_is_least}
+use Rattle.keyed_list.specs.Ascending.{AscendBy}
+use Rattle.disk_nodes.specs.Nodes.{entry_node}
+use Rattle.disk_nodes.specs.OldKept.{OldKept}
+use Rattle.keyed_list.proofs.Searched.{ascends_behind, first_is_least}
 use Rattle.commit_laws.proofs.KnownDirectories.{given_is_in}
 use Rattle.commit_laws.proofs.SeatsOfPlan.{in_is_among, among_is_in}
 use Rattle.flush_laws.specs.Planned.{HasOldEntries}

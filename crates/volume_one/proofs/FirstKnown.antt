@@ -10,8 +10,8 @@ use Rattle.sfs_image.specs.Part.{Part}
 use Rattle.tree_laws.specs.NameRow.{node_number}
 use Rattle.tree_laws.specs.Tree.{TreeState}
 use Rattle.image_laws.specs.Renamed.{Numbering}
-use Rattle.disk_change.specs.Nodes.{entry_node}
-use Rattle.disk_change.specs.declared.old.OldEntry.{OldEntry}
+use Rattle.disk_nodes.specs.Nodes.{entry_node}
+use Rattle.disk_nodes.specs.declared.old.OldEntry.{OldEntry}
 use Rattle.commit_laws.proofs.OwnInodes.{mapped_is_in}
 use Rattle.commit_laws.proofs.SeatsOfPlan.{in_mapped, in_is_among, among_is_in}
 use Rattle.raise_laws.specs.Next.{NumbersInodes}

@@ -13,10 +13,10 @@ use Rattle.sfs_base.proofs.BasicTruth.{true_not_false}
 use Rattle.sfs_base.specs.Listed.{is_listed}
 use Rattle.sfs_base.specs.declared.numbers.NodeId.{NodeId}
 use Rattle.tree_laws.specs.NameRow.{node_number}
-use Rattle.disk_change.specs.Lists.{AscendBy, item_with}
-use Rattle.disk_change.specs.Nodes.{entry_node, entry_old}
-use Rattle.disk_change.specs.OldKept.{OldKept}
-use Rattle.disk_change.specs.declared.old.OldEntry.{OldEntry}
+use Rattle.keyed_list.specs.Ascending.{AscendBy, item_with}
+use Rattle.disk_nodes.specs.Nodes.{entry_node, entry_old}
+use Rattle.disk_nodes.specs.OldKept.{OldKept}
+use Rattle.disk_nodes.specs.declared.old.OldEntry.{OldEntry}
 use Rattle.commit_laws.proofs.KnownDirectories.{own_item}
 use Rattle.commit_laws.proofs.SeatsOfPlan.{in_mapped, in_is_among}
 use Rattle.node_lists.proofs.Increasing.{ascending_increases}

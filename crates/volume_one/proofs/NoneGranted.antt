@@ -8,7 +8,7 @@ use Rattle.space_map.specs.Pool.{first_status}
 use Rattle.space_map.specs.Space.{Space}
 use Rattle.space_map.specs.declared.status.Status.TheVariants.{Free, Taken, Granted}
 use Rattle.disk_change.specs.GivenUp.{entry_number}
-use Rattle.disk_change.specs.declared.old.OldEntry.{OldEntry}
+use Rattle.disk_nodes.specs.declared.old.OldEntry.{OldEntry}
 use Rattle.space_laws.specs.Laws.{HasNoneGranted}
 use Rattle.mount.specs.Mounted.{IsFreeSpace}
 

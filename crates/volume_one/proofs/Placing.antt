@@ -2,7 +2,7 @@
 use Rattle.std.proofs.Common.{◌≡◌, ◌+◌, ◌<◌, ℕ, zero, suc, Bool, true, false, cond, List, [], ◌∷◌, ◌++◌, length, map, take, drop, get_or, Option, Some, None, refl, sym, ap, subst, ◌∙◌, arith, nat_eq, ◌||◌}
 use denote.Ref.{Bor}
 use Rattle.std.specs.Option.{option_copied}
-use Rattle.disk_change.specs.Nodes.{entry_node, entry_old}
+use Rattle.disk_nodes.specs.Nodes.{entry_node, entry_old}
 use Rattle.std.specs.Prelude.{All, option_to_list, option_map, is_some}
 use Rattle.std.specs.List.{AllByRecursion}
 use Rattle.std.specs.List.Sorted.{IsStrictlyIncreasing}
@@ -11,13 +11,13 @@ use Rattle.std.proofs.lemmas.List.Elements.{All-append, All-nil, All-cons, filte
 use Rattle.std.specs.List.{cons_option}
 use Rattle.sfs_base.specs.declared.numbers.NodeId.{NodeId}
 use Rattle.tree_laws.specs.NameRow.{node_number}
-use Rattle.disk_change.specs.declared.old.OldEntry.{OldEntry}
+use Rattle.disk_nodes.specs.declared.old.OldEntry.{OldEntry}
 use Rattle.volume_one.specs.Entries.{KeptNodes, old_at, kept_in, entry_at, disk_entries_at}
 use Rattle.std.proofs.lemmas.List.Kept.{AllPairs-from_increasing}
 use borrow.Author.Tests.{eqb-true, eq-eqb}
 use Rattle.sfs_base.proofs.BasicTruth.{true_not_false}
 use Rattle.sfs_base.specs.Listed.{is_listed}
-use Rattle.disk_change.specs.Lists.{item_with, without}
+use Rattle.keyed_list.specs.Ascending.{item_with, without}
 
 -- another item is left where one is taken out
 pub without_other : {X : Type 0} (key : X → ℕ) (items : List X) (m n : ℕ) → (m ≡ n → ⊥) → item_with key n (without key m items) ≡ item_with key n items

@@ -6,7 +6,7 @@ use Rattle.tree_laws.specs.NameRow.{node_number}
 use Rattle.space_map.specs.Space.{Space, GrantedNumbers}
 use Rattle.space_map.specs.Pool.{BecomeAll}
 use Rattle.space_map.specs.declared.status.Status.TheVariants.{Free}
-use Rattle.disk_change.specs.declared.old.OldEntry.{OldEntry}
+use Rattle.disk_nodes.specs.declared.old.OldEntry.{OldEntry}
 use Rattle.core_logs.specs.Kept.{KeepsUnflushed}
 use Rattle.core_logs.specs.Logs.{Logs}
 use Rattle.dep_closure.specs.Gathered.{cut_in, born_as}

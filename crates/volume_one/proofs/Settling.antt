@@ -13,7 +13,7 @@ use Rattle.image_laws.specs.Renamed.{HasNumber}
 use Rattle.space_map.specs.Pool.{Pool, Ends}
 use Rattle.disk_change.specs.AllBuilt.{after_commit, entry_after, nodes_with_grant}
 use Rattle.disk_change.specs.Built.{Built}
-use Rattle.disk_change.specs.OldKept.{OldKept}
+use Rattle.disk_nodes.specs.OldKept.{OldKept}
 use Rattle.disk_change.specs.Seated.{Seated}
 use Rattle.commit_laws.specs.PartsMade.{IsPlanOverParts}
 use Rattle.core_logs.specs.Logs.{AreTrimmedOf}
@@ -24,10 +24,10 @@ use Rattle.space_laws.specs.Laws.{HasNoneGranted}
 use Rattle.volume_laws.specs.Volume.{Volume, OneFsync, IsPlannedFor, IsVolumeStanding, tree_held, tree_raised}
 use Rattle.tree_laws.specs.NameRow.{node_number}
 use Rattle.space_map.specs.Space.{Space, GrantedNumbers}
-use Rattle.disk_change.specs.Lists.{AscendBy, item_with}
-use Rattle.disk_change.specs.Nodes.{entry_node, entry_old}
+use Rattle.keyed_list.specs.Ascending.{AscendBy, item_with}
+use Rattle.disk_nodes.specs.Nodes.{entry_node, entry_old}
 use Rattle.disk_change.specs.Planned.{Planned}
-use Rattle.disk_change.specs.declared.old.OldEntry.{OldEntry}
+use Rattle.disk_nodes.specs.declared.old.OldEntry.{OldEntry}
 use Rattle.commit_laws.specs.CommitOfPlan.{change_planned, numbers_planned}
 use borrow.Author.Tests.{eqb-true}
 use Rattle.commit_laws.proofs.KnownDirectories.{own_item}

@@ -10,7 +10,7 @@ use Rattle.sfs_image.specs.Super.{IsLayout}
 use Rattle.tree_laws.specs.Laws.{IsSoundTree}
 use Rattle.tree_laws.specs.Sound.{IsWithinLimits}
 use Rattle.image_laws.specs.Image.{tree_of}
-use Rattle.disk_change.specs.declared.old.OldEntry.{OldEntry}
+use Rattle.disk_nodes.specs.declared.old.OldEntry.{OldEntry}
 use Rattle.journal_one.specs.Calls.{IsCalm}
 use Rattle.crash_laws.specs.Wrote.{Mounts}
 use Rattle.turn_laws.specs.Need.{node_bound}

@@ -13,7 +13,7 @@ use Rattle.tree_laws.specs.declared.reply.Reply.TheVariants as reply
 use Rattle.tree_laws.specs.Effect.{Puts, Resizes}
 use Rattle.mem_files.specs.File as mem
 use Rattle.tree_laws.specs.Verdict.{LARGEST_FILE}
-use Rattle.disk_change.specs.Lists.{item_with}
+use Rattle.keyed_list.specs.Ascending.{item_with}
 use Rattle.dep_closure.specs.Gathered.{birth_node}
 use Rattle.file_table.specs.Table.{file_at, HasSameFiles, SetsFile, EditsFile}
 use Rattle.node_lists.specs.Known.{HasOneMoreBirth}

@@ -3,10 +3,10 @@ use Rattle.std.specs.Prelude.{◌≡◌, ℕ, List, filter_map, option_map, Opti
 use Rattle.std.specs.Ordering.{nat_cmp}
 use Rattle.std.specs.BTreeMap.{BTreeMap, get, IsOrdered}
 use Rattle.sfs_base.specs.Listed.{is_listed}
-use Rattle.disk_change.specs.declared.old.OldEntry.{OldEntry}
-use Rattle.disk_change.specs.Lists.{item_with}
-use Rattle.disk_change.specs.Nodes.{entry_node, entry_old}
-use Rattle.disk_change.specs.OldKept.{OldKept}
+use Rattle.disk_nodes.specs.declared.old.OldEntry.{OldEntry}
+use Rattle.keyed_list.specs.Ascending.{item_with}
+use Rattle.disk_nodes.specs.Nodes.{entry_node, entry_old}
+use Rattle.disk_nodes.specs.OldKept.{OldKept}
 
 -- what is kept of nodes by their numbers, where a node may have a place without anything
 abbrev pub KeptNodes : Type 0

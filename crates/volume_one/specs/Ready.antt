@@ -6,8 +6,8 @@ use Rattle.fmt_journal.specs.declared.tx.Tx.{Tx}
 use Rattle.journal_one.specs.Packed.{Contents, AreContents, contents_of}
 use Rattle.space_map.specs.Space.{GrantedNumbers}
 use Rattle.disk_change.specs.AllBuilt.{after_commit}
-use Rattle.disk_change.specs.Lists.{AscendBy}
-use Rattle.disk_change.specs.Nodes.{entry_node}
+use Rattle.keyed_list.specs.Ascending.{AscendBy}
+use Rattle.disk_nodes.specs.Nodes.{entry_node}
 use Rattle.disk_change.specs.Written.{IsTransactionOf}
 use Rattle.flush_plan.specs.declared.plans.FsyncPlan.{FsyncPlan}
 use Rattle.node_lists.specs.Known.{HasSameNodes}

@@ -10,7 +10,7 @@ ghost use Rattle.volume_one.specs.Begins.{Begins, node_of_old};
 use crate::OpenVolume;
 use crate::entries::{make_places, replace_entries};
 use core_logs::CoreLogs;
-use disk_change::OldEntry;
+use disk_nodes::OldEntry;
 use file_table::FileTable;
 use mount::{Mounted, mount};
 use node_lists::KnownNodes;

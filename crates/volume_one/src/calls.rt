@@ -4,7 +4,7 @@ ghost use Rattle.tree_laws.specs.Step.{IsReadable};
 ghost use Rattle.tree_laws.specs.Verdict.{verdict};
 ghost use Rattle.volume_one.specs.Calls.{GoesOnWith, HasKept, HasNew, MayKeep, call_entry, is_fsync};
 ghost use Rattle.volume_one.specs.Stands.{IsStandingAt};
-ghost use Rattle.disk_change.specs.Lists.{item_with};
+ghost use Rattle.keyed_list.specs.Ascending.{item_with};
 ghost use Rattle.dep_closure.specs.Gathered.{birth_node};
 
 use crate::OpenVolume;

@@ -5,11 +5,11 @@ ghost use Rattle.std.specs.Ordering.{nat_cmp};
 ghost use Rattle.std.specs.BTreeMap.{IsOrdered};
 ghost use Rattle.std.specs.List.Sorted.{IsStrictlyIncreasing};
 ghost use Rattle.tree_laws.specs.NameRow.{node_number};
-ghost use Rattle.disk_change.specs.Lists.{item_with};
-ghost use Rattle.disk_change.specs.Nodes.{entry_node};
+ghost use Rattle.keyed_list.specs.Ascending.{item_with};
+ghost use Rattle.disk_nodes.specs.Nodes.{entry_node};
 ghost use Rattle.volume_one.specs.Entries.{old_at, kept_in, disk_entries_at, AreReplaced, HaveDiskPlaces, HasDiskPlace, HasSameEntries};
 
-use disk_change::{OldDisk, OldEntry, OldNode};
+use disk_nodes::{OldDisk, OldEntry, OldNode, take_old};
 use fmt_slots::copy_list;
 use sfs_base::{NoMemory, NodeId};
 use std::alloc::Global;
@@ -106,7 +106,7 @@ fn replace_one(old: &mut DiskNodes, node: NodeId, after: &mut OldDisk)
     ensures ordered { IsOrdered nat_cmp old.new }
     ensures rest { (other : ℕ) → (node.0 ≡ other → ⊥) → item_with entry_node other after.new.items ≡ item_with entry_node other after.old.items }
 {
-    let Ok(_) = old.insert(node.0, after.take(node)) else {
+    let Ok(_) = old.insert(node.0, take_old(after, node)) else {
         unreachable!()
     };
 }

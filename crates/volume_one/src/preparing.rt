@@ -6,7 +6,8 @@ ghost use Rattle.volume_one.specs.Ready.{IsReadyFor, HasReadyRoom, IsSameButRoom
 
 use crate::OpenVolume;
 use crate::entries::make_places;
-use disk_change::{Built, OldDisk, build};
+use disk_change::{Built, build};
+use disk_nodes::OldDisk;
 use flush_plan::FsyncPlan;
 use fmt_journal::Tx;
 use journal_one::Packed;

@@ -1,7 +1,7 @@
 use Rattle.std.proofs.Common.{refl, sym, ap, ◌∙◌, map}
 use Rattle.std.proofs.lemmas.Iterator.Consumers.{YieldsList-end, YieldsList-from_rest}
 use Rattle.disk_change.specs.AllBuilt.{entry_keyed}
-use Rattle.disk_change.specs.Nodes.{entry_node}
+use Rattle.disk_nodes.specs.Nodes.{entry_node}
 use Rattle.disk_change.proofs.Ascending.{keys_are, sorted_ascend}
 use Rattle.disk_change.proofs.Directories.{map_itself}
 use Rattle.disk_change.proofs.after.listed.Goals as goal

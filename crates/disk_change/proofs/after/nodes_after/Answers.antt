@@ -2,7 +2,7 @@ use Rattle.std.proofs.Common.{sym, ap, ◌∙◌, map, ◌∷◌, []}
 use Rattle.std.proofs.lemmas.List.{map-append}
 use Rattle.disk_change.specs.AllBuilt.{entry_after}
 use Rattle.disk_change.specs.Lists.{ascending_by, put_over}
-use Rattle.disk_change.specs.Nodes.{entry_node}
+use Rattle.disk_nodes.specs.Nodes.{entry_node}
 use Rattle.disk_change.proofs.Ascending.{ascending_last}
 use Rattle.disk_change.proofs.after.nodes_after.Goals as goal
 

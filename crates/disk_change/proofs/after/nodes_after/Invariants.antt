@@ -1,7 +1,7 @@
 use Rattle.std.proofs.Common.{◌≡◌, map}
 use Rattle.disk_change.specs.AllBuilt.{entry_after, entry_keyed}
 use Rattle.disk_change.specs.Lists.{ascending_by}
-use Rattle.disk_change.specs.Nodes.{entry_node}
+use Rattle.disk_nodes.specs.Nodes.{entry_node}
 use Rattle.disk_change.proofs.after.nodes_after.Given as goal
 
 abbrev pub invariant-loop-node : goal.invariant-loop-node

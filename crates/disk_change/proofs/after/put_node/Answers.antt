@@ -1,7 +1,7 @@
 use Rattle.std.proofs.Common.{refl, ap, ◌∙◌, map}
 use Rattle.disk_change.specs.AllBuilt.{entry_after, entry_keyed}
 use Rattle.disk_change.specs.Lists.{put_over}
-use Rattle.disk_change.specs.Nodes.{entry_node}
+use Rattle.disk_nodes.specs.Nodes.{entry_node}
 use Rattle.disk_change.proofs.Ascending.{put_keyed}
 use Rattle.disk_change.proofs.after.put_node.Goals as goal
 

@@ -2,7 +2,7 @@ use Rattle.std.proofs.Common.{◌≡◌, ◌++◌, List, [], Option, Some, None,
 use Rattle.std.specs.Option.{option_copied, option_map_or}
 use Rattle.disk_change.specs.Built.{Built}
 use Rattle.disk_change.specs.Fresh.{fresh_written}
-use Rattle.disk_change.specs.Lists.{item_with}
+use Rattle.keyed_list.specs.Ascending.{item_with}
 use Rattle.disk_change.specs.Nodes.{file_node}
 use Rattle.disk_change.specs.declared.files.FileChange.{FileChange}
 use Rattle.disk_change.specs.declared.pages.Page.{Page}

@@ -4,7 +4,7 @@ use Rattle.std.proofs.lemmas.List.{take_all}
 use Rattle.block_map.specs.Kept.{pointer_kept}
 use Rattle.block_map.specs.RemapLaws.{IsHeld}
 use Rattle.disk_change.specs.GivenUp.{IsLeftByGone}
-use Rattle.disk_change.specs.declared.old.OldEntry.{OldEntry}
+use Rattle.disk_nodes.specs.declared.old.OldEntry.{OldEntry}
 use Rattle.disk_change.proofs.Left.{gone_more}
 use Rattle.disk_change.proofs.given_up.blocks_left.Goals as goal
 

@@ -2,7 +2,7 @@ use Rattle.std.proofs.Common.{ap, ◌∙◌}
 use Rattle.sfs_image.specs.Inode.{Inode}
 use Rattle.std.specs.Option.{option_map_or}
 use Rattle.disk_change.specs.declared.files.FileChange.{FileChange}
-use Rattle.disk_change.specs.Lists.{item_with}
+use Rattle.keyed_list.specs.Ascending.{item_with}
 use Rattle.disk_change.specs.Nodes.{file_node}
 use Rattle.disk_change.specs.Links.{links_with}
 use Rattle.disk_change.proofs.seat.file_seat.Goals as goal

@@ -7,7 +7,7 @@ use Rattle.std.specs.Option.{unwrap_or}
 use Rattle.disk_change.specs.AllBuilt.{nodes_built, nodes_with_grant, numbers_with, fresh_of_node, entry_after}
 use Rattle.disk_change.specs.GivenUp.{entry_number}
 use Rattle.disk_change.specs.Lists.{ascending_by}
-use Rattle.disk_change.specs.Nodes.{entry_node}
+use Rattle.disk_nodes.specs.Nodes.{entry_node}
 use Rattle.disk_change.specs.Numbered.{number_in, numbers_given}
 use Rattle.disk_change.specs.Planned.{Planned}
 use Rattle.disk_change.specs.Records.{record_inode, written_of_built, written_of_gone}

@@ -9,7 +9,7 @@ use Rattle.tree_laws.specs.NameRow.{node_number}
 use Rattle.tree_laws.specs.declared.changes.Change.{Change}
 use Rattle.dep_closure.specs.Gathered.{span_in}
 use Rattle.disk_change.specs.declared.directory_net.DirectoryNet.{DirectoryNet}
-use Rattle.disk_change.specs.Lists.{AscendBy}
+use Rattle.keyed_list.specs.Ascending.{AscendBy}
 use Rattle.disk_change.specs.Nodes.{net_node}
 use Rattle.disk_change.proofs.Names.{net_ascends}
 use Rattle.flush_plan.specs.Concerned.{AreNetsOf, HaveGoodNames}

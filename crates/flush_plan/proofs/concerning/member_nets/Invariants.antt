@@ -1,6 +1,6 @@
 use Rattle.std.proofs.Common.{ℕ, ◌<◌, take}
 use Rattle.std.specs.Prelude.{All}
-use Rattle.disk_change.specs.Lists.{AscendBy}
+use Rattle.keyed_list.specs.Ascending.{AscendBy}
 use Rattle.disk_change.specs.Nodes.{net_node}
 use Rattle.flush_plan.specs.Concerned.{AreNetsOf, HaveGoodNames}
 use Rattle.flush_plan.proofs.concerning.member_nets.Given as goal

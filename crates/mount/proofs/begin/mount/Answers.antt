@@ -7,9 +7,9 @@ use Rattle.sfs_image.specs.Super.{Layout}
 use Rattle.tree_laws.specs.Sound.{IsSound, IsWithinLimits}
 use Rattle.tree_laws.specs.Tree.{TreeState}
 use Rattle.image_laws.specs.Image.{tree_of}
-use Rattle.disk_change.specs.Lists.{AscendBy}
-use Rattle.disk_change.specs.Nodes.{entry_node}
-use Rattle.disk_change.specs.declared.old.OldEntry.{OldEntry}
+use Rattle.keyed_list.specs.Ascending.{AscendBy}
+use Rattle.disk_nodes.specs.Nodes.{entry_node}
+use Rattle.disk_nodes.specs.declared.old.OldEntry.{OldEntry}
 use Rattle.disk_tree.specs.KeptParts.{NumberedKept}
 use Rattle.recovery.specs.Freed.{without_unlinked}
 use Rattle.recovery.specs.Recovered.{IsSoundReport}

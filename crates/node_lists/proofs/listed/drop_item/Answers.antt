@@ -1,6 +1,6 @@
 use Rattle.std.proofs.Common.{ap, ◌∙◌}
-use Rattle.disk_change.specs.Lists.{without}
-use Rattle.disk_change.proofs.Places.{remove_is_without, nothing_without}
+use Rattle.keyed_list.specs.Ascending.{without}
+use Rattle.keyed_list.proofs.Places.{remove_is_without, nothing_without}
 use Rattle.node_lists.proofs.listed.drop_item.Goals as goal
 
 pub returns-in-Some-clause-items : goal.returns-in-Some-clause-items

@@ -1,7 +1,7 @@
 use Rattle.std.proofs.Common.{rules, sym}
 use Rattle.std.proofs.lemmas.List.Sorted.{answers_always}
-use Rattle.disk_change.proofs.Keyed.{search_misses}
-use Rattle.disk_change.proofs.Places.{found_number}
+use Rattle.keyed_list.proofs.Searched.{search_misses}
+use Rattle.keyed_list.proofs.Places.{found_number}
 use Rattle.node_lists.proofs.listed.found_at.Goals as goal
 
 pub returns-in-Ok : goal.returns-in-Ok

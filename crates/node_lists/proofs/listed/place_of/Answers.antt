@@ -1,6 +1,6 @@
 use Rattle.std.proofs.Common.{rules, nat_lt}
 use Rattle.std.proofs.lemmas.List.Sorted.{IsPartitionPoint-from_clause}
-use Rattle.disk_change.proofs.Places.{parted_by}
+use Rattle.keyed_list.proofs.Places.{parted_by}
 use Rattle.node_lists.proofs.listed.place_of.Goals as goal
 
 pub returns-clause-parted : goal.returns-clause-parted

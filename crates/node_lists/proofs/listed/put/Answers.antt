@@ -1,4 +1,4 @@
-use Rattle.disk_change.proofs.Places.{insert_is_put}
+use Rattle.keyed_list.proofs.Places.{insert_is_put}
 use Rattle.node_lists.proofs.listed.put.Goals as goal
 
 pub returns-clause-items : goal.returns-clause-items

@@ -1,6 +1,6 @@
 use Rattle.std.proofs.Common.{◌≡◌, ℕ, ◌+◌, ◌-◌, ◌≤◌, length, map, take, vec_len, vec_capacity}
 use Rattle.tree_laws.specs.NameRow.{node_number}
-use Rattle.disk_change.specs.Lists.{AscendBy}
+use Rattle.keyed_list.specs.Ascending.{AscendBy}
 use Rattle.dep_closure.specs.Gathered.{cut_node, cut_in, lifted_cut}
 use Rattle.node_lists.proofs.raised.raise_all.Given as goal
 

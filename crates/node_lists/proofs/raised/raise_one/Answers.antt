@@ -1,7 +1,7 @@
 use Rattle.std.proofs.Common.{ap, ◌∙◌}
 use Rattle.dep_closure.specs.declared.gathered.NodeCut.{NodeCut}
 use Rattle.dep_closure.specs.Gathered.{cut_node}
-use Rattle.disk_change.proofs.Places.{ascends_put}
+use Rattle.keyed_list.proofs.Places.{ascends_put}
 use Rattle.node_lists.proofs.Cuts.{cut_in-put_in, cut_in-set}
 use Rattle.node_lists.proofs.raised.raise_one.Goals as goal
 

@@ -3,8 +3,8 @@ use Rattle.std.proofs.Common.{ℕ, List, map, refl, sym, ap, subst, ◌∙◌}
 use Rattle.std.specs.List.Sorted.{IsStrictlyIncreasing}
 use Rattle.sfs_base.specs.declared.numbers.NodeId.{NodeId}
 use Rattle.tree_laws.specs.NameRow.{node_number}
-use Rattle.disk_change.specs.Lists.{AscendBy}
-use Rattle.disk_change.specs.Nodes.{entry_node}
+use Rattle.keyed_list.specs.Ascending.{AscendBy}
+use Rattle.disk_nodes.specs.Nodes.{entry_node}
 use Rattle.journal_one.proofs.Kept.{IsLawful}
 use Rattle.core_logs.specs.Logs.{AreBlank}
 use Rattle.volume_one.specs.Begins.{node_of_old}

@@ -4,10 +4,10 @@ use Rattle.std.specs.Prelude.{option_to_list}
 use Rattle.std.proofs.lemmas.List.{take_all}
 use Rattle.sfs_base.specs.declared.numbers.NodeId.{NodeId}
 use Rattle.tree_laws.specs.NameRow.{node_number}
-use Rattle.disk_change.specs.declared.old.OldEntry.{OldEntry}
-use Rattle.disk_change.specs.Lists.{AscendBy}
-use Rattle.disk_change.specs.Nodes.{entry_node}
-use Rattle.disk_change.specs.OldKept.{OldKept}
+use Rattle.disk_nodes.specs.declared.old.OldEntry.{OldEntry}
+use Rattle.keyed_list.specs.Ascending.{AscendBy}
+use Rattle.disk_nodes.specs.Nodes.{entry_node}
+use Rattle.disk_nodes.specs.OldKept.{OldKept}
 use Rattle.volume_one.specs.Entries.{disk_entry_with, entry_at, disk_entries_at, old_at}
 use Rattle.volume_one.proofs.EntriesKept.{entries_ascend}
 use Rattle.volume_one.proofs.Placing.{entries_more}

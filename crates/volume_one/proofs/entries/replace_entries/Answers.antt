@@ -1,8 +1,8 @@
 use Rattle.std.proofs.Common.{◌≡◌, ◌-◌, ◌<◌, ℕ, suc, true, cond, length, map, take, drop, subst, arith}
 use Rattle.sfs_base.specs.Listed.{is_listed}
 use Rattle.tree_laws.specs.NameRow.{node_number}
-use Rattle.disk_change.specs.Lists.{item_with}
-use Rattle.disk_change.specs.Nodes.{entry_node}
+use Rattle.keyed_list.specs.Ascending.{item_with}
+use Rattle.disk_nodes.specs.Nodes.{entry_node}
 use Rattle.volume_one.specs.Entries.{old_at, kept_in, HasDiskPlace}
 use Rattle.volume_one.proofs.Placing.{has_place, left_one, each_one, all_weaker}
 use Rattle.volume_one.proofs.entries.replace_entries.Goals as goal

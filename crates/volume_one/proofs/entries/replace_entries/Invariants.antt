@@ -3,8 +3,8 @@ use Rattle.std.specs.BTreeMap.{IsOrdered}
 use Rattle.std.specs.Ordering.{nat_cmp}
 use Rattle.sfs_base.specs.Listed.{is_listed}
 use Rattle.tree_laws.specs.NameRow.{node_number}
-use Rattle.disk_change.specs.Lists.{item_with}
-use Rattle.disk_change.specs.Nodes.{entry_node}
+use Rattle.keyed_list.specs.Ascending.{item_with}
+use Rattle.disk_nodes.specs.Nodes.{entry_node}
 use Rattle.volume_one.specs.Entries.{old_at, kept_in, HaveDiskPlaces}
 use Rattle.volume_one.proofs.entries.replace_entries.Given as goal
 

@@ -1,6 +1,6 @@
 use Rattle.std.proofs.Common.{ap, ◌∙◌}
-use Rattle.disk_change.specs.Lists.{item_with}
-use Rattle.disk_change.specs.Nodes.{entry_node}
+use Rattle.keyed_list.specs.Ascending.{item_with}
+use Rattle.disk_nodes.specs.Nodes.{entry_node}
 use Rattle.volume_one.proofs.Placing.{without_other}
 use Rattle.volume_one.proofs.entries.replace_one.Goals as goal
 

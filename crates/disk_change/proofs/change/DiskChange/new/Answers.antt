@@ -1,6 +1,6 @@
 use Rattle.std.proofs.Common.{◌++◌, ap, ◌∙◌, length, map, filter, not, nat_eq, arith, List, ℕ}
 use Rattle.std.proofs.lemmas.List.{take_all}
-use Rattle.disk_change.specs.declared.old.OldEntry.{OldEntry}
+use Rattle.disk_nodes.specs.declared.old.OldEntry.{OldEntry}
 use Rattle.disk_change.specs.Planned.{seated_old, seated_entering, has_listed_node}
 use Rattle.disk_change.specs.Seated.{changes_in}
 use Rattle.disk_change.proofs.change.DiskChange.new.Goals as goal

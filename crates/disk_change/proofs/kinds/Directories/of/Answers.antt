@@ -4,7 +4,8 @@ use Rattle.std.proofs.lemmas.List.{take_all}
 use Rattle.sfs_base.proofs.BasicOptions.{none_some, some_same}
 use Rattle.sfs_base.specs.declared.numbers.Kind.TheVariants.{File}
 use Rattle.disk_change.specs.Links.{directory_old, directory_entering}
-use Rattle.disk_change.specs.Nodes.{entry_node, enter_node}
+use Rattle.disk_change.specs.Nodes.{enter_node}
+use Rattle.disk_nodes.specs.Nodes.{entry_node}
 use Rattle.disk_change.specs.declared.enter.Enter.{Enter}
 use Rattle.disk_change.proofs.Counted.{given_increase, pushed_more}
 use Rattle.disk_change.proofs.kinds.Directories.of.Goals as goal

@@ -1,6 +1,6 @@
 use Rattle.std.proofs.Common.{ap, ◌∙◌}
-use Rattle.disk_change.specs.Lists.{item_with}
-use Rattle.disk_change.proofs.Places.{ascends_put}
+use Rattle.keyed_list.specs.Ascending.{item_with}
+use Rattle.keyed_list.proofs.Places.{ascends_put}
 use Rattle.dep_closure.specs.Gathered.{birth_node, born_as}
 use Rattle.node_lists.proofs.Births.{one_put}
 use Rattle.node_lists.proofs.known.KnownNodes.add_birth.Goals as goal

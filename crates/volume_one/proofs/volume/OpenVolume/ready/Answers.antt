@@ -2,9 +2,9 @@ use Rattle.std.proofs.Common.{◌≡◌, List, length, map, refl, ap, subst, ari
 use Rattle.sfs_base.specs.declared.numbers.NodeId.{NodeId}
 use Rattle.sfs_base.specs.Lists.{Roomy}
 use Rattle.tree_laws.specs.NameRow.{node_number}
-use Rattle.disk_change.specs.Lists.{AscendBy}
-use Rattle.disk_change.specs.Nodes.{entry_node}
-use Rattle.disk_change.specs.declared.old.OldEntry.{OldEntry}
+use Rattle.keyed_list.specs.Ascending.{AscendBy}
+use Rattle.disk_nodes.specs.Nodes.{entry_node}
+use Rattle.disk_nodes.specs.declared.old.OldEntry.{OldEntry}
 use Rattle.volume_one.specs.Entries.{HaveDiskPlaces}
 use Rattle.volume_one.specs.Ready.{IsUnpacked}
 use Rattle.volume_one.proofs.volume.OpenVolume.ready.Goals as goal

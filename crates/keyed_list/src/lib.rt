@@ -1,0 +1,8 @@
+//! Lists whose items ascend by a number of theirs.
+#![tactic(auto)]
+
+mod keyed;
+mod list;
+
+pub use keyed::Keyed;
+pub use list::KeyedList;
