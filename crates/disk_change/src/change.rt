@@ -2,11 +2,11 @@
 ghost use Rattle.std.specs.Prelude.{◌≡◌, ℕ, not, map, filter, IfOk, count_by, sum_by};
 
 use crate::begun::{entering_node, old_node};
-use crate::directory_net::NetList;
 use crate::enter::EnterList;
 use crate::files::FileChangeList;
 use crate::kinds::Directories;
 use crate::links::{LinkChanges, times_of};
+use crate::net_list::NetList;
 use crate::plans::Plans;
 use crate::seat::{Seat, seat_of};
 use block_map::blocks_needed;

@@ -4,8 +4,9 @@ ghost use Rattle.std.specs.Ordering.{nat_cmp};
 ghost use Rattle.std.specs.List.Sorted.{IsSorted};
 ghost use Rattle.disk_change.specs.Links.{linked_by as node_linked, rows_coming, rows_going, times_in, links_with};
 
-use crate::directory_net::{DirectoryNet, NetList};
+use crate::directory_net::DirectoryNet;
 use crate::kinds::{Directories, push_some};
+use crate::net_list::NetList;
 use sfs_base::{Kind, NoMemory, NodeId};
 use std::alloc::Global;
 use std::marker::Model;

@@ -1,9 +1,9 @@
 ghost use Rattle.disk_change.specs.CountNets.{CountsNets};
 
-use crate::directory_net::NetList;
 use crate::files::FileChangeList;
 use crate::kinds::Directories;
 use crate::links::LinkChanges;
+use crate::net_list::NetList;
 
 // What a commit changes: which nodes are directories, the nets of directories, with what they change in
 // link counts, and the changes of files.

@@ -9,9 +9,9 @@ ghost use Rattle.disk_change.specs.Seated.{changes_in, seated, directory_seated,
 
 use crate::begun::BegunNode;
 use crate::directory::directory_after;
-use crate::directory_net::NetList;
 use crate::files::FileChangeList;
 use crate::kinds::{DIRECTORY, FILE};
+use crate::net_list::NetList;
 use crate::plans::Plans;
 use crate::rewritten::{directory_changed, end_of, file_changed};
 use absorb::NetRow;
