@@ -12,12 +12,12 @@ use Rattle.std.proofs.lemmas.List.Sums.{fold-append}
 use Rattle.std.proofs.lemmas.Map.Text.{is_eq-slice_cmp}
 use denote.Ref.{Bor}
 use Rattle.sfs_base.specs.declared.numbers.NodeId.{NodeId}
-use Rattle.sfs_tree.specs.Order.{name_cmp}
-use Rattle.sfs_tree.specs.NameRow.{number_of}
-use Rattle.sfs_tree.specs.declared.changes.Act.{Act}
-use Rattle.sfs_tree.specs.declared.changes.Act.TheVariants.{Add, Remove}
-use Rattle.sfs_tree.specs.declared.changes.Change.{Change}
-use Rattle.sfs_tree.proofs.RowsByName.{is_true, was_true}
+use Rattle.tree_laws.specs.Order.{name_cmp}
+use Rattle.tree_laws.specs.NameRow.{number_of}
+use Rattle.tree_laws.specs.declared.changes.Act.{Act}
+use Rattle.tree_laws.specs.declared.changes.Act.TheVariants.{Add, Remove}
+use Rattle.tree_laws.specs.declared.changes.Change.{Change}
+use Rattle.tree_laws.proofs.RowsByName.{is_true, was_true}
 use Rattle.absorb.specs.Net.{with_act, rows_with_changes, child_after}
 use Rattle.absorb.specs.Last.{last_change, lent, AreLast}
 

@@ -1,10 +1,10 @@
 -- Logged changes do to rows what the changes do that they erase to.
 use Rattle.std.proofs.Common.{◌≡◌, ℕ, cond, List, [], ◌∷◌, refl, ap, ◌∙◌}
 use Rattle.std.specs.FinMap.{FinMap, insert, remove}
-use Rattle.sfs_tree.specs.Order.{name_cmp}
-use Rattle.sfs_tree.specs.declared.changes.Act.{Act}
-use Rattle.sfs_tree.specs.declared.changes.Act.TheVariants.{Add, Remove}
-use Rattle.sfs_tree.specs.Logged.{is_addition}
+use Rattle.tree_laws.specs.Order.{name_cmp}
+use Rattle.tree_laws.specs.declared.changes.Act.{Act}
+use Rattle.tree_laws.specs.declared.changes.Act.TheVariants.{Add, Remove}
+use Rattle.tree_laws.specs.Logged.{is_addition}
 use Rattle.absorb.specs.Net.{with_act, rows_with_changes}
 use Rattle.absorb.specs.Laws.{LogsAreChanges}
 

@@ -13,9 +13,9 @@ use Rattle.std.specs.FinMap.{FinMap, get, is_sorted}
 use Rattle.std.specs.FinMap.Entries.{below_all, same_entries}
 use Rattle.std.proofs.lemmas.List.Elements.{All-nil, All-cons, All-head, All-tail, All-contains}
 use Rattle.sfs_base.specs.declared.numbers.NodeId.{NodeId}
-use Rattle.sfs_tree.specs.Order.{name_cmp}
-use Rattle.sfs_tree.specs.NameRow.{number_of}
-use Rattle.sfs_tree.proofs.Joined.{is_equal, name_cmp-IsAntisymmetric}
+use Rattle.tree_laws.specs.Order.{name_cmp}
+use Rattle.tree_laws.specs.NameRow.{number_of}
+use Rattle.tree_laws.proofs.Joined.{is_equal, name_cmp-IsAntisymmetric}
 use Rattle.sfs_base.proofs.BasicTruth.{both_of}
 use Rattle.absorb.specs.declared.nets.NetRow.{NetRow}
 use Rattle.absorb.specs.Net.{net_name, IsNetRow, IsNet}

@@ -15,12 +15,12 @@ use Rattle.std.proofs.lemmas.List.Elements.{All-nil, All-cons, Contains-append_r
 use Rattle.std.proofs.lemmas.Map.Text.{is_eq-slice_cmp}
 use denote.Ref.{Bor}
 use Rattle.sfs_base.specs.declared.numbers.NodeId.{NodeId}
-use Rattle.sfs_tree.specs.Order.{name_cmp}
-use Rattle.sfs_tree.specs.NameRow.{number_of}
-use Rattle.sfs_tree.specs.declared.changes.Change.{Change}
-use Rattle.sfs_tree.proofs.Joined.{is_equal, name_cmp-IsAntisymmetric}
-use Rattle.sfs_tree.proofs.RowsByName.{is_true}
-use Rattle.sfs_tree.proofs.Search.{is_less, not_found, below_if_tied}
+use Rattle.tree_laws.specs.Order.{name_cmp}
+use Rattle.tree_laws.specs.NameRow.{number_of}
+use Rattle.tree_laws.specs.declared.changes.Change.{Change}
+use Rattle.tree_laws.proofs.Joined.{is_equal, name_cmp-IsAntisymmetric}
+use Rattle.tree_laws.proofs.RowsByName.{is_true}
+use Rattle.tree_laws.proofs.Search.{is_less, not_found, below_if_tied}
 use Rattle.sfs_base.proofs.BasicTruth.{both_second}
 use Rattle.sfs_base.proofs.BasicTruth.{both_first}
 use borrow.Author.Tests.{eqb-true, eq-eqb}

@@ -6,8 +6,8 @@ use Rattle.std.specs.FinMap.{FinMap, get}
 use Rattle.std.specs.FinMap as finmap
 use denote.Ref.{Bor}
 use Rattle.sfs_base.specs.declared.numbers.NodeId.{NodeId}
-use Rattle.sfs_tree.specs.Order.{name_cmp}
-use Rattle.sfs_tree.specs.declared.changes.Change.{Change}
+use Rattle.tree_laws.specs.Order.{name_cmp}
+use Rattle.tree_laws.specs.declared.changes.Change.{Change}
 use Rattle.absorb.specs.declared.nets.NetRow.{NetRow}
 use Rattle.absorb.specs.Net.{child_after}
 

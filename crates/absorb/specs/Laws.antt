@@ -1,10 +1,10 @@
 -- The laws of nets, each of which a function of the module laws proves.
 use Rattle.std.specs.Prelude.{◌≡◌, ℕ, List, fold, map}
 use Rattle.std.specs.FinMap.{FinMap}
-use Rattle.sfs_tree.specs.Order.{name_cmp}
-use Rattle.sfs_tree.specs.declared.changes.Change.{Change}
-use Rattle.sfs_tree.specs.Changes.{with_change}
-use Rattle.sfs_tree.specs.Logged.{erased}
+use Rattle.tree_laws.specs.Order.{name_cmp}
+use Rattle.tree_laws.specs.declared.changes.Change.{Change}
+use Rattle.tree_laws.specs.Changes.{with_change}
+use Rattle.tree_laws.specs.Logged.{erased}
 use Rattle.absorb.specs.declared.nets.NetRow.{NetRow}
 use Rattle.absorb.specs.Net.{IsNet, rows_with_changes}
 

@@ -3,11 +3,11 @@ use Rattle.std.specs.Prelude.{◌≡◌, ◌≢◌, ℕ, List, Option, Some, Non
 use Rattle.std.specs.FinMap.{FinMap, get, insert, remove}
 use Rattle.std.specs.List.Sorted.{IsStrictlySortedBy}
 use Rattle.sfs_base.specs.declared.numbers.NodeId.{NodeId}
-use Rattle.sfs_tree.specs.Order.{name_cmp}
-use Rattle.sfs_tree.specs.NameRow.{number_of}
-use Rattle.sfs_tree.specs.declared.changes.Act.{Act}
-use Rattle.sfs_tree.specs.declared.changes.Act.TheVariants.{Add, Remove}
-use Rattle.sfs_tree.specs.declared.changes.Change.{Change}
+use Rattle.tree_laws.specs.Order.{name_cmp}
+use Rattle.tree_laws.specs.NameRow.{number_of}
+use Rattle.tree_laws.specs.declared.changes.Act.{Act}
+use Rattle.tree_laws.specs.declared.changes.Act.TheVariants.{Add, Remove}
+use Rattle.tree_laws.specs.declared.changes.Change.{Change}
 use Rattle.absorb.specs.declared.nets.NetRow.{NetRow}
 
 -- rows with a change made: an addition replaces the row that has its name, and a removal takes the row of its name away

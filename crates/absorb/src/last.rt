@@ -3,7 +3,7 @@ ghost use Rattle.std.specs.Prelude.{IfOk};
 ghost use Rattle.absorb.specs.Last.{lent, AreLast};
 
 use sfs_base::NoMemory;
-use sfs_tree::Change;
+use tree_laws::Change;
 use std::alloc::Global;
 use std::collections::BTreeMap;
 

@@ -6,7 +6,7 @@ use Rattle.std.proofs.lemmas.Bool.{eqb-true}
 use borrow.Author.Tests.{ltb-true}
 use Rattle.std.specs.Cmp.Lexicographic.{nat_list_cmp_total}
 use Rattle.sfs_base.specs.Name.{bucket}
-use Rattle.sfs_tree.specs.Order.{Key, key_cmp, name_cmp}
+use Rattle.tree_laws.specs.Order.{Key, key_cmp, name_cmp}
 use Rattle.std.specs.Option.{option_map_or}
 use Rattle.std.specs.FinMap.{FinMap, empty, entries, get, insert, len, len-empty, len-entries, len-insert, get-empty}
 use Rattle.std.specs.Ordering.{nat_cmp}
@@ -14,18 +14,18 @@ use Rattle.sfs_base.specs.declared.numbers.Kind.{Kind}
 use Rattle.sfs_base.specs.declared.numbers.Kind.TheVariants.{Directory, File}
 use Rattle.sfs_base.proofs.BasicLists.{zeros_read}
 use Rattle.sfs_base.proofs.BasicTruth.{and_first, and_second, not_true, not_both_of}
-use Rattle.sfs_tree.specs.Tree.{BUCKET_ROWS, TreeState, Node, is_alive, is_directory, is_directory_kind, names_of, row_of, name_row, bucket_rows}
-use Rattle.sfs_tree.specs.Build.{root_alone, with_node, with_row}
-use Rattle.sfs_tree.specs.Effect.{Adds}
-use Rattle.sfs_tree.specs.Fits.{FitsAdds, IsUnnamed}
-use Rattle.sfs_tree.specs.Sound.{IsSound, IsWithinLimits}
-use Rattle.sfs_tree.specs.Verdict.{LARGEST_FILE}
-use Rattle.sfs_tree.proofs.Kept.{fitting_keeps_sound}
-use Rattle.sfs_tree.proofs.SoundTrees.{root_alone_is_sound}
-use Rattle.sfs_tree.proofs.Names.{entries-names_where}
-use Rattle.sfs_tree.proofs.Parts.{parts_after}
-use Rattle.sfs_tree.proofs.RowFacts.{named_alive}
-use Rattle.sfs_tree.proofs.KeepsNodes.{IsSound-nodes, KeepKinds-new, node_cases}
+use Rattle.tree_laws.specs.Tree.{BUCKET_ROWS, TreeState, Node, is_alive, is_directory, is_directory_kind, names_of, row_of, name_row, bucket_rows}
+use Rattle.tree_laws.specs.Build.{root_alone, with_node, with_row}
+use Rattle.tree_laws.specs.Effect.{Adds}
+use Rattle.tree_laws.specs.Fits.{FitsAdds, IsUnnamed}
+use Rattle.tree_laws.specs.Sound.{IsSound, IsWithinLimits}
+use Rattle.tree_laws.specs.Verdict.{LARGEST_FILE}
+use Rattle.tree_laws.proofs.Kept.{fitting_keeps_sound}
+use Rattle.tree_laws.proofs.SoundTrees.{root_alone_is_sound}
+use Rattle.tree_laws.proofs.Names.{entries-names_where}
+use Rattle.tree_laws.proofs.Parts.{parts_after}
+use Rattle.tree_laws.proofs.RowFacts.{named_alive}
+use Rattle.tree_laws.proofs.KeepsNodes.{IsSound-nodes, KeepKinds-new, node_cases}
 use Rattle.mem_begin.specs.Beginning.{CanBeginTable}
 use Rattle.begun_tables.specs.Begun.{may_get_name, may_hold_rows, may_put}
 

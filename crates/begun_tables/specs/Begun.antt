@@ -3,11 +3,11 @@ use Rattle.std.specs.Prelude.{◌≡◌, ◌+◌, ◌*◌, ℕ, Bool, false, not
 use Rattle.std.specs.Option.{option_map_or}
 use Rattle.std.specs.FinMap.{get, len}
 use mathlib.Core.List.{IsPrefix}
-use Rattle.sfs_tree.specs.declared.call.Call.{Call}
-use Rattle.sfs_tree.specs.declared.history.Entry.{Entry}
-use Rattle.sfs_tree.specs.declared.reply.Reply.{Reply}
-use Rattle.sfs_tree.specs.Tree.{BUCKET_ROWS, TreeState, is_alive, is_directory, is_directory_kind, names_of, row_of}
-use Rattle.sfs_tree.specs.Sound.{IsNumbered, IsWithinLimits}
+use Rattle.tree_laws.specs.declared.call.Call.{Call}
+use Rattle.tree_laws.specs.declared.history.Entry.{Entry}
+use Rattle.tree_laws.specs.declared.reply.Reply.{Reply}
+use Rattle.tree_laws.specs.Tree.{BUCKET_ROWS, TreeState, is_alive, is_directory, is_directory_kind, names_of, row_of}
+use Rattle.tree_laws.specs.Sound.{IsNumbered, IsWithinLimits}
 use Rattle.stamp_table.specs.declared.event.Event.{Event}
 use Rattle.stamp_table.specs.declared.event.Event.TheVariants.{Called}
 use Rattle.stamp_table.specs.Hand.{Hand}

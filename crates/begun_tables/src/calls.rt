@@ -1,6 +1,6 @@
 // One call of a core on a table.
 ghost use Rattle.std.specs.Prelude.{◌<◌, ◌≤◌};
-ghost use Rattle.sfs_tree.specs.Step.{IsReadable};
+ghost use Rattle.tree_laws.specs.Step.{IsReadable};
 ghost use Rattle.stamp_table.specs.Table.{IsBetweenCalls, IsSameCore};
 ghost use Rattle.mem_calls.specs.Table.{IsFileTable, AreNumbersOf};
 ghost use Rattle.begun_tables.specs.Begun.{ComesToReply, IsCallTable};
@@ -10,7 +10,7 @@ use mem_calls::{Numbers, call};
 use mem_rename::{Move, RENAME_CELLS, rename};
 use mem_values::FileCore;
 use sfs_base::Gate;
-use sfs_tree::{Call, Reply};
+use tree_laws::{Call, Reply};
 use std::alloc::Global;
 use std::sync::Wait;
 

@@ -2,8 +2,8 @@
 ghost use Rattle.std.specs.Prelude.{◌≡◌, ◌*◌, ◌<◌, ◌≤◌, [], if◌then◌else◌, IfOk, OnErr, OnOk, is_none, length};
 ghost use Rattle.std.specs.FinMap as finmap;
 ghost use Rattle.sfs_base.specs.declared.numbers.Kind.TheVariants.{Directory};
-ghost use Rattle.sfs_tree.specs.Build as build;
-ghost use Rattle.sfs_tree.specs.Verdict.{LARGEST_FILE};
+ghost use Rattle.tree_laws.specs.Build as build;
+ghost use Rattle.tree_laws.specs.Verdict.{LARGEST_FILE};
 ghost use Rattle.begun_tables.specs.Begun as begun;
 ghost use Rattle.begun_tables.specs.Begun.{IsBuiltTree, KeepsNumbers};
 

@@ -1,6 +1,6 @@
 // Cores that call, in threads of their own.
 ghost use Rattle.std.specs.Prelude.{◌+◌, ◌*◌, ◌<◌, ◌≤◌, All, IfSome};
-ghost use Rattle.sfs_tree.specs.Step.{IsReadable};
+ghost use Rattle.tree_laws.specs.Step.{IsReadable};
 ghost use Rattle.stamp_table.specs.Table.{IsBetweenCalls};
 ghost use Rattle.begun_tables.specs.Begun.{IsCallTable};
 
@@ -10,7 +10,7 @@ use begun_tables::{Files, begun, make_call};
 use mem_calls::Numbers;
 use mem_values::FileCore;
 use sfs_base::{CoreId, Kind, NoGate, NodeId};
-use sfs_tree::{Call, Reply};
+use tree_laws::{Call, Reply};
 use std::alloc::Global;
 use std::rt::Clock;
 use std::sync::Wait;

@@ -4,7 +4,7 @@ ghost use Rattle.std.specs.Prelude.{◌≤◌};
 use scalefs_run::{Outcome, Status, run};
 use sfs_base::{BytesSink, BytesSource, NoGate, NoMemory};
 use sfs_dev::{Act, Memory};
-use sfs_tree::{Call, History};
+use tree_laws::{Call, History};
 use std::alloc::Global;
 use std::sync::Wait;
 use std::thread::Threads;

@@ -4,19 +4,19 @@ use Rattle.std.specs.Option.{option_map_or}
 use Rattle.std.proofs.lemmas.Bool.{cond-true, cond-false, cases_Bool, lt-ltb, le-ltb, eqb-true}
 use Rattle.std.proofs.lemmas.Bool.Decides.{nat_tests}
 use Rattle.sfs_base.proofs.BasicNumbers.{not_same, zero_plus, plus_zero}
-use Rattle.sfs_tree.proofs.Joined.{count-cons}
+use Rattle.tree_laws.proofs.Joined.{count-cons}
 use Rattle.sfs_image.specs.Inode.{Inode, Table}
 use Rattle.sfs_image.specs.Part.{tabulate}
 use Rattle.sfs_image.specs.Seen.{FILE_BLOCKS}
 use Rattle.sfs_image.proofs.Basics.{get_or-tabulate}
-use Rattle.image_tree.specs.Need.{Rewrite, takes_table, takes_place, rank, rewrites_table, table_has_pointer}
+use Rattle.image_laws.specs.Need.{Rewrite, takes_table, takes_place, rank, rewrites_table, table_has_pointer}
 use Rattle.block_map.specs.declared.changed.ChangedBlock.{ChangedBlock}
 use Rattle.block_map.specs.Changed.{change_of, AscendByBlock}
 use Rattle.block_map.specs.Remap.{rewrite_of, takes_fresh, fresh_by_fate, table_fate}
 use Rattle.block_map.specs.declared.rewrite.TableFate.{TableFate}
 use Rattle.block_map.specs.declared.rewrite.TableFate.TheVariants.{Stays, Goes, IsWritten}
 use Rattle.block_map.proofs.Changes.{ascends_behind, first_is_least}
-use Rattle.image_tree.proofs.Ranks.{rank_more}
+use Rattle.image_laws.proofs.Ranks.{rank_more}
 use Rattle.sfs_base.proofs.BasicTruth.{and_false, and_true}
 
 module _ (takes : ℕ → Bool) where

@@ -16,7 +16,7 @@ use Rattle.std.proofs.lemmas.List.Sorted.{Contains-permutation, IsPermutation-sy
 use Rattle.std.proofs.lemmas.Map.Keys.{IsStrictlyIncreasing-dedup}
 use Rattle.sfs_image.specs.Inode.{Inode, Table}
 use Rattle.sfs_image.specs.Seen.{FILE_BLOCKS}
-use Rattle.image_tree.specs.Need.{Rewrite, rewrites_table, table_has_pointer}
+use Rattle.image_laws.specs.Need.{Rewrite, rewrites_table, table_has_pointer}
 use Rattle.block_map.specs.declared.changed.ChangedBlock.{ChangedBlock}
 use Rattle.block_map.specs.declared.rewrite.TableFate.TheVariants.{Stays, Goes, IsWritten}
 use Rattle.block_map.specs.Changed.{change_of, AscendByBlock}

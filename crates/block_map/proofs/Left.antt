@@ -8,8 +8,8 @@ use Rattle.sfs_base.proofs.BasicTruth.{or_first, or_second, and_first, and_secon
 use Rattle.sfs_image.specs.Inode.{Table, table_of, entry_of}
 use Rattle.sfs_image.specs.Seen.{FILE_BLOCKS, PLACES}
 use Rattle.sfs_image.proofs.Basics.{get_or-tabulate}
-use Rattle.image_tree.specs.Need.{Rewrite, changes_pointer, has_pointer, table_blocks, first_block, rewrites_table, table_has_pointer, takes_place, rank}
-use Rattle.image_tree.proofs.Ranks.{ranks_serve}
+use Rattle.image_laws.specs.Need.{Rewrite, changes_pointer, has_pointer, table_blocks, first_block, rewrites_table, table_has_pointer, takes_place, rank}
+use Rattle.image_laws.proofs.Ranks.{ranks_serve}
 use Rattle.block_map.specs.declared.rewrite.TableFate.TheVariants.{Stays, Goes, IsWritten}
 use Rattle.block_map.specs.Remap.{rewrite_of, fresh_for, pointer_remapped, table_remapped, table_by_fate, IsGivenUp}
 use Rattle.block_map.specs.RemapLaws.{RemappedPointersStand, IsHeld, FreshServe, FreedBlocksAreLeft}

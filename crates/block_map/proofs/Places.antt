@@ -11,7 +11,7 @@ use Rattle.sfs_base.proofs.BasicOptions.{none_some, some_same}
 use Rattle.sfs_image.specs.Inode.{Inode, Table}
 use Rattle.sfs_image.specs.Seen.{FILE_BLOCKS}
 use Rattle.sfs_image.proofs.Basics.{found_passes}
-use Rattle.image_tree.specs.Need.{Rewrite, rewrites_table, table_has_pointer, takes_place, rank}
+use Rattle.image_laws.specs.Need.{Rewrite, rewrites_table, table_has_pointer, takes_place, rank}
 use Rattle.block_map.specs.declared.changed.ChangedBlock.{ChangedBlock}
 use Rattle.block_map.specs.declared.rewrite.TableFate.{TableFate}
 use Rattle.block_map.specs.declared.rewrite.TableFate.TheVariants.{Stays, Goes, IsWritten}

@@ -12,7 +12,7 @@ use Rattle.std.proofs.Math.ListN.{set}
 use Rattle.sfs_image.specs.Inode.{Inode, Table}
 use Rattle.sfs_image.specs.Part.{tabulate}
 use Rattle.sfs_image.proofs.Basics.{length-tabulate, get_or-tabulate}
-use Rattle.image_tree.specs.Need.{Rewrite, changes_pointer, has_pointer, table_blocks, first_block}
+use Rattle.image_laws.specs.Need.{Rewrite, changes_pointer, has_pointer, table_blocks, first_block}
 use Rattle.block_map.specs.declared.changed.ChangedBlock.{ChangedBlock}
 use Rattle.block_map.specs.Changed.{change_of, AscendByBlock}
 use Rattle.block_map.specs.Kept.{pointer_kept}

@@ -6,8 +6,8 @@ use Rattle.std.specs.Option.{option_map_or}
 use Rattle.sfs_image.specs.Inode.{Inode, Table}
 use Rattle.sfs_image.specs.Part.{tabulate}
 use Rattle.sfs_image.specs.Seen.{FILE_BLOCKS, PLACES}
-use Rattle.image_tree.specs.Need.{Rewrite, first_block, rewrites_table, table_has_pointer, takes_place, pointer_after, rank}
-use Rattle.image_tree.specs.Stands.{BLOCK_BYTES}
+use Rattle.image_laws.specs.Need.{Rewrite, first_block, rewrites_table, table_has_pointer, takes_place, pointer_after, rank}
+use Rattle.image_laws.specs.Stands.{BLOCK_BYTES}
 use Rattle.block_map.specs.declared.changed.ChangedBlock.{ChangedBlock}
 use Rattle.block_map.specs.declared.rewrite.TableFate.{TableFate}
 use Rattle.block_map.specs.declared.rewrite.TableFate.TheVariants.{Stays, Goes, IsWritten}

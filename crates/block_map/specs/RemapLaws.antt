@@ -2,7 +2,7 @@
 use Rattle.std.specs.Prelude.{◌≡◌, ◌≢◌, ◌↔◌, ℕ, ◌<◌, List, length, slice_index, Contains}
 use Rattle.sfs_image.specs.Inode.{Inode, Table}
 use Rattle.sfs_image.specs.Seen.{PLACES}
-use Rattle.image_tree.specs.Need.{Rewrite, takes_place, rank}
+use Rattle.image_laws.specs.Need.{Rewrite, takes_place, rank}
 use Rattle.block_map.specs.declared.changed.ChangedBlock.{ChangedBlock}
 use Rattle.block_map.specs.Kept.{pointer_kept}
 use Rattle.block_map.specs.Remap.{rewrite_of, pointer_remapped, inode_remapped, tables_remapped, AreFreed}

@@ -3,8 +3,8 @@ ghost use Rattle.std.specs.Prelude.{◌≡◌, ◌+◌, ◌<◌, ◌≤◌, coun
 ghost use Rattle.std.specs.List.{list_any};
 ghost use Rattle.sfs_image.specs.Part.{tabulate};
 ghost use Rattle.sfs_image.specs.Seen.{FILE_BLOCKS, PLACES};
-ghost use Rattle.image_tree.specs.Need.{changes_pointer as pointer_changes, has_pointer as pointer_there, table_blocks, first_block};
-ghost use Rattle.image_tree.specs.Need.{rewrites_table as table_rewritten, table_has_pointer as table_points, takes_place, rank};
+ghost use Rattle.image_laws.specs.Need.{changes_pointer as pointer_changes, has_pointer as pointer_there, table_blocks, first_block};
+ghost use Rattle.image_laws.specs.Need.{rewrites_table as table_rewritten, table_has_pointer as table_points, takes_place, rank};
 ghost use Rattle.block_map.specs.Changed.{AscendByBlock};
 ghost use Rattle.block_map.specs.Kept.{pointer_kept};
 ghost use Rattle.block_map.specs.Remap.{rewrite_of, takes_fresh, touches_table as table_touched, table_fate, fresh_by_fate, TABLES as MOST_TABLES};

@@ -3,17 +3,17 @@ use Prim.Native.Nat.{zero}
 use Rattle.std.proofs.Common.{◌≡◌, ℕ, suc, ◌+◌, ◌<◌, ◌==◌, not, nat_lt, true, false, Bool, List, [], ◌∷◌, ◌++◌, length, map, take, drop, set, get_or, Option, Some, None, if◌then◌else◌, refl, sym, ap, ◌∙◌, arith, eq-eqb}
 use Rattle.sfs_base.specs.declared.numbers.Kind.{Kind}
 use Rattle.std.specs.Option.{option_or}
-use Rattle.sfs_tree.specs.declared.call.Call.TheVariants as call
-use Rattle.sfs_tree.specs.declared.changes.Change.{Change}
-use Rattle.sfs_tree.specs.declared.changes.Act.TheVariants.{Add}
-use Rattle.sfs_tree.specs.declared.reply.Code.{Code}
-use Rattle.sfs_tree.specs.declared.reply.Code.TheVariants.{NoEntry, NotDir, NotEmpty, NotPermitted, FileTooBig}
-use Rattle.sfs_tree.specs.declared.reply.Reply.TheVariants as reply
-use Rattle.sfs_tree.specs.Tree.{TreeState, row_of, kind_of, is_directory, is_alive, next_number, row_count}
-use Rattle.sfs_tree.specs.Effect.{Adds, Removes, Moves, Edits, Puts, Resizes}
-use Rattle.sfs_tree.specs.Verdict.{Verdict, LARGEST_FILE, or_else, refused, directory_fault, file_fault, node_fault, make_fault, make_node, link_fault, unlink_row, rmdir_row, move_row, move_fault, names_child, done, answered, look_row, read_bytes, write_bytes, trunc_file}
-use Rattle.sfs_tree.specs.Logged.{log_entry, logged_by}
-use Rattle.sfs_tree.proofs.Fitting.{neither}
+use Rattle.tree_laws.specs.declared.call.Call.TheVariants as call
+use Rattle.tree_laws.specs.declared.changes.Change.{Change}
+use Rattle.tree_laws.specs.declared.changes.Act.TheVariants.{Add}
+use Rattle.tree_laws.specs.declared.reply.Code.{Code}
+use Rattle.tree_laws.specs.declared.reply.Code.TheVariants.{NoEntry, NotDir, NotEmpty, NotPermitted, FileTooBig}
+use Rattle.tree_laws.specs.declared.reply.Reply.TheVariants as reply
+use Rattle.tree_laws.specs.Tree.{TreeState, row_of, kind_of, is_directory, is_alive, next_number, row_count}
+use Rattle.tree_laws.specs.Effect.{Adds, Removes, Moves, Edits, Puts, Resizes}
+use Rattle.tree_laws.specs.Verdict.{Verdict, LARGEST_FILE, or_else, refused, directory_fault, file_fault, node_fault, make_fault, make_node, link_fault, unlink_row, rmdir_row, move_row, move_fault, names_child, done, answered, look_row, read_bytes, write_bytes, trunc_file}
+use Rattle.tree_laws.specs.Logged.{log_entry, logged_by}
+use Rattle.tree_laws.proofs.Fitting.{neither}
 use Rattle.call_log.specs.Foreseen.{logged_after, change_of_node, removal_foreseen, move_foreseen}
 use Rattle.call_log.specs.Laws.{ForeseenIsLogged}
 

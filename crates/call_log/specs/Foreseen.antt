@@ -1,16 +1,16 @@
 -- The changes of rows that a call logs where nothing refuses it, as far as they are known before it is made.
 use Rattle.std.specs.Prelude.{◌≡◌, ℕ, List, [], ◌∷◌, Option, Some, None, map, if◌then◌else◌}
 use Rattle.sfs_base.specs.declared.numbers.NodeId.{NodeId}
-use Rattle.sfs_tree.specs.declared.call.Call.{Call}
-use Rattle.sfs_tree.specs.declared.call.Call.TheVariants as call
-use Rattle.sfs_tree.specs.declared.reply.Reply.{Reply}
-use Rattle.sfs_tree.specs.declared.reply.Reply.TheVariants as reply
-use Rattle.sfs_tree.specs.declared.changes.Act.TheVariants.{Add}
-use Rattle.sfs_tree.specs.declared.changes.Change.{Change}
-use Rattle.sfs_tree.specs.Tree.{TreeState, row_of, kind_of, is_directory}
-use Rattle.sfs_tree.specs.Effect.{Removes, Moves}
-use Rattle.sfs_tree.specs.Verdict.{names_child}
-use Rattle.sfs_tree.specs.Logged.{log_entry, logged_by}
+use Rattle.tree_laws.specs.declared.call.Call.{Call}
+use Rattle.tree_laws.specs.declared.call.Call.TheVariants as call
+use Rattle.tree_laws.specs.declared.reply.Reply.{Reply}
+use Rattle.tree_laws.specs.declared.reply.Reply.TheVariants as reply
+use Rattle.tree_laws.specs.declared.changes.Act.TheVariants.{Add}
+use Rattle.tree_laws.specs.declared.changes.Change.{Change}
+use Rattle.tree_laws.specs.Tree.{TreeState, row_of, kind_of, is_directory}
+use Rattle.tree_laws.specs.Effect.{Removes, Moves}
+use Rattle.tree_laws.specs.Verdict.{names_child}
+use Rattle.tree_laws.specs.Logged.{log_entry, logged_by}
 
 -- the row that a removal takes away, where there is one
 abbrev pub removal_foreseen : TreeState → ℕ → ℕ → List ℕ → Option ℕ → List Change

@@ -1,10 +1,10 @@
 -- The law of what was foreseen, which a function of the module laws proves.
 use Rattle.std.specs.Prelude.{◌≡◌, ℕ, List}
-use Rattle.sfs_tree.specs.declared.call.Call.{Call}
-use Rattle.sfs_tree.specs.declared.changes.Change.{Change}
-use Rattle.sfs_tree.specs.Tree.{TreeState}
-use Rattle.sfs_tree.specs.Verdict.{verdict}
-use Rattle.sfs_tree.specs.Logged.{logged_by}
+use Rattle.tree_laws.specs.declared.call.Call.{Call}
+use Rattle.tree_laws.specs.declared.changes.Change.{Change}
+use Rattle.tree_laws.specs.Tree.{TreeState}
+use Rattle.tree_laws.specs.Verdict.{verdict}
+use Rattle.tree_laws.specs.Logged.{logged_by}
 use Rattle.call_log.specs.Foreseen.{IsForeseen, logged_after}
 
 -- What was foreseen of a call is, once its reply is known, what the call logs.

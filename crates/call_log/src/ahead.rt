@@ -1,14 +1,15 @@
 // What a call will log, read off the tree before it is made.
 ghost use Rattle.std.specs.Prelude.{◌≡◌, [], ◌∷◌, None, IfOk};
-ghost use Rattle.sfs_tree.specs.Sound.{IsSound};
-ghost use Rattle.sfs_tree.specs.Tree.{row_of, kind_of};
-ghost use Rattle.sfs_tree.specs.Logged.{log_entry};
-ghost use Rattle.sfs_tree.specs.declared.changes.Act.TheVariants.{Add as Adding, Remove as Removing};
+ghost use Rattle.tree_laws.specs.Sound.{IsSound};
+ghost use Rattle.tree_laws.specs.Tree.{row_of, kind_of};
+ghost use Rattle.tree_laws.specs.Logged.{log_entry};
+ghost use Rattle.tree_laws.specs.declared.changes.Act.TheVariants.{Add as Adding, Remove as Removing};
 ghost use Rattle.call_log.specs.Foreseen.{IsForeseen, removal_foreseen};
 
 use crate::moved::moved_rows;
 use sfs_base::{Kind, Name, NoMemory, NodeId, Stamp};
-use sfs_tree::{Act, Ancestors, Call, Change, Changes, Tree};
+use sfs_tree::Tree;
+use tree_laws::{Act, Ancestors, Call, Change, Changes};
 use std::alloc::Global;
 
 /// The changes of rows that a call logs at this stamp where nothing refuses it, in a sound tree before the

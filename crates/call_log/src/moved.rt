@@ -1,16 +1,17 @@
 // The rows that a rename changes.
 ghost use Rattle.std.specs.Prelude.{◌≡◌, [], ◌≤◌, None, true, IfOk, option_map, if◌then◌else◌};
-ghost use Rattle.sfs_tree.specs.Sound.{IsSound};
-ghost use Rattle.sfs_tree.specs.Tree.{row_of, kind_of, is_directory};
-ghost use Rattle.sfs_tree.specs.Changes.{other_side};
-ghost use Rattle.sfs_tree.specs.Effect.{Moves};
-ghost use Rattle.sfs_tree.specs.Logged.{log_entry, logged_by, logged_replaced, numbered_node, recorded_above};
-ghost use Rattle.sfs_tree.specs.declared.changes.Act.TheVariants.{Add as Adding, Remove as Removing};
+ghost use Rattle.tree_laws.specs.Sound.{IsSound};
+ghost use Rattle.tree_laws.specs.Tree.{row_of, kind_of, is_directory};
+ghost use Rattle.tree_laws.specs.Changes.{other_side};
+ghost use Rattle.tree_laws.specs.Effect.{Moves};
+ghost use Rattle.tree_laws.specs.Logged.{log_entry, logged_by, logged_replaced, numbered_node, recorded_above};
+ghost use Rattle.tree_laws.specs.declared.changes.Act.TheVariants.{Add as Adding, Remove as Removing};
 ghost use Rattle.call_log.specs.Foreseen.{move_foreseen};
 
 use crate::ahead::{kind_in, removed};
 use sfs_base::{Kind, Name, NoMemory, NodeId, RoomyList, Stamp};
-use sfs_tree::{Act, Ancestors, Change, Changes, Tree};
+use sfs_tree::Tree;
+use tree_laws::{Act, Ancestors, Change, Changes};
 use std::alloc::Global;
 
 /// The rows that a rename from one place to another changes: what it replaces goes, the old row goes, and

@@ -3,7 +3,7 @@ ghost use Rattle.std.specs.Prelude.{◌≡◌, map};
 ghost use Rattle.call_log.specs.Foreseen.{logged_after, change_of_node};
 
 use sfs_base::{NodeId, RoomyList};
-use sfs_tree::{Change, Changes, Reply};
+use tree_laws::{Change, Changes, Reply};
 use std::alloc::Global;
 
 /// What a call logs that was answered so, of the changes that were foreseen: none where it was refused, and

@@ -15,10 +15,10 @@ use Rattle.sfs_base.proofs.BasicTruth.{and_false, or_true}
 use Rattle.sfs_image.specs.Inode.{pointers_bytes}
 use Rattle.sfs_image.specs.Seen.{FILE_BLOCKS, PLACES}
 use Rattle.sfs_image.proofs.Basics.{get_or-tabulate}
-use Rattle.sfs_tree.proofs.Joined.{count-cons}
+use Rattle.tree_laws.proofs.Joined.{count-cons}
 use Rattle.fmt_journal.specs.declared.tx.TxBlock.{TxBlock}
 use Rattle.absorb.specs.declared.nets.NetRow.{NetRow}
-use Rattle.image_tree.specs.Need.{Rewrite, takes_place, rank, rewrites_table, table_has_pointer}
+use Rattle.image_laws.specs.Need.{Rewrite, takes_place, rank, rewrites_table, table_has_pointer}
 use Rattle.block_map.specs.Changed.{AscendByBlock}
 use Rattle.block_map.specs.Kept.{pointer_kept}
 use Rattle.block_map.specs.Remap.{takes_fresh, fresh_for, fresh_by_fate, table_fate}
@@ -29,8 +29,8 @@ use Rattle.block_map.proofs.Changes.{change_at}
 use Rattle.block_map.proofs.Counts.{rank_of_change, rank_of_tables, rank_next_table, count_of_first}
 use Rattle.block_map.proofs.Left.{remapped_pointers_stand}
 use Rattle.block_map.proofs.Places.{own_place, one_more_given, one_more_none}
-use Rattle.image_tree.proofs.Places.{le_true}
-use Rattle.image_tree.proofs.Ranks.{rank_up}
+use Rattle.image_laws.proofs.Places.{le_true}
+use Rattle.image_laws.proofs.Ranks.{rank_up}
 use Rattle.disk_change.specs.AllBuilt.{nodes_built, built_by, fresh_of_node, pages_of_node, numbers_with}
 use Rattle.disk_change.specs.Built.{Built, built, rewrite_in}
 use Rattle.disk_change.specs.Fresh.{data_written, table_of_place, indirect_block_written, fresh_written, content_of, zero_bytes}

@@ -14,19 +14,19 @@ use Rattle.sfs_image.proofs.Basics.{found_passes}
 use Rattle.sfs_image.specs.Rules.{DIRECTORY_BLOCKS}
 use Rattle.sfs_image.specs.Seen.{Seen, SeenInodes}
 use Rattle.sfs_image.specs.Slot.{kind_byte, kind_of as kind_at}
-use Rattle.sfs_tree.specs.Tree.{TreeState, row_of, kind_of, bytes_of, links_of, is_directory, is_directory_kind, count_of, names_it, holds_directory}
-use Rattle.sfs_tree.proofs.Counting.{count_none}
-use Rattle.sfs_tree.proofs.Readings.{directory_by_kind}
-use Rattle.image_tree.specs.Commit.{Commit, blank, seen_before, slots_after, IsCommitStep}
-use Rattle.image_tree.specs.Made.{IsMadeFrom}
-use Rattle.image_tree.specs.Renamed.{Numbering}
-use Rattle.image_tree.specs.Slots.{blocks_up_to_last}
-use Rattle.image_tree.specs.Stands.{ShowsNode}
-use Rattle.image_tree.proofs.Committed.{number_within}
-use Rattle.image_tree.proofs.Images.{kind_again}
-use Rattle.image_tree.proofs.Made.{built_seen}
-use Rattle.image_tree.proofs.Sizes.{commits_keep_directories_fit}
-use Rattle.image_tree.proofs.Standing.{holder_number}
+use Rattle.tree_laws.specs.Tree.{TreeState, row_of, kind_of, bytes_of, links_of, is_directory, is_directory_kind, count_of, names_it, holds_directory}
+use Rattle.tree_laws.proofs.Counting.{count_none}
+use Rattle.tree_laws.proofs.Readings.{directory_by_kind}
+use Rattle.image_laws.specs.Commit.{Commit, blank, seen_before, slots_after, IsCommitStep}
+use Rattle.image_laws.specs.Made.{IsMadeFrom}
+use Rattle.image_laws.specs.Renamed.{Numbering}
+use Rattle.image_laws.specs.Slots.{blocks_up_to_last}
+use Rattle.image_laws.specs.Stands.{ShowsNode}
+use Rattle.image_laws.proofs.Committed.{number_within}
+use Rattle.image_laws.proofs.Images.{kind_again}
+use Rattle.image_laws.proofs.Made.{built_seen}
+use Rattle.image_laws.proofs.Sizes.{commits_keep_directories_fit}
+use Rattle.image_laws.proofs.Standing.{holder_number}
 use Rattle.space_map.specs.Space.{GrantedNumbers}
 use Rattle.disk_change.specs.AllBuilt.{numbers_with}
 use Rattle.disk_change.specs.Directory.{is_among}

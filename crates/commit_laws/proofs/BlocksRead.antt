@@ -15,10 +15,10 @@ use Rattle.sfs_image.specs.Seen.{SeenInodes, FILE_BLOCKS}
 use Rattle.sfs_image.proofs.Basics.{found_passes}
 use Rattle.sfs_image.proofs.MadeLaws.{gathered_is_read}
 use Rattle.sfs_image.proofs.PartLaws.{hole_is_read, block_behind}
-use Rattle.sfs_tree.specs.Tree.{TreeState}
+use Rattle.tree_laws.specs.Tree.{TreeState}
 use Rattle.fmt_journal.specs.declared.tx.TxBlock.{TxBlock}
-use Rattle.image_tree.specs.Commit.{Commit}
-use Rattle.image_tree.specs.Renamed.{Numbering}
+use Rattle.image_laws.specs.Commit.{Commit}
+use Rattle.image_laws.specs.Renamed.{Numbering}
 use Rattle.journal_one.specs.Packed.{block_of}
 use Rattle.block_map.specs.Changed.{change_of, AscendByBlock}
 use Rattle.block_map.specs.Kept.{pointer_kept}

@@ -23,18 +23,18 @@ use Rattle.sfs_image.proofs.AcceptedLaws.{raw_of}
 use Rattle.sfs_image.proofs.InodeLaws.{inode_fault-inode_bytes, inode_of-inode_bytes}
 use Rattle.sfs_image.proofs.RuleFacts.{asked, sizes_say, tails_say, slots_say, blocks_cover}
 use Rattle.sfs_image.proofs.RuleLaws.{good_from_rule, rule_from_good}
-use Rattle.sfs_tree.specs.Tree.{TreeState, kind_of, bytes_of, is_directory, is_directory_kind}
-use Rattle.sfs_tree.proofs.Readings.{directory_by_kind}
-use Rattle.image_tree.specs.Commit.{Commit, blank, seen_before, slots_after}
-use Rattle.image_tree.specs.Image.{HaveGoodBytes}
-use Rattle.image_tree.specs.Keeps.{IsDirectoryInode}
-use Rattle.image_tree.specs.Need.{Rewrite, slots_in_block, rewrites_slots, directory_rewrite, file_rewrite, pointer_after, first_block, blocks_filled}
-use Rattle.image_tree.specs.Renamed.{Numbering}
-use Rattle.image_tree.specs.Slots.{blocks_up_to_last}
-use Rattle.image_tree.specs.Stands.{ShowsNode}
-use Rattle.image_tree.proofs.LastBlock.{blocks_end_with_row}
-use Rattle.image_tree.proofs.Places.{blocks_are_kept_or_rewritten}
-use Rattle.image_tree.proofs.Standing.{not_used}
+use Rattle.tree_laws.specs.Tree.{TreeState, kind_of, bytes_of, is_directory, is_directory_kind}
+use Rattle.tree_laws.proofs.Readings.{directory_by_kind}
+use Rattle.image_laws.specs.Commit.{Commit, blank, seen_before, slots_after}
+use Rattle.image_laws.specs.Image.{HaveGoodBytes}
+use Rattle.image_laws.specs.Keeps.{IsDirectoryInode}
+use Rattle.image_laws.specs.Need.{Rewrite, slots_in_block, rewrites_slots, directory_rewrite, file_rewrite, pointer_after, first_block, blocks_filled}
+use Rattle.image_laws.specs.Renamed.{Numbering}
+use Rattle.image_laws.specs.Slots.{blocks_up_to_last}
+use Rattle.image_laws.specs.Stands.{ShowsNode}
+use Rattle.image_laws.proofs.LastBlock.{blocks_end_with_row}
+use Rattle.image_laws.proofs.Places.{blocks_are_kept_or_rewritten}
+use Rattle.image_laws.proofs.Standing.{not_used}
 use Rattle.block_map.specs.Kept.{Kept, kept_of, pointer_kept}
 use Rattle.block_map.specs.Remap.{fresh_for}
 use Rattle.block_map.proofs.Left.{remapped_pointers_stand}

@@ -9,14 +9,14 @@ use borrow.Author.Tests.{eqb-true, ltb-true}
 use Rattle.sfs_base.proofs.BasicNumbers.{same_number}
 use Rattle.sfs_base.proofs.BasicOptions.{none_some, some_not_none, some_same}
 use Rattle.sfs_base.proofs.BasicTruth.{and_first, and_second, false_not_true}
-use Rattle.sfs_tree.specs.Tree.{TreeState, names_of}
+use Rattle.tree_laws.specs.Tree.{TreeState, names_of}
 use Rattle.sfs_image.specs.Seen.{SeenInodes, PLACES}
 use Rattle.absorb.specs.Net.{IsNet}
-use Rattle.image_tree.specs.Commit.{Commit, TakesBlocks, blank, seen_before}
-use Rattle.image_tree.specs.Made.{IsMadeFrom}
-use Rattle.image_tree.specs.Need.{Rewrite, takes_place, takes_in_row, place_in_row, granted_block, pointer_after, GrantServes, IsListed, TakesByRank}
-use Rattle.image_tree.proofs.Made.{made_images_are_commits}
-use Rattle.image_tree.proofs.Ranks.{ranks_take_free_blocks, place_takes}
+use Rattle.image_laws.specs.Commit.{Commit, TakesBlocks, blank, seen_before}
+use Rattle.image_laws.specs.Made.{IsMadeFrom}
+use Rattle.image_laws.specs.Need.{Rewrite, takes_place, takes_in_row, place_in_row, granted_block, pointer_after, GrantServes, IsListed, TakesByRank}
+use Rattle.image_laws.proofs.Made.{made_images_are_commits}
+use Rattle.image_laws.proofs.Ranks.{ranks_take_free_blocks, place_takes}
 use Rattle.space_map.specs.Space.{GrantedNumbers}
 use Rattle.disk_change.specs.AllBuilt.{numbers_with, nodes_built, nodes_with_grant}
 use Rattle.disk_change.specs.Built.{Built, rewrite_in}

@@ -7,11 +7,11 @@ use Rattle.sfs_base.proofs.BasicTruth.{true_not_false}
 use Rattle.sfs_base.specs.declared.numbers.Kind.{Kind}
 use Rattle.sfs_base.specs.declared.numbers.Kind.TheVariants.{File, Directory}
 use Rattle.sfs_image.specs.Seen.{SeenInodes, FILE_BLOCKS, PLACES}
-use Rattle.sfs_tree.specs.Tree.{TreeState}
-use Rattle.image_tree.specs.Commit.{Commit, blank, seen_before}
-use Rattle.image_tree.specs.Numbers.{grant_for}
-use Rattle.image_tree.specs.Renamed.{Numbering}
-use Rattle.image_tree.proofs.Numbers.{granted}
+use Rattle.tree_laws.specs.Tree.{TreeState}
+use Rattle.image_laws.specs.Commit.{Commit, blank, seen_before}
+use Rattle.image_laws.specs.Numbers.{grant_for}
+use Rattle.image_laws.specs.Renamed.{Numbering}
+use Rattle.image_laws.proofs.Numbers.{granted}
 use Rattle.block_map.specs.Kept.{pointer_kept}
 use Rattle.space_map.specs.Space.{GrantedNumbers}
 use Rattle.disk_change.specs.Built.{rewrite_in}

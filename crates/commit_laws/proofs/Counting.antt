@@ -8,13 +8,13 @@ use Rattle.std.proofs.lemmas.List.Sums.{sum_by-cons, sum_by-append}
 use Rattle.sfs_base.proofs.BasicNumbers.{from_plus_zero, from_zero_plus, not_same}
 use Rattle.sfs_base.proofs.BasicTruth.{and_true, and_false, true_not_false}
 use Rattle.sfs_base.specs.declared.numbers.NodeId.{NodeId}
-use Rattle.sfs_tree.specs.Counts.{one_if}
-use Rattle.sfs_tree.specs.NameRow.{number_of}
-use Rattle.sfs_tree.specs.Tree.{TreeState, is_directory, links_of, names_it, holds_directory}
-use Rattle.sfs_tree.proofs.Joined.{count-cons}
+use Rattle.tree_laws.specs.Tree.{one_if}
+use Rattle.tree_laws.specs.NameRow.{number_of}
+use Rattle.tree_laws.specs.Tree.{TreeState, is_directory, links_of, names_it, holds_directory}
+use Rattle.tree_laws.proofs.Joined.{count-cons}
 use Rattle.absorb.specs.declared.nets.NetRow.{NetRow}
-use Rattle.image_tree.specs.LinkChanges.{NetChange, net_changes, counted_row, gained, lost, linking}
-use Rattle.image_tree.proofs.LinkChanges.{nets_give_links}
+use Rattle.image_laws.specs.LinkChanges.{NetChange, net_changes, counted_row, gained, lost, linking}
+use Rattle.image_laws.proofs.LinkChanges.{nets_give_links}
 use Rattle.disk_change.specs.Directory.{is_among}
 use Rattle.disk_change.specs.Links.{linked, linked_by, rows_coming, rows_going, times_in, links_with}
 use Rattle.disk_change.specs.Lists.{AscendBy, item_with}

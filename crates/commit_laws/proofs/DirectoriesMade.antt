@@ -22,14 +22,14 @@ use Rattle.sfs_image.specs.SlotBlock.{slots_of, slots_bytes, slots_fault, AreSlo
 use Rattle.sfs_image.proofs.PartLaws.{hole_is_read}
 use Rattle.sfs_image.proofs.SlotBlockLaws.{slots_of-slots_bytes, slots_fault-slots_bytes}
 use Rattle.sfs_image.proofs.RuleFacts.{slots_say}
-use Rattle.sfs_tree.specs.Tree.{TreeState, kind_of, bytes_of, is_directory_kind}
-use Rattle.sfs_tree.proofs.Readings.{directory_by_kind}
-use Rattle.image_tree.specs.Commit.{Commit, blank, seen_before, slots_after}
-use Rattle.image_tree.specs.Need.{slots_in_block, rewrites_slots, directory_rewrite}
-use Rattle.image_tree.specs.Renamed.{Numbering}
-use Rattle.image_tree.specs.Stands.{ShowsNode}
-use Rattle.image_tree.proofs.BlockRows.{empty_blocks_are_holes}
-use Rattle.image_tree.proofs.Places.{blocks_are_kept_or_rewritten}
+use Rattle.tree_laws.specs.Tree.{TreeState, kind_of, bytes_of, is_directory_kind}
+use Rattle.tree_laws.proofs.Readings.{directory_by_kind}
+use Rattle.image_laws.specs.Commit.{Commit, blank, seen_before, slots_after}
+use Rattle.image_laws.specs.Need.{slots_in_block, rewrites_slots, directory_rewrite}
+use Rattle.image_laws.specs.Renamed.{Numbering}
+use Rattle.image_laws.specs.Stands.{ShowsNode}
+use Rattle.image_laws.proofs.BlockRows.{empty_blocks_are_holes}
+use Rattle.image_laws.proofs.Places.{blocks_are_kept_or_rewritten}
 use Rattle.block_map.specs.Changed.{change_of}
 use Rattle.block_map.specs.declared.changed.ChangedBlock.{ChangedBlock}
 use Rattle.space_map.specs.Space.{GrantedNumbers}

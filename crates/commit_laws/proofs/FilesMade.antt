@@ -22,10 +22,10 @@ use Rattle.sfs_image.specs.Slot.{kind_byte}
 use Rattle.sfs_image.specs.SlotBlock.{slots_of}
 use Rattle.sfs_image.proofs.BytesLaws.{zeros-is, length-zeros, part_from_none}
 use Rattle.sfs_image.proofs.PartLaws.{hole_is_read}
-use Rattle.sfs_tree.specs.Tree.{TreeState, kind_of, bytes_of}
-use Rattle.image_tree.specs.Commit.{Commit, blank, seen_before}
-use Rattle.image_tree.specs.Renamed.{Numbering}
-use Rattle.image_tree.proofs.BlockRows.{byte_blocks_show}
+use Rattle.tree_laws.specs.Tree.{TreeState, kind_of, bytes_of}
+use Rattle.image_laws.specs.Commit.{Commit, blank, seen_before}
+use Rattle.image_laws.specs.Renamed.{Numbering}
+use Rattle.image_laws.proofs.BlockRows.{byte_blocks_show}
 use Rattle.block_map.specs.Changed.{change_of}
 use Rattle.space_map.specs.Space.{GrantedNumbers}
 use Rattle.disk_change.specs.AllBuilt.{numbers_with, nodes_with_grant, pages_of_node}

@@ -17,8 +17,8 @@ use Rattle.std.proofs.lemmas.List.{take_all, length-drop}
 use Rattle.disk_change.proofs.NumbersGiven.{drop_zero}
 use Rattle.sfs_image.proofs.BytesLaws.{nonzero_in-zeros, part_in_zeros, length-zeros}
 use Rattle.sfs_image.proofs.PiecesLaws.{first_of-from}
-use Rattle.image_tree.specs.Image.{HaveGoodBytes}
-use Rattle.image_tree.specs.Need.{Rewrite, changes_pointer, has_pointer, table_blocks, rewrites_table, table_has_pointer, pointer_after, first_block}
+use Rattle.image_laws.specs.Image.{HaveGoodBytes}
+use Rattle.image_laws.specs.Need.{Rewrite, changes_pointer, has_pointer, table_blocks, rewrites_table, table_has_pointer, pointer_after, first_block}
 use Rattle.block_map.proofs.Tables.{none_in_range}
 
 -- A part breaks none of the rules on the bytes of one inode.

@@ -17,9 +17,9 @@ use Rattle.sfs_image.specs.ImageOf.{FreshBlock}
 use Rattle.sfs_image.specs.Part.{Part, pointer_at}
 use Rattle.sfs_image.specs.Seen.{Seen, SeenInodes, PLACES, FILE_BLOCKS}
 use Rattle.sfs_image.proofs.Basics.{found_passes}
-use Rattle.sfs_tree.specs.Tree.{TreeState}
+use Rattle.tree_laws.specs.Tree.{TreeState}
 use Rattle.fmt_journal.specs.declared.tx.TxBlock.{TxBlock}
-use Rattle.image_tree.specs.Renamed.{Numbering}
+use Rattle.image_laws.specs.Renamed.{Numbering}
 use Rattle.journal_one.specs.Job.{no_block}
 use Rattle.journal_one.specs.Packed.{block_of}
 use Rattle.block_map.specs.Changed.{AscendByBlock}

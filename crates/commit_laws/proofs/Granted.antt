@@ -14,7 +14,7 @@ use Rattle.sfs_base.proofs.BasicTruth.{or_first, or_second}
 use Rattle.sfs_image.specs.Seen.{FILE_BLOCKS, PLACES}
 use Rattle.sfs_image.proofs.Basics.{get_or-tabulate}
 use Rattle.fmt_journal.specs.declared.tx.TxBlock.{TxBlock}
-use Rattle.image_tree.specs.Need.{Rewrite, pointer_after, rewrites_table, table_has_pointer}
+use Rattle.image_laws.specs.Need.{Rewrite, pointer_after, rewrites_table, table_has_pointer}
 use Rattle.block_map.specs.Changed.{change_of}
 use Rattle.block_map.specs.Kept.{pointer_kept}
 use Rattle.block_map.specs.Remap.{fresh_for, table_fate, TABLES}

@@ -11,9 +11,9 @@ use Rattle.sfs_base.proofs.BasicLists.{take_none}
 use Rattle.sfs_base.proofs.BasicNumbers.{zero_plus, from_zero_plus, suc_is_one_more, suc_joins, not_same}
 use Rattle.sfs_base.proofs.BasicTruth.{and_false}
 use Rattle.sfs_image.specs.Slot.{Row}
-use Rattle.sfs_tree.proofs.Joined.{count-cons}
-use Rattle.image_tree.specs.Commit.{filled}
-use Rattle.image_tree.specs.Slots.{rows_end, in_blocks}
+use Rattle.tree_laws.proofs.Joined.{count-cons}
+use Rattle.image_laws.specs.Commit.{filled}
+use Rattle.image_laws.specs.Slots.{rows_end, in_blocks}
 use Rattle.block_map.proofs.Places.{range_more}
 use Rattle.disk_change.specs.Directory.{fill_front, rows_left, empty_block, block_added, blocks_for}
 use Rattle.disk_change.specs.Seat.{has_no_row, blocks_to_last_row}

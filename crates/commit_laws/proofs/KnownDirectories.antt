@@ -9,15 +9,15 @@ use Rattle.sfs_base.proofs.BasicOptions.{none_some, some_same, some_not_none}
 use Rattle.sfs_base.proofs.BasicTruth.{true_not_false}
 use Rattle.sfs_base.specs.declared.numbers.NodeId.{NodeId}
 use Rattle.sfs_image.specs.Seen.{SeenInodes}
-use Rattle.sfs_tree.specs.NameRow.{number_of}
-use Rattle.sfs_tree.specs.Tree.{TreeState, row_of, kind_of, is_directory, is_directory_kind, names_of}
-use Rattle.sfs_tree.proofs.Names.{get-names_where}
-use Rattle.sfs_tree.proofs.Readings.{directory_by_kind}
+use Rattle.tree_laws.specs.NameRow.{number_of}
+use Rattle.tree_laws.specs.Tree.{TreeState, row_of, kind_of, is_directory, is_directory_kind, names_of}
+use Rattle.tree_laws.proofs.Names.{get-names_where}
+use Rattle.tree_laws.proofs.Readings.{directory_by_kind}
 use Rattle.absorb.specs.declared.nets.NetRow.{NetRow}
 use Rattle.absorb.specs.Net.{IsNetRow}
-use Rattle.image_tree.specs.Renamed.{Numbering, HasNumber}
-use Rattle.image_tree.proofs.Numbers.{granted}
-use Rattle.image_tree.proofs.Standing.{byte_directory}
+use Rattle.image_laws.specs.Renamed.{Numbering, HasNumber}
+use Rattle.image_laws.proofs.Numbers.{granted}
+use Rattle.image_laws.proofs.Standing.{byte_directory}
 use Rattle.space_map.specs.Space.{GrantedNumbers}
 use Rattle.disk_change.specs.Directory.{is_among}
 use Rattle.disk_change.specs.Links.{directory_old, directory_entering, directories_concerned}

@@ -3,7 +3,7 @@ use Rattle.std.proofs.Common.{◌≡◌, ℕ, zero, suc, ◌<◌, Bool, true, fa
 use Rattle.std.proofs.lemmas.List.Kept.{AllPairs-filter}
 use Rattle.sfs_base.proofs.BasicOptions.{some_not_none}
 use Rattle.sfs_base.proofs.BasicTruth.{not_true}
-use Rattle.image_tree.specs.Numbers.{grant_for}
+use Rattle.image_laws.specs.Numbers.{grant_for}
 use Rattle.disk_change.specs.Links.{directories_concerned}
 use Rattle.disk_change.specs.Nodes.{entry_node, enter_node}
 use Rattle.disk_change.specs.Planned.{staying, leaves}

@@ -24,16 +24,16 @@ use Rattle.sfs_image.proofs.InodeLaws.{inode_of-inode_bytes, pointers_of-pointer
 use Rattle.sfs_image.proofs.MadeLaws.{gathered_is_read}
 use Rattle.sfs_image.proofs.PiecesLaws.{length-u32s_at}
 use Rattle.sfs_image.proofs.PartLaws.{table_is_read, pointer_of_table, hole_is_read, block_behind}
-use Rattle.sfs_tree.specs.Tree.{TreeState, kind_of}
+use Rattle.tree_laws.specs.Tree.{TreeState, kind_of}
 use Rattle.absorb.specs.declared.nets.NetRow.{NetRow}
-use Rattle.image_tree.specs.Commit.{Commit, HasBlock, hole as made_hole, kept as made_kept, fresh as made_fresh, blank, seen_before}
-use Rattle.image_tree.specs.ImageTree.{shows_directory}
-use Rattle.image_tree.specs.Need.{first_block, granted_block, place_in_row, rewrites_table, table_has_pointer}
-use Rattle.image_tree.specs.Renamed.{Numbering}
-use Rattle.image_tree.specs.Stands.{ShowsNode}
-use Rattle.image_tree.proofs.Committed.{number_within, stands_after}
-use Rattle.image_tree.proofs.Sizes.{commits_keep_directories_fit}
-use Rattle.image_tree.proofs.Standing.{not_used}
+use Rattle.image_laws.specs.Commit.{Commit, HasBlock, hole as made_hole, kept as made_kept, fresh as made_fresh, blank, seen_before}
+use Rattle.image_laws.specs.ImageTree.{shows_directory}
+use Rattle.image_laws.specs.Need.{first_block, granted_block, place_in_row, rewrites_table, table_has_pointer}
+use Rattle.image_laws.specs.Renamed.{Numbering}
+use Rattle.image_laws.specs.Stands.{ShowsNode}
+use Rattle.image_laws.proofs.Committed.{number_within, stands_after}
+use Rattle.image_laws.proofs.Sizes.{commits_keep_directories_fit}
+use Rattle.image_laws.proofs.Standing.{not_used}
 use Rattle.journal_one.specs.Packed.{block_of}
 use Rattle.block_map.specs.Changed.{AscendByBlock}
 use Rattle.block_map.specs.Kept.{Kept, table_kept, tables_kept, kept_of, kept_tables, pointer_kept}

@@ -17,14 +17,14 @@ use Rattle.sfs_image.proofs.Basics.{found_passes}
 use Rattle.sfs_image.specs.SlotBlock.{slots_of}
 use Rattle.sfs_image.proofs.InodeLaws.{inode_of-inode_bytes}
 use Rattle.sfs_image.proofs.PartLaws.{holes_have_none}
-use Rattle.sfs_tree.specs.Tree.{TreeState, kind_of}
-use Rattle.image_tree.specs.Commit.{Commit, blank}
-use Rattle.image_tree.specs.Made.{has_number, seen_built}
-use Rattle.image_tree.specs.Renamed.{Numbering}
-use Rattle.image_tree.specs.Slots.{looked_up, name_count}
-use Rattle.image_tree.specs.Stands.{ShowsNode, StandsForTree}
-use Rattle.image_tree.proofs.Committed.{stands_after}
-use Rattle.image_tree.proofs.Made.{found_listed, any_listed, listed_found, number_is, is_number}
+use Rattle.tree_laws.specs.Tree.{TreeState, kind_of}
+use Rattle.image_laws.specs.Commit.{Commit, blank}
+use Rattle.image_laws.specs.Made.{has_number, seen_built}
+use Rattle.image_laws.specs.Renamed.{Numbering}
+use Rattle.image_laws.specs.Slots.{looked_up, name_count}
+use Rattle.image_laws.specs.Stands.{ShowsNode, StandsForTree}
+use Rattle.image_laws.proofs.Committed.{stands_after}
+use Rattle.image_laws.proofs.Made.{found_listed, any_listed, listed_found, number_is, is_number}
 use Rattle.space_map.specs.Space.{GrantedNumbers}
 use Rattle.disk_change.specs.AllBuilt.{nodes_with_grant}
 use Rattle.disk_change.specs.Built.{Built}

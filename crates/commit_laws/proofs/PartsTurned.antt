@@ -16,11 +16,11 @@ use Rattle.sfs_image.proofs.Basics.{found_passes}
 use Rattle.sfs_image.proofs.InodeLaws.{inode_of-inode_bytes}
 use Rattle.sfs_image.proofs.MadeLaws.{made_turns, gathered_is_read}
 use Rattle.sfs_image.proofs.PartLaws.{holes_have_none, none_past_places, hole_is_read}
-use Rattle.sfs_tree.specs.Tree.{TreeState, kind_of}
+use Rattle.tree_laws.specs.Tree.{TreeState, kind_of}
 use Rattle.fmt_journal.specs.declared.tx.TxRecord.{TxRecord}
-use Rattle.image_tree.specs.Commit.{ComesBy, had, enters}
-use Rattle.image_tree.specs.Renamed.{Numbering}
-use Rattle.image_tree.proofs.Standing.{not_used}
+use Rattle.image_laws.specs.Commit.{ComesBy, had, enters}
+use Rattle.image_laws.specs.Renamed.{Numbering}
+use Rattle.image_laws.proofs.Standing.{not_used}
 use Rattle.space_map.specs.Space.{GrantedNumbers}
 use Rattle.disk_change.specs.AllBuilt.{nodes_with_grant}
 use Rattle.disk_change.specs.Built.{Built}

@@ -8,11 +8,11 @@ use Rattle.sfs_base.specs.declared.numbers.Kind.{Kind}
 use Rattle.sfs_base.specs.declared.numbers.Kind.TheVariants.{File, Directory}
 use Rattle.sfs_image.specs.Seen.{SeenInodes}
 use Rattle.sfs_image.specs.Slot.{kind_byte}
-use Rattle.sfs_tree.specs.Tree.{TreeState}
+use Rattle.tree_laws.specs.Tree.{TreeState}
 use Rattle.absorb.specs.declared.nets.NetRow.{NetRow}
-use Rattle.image_tree.specs.Made.{seen_built}
-use Rattle.image_tree.specs.Renamed.{Numbering}
-use Rattle.image_tree.proofs.Made.{built_seen}
+use Rattle.image_laws.specs.Made.{seen_built}
+use Rattle.image_laws.specs.Renamed.{Numbering}
+use Rattle.image_laws.proofs.Made.{built_seen}
 use Rattle.space_map.specs.Space.{GrantedNumbers}
 use Rattle.disk_change.specs.AllBuilt.{numbers_with, built_by, nodes_with_grant, entry_after}
 use Rattle.disk_change.specs.Built.{Built}

@@ -7,8 +7,8 @@ use Rattle.std.proofs.lemmas.Option.{slice_get-map, slice_get-get_or, slice_get_
 use Rattle.sfs_base.proofs.BasicNumbers.{suc_is_one_more}
 use Rattle.sfs_base.proofs.BasicOptions.{none_some, some_same}
 use Rattle.sfs_image.specs.Seen.{PLACES}
-use Rattle.image_tree.specs.Need.{takes_place, place_in_row, takes_in_row, rank}
-use Rattle.image_tree.proofs.Ranks.{ranks_go_on, rank_below}
+use Rattle.image_laws.specs.Need.{takes_place, place_in_row, takes_in_row, rank}
+use Rattle.image_laws.proofs.Ranks.{ranks_go_on, rank_below}
 use Rattle.block_map.proofs.Counts.{rank_first}
 use Rattle.disk_change.specs.AllBuilt.{numbers_with, built_by, nodes_built}
 use Rattle.disk_change.proofs.Directories.{drop_twice}

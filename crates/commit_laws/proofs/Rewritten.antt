@@ -7,8 +7,8 @@ use Rattle.std.proofs.lemmas.Bool.{cases_Bool, cases_lt, lt-ltb, le-ltb}
 use Rattle.std.proofs.lemmas.List.{length-map}
 use Rattle.std.proofs.lemmas.Option.{slice_get-map}
 use Rattle.sfs_image.specs.Seen.{FILE_BLOCKS, PLACES}
-use Rattle.image_tree.specs.Need.{Rewrite, takes_data, changes_pointer, has_pointer, first_block, table_blocks, rewrites_table, table_has_pointer, takes_place, takes_in_row, rank, blocks_needed, pointer_after}
-use Rattle.image_tree.proofs.Ranks.{rank_more}
+use Rattle.image_laws.specs.Need.{Rewrite, takes_data, changes_pointer, has_pointer, first_block, table_blocks, rewrites_table, table_has_pointer, takes_place, takes_in_row, rank, blocks_needed, pointer_after}
+use Rattle.image_laws.proofs.Ranks.{rank_more}
 use Rattle.block_map.proofs.Counts.{rank_first}
 use Rattle.commit_laws.specs.Rewritten.{SayTheSame, TakeTheSame, SameRewritesTakeTheSame}
 use Rattle.commit_laws.proofs.SeatsOfPlan.{there_is_in}

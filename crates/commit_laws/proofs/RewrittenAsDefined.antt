@@ -15,19 +15,19 @@ use Rattle.sfs_image.specs.Bytes.{nonzero_in}
 use Rattle.sfs_image.specs.Rules.{DIRECTORY_BLOCKS}
 use Rattle.sfs_image.specs.Seen.{Seen, SeenInodes, FILE_BLOCKS}
 use Rattle.sfs_image.specs.Slot.{Row, kind_byte}
-use Rattle.sfs_tree.specs.NameRow.{number_of}
-use Rattle.sfs_tree.specs.Tree.{TreeState, row_of, kind_of, bytes_of, is_directory, is_directory_kind}
-use Rattle.sfs_tree.proofs.Readings.{directory_by_kind}
+use Rattle.tree_laws.specs.NameRow.{number_of}
+use Rattle.tree_laws.specs.Tree.{TreeState, row_of, kind_of, bytes_of, is_directory, is_directory_kind}
+use Rattle.tree_laws.proofs.Readings.{directory_by_kind}
 use Rattle.absorb.specs.declared.nets.NetRow.{NetRow}
-use Rattle.image_tree.specs.Commit.{Commit, ComesBy, had, enters, blank, seen_before, slots_after, brought_row}
-use Rattle.image_tree.specs.Need.{Rewrite, slots_in_block, same_slots, rewrites_slots, directory_rewrite, file_rewrite, blocks_needed}
-use Rattle.image_tree.specs.Renamed.{Numbering}
-use Rattle.image_tree.specs.Slots.{looked_up, name_count, has_name, blocks_up_to_last}
-use Rattle.image_tree.specs.Stands.{row_on}
-use Rattle.image_tree.proofs.Committed.{slots_before}
-use Rattle.image_tree.proofs.Renaming.{under_is}
-use Rattle.image_tree.proofs.SlotRows.{count_slot, looked_counts}
-use Rattle.image_tree.proofs.Standing.{not_used}
+use Rattle.image_laws.specs.Commit.{Commit, ComesBy, had, enters, blank, seen_before, slots_after, brought_row}
+use Rattle.image_laws.specs.Need.{Rewrite, slots_in_block, same_slots, rewrites_slots, directory_rewrite, file_rewrite, blocks_needed}
+use Rattle.image_laws.specs.Renamed.{Numbering}
+use Rattle.image_laws.specs.Slots.{looked_up, name_count, has_name, blocks_up_to_last}
+use Rattle.image_laws.specs.Stands.{row_on}
+use Rattle.image_laws.proofs.Committed.{slots_before}
+use Rattle.image_laws.proofs.Renaming.{under_is}
+use Rattle.image_laws.proofs.SlotRows.{count_slot, looked_counts}
+use Rattle.image_laws.proofs.Standing.{not_used}
 use Rattle.space_map.specs.Space.{GrantedNumbers}
 use Rattle.block_map.specs.Changed.{change_of}
 use Rattle.block_map.specs.Kept.{pointer_kept}

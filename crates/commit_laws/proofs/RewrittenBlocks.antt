@@ -9,7 +9,7 @@ use Rattle.sfs_base.proofs.BasicOptions.{none_some}
 use Rattle.sfs_base.proofs.BasicTruth.{and_true, and_false}
 use Rattle.sfs_image.specs.Bytes.{zeros, is_nonzero, nonzero_in}
 use Rattle.sfs_image.proofs.Basics.{found_passes}
-use Rattle.sfs_tree.specs.Tree.{TreeState, bytes_of}
+use Rattle.tree_laws.specs.Tree.{TreeState, bytes_of}
 use Rattle.block_map.specs.declared.changed.ChangedBlock.{ChangedBlock}
 use Rattle.block_map.specs.Changed.{change_of}
 use Rattle.disk_change.specs.AllBuilt.{pages_of_node}

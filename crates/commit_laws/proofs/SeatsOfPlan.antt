@@ -12,12 +12,12 @@ use Rattle.sfs_base.proofs.BasicNumbers.{same_number, zero_plus}
 use Rattle.sfs_base.proofs.BasicOptions.{none_some, some_not_none}
 use Rattle.sfs_base.proofs.BasicTruth.{not_true, or_true, true_not_false}
 use Rattle.sfs_image.specs.Seen.{SeenInodes}
-use Rattle.sfs_tree.specs.Tree.{TreeState}
-use Rattle.image_tree.specs.Commit.{Commit}
-use Rattle.image_tree.specs.Numbers.{grant_for, NumbersAreGiven}
-use Rattle.image_tree.specs.Renamed.{Numbering}
-use Rattle.image_tree.proofs.Committed.{number_once}
-use Rattle.image_tree.proofs.Numbers.{grants_give_numbers, granted}
+use Rattle.tree_laws.specs.Tree.{TreeState}
+use Rattle.image_laws.specs.Commit.{Commit}
+use Rattle.image_laws.specs.Numbers.{grant_for, NumbersAreGiven}
+use Rattle.image_laws.specs.Renamed.{Numbering}
+use Rattle.image_laws.proofs.Committed.{number_once}
+use Rattle.image_laws.proofs.Numbers.{grants_give_numbers, granted}
 use Rattle.space_map.specs.Space.{GrantedNumbers}
 use Rattle.disk_change.specs.AllBuilt.{numbers_with, nodes_with_grant}
 use Rattle.disk_change.specs.Built.{Built}

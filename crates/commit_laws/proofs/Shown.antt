@@ -9,11 +9,11 @@ use Rattle.sfs_base.specs.declared.numbers.Kind.{Kind}
 use Rattle.sfs_base.specs.declared.numbers.Kind.TheVariants.{File, Directory}
 use Rattle.sfs_image.specs.Seen.{Seen}
 use Rattle.sfs_image.specs.Slot.{Row, kind_byte}
-use Rattle.sfs_tree.specs.Tree.{TreeState, kind_of, links_of}
+use Rattle.tree_laws.specs.Tree.{TreeState, kind_of, links_of}
 use Rattle.absorb.specs.declared.nets.NetRow.{NetRow}
-use Rattle.image_tree.specs.Commit.{slots_after}
-use Rattle.image_tree.specs.Renamed.{Numbering}
-use Rattle.image_tree.specs.Slots.{blocks_up_to_last, in_blocks}
+use Rattle.image_laws.specs.Commit.{slots_after}
+use Rattle.image_laws.specs.Renamed.{Numbering}
+use Rattle.image_laws.specs.Slots.{blocks_up_to_last, in_blocks}
 use Rattle.block_map.proofs.Left.{remapped_pointers_stand}
 use Rattle.disk_change.specs.Built.{built}
 use Rattle.disk_change.specs.Directory.{slot_blocks_after}

@@ -3,10 +3,10 @@ use Rattle.std.proofs.Common.{◌≡◌, ℕ, zero, suc, ◌+◌, ◌*◌, ◌<�
 use Rattle.std.proofs.lemmas.List.{get_or-take, get_or-drop, get_or_past, get_or-append-add, get_or_append_left, ext_get_or, length-append, length-replicate, length-take-le, length-map}
 use Rattle.sfs_base.proofs.BasicNumbers.{zero_plus}
 use Rattle.sfs_image.specs.Slot.{Row}
-use Rattle.image_tree.specs.Commit.{filled, slots_after}
-use Rattle.image_tree.specs.Need.{slots_in_block}
-use Rattle.image_tree.specs.Renamed.{Numbering}
-use Rattle.sfs_tree.specs.Tree.{TreeState}
+use Rattle.image_laws.specs.Commit.{filled, slots_after}
+use Rattle.image_laws.specs.Need.{slots_in_block}
+use Rattle.image_laws.specs.Renamed.{Numbering}
+use Rattle.tree_laws.specs.Tree.{TreeState}
 use Rattle.absorb.specs.declared.nets.NetRow.{NetRow}
 use Rattle.disk_change.specs.Directory.{slot_moved, rows_new, empty_block, slot_blocks_after}
 use Rattle.disk_change.specs.Numbered.{row_numbered, slot_numbered, block_numbered}

@@ -10,14 +10,14 @@ use Rattle.sfs_base.specs.declared.numbers.NodeId.{NodeId}
 use Rattle.sfs_base.proofs.BasicLists.{same_bytes}
 use Rattle.sfs_base.proofs.BasicOptions.{some_same, none_some}
 use Rattle.sfs_image.specs.Slot.{Row}
-use Rattle.sfs_tree.specs.NameRow.{number_of}
-use Rattle.sfs_tree.specs.Tree.{TreeState, is_directory, kind_of, kind_if, kind_again}
-use Rattle.sfs_tree.proofs.Readings.{directory_by_kind}
+use Rattle.tree_laws.specs.NameRow.{number_of}
+use Rattle.tree_laws.specs.Tree.{TreeState, is_directory, kind_of, kind_if, kind_again}
+use Rattle.tree_laws.proofs.Readings.{directory_by_kind}
 use Rattle.absorb.specs.declared.nets.NetRow.{NetRow}
-use Rattle.image_tree.specs.Commit.{row_in_net, brought_row, slot_after, new_rows, filled, slots_after}
-use Rattle.image_tree.specs.Renamed.{Numbering}
-use Rattle.image_tree.specs.Slots.{in_blocks}
-use Rattle.image_tree.specs.Stands.{row_on}
+use Rattle.image_laws.specs.Commit.{row_in_net, brought_row, slot_after, new_rows, filled, slots_after}
+use Rattle.image_laws.specs.Renamed.{Numbering}
+use Rattle.image_laws.specs.Slots.{in_blocks}
+use Rattle.image_laws.specs.Stands.{row_on}
 use Rattle.disk_change.specs.Directory.{is_among, row_brought, slot_moved, block_moved, row_new, rows_new, fill_front, rows_left, old_blocks_after, rows_behind, empty_block, block_added, blocks_for, slot_blocks_after}
 use Rattle.disk_change.specs.Numbered.{row_numbered, slot_numbered}
 use Rattle.disk_change.specs.Seat.{blocks_to_last_row}

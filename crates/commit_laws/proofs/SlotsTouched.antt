@@ -11,11 +11,11 @@ use Rattle.sfs_base.proofs.BasicNumbers.{same_number, not_same, zero_plus}
 use Rattle.sfs_base.proofs.BasicOptions.{none_some, some_same, some_not_none}
 use Rattle.sfs_base.proofs.BasicTruth.{or_true}
 use Rattle.sfs_image.specs.Slot.{Row}
-use Rattle.sfs_tree.proofs.Joined.{count-cons}
+use Rattle.tree_laws.proofs.Joined.{count-cons}
 use Rattle.absorb.specs.declared.nets.NetRow.{NetRow}
-use Rattle.image_tree.specs.Commit.{row_in_net}
-use Rattle.image_tree.specs.Need.{same_row, same_slots}
-use Rattle.image_tree.proofs.Places.{slot_is, slot_itself}
+use Rattle.image_laws.specs.Commit.{row_in_net}
+use Rattle.image_laws.specs.Need.{same_row, same_slots}
+use Rattle.image_laws.proofs.Places.{slot_is, slot_itself}
 use Rattle.disk_change.specs.Directory.{row_brought, slot_moved, is_in_net, block_moved, row_new, rows_new, fill_front, rows_left, old_blocks_after, rows_behind, block_is_touched, blocks_touched, empty_block, block_added, blocks_for, slot_blocks_after, directory_touched}
 use Rattle.disk_change.specs.Numbered.{row_with_inode, row_numbered, slot_numbered, block_numbered}
 use Rattle.disk_change.proofs.Blocks.{drop_none}

@@ -5,11 +5,11 @@ use Rattle.std.specs.Option.{unwrap_or}
 use Rattle.std.proofs.lemmas.Option.{slice_get-map}
 use Rattle.sfs_image.specs.Seen.{Seen, FILE_BLOCKS}
 use Rattle.sfs_image.specs.Slot.{kind_byte}
-use Rattle.sfs_tree.specs.Tree.{kind_of, links_of, bytes_of}
-use Rattle.image_tree.specs.Commit.{seen_before, slots_after}
-use Rattle.image_tree.specs.Need.{Rewrite, takes_place, pointer_after, rewrites_table, table_has_pointer}
-use Rattle.image_tree.specs.Slots.{in_blocks}
-use Rattle.image_tree.proofs.Committed.{commits_keep_standing}
+use Rattle.tree_laws.specs.Tree.{kind_of, links_of, bytes_of}
+use Rattle.image_laws.specs.Commit.{seen_before, slots_after}
+use Rattle.image_laws.specs.Need.{Rewrite, takes_place, pointer_after, rewrites_table, table_has_pointer}
+use Rattle.image_laws.specs.Slots.{in_blocks}
+use Rattle.image_laws.proofs.Committed.{commits_keep_standing}
 use Rattle.block_map.specs.Remap.{fresh_for}
 use Rattle.disk_change.specs.AllBuilt.{numbers_with}
 use Rattle.disk_change.specs.Built.{Built, built, rewrite_in}

@@ -3,11 +3,11 @@ use Rattle.std.specs.Prelude.{◌≡◌, ℕ, ◌*◌, ◌<◌, ◌≤◌, true,
 use Rattle.sfs_image.specs.Part.{Part}
 use Rattle.sfs_image.specs.Seen.{SeenInodes}
 use Rattle.sfs_image.specs.Super.{Layout}
-use Rattle.sfs_tree.specs.Tree.{TreeState, bytes_of}
-use Rattle.image_tree.specs.Image.{HaveGoodBytes}
-use Rattle.image_tree.specs.Renamed.{Numbering}
-use Rattle.image_tree.specs.Sizes.{DirectoriesFit}
-use Rattle.image_tree.specs.Stands.{BLOCK_BYTES}
+use Rattle.tree_laws.specs.Tree.{TreeState, bytes_of}
+use Rattle.image_laws.specs.Image.{HaveGoodBytes}
+use Rattle.image_laws.specs.Renamed.{Numbering}
+use Rattle.image_laws.specs.Sizes.{DirectoriesFit}
+use Rattle.image_laws.specs.Stands.{BLOCK_BYTES}
 use Rattle.block_map.specs.Kept.{kept_of}
 use Rattle.space_map.specs.Space.{GrantedNumbers}
 use Rattle.disk_change.specs.AllBuilt.{after_commit}

@@ -2,12 +2,12 @@
 use Rattle.std.specs.Prelude.{◌≡◌, ℕ, ◌<◌, ◌==◌, ◌&&◌, nat_lt, Bool, true, false, List, [], ◌∷◌, map, suc, slice_get, Option, None, Some, option_map, if◌then◌else◌}
 use Rattle.std.specs.List.{list_any}
 use Rattle.std.specs.Option.{option_map_or, unwrap_or}
-use Rattle.sfs_tree.specs.Tree.{TreeState}
+use Rattle.tree_laws.specs.Tree.{TreeState}
 use Rattle.sfs_image.specs.Seen.{SeenInodes, PLACES}
-use Rattle.image_tree.specs.Commit.{Commit, IsAside, GivesNumbers, IsCommit, seen_before}
-use Rattle.image_tree.specs.Made.{image_made}
-use Rattle.image_tree.specs.Need.{Rewrite, takes_in_row, place_in_row, granted_block, GrantServes}
-use Rattle.image_tree.specs.Stands.{StandsForTree}
+use Rattle.image_laws.specs.Commit.{Commit, IsAside, GivesNumbers, IsCommit, seen_before}
+use Rattle.image_laws.specs.Made.{image_made}
+use Rattle.image_laws.specs.Need.{Rewrite, takes_in_row, place_in_row, granted_block, GrantServes}
+use Rattle.image_laws.specs.Stands.{StandsForTree}
 use Rattle.space_map.specs.Space.{GrantedNumbers}
 use Rattle.disk_change.specs.AllBuilt.{nodes_with_grant}
 use Rattle.disk_change.specs.Built.{Built, rewrite_in}

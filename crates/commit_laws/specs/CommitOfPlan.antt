@@ -2,17 +2,17 @@
 use Rattle.std.specs.Prelude.{◌≡◌, ℕ, true, false, List, map, Some, Contains}
 use Rattle.sfs_base.specs.declared.numbers.NodeId.{NodeId}
 use Rattle.sfs_image.specs.Seen.{SeenInodes}
-use Rattle.sfs_tree.specs.Sound.{IsSound}
-use Rattle.sfs_tree.specs.Tree.{TreeState, kind_of, is_directory}
-use Rattle.image_tree.specs.Commit.{Commit, IsAside, MayFollow}
-use Rattle.image_tree.specs.ImageTree.{Making}
-use Rattle.image_tree.specs.Laws.{LeavesTree}
-use Rattle.image_tree.specs.LinkChanges.{AreAllNets}
-use Rattle.image_tree.specs.Made.{image_made}
-use Rattle.image_tree.specs.Need.{GrantServes}
-use Rattle.image_tree.specs.Numbers.{numbers_after, InodeGrantServes}
-use Rattle.image_tree.specs.Renamed.{Numbering}
-use Rattle.image_tree.specs.Stands.{StandsForTree, IsStorable}
+use Rattle.tree_laws.specs.Sound.{IsSound}
+use Rattle.tree_laws.specs.Tree.{TreeState, kind_of, is_directory}
+use Rattle.image_laws.specs.Commit.{Commit, IsAside, MayFollow}
+use Rattle.image_laws.specs.ImageTree.{Making}
+use Rattle.image_laws.specs.Laws.{LeavesTree}
+use Rattle.image_laws.specs.LinkChanges.{AreAllNets}
+use Rattle.image_laws.specs.Made.{image_made}
+use Rattle.image_laws.specs.Need.{GrantServes}
+use Rattle.image_laws.specs.Numbers.{numbers_after, InodeGrantServes}
+use Rattle.image_laws.specs.Renamed.{Numbering}
+use Rattle.image_laws.specs.Stands.{StandsForTree, IsStorable}
 use Rattle.space_map.specs.Space.{GrantedNumbers}
 use Rattle.disk_change.specs.Directory.{is_among}
 use Rattle.disk_change.specs.Lists.{AscendBy}

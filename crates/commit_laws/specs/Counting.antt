@@ -1,7 +1,7 @@
 -- That the rows of nets give the link counts of the tree after them.
 use Rattle.std.specs.Prelude.{◌≡◌, ℕ, ◌<◌, ◌^◌, List, map}
-use Rattle.sfs_tree.specs.Tree.{TreeState, links_of}
-use Rattle.image_tree.specs.LinkChanges.{AreAllNets}
+use Rattle.tree_laws.specs.Tree.{TreeState, links_of}
+use Rattle.image_laws.specs.LinkChanges.{AreAllNets}
 use Rattle.disk_change.specs.Links.{links_by_nets}
 use Rattle.disk_change.specs.Lists.{AscendBy}
 use Rattle.disk_change.specs.Nodes.{net_node}

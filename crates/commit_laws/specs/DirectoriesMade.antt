@@ -5,8 +5,8 @@ use Rattle.sfs_image.specs.Part.{Part, seen_of}
 use Rattle.sfs_image.specs.Seen.{SeenInodes}
 use Rattle.sfs_image.specs.Slot.{Row}
 use Rattle.sfs_image.specs.SlotBlock.{AreSlots}
-use Rattle.sfs_tree.specs.Tree.{TreeState, kind_of}
-use Rattle.image_tree.specs.Renamed.{Numbering}
+use Rattle.tree_laws.specs.Tree.{TreeState, kind_of}
+use Rattle.image_laws.specs.Renamed.{Numbering}
 use Rattle.block_map.specs.Kept.{kept_of}
 use Rattle.space_map.specs.Space.{GrantedNumbers}
 use Rattle.disk_change.specs.AllBuilt.{nodes_with_grant, entry_after}

@@ -3,9 +3,9 @@ use Rattle.std.specs.Prelude.{◌≡◌, ℕ, ◌*◌, ◌<◌, ◌≤◌, true,
 use Rattle.sfs_base.specs.declared.numbers.Kind.TheVariants.{File}
 use Rattle.sfs_image.specs.Part.{Part, seen_of}
 use Rattle.sfs_image.specs.Seen.{Seen, SeenInodes, PLACES, FILE_BLOCKS}
-use Rattle.sfs_tree.specs.Tree.{TreeState, bytes_of, kind_of}
-use Rattle.image_tree.specs.Renamed.{Numbering}
-use Rattle.image_tree.specs.Stands.{BLOCK_BYTES}
+use Rattle.tree_laws.specs.Tree.{TreeState, bytes_of, kind_of}
+use Rattle.image_laws.specs.Renamed.{Numbering}
+use Rattle.image_laws.specs.Stands.{BLOCK_BYTES}
 use Rattle.block_map.specs.Kept.{kept_of}
 use Rattle.space_map.specs.Space.{GrantedNumbers}
 use Rattle.disk_change.specs.AllBuilt.{nodes_with_grant, entry_after}

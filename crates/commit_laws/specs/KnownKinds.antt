@@ -1,7 +1,7 @@
 -- That a commit knows which of its nodes are directories.
 use Rattle.std.specs.Prelude.{◌≡◌, ◌⊎◌, ℕ, true, List, Option, Some, Contains}
-use Rattle.sfs_tree.specs.NameRow.{number_of}
-use Rattle.sfs_tree.specs.Tree.{TreeState, is_directory}
+use Rattle.tree_laws.specs.NameRow.{number_of}
+use Rattle.tree_laws.specs.Tree.{TreeState, is_directory}
 use Rattle.absorb.specs.declared.nets.NetRow.{NetRow}
 use Rattle.disk_change.specs.Directory.{is_among}
 use Rattle.disk_change.specs.declared.directory_net.DirectoryNet.{DirectoryNet}

@@ -1,9 +1,9 @@
 -- That the numbers of a commit's nodes are those that a commit gives.
 use Rattle.std.specs.Prelude.{◌≡◌, ℕ, ◌==◌, not, Bool, List, map, None, Some, Contains}
-use Rattle.sfs_tree.specs.NameRow.{node_number}
+use Rattle.tree_laws.specs.NameRow.{node_number}
 use Rattle.sfs_base.specs.declared.numbers.NodeId.{NodeId}
-use Rattle.image_tree.specs.Numbers.{numbers_after}
-use Rattle.image_tree.specs.Renamed.{Numbering}
+use Rattle.image_laws.specs.Numbers.{numbers_after}
+use Rattle.image_laws.specs.Renamed.{Numbering}
 use Rattle.disk_change.specs.AllBuilt.{numbers_with}
 use Rattle.disk_change.specs.Links.{times_in}
 use Rattle.disk_change.specs.Lists.{AscendBy}

@@ -6,8 +6,8 @@ use Rattle.sfs_image.specs.ImageOf.{FreshBlock, IsMadeOf}
 use Rattle.sfs_image.specs.Inode.{AreU32s, inode_bytes}
 use Rattle.sfs_image.specs.Part.{Part, part_of, IsGathered, seen_of, pointer_at, inode_in}
 use Rattle.sfs_image.specs.Seen.{SeenInodes, PLACES}
-use Rattle.sfs_tree.specs.Tree.{TreeState, bytes_of}
-use Rattle.image_tree.specs.Renamed.{Numbering}
+use Rattle.tree_laws.specs.Tree.{TreeState, bytes_of}
+use Rattle.image_laws.specs.Renamed.{Numbering}
 use Rattle.journal_one.specs.Job.{HaveOwnBlocks, no_block}
 use Rattle.journal_one.specs.Packed.{block_of}
 use Rattle.block_map.specs.Kept.{kept_of, kept_tables}

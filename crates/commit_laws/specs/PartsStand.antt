@@ -5,9 +5,9 @@ use Rattle.std.specs.Option.{option_map_or}
 use Rattle.sfs_image.specs.Inode.{inode_bytes}
 use Rattle.sfs_image.specs.Part.{Part, part_of, seen_of}
 use Rattle.sfs_image.specs.Seen.{SeenInodes}
-use Rattle.sfs_tree.specs.Tree.{TreeState}
-use Rattle.image_tree.specs.Renamed.{Numbering}
-use Rattle.image_tree.specs.Stands.{StandsForTree}
+use Rattle.tree_laws.specs.Tree.{TreeState}
+use Rattle.image_laws.specs.Renamed.{Numbering}
+use Rattle.image_laws.specs.Stands.{StandsForTree}
 use Rattle.space_map.specs.Space.{GrantedNumbers}
 use Rattle.disk_change.specs.AllBuilt.{nodes_with_grant}
 use Rattle.disk_change.specs.Directory.{is_among}

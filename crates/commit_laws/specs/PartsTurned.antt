@@ -4,9 +4,9 @@ use Rattle.sfs_image.specs.ImageOf.{TurnsInto, PointsToData}
 use Rattle.sfs_image.specs.Super.{Layout, data_start}
 use Rattle.sfs_image.specs.Part.{Part}
 use Rattle.sfs_image.specs.Seen.{SeenInodes}
-use Rattle.sfs_tree.specs.Tree.{TreeState}
+use Rattle.tree_laws.specs.Tree.{TreeState}
 use Rattle.fmt_journal.specs.declared.tx.TxRecord.{TxRecord}
-use Rattle.image_tree.specs.Renamed.{Numbering}
+use Rattle.image_laws.specs.Renamed.{Numbering}
 use Rattle.space_map.specs.Space.{GrantedNumbers}
 use Rattle.disk_change.specs.Records.{records_written}
 use Rattle.commit_laws.specs.CommitOfPlan.{CommitPlan, change_planned}

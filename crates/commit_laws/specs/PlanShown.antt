@@ -1,9 +1,9 @@
 -- That what a plan builds is what the image that its commit makes shows, so that the next plan can begin with it.
 use Rattle.std.specs.Prelude.{◌≡◌, ℕ, ◌<◌, ◌^◌, List, [], length, None, Some, Contains}
 use Rattle.sfs_image.specs.Seen.{SeenInodes}
-use Rattle.sfs_tree.specs.Tree.{TreeState, bytes_of, links_of}
-use Rattle.image_tree.specs.Renamed.{Numbering}
-use Rattle.image_tree.specs.Sizes.{DirectoriesFit}
+use Rattle.tree_laws.specs.Tree.{TreeState, bytes_of, links_of}
+use Rattle.image_laws.specs.Renamed.{Numbering}
+use Rattle.image_laws.specs.Sizes.{DirectoriesFit}
 use Rattle.space_map.specs.Space.{GrantedNumbers}
 use Rattle.disk_change.specs.AllBuilt.{nodes_with_grant, after_commit}
 use Rattle.disk_change.specs.Built.{Built}

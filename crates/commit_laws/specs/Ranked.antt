@@ -1,7 +1,7 @@
 -- That the nodes of a commit take their fresh blocks from the grant by the ranks of their places.
 use Rattle.std.specs.Prelude.{◌≡◌, ℕ, ◌<◌, true, List, map, take, drop, sum_by, slice_get, Some}
 use Rattle.sfs_image.specs.Seen.{PLACES}
-use Rattle.image_tree.specs.Need.{takes_place, place_in_row, granted_block, blocks_needed}
+use Rattle.image_laws.specs.Need.{takes_place, place_in_row, granted_block, blocks_needed}
 use Rattle.block_map.specs.Remap.{fresh_for}
 use Rattle.space_map.specs.Space.{GrantedNumbers}
 use Rattle.disk_change.specs.AllBuilt.{numbers_with, built_by, nodes_with_grant}

@@ -3,13 +3,13 @@
 use Rattle.std.specs.Prelude.{◌≡◌, ℕ, ◌*◌, ◌<◌, ◌≤◌, true, Bool, List, ◌++◌, length, map, take, drop, is_some, Contains, if◌then◌else◌}
 use Rattle.sfs_image.specs.Bytes.{zeros}
 use Rattle.sfs_image.specs.Seen.{SeenInodes, FILE_BLOCKS, PLACES}
-use Rattle.sfs_tree.specs.Tree.{TreeState, bytes_of, is_directory}
-use Rattle.image_tree.specs.Commit.{Commit, seen_before, slots_after}
-use Rattle.image_tree.specs.Keeps.{IsDirectoryInode}
-use Rattle.image_tree.specs.Need.{Rewrite, directory_rewrite, file_rewrite, takes_place, pointer_after, blocks_needed}
-use Rattle.image_tree.specs.Renamed.{Numbering}
-use Rattle.image_tree.specs.Slots.{BLOCK_SLOTS}
-use Rattle.image_tree.specs.Stands.{BLOCK_BYTES}
+use Rattle.tree_laws.specs.Tree.{TreeState, bytes_of, is_directory}
+use Rattle.image_laws.specs.Commit.{Commit, seen_before, slots_after}
+use Rattle.image_laws.specs.Keeps.{IsDirectoryInode}
+use Rattle.image_laws.specs.Need.{Rewrite, directory_rewrite, file_rewrite, takes_place, pointer_after, blocks_needed}
+use Rattle.image_laws.specs.Renamed.{Numbering}
+use Rattle.image_laws.specs.Slots.{BLOCK_SLOTS}
+use Rattle.image_laws.specs.Stands.{BLOCK_BYTES}
 use Rattle.space_map.specs.Space.{GrantedNumbers}
 use Rattle.disk_change.specs.AllBuilt.{pages_of_node}
 use Rattle.disk_change.specs.Built.{rewrite_in}

@@ -5,12 +5,12 @@ use Rattle.sfs_base.specs.declared.numbers.Kind.TheVariants.{File}
 use Rattle.sfs_image.specs.Rules.{DIRECTORY_BLOCKS}
 use Rattle.sfs_image.specs.Seen.{Seen, PLACES}
 use Rattle.sfs_image.specs.Slot.{kind_byte}
-use Rattle.sfs_tree.specs.Tree.{TreeState, kind_of, bytes_of, links_of}
-use Rattle.image_tree.specs.Commit.{slots_after}
-use Rattle.image_tree.specs.Need.{pointer_after}
-use Rattle.image_tree.specs.Renamed.{Numbering}
-use Rattle.image_tree.specs.Slots.{BLOCK_SLOTS, blocks_up_to_last, in_blocks}
-use Rattle.image_tree.specs.Stands.{BLOCK_BYTES}
+use Rattle.tree_laws.specs.Tree.{TreeState, kind_of, bytes_of, links_of}
+use Rattle.image_laws.specs.Commit.{slots_after}
+use Rattle.image_laws.specs.Need.{pointer_after}
+use Rattle.image_laws.specs.Renamed.{Numbering}
+use Rattle.image_laws.specs.Slots.{BLOCK_SLOTS, blocks_up_to_last, in_blocks}
+use Rattle.image_laws.specs.Stands.{BLOCK_BYTES}
 use Rattle.block_map.specs.Kept.{pointer_kept}
 use Rattle.block_map.specs.Remap.{fresh_for}
 use Rattle.disk_change.specs.Built.{Built, built, rewrite_in}

@@ -1,12 +1,12 @@
 -- That the slots of a directory after a net are those of a commit.
 use Rattle.std.specs.Prelude.{◌≡◌, ℕ, List, length, map, take, Option, Contains}
 use Rattle.std.specs.List.{flat_map}
-use Rattle.sfs_tree.specs.Tree.{TreeState}
+use Rattle.tree_laws.specs.Tree.{TreeState}
 use Rattle.sfs_image.specs.Slot.{Row}
 use Rattle.absorb.specs.declared.nets.NetRow.{NetRow}
-use Rattle.image_tree.specs.Commit.{slots_after}
-use Rattle.image_tree.specs.Renamed.{Numbering}
-use Rattle.image_tree.specs.Slots.{BLOCK_SLOTS, in_blocks}
+use Rattle.image_laws.specs.Commit.{slots_after}
+use Rattle.image_laws.specs.Renamed.{Numbering}
+use Rattle.image_laws.specs.Slots.{BLOCK_SLOTS, in_blocks}
 use Rattle.disk_change.specs.Directory.{slot_blocks_after}
 use Rattle.disk_change.specs.Numbered.{block_numbered}
 use Rattle.disk_change.specs.Seat.{blocks_to_last_row}

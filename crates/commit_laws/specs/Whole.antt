@@ -1,14 +1,14 @@
 -- That what is built shows the image that the commit makes, and that this image stands for the new tree.
 use Rattle.std.specs.Prelude.{◌≡◌, ℕ, ◌<◌, List, slice_get, Some}
-use Rattle.sfs_tree.specs.Sound.{IsSound}
-use Rattle.sfs_tree.specs.Tree.{TreeState}
+use Rattle.tree_laws.specs.Sound.{IsSound}
+use Rattle.tree_laws.specs.Tree.{TreeState}
 use Rattle.sfs_image.specs.Seen.{Seen, SeenInodes, PLACES}
-use Rattle.image_tree.specs.Commit.{Commit, MayFollow, seen_before}
-use Rattle.image_tree.specs.ImageTree.{Making}
-use Rattle.image_tree.specs.Laws.{LeavesTree}
-use Rattle.image_tree.specs.Made.{image_made, seen_built}
-use Rattle.image_tree.specs.Need.{GrantServes}
-use Rattle.image_tree.specs.Stands.{StandsForTree, IsStorable}
+use Rattle.image_laws.specs.Commit.{Commit, MayFollow, seen_before}
+use Rattle.image_laws.specs.ImageTree.{Making}
+use Rattle.image_laws.specs.Laws.{LeavesTree}
+use Rattle.image_laws.specs.Made.{image_made, seen_built}
+use Rattle.image_laws.specs.Need.{GrantServes}
+use Rattle.image_laws.specs.Stands.{StandsForTree, IsStorable}
 use Rattle.block_map.specs.Kept.{pointer_kept}
 use Rattle.space_map.specs.Space.{GrantedNumbers}
 use Rattle.disk_change.specs.AllBuilt.{numbers_with, nodes_with_grant}

@@ -11,22 +11,22 @@ use Rattle.std.proofs.lemmas.List.Kept.{IsNonDecreasingBy-filter}
 use Rattle.std.proofs.lemmas.List.Elements.{filter-append, All-head, All-tail}
 use Rattle.sfs_base.proofs.BasicTruth.{true_not_false, and_true, and_false}
 use Rattle.sfs_base.proofs.BasicNumbers.{same_number, zero_plus}
-use Rattle.sfs_tree.specs.declared.changes.Change.{Change}
-use Rattle.sfs_tree.specs.declared.history.Entry.{Entry}
-use Rattle.sfs_tree.specs.Tree.{TreeState}
-use Rattle.sfs_tree.specs.History.{IsLegal, tree_after_entry}
-use Rattle.sfs_tree.specs.Logged.{is_logged_in, is_addition}
+use Rattle.tree_laws.specs.declared.changes.Change.{Change}
+use Rattle.tree_laws.specs.declared.history.Entry.{Entry}
+use Rattle.tree_laws.specs.Tree.{TreeState}
+use Rattle.tree_laws.specs.History.{IsLegal, tree_after_entry}
+use Rattle.tree_laws.specs.Logged.{is_logged_in, is_addition}
 use Rattle.mem_cells.specs.Log.{log_place, is_from, IsInOrder}
 use Rattle.mem_cells.specs.Part.{CoreLog, changes_kept, mark_kept}
 use Rattle.log_merge.specs.Merge.{is_under, stands_at, part_changes, parts_changes, IsMergeOf}
 use Rattle.log_merge.proofs.OneMerge.{there_is_one_merge}
-use Rattle.flush_core.specs.Cut.{Cut, cut_of}
-use Rattle.flush_core.specs.Closure.{every_entry}
-use Rattle.flush_core.specs.Rules.{IsOneOf}
-use Rattle.flush_core.proofs.Along.{core_at}
-use Rattle.flush_core.proofs.Basics.{filter_same, filter_none, below_or}
-use Rattle.flush_core.proofs.Listed.{from_map}
-use Rattle.flush_core.proofs.RunFacts.{in_filter}
+use Rattle.cut_laws.specs.Cut.{Cut, cut_of}
+use Rattle.cut_laws.specs.Closure.{every_entry}
+use Rattle.cut_laws.specs.Rules.{IsOneOf}
+use Rattle.cut_laws.proofs.Along.{core_at}
+use Rattle.cut_laws.proofs.Basics.{filter_same, filter_none, below_or}
+use Rattle.cut_laws.proofs.Listed.{from_map}
+use Rattle.cut_laws.proofs.RunFacts.{in_filter}
 use Rattle.dep_closure.specs.declared.gathered.DirectoryChanges.{DirectoryChanges}
 use Rattle.dep_closure.specs.Gathered.{log_directory, IsOwnLog}
 use Rattle.dep_closure.specs.History.{logged_of, IsLogOf}

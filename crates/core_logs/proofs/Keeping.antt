@@ -10,20 +10,20 @@ use Rattle.std.proofs.lemmas.Bool.Decides.{nat_tests}
 use Rattle.sfs_base.specs.Listed.{is_listed}
 use Rattle.sfs_base.proofs.BasicNumbers.{plus_zero}
 use Rattle.sfs_base.proofs.BasicTruth.{true_not_false}
-use Rattle.sfs_tree.specs.declared.changes.Change.{Change}
-use Rattle.sfs_tree.specs.declared.history.Entry.{Entry}
-use Rattle.sfs_tree.specs.Tree.{TreeState}
-use Rattle.sfs_tree.specs.History.{tree_after, IsLegal, MayCome}
-use Rattle.sfs_tree.specs.Logged.{is_logged_in}
+use Rattle.tree_laws.specs.declared.changes.Change.{Change}
+use Rattle.tree_laws.specs.declared.history.Entry.{Entry}
+use Rattle.tree_laws.specs.Tree.{TreeState}
+use Rattle.tree_laws.specs.History.{tree_after, IsLegal, MayCome}
+use Rattle.tree_laws.specs.Logged.{is_logged_in}
 use Rattle.mem_cells.specs.Log.{log_place, is_from, IsInOrder}
 use Rattle.mem_cells.specs.Part.{CoreLog, changes_kept, mark_kept}
 use Rattle.mem_cells.specs.Laws.{IsLeftOf}
 use Rattle.mem_cells.proofs.Left.{parts_begin, entries_are_kept, twice_kept}
-use Rattle.sfs_tree.proofs.Joined.{count-cons}
-use Rattle.flush_core.specs.Cut.{Cut, cut_of}
-use Rattle.flush_core.specs.Rules.{IsOneOf}
-use Rattle.flush_core.proofs.Basics.{filter_none}
-use Rattle.flush_core.proofs.RunFacts.{in_filter}
+use Rattle.tree_laws.proofs.Joined.{count-cons}
+use Rattle.cut_laws.specs.Cut.{Cut, cut_of}
+use Rattle.cut_laws.specs.Rules.{IsOneOf}
+use Rattle.cut_laws.proofs.Basics.{filter_none}
+use Rattle.cut_laws.proofs.RunFacts.{in_filter}
 use Rattle.dep_closure.proofs.Looked.{one_of_all}
 use Rattle.dep_closure.proofs.True.{logged_stamp}
 use Rattle.core_logs.specs.Logs.{Logs, part_of, AreBlank, AreSameChanges, HasRoom, MayAdd, AreWithEntry, AreTrimmedOf}

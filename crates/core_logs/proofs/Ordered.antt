@@ -5,20 +5,20 @@ use Rattle.std.specs.Prelude.{All, filter, count_by}
 use Rattle.std.proofs.lemmas.List.Elements.{filter-append, All-from_recursion, All-nil, All-cons}
 use Rattle.std.proofs.lemmas.List.{append_assoc}
 use Rattle.sfs_base.specs.declared.numbers.Kind.{Kind}
-use Rattle.sfs_tree.specs.declared.changes.Change.{Change}
-use Rattle.sfs_tree.specs.declared.history.Entry.{Entry}
-use Rattle.sfs_tree.specs.Tree.{TreeState, row_of, kind_of}
-use Rattle.sfs_tree.specs.declared.changes.Act.TheVariants.{Add, Remove}
-use Rattle.sfs_tree.specs.Changes.{other_side}
-use Rattle.sfs_tree.specs.Effect.{Effect, Stays, Adds, Removes, Moves, Edits}
-use Rattle.sfs_tree.specs.Verdict.{verdict}
-use Rattle.sfs_tree.specs.History.{tree_after, tree_after_entry, IsLegal, IsLegalFrom}
-use Rattle.sfs_tree.specs.Logged.{log_entry, logged_by, logged_replaced, recorded_above, is_addition}
+use Rattle.tree_laws.specs.declared.changes.Change.{Change}
+use Rattle.tree_laws.specs.declared.history.Entry.{Entry}
+use Rattle.tree_laws.specs.Tree.{TreeState, row_of, kind_of}
+use Rattle.tree_laws.specs.declared.changes.Act.TheVariants.{Add, Remove}
+use Rattle.tree_laws.specs.Changes.{other_side}
+use Rattle.tree_laws.specs.Effect.{Effect, Stays, Adds, Removes, Moves, Edits}
+use Rattle.tree_laws.specs.Verdict.{verdict}
+use Rattle.tree_laws.specs.History.{tree_after, tree_after_entry, IsLegal, IsLegalFrom}
+use Rattle.tree_laws.specs.Logged.{log_entry, logged_by, logged_replaced, recorded_above, is_addition}
 use Rattle.mem_cells.specs.Log.{log_place, IsInOrder}
 use Rattle.mem_cells.proofs.Order.{nothing_in_order, in_order-push, in_order-drop}
-use Rattle.flush_core.specs.Rules.{IsOneOf}
-use Rattle.flush_core.proofs.Along.{core_at}
-use Rattle.flush_core.proofs.Basics.{in_either, in_left, in_right, filter_none}
+use Rattle.cut_laws.specs.Rules.{IsOneOf}
+use Rattle.cut_laws.proofs.Along.{core_at}
+use Rattle.cut_laws.proofs.Basics.{in_either, in_left, in_right, filter_none}
 use Rattle.dep_closure.specs.History.{logged_of}
 use Rattle.dep_closure.proofs.Looked.{one_of_all}
 use Rattle.dep_closure.proofs.True.{logged_stamp, logged_later}

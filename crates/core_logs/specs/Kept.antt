@@ -3,15 +3,15 @@ use Rattle.std.specs.Prelude.{◌≡◌, ◌⊎◌, ℕ, ◌==◌, ◌<◌, ◌�
 use Rattle.std.specs.List.{All}
 use Rattle.std.specs.BTreeSet.{contains}
 use Rattle.std.specs.Ordering.{nat_cmp}
-use Rattle.sfs_tree.specs.declared.changes.Change.{Change}
-use Rattle.sfs_tree.specs.declared.history.Entry.{Entry}
-use Rattle.sfs_tree.specs.Tree.{TreeState}
-use Rattle.sfs_tree.specs.Verdict.{verdict}
-use Rattle.sfs_tree.specs.History.{tree_after_entry}
-use Rattle.sfs_tree.specs.Logged.{logged_by}
+use Rattle.tree_laws.specs.declared.changes.Change.{Change}
+use Rattle.tree_laws.specs.declared.history.Entry.{Entry}
+use Rattle.tree_laws.specs.Tree.{TreeState}
+use Rattle.tree_laws.specs.Verdict.{verdict}
+use Rattle.tree_laws.specs.History.{tree_after_entry}
+use Rattle.tree_laws.specs.Logged.{logged_by}
 use Rattle.mem_cells.specs.Part.{changes_kept, mark_kept}
 use Rattle.mem_cells.specs.Laws.{IsLeftOf}
-use Rattle.flush_core.specs.Cut.{Cut, cut_of}
+use Rattle.cut_laws.specs.Cut.{Cut, cut_of}
 use Rattle.core_logs.specs.Logs.{Logs, part_of}
 
 -- whether an entry is this core's

@@ -4,8 +4,8 @@ use Rattle.std.specs.BTreeSet.{BTreeSet, contains}
 use Rattle.std.specs.List.Sorted.{IsStrictlyIncreasing}
 use Rattle.std.specs.Ordering.{nat_cmp}
 use Rattle.sfs_base.specs.Listed.{is_listed}
-use Rattle.sfs_tree.specs.declared.changes.Change.{Change}
-use Rattle.sfs_tree.specs.Logged.{is_logged_in}
+use Rattle.tree_laws.specs.declared.changes.Change.{Change}
+use Rattle.tree_laws.specs.Logged.{is_logged_in}
 use Rattle.mem_cells.specs.Log.{IsInOrder, is_from}
 use Rattle.mem_cells.specs.Part.{CoreLog, changes_kept, mark_kept, room_kept, IsSamePart, IsAddedTo, IsTrimmed, StandBehind}
 use Rattle.log_merge.specs.Merge.{parts_changes, IsMergeOf}

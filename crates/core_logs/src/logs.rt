@@ -7,7 +7,7 @@ ghost use Rattle.core_logs.specs.Logs.{AreBlank, AreSameChanges, HasRoom, AreWit
 
 use mem_cells::LogPart;
 use sfs_base::{CoreId, NoMemory, NodeId};
-use sfs_tree::Changes;
+use tree_laws::Changes;
 use std::alloc::Global;
 use std::collections::BTreeSet;
 use std::marker::Model;

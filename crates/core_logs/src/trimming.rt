@@ -1,6 +1,6 @@
 // What is left of the logs once changes are flushed.
 ghost use Rattle.std.specs.Prelude.{◌≡◌, ◌∷◌, [], map};
-ghost use Rattle.sfs_tree.specs.NameRow.{node_number};
+ghost use Rattle.tree_laws.specs.NameRow.{node_number};
 ghost use Rattle.core_logs.specs.Logs.{AreTrimmedOf, ArePartsTrimmed, IsTrimmedOrBlank};
 
 use crate::CoreLogs;

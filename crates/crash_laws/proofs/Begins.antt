@@ -4,13 +4,13 @@ use Rattle.std.specs.Option.{option_map_or}
 use Rattle.std.specs.FinMap.{get, empty}
 use Rattle.sfs_base.proofs.BasicNumbers.{le_itself}
 use Rattle.sfs_dev.specs.Disk.{View}
-use Rattle.sfs_tree.specs.Changes.{bytes_at}
-use Rattle.sfs_tree.specs.Tree.{TreeState, Node, bytes_of}
-use Rattle.flush_core.specs.Closure.{none}
-use Rattle.flush_core.specs.Cut.{cut_of, tree_at_cut}
-use Rattle.flush_core.specs.LawsGrowth.{HasMoreNodes}
-use Rattle.flush_core.proofs.CutNodes.{node_at_cut_is}
-use Rattle.image_tree.specs.Image.{IsReadAsTree}
+use Rattle.tree_laws.specs.Changes.{bytes_at}
+use Rattle.tree_laws.specs.Tree.{TreeState, Node, bytes_of}
+use Rattle.cut_laws.specs.Closure.{none}
+use Rattle.cut_laws.specs.Cut.{cut_of, tree_at_cut}
+use Rattle.cut_laws.specs.LawsGrowth.{HasMoreNodes}
+use Rattle.cut_laws.proofs.CutNodes.{node_at_cut_is}
+use Rattle.image_laws.specs.Image.{IsReadAsTree}
 use Rattle.crash_laws.specs.Laws.{RunsBegin}
 use Rattle.crash_laws.specs.Listed.{AreListed}
 use Rattle.crash_laws.proofs.Shapes.{shape_of_more, read_as}

@@ -1,15 +1,15 @@
 -- An fsync with the device calls of its commit.
 use Rattle.std.proofs.Common.{◌≡◌, ℕ, ◌<◌, ◌≤◌, Bool, List, [], ◌∷◌, ◌++◌, Option, Some, inl, inr, refl, sym, subst, ◌∙◌, arith}
 use Rattle.sfs_dev.specs.Disk.{View}
-use Rattle.sfs_tree.specs.declared.history.Entry.{Entry}
-use Rattle.sfs_tree.specs.declared.reply.Reply.TheVariants as reply
-use Rattle.sfs_tree.specs.Tree.{TreeState}
-use Rattle.flush_core.specs.Closure.{every_entry, Flush, AreFlushed, one_more}
-use Rattle.flush_core.specs.Covers.{IsAcknowledged}
-use Rattle.flush_core.specs.Cut.{Cut, tree_at_cut}
-use Rattle.flush_core.specs.Rules.{IsOneOf}
-use Rattle.flush_core.proofs.Basics.{below_or, in_right, in_either}
-use Rattle.image_tree.specs.Image.{IsReadAsTree}
+use Rattle.tree_laws.specs.declared.history.Entry.{Entry}
+use Rattle.tree_laws.specs.declared.reply.Reply.TheVariants as reply
+use Rattle.tree_laws.specs.Tree.{TreeState}
+use Rattle.cut_laws.specs.Closure.{every_entry, Flush, AreFlushed, one_more}
+use Rattle.cut_laws.specs.Covers.{IsAcknowledged}
+use Rattle.cut_laws.specs.Cut.{Cut, tree_at_cut}
+use Rattle.cut_laws.specs.Rules.{IsOneOf}
+use Rattle.cut_laws.proofs.Basics.{below_or, in_right, in_either}
+use Rattle.image_laws.specs.Image.{IsReadAsTree}
 use Rattle.crash_laws.specs.Laws.{CommitsKeep, FailuresKeep}
 use Rattle.crash_laws.specs.Listed.{MayBeWritten, IsAcknowledgedBy, AreListed}
 use Rattle.crash_laws.specs.SoFar.{IsAtACut, SoFar, Stands, StandsSoFar}

@@ -1,18 +1,18 @@
 -- The end of a run: every image survives, and a read gives what was acknowledged.
 use Rattle.std.proofs.Common.{◌≡◌, ℕ, ◌≤◌, List, [], ◌∷◌, inl, inr, sym, ap, subst, ◌∙◌}
 use Rattle.sfs_dev.specs.Disk.{View}
-use Rattle.sfs_tree.specs.declared.history.Entry.{Entry}
-use Rattle.sfs_tree.specs.declared.reply.Reply.{Reply}
-use Rattle.sfs_tree.specs.declared.reply.Reply.TheVariants as reply
-use Rattle.sfs_tree.specs.History.{IsLegal}
-use Rattle.sfs_tree.specs.Laws.{IsSoundTree}
-use Rattle.sfs_tree.specs.Tree.{TreeState}
-use Rattle.flush_core.specs.Closure.{Flush}
-use Rattle.flush_core.specs.Rules.{IsOneOf}
-use Rattle.flush_core.proofs.Basics.{in_either}
-use Rattle.flush_core.proofs.CoveredRuns.{live_is_node}
-use Rattle.flush_core.proofs.Entries.{stamps_are_once}
-use Rattle.flush_core.proofs.Lists.{lists_keep, histories_are_covered}
+use Rattle.tree_laws.specs.declared.history.Entry.{Entry}
+use Rattle.tree_laws.specs.declared.reply.Reply.{Reply}
+use Rattle.tree_laws.specs.declared.reply.Reply.TheVariants as reply
+use Rattle.tree_laws.specs.History.{IsLegal}
+use Rattle.tree_laws.specs.Laws.{IsSoundTree}
+use Rattle.tree_laws.specs.Tree.{TreeState}
+use Rattle.cut_laws.specs.Closure.{Flush}
+use Rattle.cut_laws.specs.Rules.{IsOneOf}
+use Rattle.cut_laws.proofs.Basics.{in_either}
+use Rattle.cut_laws.proofs.CoveredRuns.{live_is_node}
+use Rattle.cut_laws.proofs.Entries.{stamps_are_once}
+use Rattle.cut_laws.proofs.Lists.{lists_keep, histories_are_covered}
 use Rattle.crash_laws.specs.Laws.{ImagesSurvive, RefusalsRaiseNothing, RunsReadBack}
 use Rattle.crash_laws.specs.Listed.{MayBeWritten, IsListedFsync, AreInOrder, AreListed}
 use Rattle.crash_laws.specs.SoFar.{IsAtACut}

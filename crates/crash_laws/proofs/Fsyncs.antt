@@ -5,21 +5,21 @@ use Rattle.std.proofs.lemmas.Option.{slice_get_within}
 use Rattle.sfs_base.specs.declared.numbers.NodeId.{NodeId}
 use Rattle.sfs_base.proofs.BasicNumbers.{plus_zero, suc_plus, zero_plus}
 use Rattle.sfs_base.proofs.BasicOptions.{some_same}
-use Rattle.sfs_tree.specs.declared.call.Call.{Call}
-use Rattle.sfs_tree.specs.declared.call.Call.TheVariants as call
-use Rattle.sfs_tree.specs.declared.history.Entry.{Entry}
-use Rattle.sfs_tree.specs.declared.reply.Code.TheVariants.{NoEntry}
-use Rattle.sfs_tree.specs.declared.reply.Reply.{Reply}
-use Rattle.sfs_tree.specs.declared.reply.Reply.TheVariants as reply
-use Rattle.sfs_tree.specs.History.{tree_after, tree_after_entry, flushes, IsDue, MayCome, IsLegalFrom, IsLegal}
-use Rattle.sfs_tree.specs.Laws.{IsSoundTree}
-use Rattle.sfs_tree.specs.Tree.{TreeState, is_alive}
-use Rattle.sfs_tree.specs.Verdict.{verdict, or_else, answered}
-use Rattle.flush_core.specs.Closure.{Flush, HasLiveNode}
-use Rattle.flush_core.specs.Covers.{IsAcknowledged}
-use Rattle.flush_core.proofs.Basics.{in_left, in_right, in_either}
-use Rattle.flush_core.proofs.Entries.{entries_may_come, stamps_are_once}
-use Rattle.flush_core.proofs.Prefix.{legal_take}
+use Rattle.tree_laws.specs.declared.call.Call.{Call}
+use Rattle.tree_laws.specs.declared.call.Call.TheVariants as call
+use Rattle.tree_laws.specs.declared.history.Entry.{Entry}
+use Rattle.tree_laws.specs.declared.reply.Code.TheVariants.{NoEntry}
+use Rattle.tree_laws.specs.declared.reply.Reply.{Reply}
+use Rattle.tree_laws.specs.declared.reply.Reply.TheVariants as reply
+use Rattle.tree_laws.specs.History.{tree_after, tree_after_entry, flushes, IsDue, MayCome, IsLegalFrom, IsLegal}
+use Rattle.tree_laws.specs.Laws.{IsSoundTree}
+use Rattle.tree_laws.specs.Tree.{TreeState, is_alive}
+use Rattle.tree_laws.specs.Verdict.{verdict, or_else, answered}
+use Rattle.cut_laws.specs.Closure.{Flush, HasLiveNode}
+use Rattle.cut_laws.specs.Covers.{IsAcknowledged}
+use Rattle.cut_laws.proofs.Basics.{in_left, in_right, in_either}
+use Rattle.cut_laws.proofs.Entries.{entries_may_come, stamps_are_once}
+use Rattle.cut_laws.proofs.Prefix.{legal_take}
 use Rattle.crash_laws.specs.Listed.{IsFsyncOf, MayBeWritten, IsListedFsync}
 
 -- a call that is answered so and is an fsync is one of a live node

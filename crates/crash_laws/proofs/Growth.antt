@@ -2,18 +2,18 @@
 use Rattle.std.proofs.Common.{◌≡◌, ℕ, ◌≤◌, Bool, List, [], ◌∷◌, ◌++◌, length, take, sym, subst, arith}
 use Rattle.std.proofs.Math.Seq.{take-append_seam}
 use Rattle.std.proofs.lemmas.List.{length-append}
-use Rattle.sfs_tree.specs.declared.history.Entry.{Entry}
-use Rattle.sfs_tree.specs.Shape.{shape_of}
-use Rattle.sfs_tree.specs.Tree.{TreeState}
-use Rattle.flush_core.specs.Closure.{every_entry, Flush, AreFlushed}
-use Rattle.flush_core.specs.Covers.{IsAcknowledged}
-use Rattle.flush_core.specs.Cut.{Cut, tree_at_cut}
-use Rattle.flush_core.specs.LawsGrowth.{HasMoreNodes}
-use Rattle.flush_core.specs.Rules.{IsOneOf}
-use Rattle.flush_core.proofs.Lists.{lists_keep}
-use Rattle.flush_core.proofs.RunFacts.{cuts_stay_low}
-use Rattle.flush_core.proofs.WholeHistory.{none_above, flushes_grow, cut_trees_grow}
-use Rattle.image_tree.specs.Image.{IsReadAsTree}
+use Rattle.tree_laws.specs.declared.history.Entry.{Entry}
+use Rattle.tree_laws.specs.Shape.{shape_of}
+use Rattle.tree_laws.specs.Tree.{TreeState}
+use Rattle.cut_laws.specs.Closure.{every_entry, Flush, AreFlushed}
+use Rattle.cut_laws.specs.Covers.{IsAcknowledged}
+use Rattle.cut_laws.specs.Cut.{Cut, tree_at_cut}
+use Rattle.cut_laws.specs.LawsGrowth.{HasMoreNodes}
+use Rattle.cut_laws.specs.Rules.{IsOneOf}
+use Rattle.cut_laws.proofs.Lists.{lists_keep}
+use Rattle.cut_laws.proofs.RunFacts.{cuts_stay_low}
+use Rattle.cut_laws.proofs.WholeHistory.{none_above, flushes_grow, cut_trees_grow}
+use Rattle.image_laws.specs.Image.{IsReadAsTree}
 use Rattle.crash_laws.specs.Listed.{IsListedFsync}
 use Rattle.crash_laws.specs.SoFar.{IsAtACut}
 use Rattle.crash_laws.proofs.Fsyncs.{HasLast, listed_live, listed_within, legal_before}

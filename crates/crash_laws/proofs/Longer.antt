@@ -1,11 +1,11 @@
 -- Listed fsyncs over a history with one more entry.
 use Rattle.std.proofs.Common.{◌≡◌, ◌≢◌, ℕ, ◌≤◌, List, [], ◌∷◌, ◌++◌, length, inl, inr, refl, sym, ap, ◌∙◌, arith}
-use Rattle.sfs_tree.specs.declared.history.Entry.{Entry}
-use Rattle.sfs_tree.specs.Tree.{TreeState}
-use Rattle.flush_core.specs.Closure.{Flush}
-use Rattle.flush_core.specs.Covers.{IsAcknowledged}
-use Rattle.flush_core.specs.Rules.{IsOneOf}
-use Rattle.flush_core.proofs.Basics.{in_left, in_right, in_either}
+use Rattle.tree_laws.specs.declared.history.Entry.{Entry}
+use Rattle.tree_laws.specs.Tree.{TreeState}
+use Rattle.cut_laws.specs.Closure.{Flush}
+use Rattle.cut_laws.specs.Covers.{IsAcknowledged}
+use Rattle.cut_laws.specs.Rules.{IsOneOf}
+use Rattle.cut_laws.proofs.Basics.{in_left, in_right, in_either}
 use Rattle.crash_laws.specs.Listed.{IsFsyncOf, MayBeWritten, IsListedFsync, IsAcknowledgedBy, AreInOrder, StampsDiffer, AreListed}
 use Rattle.crash_laws.proofs.Fsyncs.{HasLast, listed_within, acknowledged_listed, listed_still, listed_last, acknowledged_still, acknowledged_in, own_flush, legal_before, last_may_come}
 

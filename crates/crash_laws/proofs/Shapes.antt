@@ -3,14 +3,14 @@ use Rattle.std.proofs.Common.{◌≡◌, ℕ, List, Option, Some, None, IsSome, 
 use Rattle.std.specs.Option.{option_and_then}
 use Rattle.std.specs.FinMap.{get}
 use Rattle.sfs_base.proofs.BasicOptions.{some_same}
-use Rattle.sfs_tree.specs.Shape.{shape_of}
-use Rattle.sfs_tree.specs.Sound.{IsSound}
-use Rattle.sfs_tree.specs.Tree.{TreeState, row_of}
-use Rattle.sfs_tree.proofs.KeepsNodes.{directory_node}
-use Rattle.flush_core.specs.LawsGrowth.{HasMoreNodes}
-use Rattle.image_tree.specs.Image.{IsReadAsTree}
-use Rattle.image_tree.specs.Renamed.{Numbering, IsMet, root, named, IsRenamed}
-use Rattle.image_tree.proofs.Shapes.{renamed_trees_have_one_shape}
+use Rattle.tree_laws.specs.Shape.{shape_of}
+use Rattle.tree_laws.specs.Sound.{IsSound}
+use Rattle.tree_laws.specs.Tree.{TreeState, row_of}
+use Rattle.tree_laws.proofs.KeepsNodes.{directory_node}
+use Rattle.cut_laws.specs.LawsGrowth.{HasMoreNodes}
+use Rattle.image_laws.specs.Image.{IsReadAsTree}
+use Rattle.image_laws.specs.Renamed.{Numbering, IsMet, root, named, IsRenamed}
+use Rattle.image_laws.proofs.Shapes.{renamed_trees_have_one_shape}
 
 -- the numbering that leaves each node its number
 abbrev itself : Numbering

@@ -1,16 +1,16 @@
 -- A list of listed fsyncs begins with those that were acknowledged by a moment.
 use Rattle.std.proofs.Common.{◌≡◌, ℕ, ◌<◌, ◌≤◌, ◌⊎◌, true, false, List, [], ◌∷◌, ◌++◌, Option, Some, None, inl, inr, refl, sym, ap, subst, ◌∙◌, arith}
 use Rattle.sfs_base.proofs.BasicOptions.{some_same, none_some}
-use Rattle.sfs_tree.specs.declared.history.Entry.{Entry}
-use Rattle.sfs_tree.specs.declared.reply.Reply.{Reply}
-use Rattle.sfs_tree.specs.declared.reply.Reply.TheVariants as reply
-use Rattle.sfs_tree.specs.History.{IsLegal, is_ok_reply}
-use Rattle.sfs_tree.specs.Tree.{TreeState}
-use Rattle.flush_core.specs.Closure.{Flush}
-use Rattle.flush_core.specs.Covers.{IsAcknowledged}
-use Rattle.flush_core.specs.Rules.{IsOneOf}
-use Rattle.flush_core.proofs.Basics.{no_true, below_or, in_left, in_right, in_either}
-use Rattle.flush_core.proofs.Entries.{stamps_are_once}
+use Rattle.tree_laws.specs.declared.history.Entry.{Entry}
+use Rattle.tree_laws.specs.declared.reply.Reply.{Reply}
+use Rattle.tree_laws.specs.declared.reply.Reply.TheVariants as reply
+use Rattle.tree_laws.specs.History.{IsLegal, is_ok_reply}
+use Rattle.tree_laws.specs.Tree.{TreeState}
+use Rattle.cut_laws.specs.Closure.{Flush}
+use Rattle.cut_laws.specs.Covers.{IsAcknowledged}
+use Rattle.cut_laws.specs.Rules.{IsOneOf}
+use Rattle.cut_laws.proofs.Basics.{no_true, below_or, in_left, in_right, in_either}
+use Rattle.cut_laws.proofs.Entries.{stamps_are_once}
 use Rattle.crash_laws.specs.Listed.{IsListedFsync, IsAcknowledgedBy, AreInOrder, AreListed}
 use Rattle.crash_laws.specs.Survives.{Ascend, RaisesInOrder}
 use Rattle.crash_laws.proofs.Fsyncs.{acknowledged_once}

@@ -3,13 +3,13 @@ use Rattle.std.proofs.Common.{◌≡◌, ℕ, ◌≤◌, Bool, List, [], ◌∷�
 use Rattle.sfs_base.proofs.BasicNumbers.{le_itself}
 use Rattle.sfs_base.proofs.BasicOptions.{none_some}
 use Rattle.sfs_dev.specs.Disk.{View}
-use Rattle.sfs_tree.specs.declared.history.Entry.{Entry}
-use Rattle.sfs_tree.specs.Tree.{TreeState}
-use Rattle.flush_core.specs.Closure.{Flush}
-use Rattle.flush_core.specs.Covers.{IsAcknowledged}
-use Rattle.flush_core.specs.Cut.{Cut, tree_at_cut}
-use Rattle.flush_core.proofs.Basics.{below_or}
-use Rattle.image_tree.specs.Image.{IsReadAsTree}
+use Rattle.tree_laws.specs.declared.history.Entry.{Entry}
+use Rattle.tree_laws.specs.Tree.{TreeState}
+use Rattle.cut_laws.specs.Closure.{Flush}
+use Rattle.cut_laws.specs.Covers.{IsAcknowledged}
+use Rattle.cut_laws.specs.Cut.{Cut, tree_at_cut}
+use Rattle.cut_laws.proofs.Basics.{below_or}
+use Rattle.image_laws.specs.Image.{IsReadAsTree}
 use Rattle.crash_laws.specs.Laws.{CallsKeep, StoppedKeep}
 use Rattle.crash_laws.specs.Listed.{AreListed}
 use Rattle.crash_laws.specs.SoFar.{IsAtACut, SoFar, HoldsTree, Stands, StandsSoFar}

@@ -2,7 +2,7 @@
 use Rattle.std.proofs.Common.{◌≡◌, ℕ, ◌-◌, ◌^◌, ◌<◌, ◌≤◌, List, inl, refl, sym, subst, ◌∙◌, arith}
 use Rattle.sfs_base.proofs.BasicNumbers.{le_itself}
 use Rattle.sfs_dev.specs.Disk.{View}
-use Rattle.image_tree.specs.Image.{IsReadAsTree}
+use Rattle.image_laws.specs.Image.{IsReadAsTree}
 use Rattle.crash_laws.specs.Laws.{DisksStay, PastIsKept, ReadsWriteNothing, NothingIsACommit}
 use Rattle.crash_laws.proofs.Numbers.{less_or_same}
 use Rattle.crash_laws.proofs.Shapes.{read_as}

@@ -3,15 +3,15 @@ use Rattle.std.specs.Prelude.{◌≡◌, ◌⊎◌, ℕ, Bool, List, [], ◌∷�
 use Rattle.std.specs.FinMap.{get, empty}
 use Rattle.sfs_dev.specs.Disk.{View}
 use Rattle.sfs_dev.specs.Run.{CountsOn, Advances, Unwritten}
-use Rattle.sfs_tree.specs.declared.history.Entry.{Entry}
-use Rattle.sfs_tree.specs.declared.reply.Reply.TheVariants as reply
-use Rattle.sfs_tree.specs.History.{IsLegal}
-use Rattle.sfs_tree.specs.Laws.{IsSoundTree}
-use Rattle.sfs_tree.specs.Shape.{shape_of}
-use Rattle.sfs_tree.specs.Tree.{TreeState}
-use Rattle.flush_core.specs.Closure.{Flush}
-use Rattle.flush_core.specs.Cut.{Cut, tree_at_cut}
-use Rattle.flush_core.specs.Rules.{IsOneOf}
+use Rattle.tree_laws.specs.declared.history.Entry.{Entry}
+use Rattle.tree_laws.specs.declared.reply.Reply.TheVariants as reply
+use Rattle.tree_laws.specs.History.{IsLegal}
+use Rattle.tree_laws.specs.Laws.{IsSoundTree}
+use Rattle.tree_laws.specs.Shape.{shape_of}
+use Rattle.tree_laws.specs.Tree.{TreeState}
+use Rattle.cut_laws.specs.Closure.{Flush}
+use Rattle.cut_laws.specs.Cut.{Cut, tree_at_cut}
+use Rattle.cut_laws.specs.Rules.{IsOneOf}
 use Rattle.crash_laws.specs.Listed.{IsFsyncOf}
 use Rattle.crash_laws.specs.SoFar.{SoFar, Stands, StandsSoFar, HoldsTree}
 use Rattle.crash_laws.specs.Survives.{RaisesInOrder, SurvivesAll, BeginsNoCommit, HasFailure, ReadsBack}

@@ -1,13 +1,13 @@
 -- Lists of fsyncs of a history that may have raised the cut of an image.
 use Rattle.std.specs.Prelude.{◌≡◌, ◌≢◌, ℕ, ◌≤◌, List, [], ◌∷◌}
 use Rattle.sfs_base.specs.declared.numbers.NodeId.{NodeId}
-use Rattle.sfs_tree.specs.declared.call.Call.TheVariants as call
-use Rattle.sfs_tree.specs.declared.history.Entry.{Entry}
-use Rattle.sfs_tree.specs.declared.reply.Reply.{Reply}
-use Rattle.sfs_tree.specs.declared.reply.Reply.TheVariants as reply
-use Rattle.flush_core.specs.Rules.{IsOneOf}
-use Rattle.flush_core.specs.Closure.{Flush}
-use Rattle.flush_core.specs.Covers.{IsAcknowledged}
+use Rattle.tree_laws.specs.declared.call.Call.TheVariants as call
+use Rattle.tree_laws.specs.declared.history.Entry.{Entry}
+use Rattle.tree_laws.specs.declared.reply.Reply.{Reply}
+use Rattle.tree_laws.specs.declared.reply.Reply.TheVariants as reply
+use Rattle.cut_laws.specs.Rules.{IsOneOf}
+use Rattle.cut_laws.specs.Closure.{Flush}
+use Rattle.cut_laws.specs.Covers.{IsAcknowledged}
 
 -- An entry is an fsync of this node, at its stamp.
 pub record IsFsyncOf (entry : Entry) (flush : Flush) : Type 0 where

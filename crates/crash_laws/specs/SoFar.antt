@@ -2,13 +2,13 @@
 use Rattle.std.specs.Prelude.{ℕ, ◌≤◌, Bool, List}
 use Rattle.sfs_dev.specs.Disk.{View, images}
 use Rattle.sfs_dev.specs.Steps.{IfTold}
-use Rattle.sfs_tree.specs.declared.history.Entry.{Entry}
-use Rattle.sfs_tree.specs.Tree.{TreeState}
-use Rattle.flush_core.specs.Closure.{every_entry, Flush, AreFlushed}
-use Rattle.flush_core.specs.Covers.{IsAcknowledged}
-use Rattle.flush_core.specs.Cut.{Cut, tree_at_cut}
-use Rattle.flush_core.specs.Rules.{IsOneOf}
-use Rattle.image_tree.specs.Image.{IsReadAsTree}
+use Rattle.tree_laws.specs.declared.history.Entry.{Entry}
+use Rattle.tree_laws.specs.Tree.{TreeState}
+use Rattle.cut_laws.specs.Closure.{every_entry, Flush, AreFlushed}
+use Rattle.cut_laws.specs.Covers.{IsAcknowledged}
+use Rattle.cut_laws.specs.Cut.{Cut, tree_at_cut}
+use Rattle.cut_laws.specs.Rules.{IsOneOf}
+use Rattle.image_laws.specs.Image.{IsReadAsTree}
 use Rattle.crash_laws.specs.Listed.{AreListed, IsAcknowledgedBy}
 
 -- An image that a crash at a moment may leave is read as the tree at a cut that listed fsyncs of the history have raised.

@@ -3,11 +3,11 @@ use Rattle.std.specs.Prelude.{◌≡◌, ◌⊎◌, ℕ, ◌<◌, ◌≤◌, Boo
 use Rattle.sfs_dev.specs.Disk.{View, images}
 use Rattle.sfs_dev.specs.Run.{EachMoment}
 use Rattle.sfs_dev.specs.Steps.{IfTold}
-use Rattle.sfs_tree.specs.declared.history.Entry.{Entry}
-use Rattle.sfs_tree.specs.Tree.{TreeState}
-use Rattle.flush_core.specs.Closure.{every_entry, Flush, IsRaised, AreInodesAfter}
-use Rattle.flush_core.specs.Cut.{Cut}
-use Rattle.image_tree.specs.Image.{IsReadAsTree}
+use Rattle.tree_laws.specs.declared.history.Entry.{Entry}
+use Rattle.tree_laws.specs.Tree.{TreeState}
+use Rattle.cut_laws.specs.Closure.{every_entry, Flush, IsRaised, AreInodesAfter}
+use Rattle.cut_laws.specs.Cut.{Cut}
+use Rattle.image_laws.specs.Image.{IsReadAsTree}
 use Rattle.crash_laws.specs.Listed.{IsFsyncOf}
 use Rattle.crash_laws.specs.SoFar.{HoldsTree}
 

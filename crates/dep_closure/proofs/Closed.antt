@@ -10,9 +10,9 @@ use borrow.Author.Tests.{eqb-true}
 use Rattle.sfs_base.specs.Listed.{is_listed}
 use Rattle.sfs_base.proofs.BasicNumbers.{same_number}
 use Rattle.sfs_base.proofs.BasicTruth.{or_true}
-use Rattle.flush_core.specs.Rules.{IsOneOf}
-use Rattle.flush_core.proofs.Basics.{in_left, in_right, in_either}
-use Rattle.flush_ties.specs.Look.{Look, Gathers, itself, other_side, ended, ancestor, birth_place}
+use Rattle.cut_laws.specs.Rules.{IsOneOf}
+use Rattle.cut_laws.proofs.Basics.{in_left, in_right, in_either}
+use Rattle.look_laws.specs.Look.{Look, Gathers, itself, other_side, ended, ancestor, birth_place}
 use Rattle.dep_closure.specs.declared.members.Found.{Found}
 use Rattle.dep_closure.specs.Brought.{ChangeBrings, MemberBrings, GrowsBy}
 

@@ -10,14 +10,14 @@ use Rattle.std.proofs.Math.Seq.{drop-cons}
 use Rattle.sfs_base.specs.declared.numbers.NodeId.{NodeId}
 use Rattle.sfs_base.proofs.BasicNumbers.{same_number, suc_is_one_more}
 use Rattle.sfs_base.proofs.BasicOptions.{some_same, none_some}
-use Rattle.sfs_tree.specs.declared.changes.Change.{Change}
-use Rattle.sfs_tree.specs.Logged.{is_addition, is_end_of, is_logged_in, adds_any, adds_name}
-use Rattle.sfs_tree.specs.Tree.{is_directory_kind}
-use Rattle.sfs_tree.specs.NameRow.{node_number, number_of}
+use Rattle.tree_laws.specs.declared.changes.Change.{Change}
+use Rattle.tree_laws.specs.Logged.{is_addition, is_end_of, is_logged_in, adds_any, adds_name}
+use Rattle.tree_laws.specs.Tree.{is_directory_kind}
+use Rattle.tree_laws.specs.NameRow.{node_number, number_of}
 use Rattle.mem_cells.specs.Log.{IsInOrder, log_place}
-use Rattle.flush_core.specs.Rules.{IsOneOf}
-use Rattle.flush_core.specs.Engine.{OfSome}
-use Rattle.flush_core.proofs.Listed.{from_map, to_map}
+use Rattle.cut_laws.specs.Rules.{IsOneOf}
+use Rattle.cut_laws.specs.Elements.{OfSome}
+use Rattle.cut_laws.proofs.Listed.{from_map, to_map}
 use Rattle.dep_closure.specs.Brought.{ChangeBrings, LoggedBrings, AreOfOneDirectory}
 use Rattle.dep_closure.specs.Gathered.{noted_as}
 use Rattle.dep_closure.specs.Spans.{is_of_stamp}

@@ -2,17 +2,17 @@
 use Rattle.std.proofs.Common.{◌≡◌, ℕ, ◌≤◌, Bool, true, List, sym, ap, ◌∙◌, subst, arith}
 use Rattle.sfs_base.specs.declared.numbers.NodeId.{NodeId}
 use Rattle.sfs_base.specs.declared.numbers.Stamp.{Stamp}
-use Rattle.sfs_tree.specs.declared.history.Entry.{Entry}
-use Rattle.sfs_tree.specs.Tree.{TreeState}
-use Rattle.sfs_tree.specs.Changes.{RowChange}
-use Rattle.sfs_tree.specs.History.{IsLegal}
-use Rattle.sfs_tree.specs.Laws.{IsSoundTree}
-use Rattle.flush_core.specs.Cut.{Cut, cut_of}
-use Rattle.flush_core.specs.Closure.{Counts}
-use Rattle.flush_core.specs.Rules.{IsChange}
-use Rattle.flush_core.proofs.Listed.{to_map}
-use Rattle.flush_ties.specs.Look.{Noted}
-use Rattle.flush_ties.specs.Fit.{IsNoted}
+use Rattle.tree_laws.specs.declared.history.Entry.{Entry}
+use Rattle.tree_laws.specs.Tree.{TreeState}
+use Rattle.tree_laws.specs.Changes.{RowChange}
+use Rattle.tree_laws.specs.History.{IsLegal}
+use Rattle.tree_laws.specs.Laws.{IsSoundTree}
+use Rattle.cut_laws.specs.Cut.{Cut, cut_of}
+use Rattle.cut_laws.specs.Closure.{Counts}
+use Rattle.cut_laws.specs.Rules.{IsChange}
+use Rattle.cut_laws.proofs.Listed.{to_map}
+use Rattle.look_laws.specs.Look.{Noted}
+use Rattle.look_laws.specs.Fit.{IsNoted}
 use Rattle.dep_closure.specs.declared.gathered.Gathered.{Gathered}
 use Rattle.dep_closure.specs.Gathered.{look_of, noted_as, noted_in}
 use Rattle.dep_closure.specs.History.{HasUnflushed}

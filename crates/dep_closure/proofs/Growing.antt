@@ -11,10 +11,10 @@ use Rattle.std.specs.declared.cmp.Ordering.TheVariants.{Less, Equal, Greater}
 use Rattle.std.specs.List.{list_any}
 use Rattle.std.specs.BTreeMap.{is_at}
 use Rattle.std.specs.BTreeSet.{insert_key, contains, IsOrdered, BTreeSet}
-use Rattle.flush_core.specs.Rules.{IsOneOf}
-use Rattle.flush_core.specs.Engine.{OfSome}
-use Rattle.flush_core.proofs.Listed.{one_more, still_one, next_one}
-use Rattle.flush_core.proofs.Basics.{in_left, in_right, in_either}
+use Rattle.cut_laws.specs.Rules.{IsOneOf}
+use Rattle.cut_laws.specs.Elements.{OfSome}
+use Rattle.cut_laws.proofs.Listed.{one_more, still_one, next_one}
+use Rattle.cut_laws.proofs.Basics.{in_left, in_right, in_either}
 use Rattle.dep_closure.specs.declared.members.Found.{Found}
 use Rattle.dep_closure.specs.Brought.{AddsTo, GrowsBy}
 

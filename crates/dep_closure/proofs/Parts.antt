@@ -11,7 +11,7 @@ use Rattle.std.proofs.lemmas.List.{take_all, take_more, get_or_default, get_or-t
 use Rattle.sfs_base.proofs.BasicNumbers.{not_same}
 use Rattle.sfs_base.proofs.BasicTruth.{not_false, not_true}
 use Rattle.sfs_base.proofs.BasicOptions.{some_same, none_some}
-use Rattle.sfs_tree.specs.declared.changes.Change.{Change}
+use Rattle.tree_laws.specs.declared.changes.Change.{Change}
 use Rattle.mem_cells.specs.Log.{IsInOrder, is_from, log_place}
 use Rattle.mem_cells.proofs.Order.{in_order-push, stamps_rise}
 use Rattle.dep_closure.specs.Spans.{is_of_stamp}

@@ -10,32 +10,32 @@ use Rattle.sfs_base.specs.declared.numbers.NodeId.{NodeId}
 use Rattle.sfs_base.proofs.BasicNumbers.{same_number, not_same, suc_plus, zero_plus, plus_zero}
 use Rattle.sfs_base.proofs.BasicTruth.{and_false, true_not_false}
 use Rattle.sfs_base.proofs.BasicOptions.{some_not_none}
-use Rattle.sfs_tree.specs.declared.changes.Change.{Change}
-use Rattle.sfs_tree.specs.declared.history.Entry.{Entry}
-use Rattle.sfs_tree.specs.Tree.{TreeState, is_directory, is_alive, is_directory_kind, kind_of, row_of, walk_up}
-use Rattle.sfs_tree.specs.Effect.{Effect, Stays, Adds, Removes, Moves, Edits}
-use Rattle.sfs_tree.specs.Fits.{Fits}
-use Rattle.sfs_tree.specs.Sound.{Above, IsSound}
-use Rattle.sfs_tree.specs.Changes.{RowChange, changes_by}
-use Rattle.sfs_tree.specs.Logged.{is_addition, is_end_of, is_logged_in, logged_by, logged_replaced, erased, erased_entry, above_due}
-use Rattle.sfs_tree.specs.NameRow.{number_of}
-use Rattle.sfs_tree.specs.Verdict.{verdict}
-use Rattle.sfs_tree.specs.History.{tree_after, tree_after_entry, IsLegal, IsLegalFrom}
-use Rattle.sfs_tree.specs.Laws.{IsSoundTree}
-use Rattle.sfs_tree.proofs.KeepsSound.{way_up}
-use Rattle.sfs_tree.proofs.Logs.{logs_erase}
-use Rattle.sfs_tree.proofs.LoggedWays.{logs_tell_ways}
-use Rattle.sfs_tree.proofs.Readings.{directory_by_kind}
-use Rattle.sfs_tree.proofs.SoundTrees.{calls_keep_sound}
-use Rattle.sfs_tree.proofs.Walks.{walk_is}
-use Rattle.flush_core.specs.Closure.{Counts}
-use Rattle.flush_core.specs.Rules.{IsOneOf, IsChange, IsMove}
-use Rattle.flush_core.proofs.Along.{tree_at, core_at, effect_at, makes_at, tree_at-after, sound_at, fits_at, change_in, change_of}
-use Rattle.flush_core.proofs.Basics.{in_either, filter_all, filter_none}
-use Rattle.flush_core.proofs.Listed.{from_map, to_map}
-use Rattle.flush_core.proofs.RunFacts.{in_filter}
-use Rattle.flush_ties.specs.Fit.{IsTrue}
-use Rattle.flush_ties.proofs.Fitting.{looks_fit}
+use Rattle.tree_laws.specs.declared.changes.Change.{Change}
+use Rattle.tree_laws.specs.declared.history.Entry.{Entry}
+use Rattle.tree_laws.specs.Tree.{TreeState, is_directory, is_alive, is_directory_kind, kind_of, row_of, walk_up}
+use Rattle.tree_laws.specs.Effect.{Effect, Stays, Adds, Removes, Moves, Edits}
+use Rattle.tree_laws.specs.Fits.{Fits}
+use Rattle.tree_laws.specs.Sound.{Above, IsSound}
+use Rattle.tree_laws.specs.Changes.{RowChange, changes_by}
+use Rattle.tree_laws.specs.Logged.{is_addition, is_end_of, is_logged_in, logged_by, logged_replaced, erased, erased_entry, above_due}
+use Rattle.tree_laws.specs.NameRow.{number_of}
+use Rattle.tree_laws.specs.Verdict.{verdict}
+use Rattle.tree_laws.specs.History.{tree_after, tree_after_entry, IsLegal, IsLegalFrom}
+use Rattle.tree_laws.specs.Laws.{IsSoundTree}
+use Rattle.tree_laws.proofs.KeepsSound.{way_up}
+use Rattle.tree_laws.proofs.Logs.{logs_erase}
+use Rattle.tree_laws.proofs.LoggedWays.{logs_tell_ways}
+use Rattle.tree_laws.proofs.Readings.{directory_by_kind}
+use Rattle.tree_laws.proofs.SoundTrees.{calls_keep_sound}
+use Rattle.tree_laws.proofs.Walks.{walk_is}
+use Rattle.cut_laws.specs.Closure.{Counts}
+use Rattle.cut_laws.specs.Rules.{IsOneOf, IsChange, IsMove}
+use Rattle.cut_laws.proofs.Along.{tree_at, core_at, effect_at, makes_at, tree_at-after, sound_at, fits_at, change_in, change_of}
+use Rattle.cut_laws.proofs.Basics.{in_either, filter_all, filter_none}
+use Rattle.cut_laws.proofs.Listed.{from_map, to_map}
+use Rattle.cut_laws.proofs.RunFacts.{in_filter}
+use Rattle.look_laws.specs.Fit.{IsTrue}
+use Rattle.look_laws.proofs.Fitting.{looks_fit}
 use Rattle.dep_closure.specs.declared.gathered.DirectoryChanges.{DirectoryChanges}
 use Rattle.dep_closure.specs.Gathered.{noted_as, noted_in}
 use Rattle.dep_closure.specs.History.{logged_of, IsLogOf}

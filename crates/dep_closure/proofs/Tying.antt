@@ -13,14 +13,14 @@ use Rattle.sfs_base.specs.declared.numbers.Stamp.{Stamp}
 use Rattle.sfs_base.specs.Listed.{is_listed}
 use Rattle.sfs_base.proofs.BasicTruth.{and_first, and_second, and_false}
 use Rattle.sfs_base.proofs.BasicOptions.{some_same, none_some}
-use Rattle.sfs_tree.specs.declared.changes.Change.{Change}
-use Rattle.sfs_tree.specs.Logged.{erased}
-use Rattle.sfs_tree.specs.NameRow.{node_number, number_of}
-use Rattle.flush_core.specs.Rules.{IsOneOf}
-use Rattle.flush_core.specs.Engine.{OfSome}
-use Rattle.flush_core.proofs.Listed.{from_map, to_map}
-use Rattle.flush_ties.specs.Look.{Noted, Born, Look, InSight, SeesNaming}
-use Rattle.flush_core.proofs.RunFacts.{found_in, in_filter}
+use Rattle.tree_laws.specs.declared.changes.Change.{Change}
+use Rattle.tree_laws.specs.Logged.{erased}
+use Rattle.tree_laws.specs.NameRow.{node_number, number_of}
+use Rattle.cut_laws.specs.Rules.{IsOneOf}
+use Rattle.cut_laws.specs.Elements.{OfSome}
+use Rattle.cut_laws.proofs.Listed.{from_map, to_map}
+use Rattle.look_laws.specs.Look.{Noted, Born, Look, InSight, SeesNaming}
+use Rattle.cut_laws.proofs.RunFacts.{found_in, in_filter}
 use Rattle.dep_closure.specs.declared.gathered.DirectoryChanges.{DirectoryChanges}
 use Rattle.mem_cells.specs.Log.{is_from}
 use Rattle.dep_closure.specs.declared.gathered.NodeCut.{NodeCut}

@@ -5,10 +5,10 @@ use Rattle.std.specs.Ordering.{nat_cmp}
 use Rattle.std.specs.BTreeSet.{BTreeSet, IsOrdered, contains}
 use Rattle.sfs_base.specs.declared.numbers.NodeId.{NodeId}
 use Rattle.sfs_base.specs.Listed.{is_listed}
-use Rattle.sfs_tree.specs.declared.changes.Change.{Change}
-use Rattle.sfs_tree.specs.NameRow.{node_number, number_of}
-use Rattle.flush_core.specs.Rules.{IsOneOf}
-use Rattle.flush_ties.specs.Look.{Noted, Look, InSight, SeesNaming}
+use Rattle.tree_laws.specs.declared.changes.Change.{Change}
+use Rattle.tree_laws.specs.NameRow.{node_number, number_of}
+use Rattle.cut_laws.specs.Rules.{IsOneOf}
+use Rattle.look_laws.specs.Look.{Noted, Look, InSight, SeesNaming}
 use Rattle.dep_closure.specs.declared.gathered.Gathered.{Gathered}
 use Rattle.dep_closure.specs.declared.members.Found.{Found}
 use Rattle.dep_closure.specs.Gathered.{birth_node}

@@ -6,12 +6,12 @@ use Rattle.std.specs.List.Sorted.{IsStrictlyIncreasing}
 use Rattle.sfs_base.specs.declared.numbers.NodeId.{NodeId}
 use Rattle.sfs_base.specs.declared.numbers.Stamp.{Stamp}
 use Rattle.sfs_base.specs.Listed.{is_listed}
-use Rattle.sfs_tree.specs.declared.changes.Change.{Change}
-use Rattle.sfs_tree.specs.Logged.{erased}
-use Rattle.sfs_tree.specs.NameRow.{node_number}
+use Rattle.tree_laws.specs.declared.changes.Change.{Change}
+use Rattle.tree_laws.specs.Logged.{erased}
+use Rattle.tree_laws.specs.NameRow.{node_number}
 use Rattle.mem_cells.specs.Log.{IsInOrder}
-use Rattle.flush_core.specs.Rules.{IsOneOf}
-use Rattle.flush_ties.specs.Look.{Noted, Born, Look}
+use Rattle.cut_laws.specs.Rules.{IsOneOf}
+use Rattle.look_laws.specs.Look.{Noted, Born, Look}
 use Rattle.dep_closure.specs.declared.gathered.DirectoryChanges.{DirectoryChanges}
 use Rattle.dep_closure.specs.declared.gathered.NodeCut.{NodeCut}
 use Rattle.dep_closure.specs.declared.gathered.NodeBirth.{NodeBirth}

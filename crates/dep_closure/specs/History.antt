@@ -1,16 +1,16 @@
 -- What the entries of a history log.
 use Rattle.std.specs.Prelude.{◌≡◌, ◌↔◌, ℕ, ◌≤◌, Bool, true, List, [], ◌∷◌, ◌++◌, map, filter}
 use Rattle.sfs_base.specs.Listed.{is_listed}
-use Rattle.sfs_tree.specs.declared.changes.Change.{Change}
-use Rattle.sfs_tree.specs.declared.history.Entry.{Entry}
-use Rattle.sfs_tree.specs.Tree.{TreeState}
-use Rattle.sfs_tree.specs.Verdict.{verdict}
-use Rattle.sfs_tree.specs.History.{tree_after_entry}
-use Rattle.sfs_tree.specs.Logged.{logged_by, is_logged_in}
-use Rattle.sfs_tree.specs.NameRow.{node_number}
-use Rattle.flush_core.specs.Cut.{Cut, cut_of}
-use Rattle.flush_core.specs.Rules.{IsOneOf, births_of}
-use Rattle.flush_core.specs.Closure.{Counts}
+use Rattle.tree_laws.specs.declared.changes.Change.{Change}
+use Rattle.tree_laws.specs.declared.history.Entry.{Entry}
+use Rattle.tree_laws.specs.Tree.{TreeState}
+use Rattle.tree_laws.specs.Verdict.{verdict}
+use Rattle.tree_laws.specs.History.{tree_after_entry}
+use Rattle.tree_laws.specs.Logged.{logged_by, is_logged_in}
+use Rattle.tree_laws.specs.NameRow.{node_number}
+use Rattle.cut_laws.specs.Cut.{Cut, cut_of}
+use Rattle.cut_laws.specs.Rules.{IsOneOf, births_of}
+use Rattle.cut_laws.specs.Closure.{Counts}
 use Rattle.dep_closure.specs.declared.gathered.DirectoryChanges.{DirectoryChanges}
 use Rattle.dep_closure.specs.declared.gathered.Gathered.{Gathered}
 use Rattle.dep_closure.specs.Gathered.{cut_in, born_as}

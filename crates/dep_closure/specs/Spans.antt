@@ -1,8 +1,8 @@
 -- Some of a directory's changes, by their stamps.
 use Rattle.std.specs.Prelude.{ℕ, ◌==◌, ◌&&◌, nat_le, nat_lt, Bool, List, filter, Option, Some, None, if◌then◌else◌}
 use Rattle.sfs_base.specs.declared.numbers.NodeId.{NodeId}
-use Rattle.sfs_tree.specs.declared.changes.Change.{Change}
-use Rattle.sfs_tree.specs.Logged.{is_end_of}
+use Rattle.tree_laws.specs.declared.changes.Change.{Change}
+use Rattle.tree_laws.specs.Logged.{is_end_of}
 
 -- whether a change has this stamp
 abbrev pub is_of_stamp : ℕ → Change → Bool

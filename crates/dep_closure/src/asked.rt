@@ -1,14 +1,14 @@
 // What was gathered of one node.
 ghost use Rattle.std.specs.Prelude.{◌≡◌, map};
 ghost use Rattle.sfs_base.specs.Listed.{is_listed};
-ghost use Rattle.sfs_tree.specs.NameRow.{node_number};
+ghost use Rattle.tree_laws.specs.NameRow.{node_number};
 ghost use Rattle.dep_closure.specs.Gathered.{IsOrderly, cut_in, span_in};
 
 use crate::gathered::Gathered;
 use crate::lookup::{cut_of, find_node, has_node};
 use crate::spans::span;
 use sfs_base::{NodeId, Stamp};
-use sfs_tree::Change;
+use tree_laws::Change;
 
 impl Gathered {
     /// The stamp in a node's cut, by a binary search.

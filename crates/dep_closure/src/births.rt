@@ -6,10 +6,10 @@ ghost use Rattle.std.specs.BTreeSet.{contains};
 ghost use Rattle.std.specs.List.Sorted.{IsStrictlyIncreasing};
 ghost use Rattle.sfs_base.specs.declared.numbers.NodeId.{NodeId};
 ghost use Rattle.sfs_base.specs.declared.numbers.Stamp.{Stamp};
-ghost use Rattle.sfs_tree.specs.NameRow.{node_number};
+ghost use Rattle.tree_laws.specs.NameRow.{node_number};
 ghost use Rattle.mem_cells.specs.Log.{IsInOrder};
-ghost use Rattle.flush_core.specs.Engine.{OfSome};
-ghost use Rattle.flush_ties.specs.Look.{SeesNaming};
+ghost use Rattle.cut_laws.specs.Elements.{OfSome};
+ghost use Rattle.look_laws.specs.Look.{SeesNaming};
 ghost use Rattle.dep_closure.specs.Brought.{AddsTo, birthplace_due};
 ghost use Rattle.dep_closure.specs.Gathered.{IsOrderly, look_of, lifted_cut, IsNamedByLog};
 
@@ -17,7 +17,7 @@ use crate::gathered::{DirectoryChanges, Gathered};
 use crate::lookup::{find_node, has_node};
 use crate::spans::from_stamp;
 use sfs_base::{NoMemory, NodeId, Stamp};
-use sfs_tree::Change;
+use tree_laws::Change;
 use std::alloc::Global;
 use std::collections::BTreeSet;
 

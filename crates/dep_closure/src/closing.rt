@@ -2,8 +2,8 @@
 ghost use Rattle.std.specs.Prelude.{◌≡◌, ◌↔◌, ℕ, true, map, IfOk};
 ghost use Rattle.std.specs.List.Sorted.{IsStrictlyIncreasing};
 ghost use Rattle.sfs_base.specs.Listed.{is_listed};
-ghost use Rattle.sfs_tree.specs.NameRow.{node_number};
-ghost use Rattle.flush_ties.specs.Look.{Gathers};
+ghost use Rattle.tree_laws.specs.NameRow.{node_number};
+ghost use Rattle.look_laws.specs.Look.{Gathers};
 ghost use Rattle.dep_closure.specs.Gathered.{IsOrderly, look_of};
 
 use crate::births::named_nodes;

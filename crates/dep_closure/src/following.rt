@@ -4,8 +4,8 @@ ghost use Rattle.std.specs.Ordering.{nat_cmp};
 ghost use Rattle.std.specs.BTreeSet.{contains};
 ghost use Rattle.sfs_base.specs.declared.numbers.NodeId.{NodeId};
 ghost use Rattle.mem_cells.specs.Log.{IsInOrder};
-ghost use Rattle.flush_core.specs.Engine.{OfSome};
-ghost use Rattle.flush_ties.specs.Look.{SeesNaming};
+ghost use Rattle.cut_laws.specs.Elements.{OfSome};
+ghost use Rattle.look_laws.specs.Look.{SeesNaming};
 ghost use Rattle.dep_closure.specs.Brought.{GrowsBy, ChangeBrings, LoggedBrings, AreOfOneDirectory, SpanBrings, MemberBrings};
 ghost use Rattle.dep_closure.specs.Gathered.{IsOrderly, look_of, noted_as};
 
@@ -15,7 +15,7 @@ use crate::lookup::{cut_of, find_node};
 use crate::members::Found;
 use crate::spans::{ended_child, span};
 use sfs_base::{NoMemory, NodeId, Stamp};
-use sfs_tree::Change;
+use tree_laws::Change;
 use std::collections::BTreeSet;
 
 // Adds what a member brings in.

@@ -1,5 +1,5 @@
 use sfs_base::{NodeId, NodeList, RoomyList, Stamp};
-use sfs_tree::Changes;
+use tree_laws::Changes;
 
 /// A directory, and changes of its own by their stamps, within one stamp removals before additions.
 #[derive(Debug, Drop)]

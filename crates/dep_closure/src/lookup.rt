@@ -4,7 +4,7 @@ ghost use Rattle.std.specs.Option.{option_copied};
 ghost use Rattle.std.specs.List.{find};
 ghost use Rattle.std.specs.List.Sorted.{IsStrictlyIncreasing};
 ghost use Rattle.sfs_base.specs.Listed.{is_listed};
-ghost use Rattle.sfs_tree.specs.NameRow.{node_number};
+ghost use Rattle.tree_laws.specs.NameRow.{node_number};
 ghost use Rattle.dep_closure.specs.Gathered.{log_directory, cut_node, birth_node, cut_in};
 
 use crate::gathered::{DirectoryChanges, NodeBirth, NodeCut};

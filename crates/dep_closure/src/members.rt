@@ -4,8 +4,8 @@ ghost use Rattle.std.specs.Option.{option_map};
 ghost use Rattle.std.specs.Ordering.{nat_cmp};
 ghost use Rattle.std.specs.BTreeSet.{IsOrdered};
 ghost use Rattle.std.specs.List.Sorted.{IsStrictlyIncreasing};
-ghost use Rattle.sfs_tree.specs.NameRow.{node_number};
-ghost use Rattle.flush_core.specs.Engine.{OfSome};
+ghost use Rattle.tree_laws.specs.NameRow.{node_number};
+ghost use Rattle.cut_laws.specs.Elements.{OfSome};
 ghost use Rattle.dep_closure.specs.Brought.{GrowsBy};
 
 use sfs_base::{NoMemory, NodeId, NodeList, RoomyList};

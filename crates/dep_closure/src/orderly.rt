@@ -6,7 +6,7 @@ ghost use Rattle.dep_closure.specs.Gathered.{IsOrderly, IsOwnLog};
 
 use crate::gathered::{DirectoryChanges, Gathered};
 use crate::lookup::ByNode;
-use sfs_tree::{Act, Change};
+use tree_laws::{Act, Change};
 
 impl Gathered {
     /// Whether each list ascends by node, and each log has changes of its own directory alone, by their

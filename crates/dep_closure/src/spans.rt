@@ -2,11 +2,11 @@
 ghost use Rattle.std.specs.Prelude.{◌≡◌, ◌≤◌, ◌+◌, ◌∷◌, ℕ, nat_lt, filter, take, drop, length, position, not, All};
 ghost use Rattle.std.specs.List.{list_any};
 ghost use Rattle.mem_cells.specs.Log.{IsInOrder, is_from};
-ghost use Rattle.sfs_tree.specs.Logged.{is_end_of, adds_any, adds_name};
+ghost use Rattle.tree_laws.specs.Logged.{is_end_of, adds_any, adds_name};
 ghost use Rattle.dep_closure.specs.Spans.{is_of_stamp, is_in_span, ended_by};
 
 use sfs_base::{Kind, NodeId, Stamp};
-use sfs_tree::{Act, Change};
+use tree_laws::{Act, Change};
 
 // The changes from one stamp to below another. It takes time in proportion to the logarithm of their number.
 pub(crate) fn span(changes: &[Change], from: Stamp, below: Stamp) -> &[Change]

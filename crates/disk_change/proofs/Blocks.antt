@@ -17,9 +17,9 @@ use Rattle.sfs_base.proofs.BasicTruth.{true_not_false, false_not_true}
 use Rattle.std.specs.Option.{MatchOption, option_copied, option_and_then, option_map_or}
 use denote.Ref.{Bor}
 use Rattle.absorb.specs.declared.nets.NetRow.{NetRow}
-use Rattle.image_tree.specs.Commit.{row_in_net}
+use Rattle.image_laws.specs.Commit.{row_in_net}
 use Rattle.sfs_image.specs.Slot.{Row}
-use Rattle.sfs_tree.proofs.Joined.{count-cons}
+use Rattle.tree_laws.proofs.Joined.{count-cons}
 use Rattle.disk_change.specs.Directory.{is_among, fill_front, rows_left, row_brought, slot_moved, is_in_net}
 use Rattle.disk_change.proofs.Keyed.{search_misses}
 

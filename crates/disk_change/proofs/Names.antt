@@ -10,11 +10,11 @@ use Rattle.std.proofs.lemmas.List.{get_or-map, length-map}
 use Rattle.std.proofs.lemmas.Map.Keys.{Less-from_sorted}
 use Rattle.sfs_base.proofs.BasicTruth.{not_both_of}
 use Rattle.sfs_base.proofs.BasicLists.{bytes_same, same_bytes}
-use Rattle.sfs_tree.specs.Order.{name_cmp}
-use Rattle.sfs_tree.proofs.RowsByName.{less_true}
+use Rattle.tree_laws.specs.Order.{name_cmp}
+use Rattle.tree_laws.proofs.RowsByName.{less_true}
 use Rattle.absorb.specs.Net.{net_name}
 use Rattle.absorb.specs.declared.nets.NetRow.{NetRow}
-use Rattle.image_tree.specs.Commit.{row_in_net}
+use Rattle.image_laws.specs.Commit.{row_in_net}
 use Rattle.disk_change.specs.Lists.{NamesAscend}
 
 -- a name is less than itself by no order

@@ -11,8 +11,8 @@ use Rattle.sfs_base.proofs.BasicOptions.{none_some}
 use Rattle.sfs_base.specs.declared.numbers.Kind.{Kind}
 use Rattle.sfs_base.specs.declared.numbers.Kind.TheVariants.{File, Directory}
 use Rattle.sfs_base.proofs.BasicTruth.{false_not_true}
-use Rattle.sfs_tree.proofs.Joined.{is_equal, count-cons}
-use Rattle.image_tree.specs.Numbers.{grant_for}
+use Rattle.tree_laws.proofs.Joined.{is_equal, count-cons}
+use Rattle.image_laws.specs.Numbers.{grant_for}
 use Rattle.disk_change.specs.Lists.{AscendBy}
 use Rattle.disk_change.specs.Nodes.{entry_node, enter_node}
 use Rattle.disk_change.specs.Numbered.{numbers_given, number_in, number_given, grant_left}

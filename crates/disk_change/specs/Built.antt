@@ -7,7 +7,7 @@ use Rattle.block_map.specs.declared.changed.ChangedBlock.{ChangedBlock}
 use Rattle.block_map.specs.declared.rewrite.TableFate.{TableFate}
 use Rattle.block_map.specs.Remap.{rewrite_of, inode_remapped, tables_remapped, table_fate, TABLES}
 use Rattle.sfs_image.specs.Part.{tabulate}
-use Rattle.image_tree.specs.Need.{Rewrite}
+use Rattle.image_laws.specs.Need.{Rewrite}
 use Rattle.disk_change.specs.Numbered.{block_numbered}
 use Rattle.disk_change.specs.Seated.{Seated}
 

@@ -4,11 +4,11 @@ use Rattle.std.specs.Prelude.{ℕ, ◌*◌, ◌==◌, ◌||◌, not, Bool, true,
 use Rattle.std.specs.Int.{div_ceil}
 use Rattle.std.specs.List.{list_any, range_with_len}
 use Rattle.std.specs.Option.{option_map_or}
-use Rattle.sfs_tree.specs.Tree.{kind_if}
+use Rattle.tree_laws.specs.Tree.{kind_if}
 use Rattle.absorb.specs.declared.nets.NetRow.{NetRow}
 use Rattle.sfs_image.specs.Slot.{Row}
-use Rattle.image_tree.specs.Commit.{row_in_net}
-use Rattle.image_tree.specs.Slots.{BLOCK_SLOTS}
+use Rattle.image_laws.specs.Commit.{row_in_net}
+use Rattle.image_laws.specs.Slots.{BLOCK_SLOTS}
 
 -- whether a node is one of these directories
 abbrev pub is_among : List ℕ → ℕ → Bool

@@ -5,7 +5,7 @@ use Rattle.std.specs.Option.{option_map_or}
 use Rattle.sfs_image.specs.Inode.{Table, pointers_bytes}
 use Rattle.sfs_image.specs.Seen.{FILE_BLOCKS}
 use Rattle.sfs_image.specs.SlotBlock.{slots_bytes}
-use Rattle.image_tree.specs.Stands.{BLOCK_BYTES}
+use Rattle.image_laws.specs.Stands.{BLOCK_BYTES}
 use Rattle.fmt_journal.specs.declared.tx.TxBlock.{TxBlock}
 use Rattle.block_map.specs.declared.changed.ChangedBlock.{ChangedBlock}
 use Rattle.block_map.specs.declared.rewrite.TableFate.{TableFate}

@@ -3,7 +3,7 @@ use Rattle.std.specs.Prelude.{◌≡◌, ℕ, ◌<◌, ◌==◌, nat_lt, List, [
 use Rattle.std.specs.Ordering.{nat_cmp, match_ordering}
 use Rattle.std.specs.List.{find}
 use Rattle.std.specs.declared.cmp.Ordering.TheVariants.{Less}
-use Rattle.sfs_tree.specs.Order.{name_cmp}
+use Rattle.tree_laws.specs.Order.{name_cmp}
 use Rattle.absorb.specs.declared.nets.NetRow.{NetRow}
 
 -- items ascend by a number of theirs, and so each number stands once

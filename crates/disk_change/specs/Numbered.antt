@@ -4,7 +4,7 @@ use Rattle.std.specs.Option.{unwrap_or, option_or}
 use Rattle.std.specs.Ordering.{nat_cmp, is_eq}
 use Rattle.sfs_image.specs.Slot.{Row}
 use Rattle.absorb.specs.declared.nets.NetRow.{NetRow}
-use Rattle.image_tree.specs.Commit.{row_in_net}
+use Rattle.image_laws.specs.Commit.{row_in_net}
 use Rattle.disk_change.specs.Seated.{Seated}
 use Rattle.disk_change.specs.declared.numbers.NodeNumber.{NodeNumber}
 

@@ -1,9 +1,9 @@
 -- What a commit changes, worked out as far as it can be without numbers and fresh blocks.
 use Rattle.std.specs.Prelude.{ℕ, ◌-◌, ◌^◌, ◌==◌, not, min, Bool, List, ◌++◌, map, filter, is_none}
-use Rattle.sfs_tree.specs.NameRow.{node_number}
+use Rattle.tree_laws.specs.NameRow.{node_number}
 use Rattle.sfs_base.specs.declared.numbers.NodeId.{NodeId}
 use Rattle.sfs_image.specs.Seen.{PLACES}
-use Rattle.image_tree.specs.Need.{takes_place, rank}
+use Rattle.image_laws.specs.Need.{takes_place, rank}
 use Rattle.block_map.specs.Remap.{rewrite_of}
 use Rattle.disk_change.specs.declared.directory_net.DirectoryNet.{DirectoryNet}
 use Rattle.disk_change.specs.declared.enter.Enter.{Enter}

@@ -4,7 +4,7 @@ use Rattle.std.specs.List.{list_all, range_with_len}
 use Rattle.sfs_image.specs.Bytes.{nonzero_in}
 use Rattle.sfs_image.specs.Seen.{FILE_BLOCKS}
 use Rattle.sfs_image.specs.Slot.{Row}
-use Rattle.image_tree.specs.Stands.{BLOCK_BYTES}
+use Rattle.image_laws.specs.Stands.{BLOCK_BYTES}
 use Rattle.block_map.specs.declared.changed.ChangedBlock.{ChangedBlock}
 use Rattle.disk_change.specs.declared.pages.Page.{Page}
 

@@ -5,7 +5,7 @@ use Rattle.sfs_base.specs.declared.numbers.Kind.{Kind}
 use Rattle.sfs_base.specs.declared.numbers.Kind.TheVariants.{File, Directory}
 use Rattle.sfs_image.specs.Inode.{Inode, Table}
 use Rattle.sfs_image.specs.Slot.{Row, kind_byte, kind_of}
-use Rattle.image_tree.specs.Stands.{BLOCK_BYTES}
+use Rattle.image_laws.specs.Stands.{BLOCK_BYTES}
 use Rattle.block_map.specs.declared.changed.ChangedBlock.{ChangedBlock}
 use Rattle.block_map.specs.Kept.{pointer_kept}
 use Rattle.absorb.specs.declared.nets.NetRow.{NetRow}

@@ -2,10 +2,10 @@
 ghost use Rattle.std.specs.Prelude.{◌≡◌, ◌&&◌, ◌||◌, reverse, IfOk, OnOk, is_none, is_some, ◌<◌, ◌≤◌, length, true, false, slice_index_or, None};
 ghost use Rattle.std.specs.List.Sorted.{IsPartitionPoint};
 ghost use Rattle.std.specs.Ordering.{is_lt};
-ghost use Rattle.sfs_tree.specs.Order.{name_cmp};
+ghost use Rattle.tree_laws.specs.Order.{name_cmp};
 ghost use Rattle.std.specs.List.{list_any};
 ghost use Rattle.std.specs.Option.{option_copied, option_and_then};
-ghost use Rattle.image_tree.specs.Commit.{row_in_net};
+ghost use Rattle.image_laws.specs.Commit.{row_in_net};
 ghost use Rattle.disk_change.specs.Lists.{NamesAscend};
 ghost use Rattle.disk_change.specs.Directory.{row_brought, block_moved, is_in_net, fill_front, rows_left, block_is_touched};
 

@@ -40,7 +40,7 @@ impl Model for DiskChange {
 
 ghost use Rattle.std.specs.List.Sorted.{IsSorted};
 ghost use Rattle.std.specs.Ordering.{nat_cmp};
-ghost use Rattle.sfs_tree.specs.NameRow.{node_number};
+ghost use Rattle.tree_laws.specs.NameRow.{node_number};
 ghost use Rattle.disk_change.specs.Planned.{planned, seated_old, has_listed_node, enters, blocks_taken, as_u32};
 ghost use Rattle.disk_change.specs.Links.{times_in};
 ghost use Rattle.disk_change.specs.Seated.{changes_in};

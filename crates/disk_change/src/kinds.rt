@@ -1,7 +1,7 @@
 // Which of the nodes that a commit concerns are directories.
 ghost use Rattle.std.specs.Prelude.{◌≡◌, ◌++◌, IfOk, OnOk, option_to_list};
 ghost use Rattle.std.specs.List.Sorted.{IsStrictlyIncreasing};
-ghost use Rattle.sfs_tree.specs.Tree.{kind_if};
+ghost use Rattle.tree_laws.specs.Tree.{kind_if};
 ghost use Rattle.disk_change.specs.Directory.{is_among};
 ghost use Rattle.disk_change.specs.Links.{directories_concerned, directory_old, directory_entering};
 

@@ -16,13 +16,13 @@ use Rattle.sfs_image.specs.Inode.{Inode}
 use Rattle.sfs_image.specs.Seen.{SeenInodes}
 use Rattle.sfs_image.specs.Slot.{Row, kind_byte}
 use Rattle.sfs_image.proofs.Basics.{pieces_same}
-use Rattle.sfs_tree.specs.Order.{Key, key_cmp}
-use Rattle.sfs_tree.specs.Tree.{BUCKET_ROWS, bucket_rows, count_of, links_of, names_it, is_directory, is_directory_kind, holds_directory}
-use Rattle.sfs_tree.proofs.Joined.{count-cons}
-use Rattle.image_tree.specs.ImageTree.{NOTHING_MADE, shows_directory, is_used, tree_row, rows_in, image_rows}
-use Rattle.image_tree.specs.Keeps.{ruled_tree}
-use Rattle.image_tree.specs.Rules.{has_overfull_bucket, is_named_twice, has_wrong_links}
-use Rattle.image_tree.proofs.Images.{directory_shown}
+use Rattle.tree_laws.specs.Order.{Key, key_cmp}
+use Rattle.tree_laws.specs.Tree.{BUCKET_ROWS, bucket_rows, count_of, links_of, names_it, is_directory, is_directory_kind, holds_directory}
+use Rattle.tree_laws.proofs.Joined.{count-cons}
+use Rattle.image_laws.specs.ImageTree.{NOTHING_MADE, shows_directory, is_used, tree_row, rows_in, image_rows}
+use Rattle.image_laws.specs.Keeps.{ruled_tree}
+use Rattle.image_laws.specs.Rules.{has_overfull_bucket, is_named_twice, has_wrong_links}
+use Rattle.image_laws.proofs.Images.{directory_shown}
 use Rattle.disk_tree.specs.Built.{entry_of_row, entries_at, row_entries}
 use Rattle.disk_tree.specs.First.{NonePasses}
 use Rattle.disk_tree.specs.Inodes.{inode_at}

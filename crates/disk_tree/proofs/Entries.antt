@@ -13,12 +13,12 @@ use Rattle.sfs_base.proofs.BasicLists.{bytes_same, take_none}
 use Rattle.sfs_base.proofs.BasicTruth.{not_both_of}
 use Rattle.sfs_base.specs.Lists.{Roomy}
 use Rattle.sfs_image.specs.Slot.{Row}
-use Rattle.sfs_tree.specs.Order.{Key, key_cmp}
-use Rattle.sfs_tree.specs.Tree.{names_where, name_row, names_it}
-use Rattle.sfs_tree.proofs.Joined.{key_cmp_total, same_key, find-append, count-insert, count-cons}
-use Rattle.sfs_tree.proofs.Counting.{count-le-len}
+use Rattle.tree_laws.specs.Order.{Key, key_cmp}
+use Rattle.tree_laws.specs.Tree.{names_where, name_row, names_it}
+use Rattle.tree_laws.proofs.Joined.{key_cmp_total, same_key, find-append, count-insert, count-cons}
+use Rattle.tree_laws.proofs.Counting.{count-le-len}
 use Rattle.sfs_base.proofs.BasicOptions.{some_not_none}
-use Rattle.sfs_tree.proofs.Names.{entries-names_where}
+use Rattle.tree_laws.proofs.Names.{entries-names_where}
 use Rattle.disk_tree.specs.Built.{entry_of_row, entries_at, row_entries, entries_to}
 use Rattle.disk_tree.specs.Rows.{NO_ROW, rows_of_inode, naming, naming_below, HaveOwnNames}
 use Rattle.block_map.proofs.Places.{range_more}

@@ -13,8 +13,8 @@ use Rattle.std.proofs.lemmas.List.MinMax.{ranks_by}
 use Rattle.std.proofs.lemmas.List.Sorted.{All-permutation, IsPermutation-sym, sorted_far, sum_by-IsPermutation}
 use Rattle.sfs_base.proofs.BasicTruth.{not_both_of}
 use Rattle.sfs_image.specs.Slot.{Row}
-use Rattle.sfs_tree.specs.Order.{name_cmp}
-use Rattle.sfs_tree.proofs.Joined.{name_cmp-IsAntisymmetric}
+use Rattle.tree_laws.specs.Order.{name_cmp}
+use Rattle.tree_laws.proofs.Joined.{name_cmp-IsAntisymmetric}
 use Rattle.disk_tree.specs.ByName.{comes_before, AscendByName}
 use Rattle.disk_tree.specs.Reached.{row_at}
 use Rattle.disk_tree.specs.Rows.{NO_ROW, HaveOwnNames}

@@ -12,9 +12,9 @@ use Rattle.std.proofs.lemmas.Grind.{flat_map-append}
 use Rattle.sfs_base.specs.Lists.{Roomy}
 use Rattle.sfs_base.specs.declared.numbers.Kind.TheVariants.{File, Directory}
 use Rattle.sfs_image.specs.Inode.{Inode}
-use Rattle.sfs_tree.specs.Build.{with_node, root_alone}
-use Rattle.sfs_tree.specs.Tree.{TreeState, Node}
-use Rattle.sfs_tree.proofs.Joined.{find-append}
+use Rattle.tree_laws.specs.Build.{with_node, root_alone}
+use Rattle.tree_laws.specs.Tree.{TreeState, Node}
+use Rattle.tree_laws.proofs.Joined.{find-append}
 use Rattle.disk_tree.specs.Built.{node_by_inode, node_at, node_entries, with_nodes, with_node_of}
 use Rattle.disk_tree.specs.Contents.{bytes_of_inode}
 use Rattle.disk_tree.specs.Inodes.{inode_at}

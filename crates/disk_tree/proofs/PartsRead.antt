@@ -14,7 +14,7 @@ use Rattle.sfs_image.specs.Super.{Layout}
 use Rattle.sfs_image.proofs.Basics.{length-tabulate, get_or-tabulate, any_below-at}
 use Rattle.sfs_image.proofs.InodeLaws.{pointers_of-zeros}
 use Rattle.sfs_image.proofs.RuleLaws.{blocks_say, good_from_rule}
-use Rattle.image_tree.proofs.Parts.{HasEmptyHoles}
+use Rattle.image_laws.proofs.Parts.{HasEmptyHoles}
 use Rattle.block_map.specs.Kept.{tables_kept, kept_tables, pointer_kept}
 use Rattle.block_map.proofs.KeptPointers.{HaveHoles, kept_place, table_found}
 use Rattle.disk_tree.specs.Apart.{is_marked, pointer_in, HoldOnce, SharesFirst}

@@ -5,12 +5,12 @@ use Rattle.sfs_image.specs.Part.{Part}
 use Rattle.sfs_image.specs.Rules.{breaks_bytes_rule}
 use Rattle.sfs_image.specs.Seen.{SeenInodes}
 use Rattle.sfs_image.specs.Super.{Layout}
-use Rattle.image_tree.specs.Image.{inodes_shown}
-use Rattle.image_tree.specs.Keeps.{KeepsRules}
-use Rattle.image_tree.specs.Mount.{ShowsByKind}
-use Rattle.image_tree.specs.Rules.{KeepsByteRules}
-use Rattle.image_tree.proofs.Faults.{no_break, no_fault_is_rules_kept}
-use Rattle.image_tree.proofs.Parts.{IsWholePart, shows_by_kind, holds_apart, root_shown}
+use Rattle.image_laws.specs.Image.{inodes_shown}
+use Rattle.image_laws.specs.Keeps.{KeepsRules}
+use Rattle.image_laws.specs.Mount.{ShowsByKind}
+use Rattle.image_laws.specs.Rules.{KeepsByteRules}
+use Rattle.image_laws.proofs.Faults.{no_break, no_fault_is_rules_kept}
+use Rattle.image_laws.proofs.Parts.{IsWholePart, shows_by_kind, holds_apart, root_shown}
 use Rattle.disk_tree.specs.Judged.{AreReadParts, fault_of_parts}
 use Rattle.disk_tree.specs.Shown.{FaultlessPartsAreRuled}
 use Rattle.disk_tree.proofs.PartsRead.{entry_holes}

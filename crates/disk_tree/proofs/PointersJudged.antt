@@ -19,7 +19,7 @@ use Rattle.sfs_image.proofs.Basics.{any_below-from, any_below-none, any_below-at
 use Rattle.sfs_image.proofs.BytesLaws.{length-zeros}
 use Rattle.sfs_image.proofs.PartLaws.{pointer_of_block, pointer_of_table, hole_is_read}
 use Rattle.sfs_image.proofs.PiecesLaws.{length-u32s_at}
-use Rattle.image_tree.proofs.Parts.{HasEmptyHoles}
+use Rattle.image_laws.proofs.Parts.{HasEmptyHoles}
 use Rattle.block_map.specs.Kept.{table_kept, tables_kept, kept_tables}
 use Rattle.block_map.proofs.KeptPointers.{table_found}
 use Rattle.disk_tree.specs.Reading.{HasTables}

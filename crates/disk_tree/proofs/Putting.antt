@@ -8,10 +8,10 @@ use Rattle.std.proofs.lemmas.Bool.{eq-eqb}
 use Rattle.sfs_base.specs.Lists.{Roomy}
 use Rattle.sfs_base.specs.Name.{bucket}
 use Rattle.sfs_image.specs.Slot.{Row}
-use Rattle.sfs_tree.specs.Build.{with_row}
-use Rattle.sfs_tree.specs.Order.{Key}
-use Rattle.sfs_tree.specs.Tree.{TreeState, row_of, is_directory, bucket_rows}
-use Rattle.sfs_tree.proofs.Joined.{key_cmp_total, key_cmp-IsAntisymmetric}
+use Rattle.tree_laws.specs.Build.{with_row}
+use Rattle.tree_laws.specs.Order.{Key}
+use Rattle.tree_laws.specs.Tree.{TreeState, row_of, is_directory, bucket_rows}
+use Rattle.tree_laws.proofs.Joined.{key_cmp_total, key_cmp-IsAntisymmetric}
 use Rattle.disk_tree.specs.Built.{entries_to, MayPut, with_entries}
 use Rattle.disk_tree.specs.Reached.{row_at}
 use Rattle.disk_tree.specs.Rows.{NO_ROW, rows_of_inode}

@@ -4,8 +4,8 @@ use Rattle.std.specs.List.{list_any}
 use Rattle.std.specs.FinMap.{FinMap, find, get, entries, len, len-entries, get-from_entries}
 use Rattle.std.specs.Option.{option_or}
 use Rattle.std.specs.Ordering.{eq_by_cmp}
-use Rattle.sfs_tree.specs.Order.{Key, key_cmp}
-use Rattle.sfs_tree.proofs.Joined.{key_cmp_total, find-append}
+use Rattle.tree_laws.specs.Order.{Key, key_cmp}
+use Rattle.tree_laws.proofs.Joined.{key_cmp_total, find-append}
 use Rattle.std.proofs.lemmas.List.{get_or_past}
 use Rattle.sfs_base.specs.declared.numbers.Kind.{Kind}
 use Rattle.sfs_base.specs.declared.numbers.Kind.TheVariants.{File, Directory}
@@ -18,13 +18,13 @@ use Rattle.sfs_base.specs.Lists.{Roomy}
 use Rattle.sfs_image.specs.Inode.{Inode}
 use Rattle.sfs_image.specs.Seen.{SeenInodes}
 use Rattle.sfs_image.specs.Slot.{Row, kind_byte}
-use Rattle.sfs_tree.specs.Tree.{TreeState, row_of, count_of, names_it, is_directory_kind, holder_of, walk_up, and_above, lies_below}
-use Rattle.sfs_tree.proofs.Counting.{count_some, only, same_itself}
-use Rattle.sfs_tree.proofs.RowFacts.{holder_found}
-use Rattle.sfs_tree.proofs.Walks.{Chain, chain_within, walk_meets}
-use Rattle.image_tree.specs.ImageTree.{image_rows}
-use Rattle.image_tree.specs.Keeps.{ruled_tree}
-use Rattle.image_tree.specs.Rules.{is_unreached}
+use Rattle.tree_laws.specs.Tree.{TreeState, row_of, count_of, names_it, is_directory_kind, holder_of, walk_up, and_above, lies_below}
+use Rattle.tree_laws.proofs.Counting.{count_some, only, same_itself}
+use Rattle.tree_laws.proofs.RowFacts.{holder_found}
+use Rattle.tree_laws.proofs.Walks.{Chain, chain_within, walk_meets}
+use Rattle.image_laws.specs.ImageTree.{image_rows}
+use Rattle.image_laws.specs.Keeps.{ruled_tree}
+use Rattle.image_laws.specs.Rules.{is_unreached}
 use Rattle.disk_tree.specs.Apart.{is_marked}
 use Rattle.disk_tree.specs.Built.{entry_of_row, row_entries, entries_at, entries_to}
 use Rattle.disk_tree.specs.First.{NonePasses}
@@ -265,7 +265,7 @@ module _ (image : SeenInodes) (inodes : List Inode) (rows : List (Roomy Row)) (s
       met_marked (suc steps) x kind met = by (holder_found tree x) (met_marked steps)
         where
           by : ((h : ℕ) × (holder_of tree x ≡ Some h) × ((name : List ℕ) × (row_of tree h name ≡ Some x)))
-              ⊎ ((holder_of tree x ≡ None) × (Rattle.sfs_tree.proofs.RowFacts.IsNamed tree.rows x → ⊥)) →
+              ⊎ ((holder_of tree x ≡ None) × (Rattle.tree_laws.proofs.RowFacts.IsNamed tree.rows x → ⊥)) →
               ((y : ℕ) → (inode_at inodes y).kind ≡ 2 → list_any (λ a. nat_eq a 0) (walk_up steps tree y) ≡ true → is_marked reached y ≡ true)
               → is_marked reached x ≡ true
           by (inr none) up =

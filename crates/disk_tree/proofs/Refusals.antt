@@ -16,9 +16,9 @@ use Rattle.sfs_image.proofs.BytesLaws.{length-part, length-zeros}
 use Rattle.sfs_image.proofs.PartLaws.{block_behind, block_is_read, table_is_read, pointer_of_block, pointer_of_table, hole_is_read}
 use Rattle.sfs_image.proofs.PiecesLaws.{length-u32s_at}
 use Rattle.std.proofs.lemmas.List.{length-map}
-use Rattle.image_tree.specs.Image.{inodes_shown}
-use Rattle.image_tree.specs.Rules.{TreeFault, BYTE_RULES, RULES, breaks_tree_rule, breaks_rule, first_fault, FindsFault, IsLeastFault}
-use Rattle.image_tree.proofs.FirstFault.{first_fault_is_least}
+use Rattle.image_laws.specs.Image.{inodes_shown}
+use Rattle.image_laws.specs.Rules.{TreeFault, BYTE_RULES, RULES, breaks_tree_rule, breaks_rule, first_fault, FindsFault, IsLeastFault}
+use Rattle.image_laws.proofs.FirstFault.{first_fault_is_least}
 use Rattle.disk_tree.specs.First.{IsFirst}
 use Rattle.disk_tree.specs.Reading.{IsReadBlock}
 use Rattle.disk_tree.specs.Judged.{IsReadPart, AreReadParts, fault_of_parts, Refused}

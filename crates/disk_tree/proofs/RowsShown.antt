@@ -8,10 +8,10 @@ use Rattle.sfs_base.specs.Lists.{Roomy}
 use Rattle.sfs_image.specs.Inode.{Inode}
 use Rattle.sfs_image.specs.Seen.{SeenInodes}
 use Rattle.sfs_image.specs.Slot.{Row, kind_byte}
-use Rattle.sfs_tree.proofs.Joined.{count-cons}
-use Rattle.image_tree.specs.ImageTree.{shows_directory}
-use Rattle.image_tree.specs.Rules.{some_row, is_misplaced}
-use Rattle.image_tree.specs.Slots.{has_name, name_count}
+use Rattle.tree_laws.proofs.Joined.{count-cons}
+use Rattle.image_laws.specs.ImageTree.{shows_directory}
+use Rattle.image_laws.specs.Rules.{some_row, is_misplaced}
+use Rattle.image_laws.specs.Slots.{has_name, name_count}
 use Rattle.disk_tree.specs.Inodes.{inode_at}
 use Rattle.disk_tree.specs.Rows.{rows_of_inode, rows_in_slots, is_misplaced_by}
 use Rattle.disk_tree.specs.Shown.{ShowsRows, AreRowTests, RowTestsAreRules}

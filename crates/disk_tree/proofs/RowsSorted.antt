@@ -12,9 +12,9 @@ use Rattle.sfs_base.specs.Lists.{Roomy}
 use Rattle.sfs_base.proofs.BasicLists.{bytes_same, same_bytes}
 use Rattle.sfs_base.proofs.BasicTruth.{not_both_of}
 use Rattle.sfs_image.specs.Slot.{Row}
-use Rattle.sfs_tree.specs.Order.{Key, key_cmp}
-use Rattle.sfs_tree.specs.Tree.{TreeState}
-use Rattle.sfs_tree.proofs.Joined.{find-append, key_cmp_total, key_cmp-IsAntisymmetric}
+use Rattle.tree_laws.specs.Order.{Key, key_cmp}
+use Rattle.tree_laws.specs.Tree.{TreeState}
+use Rattle.tree_laws.proofs.Joined.{find-append, key_cmp_total, key_cmp-IsAntisymmetric}
 use Rattle.disk_tree.specs.Built.{entry_of_row, entries_at, row_entries, MayPut}
 use Rattle.disk_tree.specs.Reached.{row_at}
 use Rattle.disk_tree.specs.Rows.{NO_ROW, rows_of_inode, rows_in_bucket, HaveOwnNames}

@@ -10,9 +10,9 @@ use Rattle.sfs_image.specs.Slot.{Row}
 use Rattle.sfs_image.specs.Super.{Layout}
 use Rattle.sfs_image.proofs.RuleFacts.{sizes_say}
 use Rattle.sfs_image.proofs.ShownLaws.{slots_shown}
-use Rattle.image_tree.specs.Image.{inodes_shown}
-use Rattle.image_tree.specs.Rules.{breaks_tree_rule}
-use Rattle.image_tree.proofs.Parts.{root_shown}
+use Rattle.image_laws.specs.Image.{inodes_shown}
+use Rattle.image_laws.specs.Rules.{breaks_tree_rule}
+use Rattle.image_laws.proofs.Parts.{root_shown}
 use Rattle.disk_tree.specs.Blocks.{ReadWell}
 use Rattle.disk_tree.specs.First.{NonePasses}
 use Rattle.disk_tree.specs.Gathered.{KeepPointerRules}

@@ -9,11 +9,11 @@ use Rattle.sfs_image.specs.Rules.{any_below, breaks_apart, breaks_bytes_rule, is
 use Rattle.sfs_image.specs.Seen.{FILE_BLOCKS, PLACES}
 use Rattle.sfs_image.specs.Settled.{SlotFault, image_block, journal_fault_of, layout_of, parts_of, super_fault_of}
 use Rattle.sfs_image.specs.Super.{Layout}
-use Rattle.image_tree.specs.Image.{ImageFault, breaks_bytes_of, fault_of, first_of_faults, image_inodes, inodes_shown, making_at_mount}
-use Rattle.image_tree.specs.ImageTree.{image_tree}
-use Rattle.image_tree.specs.Rules.{TreeFault, tree_fault}
-use Rattle.image_tree.proofs.Alike.{tree_alike, tree_rule_alike}
-use Rattle.image_tree.proofs.WholeImages.{rule_alike}
+use Rattle.image_laws.specs.Image.{ImageFault, breaks_bytes_of, fault_of, first_of_faults, image_inodes, inodes_shown, making_at_mount}
+use Rattle.image_laws.specs.ImageTree.{image_tree}
+use Rattle.image_laws.specs.Rules.{TreeFault, tree_fault}
+use Rattle.image_laws.proofs.Alike.{tree_alike, tree_rule_alike}
+use Rattle.image_laws.proofs.WholeImages.{rule_alike}
 use Rattle.disk_tree.specs.Found.{making_when_read}
 use Rattle.disk_tree.specs.Judged.{AreReadParts, IsReadPart, fault_of_parts}
 use Rattle.disk_tree.specs.KeptParts.{kept_if_used, kept_in_use}

@@ -19,19 +19,19 @@ use Rattle.sfs_image.specs.Slot.{Row, kind_byte, kind_of}
 use Rattle.sfs_image.specs.SlotBlock.{slots_of}
 use Rattle.sfs_image.specs.Super.{Layout}
 use Rattle.sfs_image.proofs.Basics.{pieces_same}
-use Rattle.sfs_tree.specs.Laws.{IsSoundTree}
-use Rattle.sfs_tree.specs.Order.{key_cmp}
-use Rattle.sfs_tree.specs.Sound.{IsWithinLimits}
-use Rattle.sfs_tree.specs.Tree.{Node, count_of, is_directory_kind}
+use Rattle.tree_laws.specs.Laws.{IsSoundTree}
+use Rattle.tree_laws.specs.Order.{key_cmp}
+use Rattle.tree_laws.specs.Sound.{IsWithinLimits}
+use Rattle.tree_laws.specs.Tree.{Node, count_of, is_directory_kind}
 use Rattle.block_map.specs.Kept.{kept_slots}
-use Rattle.image_tree.specs.Image.{inodes_shown}
-use Rattle.image_tree.specs.ImageTree.{image_rows, image_tree, is_node, node_in, nodes_where}
-use Rattle.image_tree.specs.Keeps.{KeepsRules}
-use Rattle.image_tree.specs.Mount.{ShowsByKind}
-use Rattle.image_tree.proofs.BlockRows.{byte_blocks_show}
-use Rattle.image_tree.proofs.Images.{directory_is_node, directory_shown, file_is_node, node_is}
-use Rattle.image_tree.proofs.Mounted.{limits_where, sound_shown}
-use Rattle.image_tree.proofs.WholeImages.{numbered}
+use Rattle.image_laws.specs.Image.{inodes_shown}
+use Rattle.image_laws.specs.ImageTree.{image_rows, image_tree, is_node, node_in, nodes_where}
+use Rattle.image_laws.specs.Keeps.{KeepsRules}
+use Rattle.image_laws.specs.Mount.{ShowsByKind}
+use Rattle.image_laws.proofs.BlockRows.{byte_blocks_show}
+use Rattle.image_laws.proofs.Images.{directory_is_node, directory_shown, file_is_node, node_is}
+use Rattle.image_laws.proofs.Mounted.{limits_where, sound_shown}
+use Rattle.image_laws.proofs.WholeImages.{numbered}
 use Rattle.disk_tree.specs.Blocks.{ReadWell, slots_at}
 use Rattle.disk_tree.specs.Built.{MayBuild, MayPut, node_at, node_entries, row_entries, tree_of_entries}
 use Rattle.disk_tree.specs.Contents.{bytes_of_inode}

@@ -6,7 +6,7 @@ use Rattle.std.proofs.lemmas.List.{length-append, get_or_append_left, get_or-app
 use Rattle.sfs_base.proofs.BasicTruth.{not_both_of}
 use Rattle.sfs_base.specs.Lists.{Roomy}
 use Rattle.sfs_image.specs.Slot.{Row}
-use Rattle.sfs_tree.specs.Tree.{is_directory_kind}
+use Rattle.tree_laws.specs.Tree.{is_directory_kind}
 use Rattle.disk_tree.specs.Apart.{is_marked}
 use Rattle.disk_tree.specs.Reached.{row_at, IsReachedFromRoot, root, named, AreMarked, MarksReached, unmarked, IsPending, Visits, Frontier, Passes, Marks}
 use Rattle.disk_tree.specs.Rows.{rows_of_inode}

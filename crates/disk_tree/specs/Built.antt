@@ -4,13 +4,13 @@ use Rattle.std.specs.FinMap.{get, from_entries}
 use Rattle.std.specs.List.{range_with_len, flat_map}
 use Rattle.sfs_base.specs.Lists.{Roomy}
 use Rattle.sfs_image.specs.Slot.{Row}
-use Rattle.sfs_tree.specs.Order.{Key}
+use Rattle.tree_laws.specs.Order.{Key}
 use Rattle.sfs_base.specs.declared.numbers.Kind.TheVariants.{File, Directory}
 use Rattle.sfs_image.specs.Inode.{Inode}
 use Rattle.sfs_image.specs.Seen.{FILE_BLOCKS}
 use Rattle.sfs_image.specs.Super.{Layout}
-use Rattle.sfs_tree.specs.Build.{with_node, root_alone}
-use Rattle.sfs_tree.specs.Tree.{TreeState, Node, is_directory}
+use Rattle.tree_laws.specs.Build.{with_node, root_alone}
+use Rattle.tree_laws.specs.Tree.{TreeState, Node, is_directory}
 use Rattle.disk_tree.specs.Contents.{bytes_of_inode}
 use Rattle.disk_tree.specs.Inodes.{inode_at}
 use Rattle.disk_tree.specs.Reached.{row_at}

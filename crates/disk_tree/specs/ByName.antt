@@ -3,7 +3,7 @@ use Rattle.std.specs.Prelude.{Bool, List}
 use Rattle.std.specs.List.Sorted.{IsSortedBy}
 use Rattle.std.specs.Ordering.{is_lt}
 use Rattle.sfs_image.specs.Slot.{Row}
-use Rattle.sfs_tree.specs.Order.{name_cmp}
+use Rattle.tree_laws.specs.Order.{name_cmp}
 
 -- whether the name of one row comes before that of another
 abbrev pub comes_before : Row → Row → Bool

@@ -3,10 +3,10 @@ use Rattle.std.specs.Prelude.{◌≡◌, ℕ, ◌<◌, List, length, map, All, O
 use Rattle.sfs_image.specs.Inode.{IsInode, inode_of}
 use Rattle.sfs_image.specs.Part.{Part}
 use Rattle.sfs_image.specs.Super.{Layout}
-use Rattle.sfs_tree.specs.Laws.{IsSoundTree}
-use Rattle.sfs_tree.specs.Sound.{IsWithinLimits}
-use Rattle.image_tree.specs.Image.{inodes_shown}
-use Rattle.image_tree.specs.ImageTree.{Making, image_tree}
+use Rattle.tree_laws.specs.Laws.{IsSoundTree}
+use Rattle.tree_laws.specs.Sound.{IsWithinLimits}
+use Rattle.image_laws.specs.Image.{inodes_shown}
+use Rattle.image_laws.specs.ImageTree.{Making, image_tree}
 use Rattle.disk_tree.specs.Blocks.{ReadWell}
 use Rattle.disk_tree.specs.Gathered.{KeepPointerRules}
 use Rattle.disk_tree.specs.Inodes.{KeepRecordRules}

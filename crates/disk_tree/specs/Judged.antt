@@ -5,8 +5,8 @@ use Rattle.sfs_image.specs.Part.{Part, block_pointer}
 use Rattle.sfs_image.specs.Rules.{breaks_bytes_rule}
 use Rattle.sfs_image.specs.Seen.{FILE_BLOCKS}
 use Rattle.sfs_image.specs.Super.{Layout}
-use Rattle.image_tree.specs.Image.{inodes_shown}
-use Rattle.image_tree.specs.Rules.{TreeFault, tree_fault}
+use Rattle.image_laws.specs.Image.{inodes_shown}
+use Rattle.image_laws.specs.Rules.{TreeFault, tree_fault}
 use Rattle.disk_tree.specs.Reading.{IsReadBlock, AreReadTables}
 use Rattle.disk_tree.specs.declared.fault.TreeFault.{TreeFault as Refusal}
 use Rattle.disk_tree.specs.declared.fault.TreeFault.TheVariants.{DiskFailed, BadImage, NoMemory}

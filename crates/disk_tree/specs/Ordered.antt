@@ -4,7 +4,7 @@ use Rattle.sfs_base.specs.Lists.{Roomy}
 use Rattle.sfs_image.specs.Inode.{Inode}
 use Rattle.sfs_image.specs.Rules.{DIRECTORY_BLOCKS}
 use Rattle.sfs_image.specs.Slot.{Row}
-use Rattle.image_tree.specs.Slots.{BLOCK_SLOTS}
+use Rattle.image_laws.specs.Slots.{BLOCK_SLOTS}
 use Rattle.disk_tree.specs.First.{IsFirst}
 use Rattle.disk_tree.specs.Reached.{MarksReached}
 use Rattle.disk_tree.specs.Rows.{rows_of_inode}

@@ -2,7 +2,7 @@
 use Rattle.std.specs.Prelude.{◌≡◌, ◌⊎◌, ℕ, suc, ◌+◌, ◌<◌, Bool, true, false, List, [], ◌∷◌, length, slice_index, slice_index_or, slice_set, ◌++◌}
 use Rattle.sfs_base.specs.Lists.{Roomy}
 use Rattle.sfs_image.specs.Slot.{Row}
-use Rattle.sfs_tree.specs.Tree.{is_directory_kind}
+use Rattle.tree_laws.specs.Tree.{is_directory_kind}
 use Rattle.disk_tree.specs.Apart.{is_marked}
 use Rattle.disk_tree.specs.Rows.{NO_ROW, rows_of_inode}
 

@@ -6,7 +6,7 @@ use Rattle.sfs_base.specs.Name.{bucket}
 use Rattle.sfs_base.specs.declared.numbers.Kind.TheVariants.{File}
 use Rattle.sfs_image.specs.Inode.{Inode}
 use Rattle.sfs_image.specs.Slot.{Row, kind_byte}
-use Rattle.sfs_tree.specs.Tree.{is_directory_kind, BUCKET_ROWS}
+use Rattle.tree_laws.specs.Tree.{is_directory_kind, BUCKET_ROWS}
 use Rattle.disk_tree.specs.Blocks.{slots_at}
 use Rattle.disk_tree.specs.Inodes.{inode_at}
 

@@ -3,14 +3,14 @@ use Rattle.std.specs.Prelude.{◌≡◌, ◌≢◌, ℕ, ◌<◌, Bool, List, []
 use Rattle.sfs_base.specs.Lists.{Roomy}
 use Rattle.sfs_image.specs.Inode.{Inode, IsInode, Table, inode_of}
 use Rattle.sfs_image.specs.Super.{Layout}
-use Rattle.image_tree.specs.Image.{inodes_shown}
+use Rattle.image_laws.specs.Image.{inodes_shown}
 use Rattle.disk_tree.specs.Blocks.{ReadWell}
 use Rattle.disk_tree.specs.Gathered.{KeepPointerRules}
 use Rattle.sfs_image.specs.Seen.{SeenInodes}
 use Rattle.sfs_image.specs.Slot.{Row}
-use Rattle.image_tree.specs.Keeps.{KeepsRules}
-use Rattle.image_tree.specs.Mount.{ShowsByKind}
-use Rattle.image_tree.specs.Rules.{breaks_tree_rule}
+use Rattle.image_laws.specs.Keeps.{KeepsRules}
+use Rattle.image_laws.specs.Mount.{ShowsByKind}
+use Rattle.image_laws.specs.Rules.{breaks_tree_rule}
 use Rattle.disk_tree.specs.Inodes.{inode_at}
 use Rattle.sfs_image.specs.Part.{Part}
 use Rattle.disk_tree.specs.Judged.{AreReadParts, fault_of_parts}

@@ -2,7 +2,7 @@
 use Rattle.std.specs.Prelude.{◌≡◌, ℕ, ◌<◌, List, [], slice_index_or, None, Some}
 use Rattle.sfs_image.specs.Settled.{super_fault_of, journal_fault_of, layout_of, parts_of, settled}
 use Rattle.sfs_image.specs.Super.{Layout}
-use Rattle.image_tree.specs.Image.{Tree as TreeFaultOf, fault_of, tree_of}
+use Rattle.image_laws.specs.Image.{Tree as TreeFaultOf, fault_of, tree_of}
 use Rattle.disk_tree.specs.Found.{IsFoundIn}
 use Rattle.disk_tree.specs.Judged.{Refused}
 use Rattle.disk_tree.specs.KeptParts.{kept_in_use}

@@ -1,6 +1,6 @@
 // Rule 14: which directories a walk from the root reaches.
 ghost use Rattle.std.specs.Prelude.{◌≡◌, ◌⊎◌, ℕ, ◌<◌, ◌≤◌, length, false, All, IfOk, OnOk};
-ghost use Rattle.sfs_tree.specs.Tree.{is_directory_kind};
+ghost use Rattle.tree_laws.specs.Tree.{is_directory_kind};
 ghost use Rattle.disk_tree.specs.Apart.{is_marked};
 ghost use Rattle.disk_tree.specs.Reached.{MarksReached, Visits, Passes, Marks};
 ghost use Rattle.disk_tree.specs.Rows.{rows_of_inode};

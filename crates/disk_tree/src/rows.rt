@@ -2,7 +2,7 @@
 ghost use Rattle.std.specs.Prelude.{◌≡◌, ℕ, ◌+◌, ◌<◌, ◌≤◌, ◌==◌, ◌&&◌, ◌++◌, nat_lt, not, length, slice_index, count_by, ◌^◌, All, IfOk, OnOk};
 ghost use Rattle.std.specs.List.{list_any};
 ghost use Rattle.std.specs.Option.{option_to_list};
-ghost use Rattle.sfs_tree.specs.Tree.{is_directory_kind};
+ghost use Rattle.tree_laws.specs.Tree.{is_directory_kind};
 ghost use Rattle.disk_tree.specs.Blocks.{slots_at};
 ghost use Rattle.disk_tree.specs.First.{FindsFirst};
 ghost use Rattle.disk_tree.specs.Inodes.{inode_at};

@@ -5,10 +5,10 @@ use Rattle.sfs_base.specs.declared.numbers.Kind.{Kind}
 use Rattle.sfs_base.specs.declared.numbers.Kind.TheVariants.{File as IsFile}
 use Rattle.sfs_base.specs.declared.numbers.Stamp.{Stamp}
 use Rattle.mem_files.specs.File.{File}
-use Rattle.sfs_tree.specs.Effect.{Edit}
-use Rattle.sfs_tree.specs.Tree.{TreeState, bytes_of}
-use Rattle.file_marks.specs.FileAt.{IsMarkedEdit}
-use Rattle.file_marks.specs.Laws.{IsUnmarked}
+use Rattle.tree_laws.specs.Effect.{Edit}
+use Rattle.tree_laws.specs.Tree.{TreeState, bytes_of}
+use Rattle.mark_laws.specs.FileAt.{IsMarkedEdit}
+use Rattle.mark_laws.specs.Laws.{IsUnmarked}
 
 -- the file of a node, where a table has one
 abbrev pub file_at : List (Option File) → ℕ → Option File

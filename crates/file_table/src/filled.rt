@@ -1,7 +1,7 @@
 // The files of a tree.
 ghost use Rattle.std.specs.Prelude.{◌≤◌, length, IfOk, IsSome};
 ghost use Rattle.std.specs.FinMap as finmap;
-ghost use Rattle.file_marks.specs.Changed.{HasShortFiles};
+ghost use Rattle.mark_laws.specs.Changed.{HasShortFiles};
 ghost use Rattle.file_table.specs.Table.{IsUnmarkedFile, IsOfNode, HoldsFilesOf};
 
 use crate::FileTable;

@@ -1,7 +1,7 @@
 // Edits of a file that mark the blocks that they touch.
 ghost use Rattle.std.specs.Prelude.{◌≡◌, ◌+◌, ◌<◌, ◌≤◌, length, IsOk, OnOk, OnErr};
-ghost use Rattle.sfs_tree.specs.Effect.{Puts, Resizes};
-ghost use Rattle.file_marks.specs.FileAt.{IsMarkedEdit};
+ghost use Rattle.tree_laws.specs.Effect.{Puts, Resizes};
+ghost use Rattle.mark_laws.specs.FileAt.{IsMarkedEdit};
 
 use mem_files::{FileBytes, LONGEST_FILE};
 use sfs_base::{NoMemory, Stamp};

@@ -2,7 +2,7 @@
 ghost use Rattle.std.specs.Prelude.{◌≡◌, ◌+◌, ◌<◌, ◌≤◌, [], None, Some, length, IsOk, IsSome, OnOk, OnErr};
 ghost use Rattle.std.specs.Option.{option_copied};
 ghost use Rattle.mem_files.specs.File.{File};
-ghost use Rattle.sfs_tree.specs.Effect.{Puts, Resizes};
+ghost use Rattle.tree_laws.specs.Effect.{Puts, Resizes};
 ghost use Rattle.file_table.specs.Table.{file_at, HasSameFiles, SetsFile, EditsFile};
 
 use crate::marked::{trunc_marked, write_marked};

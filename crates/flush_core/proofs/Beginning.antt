@@ -3,17 +3,17 @@ use Rattle.std.proofs.Common.{◌≡◌, ℕ, ◌<◌, ◌≤◌, true, false, [
 use Rattle.std.proofs.lemmas.List.{map-append}
 use Rattle.sfs_base.specs.declared.numbers.NodeId.{NodeId}
 use Rattle.sfs_base.specs.declared.numbers.Stamp.{Stamp}
-use Rattle.flush_core.specs.declared.event.Event.TheVariants as event
-use Rattle.flush_core.specs.declared.event.Refused.{Refused}
-use Rattle.flush_core.specs.declared.event.Refused.TheVariants as refused
+use Rattle.cut_laws.specs.declared.event.Event.TheVariants as event
+use Rattle.cut_laws.specs.declared.event.Refused.{Refused}
+use Rattle.cut_laws.specs.declared.event.Refused.TheVariants as refused
 use Rattle.flush_core.specs.declared.flight.InFlight.{InFlight}
 use Rattle.flush_core.specs.NodeSets.{has_node}
-use Rattle.flush_core.specs.Rules.{IsOneOf}
-use Rattle.flush_core.specs.Closure.{Flush}
-use Rattle.flush_core.specs.Machine.{IsShared, BeginsFlight, Refuses, reason_place, IsRefused, Accepts}
+use Rattle.cut_laws.specs.Rules.{IsOneOf}
+use Rattle.cut_laws.specs.Closure.{Flush}
+use Rattle.cut_laws.specs.Machine.{IsShared, BeginsFlight, Refuses, reason_place, IsRefused, Accepts}
 use Rattle.flush_core.specs.Flights.{flight_as, IsTaken, IsLeastTaken}
 use Rattle.flush_core.specs.State.{KeptState, machine_of}
-use Rattle.flush_core.proofs.Basics.{no_true, none_some}
+use Rattle.cut_laws.proofs.Basics.{no_true, none_some}
 
 module _ (old : KeptState) (commit : ℕ) (node : NodeId) (stamp : Stamp) (running : old.crashed ≡ false) (going : old.failed ≡ None) where
   abbrev flush : Flush

@@ -1,28 +1,28 @@
 -- What breaks a rule in a past breaks it in its history, and where nothing does the rule holds.
 use Rattle.std.proofs.Common.{◌≡◌, ℕ, ◌<◌, ◌≤◌, ◌↔◌, Bool, true, false, List, [], ◌∷◌, length, take, Option, Some, None, inl, inr, refl, sym, ap, subst, ◌∙◌, arith, Vec, Global}
 use Rattle.std.specs.Option.{option_map_or}
-use Rattle.sfs_tree.specs.declared.history.Entry.{Entry}
-use Rattle.sfs_tree.specs.Tree.{TreeState, row_of, is_directory}
-use Rattle.sfs_tree.specs.Sound.{Above}
-use Rattle.sfs_tree.specs.Changes.{RowChange}
-use Rattle.sfs_tree.specs.History.{tree_after, IsLegal}
-use Rattle.sfs_tree.specs.Laws.{IsSoundTree}
-use Rattle.sfs_tree.proofs.FileHistories.{histories_keep_sound}
+use Rattle.tree_laws.specs.declared.history.Entry.{Entry}
+use Rattle.tree_laws.specs.Tree.{TreeState, row_of, is_directory}
+use Rattle.tree_laws.specs.Sound.{Above}
+use Rattle.tree_laws.specs.Changes.{RowChange}
+use Rattle.tree_laws.specs.History.{tree_after, IsLegal}
+use Rattle.tree_laws.specs.Laws.{IsSoundTree}
+use Rattle.tree_laws.proofs.FileHistories.{histories_keep_sound}
 use Rattle.flush_core.specs.declared.past.OwnChange.{OwnChange}
 use Rattle.flush_core.specs.declared.past.BornNode.{BornNode}
 use Rattle.flush_core.specs.declared.past.Past.{Past}
 use Rattle.flush_core.specs.declared.rules.Rule.{Rule}
 use Rattle.flush_core.specs.declared.rules.Rule.TheVariants as rule
-use Rattle.flush_core.specs.Cut.{Cut, cut_of, IsWithin}
-use Rattle.flush_core.specs.Rules.{IsOneOf, IsChange, IsMove, IsLastPlacing, Birth, births_of, RenamesWhole, RemovalsWhole, BirthsKept, AncestorsKept}
+use Rattle.cut_laws.specs.Cut.{Cut, cut_of, IsWithin}
+use Rattle.cut_laws.specs.Rules.{IsOneOf, IsChange, IsMove, IsLastPlacing, Birth, births_of, RenamesWhole, RemovalsWhole, BirthsKept, AncestorsKept}
 use Rattle.flush_core.specs.Past.{IsPast, row_change_of, birth_of}
 use Rattle.flush_core.specs.Engine.{above_of}
 use Rattle.flush_core.specs.Broken.{CutKeeps, rule_place, IsFirstBroken, SomeIs, IsSplit, LeavesChange, IsBornLate, PlacesBelow, IsLatest, LacksAncestor}
-use Rattle.flush_core.proofs.Basics.{below_or}
+use Rattle.cut_laws.proofs.Basics.{below_or}
 use Rattle.sfs_base.proofs.BasicTruth.{not_both}
-use Rattle.flush_core.proofs.Listed.{from_map, to_map}
-use Rattle.flush_core.proofs.Along.{tree_at, core_at, effect_at, makes_at, tree_at-after, sound_at, fits_at, change_of}
-use Rattle.flush_core.proofs.Lives.{live_own}
+use Rattle.cut_laws.proofs.Listed.{from_map, to_map}
+use Rattle.cut_laws.proofs.Along.{tree_at, core_at, effect_at, makes_at, tree_at-after, sound_at, fits_at, change_of}
+use Rattle.cut_laws.proofs.Lives.{live_own}
 use Rattle.flush_core.proofs.Required.{kept_change, change_kept}
 use Rattle.flush_core.proofs.Ways.{row_on_way, next_on_way}
 

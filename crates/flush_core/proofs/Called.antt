@@ -1,19 +1,19 @@
 -- A call that is told to a state.
 use Rattle.std.proofs.Common.{◌≡◌, ◌<◌, ◌≤◌, Bool, false, [], ◌∷◌, ◌++◌, length, sym, ap, ◌∙◌, arith}
-use Rattle.sfs_tree.specs.declared.history.Entry.{Entry}
-use Rattle.sfs_tree.specs.declared.reply.Reply.{Reply}
-use Rattle.sfs_tree.specs.Tree.{TreeState}
-use Rattle.sfs_tree.specs.Verdict.{verdict}
-use Rattle.sfs_tree.specs.History.{tree_after, flushes, MayCome}
-use Rattle.sfs_tree.proofs.Cores.{cores_stay}
-use Rattle.flush_core.specs.declared.event.Event.TheVariants as event
-use Rattle.flush_core.specs.declared.event.Refused.{Refused}
-use Rattle.flush_core.specs.declared.event.Refused.TheVariants as refused
+use Rattle.tree_laws.specs.declared.history.Entry.{Entry}
+use Rattle.tree_laws.specs.declared.reply.Reply.{Reply}
+use Rattle.tree_laws.specs.Tree.{TreeState}
+use Rattle.tree_laws.specs.Verdict.{verdict}
+use Rattle.tree_laws.specs.History.{tree_after, flushes, MayCome}
+use Rattle.tree_laws.proofs.Cores.{cores_stay}
+use Rattle.cut_laws.specs.declared.event.Event.TheVariants as event
+use Rattle.cut_laws.specs.declared.event.Refused.{Refused}
+use Rattle.cut_laws.specs.declared.event.Refused.TheVariants as refused
 use Rattle.flush_core.specs.declared.past.Past.{Past}
-use Rattle.flush_core.specs.Machine.{Refuses, reason_place, IsRefused, Accepts}
+use Rattle.cut_laws.specs.Machine.{Refuses, reason_place, IsRefused, Accepts}
 use Rattle.flush_core.specs.State.{KeptState, machine_of, HasDueAnswer}
 use Rattle.flush_core.specs.Story.{IsReadyPast}
-use Rattle.flush_core.proofs.Basics.{no_true, none_some}
+use Rattle.cut_laws.proofs.Basics.{no_true, none_some}
 
 module _ (old : KeptState) (past : Past) (ready : IsReadyPast old.first old.entries past) where
   abbrev tree : TreeState

@@ -11,29 +11,30 @@ use Rattle.std.specs.FinMap.Entries.{below_all}
 use Rattle.std.proofs.lemmas.List.{map-append, take_more}
 use Rattle.std.proofs.lemmas.List.Elements.{filter-append}
 use Rattle.std.proofs.lemmas.List.Sums.{fold-append}
-use Rattle.sfs_tree.specs.declared.history.Entry.{Entry}
-use Rattle.sfs_tree.specs.declared.name_map.NameRow.{NameRow}
-use Rattle.sfs_tree.specs.NameRow.{name_and_child}
-use Rattle.sfs_tree.specs.Order.{name_cmp}
-use Rattle.sfs_tree.specs.Tree.{TreeState, Node, names_of, is_directory_kind}
-use Rattle.sfs_tree.specs.Sound.{IsSound}
-use Rattle.sfs_tree.specs.Changes.{RowChange, is_own_below, with_change, changes_of}
-use Rattle.sfs_tree.proofs.Joined.{is_equal, name_cmp-IsAntisymmetric}
-use Rattle.sfs_tree.proofs.Names.{get-names_where}
-use Rattle.sfs_tree.proofs.Search.{is_less}
+use Rattle.tree_laws.specs.declared.history.Entry.{Entry}
+use Rattle.tree_laws.specs.declared.name_map.NameRow.{NameRow}
+use Rattle.tree_laws.specs.NameRow.{name_and_child}
+use Rattle.tree_laws.specs.Order.{name_cmp}
+use Rattle.tree_laws.specs.Tree.{TreeState, Node, names_of, is_directory_kind}
+use Rattle.tree_laws.specs.Sound.{IsSound}
+use Rattle.tree_laws.specs.Changes.{RowChange, is_own_below, with_change, changes_of}
+use Rattle.tree_laws.proofs.Joined.{is_equal, name_cmp-IsAntisymmetric}
+use Rattle.tree_laws.proofs.Names.{get-names_where}
+use Rattle.tree_laws.proofs.Search.{is_less}
 use Rattle.sfs_base.proofs.BasicTruth.{both_second, both_first, and_second, not_both}
 use Rattle.flush_core.specs.declared.past.OwnChange.{OwnChange}
 use Rattle.flush_core.specs.declared.past.Past.{Past}
 use Rattle.flush_core.specs.declared.sets.NodeSet.{NodeSet}
-use Rattle.flush_core.specs.Cut.{Cut, cut_of, counted_rows_at_cut}
-use Rattle.flush_core.specs.Rules.{IsOneOf}
-use Rattle.flush_core.specs.Closure.{every_entry}
+use Rattle.cut_laws.specs.Cut.{Cut, cut_of, counted_rows_at_cut}
+use Rattle.cut_laws.specs.Rules.{IsOneOf}
+use Rattle.cut_laws.specs.Closure.{every_entry}
 use Rattle.flush_core.specs.Past.{IsPast, row_change_of}
 use Rattle.flush_core.specs.NodeSets.{has_node}
-use Rattle.flush_core.specs.Engine.{OfSome, Joins}
+use Rattle.flush_core.specs.Engine.{Joins}
+use Rattle.cut_laws.specs.Elements.{OfSome}
 use Rattle.flush_core.specs.Named.{kept_rows, IsChild, IsChildOf, IsChildIn, AreChildren, AreNamed}
-use Rattle.flush_core.proofs.CutRows.{names_of-cut}
-use Rattle.flush_core.proofs.Listed.{from_map, to_map}
+use Rattle.cut_laws.proofs.CutRows.{names_of-cut}
+use Rattle.cut_laws.proofs.Listed.{from_map, to_map}
 
 -- rows without a name stay when it is taken away
 pub remove_absent : (rows : FinMap name_cmp ℕ) (name : List ℕ) → get rows name ≡ None → rows ≡ remove rows name

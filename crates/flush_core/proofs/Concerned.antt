@@ -1,15 +1,16 @@
 -- The nodes that an fsync concerns.
 use Rattle.std.proofs.Common.{◌≡◌, ℕ, true, List, ◌⊎◌, inl, inr, sym, ap, subst}
-use Rattle.sfs_tree.specs.declared.history.Entry.{Entry}
-use Rattle.sfs_tree.specs.Tree.{TreeState}
-use Rattle.sfs_tree.specs.Changes.{RowChange}
+use Rattle.tree_laws.specs.declared.history.Entry.{Entry}
+use Rattle.tree_laws.specs.Tree.{TreeState}
+use Rattle.tree_laws.specs.Changes.{RowChange}
 use Rattle.flush_core.specs.declared.past.Past.{Past}
 use Rattle.flush_core.specs.declared.sets.NodeSet.{NodeSet}
-use Rattle.flush_core.specs.Cut.{Cut}
-use Rattle.flush_core.specs.Closure.{every_entry, Flush, IsConcerned, member, named}
+use Rattle.cut_laws.specs.Cut.{Cut}
+use Rattle.cut_laws.specs.Closure.{every_entry, Flush, IsConcerned, member, named}
 use Rattle.flush_core.specs.Past.{IsPast, row_change_of}
 use Rattle.flush_core.specs.NodeSets.{has_node}
-use Rattle.flush_core.specs.Engine.{OfSome, Joins, NamesFor}
+use Rattle.flush_core.specs.Engine.{Joins, NamesFor}
+use Rattle.cut_laws.specs.Elements.{OfSome}
 use Rattle.flush_core.specs.Members.{AreMembers, AreConcerned}
 use Rattle.flush_core.proofs.Required.{change_kept, in_span, spans_of}
 

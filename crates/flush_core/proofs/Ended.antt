@@ -2,18 +2,18 @@
 use Rattle.std.proofs.Common.{◌≡◌, ℕ, Bool, true, false, cond, not, ◌≤◌, arith, List, [], ◌∷◌, map, Option, Some, None, option_map, is_some, refl, sym, ap, ◌∙◌}
 use Rattle.std.specs.Prelude.{filter, ◌==◌}
 use Rattle.std.specs.List.{find}
-use Rattle.flush_core.specs.declared.event.Event.{Event}
-use Rattle.flush_core.specs.declared.event.Event.TheVariants as event
-use Rattle.flush_core.specs.declared.event.Refused.{Refused}
-use Rattle.flush_core.specs.declared.event.Refused.TheVariants as refused
+use Rattle.cut_laws.specs.declared.event.Event.{Event}
+use Rattle.cut_laws.specs.declared.event.Event.TheVariants as event
+use Rattle.cut_laws.specs.declared.event.Refused.{Refused}
+use Rattle.cut_laws.specs.declared.event.Refused.TheVariants as refused
 use Rattle.flush_core.specs.declared.flight.InFlight.{InFlight}
 use Rattle.flush_core.specs.declared.raise.Raise.{Raise}
 use Rattle.flush_core.specs.NodeSets.{has_node}
-use Rattle.flush_core.specs.Closure.{every_entry, Flush, AreRaised, none, one_more}
-use Rattle.flush_core.specs.Machine.{Flight, Refuses, reason_place, IsRefused, Accepts, flight_of, is_flying, is_opened}
+use Rattle.cut_laws.specs.Closure.{every_entry, Flush, AreRaised, none, one_more}
+use Rattle.cut_laws.specs.Machine.{Flight, Refuses, reason_place, IsRefused, Accepts, flight_of, is_flying, is_opened}
 use Rattle.flush_core.specs.Flights.{flight_as, flush_in}
 use Rattle.flush_core.specs.State.{KeptState, machine_of, inodes_of, IsRaisedTo, kept_flushes}
-use Rattle.flush_core.proofs.Basics.{no_true, none_some}
+use Rattle.cut_laws.proofs.Basics.{no_true, none_some}
 
 -- a kept state with another cut, other inodes and other flights
 abbrev raised_to : KeptState → Raise → KeptState

@@ -3,9 +3,10 @@ use Rattle.std.proofs.Common.{◌≡◌, ℕ, ◌+◌, ◌<◌, ◌≤◌, true,
 use Rattle.std.proofs.lemmas.List.{take_all}
 use Rattle.flush_core.specs.declared.sets.NodeSet.{NodeSet}
 use Rattle.flush_core.specs.NodeSets.{has_node, with_member}
-use Rattle.flush_core.specs.Engine.{OfSome, Joins}
+use Rattle.flush_core.specs.Engine.{Joins}
+use Rattle.cut_laws.specs.Elements.{OfSome}
 use Rattle.sfs_base.proofs.BasicTruth.{not_both}
-use Rattle.flush_core.proofs.Listed.{one_more, still_one, next_one}
+use Rattle.cut_laws.proofs.Listed.{one_more, still_one, next_one}
 use Rattle.flush_core.proofs.Marks.{with_in, with_kept, with_cases}
 
 -- none of them has added any

@@ -3,16 +3,16 @@ use Rattle.std.proofs.Common.{◌≡◌, ℕ, List, [], ◌∷◌, ◌++◌, map
 use Rattle.std.proofs.lemmas.List.{append-nil}
 use Rattle.sfs_base.specs.declared.numbers.Kind.{Kind}
 use Rattle.sfs_base.specs.declared.numbers.NodeId.{NodeId}
-use Rattle.sfs_tree.specs.declared.history.Entry.{Entry}
-use Rattle.sfs_tree.specs.declared.call.Call.{Call}
-use Rattle.sfs_tree.specs.declared.call.Call.TheVariants as call
-use Rattle.sfs_tree.specs.declared.reply.Reply.TheVariants as reply
-use Rattle.sfs_tree.specs.Changes.{changes_by}
-use Rattle.sfs_tree.specs.Verdict.{verdict}
-use Rattle.sfs_tree.specs.History.{tree_after_entry}
+use Rattle.tree_laws.specs.declared.history.Entry.{Entry}
+use Rattle.tree_laws.specs.declared.call.Call.{Call}
+use Rattle.tree_laws.specs.declared.call.Call.TheVariants as call
+use Rattle.tree_laws.specs.declared.reply.Reply.TheVariants as reply
+use Rattle.tree_laws.specs.Changes.{changes_by}
+use Rattle.tree_laws.specs.Verdict.{verdict}
+use Rattle.tree_laws.specs.History.{tree_after_entry}
 use Rattle.flush_core.specs.declared.past.OwnChange.{OwnChange}
 use Rattle.flush_core.specs.declared.past.Past.{Past}
-use Rattle.flush_core.specs.Rules.{Birth, births_by}
+use Rattle.cut_laws.specs.Rules.{Birth, births_by}
 use Rattle.flush_core.specs.Past.{row_change_of, birth_of}
 use Rattle.flush_core.specs.Plan.{KeepAllAbove, plan_of}
 use Rattle.flush_core.specs.Grows.{Grows, HasBirth}

@@ -1,48 +1,26 @@
 -- A past to which a legal call was added is that of the longer history.
 use Rattle.std.proofs.Common.{◌≡◌, ℕ, ◌<◌, ◌≤◌, List, [], ◌∷◌, ◌++◌, length, take, map, inl, inr, refl, sym, ap, subst, ◌∙◌, arith}
-use Rattle.std.proofs.lemmas.List.{append_assoc, append-nil, map-append}
-use Rattle.sfs_tree.specs.declared.history.Entry.{Entry}
-use Rattle.sfs_tree.specs.Tree.{TreeState}
-use Rattle.sfs_tree.specs.Effect.{Effect}
-use Rattle.sfs_tree.specs.Verdict.{verdict}
-use Rattle.sfs_tree.specs.Changes.{RowChange, changes_by, changes_of}
-use Rattle.sfs_tree.specs.History.{tree_after, tree_after_entry, IsLegal}
-use Rattle.sfs_tree.specs.Laws.{IsSoundTree}
-use Rattle.sfs_tree.proofs.Histories.{tree_after-push}
-use Rattle.sfs_tree.proofs.SoundTrees.{calls_fit}
-use Rattle.sfs_tree.proofs.FileHistories.{histories_keep_sound}
+use Rattle.std.proofs.lemmas.List.{map-append}
+use Rattle.tree_laws.specs.declared.history.Entry.{Entry}
+use Rattle.tree_laws.specs.Tree.{TreeState}
+use Rattle.tree_laws.specs.Effect.{Effect}
+use Rattle.tree_laws.specs.Verdict.{verdict}
+use Rattle.tree_laws.specs.Changes.{RowChange, changes_by, changes_of}
+use Rattle.tree_laws.specs.History.{tree_after, tree_after_entry, IsLegal}
+use Rattle.tree_laws.specs.Laws.{IsSoundTree}
+use Rattle.tree_laws.proofs.Histories.{tree_after-push}
+use Rattle.tree_laws.proofs.SoundTrees.{calls_fit}
+use Rattle.tree_laws.proofs.FileHistories.{histories_keep_sound}
 use Rattle.flush_core.specs.declared.past.OwnChange.{OwnChange}
 use Rattle.flush_core.specs.declared.past.Past.{Past}
-use Rattle.flush_core.specs.Rules.{IsOneOf, IsChange, births_by, births_of}
+use Rattle.cut_laws.specs.Rules.{IsOneOf, IsChange, births_by, births_of}
 use Rattle.flush_core.specs.Past.{row_change_of, KeepsAbove, IsPast}
 use Rattle.flush_core.specs.Grows.{Grows}
-use Rattle.flush_core.proofs.Basics.{in_either}
-use Rattle.flush_core.proofs.Own.{stamp_of}
-use Rattle.flush_core.proofs.Lives.{live_own}
-use Rattle.flush_core.proofs.Prefix.{take_take, change_below}
-
--- the changes and births of a history with an entry more
-pub changes_of-push : (first : TreeState) (history : List Entry) (entry : Entry)
-    → changes_of first (history ++ entry ∷ [])
-    ≡ changes_of first history ++ changes_by (tree_after first history) entry.stamp.0 (verdict (tree_after first history) entry.core.0 entry.call).effect
-changes_of-push first [] entry = append-nil (changes_by first entry.stamp.0 (verdict first entry.core.0 entry.call).effect)
-changes_of-push first (e ∷ history) entry =
-    ap (λ l. changes_by first e.stamp.0 (verdict first e.core.0 e.call).effect ++ l) (changes_of-push (tree_after_entry first e) history entry)
-    ∙ sym (append_assoc (changes_by first e.stamp.0 (verdict first e.core.0 e.call).effect) (changes_of (tree_after_entry first e) history) _)
-
-pub births_of-push : (first : TreeState) (history : List Entry) (entry : Entry)
-    → births_of first (history ++ entry ∷ [])
-    ≡ births_of first history
-    ++ births_by entry.stamp.0 (verdict (tree_after first history) entry.core.0 entry.call).effect
-    (verdict (tree_after first history) entry.core.0 entry.call).makes
-births_of-push first [] entry =
-    append-nil (births_by entry.stamp.0 (verdict first entry.core.0 entry.call).effect (verdict first entry.core.0 entry.call).makes)
-births_of-push first (e ∷ history) entry =
-    ap (λ l. births_by e.stamp.0 (verdict first e.core.0 e.call).effect (verdict first e.core.0 e.call).makes ++ l)
-    (births_of-push (tree_after_entry first e) history entry)
-    ∙ sym
-    (append_assoc (births_by e.stamp.0 (verdict first e.core.0 e.call).effect (verdict first e.core.0 e.call).makes)
-    (births_of (tree_after_entry first e) history) _)
+use Rattle.cut_laws.proofs.Basics.{in_either}
+use Rattle.cut_laws.proofs.Pushed.{changes_of-push, births_of-push}
+use Rattle.cut_laws.proofs.Own.{stamp_of}
+use Rattle.cut_laws.proofs.Lives.{live_own}
+use Rattle.cut_laws.proofs.Prefix.{take_take, change_below}
 
 take_length : {X : Type 0} (xs ys : List X) → take (length xs) (xs ++ ys) ≡ xs
 take_length [] ys = refl

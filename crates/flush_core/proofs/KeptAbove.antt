@@ -1,16 +1,16 @@
 -- When the directories above are noted of a change.
 use Rattle.std.proofs.Common.{◌≡◌, ◌≢◌, ◌++◌, ℕ, Bool, true, false, cond, List, [], ◌∷◌, Option, Some, None, IsSome, Vec, Global, inl, inr, refl, sym, ap, subst, ◌∙◌, nat_eq}
 use borrow.Author.Tests.{eqb-true, eqb-false}
-use Rattle.sfs_tree.specs.Tree.{TreeState, is_directory, is_alive}
-use Rattle.sfs_tree.specs.Sound.{Above, IsSound}
-use Rattle.sfs_tree.specs.Changes.{RowChange, added, removed, other_side}
-use Rattle.sfs_tree.proofs.KeepsSound.{way_up}
-use Rattle.sfs_tree.proofs.Walks.{walk_is}
+use Rattle.tree_laws.specs.Tree.{TreeState, is_directory, is_alive}
+use Rattle.tree_laws.specs.Sound.{Above, IsSound}
+use Rattle.tree_laws.specs.Changes.{RowChange, added, removed, other_side}
+use Rattle.tree_laws.proofs.KeepsSound.{way_up}
+use Rattle.tree_laws.proofs.Walks.{walk_is}
 use Rattle.flush_core.specs.declared.past.OwnChange.{OwnChange}
-use Rattle.flush_core.specs.Rules.{MovesDirectory}
+use Rattle.cut_laws.specs.Rules.{MovesDirectory}
 use Rattle.flush_core.specs.Past.{row_change_of, KeepsAbove}
 use Rattle.flush_core.specs.Plan.{KeepAllAbove, IsAboveNew}
-use Rattle.flush_core.proofs.Basics.{in_either, no_true, none_some}
+use Rattle.cut_laws.proofs.Basics.{in_either, no_true, none_some}
 
 -- none are noted of a change that moves no directory
 pub noted_none : (tree : TreeState) (change : OwnChange) → (MovesDirectory tree (row_change_of change) → ⊥) → change.above ≡ None → KeepsAbove tree change

@@ -6,8 +6,8 @@ use Rattle.std.specs.List.{list_any}
 use Rattle.std.proofs.lemmas.List.{take_more, map-append, append-nil}
 use Rattle.std.proofs.lemmas.List.Elements.{filter-append}
 use Rattle.flush_core.specs.declared.flight.InFlight.{InFlight}
-use Rattle.flush_core.specs.Rules.{IsOneOf}
-use Rattle.flush_core.specs.Machine.{Flight}
+use Rattle.cut_laws.specs.Rules.{IsOneOf}
+use Rattle.cut_laws.specs.Machine.{Flight}
 use Rattle.flush_core.specs.Flights.{flight_as}
 use Rattle.flush_core.specs.State.{kept_flushes}
 use Rattle.sfs_base.proofs.BasicTruth.{not_both}

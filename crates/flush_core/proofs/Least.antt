@@ -3,10 +3,10 @@ use Rattle.std.proofs.Common.{◌≡◌, ℕ, ◌≤◌, true, false, cond, List
 use Rattle.std.proofs.lemmas.Bool.{leb-true, leb-false}
 use Rattle.flush_core.specs.declared.sets.NodeSet.{NodeSet}
 use Rattle.flush_core.specs.NodeSets.{has_node}
-use Rattle.flush_core.specs.Machine.{Flight}
-use Rattle.flush_core.specs.Rules.{IsOneOf}
+use Rattle.cut_laws.specs.Machine.{Flight}
+use Rattle.cut_laws.specs.Rules.{IsOneOf}
 use Rattle.flush_core.specs.Flights.{IsTaken, lesser_of, IsLeastTaken}
-use Rattle.flush_core.proofs.Basics.{in_either, in_left, in_right, le_of, none_some}
+use Rattle.cut_laws.proofs.Basics.{in_either, in_left, in_right, le_of, none_some}
 use Rattle.sfs_base.proofs.BasicOptions.{some_same}
 
 pub record IsLeastOf (flights : List Flight) (nodes : List ℕ) (least : Option ℕ) : Type 0 where

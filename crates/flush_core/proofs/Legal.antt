@@ -1,10 +1,10 @@
 -- What a legal history says of the entry at a place.
 use Rattle.std.proofs.Common.{◌≡◌, ℕ, zero, suc, ◌+◌, ◌<◌, List, [], ◌∷◌, ◌++◌, length, take, get_or, sym, ap, ◌∙◌, arith}
 use Rattle.std.proofs.lemmas.List.{take_more}
-use Rattle.sfs_tree.specs.declared.history.Entry.{Entry}
-use Rattle.sfs_tree.specs.Tree.{TreeState}
-use Rattle.sfs_tree.specs.History.{tree_after, tree_after_entry, MayCome, IsLegalFrom, IsLegal}
-use Rattle.flush_core.proofs.Prefix.{legal_take}
+use Rattle.tree_laws.specs.declared.history.Entry.{Entry}
+use Rattle.tree_laws.specs.Tree.{TreeState}
+use Rattle.tree_laws.specs.History.{tree_after, tree_after_entry, MayCome, IsLegalFrom, IsLegal}
+use Rattle.cut_laws.proofs.Prefix.{legal_take}
 
 comes_from : (first : TreeState) (history : List Entry) (stamp i : ℕ) (d : Entry) → IsLegalFrom first stamp history → i < length history
     → MayCome (tree_after first (take i history)) (stamp + i) (get_or history i d)

@@ -2,8 +2,8 @@
 use Rattle.std.proofs.Common.{◌≡◌, ℕ, ◌+◌, ◌<◌, List, length, take, get_or, Option, Some, None, inl, inr, refl, sym, ap, arith}
 use Rattle.flush_core.specs.declared.past.OwnChange.{OwnChange}
 use Rattle.flush_core.specs.Broken.{PlacesBelow, IsLatest, later}
-use Rattle.flush_core.proofs.Basics.{below_or}
-use Rattle.flush_core.proofs.Listed.{one_more, still_one, next_one}
+use Rattle.cut_laws.proofs.Basics.{below_or}
+use Rattle.cut_laws.proofs.Listed.{one_more, still_one, next_one}
 
 same_stamp : (change other : OwnChange) → change ≡ other → other.stamp ≡ change.stamp
 same_stamp change other e = ap (λ (c : OwnChange). c.stamp) (sym e)

@@ -3,18 +3,18 @@ use Rattle.std.specs.Prelude.{not, ◌==◌}
 use Rattle.std.proofs.Common.{◌≡◌, ℕ, Bool, true, false, cond, List, [], ◌∷◌, take, drop, Option, Some, None, refl, ap}
 use Rattle.sfs_base.specs.declared.numbers.Kind.{Kind}
 use Rattle.sfs_base.specs.declared.numbers.NodeId.{NodeId}
-use Rattle.sfs_tree.specs.declared.call.Call.{Call}
-use Rattle.sfs_tree.specs.declared.call.Call.TheVariants as call
-use Rattle.sfs_tree.specs.declared.reply.Code.{Code}
-use Rattle.sfs_tree.specs.declared.reply.Code.TheVariants.{NotDir, NotEmpty}
-use Rattle.sfs_tree.specs.declared.reply.Reply.{Reply}
-use Rattle.sfs_tree.specs.declared.reply.Reply.TheVariants as reply
-use Rattle.sfs_tree.specs.Tree.{TreeState, row_of, is_directory, row_count, next_number, bytes_of, kind_of, links_of, names_of}
-use Rattle.sfs_tree.specs.Names.{with_kinds}
-use Rattle.sfs_tree.specs.Effect.{Effect, Stays, Adds, Removes, Moves, Edits, Edit}
-use Rattle.sfs_tree.specs.Changes.{added, changes_by}
-use Rattle.sfs_tree.specs.Verdict.{Verdict, verdict, directory_fault, file_fault, node_fault, size_of, refused, answered, done, or_else, look_row, make_fault, make_node, unlink_row, rmdir_row, move_fault, move_row, names_child}
-use Rattle.flush_core.specs.Rules.{Birth, births_by}
+use Rattle.tree_laws.specs.declared.call.Call.{Call}
+use Rattle.tree_laws.specs.declared.call.Call.TheVariants as call
+use Rattle.tree_laws.specs.declared.reply.Code.{Code}
+use Rattle.tree_laws.specs.declared.reply.Code.TheVariants.{NotDir, NotEmpty}
+use Rattle.tree_laws.specs.declared.reply.Reply.{Reply}
+use Rattle.tree_laws.specs.declared.reply.Reply.TheVariants as reply
+use Rattle.tree_laws.specs.Tree.{TreeState, row_of, is_directory, row_count, next_number, bytes_of, kind_of, links_of, names_of}
+use Rattle.tree_laws.specs.Names.{with_kinds}
+use Rattle.tree_laws.specs.Effect.{Effect, Stays, Adds, Removes, Moves, Edits, Edit}
+use Rattle.tree_laws.specs.Changes.{added, changes_by}
+use Rattle.tree_laws.specs.Verdict.{Verdict, verdict, directory_fault, file_fault, node_fault, size_of, refused, answered, done, or_else, look_row, make_fault, make_node, unlink_row, rmdir_row, move_fault, move_row, names_child}
+use Rattle.cut_laws.specs.Rules.{Birth, births_by}
 use Rattle.flush_core.specs.Plan.{plan_of, removal, moving}
 
 -- A line of the table changes what a plan says where it answers Ok, else nothing, and it makes no node.

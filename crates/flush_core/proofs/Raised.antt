@@ -3,14 +3,14 @@ use Rattle.std.proofs.Common.{◌≡◌, ◌≢◌, ℕ, ◌+◌, ◌<◌, ◌�
 use Rattle.std.proofs.lemmas.List.{take_all}
 use Rattle.std.specs.Prelude.{max, if◌then◌else◌}
 use borrow.Author.Tests.{eqb-true, eqb-false, ltb-true, ltb-false}
-use Rattle.sfs_tree.specs.declared.history.Entry.{Entry}
-use Rattle.sfs_tree.specs.Tree.{TreeState, is_directory}
-use Rattle.sfs_tree.specs.Changes.{RowChange}
+use Rattle.tree_laws.specs.declared.history.Entry.{Entry}
+use Rattle.tree_laws.specs.Tree.{TreeState, is_directory}
+use Rattle.tree_laws.specs.Changes.{RowChange}
 use Rattle.flush_core.specs.declared.past.Past.{Past}
 use Rattle.flush_core.specs.declared.sets.NodeSet.{NodeSet}
-use Rattle.flush_core.specs.Cut.{Cut, cut_of, IsWithin}
-use Rattle.flush_core.specs.Rules.{IsOneOf}
-use Rattle.flush_core.specs.Closure.{every_entry, Flush, IsConcerned, IsReached, IsDead, AreInodesAfter}
+use Rattle.cut_laws.specs.Cut.{Cut, cut_of, IsWithin}
+use Rattle.cut_laws.specs.Rules.{IsOneOf}
+use Rattle.cut_laws.specs.Closure.{every_entry, Flush, IsConcerned, IsReached, IsDead, AreInodesAfter}
 use Rattle.flush_core.specs.Past.{IsPast}
 use Rattle.flush_core.specs.Stamps.{at_least}
 use Rattle.flush_core.specs.NodeSets.{has_node, with_member}
@@ -19,7 +19,7 @@ use Rattle.flush_core.specs.Members.{AreConcerned}
 use Rattle.flush_core.specs.Named.{AreNamed}
 use Rattle.flush_core.specs.Inodes.{GetsInode, LosesInode, Settles}
 use Rattle.sfs_base.proofs.BasicTruth.{not_both}
-use Rattle.flush_core.proofs.Listed.{one_more, still_one, next_one}
+use Rattle.cut_laws.proofs.Listed.{one_more, still_one, next_one}
 use Rattle.flush_core.proofs.Marks.{with_in, with_other}
 use Rattle.flush_core.proofs.Required.{naming_is, is_naming}
 

@@ -1,22 +1,22 @@
 -- What the members bring in is in the closure, and the closure has no more.
 use Rattle.std.proofs.Common.{◌≡◌, ℕ, ◌<◌, ◌≤◌, true, false, List, [], take, Option, Some, None, inl, inr, refl, sym, ap, subst, ◌∙◌, Vec, Global}
 use Rattle.std.specs.Option.{option_map_or}
-use Rattle.sfs_tree.specs.declared.history.Entry.{Entry}
-use Rattle.sfs_tree.specs.Tree.{TreeState}
-use Rattle.sfs_tree.specs.Sound.{Above}
-use Rattle.sfs_tree.specs.Changes.{RowChange}
-use Rattle.sfs_tree.specs.History.{tree_after}
+use Rattle.tree_laws.specs.declared.history.Entry.{Entry}
+use Rattle.tree_laws.specs.Tree.{TreeState}
+use Rattle.tree_laws.specs.Sound.{Above}
+use Rattle.tree_laws.specs.Changes.{RowChange}
+use Rattle.tree_laws.specs.History.{tree_after}
 use Rattle.flush_core.specs.declared.past.OwnChange.{OwnChange}
 use Rattle.flush_core.specs.declared.past.BornNode.{BornNode}
 use Rattle.flush_core.specs.declared.past.Past.{Past}
 use Rattle.flush_core.specs.declared.sets.NodeSet.{NodeSet}
-use Rattle.flush_core.specs.Cut.{Cut, cut_of}
-use Rattle.flush_core.specs.Rules.{IsOneOf, IsChange, MovesDirectory, IsMove, Birth, births_of}
-use Rattle.flush_core.specs.Closure.{every_entry, Flush, InSpan, HasNaming, Closure, itself, other_side, ended, ancestor, birth_place}
+use Rattle.cut_laws.specs.Cut.{Cut, cut_of}
+use Rattle.cut_laws.specs.Rules.{IsOneOf, IsChange, MovesDirectory, IsMove, Birth, births_of}
+use Rattle.cut_laws.specs.Closure.{every_entry, Flush, InSpan, HasNaming, Closure, itself, other_side, ended, ancestor, birth_place}
 use Rattle.flush_core.specs.Past.{IsPast, row_change_of, birth_of}
 use Rattle.flush_core.specs.NodeSets.{has_node}
 use Rattle.flush_core.specs.Engine.{Spans, IsNaming, RequiresNode, IsRequired}
-use Rattle.flush_core.proofs.Listed.{from_map, to_map}
+use Rattle.cut_laws.proofs.Listed.{from_map, to_map}
 
 -- one of those that are kept as above is kept in a list
 kept_above : (kept : Option (Vec ℕ Global)) (node : ℕ) → IsOneOf (option_map_or (λ (above : Vec ℕ Global). above.items) kept []) node

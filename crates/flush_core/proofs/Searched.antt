@@ -2,8 +2,8 @@
 use Rattle.std.proofs.Common.{◌≡◌, ℕ, ◌+◌, ◌<◌, ◌≤◌, ◌↔◌, true, false, List, length, take, get_or, inl, inr}
 use Rattle.std.proofs.lemmas.List.{take_all}
 use Rattle.flush_core.specs.Broken.{SomeIs}
-use Rattle.flush_core.proofs.Basics.{no_true}
-use Rattle.flush_core.proofs.Listed.{one_at, one_more}
+use Rattle.cut_laws.proofs.Basics.{no_true}
+use Rattle.cut_laws.proofs.Listed.{one_at, one_more}
 
 -- one that is such was found at a place
 pub found : {X : Type 0} (Is : X → Type 0) (xs : List X) (i : ℕ) (d x : X) → i < length xs → x ≡ get_or xs i d → Is x → SomeIs xs Is

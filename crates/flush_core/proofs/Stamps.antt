@@ -7,7 +7,7 @@ use Rattle.std.specs.Ordering.{nat_cmp}
 use Rattle.std.specs.Cmp.{nat_cmp_total, unsigned_ties}
 use Rattle.std.specs.FinMap.{find, get-from_entries}
 use Rattle.std.proofs.lemmas.List.{get_or-set_same, get_or-set_other}
-use Rattle.flush_core.specs.Cut.{cut_of}
+use Rattle.cut_laws.specs.Cut.{cut_of}
 use Rattle.flush_core.specs.Stamps.{stamps_from, by_nodes, at_least}
 use Rattle.sfs_base.proofs.BasicNumbers.{not_same}
 

@@ -3,32 +3,32 @@ use Rattle.std.proofs.Common.{◌≡◌, ◌↔◌, ℕ, ◌+◌, ◌<◌, Bool,
 use Rattle.std.specs.Prelude.{filter, fold}
 use Rattle.std.proofs.lemmas.List.{take_more, length-take-le, take_all}
 use Rattle.sfs_base.specs.declared.numbers.CoreId.{CoreId}
-use Rattle.sfs_tree.specs.declared.call.Call.{Call}
-use Rattle.sfs_tree.specs.declared.call.Call.TheVariants as call
-use Rattle.sfs_tree.specs.declared.history.Entry.{Entry}
-use Rattle.sfs_tree.specs.declared.reply.Reply.{Reply}
-use Rattle.sfs_tree.specs.declared.reply.Reply.TheVariants as reply
-use Rattle.sfs_tree.specs.declared.reply.Code.TheVariants.{NoEntry}
-use Rattle.sfs_tree.specs.Tree.{TreeState, names_of}
-use Rattle.sfs_tree.specs.Verdict.{verdict, or_else, answered}
-use Rattle.sfs_tree.specs.Sound.{IsSound}
-use Rattle.sfs_tree.specs.Step.{IsReadable}
-use Rattle.sfs_tree.specs.Changes.{is_own_below, with_change, RowChange}
-use Rattle.sfs_tree.specs.History.{MayCome, IsLegal, IsDue, flushes, tree_after, is_ok_reply}
-use Rattle.sfs_tree.specs.Laws.{IsSoundTree}
-use Rattle.sfs_tree.proofs.Cores.{cores_stay}
-use Rattle.sfs_tree.proofs.Histories.{IsLegal-push}
-use Rattle.sfs_tree.proofs.FileHistories.{histories_keep_sound}
+use Rattle.tree_laws.specs.declared.call.Call.{Call}
+use Rattle.tree_laws.specs.declared.call.Call.TheVariants as call
+use Rattle.tree_laws.specs.declared.history.Entry.{Entry}
+use Rattle.tree_laws.specs.declared.reply.Reply.{Reply}
+use Rattle.tree_laws.specs.declared.reply.Reply.TheVariants as reply
+use Rattle.tree_laws.specs.declared.reply.Code.TheVariants.{NoEntry}
+use Rattle.tree_laws.specs.Tree.{TreeState, names_of}
+use Rattle.tree_laws.specs.Verdict.{verdict, or_else, answered}
+use Rattle.tree_laws.specs.Sound.{IsSound}
+use Rattle.tree_laws.specs.Step.{IsReadable}
+use Rattle.tree_laws.specs.Changes.{is_own_below, with_change, RowChange}
+use Rattle.tree_laws.specs.History.{MayCome, IsLegal, IsDue, flushes, tree_after, is_ok_reply}
+use Rattle.tree_laws.specs.Laws.{IsSoundTree}
+use Rattle.tree_laws.proofs.Cores.{cores_stay}
+use Rattle.tree_laws.proofs.Histories.{IsLegal-push}
+use Rattle.tree_laws.proofs.FileHistories.{histories_keep_sound}
 use Rattle.flush_core.specs.declared.past.Past.{Past}
-use Rattle.flush_core.specs.Cut.{Cut, cut_of, tree_at_cut}
+use Rattle.cut_laws.specs.Cut.{Cut, cut_of, tree_at_cut}
 use Rattle.flush_core.specs.Grows.{Grows}
 use Rattle.flush_core.specs.Named.{kept_rows}
 use Rattle.flush_core.specs.Past.{IsPast}
 use Rattle.flush_core.specs.Story.{StoryState, end_of, answered_entry, IsStanding, IsReadyPast}
 use Rattle.flush_core.specs.declared.past.OwnChange.{OwnChange}
-use Rattle.flush_core.proofs.Basics.{in_either}
+use Rattle.cut_laws.proofs.Basics.{in_either}
 use Rattle.sfs_base.proofs.BasicTruth.{not_both}
-use Rattle.flush_core.proofs.CutRows.{directories_are_cut}
+use Rattle.cut_laws.proofs.CutRows.{directories_are_cut}
 use Rattle.flush_core.proofs.Grown.{grown_past}
 use Rattle.flush_core.proofs.Legal.{comes_at}
 

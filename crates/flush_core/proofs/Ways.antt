@@ -1,9 +1,9 @@
 -- The way up from a directory: each row that names a node of it stands in the next.
 use Rattle.std.proofs.Common.{◌≡◌, ℕ, zero, suc, ◌<◌, ◌≤◌, true, List, ◌∷◌, length, slice_index, Some, inl, inr, sym, ap, ◌∙◌, arith}
-use Rattle.sfs_tree.specs.Tree.{TreeState, row_of, is_directory}
-use Rattle.sfs_tree.specs.Sound.{Above, at_root, below, IsSound}
+use Rattle.tree_laws.specs.Tree.{TreeState, row_of, is_directory}
+use Rattle.tree_laws.specs.Sound.{Above, at_root, below, IsSound}
 use Rattle.flush_core.specs.Broken.{IsNext}
-use Rattle.flush_core.specs.Rules.{IsOneOf}
+use Rattle.cut_laws.specs.Rules.{IsOneOf}
 
 -- the next directory has a row that names the node
 pub row_on_way : (tree : TreeState) (start : ℕ) (above : List ℕ) → Above tree start above → (place node holder : ℕ) → place < length above

@@ -1,14 +1,14 @@
 -- What each rule says of a cut, which rule is the first that does not hold, and what breaks a rule in a past.
 use Rattle.std.specs.Prelude.{◌≡◌, ℕ, ◌<◌, ◌≤◌, true, List, ◌∷◌, length, slice_index, max, Option, Some, None}
-use Rattle.sfs_tree.specs.declared.history.Entry.{Entry}
-use Rattle.sfs_tree.specs.Tree.{TreeState}
+use Rattle.tree_laws.specs.declared.history.Entry.{Entry}
+use Rattle.tree_laws.specs.Tree.{TreeState}
 use Rattle.flush_core.specs.declared.past.OwnChange.{OwnChange}
 use Rattle.flush_core.specs.declared.past.BornNode.{BornNode}
 use Rattle.flush_core.specs.declared.rules.Rule.{Rule}
 use Rattle.flush_core.specs.declared.rules.Rule.TheVariants as rule
-use Rattle.flush_core.specs.Cut.{Cut, cut_of}
+use Rattle.cut_laws.specs.Cut.{Cut, cut_of}
 use Rattle.flush_core.specs.Engine.{above_of}
-use Rattle.flush_core.specs.Rules.{IsOneOf, RenamesWhole, RemovalsWhole, BirthsKept, AncestorsKept, IsClosed}
+use Rattle.cut_laws.specs.Rules.{IsOneOf, RenamesWhole, RemovalsWhole, BirthsKept, AncestorsKept, IsClosed}
 
 -- A cut keeps a rule.
 abbrev pub CutKeeps : TreeState → List Entry → Cut → Rule → Type 0

@@ -5,9 +5,9 @@ use Rattle.flush_core.specs.declared.past.OwnChange.{OwnChange}
 use Rattle.flush_core.specs.declared.past.BornNode.{BornNode}
 use Rattle.flush_core.specs.declared.past.Past.{Past}
 use Rattle.flush_core.specs.declared.sets.NodeSet.{NodeSet}
-use Rattle.flush_core.specs.Cut.{Cut, cut_of}
+use Rattle.cut_laws.specs.Cut.{Cut, cut_of}
 use Rattle.flush_core.specs.NodeSets.{has_node}
-use Rattle.flush_core.specs.Rules.{IsOneOf}
+use Rattle.cut_laws.specs.Rules.{IsOneOf}
 
 -- A change lies in the span of its directory: from its cut to below the fsync's stamp.
 pub record Spans (cut : Cut) (stamp : ℕ) (change : OwnChange) : Type 0 where
@@ -61,10 +61,6 @@ IsRequired past cut inodes stamp members node =
 abbrev pub Finds : (ℕ → Type 0) → NodeSet → Option ℕ → Type 0
 Finds Needs set (Some node) = Needs node × (has_node set node ≡ false)
 Finds Needs set None = (node : ℕ) → Needs node → has_node set node ≡ true
-
--- One of some elements stands to a node as asked.
-abbrev pub OfSome : {X : Type 0} → List X → (X → ℕ → Type 0) → ℕ → Type 0
-OfSome {X} xs Relates node = (x : X) × IsOneOf xs x × Relates x node
 
 -- A set has the nodes of another one and more.
 abbrev pub Joins : (ℕ → Type 0) → NodeSet → NodeSet → Type 0

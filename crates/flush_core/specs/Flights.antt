@@ -7,9 +7,9 @@ use Rattle.sfs_base.specs.declared.numbers.Stamp.{Stamp}
 use Rattle.flush_core.specs.declared.sets.NodeSet.{NodeSet}
 use Rattle.flush_core.specs.declared.flight.InFlight.{InFlight}
 use Rattle.flush_core.specs.NodeSets.{has_node}
-use Rattle.flush_core.specs.Rules.{IsOneOf}
-use Rattle.flush_core.specs.Closure.{Flush}
-use Rattle.flush_core.specs.Machine.{Flight}
+use Rattle.cut_laws.specs.Rules.{IsOneOf}
+use Rattle.cut_laws.specs.Closure.{Flush}
+use Rattle.cut_laws.specs.Machine.{Flight}
 
 -- a flight as it is kept
 abbrev pub flight_as : InFlight → Flight

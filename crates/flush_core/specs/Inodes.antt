@@ -1,9 +1,9 @@
 -- Which nodes have an inode after an fsync, by what is found at its raised cut.
 use Rattle.std.specs.Prelude.{◌≡◌, ◌≢◌, ◌⊎◌, ℕ, ◌↔◌, Bool, true, false}
-use Rattle.sfs_tree.specs.Tree.{is_directory}
+use Rattle.tree_laws.specs.Tree.{is_directory}
 use Rattle.flush_core.specs.declared.past.Past.{Past}
 use Rattle.flush_core.specs.declared.sets.NodeSet.{NodeSet}
-use Rattle.flush_core.specs.Cut.{Cut}
+use Rattle.cut_laws.specs.Cut.{Cut}
 use Rattle.flush_core.specs.Engine.{IsNaming}
 use Rattle.flush_core.specs.NodeSets.{has_node}
 

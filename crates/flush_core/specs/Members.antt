@@ -1,11 +1,11 @@
 -- The members of an fsync as sets.
 use Rattle.std.specs.Prelude.{◌≡◌, ℕ, ◌↔◌, true, List}
-use Rattle.sfs_tree.specs.declared.history.Entry.{Entry}
-use Rattle.sfs_tree.specs.Tree.{TreeState}
+use Rattle.tree_laws.specs.declared.history.Entry.{Entry}
+use Rattle.tree_laws.specs.Tree.{TreeState}
 use Rattle.flush_core.specs.declared.sets.NodeSet.{NodeSet}
-use Rattle.flush_core.specs.Cut.{Cut}
+use Rattle.cut_laws.specs.Cut.{Cut}
 use Rattle.flush_core.specs.NodeSets.{has_node}
-use Rattle.flush_core.specs.Closure.{every_entry, Flush, Closure, IsConcerned}
+use Rattle.cut_laws.specs.Closure.{every_entry, Flush, Closure, IsConcerned}
 
 -- A set is the closure of an fsync.
 abbrev pub AreMembers : TreeState → List Entry → Cut → NodeSet → Flush → NodeSet → Type 0

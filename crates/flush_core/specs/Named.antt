@@ -1,15 +1,15 @@
 -- The nodes that rows name.
 use Rattle.std.specs.Prelude.{◌≡◌, ℕ, ◌↔◌, true, List, Some, map, filter, fold}
 use Rattle.std.specs.FinMap.{FinMap, get}
-use Rattle.sfs_tree.specs.declared.history.Entry.{Entry}
-use Rattle.sfs_tree.specs.declared.name_map.NameRow.{NameRow}
-use Rattle.sfs_tree.specs.Order.{name_cmp}
-use Rattle.sfs_tree.specs.Tree.{TreeState, names_of}
-use Rattle.sfs_tree.specs.Changes.{is_own_below, with_change}
+use Rattle.tree_laws.specs.declared.history.Entry.{Entry}
+use Rattle.tree_laws.specs.declared.name_map.NameRow.{NameRow}
+use Rattle.tree_laws.specs.Order.{name_cmp}
+use Rattle.tree_laws.specs.Tree.{TreeState, names_of}
+use Rattle.tree_laws.specs.Changes.{is_own_below, with_change}
 use Rattle.flush_core.specs.declared.past.OwnChange.{OwnChange}
 use Rattle.flush_core.specs.declared.sets.NodeSet.{NodeSet}
-use Rattle.flush_core.specs.Cut.{Cut, cut_of, counted_rows_at_cut}
-use Rattle.flush_core.specs.Closure.{every_entry, IsNamedIn}
+use Rattle.cut_laws.specs.Cut.{Cut, cut_of, counted_rows_at_cut}
+use Rattle.cut_laws.specs.Closure.{every_entry, IsNamedIn}
 use Rattle.flush_core.specs.NodeSets.{has_node}
 use Rattle.flush_core.specs.Past.{row_change_of}
 

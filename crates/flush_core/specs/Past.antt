@@ -1,14 +1,14 @@
 -- What the machine keeps of its calls, and when it is what it has to be.
 use Rattle.std.specs.Prelude.{◌≡◌, ℕ, List, map, take, Some}
-use Rattle.sfs_tree.specs.declared.history.Entry.{Entry}
-use Rattle.sfs_tree.specs.Tree.{TreeState}
-use Rattle.sfs_tree.specs.Sound.{Above}
-use Rattle.sfs_tree.specs.Changes.{RowChange, changes_of}
-use Rattle.sfs_tree.specs.History.{tree_after}
+use Rattle.tree_laws.specs.declared.history.Entry.{Entry}
+use Rattle.tree_laws.specs.Tree.{TreeState}
+use Rattle.tree_laws.specs.Sound.{Above}
+use Rattle.tree_laws.specs.Changes.{RowChange, changes_of}
+use Rattle.tree_laws.specs.History.{tree_after}
 use Rattle.flush_core.specs.declared.past.OwnChange.{OwnChange}
 use Rattle.flush_core.specs.declared.past.BornNode.{BornNode}
 use Rattle.flush_core.specs.declared.past.Past.{Past}
-use Rattle.flush_core.specs.Rules.{IsOneOf, Birth, births_of, MovesDirectory}
+use Rattle.cut_laws.specs.Rules.{IsOneOf, Birth, births_of, MovesDirectory}
 
 -- the change that is kept
 abbrev pub row_change_of : OwnChange → RowChange

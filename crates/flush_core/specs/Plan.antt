@@ -2,13 +2,13 @@
 use Rattle.std.specs.Prelude.{◌≡◌, ◌≢◌, ℕ, true, List, Option, Some, None, IsSome, Vec, if◌then◌else◌}
 use Rattle.std.specs.declared.alloc.Global.{Global}
 use Rattle.std.specs.FinMap.{len}
-use Rattle.sfs_tree.specs.declared.call.Call.{Call}
-use Rattle.sfs_tree.specs.declared.call.Call.TheVariants as call
-use Rattle.sfs_tree.specs.Tree.{TreeState, row_of, is_directory, is_alive, walk_up}
-use Rattle.sfs_tree.specs.Effect.{Effect, Stays, Adds, Removes, Moves}
-use Rattle.sfs_tree.specs.Verdict.{names_child}
+use Rattle.tree_laws.specs.declared.call.Call.{Call}
+use Rattle.tree_laws.specs.declared.call.Call.TheVariants as call
+use Rattle.tree_laws.specs.Tree.{TreeState, row_of, is_directory, is_alive, walk_up}
+use Rattle.tree_laws.specs.Effect.{Effect, Stays, Adds, Removes, Moves}
+use Rattle.tree_laws.specs.Verdict.{names_child}
 use Rattle.flush_core.specs.declared.past.OwnChange.{OwnChange}
-use Rattle.flush_core.specs.Rules.{IsOneOf}
+use Rattle.cut_laws.specs.Rules.{IsOneOf}
 use Rattle.flush_core.specs.Past.{KeepsAbove}
 
 -- a row goes, where it is there

@@ -2,7 +2,7 @@
 use Rattle.std.specs.Prelude.{ℕ, suc, List, [], ◌∷◌, ◌==◌, max, if◌then◌else◌}
 use Rattle.std.specs.Coded.{Coded, coded_ℕ}
 use Rattle.std.specs.FinMap.{code, from_entries}
-use Rattle.flush_core.specs.Cut.{Cut}
+use Rattle.cut_laws.specs.Cut.{Cut}
 
 -- stamps by the nodes' numbers, the first of which is this one
 abbrev pub stamps_from : ℕ → List ℕ → List (ℕ × ℕ)

@@ -2,21 +2,21 @@
 use Rattle.std.specs.Prelude.{◌≡◌, ◌==◌, ◌⊎◌, ◌↔◌, ℕ, Bool, ◌&&◌, List, map, filter, Option, Some, None, is_some, IsSome, IsTrue, Result, Ok, Err}
 use Rattle.std.specs.List.{list_any}
 use Rattle.std.specs.FinMap.{get}
-use Rattle.sfs_tree.specs.declared.history.Entry.{Entry}
-use Rattle.sfs_tree.specs.declared.reply.Reply.{Reply}
-use Rattle.sfs_tree.specs.Tree.{TreeState}
-use Rattle.sfs_tree.specs.History.{IsDue, is_ok_reply}
+use Rattle.tree_laws.specs.declared.history.Entry.{Entry}
+use Rattle.tree_laws.specs.declared.reply.Reply.{Reply}
+use Rattle.tree_laws.specs.Tree.{TreeState}
+use Rattle.tree_laws.specs.History.{IsDue, is_ok_reply}
 use Rattle.flush_core.specs.declared.flight.InFlight.{InFlight}
 use Rattle.flush_core.specs.declared.sets.NodeSet.{NodeSet}
 use Rattle.flush_core.specs.declared.raise.Raise.{Raise}
-use Rattle.flush_core.specs.declared.event.Event.{Event}
-use Rattle.flush_core.specs.declared.event.Refused.{Refused}
-use Rattle.flush_core.specs.declared.event.Refused.TheVariants as refused
-use Rattle.flush_core.specs.Cut.{Cut}
+use Rattle.cut_laws.specs.declared.event.Event.{Event}
+use Rattle.cut_laws.specs.declared.event.Refused.{Refused}
+use Rattle.cut_laws.specs.declared.event.Refused.TheVariants as refused
+use Rattle.cut_laws.specs.Cut.{Cut}
 use Rattle.flush_core.specs.Flights.{flight_as}
 use Rattle.flush_core.specs.NodeSets.{has_node}
-use Rattle.flush_core.specs.Closure.{every_entry, Flush, IsRaised, AreInodesAfter}
-use Rattle.flush_core.specs.Machine.{Flight, MachineState, IsRefused, Accepts}
+use Rattle.cut_laws.specs.Closure.{every_entry, Flush, IsRaised, AreInodesAfter}
+use Rattle.cut_laws.specs.Machine.{Flight, MachineState, IsRefused, Accepts}
 
 -- whether a tree has a node
 abbrev pub tree_has : TreeState → ℕ → Bool

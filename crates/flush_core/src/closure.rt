@@ -1,14 +1,15 @@
 // What one fsync flushes and concerns. The set of members grows by one node at a time, until what the changes and births bring in
 // for its members is in it.
 ghost use Rattle.std.specs.Prelude.{◌≡◌, ◌≤◌, ◌↔◌, ℕ, true, List, IfOk, OnOk};
-ghost use Rattle.sfs_tree.specs.declared.history.Entry.{Entry};
-ghost use Rattle.sfs_tree.specs.Tree.{TreeState};
-ghost use Rattle.flush_core.specs.Closure.{Flush};
-ghost use Rattle.flush_core.specs.Cut.{cut_of};
-ghost use Rattle.flush_core.specs.Engine.{Spans, IsNaming, RequiresNode, RequiresNodeFor, IsRequiredByChange, RequiresBirthplace, IsRequiredByBirth, IsRequired, Finds, OfSome, Joins, NamesFor};
+ghost use Rattle.tree_laws.specs.declared.history.Entry.{Entry};
+ghost use Rattle.tree_laws.specs.Tree.{TreeState};
+ghost use Rattle.cut_laws.specs.Closure.{Flush};
+ghost use Rattle.cut_laws.specs.Cut.{cut_of};
+ghost use Rattle.flush_core.specs.Engine.{Spans, IsNaming, RequiresNode, RequiresNodeFor, IsRequiredByChange, RequiresBirthplace, IsRequiredByBirth, IsRequired, Finds, Joins, NamesFor};
+ghost use Rattle.cut_laws.specs.Elements.{OfSome};
 ghost use Rattle.flush_core.specs.Members.{AreMembers, AreConcerned};
 ghost use Rattle.flush_core.specs.Past.{IsPast};
-ghost use Rattle.flush_core.specs.Rules.{IsOneOf};
+ghost use Rattle.cut_laws.specs.Rules.{IsOneOf};
 ghost use Rattle.flush_core.specs.declared.sets.NodeSet.{NodeSet};
 
 use crate::cut::Cut;

@@ -1,7 +1,7 @@
 // A cut: each node's stamp lies at the node's number, and past the last lies 0.
 ghost use Rattle.std.specs.Prelude.{◌≡◌, ◌<◌, ℕ, max, ◌^◌, vec_len, slice_index, slice_set, IfOk, OnOk, OnErr};
 ghost use Rattle.std.specs.FinMap.{empty};
-ghost use Rattle.flush_core.specs.Cut.{cut_of};
+ghost use Rattle.cut_laws.specs.Cut.{cut_of};
 ghost use Rattle.flush_core.specs.Stamps.{at_least};
 
 use sfs_base::NoMemory;
@@ -15,7 +15,7 @@ pub struct Cut {
 }
 
 impl Model for Cut {
-    ghost use Rattle.flush_core.specs.Cut as specs;
+    ghost use Rattle.cut_laws.specs.Cut as specs;
     ghost use Rattle.flush_core.specs.Stamps.{cut_code, by_nodes};
 
     ghost Value = { specs.Cut };

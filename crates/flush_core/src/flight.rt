@@ -1,11 +1,11 @@
 // Commits in flight, and what is asked of them.
 ghost use Rattle.std.specs.Prelude.{◌≡◌, ◌↔◌, ◌==◌, not, true, false, ℕ, List, map, filter, is_some, option_map, IfOk};
-ghost use Rattle.sfs_tree.specs.declared.history.Entry.{Entry};
-ghost use Rattle.sfs_tree.specs.Tree.{TreeState};
+ghost use Rattle.tree_laws.specs.declared.history.Entry.{Entry};
+ghost use Rattle.tree_laws.specs.Tree.{TreeState};
 ghost use Rattle.flush_core.specs.Members.{AreMembers, AreConcerned};
 ghost use Rattle.flush_core.specs.Past.{IsPast};
 ghost use Rattle.std.specs.List.{find};
-ghost use Rattle.flush_core.specs.Machine.{opened_for};
+ghost use Rattle.cut_laws.specs.Machine.{opened_for};
 ghost use Rattle.flush_core.specs.Flights.{flight_as, flight_in, flush_as, flush_in, is_flying_in, is_opened_in, IsTaken, IsLeastTaken, lesser_of, kept_opened};
 
 use crate::closure::{concerned_by, members_of};

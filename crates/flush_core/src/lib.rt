@@ -1,11 +1,9 @@
-//! What an fsync flushes: cuts of a history, their rules, and what is proved of them.
+//! The plain program of cuts and commits: the machine that takes calls and commits, and which rule a cut breaks.
 #![tactic(auto)]
 
 mod closure;
 mod cut;
-mod event;
 mod flight;
-pub mod laws;
 mod named;
 mod past;
 mod plan;
@@ -16,7 +14,7 @@ mod state;
 mod story;
 
 pub use cut::Cut;
-pub use event::{CommitList, Event, Refused};
+pub use cut_laws::{CommitList, Event, Refused};
 pub use rules::Rule;
 pub use state::State;
 pub use story::Story;

@@ -1,22 +1,24 @@
 // Which nodes the rows at a cut name. Each directory's rows are made of the first tree's by its own changes below the cut.
 ghost use Rattle.std.specs.Prelude.{◌≡◌, ◌↔◌, ℕ, true, List, IsSome, IfOk, OnOk, if◌then◌else◌};
 ghost use Rattle.std.specs.FinMap as finmap;
-ghost use Rattle.sfs_tree.specs.declared.history.Entry.{Entry};
-ghost use Rattle.sfs_tree.specs.Sound.{IsSound};
-ghost use Rattle.sfs_tree.specs.Changes.{is_own_below, with_change};
+ghost use Rattle.tree_laws.specs.declared.history.Entry.{Entry};
+ghost use Rattle.tree_laws.specs.Sound.{IsSound};
+ghost use Rattle.tree_laws.specs.Changes.{is_own_below, with_change};
 ghost use Rattle.flush_core.specs.declared.past.OwnChange.{OwnChange};
-ghost use Rattle.flush_core.specs.Cut.{cut_of};
-ghost use Rattle.flush_core.specs.Engine.{OfSome, Joins};
+ghost use Rattle.cut_laws.specs.Cut.{cut_of};
+ghost use Rattle.flush_core.specs.Engine.{Joins};
+ghost use Rattle.cut_laws.specs.Elements.{OfSome};
 ghost use Rattle.flush_core.specs.Named.{kept_rows, IsChild, IsChildOf, IsChildIn, AreChildren, StandsInDirectory, AreNamed};
 ghost use Rattle.flush_core.specs.NodeSets.{has_node};
 ghost use Rattle.flush_core.specs.Past.{IsPast, row_change_of};
-ghost use Rattle.flush_core.specs.Rules.{IsOneOf};
+ghost use Rattle.cut_laws.specs.Rules.{IsOneOf};
 
 use crate::cut::Cut;
 use crate::past::{OwnChange, Past};
 use crate::sets::NodeSet;
 use sfs_base::{Name, NoMemory, NodeId};
-use sfs_tree::{NameMap, NameRow, Tree};
+use sfs_tree::Tree;
+use tree_laws::{NameMap, NameRow};
 use std::alloc::Global;
 
 /// The nodes that some row at a cut names, where the history's first tree is sound. It takes time in proportion to the

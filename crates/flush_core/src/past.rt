@@ -1,14 +1,15 @@
 // What the machine keeps of its calls: the tree after them, and the changes and births that they made.
 ghost use Rattle.std.specs.Prelude.{◌≡◌, ◌<◌, [], ◌++◌, length, IfOk, OnOk};
-ghost use Rattle.sfs_tree.specs.Sound.{IsSound, IsNumbered};
-ghost use Rattle.sfs_tree.specs.Step.{IsReadable};
-ghost use Rattle.sfs_tree.specs.Verdict.{verdict};
+ghost use Rattle.tree_laws.specs.Sound.{IsSound, IsNumbered};
+ghost use Rattle.tree_laws.specs.Step.{IsReadable};
+ghost use Rattle.tree_laws.specs.Verdict.{verdict};
 ghost use Rattle.flush_core.specs.Past.{IsPast};
 ghost use Rattle.flush_core.specs.Grows.{Grows, HasBirth};
 
 use crate::plan::{planned_changes, put};
 use sfs_base::{Name, NoMemory, NodeId};
-use sfs_tree::{Call, Entry, Reply, Tree};
+use sfs_tree::Tree;
+use tree_laws::{Call, Entry, Reply};
 use std::alloc::Global;
 
 /// A row that a call took away or put, with the directories above the changed one where a directory was

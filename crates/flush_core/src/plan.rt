@@ -1,15 +1,16 @@
 // The changes that a call makes where it isn't refused, read off the tree before it.
 ghost use Rattle.std.specs.Prelude.{◌≡◌, None, map, IfOk};
-ghost use Rattle.sfs_tree.specs.NameRow.{node_number, number_of};
-ghost use Rattle.sfs_tree.specs.Tree.{row_of, is_directory};
-ghost use Rattle.sfs_tree.specs.Sound.{IsSound};
-ghost use Rattle.sfs_tree.specs.Changes.{added, removed, replaced, changes_by, other_side};
+ghost use Rattle.tree_laws.specs.NameRow.{node_number, number_of};
+ghost use Rattle.tree_laws.specs.Tree.{row_of, is_directory};
+ghost use Rattle.tree_laws.specs.Sound.{IsSound};
+ghost use Rattle.tree_laws.specs.Changes.{added, removed, replaced, changes_by, other_side};
 ghost use Rattle.flush_core.specs.Past.{row_change_of};
 ghost use Rattle.flush_core.specs.Plan.{plan_of, removal, moving, KeepAllAbove, IsAboveNew};
 
 use crate::past::OwnChange;
 use sfs_base::{Kind, Name, NoMemory, NodeId};
-use sfs_tree::{Call, Tree};
+use sfs_tree::Tree;
+use tree_laws::Call;
 use std::alloc::Global;
 
 /// The changes that a call makes where it isn't refused, but for the making of a node. Where a

@@ -1,17 +1,17 @@
 // What an fsync makes of the cut and of the nodes that have an inode.
 ghost use Rattle.std.specs.Prelude.{◌≡◌, ◌≢◌, ◌↔◌, ℕ, Bool, true, false, List, IfOk, OnOk};
-ghost use Rattle.sfs_tree.specs.declared.history.Entry.{Entry};
-ghost use Rattle.sfs_tree.specs.Tree.{is_directory};
-ghost use Rattle.sfs_tree.specs.Sound.{IsSound};
+ghost use Rattle.tree_laws.specs.declared.history.Entry.{Entry};
+ghost use Rattle.tree_laws.specs.Tree.{is_directory};
+ghost use Rattle.tree_laws.specs.Sound.{IsSound};
 ghost use Rattle.flush_core.specs.declared.past.Past.{Past};
-ghost use Rattle.flush_core.specs.Closure.{every_entry, IsRaised, AreInodesAfter};
+ghost use Rattle.cut_laws.specs.Closure.{every_entry, IsRaised, AreInodesAfter};
 ghost use Rattle.flush_core.specs.Engine.{IsNaming, RaisesThose, RaisesMembers};
 ghost use Rattle.flush_core.specs.Inodes.{GetsInode, LosesInode, Settles};
 ghost use Rattle.flush_core.specs.Members.{AreConcerned};
 ghost use Rattle.flush_core.specs.Named.{AreNamed};
 ghost use Rattle.flush_core.specs.NodeSets.{has_node, with_member};
 ghost use Rattle.flush_core.specs.Past.{IsPast};
-ghost use Rattle.flush_core.specs.Rules.{IsOneOf};
+ghost use Rattle.cut_laws.specs.Rules.{IsOneOf};
 
 use crate::closure::{concerned_by, has_naming, members_of};
 use crate::cut::Cut;

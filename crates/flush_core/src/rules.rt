@@ -1,10 +1,10 @@
 // Which rule a cut breaks. It is looked for as the rules say: each change is held against the cut, and against each other change where
 // the rule speaks of two.
 ghost use Rattle.std.specs.Prelude.{◌≡◌, ◌↔◌, true, List};
-ghost use Rattle.sfs_tree.specs.declared.history.Entry.{Entry};
-ghost use Rattle.sfs_tree.specs.History.{IsLegal};
-ghost use Rattle.sfs_tree.specs.Laws.{IsSoundTree};
-ghost use Rattle.sfs_tree.specs.Tree.{TreeState};
+ghost use Rattle.tree_laws.specs.declared.history.Entry.{Entry};
+ghost use Rattle.tree_laws.specs.History.{IsLegal};
+ghost use Rattle.tree_laws.specs.Laws.{IsSoundTree};
+ghost use Rattle.tree_laws.specs.Tree.{TreeState};
 ghost use Rattle.flush_core.specs.Broken.{SomeIs, IsFlushed, IsSplit, IsLeft, LeavesChange, IsFlushedIn, IsBornLate};
 ghost use Rattle.flush_core.specs.Broken.{PlacesBelow, IsLatest, IsUnplaced, HasUnplaced, LacksAncestor, FindsBroken, later};
 ghost use Rattle.flush_core.specs.Past.{IsPast};

@@ -13,7 +13,7 @@ pub(crate) struct NodeSet {
 
 impl NodeSet {
     ghost use Rattle.flush_core.specs.NodeSets.{has_node, with_member};
-    ghost use Rattle.flush_core.specs.Rules.{IsOneOf};
+    ghost use Rattle.cut_laws.specs.Rules.{IsOneOf};
 
     /// The set without a node. It takes no memory.
     pub(crate) fn new(alloc: Global) -> Self
@@ -67,7 +67,7 @@ impl NodeSet {
     }
 }
 
-ghost use Rattle.flush_core.specs.Rules.{IsOneOf};
+ghost use Rattle.cut_laws.specs.Rules.{IsOneOf};
 
 // The places that have a mark.
 fn marked(alloc: Global, marks: &[bool]) -> Result<Vec<u32>, NoMemory>

@@ -1,9 +1,9 @@
 // The machine of calls and commits. An event that is refused may lose the past that its story keeps, and leaves the state as it was.
 ghost use Rattle.std.specs.Prelude.{◌≡◌, ◌⊎◌, OnOk, OnErr, IfErr};
-ghost use Rattle.sfs_tree.specs.Sound.{IsSound};
+ghost use Rattle.tree_laws.specs.Sound.{IsSound};
 
 use crate::cut::Cut;
-use crate::event::{Event, Refused};
+use cut_laws::{Event, Refused};
 use crate::flight::InFlight;
 use crate::sets::NodeSet;
 use crate::story::Story;
@@ -32,7 +32,7 @@ pub struct State {
 
 impl Model for State {
     ghost use Rattle.std.specs.Coded.{codes};
-    ghost use Rattle.sfs_tree.specs.Tree.{tree_code};
+    ghost use Rattle.tree_laws.specs.Tree.{tree_code};
     ghost use Rattle.flush_core.specs.Stamps.{cut_code};
     ghost use Rattle.flush_core.specs.State.{KeptState};
 
@@ -53,7 +53,7 @@ impl Model for State {
 }
 
 impl State {
-    ghost use Rattle.flush_core.specs.Machine.{start_of, MayBeTold, IsRefused, Accepts};
+    ghost use Rattle.cut_laws.specs.Machine.{start_of, MayBeTold, IsRefused, Accepts};
     ghost use Rattle.flush_core.specs.State.{machine_of};
 
     /// The state in which a run begins: no calls, the cut 0, an inode for each node of the tree, which

@@ -2,12 +2,12 @@
 // leaves the story as it was.
 ghost use Rattle.std.specs.Prelude.{◌≡◌, ◌<◌, ℕ, List, length, IfOk, OnOk, OnErr};
 ghost use Rattle.sfs_base.specs.declared.numbers.CoreId.{CoreId};
-ghost use Rattle.sfs_tree.specs.declared.history.Entry.{Entry};
-ghost use Rattle.sfs_tree.specs.History.{IsLegal, flushes};
-ghost use Rattle.sfs_tree.specs.Sound.{IsSound};
-ghost use Rattle.sfs_tree.specs.Step.{IsReadable};
-ghost use Rattle.sfs_tree.specs.Tree.{names_of};
-ghost use Rattle.flush_core.specs.Cut.{tree_at_cut};
+ghost use Rattle.tree_laws.specs.declared.history.Entry.{Entry};
+ghost use Rattle.tree_laws.specs.History.{IsLegal, flushes};
+ghost use Rattle.tree_laws.specs.Sound.{IsSound};
+ghost use Rattle.tree_laws.specs.Step.{IsReadable};
+ghost use Rattle.tree_laws.specs.Tree.{names_of};
+ghost use Rattle.cut_laws.specs.Cut.{tree_at_cut};
 ghost use Rattle.flush_core.specs.Grows.{Grows};
 ghost use Rattle.flush_core.specs.Past.{IsPast};
 
@@ -16,7 +16,8 @@ use crate::named::rows_of;
 use crate::past::Past;
 use crate::rules::{Rule, broken_rule};
 use sfs_base::{CoreId, NoMemory, NodeId, Stamp};
-use sfs_tree::{Call, Entry, NameMap, Reply, Tree};
+use sfs_tree::Tree;
+use tree_laws::{Call, Entry, NameMap, Reply};
 use std::alloc::Global;
 use std::marker::Model;
 
@@ -33,7 +34,7 @@ pub struct Story {
 
 impl Model for Story {
     ghost use Rattle.std.specs.Coded.{coded_list};
-    ghost use Rattle.sfs_tree.specs.contracts.history.Entry.{the_row};
+    ghost use Rattle.tree_laws.specs.contracts.history.Entry.{the_row};
     ghost use Rattle.flush_core.specs.Story.{StoryState, story_code, IsStanding};
 
     ghost Value = { StoryState };
@@ -46,7 +47,7 @@ impl Model for Story {
 }
 
 impl Story {
-    ghost use Rattle.sfs_tree.specs.Verdict.{verdict};
+    ghost use Rattle.tree_laws.specs.Verdict.{verdict};
     ghost use Rattle.flush_core.specs.Broken.{FindsBroken};
     ghost use Rattle.flush_core.specs.Story.{story_of, end_of, with_call};
 
@@ -111,7 +112,7 @@ impl Story {
 }
 
 impl Story {
-    ghost use Rattle.sfs_tree.specs.History.{MayCome};
+    ghost use Rattle.tree_laws.specs.History.{MayCome};
     ghost use Rattle.flush_core.specs.Story.{end_of, with_entry, IsReadyPast};
 
     // How many calls there are.

@@ -4,7 +4,7 @@ use Rattle.std.specs.Prelude.{All}
 use Rattle.std.proofs.lemmas.Bool.{cond-true}
 use Rattle.std.proofs.lemmas.List.Elements.{All-head, All-tail}
 use Rattle.sfs_base.proofs.BasicNumbers.{same_number}
-use Rattle.sfs_tree.specs.declared.changes.Change.{Change}
+use Rattle.tree_laws.specs.declared.changes.Change.{Change}
 use Rattle.mem_cells.specs.Log.{log_place, IsInOrder}
 use Rattle.mem_cells.proofs.Order.{in_order-drop}
 use Rattle.log_merge.specs.Merge.{stands_at}

@@ -9,7 +9,7 @@ use Rattle.std.proofs.lemmas.List.Elements.{filter-append}
 use Rattle.std.proofs.lemmas.List.Sorted.{IsNonDecreasingBy-take}
 use Rattle.sfs_base.proofs.BasicNumbers.{plus_zero}
 use Rattle.sfs_base.proofs.BasicOptions.{none_some}
-use Rattle.sfs_tree.specs.declared.changes.Change.{Change}
+use Rattle.tree_laws.specs.declared.changes.Change.{Change}
 use Rattle.mem_cells.specs.Log.{log_place, IsInOrder}
 use Rattle.mem_cells.specs.Part.{CoreLog}
 use Rattle.mem_cells.proofs.Order.{in_order-drop, stamps_rise}

@@ -1,6 +1,6 @@
 -- The law of merging, which a function of the module laws proves.
 use Rattle.std.specs.Prelude.{◌≡◌, List}
-use Rattle.sfs_tree.specs.declared.changes.Change.{Change}
+use Rattle.tree_laws.specs.declared.changes.Change.{Change}
 use Rattle.log_merge.specs.Merge.{IsMergeOf}
 
 -- Some changes have one merge.

@@ -5,7 +5,7 @@ ghost use Rattle.log_merge.specs.Merge.{part_changes, parts_changes, IsMergeOf, 
 
 use mem_cells::LogPart;
 use sfs_base::{NoMemory, NodeId, RoomyList, Stamp};
-use sfs_tree::{Act, Change, Changes};
+use tree_laws::{Act, Change, Changes};
 use std::alloc::Global;
 use std::collections::VecDeque;
 

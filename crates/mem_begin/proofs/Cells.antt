@@ -2,7 +2,7 @@
 use Rattle.std.proofs.Common.{◌≡◌, ◌≢◌, ℕ, zero, suc, ◌+◌, ◌-◌, Bool, true, false, cond, List, [], ◌∷◌, length, Option, Some, refl, sym, ap, subst, ◌∙◌, arith, nat_eq}
 use Rattle.std.specs.Prelude.{slice_get, option_map}
 use borrow.Author.Tests.{eqb-true}
-use Rattle.sfs_tree.specs.Tree.{TreeState}
+use Rattle.tree_laws.specs.Tree.{TreeState}
 use Rattle.disk_change.specs.OldKept.{OldKept}
 use Rattle.disk_change.specs.Lists.{item_with, without}
 use Rattle.disk_change.specs.Nodes.{entry_node, entry_old}

@@ -1,7 +1,7 @@
 -- The cores of a table that begins are between two calls.
 use Rattle.std.proofs.Common.{◌≡◌, ℕ, List, length, sym, ap, subst, arith}
 use Rattle.std.specs.Prelude.{All, Result, Ok, Err, IfOk}
-use Rattle.sfs_tree.specs.Tree.{TreeState}
+use Rattle.tree_laws.specs.Tree.{TreeState}
 use Rattle.stamp_table.specs.Hand.{Hand}
 use Rattle.stamp_table.specs.Table.{TableState, AreAllCores, AreNew, IsBetweenCalls}
 use Rattle.stamp_table.proofs.Beginning.{new_between}

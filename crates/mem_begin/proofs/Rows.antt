@@ -12,10 +12,10 @@ use Rattle.std.proofs.lemmas.Option.{slice_get_within, get_or_from_slice_get}
 use Rattle.std.proofs.lemmas.List.{take_more, take_all}
 use Rattle.sfs_base.specs.Name.{bucket}
 use Rattle.sfs_base.proofs.BasicTruth.{both_first, both_second}
-use Rattle.sfs_tree.specs.Order.{name_cmp, Key, key_cmp}
-use Rattle.sfs_tree.specs.Tree.{TreeState, is_directory, name_row, names_of, bucket_rows}
-use Rattle.sfs_tree.proofs.Joined.{name_cmp-IsAntisymmetric, is_equal}
-use Rattle.sfs_tree.proofs.Names.{entries-names_where}
+use Rattle.tree_laws.specs.Order.{name_cmp, Key, key_cmp}
+use Rattle.tree_laws.specs.Tree.{TreeState, is_directory, name_row, names_of, bucket_rows}
+use Rattle.tree_laws.proofs.Joined.{name_cmp-IsAntisymmetric, is_equal}
+use Rattle.tree_laws.proofs.Names.{entries-names_where}
 use Rattle.mem_values.specs.Stands.{if_directory}
 
 -- the names of one kind of row are at most all names of the directory

@@ -1,9 +1,9 @@
 -- With what trees a table begins, and what is given of their nodes.
 use Rattle.std.specs.Prelude.{◌≡◌, ℕ, ◌+◌, ◌-◌, ◌*◌, ◌<◌, ◌≤◌, List, length, Option, None, option_map}
 use Rattle.std.specs.FinMap.{get}
-use Rattle.sfs_tree.specs.Tree.{TreeState, bytes_of, made_by}
-use Rattle.sfs_tree.specs.Sound.{IsSound}
-use Rattle.sfs_tree.specs.Verdict.{LARGEST_FILE}
+use Rattle.tree_laws.specs.Tree.{TreeState, bytes_of, made_by}
+use Rattle.tree_laws.specs.Sound.{IsSound}
+use Rattle.tree_laws.specs.Verdict.{LARGEST_FILE}
 use Rattle.disk_change.specs.OldKept.{OldKept}
 use Rattle.disk_change.specs.Lists.{item_with}
 use Rattle.disk_change.specs.Nodes.{entry_node, entry_old}

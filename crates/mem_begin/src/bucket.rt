@@ -1,10 +1,10 @@
 // The rows of one bucket, and where its directory stands.
 ghost use Rattle.std.specs.Prelude.{◌≡◌, None, IfOk, OnOk};
 ghost use Rattle.std.specs.FinMap as finmap;
-ghost use Rattle.sfs_tree.specs.Tree.{is_directory};
-ghost use Rattle.sfs_tree.specs.Lock.{stands_of};
-ghost use Rattle.sfs_tree.specs.NameRow.{number_of};
-ghost use Rattle.sfs_tree.specs.Sound.{IsSound};
+ghost use Rattle.tree_laws.specs.Tree.{is_directory};
+ghost use Rattle.tree_laws.specs.Lock.{stands_of};
+ghost use Rattle.tree_laws.specs.NameRow.{number_of};
+ghost use Rattle.tree_laws.specs.Sound.{IsSound};
 ghost use Rattle.mem_values.specs.Stands.{ShowsBucket};
 ghost use Rattle.mem_begin.specs.Beginning.{ShowsDirectories};
 

@@ -1,7 +1,7 @@
 // What a file begins with: its links, and its bytes without marks.
 ghost use Rattle.std.specs.Prelude.{◌≡◌, ◌≤◌, ℕ, None, length, IfOk};
-ghost use Rattle.sfs_tree.specs.Tree.{bytes_of};
-ghost use Rattle.sfs_tree.specs.Verdict.{LARGEST_FILE};
+ghost use Rattle.tree_laws.specs.Tree.{bytes_of};
+ghost use Rattle.tree_laws.specs.Verdict.{LARGEST_FILE};
 ghost use Rattle.mem_files.specs.File.{mark_of};
 ghost use Rattle.mem_values.specs.Stands.{file_links};
 

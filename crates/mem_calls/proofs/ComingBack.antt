@@ -3,7 +3,7 @@ use Rattle.std.proofs.Common.{◌≡◌, ℕ, List, Option, Some, IsSome, sym, a
 use Rattle.disk_change.specs.OldKept.{OldKept}
 use Rattle.sfs_base.specs.Name.{bucket}
 use Rattle.sfs_base.specs.declared.numbers.NodeId.{NodeId}
-use Rattle.sfs_tree.proofs.Joined.{bucket_small}
+use Rattle.tree_laws.proofs.Joined.{bucket_small}
 use Rattle.stamp_table.specs.Hand.{Hand}
 use Rattle.stamp_table.specs.Table.{TableState, with_value}
 use Rattle.mem_values.specs.declared.cell.Cell.{Cell}

@@ -6,8 +6,8 @@ use Rattle.std.proofs.lemmas.Option.{option_and_then_some}
 use Rattle.disk_change.specs.OldKept.{OldKept}
 use Rattle.sfs_base.specs.Name.{bucket}
 use Rattle.sfs_base.specs.declared.numbers.NodeId.{NodeId}
-use Rattle.sfs_tree.specs.History.{tree_after}
-use Rattle.sfs_tree.proofs.Joined.{bucket_small}
+use Rattle.tree_laws.specs.History.{tree_after}
+use Rattle.tree_laws.proofs.Joined.{bucket_small}
 use Rattle.stamp_table.specs.Events.{calls_in}
 use Rattle.stamp_table.specs.declared.held.HeldCell.{HeldCell}
 use Rattle.stamp_table.specs.Hand.{Hand}

@@ -8,20 +8,20 @@ use Rattle.sfs_base.specs.Name.{bucket}
 use Rattle.sfs_base.specs.declared.numbers.NodeId.{NodeId}
 use Rattle.sfs_base.specs.declared.numbers.Kind.{Kind}
 use Rattle.sfs_base.specs.declared.numbers.Kind.TheVariants.{File, Directory}
-use Rattle.sfs_tree.specs.Tree.{TreeState, bytes_of}
-use Rattle.sfs_tree.specs.declared.changes.Change.{Change}
-use Rattle.sfs_tree.specs.declared.changes.Act.TheVariants.{Add}
-use Rattle.sfs_tree.specs.declared.call.Call.{Call}
-use Rattle.sfs_tree.specs.declared.call.Call.TheVariants as call
-use Rattle.sfs_tree.specs.declared.reply.Reply.TheVariants as reply
-use Rattle.sfs_tree.specs.declared.history.Entry.{Entry}
-use Rattle.sfs_tree.specs.History.{tree_after}
-use Rattle.sfs_tree.specs.Effect.{Edits, Adds}
-use Rattle.sfs_tree.specs.Logged.{log_entry, logged_by}
-use Rattle.sfs_tree.specs.Verdict.{Verdict, verdict}
-use Rattle.sfs_tree.specs.Laws.{IsSoundTree}
-use Rattle.sfs_tree.proofs.KeepsRest.{calls_keep_the_rest}
-use Rattle.sfs_tree.proofs.Joined.{bucket_small}
+use Rattle.tree_laws.specs.Tree.{TreeState, bytes_of}
+use Rattle.tree_laws.specs.declared.changes.Change.{Change}
+use Rattle.tree_laws.specs.declared.changes.Act.TheVariants.{Add}
+use Rattle.tree_laws.specs.declared.call.Call.{Call}
+use Rattle.tree_laws.specs.declared.call.Call.TheVariants as call
+use Rattle.tree_laws.specs.declared.reply.Reply.TheVariants as reply
+use Rattle.tree_laws.specs.declared.history.Entry.{Entry}
+use Rattle.tree_laws.specs.History.{tree_after}
+use Rattle.tree_laws.specs.Effect.{Edits, Adds}
+use Rattle.tree_laws.specs.Logged.{log_entry, logged_by}
+use Rattle.tree_laws.specs.Verdict.{Verdict, verdict}
+use Rattle.tree_laws.specs.Laws.{IsSoundTree}
+use Rattle.tree_laws.proofs.KeepsRest.{calls_keep_the_rest}
+use Rattle.tree_laws.proofs.Joined.{bucket_small}
 use Rattle.mem_cells.specs.Part.{IsAddedTo}
 use Rattle.stamp_table.specs.declared.event.Event.{Event}
 use Rattle.stamp_table.specs.declared.event.Event.TheVariants.{Called}
@@ -180,7 +180,7 @@ module _ {given : ℕ → Option OldKept} {t : TableState} {nodes : ℕ} {before
       → StandsPending given before.view.first (account_of after_log) child.0 new
   pending_home old new stood made = subst (λ a. StandsPending given before.view.first a child.0 new) (sym (account_called log entry)) (record {
     flushed = ap flushed_of made ∙ stood.flushed;
-    made_in = ap (λ (p : Pending). Rattle.sfs_tree.specs.NameRow.number_of p.made_in) made
+    made_in = ap (λ (p : Pending). Rattle.tree_laws.specs.NameRow.number_of p.made_in) made
         ∙ sym (new_node.birthplace_next before.view.first (calls_in log) entry dir name child kind (stamped.sound given t nodes before r.table r.work)
         (changed.legal_log given t nodes before c v number mid turn)
         core_known refl does);

@@ -6,23 +6,23 @@ use Rattle.std.proofs.lemmas.Bool.{cases_Bool, both_ways}
 use Rattle.std.proofs.lemmas.Option.{option_and_then_some}
 use Rattle.disk_change.specs.OldKept.{OldKept}
 use Rattle.sfs_base.specs.declared.numbers.NodeId.{NodeId}
-use Rattle.sfs_tree.specs.Tree.{TreeState, is_directory, bytes_of, made_by}
-use Rattle.sfs_tree.specs.declared.call.Call.{Call}
-use Rattle.sfs_tree.specs.declared.reply.Reply.{Reply}
-use Rattle.sfs_tree.specs.declared.reply.Reply.TheVariants as reply
-use Rattle.sfs_tree.specs.declared.history.Entry.{Entry}
-use Rattle.sfs_tree.specs.History.{tree_after}
-use Rattle.sfs_tree.specs.Effect.{Edits, edited}
-use Rattle.sfs_tree.specs.Lock.{moves_between}
-use Rattle.sfs_tree.specs.Logged.{logged_by}
-use Rattle.sfs_tree.specs.Parts.{bytes_after}
-use Rattle.sfs_tree.specs.Footprints.{own_kind, touches_links}
-use Rattle.sfs_tree.specs.Verdict.{Verdict, verdict, done, tree_after_call}
-use Rattle.sfs_tree.specs.Laws.{IsSoundTree}
-use Rattle.sfs_tree.proofs.Histories.{tree_after-push}
-use Rattle.sfs_tree.proofs.SoundTrees.{calls_fit}
-use Rattle.sfs_tree.proofs.Parts.{nodes_after}
-use Rattle.sfs_tree.proofs.KeepsRest.{calls_keep_the_rest}
+use Rattle.tree_laws.specs.Tree.{TreeState, is_directory, bytes_of, made_by}
+use Rattle.tree_laws.specs.declared.call.Call.{Call}
+use Rattle.tree_laws.specs.declared.reply.Reply.{Reply}
+use Rattle.tree_laws.specs.declared.reply.Reply.TheVariants as reply
+use Rattle.tree_laws.specs.declared.history.Entry.{Entry}
+use Rattle.tree_laws.specs.History.{tree_after}
+use Rattle.tree_laws.specs.Effect.{Edits, edited}
+use Rattle.tree_laws.specs.Lock.{moves_between}
+use Rattle.tree_laws.specs.Logged.{logged_by}
+use Rattle.tree_laws.specs.Parts.{bytes_after}
+use Rattle.tree_laws.specs.Footprints.{own_kind, touches_links}
+use Rattle.tree_laws.specs.Verdict.{Verdict, verdict, done, tree_after_call}
+use Rattle.tree_laws.specs.Laws.{IsSoundTree}
+use Rattle.tree_laws.proofs.Histories.{tree_after-push}
+use Rattle.tree_laws.proofs.SoundTrees.{calls_fit}
+use Rattle.tree_laws.proofs.Parts.{nodes_after}
+use Rattle.tree_laws.proofs.KeepsRest.{calls_keep_the_rest}
 use Rattle.mem_files.specs.File.{mark_of, is_touched}
 use Rattle.mem_files.specs.declared.touched.Touched.{Touched}
 use Rattle.mem_cells.specs.Part.{IsAddedTo}

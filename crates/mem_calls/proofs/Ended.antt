@@ -9,21 +9,21 @@ use Rattle.disk_change.specs.OldKept.{OldKept}
 use Rattle.sfs_base.specs.Name.{bucket}
 use Rattle.sfs_base.specs.declared.numbers.NodeId.{NodeId}
 use Rattle.sfs_base.specs.declared.numbers.Kind.TheVariants.{Directory}
-use Rattle.sfs_tree.specs.Tree.{TreeState, row_of, is_directory, kind_of, kind_if, kind_again, made_by}
-use Rattle.sfs_tree.specs.declared.changes.Change.{Change}
-use Rattle.sfs_tree.specs.declared.changes.Act.TheVariants.{Remove}
-use Rattle.sfs_tree.specs.declared.call.Call.{Call}
-use Rattle.sfs_tree.specs.declared.call.Call.TheVariants as call
-use Rattle.sfs_tree.specs.declared.reply.Reply.TheVariants as reply
-use Rattle.sfs_tree.specs.declared.history.Entry.{Entry}
-use Rattle.sfs_tree.specs.Effect.{Removes}
-use Rattle.sfs_tree.specs.Parts.{is_this, is_in_part}
-use Rattle.sfs_tree.specs.Lock.{moves_between}
-use Rattle.sfs_tree.specs.Logged.{log_entry, logged_by}
-use Rattle.sfs_tree.specs.Verdict.{Verdict, verdict, done, tree_after_call}
-use Rattle.sfs_tree.proofs.Readings.{directory_by_kind}
-use Rattle.sfs_tree.proofs.KeepsRest.{calls_keep_the_rest}
-use Rattle.sfs_tree.proofs.Joined.{bucket_small}
+use Rattle.tree_laws.specs.Tree.{TreeState, row_of, is_directory, kind_of, kind_if, kind_again, made_by}
+use Rattle.tree_laws.specs.declared.changes.Change.{Change}
+use Rattle.tree_laws.specs.declared.changes.Act.TheVariants.{Remove}
+use Rattle.tree_laws.specs.declared.call.Call.{Call}
+use Rattle.tree_laws.specs.declared.call.Call.TheVariants as call
+use Rattle.tree_laws.specs.declared.reply.Reply.TheVariants as reply
+use Rattle.tree_laws.specs.declared.history.Entry.{Entry}
+use Rattle.tree_laws.specs.Effect.{Removes}
+use Rattle.tree_laws.specs.Parts.{is_this, is_in_part}
+use Rattle.tree_laws.specs.Lock.{moves_between}
+use Rattle.tree_laws.specs.Logged.{log_entry, logged_by}
+use Rattle.tree_laws.specs.Verdict.{Verdict, verdict, done, tree_after_call}
+use Rattle.tree_laws.proofs.Readings.{directory_by_kind}
+use Rattle.tree_laws.proofs.KeepsRest.{calls_keep_the_rest}
+use Rattle.tree_laws.proofs.Joined.{bucket_small}
 use Rattle.mem_cells.specs.Part.{IsAddedTo}
 use Rattle.stamp_table.specs.declared.event.Event.{Event}
 use Rattle.stamp_table.specs.declared.event.Event.TheVariants.{Called}

@@ -8,15 +8,15 @@ use Rattle.std.specs.FinMap.{get}
 use Rattle.sfs_base.specs.Name.{bucket}
 use Rattle.sfs_base.specs.declared.numbers.NodeId.{NodeId}
 use Rattle.sfs_base.proofs.BasicOptions.{none_of}
-use Rattle.sfs_tree.specs.NameRow.{number_of}
-use Rattle.sfs_tree.specs.declared.call.Call.TheVariants as call
-use Rattle.sfs_tree.specs.declared.reply.Code.TheVariants.{NoEntry, NotDir, NotEmpty}
-use Rattle.sfs_tree.specs.Tree.{TreeState, row_of, is_directory, row_count}
-use Rattle.sfs_tree.specs.Sound.{IsSound, below}
-use Rattle.sfs_tree.specs.Effect.{Removes}
-use Rattle.sfs_tree.specs.Verdict.{verdict, refused, done, or_else, directory_fault, rmdir_row}
-use Rattle.sfs_tree.proofs.Walks.{above_same}
-use Rattle.sfs_tree.proofs.Joined.{bucket_small}
+use Rattle.tree_laws.specs.NameRow.{number_of}
+use Rattle.tree_laws.specs.declared.call.Call.TheVariants as call
+use Rattle.tree_laws.specs.declared.reply.Code.TheVariants.{NoEntry, NotDir, NotEmpty}
+use Rattle.tree_laws.specs.Tree.{TreeState, row_of, is_directory, row_count}
+use Rattle.tree_laws.specs.Sound.{IsSound, below}
+use Rattle.tree_laws.specs.Effect.{Removes}
+use Rattle.tree_laws.specs.Verdict.{verdict, refused, done, or_else, directory_fault, rmdir_row}
+use Rattle.tree_laws.proofs.Walks.{above_same}
+use Rattle.tree_laws.proofs.Joined.{bucket_small}
 use Rattle.stamp_table.specs.Ascending.{LiesAbove}
 use Rattle.stamp_table.specs.declared.held.HeldCell.{HeldCell}
 use Rattle.stamp_table.specs.Hand.{Hand}

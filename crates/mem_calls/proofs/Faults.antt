@@ -7,15 +7,15 @@ use Rattle.std.proofs.lemmas.Bool.{cases_Bool}
 use Rattle.std.specs.FinMap.{get}
 use Rattle.sfs_base.specs.declared.numbers.NodeId.{NodeId}
 use Rattle.sfs_base.proofs.BasicTruth.{and_first, and_second, or_first}
-use Rattle.sfs_tree.specs.declared.reply.Code.TheVariants.{NoEntry, NotDir, IsDir}
-use Rattle.sfs_tree.specs.Tree.{TreeState, is_alive, is_directory, count_of}
-use Rattle.sfs_tree.specs.Lock.{stands_of}
-use Rattle.sfs_tree.specs.NameRow.{number_of}
-use Rattle.sfs_tree.specs.Verdict.{directory_fault, file_fault}
-use Rattle.sfs_tree.specs.Laws.{IsSoundTree}
-use Rattle.sfs_tree.proofs.RowFacts.{alive_named}
-use Rattle.sfs_tree.proofs.KeepsNodes.{directory_node}
-use Rattle.sfs_tree.proofs.Holders.{standing_is_alive}
+use Rattle.tree_laws.specs.declared.reply.Code.TheVariants.{NoEntry, NotDir, IsDir}
+use Rattle.tree_laws.specs.Tree.{TreeState, is_alive, is_directory, count_of}
+use Rattle.tree_laws.specs.Lock.{stands_of}
+use Rattle.tree_laws.specs.NameRow.{number_of}
+use Rattle.tree_laws.specs.Verdict.{directory_fault, file_fault}
+use Rattle.tree_laws.specs.Laws.{IsSoundTree}
+use Rattle.tree_laws.proofs.RowFacts.{alive_named}
+use Rattle.tree_laws.proofs.KeepsNodes.{directory_node}
+use Rattle.tree_laws.proofs.Holders.{standing_is_alive}
 use Rattle.stamp_table.specs.Hand.{Hand}
 use Rattle.mem_values.specs.declared.cell.Cell.{Cell}
 use Rattle.mem_values.specs.declared.bucket.Bucket.{Bucket}

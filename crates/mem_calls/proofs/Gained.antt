@@ -2,15 +2,15 @@
 use Rattle.std.proofs.Common.{◌≡◌, ◌<◌, ℕ, List, [], ◌∷◌, ◌++◌, length, reverse, Option, Some, refl, sym, ap, subst, ◌∙◌, arith, inl, inr, length-append}
 use Rattle.std.proofs.lemmas.List.{take_all}
 use Rattle.disk_change.specs.OldKept.{OldKept}
-use Rattle.sfs_tree.specs.Sound.{IsWithinLimits}
-use Rattle.sfs_tree.specs.Laws.{IsSoundTree}
-use Rattle.sfs_tree.specs.History.{tree_after}
-use Rattle.sfs_tree.proofs.Limits.{histories_stay_within}
+use Rattle.tree_laws.specs.Sound.{IsWithinLimits}
+use Rattle.tree_laws.specs.Laws.{IsSoundTree}
+use Rattle.tree_laws.specs.History.{tree_after}
+use Rattle.tree_laws.proofs.Limits.{histories_stay_within}
 use Rattle.stamp_table.specs.Events.{event_core, is_call, calls_in, IsLawful, stands_for}
 use Rattle.stamp_table.specs.Steps.{IsPast}
 use Rattle.stamp_table.proofs.Keeps.{begins_itself}
 use Rattle.mem_values.proofs.Stamping.{met}
-use Rattle.sfs_tree.specs.Tree.{TreeState}
+use Rattle.tree_laws.specs.Tree.{TreeState}
 use Rattle.stamp_table.specs.declared.view.View.{View}
 use Rattle.stamp_table.specs.declared.event.Event.{Event}
 use Rattle.stamp_table.specs.declared.held.HeldCell.{HeldCell}

@@ -2,7 +2,7 @@
 use Rattle.std.proofs.Common.{◌≡◌, append_assoc, ◌++◌, ◌<◌, ℕ, List, [], ◌∷◌, length, reverse, Option, sym, ap, subst, ◌∙◌, arith}
 use mathlib.Core.List.{IsPrefix}
 use Rattle.disk_change.specs.OldKept.{OldKept}
-use Rattle.sfs_tree.specs.Tree.{TreeState}
+use Rattle.tree_laws.specs.Tree.{TreeState}
 use Rattle.stamp_table.specs.declared.view.View.{View}
 use Rattle.stamp_table.specs.declared.event.Event.{Event}
 use Rattle.stamp_table.specs.declared.held.HeldCell.{HeldCell}

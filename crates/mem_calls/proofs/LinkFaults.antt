@@ -7,12 +7,12 @@ use Rattle.std.proofs.lemmas.Bool.Decides.{nat_tests}
 use Rattle.sfs_base.specs.Name.{bucket}
 use Rattle.sfs_base.specs.declared.numbers.NodeId.{NodeId}
 use Rattle.sfs_base.proofs.BasicOptions.{none_of}
-use Rattle.sfs_tree.specs.declared.call.Call.TheVariants as call
-use Rattle.sfs_tree.specs.declared.reply.Code.{Code}
-use Rattle.sfs_tree.specs.declared.reply.Code.TheVariants.{NoEntry, IsDir, Exists, NotPermitted, TooManyLinks, DirFull}
-use Rattle.sfs_tree.specs.Tree.{TreeState, row_of, is_alive, is_directory, count_of}
-use Rattle.sfs_tree.specs.Effect.{Adds}
-use Rattle.sfs_tree.specs.Verdict.{MOST_LINKS, verdict, refused, done, or_else, directory_fault, file_fault, link_fault, is_full}
+use Rattle.tree_laws.specs.declared.call.Call.TheVariants as call
+use Rattle.tree_laws.specs.declared.reply.Code.{Code}
+use Rattle.tree_laws.specs.declared.reply.Code.TheVariants.{NoEntry, IsDir, Exists, NotPermitted, TooManyLinks, DirFull}
+use Rattle.tree_laws.specs.Tree.{TreeState, row_of, is_alive, is_directory, count_of}
+use Rattle.tree_laws.specs.Effect.{Adds}
+use Rattle.tree_laws.specs.Verdict.{MOST_LINKS, verdict, refused, done, or_else, directory_fault, file_fault, link_fault, is_full}
 use Rattle.mem_values.specs.declared.cell.FileCell.{FileCell}
 use Rattle.mem_values.specs.declared.bucket.Bucket.{Bucket}
 use Rattle.mem_values.specs.Stands.{ShowsBucket, file_links}

@@ -9,23 +9,23 @@ use Rattle.disk_change.specs.OldKept.{OldKept}
 use Rattle.sfs_base.specs.Name.{bucket}
 use Rattle.sfs_base.specs.declared.numbers.NodeId.{NodeId}
 use Rattle.sfs_base.specs.declared.numbers.Kind.TheVariants.{File}
-use Rattle.sfs_tree.specs.Tree.{TreeState, is_directory, kind_of, kind_if, kind_again, count_of, bytes_of, made_by}
-use Rattle.sfs_tree.specs.declared.changes.Act.TheVariants.{Add}
-use Rattle.sfs_tree.specs.declared.call.Call.{Call}
-use Rattle.sfs_tree.specs.declared.call.Call.TheVariants as call
-use Rattle.sfs_tree.specs.declared.reply.Reply.TheVariants as reply
-use Rattle.sfs_tree.specs.declared.history.Entry.{Entry}
-use Rattle.sfs_tree.specs.Effect.{Edits, Adds}
-use Rattle.sfs_tree.specs.Parts.{is_in_part, links_after}
-use Rattle.sfs_tree.specs.Lock.{moves_between}
-use Rattle.sfs_tree.specs.Logged.{log_entry, logged_by}
-use Rattle.sfs_tree.specs.Verdict.{Verdict, verdict, done}
-use Rattle.sfs_tree.specs.Laws.{IsSoundTree}
-use Rattle.sfs_tree.proofs.Parts.{nodes_after}
-use Rattle.sfs_tree.proofs.SoundTree.{sound_file}
-use Rattle.sfs_tree.proofs.Readings.{directory_by_kind}
-use Rattle.sfs_tree.proofs.KeepsRest.{calls_keep_the_rest}
-use Rattle.sfs_tree.proofs.Joined.{bucket_small}
+use Rattle.tree_laws.specs.Tree.{TreeState, is_directory, kind_of, kind_if, kind_again, count_of, bytes_of, made_by}
+use Rattle.tree_laws.specs.declared.changes.Act.TheVariants.{Add}
+use Rattle.tree_laws.specs.declared.call.Call.{Call}
+use Rattle.tree_laws.specs.declared.call.Call.TheVariants as call
+use Rattle.tree_laws.specs.declared.reply.Reply.TheVariants as reply
+use Rattle.tree_laws.specs.declared.history.Entry.{Entry}
+use Rattle.tree_laws.specs.Effect.{Edits, Adds}
+use Rattle.tree_laws.specs.Parts.{is_in_part, links_after}
+use Rattle.tree_laws.specs.Lock.{moves_between}
+use Rattle.tree_laws.specs.Logged.{log_entry, logged_by}
+use Rattle.tree_laws.specs.Verdict.{Verdict, verdict, done}
+use Rattle.tree_laws.specs.Laws.{IsSoundTree}
+use Rattle.tree_laws.proofs.Parts.{nodes_after}
+use Rattle.tree_laws.proofs.SoundTree.{sound_file}
+use Rattle.tree_laws.proofs.Readings.{directory_by_kind}
+use Rattle.tree_laws.proofs.KeepsRest.{calls_keep_the_rest}
+use Rattle.tree_laws.proofs.Joined.{bucket_small}
 use Rattle.mem_cells.specs.Part.{IsAddedTo}
 use Rattle.stamp_table.specs.declared.event.Event.{Event}
 use Rattle.stamp_table.specs.declared.event.Event.TheVariants.{Called}

@@ -12,14 +12,14 @@ use Rattle.std.proofs.lemmas.List.Sums.{sum_by-append}
 use Rattle.sfs_base.proofs.BasicTruth.{and_true, and_false}
 use Rattle.sfs_base.specs.Name.{bucket}
 use Rattle.sfs_base.specs.declared.numbers.NodeId.{NodeId}
-use Rattle.sfs_tree.specs.Order.{Key, name_cmp}
-use Rattle.sfs_tree.specs.Tree.{TreeState, row_of, kind_of, name_row, names_of}
-use Rattle.sfs_tree.specs.Names.{with_kinds}
-use Rattle.sfs_tree.specs.NameKinds.{name_kind}
-use Rattle.sfs_tree.specs.declared.listing.NameKind.{NameKind}
-use Rattle.sfs_tree.proofs.Joined.{count-cons, bucket_small}
-use Rattle.sfs_tree.proofs.Names.{entries-names_where}
-use Rattle.sfs_tree.proofs.Counting.{count_agree}
+use Rattle.tree_laws.specs.Order.{Key, name_cmp}
+use Rattle.tree_laws.specs.Tree.{TreeState, row_of, kind_of, name_row, names_of}
+use Rattle.tree_laws.specs.Names.{with_kinds}
+use Rattle.tree_laws.specs.NameKinds.{name_kind}
+use Rattle.tree_laws.specs.declared.listing.NameKind.{NameKind}
+use Rattle.tree_laws.proofs.Joined.{count-cons, bucket_small}
+use Rattle.tree_laws.proofs.Names.{entries-names_where}
+use Rattle.tree_laws.proofs.Counting.{count_agree}
 use Rattle.stamp_table.specs.Hand.{Hand}
 use Rattle.mem_values.specs.declared.cell.Cell.{Cell}
 use Rattle.mem_values.specs.declared.bucket.Bucket.{Bucket}

@@ -8,15 +8,15 @@ use Rattle.sfs_base.specs.Name.{bucket}
 use Rattle.sfs_base.specs.declared.numbers.NodeId.{NodeId}
 use Rattle.sfs_base.specs.declared.numbers.Kind.{Kind}
 use Rattle.sfs_base.proofs.BasicOptions.{none_not_some}
-use Rattle.sfs_tree.specs.declared.call.Call.TheVariants as call
-use Rattle.sfs_tree.specs.declared.reply.Code.{Code}
-use Rattle.sfs_tree.specs.declared.reply.Code.TheVariants.{NoEntry, NotDir, Exists, DirFull, NoNodes}
-use Rattle.sfs_tree.specs.declared.reply.Reply.TheVariants as reply
-use Rattle.sfs_tree.specs.Tree.{TreeState, row_of, is_alive, is_directory, made_by, next_number}
-use Rattle.sfs_tree.specs.Effect.{Adds}
-use Rattle.sfs_tree.specs.Verdict.{verdict, refused, or_else, directory_fault, make_fault, make_node, is_full}
-use Rattle.sfs_tree.proofs.Numbers.{fresh_number}
-use Rattle.sfs_tree.proofs.KeepsNodes.{directory_node}
+use Rattle.tree_laws.specs.declared.call.Call.TheVariants as call
+use Rattle.tree_laws.specs.declared.reply.Code.{Code}
+use Rattle.tree_laws.specs.declared.reply.Code.TheVariants.{NoEntry, NotDir, Exists, DirFull, NoNodes}
+use Rattle.tree_laws.specs.declared.reply.Reply.TheVariants as reply
+use Rattle.tree_laws.specs.Tree.{TreeState, row_of, is_alive, is_directory, made_by, next_number}
+use Rattle.tree_laws.specs.Effect.{Adds}
+use Rattle.tree_laws.specs.Verdict.{verdict, refused, or_else, directory_fault, make_fault, make_node, is_full}
+use Rattle.tree_laws.proofs.Numbers.{fresh_number}
+use Rattle.tree_laws.proofs.KeepsNodes.{directory_node}
 use Rattle.stamp_table.specs.Hand.{Hand}
 use Rattle.stamp_table.specs.Table.{TableState}
 use Rattle.mem_values.specs.declared.cell.Cell.{Cell}

@@ -13,25 +13,25 @@ use Rattle.sfs_base.specs.declared.numbers.Kind.{Kind}
 use Rattle.sfs_base.specs.declared.numbers.Kind.TheVariants.{File, Directory}
 use Rattle.sfs_base.proofs.BasicTruth.{or_first}
 use Rattle.sfs_base.proofs.BasicOptions.{none_not_some}
-use Rattle.sfs_tree.specs.declared.call.Call.{Call}
-use Rattle.sfs_tree.specs.declared.call.Call.TheVariants as call
-use Rattle.sfs_tree.specs.declared.history.Entry.{Entry}
-use Rattle.sfs_tree.specs.Tree.{TreeState, Node, row_of, is_directory, is_directory_kind, kind_of, count_of, made_by, holder_of, next_number}
-use Rattle.sfs_tree.specs.Effect.{Effect, Adds, rows_after}
-use Rattle.sfs_tree.specs.Fits.{Fits, FitsMakes}
-use Rattle.sfs_tree.specs.History.{tree_after, IsLegal}
-use Rattle.sfs_tree.specs.Parts.{is_in_part, links_after, kind_after, count_after}
-use Rattle.sfs_tree.specs.Lock.{stands_of, moves_between}
-use Rattle.sfs_tree.specs.Verdict.{Verdict, verdict, tree_after_call}
-use Rattle.sfs_tree.specs.Laws.{IsSoundTree}
-use Rattle.sfs_tree.proofs.Parts.{nodes_after, counts_after}
-use Rattle.sfs_tree.proofs.Readings.{directory_by_kind}
-use Rattle.sfs_tree.proofs.RowFacts.{named_or_none, added_there}
-use Rattle.sfs_tree.proofs.SoundTrees.{calls_fit, calls_keep_sound}
-use Rattle.sfs_tree.proofs.Walks.{holder_is}
-use Rattle.flush_core.specs.Rules.{IsOneOf, Birth, births_by, births_of}
-use Rattle.flush_core.proofs.Grown.{births_of-push}
-use Rattle.flush_core.proofs.NewNodes.{births_are_new_nodes}
+use Rattle.tree_laws.specs.declared.call.Call.{Call}
+use Rattle.tree_laws.specs.declared.call.Call.TheVariants as call
+use Rattle.tree_laws.specs.declared.history.Entry.{Entry}
+use Rattle.tree_laws.specs.Tree.{TreeState, Node, row_of, is_directory, is_directory_kind, kind_of, count_of, made_by, holder_of, next_number}
+use Rattle.tree_laws.specs.Effect.{Effect, Adds, rows_after}
+use Rattle.tree_laws.specs.Fits.{Fits, FitsMakes}
+use Rattle.tree_laws.specs.History.{tree_after, IsLegal}
+use Rattle.tree_laws.specs.Parts.{is_in_part, links_after, kind_after, count_after}
+use Rattle.tree_laws.specs.Lock.{stands_of, moves_between}
+use Rattle.tree_laws.specs.Verdict.{Verdict, verdict, tree_after_call}
+use Rattle.tree_laws.specs.Laws.{IsSoundTree}
+use Rattle.tree_laws.proofs.Parts.{nodes_after, counts_after}
+use Rattle.tree_laws.proofs.Readings.{directory_by_kind}
+use Rattle.tree_laws.proofs.RowFacts.{named_or_none, added_there}
+use Rattle.tree_laws.proofs.SoundTrees.{calls_fit, calls_keep_sound}
+use Rattle.tree_laws.proofs.Walks.{holder_is}
+use Rattle.cut_laws.specs.Rules.{IsOneOf, Birth, births_by, births_of}
+use Rattle.cut_laws.proofs.Pushed.{births_of-push}
+use Rattle.cut_laws.proofs.NewNodes.{births_are_new_nodes}
 use Rattle.mem_values.specs.declared.bucket.Bucket.{Bucket}
 use Rattle.mem_values.specs.declared.cell_id.CellId.{CellId}
 use Rattle.mem_values.specs.declared.cell_id.CellId.TheVariants as id

@@ -6,16 +6,16 @@ use Rattle.std.specs.Prelude.{All}
 use Rattle.std.proofs.lemmas.Bool.{cases_Bool, both_ways}
 use Rattle.std.proofs.lemmas.List.Elements.{All-nil}
 use Rattle.disk_change.specs.OldKept.{OldKept}
-use Rattle.sfs_tree.specs.Tree.{TreeState, made_by}
-use Rattle.sfs_tree.specs.declared.changes.Change.{Change}
-use Rattle.sfs_tree.specs.declared.call.Call.{Call}
-use Rattle.sfs_tree.specs.declared.reply.Reply.{Reply}
-use Rattle.sfs_tree.specs.declared.history.Entry.{Entry}
-use Rattle.sfs_tree.specs.History.{tree_after}
-use Rattle.sfs_tree.specs.Logged.{logged_by}
-use Rattle.sfs_tree.specs.Footprints.{DoesNothing}
-use Rattle.sfs_tree.specs.Verdict.{Verdict, verdict, answered}
-use Rattle.sfs_tree.proofs.Histories.{tree_after-push}
+use Rattle.tree_laws.specs.Tree.{TreeState, made_by}
+use Rattle.tree_laws.specs.declared.changes.Change.{Change}
+use Rattle.tree_laws.specs.declared.call.Call.{Call}
+use Rattle.tree_laws.specs.declared.reply.Reply.{Reply}
+use Rattle.tree_laws.specs.declared.history.Entry.{Entry}
+use Rattle.tree_laws.specs.History.{tree_after}
+use Rattle.tree_laws.specs.Logged.{logged_by}
+use Rattle.tree_laws.specs.Footprints.{DoesNothing}
+use Rattle.tree_laws.specs.Verdict.{Verdict, verdict, answered}
+use Rattle.tree_laws.proofs.Histories.{tree_after-push}
 use Rattle.mem_cells.specs.Part.{IsAddedTo}
 use Rattle.mem_cells.specs.Log.{log_place}
 use Rattle.mem_cells.proofs.Order.{nothing_in_order}

@@ -6,14 +6,14 @@ use Rattle.std.proofs.lemmas.Bool.{cases_Bool}
 use Rattle.std.proofs.lemmas.List.Elements.{All-nil, All-cons, All-append, All-filter}
 use Rattle.disk_change.specs.OldKept.{OldKept}
 use Rattle.sfs_base.specs.declared.numbers.Kind.{Kind}
-use Rattle.sfs_tree.specs.declared.changes.Change.{Change}
-use Rattle.sfs_tree.specs.declared.history.Entry.{Entry}
-use Rattle.sfs_tree.specs.Tree.{TreeState, row_of}
-use Rattle.sfs_tree.specs.Effect.{Effect, Stays, Adds, Removes, Moves, Edits}
-use Rattle.sfs_tree.specs.Logged.{is_addition, is_logged_in, logged_by, logged_replaced}
-use Rattle.sfs_tree.specs.Verdict.{verdict}
-use Rattle.sfs_tree.specs.History.{tree_after_entry, IsLegalFrom, IsLegal}
-use Rattle.sfs_tree.specs.Merged.{is_core}
+use Rattle.tree_laws.specs.declared.changes.Change.{Change}
+use Rattle.tree_laws.specs.declared.history.Entry.{Entry}
+use Rattle.tree_laws.specs.Tree.{TreeState, row_of}
+use Rattle.tree_laws.specs.Effect.{Effect, Stays, Adds, Removes, Moves, Edits}
+use Rattle.tree_laws.specs.Logged.{is_addition, is_logged_in, logged_by, logged_replaced}
+use Rattle.tree_laws.specs.Verdict.{verdict}
+use Rattle.tree_laws.specs.History.{tree_after_entry, IsLegalFrom, IsLegal}
+use Rattle.tree_laws.specs.Merged.{is_core}
 use Rattle.mem_cells.specs.Log.{log_place, is_from}
 use Rattle.mem_cells.specs.Part.{changes_kept, mark_kept, room_kept, IsSamePart}
 use Rattle.mem_cells.proofs.Order.{nothing_in_order, in_order-push}

@@ -4,8 +4,8 @@ use Rattle.std.specs.Ordering.{eq_by_cmp, is_eq}
 use Rattle.std.specs.Cmp.{tied_itself}
 use Rattle.std.specs.Cmp.Lexicographic.{nat_list_cmp_total}
 use Rattle.std.specs.FinMap.{FinMap, get, insert, remove, get-insert, get-remove, same_map}
-use Rattle.sfs_tree.specs.Order.{name_cmp}
-use Rattle.sfs_tree.proofs.Joined.{name_cmp-IsAntisymmetric}
+use Rattle.tree_laws.specs.Order.{name_cmp}
+use Rattle.tree_laws.proofs.Joined.{name_cmp-IsAntisymmetric}
 use Rattle.mem_calls.proofs.RowsGo.{same_name}
 
 module _ (rows : FinMap name_cmp ℕ) (name : List ℕ) (child : ℕ) where

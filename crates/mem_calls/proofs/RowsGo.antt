@@ -6,18 +6,18 @@ use Rattle.std.specs.Cmp.Lexicographic.{nat_list_cmp_total}
 use Rattle.std.proofs.lemmas.Bool.{cases_Bool}
 use Rattle.std.specs.FinMap.{FinMap, get, remove, get-remove}
 use Rattle.sfs_base.specs.Name.{bucket}
-use Rattle.sfs_tree.specs.Order.{name_cmp}
-use Rattle.sfs_tree.specs.Tree.{TreeState, row_of, is_directory, is_directory_kind, bucket_rows}
-use Rattle.sfs_tree.specs.declared.call.Call.{Call}
-use Rattle.sfs_tree.specs.Effect.{Removes}
-use Rattle.sfs_tree.specs.Parts.{part_after}
-use Rattle.sfs_tree.specs.Verdict.{verdict, tree_after_call}
-use Rattle.sfs_tree.specs.Laws.{IsSoundTree}
-use Rattle.sfs_tree.proofs.Joined.{name_cmp-IsAntisymmetric, is_equal}
-use Rattle.sfs_tree.proofs.Parts.{parts_after}
-use Rattle.sfs_tree.proofs.Names.{get-names_where}
-use Rattle.sfs_tree.proofs.Readings.{directory_by_kind}
-use Rattle.sfs_tree.proofs.KeepsRest.{calls_keep_the_rest}
+use Rattle.tree_laws.specs.Order.{name_cmp}
+use Rattle.tree_laws.specs.Tree.{TreeState, row_of, is_directory, is_directory_kind, bucket_rows}
+use Rattle.tree_laws.specs.declared.call.Call.{Call}
+use Rattle.tree_laws.specs.Effect.{Removes}
+use Rattle.tree_laws.specs.Parts.{part_after}
+use Rattle.tree_laws.specs.Verdict.{verdict, tree_after_call}
+use Rattle.tree_laws.specs.Laws.{IsSoundTree}
+use Rattle.tree_laws.proofs.Joined.{name_cmp-IsAntisymmetric, is_equal}
+use Rattle.tree_laws.proofs.Parts.{parts_after}
+use Rattle.tree_laws.proofs.Names.{get-names_where}
+use Rattle.tree_laws.proofs.Readings.{directory_by_kind}
+use Rattle.tree_laws.proofs.KeepsRest.{calls_keep_the_rest}
 use Rattle.mem_values.specs.declared.bucket.Bucket.{Bucket}
 use Rattle.mem_values.specs.Stands.{ShowsBucket, if_directory}
 use Rattle.mem_values.specs.Touches.{touches_standing}
@@ -63,7 +63,7 @@ module _ (tree : TreeState) (core : ℕ) (c : Call) (is : IsSoundTree tree) (lt 
         both : (x y : Bool) → x ≡ true → y ≡ true → Rattle.std.specs.Prelude.◌&&◌ x y ≡ true
         both x y one two = rw (one, two) refl
 
-        here : Rattle.sfs_tree.specs.Parts.is_in_part d (λ n. bucket n == bucket name) d name ≡ true
+        here : Rattle.tree_laws.specs.Parts.is_in_part d (λ n. bucket n == bucket name) d name ≡ true
         here = both (d == d) (bucket name == bucket name) (eq-eqb d d refl) (eq-eqb (bucket name) (bucket name) refl)
 
     gone_directory : (n : List ℕ) → get new.directories n ≡ cond (eq_by_cmp name_cmp n name) None (get b.directories n)
@@ -84,7 +84,7 @@ module _ (tree : TreeState) (core : ℕ) (c : Call) (is : IsSoundTree tree) (lt 
       directories = λ n. gone_directory n
           ∙ (by n (eq_by_cmp name_cmp n name)
           ∙ ap (if_directory next) (sym (get-remove nat_list_cmp_total b.rows name n) ∙ ap (λ (m : FinMap name_cmp ℕ). get m n) (sym rows_next)));
-      stands = ap Rattle.sfs_tree.specs.NameRow.number_of without.stands ∙ (shows.stands ∙ sym (standing_stays tree core c d is lt stays));
+      stands = ap Rattle.tree_laws.specs.NameRow.number_of without.stands ∙ (shows.stands ∙ sym (standing_stays tree core c d is lt stays));
     }
       where
         by : (n : List ℕ) (same : Bool) → cond same None (get b.directories n) ≡ if_directory next (cond same None (get b.rows n))

@@ -2,8 +2,8 @@
 use Rattle.std.proofs.Common.{◌≡◌, ◌+◌, ℕ, List, Option, Some}
 use Rattle.disk_change.specs.OldKept.{OldKept}
 use Rattle.sfs_base.specs.declared.numbers.NodeId.{NodeId}
-use Rattle.sfs_tree.specs.Tree.{TreeState}
-use Rattle.sfs_tree.specs.History.{tree_after}
+use Rattle.tree_laws.specs.Tree.{TreeState}
+use Rattle.tree_laws.specs.History.{tree_after}
 use Rattle.stamp_table.specs.declared.event.Event.{Event}
 use Rattle.stamp_table.specs.Events.{calls_in}
 use Rattle.mem_values.specs.declared.cell.Cell.{Cell}

@@ -2,14 +2,14 @@
 use Rattle.std.proofs.Common.{◌≡◌, ◌<◌, ℕ, false, ◌&&◌, List, [], ◌∷◌, ◌++◌, length, reverse, Option, Some, None, IsSome, option_map, ◌⊎◌, inl, inr, refl, sym, ap, subst, ◌∙◌}
 use Rattle.std.proofs.lemmas.List.{append_cancel_right}
 use Rattle.disk_change.specs.OldKept.{OldKept}
-use Rattle.sfs_tree.specs.Tree.{TreeState}
-use Rattle.sfs_tree.specs.declared.call.Call.{Call}
-use Rattle.sfs_tree.specs.declared.call.Call.TheVariants as call
-use Rattle.sfs_tree.specs.declared.reply.Reply.{Reply}
-use Rattle.sfs_tree.specs.declared.history.Entry.{Entry}
-use Rattle.sfs_tree.specs.History.{tree_after, flushes, is_ok_reply, IsDue, IsLegal}
-use Rattle.sfs_tree.specs.Verdict.{Verdict, verdict}
-use Rattle.sfs_tree.specs.Laws.{IsSoundTree}
+use Rattle.tree_laws.specs.Tree.{TreeState}
+use Rattle.tree_laws.specs.declared.call.Call.{Call}
+use Rattle.tree_laws.specs.declared.call.Call.TheVariants as call
+use Rattle.tree_laws.specs.declared.reply.Reply.{Reply}
+use Rattle.tree_laws.specs.declared.history.Entry.{Entry}
+use Rattle.tree_laws.specs.History.{tree_after, flushes, is_ok_reply, IsDue, IsLegal}
+use Rattle.tree_laws.specs.Verdict.{Verdict, verdict}
+use Rattle.tree_laws.specs.Laws.{IsSoundTree}
 use Rattle.stamp_table.specs.declared.event.Event.{Event}
 use Rattle.stamp_table.specs.declared.event.Event.TheVariants.{Called}
 use Rattle.stamp_table.specs.declared.view.View.{View}

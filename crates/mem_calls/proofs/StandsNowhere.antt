@@ -6,15 +6,15 @@ use Rattle.std.specs.FinMap.{get}
 use Rattle.std.proofs.lemmas.Bool.{cases_Bool}
 use Rattle.sfs_base.specs.Name.{bucket}
 use Rattle.sfs_base.specs.declared.numbers.NodeId.{NodeId}
-use Rattle.sfs_tree.specs.declared.call.Call.{Call}
-use Rattle.sfs_tree.specs.declared.call.Call.TheVariants as call
-use Rattle.sfs_tree.specs.Tree.{TreeState, row_of, is_directory, holder_of}
-use Rattle.sfs_tree.specs.Effect.{Removes, rows_after}
-use Rattle.sfs_tree.specs.Parts.{is_in_part, is_this}
-use Rattle.sfs_tree.specs.Lock.{stands_of}
-use Rattle.sfs_tree.specs.Laws.{IsSoundTree}
-use Rattle.sfs_tree.specs.Verdict.{verdict, tree_after_call}
-use Rattle.sfs_tree.proofs.RowFacts.{holder_found, removed_cases}
+use Rattle.tree_laws.specs.declared.call.Call.{Call}
+use Rattle.tree_laws.specs.declared.call.Call.TheVariants as call
+use Rattle.tree_laws.specs.Tree.{TreeState, row_of, is_directory, holder_of}
+use Rattle.tree_laws.specs.Effect.{Removes, rows_after}
+use Rattle.tree_laws.specs.Parts.{is_in_part, is_this}
+use Rattle.tree_laws.specs.Lock.{stands_of}
+use Rattle.tree_laws.specs.Laws.{IsSoundTree}
+use Rattle.tree_laws.specs.Verdict.{verdict, tree_after_call}
+use Rattle.tree_laws.proofs.RowFacts.{holder_found, removed_cases}
 use Rattle.mem_values.specs.declared.bucket.Bucket.{Bucket}
 use Rattle.mem_values.specs.Stands.{ShowsBucket}
 use Rattle.mem_values.specs.Touches.{touches_standing}

@@ -5,12 +5,12 @@ use Rattle.std.specs.Option.{option_map_or}
 use Rattle.std.specs.FinMap.{len, entries}
 use Rattle.sfs_base.specs.declared.numbers.NodeId.{NodeId}
 use Rattle.sfs_base.specs.declared.numbers.Kind.TheVariants.{File, Directory}
-use Rattle.sfs_tree.specs.declared.call.Call.TheVariants as call
-use Rattle.sfs_tree.specs.declared.reply.Reply.TheVariants as reply
-use Rattle.sfs_tree.specs.declared.reply.Code.TheVariants.{NoEntry}
-use Rattle.sfs_tree.specs.Tree.{TreeState, is_alive, is_directory, kind_of, kind_if, kind_again, links_of, row_count, holds_directory, bytes_of, bucket_rows, count_of}
-use Rattle.sfs_tree.specs.Verdict.{verdict, answered, refused, or_else, size_of}
-use Rattle.sfs_tree.proofs.Readings.{directory_by_kind}
+use Rattle.tree_laws.specs.declared.call.Call.TheVariants as call
+use Rattle.tree_laws.specs.declared.reply.Reply.TheVariants as reply
+use Rattle.tree_laws.specs.declared.reply.Code.TheVariants.{NoEntry}
+use Rattle.tree_laws.specs.Tree.{TreeState, is_alive, is_directory, kind_of, kind_if, kind_again, links_of, row_count, holds_directory, bytes_of, bucket_rows, count_of}
+use Rattle.tree_laws.specs.Verdict.{verdict, answered, refused, or_else, size_of}
+use Rattle.tree_laws.proofs.Readings.{directory_by_kind}
 use Rattle.stamp_table.specs.Hand.{Hand}
 use Rattle.mem_values.specs.declared.cell.Cell.{Cell}
 use Rattle.mem_values.specs.declared.bucket.Bucket.{Bucket}

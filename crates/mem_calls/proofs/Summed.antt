@@ -7,12 +7,12 @@ use Rattle.std.specs.FinMap.{FinMap, get, len, entries, len-entries, same_map}
 use Rattle.std.proofs.lemmas.Bool.{cases_Bool}
 use Rattle.std.proofs.lemmas.Bool.Decides.{nat_tests}
 use Rattle.sfs_base.specs.Name.{bucket}
-use Rattle.sfs_tree.specs.Order.{Key, key_cmp}
-use Rattle.sfs_tree.specs.Tree.{TreeState, row_of, is_directory, name_row, names_where, bucket_rows, row_count, holds_directory}
-use Rattle.sfs_tree.specs.Buckets.{stands_in}
-use Rattle.sfs_tree.proofs.Joined.{name_cmp-IsAntisymmetric, count-cons, bucket_small}
-use Rattle.sfs_tree.proofs.Names.{get-names_where, entries-names_where, len-names_of}
-use Rattle.sfs_tree.proofs.Counting.{count_agree}
+use Rattle.tree_laws.specs.Order.{Key, key_cmp}
+use Rattle.tree_laws.specs.Tree.{TreeState, row_of, is_directory, name_row, names_where, bucket_rows, row_count, holds_directory}
+use Rattle.tree_laws.specs.Buckets.{stands_in}
+use Rattle.tree_laws.proofs.Joined.{name_cmp-IsAntisymmetric, count-cons, bucket_small}
+use Rattle.tree_laws.proofs.Names.{get-names_where, entries-names_where, len-names_of}
+use Rattle.tree_laws.proofs.Counting.{count_agree}
 use Rattle.mem_values.specs.declared.bucket.Bucket.{Bucket}
 use Rattle.mem_values.specs.Stands.{ShowsBucket, if_directory}
 use Rattle.mem_calls.specs.Sums.{sum_until}

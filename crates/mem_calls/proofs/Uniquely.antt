@@ -12,11 +12,11 @@ use Rattle.std.proofs.lemmas.List.MinMax.{ranks_by}
 use Rattle.std.proofs.lemmas.List.Sorted.{sorted_far}
 use Rattle.sfs_base.proofs.BasicTruth.{and_first, not_both_of, both_first, both_second}
 use Rattle.sfs_base.specs.declared.numbers.Kind.{Kind}
-use Rattle.sfs_tree.specs.Order.{name_cmp}
-use Rattle.sfs_tree.specs.Tree.{is_directory_kind, kind_if, kind_again}
-use Rattle.sfs_tree.specs.NameKinds.{name_kind}
-use Rattle.sfs_tree.specs.declared.listing.NameKind.{NameKind}
-use Rattle.sfs_tree.proofs.Joined.{name_cmp-IsAntisymmetric, count-cons}
+use Rattle.tree_laws.specs.Order.{name_cmp}
+use Rattle.tree_laws.specs.Tree.{is_directory_kind, kind_if, kind_again}
+use Rattle.tree_laws.specs.NameKinds.{name_kind}
+use Rattle.tree_laws.specs.declared.listing.NameKind.{NameKind}
+use Rattle.tree_laws.proofs.Joined.{name_cmp-IsAntisymmetric, count-cons}
 use Rattle.mem_calls.specs.Listed.{precedes_by_name, AreInNameOrder}
 
 abbrev pub Row : Type 0

@@ -10,21 +10,21 @@ use Rattle.disk_change.specs.OldKept.{OldKept}
 use Rattle.sfs_base.specs.Name.{bucket}
 use Rattle.sfs_base.specs.declared.numbers.NodeId.{NodeId}
 use Rattle.sfs_base.specs.declared.numbers.Kind.TheVariants.{File}
-use Rattle.sfs_tree.specs.Tree.{TreeState, row_of, is_directory, kind_of, kind_if, kind_again, count_of, bytes_of, made_by}
-use Rattle.sfs_tree.specs.declared.changes.Change.{Change}
-use Rattle.sfs_tree.specs.declared.changes.Act.TheVariants.{Remove}
-use Rattle.sfs_tree.specs.declared.call.Call.{Call}
-use Rattle.sfs_tree.specs.declared.call.Call.TheVariants as call
-use Rattle.sfs_tree.specs.declared.history.Entry.{Entry}
-use Rattle.sfs_tree.specs.History.{tree_after}
-use Rattle.sfs_tree.specs.Effect.{Edits, Removes}
-use Rattle.sfs_tree.specs.Parts.{is_this, is_in_part, links_after}
-use Rattle.sfs_tree.specs.Lock.{moves_between}
-use Rattle.sfs_tree.specs.Logged.{log_entry, logged_by}
-use Rattle.sfs_tree.specs.Verdict.{Verdict, verdict, done}
-use Rattle.sfs_tree.proofs.Parts.{nodes_after}
-use Rattle.sfs_tree.proofs.Readings.{directory_by_kind}
-use Rattle.sfs_tree.proofs.KeepsRest.{calls_keep_the_rest}
+use Rattle.tree_laws.specs.Tree.{TreeState, row_of, is_directory, kind_of, kind_if, kind_again, count_of, bytes_of, made_by}
+use Rattle.tree_laws.specs.declared.changes.Change.{Change}
+use Rattle.tree_laws.specs.declared.changes.Act.TheVariants.{Remove}
+use Rattle.tree_laws.specs.declared.call.Call.{Call}
+use Rattle.tree_laws.specs.declared.call.Call.TheVariants as call
+use Rattle.tree_laws.specs.declared.history.Entry.{Entry}
+use Rattle.tree_laws.specs.History.{tree_after}
+use Rattle.tree_laws.specs.Effect.{Edits, Removes}
+use Rattle.tree_laws.specs.Parts.{is_this, is_in_part, links_after}
+use Rattle.tree_laws.specs.Lock.{moves_between}
+use Rattle.tree_laws.specs.Logged.{log_entry, logged_by}
+use Rattle.tree_laws.specs.Verdict.{Verdict, verdict, done}
+use Rattle.tree_laws.proofs.Parts.{nodes_after}
+use Rattle.tree_laws.proofs.Readings.{directory_by_kind}
+use Rattle.tree_laws.proofs.KeepsRest.{calls_keep_the_rest}
 use Rattle.mem_cells.specs.Part.{IsAddedTo}
 use Rattle.stamp_table.specs.declared.event.Event.{Event}
 use Rattle.stamp_table.specs.declared.event.Event.TheVariants.{Called}
@@ -51,8 +51,8 @@ use Rattle.mem_values.proofs.Pushes.{last_touch-push}
 use Rattle.mem_calls.specs.Held.{value_held, as_bucket, as_file, as_part, bucket_held, file_held, part_held, InEach}
 use Rattle.mem_calls.specs.Table.{IsFileTable}
 use Rattle.mem_calls.specs.Working.{IsWorking}
-use Rattle.sfs_tree.specs.declared.reply.Reply.TheVariants as reply
-use Rattle.sfs_tree.proofs.Joined.{bucket_small}
+use Rattle.tree_laws.specs.declared.reply.Reply.TheVariants as reply
+use Rattle.tree_laws.proofs.Joined.{bucket_small}
 use Rattle.stamp_table.specs.Table.{Stamps, LetsGo, Stands, EachFrom, left_below}
 use Rattle.mem_values.specs.Stands.{StandsAt}
 use Rattle.mem_values.specs.Facts.{IsLawfulLog}
@@ -224,9 +224,9 @@ module _ (given : ℕ → Option OldKept) (t : TableState) (nodes : ℕ) (before
   some_links old is = let e = counted_links old is in let lt = named (count_of S.rows child.0) refl in omega (arith, e, lt)
     where
       named : (n : ℕ) → count_of S.rows child.0 ≡ n → 0 < n
-      named Rattle.std.proofs.Common.zero none = absurd (both_ways (Rattle.sfs_tree.specs.Tree.is_alive S child.0)
+      named Rattle.std.proofs.Common.zero none = absurd (both_ways (Rattle.tree_laws.specs.Tree.is_alive S child.0)
           (λ i. (root i) || not (nat_eq (none i) 0))
-          (Rattle.sfs_tree.proofs.RowFacts.named_alive S child.0 (record { directory = dir.0; name = name; row = row })))
+          (Rattle.tree_laws.proofs.RowFacts.named_alive S child.0 (record { directory = dir.0; name = name; row = row })))
         where
           root : (child.0 == 0) ≡ false
           root =

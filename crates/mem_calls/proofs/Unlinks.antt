@@ -4,12 +4,12 @@ use Rattle.std.specs.Prelude.{is_some, if◌then◌else◌}
 use Rattle.std.specs.FinMap.{get}
 use Rattle.sfs_base.specs.Name.{bucket}
 use Rattle.sfs_base.specs.declared.numbers.NodeId.{NodeId}
-use Rattle.sfs_tree.specs.declared.call.Call.TheVariants as call
-use Rattle.sfs_tree.specs.declared.reply.Code.{Code}
-use Rattle.sfs_tree.specs.declared.reply.Code.TheVariants.{NoEntry, NotPermitted}
-use Rattle.sfs_tree.specs.Tree.{TreeState, row_of}
-use Rattle.sfs_tree.specs.Effect.{Removes}
-use Rattle.sfs_tree.specs.Verdict.{verdict, refused, done, or_else, directory_fault, unlink_row}
+use Rattle.tree_laws.specs.declared.call.Call.TheVariants as call
+use Rattle.tree_laws.specs.declared.reply.Code.{Code}
+use Rattle.tree_laws.specs.declared.reply.Code.TheVariants.{NoEntry, NotPermitted}
+use Rattle.tree_laws.specs.Tree.{TreeState, row_of}
+use Rattle.tree_laws.specs.Effect.{Removes}
+use Rattle.tree_laws.specs.Verdict.{verdict, refused, done, or_else, directory_fault, unlink_row}
 use Rattle.mem_values.specs.declared.bucket.Bucket.{Bucket}
 use Rattle.mem_values.specs.Stands.{ShowsBucket}
 use Rattle.mem_calls.proofs.NamedRows.{row_in, directory_in}

@@ -1,6 +1,6 @@
 -- Which calls are made here.
-use Rattle.sfs_tree.specs.declared.call.Call.{Call}
-use Rattle.sfs_tree.specs.declared.call.Call.TheVariants as call
+use Rattle.tree_laws.specs.declared.call.Call.{Call}
+use Rattle.tree_laws.specs.declared.call.Call.TheVariants as call
 
 -- A plain call: neither a rename nor an fsync.
 abbrev pub IsPlainCall : Call → Type 0

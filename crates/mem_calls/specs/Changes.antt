@@ -3,15 +3,15 @@ use Rattle.std.specs.Prelude.{◌≡◌, ℕ, ◌+◌, ◌*◌, ◌<◌, ◌≤�
 use Rattle.std.specs.FinMap.{get, insert, remove}
 use Rattle.sfs_base.specs.declared.numbers.NodeId.{NodeId}
 use Rattle.sfs_base.specs.declared.numbers.Kind.{Kind}
-use Rattle.sfs_tree.specs.Tree.{is_directory_kind}
+use Rattle.tree_laws.specs.Tree.{is_directory_kind}
 use Rattle.mem_cells.specs.Part.{IsSamePart, room_kept}
 use Rattle.stamp_table.specs.declared.held.HeldCell.{HeldCell}
 use Rattle.stamp_table.specs.Hand.{Hand}
 use Rattle.stamp_table.specs.Ascending.{LiesAbove}
 use Rattle.stamp_table.specs.Table.{with_value}
 use Rattle.sfs_base.specs.Name.{bucket}
-use Rattle.sfs_tree.specs.declared.reply.Code.{Code}
-use Rattle.sfs_tree.specs.declared.reply.Code.TheVariants.{IsDir, NotPermitted}
+use Rattle.tree_laws.specs.declared.reply.Code.{Code}
+use Rattle.tree_laws.specs.declared.reply.Code.TheVariants.{IsDir, NotPermitted}
 use Rattle.mem_values.specs.declared.cell.Cell.{Cell}
 use Rattle.mem_values.specs.declared.cell.FileCell.{FileCell}
 use Rattle.mem_values.specs.declared.cell.PartCell.{PartCell}

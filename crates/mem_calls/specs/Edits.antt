@@ -1,10 +1,10 @@
 -- Edits of a file's bytes.
 use Rattle.std.specs.Prelude.{◌≡◌, ℕ, ◌+◌, ◌≤◌, ◌==◌, Bool, false, length, nat_lt}
 use Rattle.sfs_base.specs.declared.numbers.NodeId.{NodeId}
-use Rattle.sfs_tree.specs.declared.call.Call.{Call}
-use Rattle.sfs_tree.specs.declared.call.Call.TheVariants as call
-use Rattle.sfs_tree.specs.Effect.{Edit, Puts, Resizes, edited}
-use Rattle.sfs_tree.specs.Verdict.{LARGEST_FILE}
+use Rattle.tree_laws.specs.declared.call.Call.{Call}
+use Rattle.tree_laws.specs.declared.call.Call.TheVariants as call
+use Rattle.tree_laws.specs.Effect.{Edit, Puts, Resizes, edited}
+use Rattle.tree_laws.specs.Verdict.{LARGEST_FILE}
 use Rattle.mem_files.specs.File.{mark_of, room}
 use Rattle.mem_files.specs.declared.touched.Touched.{Touched}
 use Rattle.mem_values.specs.declared.cell.FileCell.{FileCell}

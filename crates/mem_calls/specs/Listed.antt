@@ -7,9 +7,9 @@ use Rattle.std.specs.List.Sorted.{IsSortedBy}
 use Rattle.std.specs.Prelude.{Bool}
 use Rattle.sfs_base.specs.declared.numbers.NodeId.{NodeId}
 use Rattle.sfs_base.specs.declared.numbers.Kind.{Kind}
-use Rattle.sfs_tree.specs.Order.{name_cmp}
-use Rattle.sfs_tree.specs.Tree.{kind_if}
-use Rattle.sfs_tree.specs.declared.listing.NameKind.{NameKind}
+use Rattle.tree_laws.specs.Order.{name_cmp}
+use Rattle.tree_laws.specs.Tree.{kind_if}
+use Rattle.tree_laws.specs.declared.listing.NameKind.{NameKind}
 use Rattle.stamp_table.specs.declared.held.HeldCell.{HeldCell}
 use Rattle.mem_values.specs.declared.cell.Cell.{Cell}
 use Rattle.mem_values.specs.declared.bucket.Bucket.{Bucket}

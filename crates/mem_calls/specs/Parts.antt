@@ -1,7 +1,7 @@
 -- The own log of a core that takes the changes of an entry.
 use Rattle.std.specs.Prelude.{◌≡◌, ℕ, ◌-◌, ◌<◌, ◌≤◌, ◌^◌, List, Some, length, filter}
-use Rattle.sfs_tree.specs.declared.changes.Change.{Change}
-use Rattle.sfs_tree.specs.Logged.{is_logged_in}
+use Rattle.tree_laws.specs.declared.changes.Change.{Change}
+use Rattle.tree_laws.specs.Logged.{is_logged_in}
 use Rattle.mem_cells.specs.Log.{IsInOrder}
 use Rattle.mem_cells.specs.Part.{changes_kept, room_kept, StandBehind, IsAddedTo}
 use Rattle.stamp_table.specs.Hand.{Hand}

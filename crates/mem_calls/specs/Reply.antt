@@ -1,6 +1,6 @@
 -- Replies that take no memory.
-use Rattle.sfs_tree.specs.declared.reply.Reply.{Reply}
-use Rattle.sfs_tree.specs.declared.reply.Reply.TheVariants as reply
+use Rattle.tree_laws.specs.declared.reply.Reply.{Reply}
+use Rattle.tree_laws.specs.declared.reply.Reply.TheVariants as reply
 use Rattle.mem_calls.specs.declared.short.Short.{Short}
 use Rattle.mem_calls.specs.declared.short.Short.TheVariants as short
 

@@ -1,8 +1,8 @@
 -- The table of a file tree.
 use Rattle.std.specs.Prelude.{◌≡◌, ℕ, length}
-use Rattle.sfs_tree.specs.Sound.{IsWithinLimits}
-use Rattle.sfs_tree.specs.Laws.{IsSoundTree}
-use Rattle.sfs_tree.specs.Tree.{TreeState}
+use Rattle.tree_laws.specs.Sound.{IsWithinLimits}
+use Rattle.tree_laws.specs.Laws.{IsSoundTree}
+use Rattle.tree_laws.specs.Tree.{TreeState}
 use Rattle.stamp_table.specs.Table.{TableState}
 use Rattle.mem_values.specs.Places.{node_count, place_count}
 use Rattle.mem_calls.specs.declared.numbers.Numbers.{Numbers}

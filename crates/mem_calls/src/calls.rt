@@ -1,6 +1,6 @@
 // One function for the calls.
 ghost use Rattle.std.specs.Prelude.{◌<◌, ◌≤◌};
-ghost use Rattle.sfs_tree.specs.Step.{IsReadable};
+ghost use Rattle.tree_laws.specs.Step.{IsReadable};
 ghost use Rattle.stamp_table.specs.Table.{IsBetweenCalls};
 ghost use Rattle.mem_calls.specs.Table.{IsFileTable, AreNumbersOf};
 ghost use Rattle.mem_calls.specs.Calls.{IsPlainCall, IsPlainChange};
@@ -11,7 +11,7 @@ use crate::numbers::Numbers;
 use crate::{link, list, look, make, read, rmdir, stat, trunc, unlink, write};
 use mem_values::{FileCore, FileShared, Given};
 use sfs_base::{Gate, NoMemory};
-use sfs_tree::{Call, Reply};
+use tree_laws::{Call, Reply};
 use std::alloc::Global;
 use std::sync::Wait;
 

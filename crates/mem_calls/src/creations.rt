@@ -17,7 +17,7 @@ use crate::making::{finish_make, make_in};
 use crate::numbers::Numbers;
 use mem_values::{CellId, FileCore, FileShared, Given};
 use sfs_base::{Gate, Kind, Name, NoMemory, NodeId, bucket_of};
-use sfs_tree::{Call, Reply};
+use tree_laws::{Call, Reply};
 use std::alloc::Global;
 use std::sync::Wait;
 

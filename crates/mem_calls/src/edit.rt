@@ -6,7 +6,7 @@ ghost use Rattle.mem_calls.specs.Edits.{edit_call, puts_none, is_too_big, IsEdit
 use mem_files::Touched;
 use mem_values::FileCell;
 use sfs_base::{Chunk, NoMemory, NodeId, Stamp};
-use sfs_tree::Call;
+use tree_laws::Call;
 
 /// How many bytes a file has at most.
 const LARGEST_FILE: u64 = 67_551_232;

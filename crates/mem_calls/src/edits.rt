@@ -1,8 +1,8 @@
 // Calls that change a file's bytes.
 ghost use Rattle.std.specs.Prelude.{◌≡◌, ◌<◌, ◌≤◌, false, None, IsSome, MatchOption, MatchResult};
-ghost use Rattle.sfs_tree.specs.Effect.{Edits};
-ghost use Rattle.sfs_tree.specs.Verdict.{verdict, answered, done};
-ghost use Rattle.sfs_tree.specs.declared.reply.Reply.TheVariants as reply;
+ghost use Rattle.tree_laws.specs.Effect.{Edits};
+ghost use Rattle.tree_laws.specs.Verdict.{verdict, answered, done};
+ghost use Rattle.tree_laws.specs.declared.reply.Reply.TheVariants as reply;
 ghost use Rattle.stamp_table.specs.Table.{IsBetweenCalls};
 ghost use Rattle.mem_values.specs.Places.{node_count};
 ghost use Rattle.mem_calls.specs.Table.{IsFileTable};
@@ -20,7 +20,7 @@ use crate::short::Short;
 use crate::taking::{add_entry, put, take_file};
 use mem_values::{Cell, CellId, FileCore, FileShared, Given};
 use sfs_base::{Chunk, Gate, NoMemory, NodeId};
-use sfs_tree::{Call, Changes, Code, Reply};
+use tree_laws::{Call, Changes, Code, Reply};
 use std::alloc::Global;
 use std::sync::Wait;
 

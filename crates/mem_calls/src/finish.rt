@@ -1,6 +1,6 @@
 // The stamp of a call that changes nothing, and its end.
 ghost use Rattle.std.specs.Prelude.{◌≡◌, ◌<◌, false};
-ghost use Rattle.sfs_tree.specs.Verdict.{verdict, answered};
+ghost use Rattle.tree_laws.specs.Verdict.{verdict, answered};
 ghost use Rattle.stamp_table.specs.Answered.{asks_fsync};
 ghost use Rattle.mem_calls.specs.Table.{IsFileTable};
 ghost use Rattle.mem_calls.specs.Held.{HoldsPart, InEach};
@@ -9,7 +9,7 @@ ghost use Rattle.mem_calls.specs.Outcome.{IsAnswered};
 
 use crate::taking::add_entry;
 use mem_values::{FileCore, FileShared, Given};
-use sfs_tree::{Call, Changes, Reply};
+use tree_laws::{Call, Changes, Reply};
 use std::alloc::Global;
 
 /// Stamps a call that changes nothing, counts its entry, and lets go of all cells. It takes no memory.

@@ -1,12 +1,12 @@
 // What a core holds, by the cells.
 ghost use Rattle.std.specs.Prelude.{◌≡◌, ◌<◌, true, None, Some, IsSome};
 ghost use Rattle.mem_values.specs.Places.{node_count};
-ghost use Rattle.sfs_tree.specs.Verdict.{directory_fault, file_fault};
+ghost use Rattle.tree_laws.specs.Verdict.{directory_fault, file_fault};
 ghost use Rattle.mem_calls.specs.Held.{bucket_held, file_held, part_held, is_standing, stands_held, linked_held, HoldsDirectory, HoldsFile, HoldsPart, InEach};
 
 use mem_values::{Bucket, Cell, CellId, FileCell, FileCore, PartCell};
 use sfs_base::NodeId;
-use sfs_tree::Code;
+use tree_laws::Code;
 
 /// A bucket of a directory that is held.
 pub fn bucket_in<'a>(core: &'a FileCore, nodes: u32, node: NodeId, number: u8) -> &'a Bucket

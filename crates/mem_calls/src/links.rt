@@ -1,9 +1,9 @@
 // Further rows of a file.
 ghost use Rattle.std.specs.Prelude.{◌≡◌, ◌+◌, ◌*◌, ◌<◌, ◌≤◌, [], None, length, MatchOption, MatchResult};
 ghost use Rattle.sfs_base.specs.Name.{bucket};
-ghost use Rattle.sfs_tree.specs.Effect.{Adds};
-ghost use Rattle.sfs_tree.specs.Verdict.{verdict, refused, done};
-ghost use Rattle.sfs_tree.specs.declared.reply.Reply.TheVariants as reply;
+ghost use Rattle.tree_laws.specs.Effect.{Adds};
+ghost use Rattle.tree_laws.specs.Verdict.{verdict, refused, done};
+ghost use Rattle.tree_laws.specs.declared.reply.Reply.TheVariants as reply;
 ghost use Rattle.stamp_table.specs.Ascending.{LiesAbove};
 ghost use Rattle.stamp_table.specs.Table.{IsBetweenCalls};
 ghost use Rattle.mem_values.specs.Places.{node_count};
@@ -21,7 +21,7 @@ use crate::rows::{added_row, raise_links};
 use crate::taking::{put_bucket, put_part, with_entry};
 use mem_values::{CellId, FileCore, FileShared, Given};
 use sfs_base::{Gate, Kind, Name, NoMemory, NodeId, bucket_of};
-use sfs_tree::{Call, Code, Reply};
+use tree_laws::{Call, Code, Reply};
 use std::alloc::Global;
 use std::sync::Wait;
 

@@ -1,10 +1,10 @@
 // The names in a directory.
 ghost use Rattle.std.specs.Prelude.{◌≡◌, ◌<◌, ◌≤◌, ◌++◌, map, IfOk, OnOk, MatchResult};
 ghost use Rattle.std.specs.List.Sorted.{IsPermutation};
-ghost use Rattle.sfs_tree.specs.NameKinds.{name_kind};
-ghost use Rattle.sfs_tree.specs.Names.{with_kinds};
-ghost use Rattle.sfs_tree.specs.Tree.{names_of};
-ghost use Rattle.sfs_tree.specs.Verdict.{verdict, answered};
+ghost use Rattle.tree_laws.specs.NameKinds.{name_kind};
+ghost use Rattle.tree_laws.specs.Names.{with_kinds};
+ghost use Rattle.tree_laws.specs.Tree.{names_of};
+ghost use Rattle.tree_laws.specs.Verdict.{verdict, answered};
 ghost use Rattle.stamp_table.specs.Table.{IsBetweenCalls};
 ghost use Rattle.mem_values.specs.Places.{node_count};
 ghost use Rattle.mem_calls.specs.Table.{IsFileTable};
@@ -18,7 +18,7 @@ use crate::held::{bucket_in, directory_fault_in};
 use crate::holding::{CALL_CELLS, hold_node, hold_part, let_all_go};
 use mem_values::{Bucket, FileCore, FileShared, Given};
 use sfs_base::{Gate, NoMemory, NodeId};
-use sfs_tree::{Call, NameKind, NameRows, Reply};
+use tree_laws::{Call, NameKind, NameRows, Reply};
 use std::alloc::Global;
 use std::sync::Wait;
 

@@ -1,7 +1,7 @@
 // The child of a row.
 ghost use Rattle.std.specs.Prelude.{◌≡◌, ◌<◌, ◌≤◌};
 ghost use Rattle.sfs_base.specs.Name.{bucket};
-ghost use Rattle.sfs_tree.specs.Verdict.{verdict, answered};
+ghost use Rattle.tree_laws.specs.Verdict.{verdict, answered};
 ghost use Rattle.stamp_table.specs.Table.{IsBetweenCalls};
 ghost use Rattle.mem_values.specs.Places.{node_count};
 ghost use Rattle.mem_calls.specs.Table.{IsFileTable};
@@ -15,7 +15,7 @@ use crate::holding::{CALL_CELLS, hold_directory, hold_part};
 use crate::short::Short;
 use mem_values::{FileCore, FileShared, Given};
 use sfs_base::{Gate, Name, NodeId, bucket_of};
-use sfs_tree::{Call, Code, Reply};
+use tree_laws::{Call, Code, Reply};
 use std::alloc::Global;
 use std::sync::Wait;
 

@@ -1,7 +1,7 @@
 // What a creation answers and does, with what it needs held.
 ghost use Rattle.std.specs.Prelude.{◌≡◌, ◌<◌, IfOk, MatchResult};
-ghost use Rattle.sfs_tree.specs.Verdict.{verdict, refused};
-ghost use Rattle.sfs_tree.specs.declared.reply.Reply.TheVariants as reply;
+ghost use Rattle.tree_laws.specs.Verdict.{verdict, refused};
+ghost use Rattle.tree_laws.specs.declared.reply.Reply.TheVariants as reply;
 ghost use Rattle.mem_values.specs.Places.{node_count};
 ghost use Rattle.mem_calls.specs.Table.{IsFileTable};
 ghost use Rattle.mem_calls.specs.Held.{HoldsPart, CanMeet, InEach};
@@ -17,7 +17,7 @@ use crate::settling::settle;
 use crate::taking::{put_bucket, put_part, with_entry, with_node};
 use mem_values::{FileCore, FileShared, Given};
 use sfs_base::{Kind, Name, NoMemory, NodeId, bucket_of};
-use sfs_tree::{Call, Code, Reply};
+use tree_laws::{Call, Code, Reply};
 use std::alloc::Global;
 
 /// The node that is made, or why none is, by what is held.

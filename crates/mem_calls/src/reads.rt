@@ -1,6 +1,6 @@
 // The bytes of a file.
 ghost use Rattle.std.specs.Prelude.{◌≡◌, ◌<◌, ◌≤◌, take, drop, IfOk, MatchResult};
-ghost use Rattle.sfs_tree.specs.Verdict.{verdict, answered};
+ghost use Rattle.tree_laws.specs.Verdict.{verdict, answered};
 ghost use Rattle.stamp_table.specs.Table.{IsBetweenCalls};
 ghost use Rattle.mem_values.specs.Places.{node_count};
 ghost use Rattle.mem_calls.specs.Table.{IsFileTable};
@@ -13,7 +13,7 @@ use crate::holding::{CALL_CELLS, hold_file, hold_part, let_all_go};
 use mem_files::FileBytes;
 use mem_values::{FileCore, FileShared, Given};
 use sfs_base::{Chunk, Gate, NoMemory, NodeId};
-use sfs_tree::{Call, Reply};
+use tree_laws::{Call, Reply};
 use std::alloc::Global;
 use std::sync::Wait;
 

@@ -2,9 +2,9 @@
 ghost use Rattle.std.specs.Prelude.{◌≡◌, ◌<◌, ◌≤◌, [], IsSome, IfSome, IfOk, MatchBool, MatchResult};
 ghost use Rattle.sfs_base.specs.Name.{bucket};
 ghost use Rattle.sfs_base.specs.declared.numbers.NodeId.{NodeId as Node};
-ghost use Rattle.sfs_tree.specs.Effect.{Removes};
-ghost use Rattle.sfs_tree.specs.Verdict.{verdict, refused, done};
-ghost use Rattle.sfs_tree.specs.declared.reply.Reply.TheVariants as reply;
+ghost use Rattle.tree_laws.specs.Effect.{Removes};
+ghost use Rattle.tree_laws.specs.Verdict.{verdict, refused, done};
+ghost use Rattle.tree_laws.specs.declared.reply.Reply.TheVariants as reply;
 ghost use Rattle.stamp_table.specs.Table.{IsBetweenCalls};
 ghost use Rattle.mem_values.specs.Places.{node_count};
 ghost use Rattle.mem_calls.specs.Table.{IsFileTable};
@@ -21,7 +21,7 @@ use crate::rows::{lower_links, remove_row, removed_row};
 use crate::taking::{put, with_entry};
 use mem_values::{Cell, CellId, FileCore, FileShared, Given};
 use sfs_base::{Gate, Kind, Name, NoMemory, NodeId, bucket_of};
-use sfs_tree::{Call, Code, Reply};
+use tree_laws::{Call, Code, Reply};
 use std::alloc::Global;
 use std::sync::Wait;
 

@@ -1,8 +1,8 @@
 // Rows that come and go, without memory, behind the stamp.
 ghost use Rattle.std.specs.Prelude.{◌≡◌, ◌+◌, ◌<◌, ℕ, [], ◌∷◌, Some, None, IsSome, OnOk, OnErr};
 ghost use Rattle.std.specs.FinMap.{get, insert};
-ghost use Rattle.sfs_tree.specs.Logged.{log_entry};
-ghost use Rattle.sfs_tree.specs.declared.changes.Act.TheVariants.{Add as Adding, Remove as Removing};
+ghost use Rattle.tree_laws.specs.Logged.{log_entry};
+ghost use Rattle.tree_laws.specs.declared.changes.Act.TheVariants.{Add as Adding, Remove as Removing};
 ghost use Rattle.mem_values.specs.declared.bucket.Bucket.{Bucket as BucketValue};
 ghost use Rattle.mem_values.specs.declared.cell.FileCell.{FileCell as FileValue};
 ghost use Rattle.mem_calls.specs.Held.{bucket_held, file_held};
@@ -11,7 +11,7 @@ ghost use Rattle.mem_calls.specs.Changes.{IsWithoutRow, RemovesRow, LowersLinks,
 use crate::taking::{put, take_bucket, take_file};
 use mem_values::{Bucket, Cell, CellId, FileCell, FileCore};
 use sfs_base::{Kind, Name, NoMemory, NodeId, Stamp};
-use sfs_tree::{Act, Ancestors, Change, Changes, NameMap};
+use tree_laws::{Act, Ancestors, Change, Changes, NameMap};
 use std::alloc::Global;
 
 // The bucket without the row of this name.

@@ -3,7 +3,7 @@ ghost use Rattle.std.specs.Prelude.{◌≡◌};
 ghost use Rattle.mem_calls.specs.Reply.{reply_of};
 
 use sfs_base::{Kind, NodeId};
-use sfs_tree::{Code, Reply};
+use tree_laws::{Code, Reply};
 
 /// A reply that takes no memory, so that a call may answer it once it is stamped.
 #[derive(Clone, Copy)]

@@ -1,6 +1,6 @@
 // What is said of a node: its kind, its links and its size.
 ghost use Rattle.std.specs.Prelude.{◌≡◌, ◌+◌, ◌<◌, ◌≤◌};
-ghost use Rattle.sfs_tree.specs.Verdict.{verdict, answered};
+ghost use Rattle.tree_laws.specs.Verdict.{verdict, answered};
 ghost use Rattle.stamp_table.specs.Table.{IsBetweenCalls};
 ghost use Rattle.mem_values.specs.Places.{node_count};
 ghost use Rattle.mem_calls.specs.Table.{IsFileTable};
@@ -15,7 +15,7 @@ use crate::holding::{CALL_CELLS, hold_node, hold_part};
 use crate::short::Short;
 use mem_values::{FileCore, FileShared, Given};
 use sfs_base::{Gate, Kind, NodeId};
-use sfs_tree::{Call, Code, Reply};
+use tree_laws::{Call, Code, Reply};
 use std::alloc::Global;
 use std::sync::Wait;
 

@@ -12,7 +12,7 @@ use mem_values::{
     Bucket, Cell, CellId, FileCell, FileCore, PartCell, Pending, TreeLock, replace_value,
 };
 use sfs_base::NodeId;
-use sfs_tree::Changes;
+use tree_laws::Changes;
 
 /// Puts a value into a cell that is held.
 pub fn put(core: &mut FileCore, nodes: u32, cell: CellId, value: Cell)

@@ -1,7 +1,7 @@
 -- What a part keeps of its core's changes; each law is proved by a function of the module laws.
 use Rattle.std.specs.Prelude.{◌≡◌, ℕ, ◌+◌, ◌≤◌, List, [], ◌++◌, filter, All}
-use Rattle.sfs_tree.specs.declared.changes.Change.{Change}
-use Rattle.sfs_tree.specs.Logged.{is_logged_in}
+use Rattle.tree_laws.specs.declared.changes.Change.{Change}
+use Rattle.tree_laws.specs.Logged.{is_logged_in}
 use Rattle.mem_cells.specs.Log.{is_from}
 use Rattle.mem_cells.specs.Part.{CoreLog, changes_kept, mark_kept, IsAddedTo, IsTrimmed}
 

@@ -1,8 +1,8 @@
 -- The changes of one directory that a core keeps.
 use Rattle.std.specs.Prelude.{ℕ, ◌+◌, ◌*◌, Bool, false, nat_le, nat_lt, List, [], ◌∷◌, if◌then◌else◌}
 use Rattle.std.specs.List.Sorted.{IsNonDecreasingBy}
-use Rattle.sfs_tree.specs.declared.changes.Change.{Change}
-use Rattle.sfs_tree.specs.Logged.{is_addition}
+use Rattle.tree_laws.specs.declared.changes.Change.{Change}
+use Rattle.tree_laws.specs.Logged.{is_addition}
 
 -- where a change stands among others: by its stamp, and within one stamp a removal before an addition
 abbrev pub log_place : Change → ℕ

@@ -1,7 +1,7 @@
 -- The changes that a core keeps, by directory.
 use Rattle.std.specs.Prelude.{◌≡◌, ℕ, ◌+◌, ◌≤◌, ◌==◌, List, [], ◌∷◌, ◌++◌, filter, max, slice_index_or, length, All, if◌then◌else◌}
-use Rattle.sfs_tree.specs.declared.changes.Change.{Change}
-use Rattle.sfs_tree.specs.Logged.{is_logged_in}
+use Rattle.tree_laws.specs.declared.changes.Change.{Change}
+use Rattle.tree_laws.specs.Logged.{is_logged_in}
 use Rattle.mem_cells.specs.Log.{Log, log_place, is_from}
 
 -- the log of each directory at its number, and how many entries the core has

@@ -4,7 +4,7 @@ ghost use Rattle.std.specs.Option.{option_copied};
 ghost use Rattle.mem_cells.specs.Log.{log_place, is_from, IsInOrder};
 
 use sfs_base::{NoMemory, Stamp};
-use sfs_tree::Change;
+use tree_laws::Change;
 use std::alloc::Global;
 use std::collections::VecDeque;
 use std::marker::Model;

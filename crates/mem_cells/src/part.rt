@@ -1,13 +1,13 @@
 // A core's log lies in a list of logs, that of each directory at the directory's number.
 ghost use Rattle.std.specs.Prelude.{◌≡◌, ◌+◌, ◌<◌, ◌≤◌, ◌-◌, ◌^◌, ℕ, [], ◌++◌, slice_get, length, filter, All, IfOk, OnOk, OnErr};
 ghost use Rattle.std.specs.Option.{option_copied};
-ghost use Rattle.sfs_tree.specs.Logged.{is_logged_in};
+ghost use Rattle.tree_laws.specs.Logged.{is_logged_in};
 ghost use Rattle.mem_cells.specs.Log.{log_place, IsInOrder};
 ghost use Rattle.mem_cells.specs.Part.{log_of, changes_kept, mark_kept, room_kept, IsSamePart, AreSameLogs, IsAddedTo, IsTrimmed, PutsChange, StandBehind, AreTrimmed};
 
 use crate::log::DirectoryLog;
 use sfs_base::{NoMemory, NodeId, Stamp};
-use sfs_tree::{Change, Changes};
+use tree_laws::{Change, Changes};
 use std::alloc::Global;
 use std::marker::Model;
 

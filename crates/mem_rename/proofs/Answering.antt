@@ -3,9 +3,9 @@ use Rattle.std.proofs.Common.{◌≡◌, ℕ, List, length, Option, inl, inr, re
 use Rattle.std.specs.Prelude.{is_some}
 use Rattle.sfs_base.proofs.BasicTruth.{true_or_false, not_both}
 use Rattle.disk_change.specs.OldKept.{OldKept}
-use Rattle.sfs_tree.specs.Tree.{TreeState}
-use Rattle.sfs_tree.specs.declared.reply.Reply.{Reply}
-use Rattle.sfs_tree.specs.Verdict.{Verdict, verdict}
+use Rattle.tree_laws.specs.Tree.{TreeState}
+use Rattle.tree_laws.specs.declared.reply.Reply.{Reply}
+use Rattle.tree_laws.specs.Verdict.{Verdict, verdict}
 use Rattle.stamp_table.specs.Rule.{Has}
 use Rattle.stamp_table.specs.Hand.{Hand}
 use Rattle.stamp_table.specs.Table.{TableState, MayCall, Stamps}

@@ -6,11 +6,11 @@ use Rattle.std.specs.FinMap.{FinMap, get, len, empty, empty_of_len, get-empty, l
 use Rattle.std.proofs.lemmas.Bool.{false_from_ne_true, and_from}
 use Rattle.sfs_base.specs.Name.{bucket as name_bucket}
 use Rattle.sfs_base.proofs.BasicTruth.{and_first, and_second, true_or_false}
-use Rattle.sfs_tree.specs.Order.{name_cmp}
-use Rattle.sfs_tree.specs.Tree.{TreeState, row_count, bucket_rows}
-use Rattle.sfs_tree.proofs.Joined.{name_cmp-IsAntisymmetric, bucket_small}
-use Rattle.sfs_tree.proofs.Names.{get-own_bucket, get-names_where}
-use Rattle.sfs_tree.proofs.RowFacts.{no_rows, has_row, some_not_none}
+use Rattle.tree_laws.specs.Order.{name_cmp}
+use Rattle.tree_laws.specs.Tree.{TreeState, row_count, bucket_rows}
+use Rattle.tree_laws.proofs.Joined.{name_cmp-IsAntisymmetric, bucket_small}
+use Rattle.tree_laws.proofs.Names.{get-own_bucket, get-names_where}
+use Rattle.tree_laws.proofs.RowFacts.{no_rows, has_row, some_not_none}
 use Rattle.mem_values.specs.declared.bucket.Bucket.{Bucket}
 use Rattle.mem_rename.specs.Sights.{are_bare, ShowBucketsFrom}
 

@@ -2,12 +2,12 @@
 use Rattle.std.proofs.Common.{◌≡◌, ℕ, Bool, true, false, cond, not, ◌&&◌, Option, Some, None, refl, ap, ap₂, ◌∙◌, nat_eq}
 use Rattle.std.specs.Option.{option_or}
 use Rattle.std.specs.Prelude.{option_map}
-use Rattle.sfs_tree.specs.declared.reply.Code.{Code}
-use Rattle.sfs_tree.specs.declared.reply.Code.TheVariants.{Invalid}
-use Rattle.sfs_tree.specs.declared.reply.Reply.TheVariants as reply
-use Rattle.sfs_tree.specs.Effect.{Moves as MovesEffect}
-use Rattle.sfs_tree.specs.Logged.{numbered_node}
-use Rattle.sfs_tree.specs.Verdict.{answered, done, or_else, names_child}
+use Rattle.tree_laws.specs.declared.reply.Code.{Code}
+use Rattle.tree_laws.specs.declared.reply.Code.TheVariants.{Invalid}
+use Rattle.tree_laws.specs.declared.reply.Reply.TheVariants as reply
+use Rattle.tree_laws.specs.Effect.{Moves as MovesEffect}
+use Rattle.tree_laws.specs.Logged.{numbered_node}
+use Rattle.tree_laws.specs.Verdict.{answered, done, or_else, names_child}
 use Rattle.mem_rename.specs.declared.sides.Move.{Move}
 use Rattle.mem_rename.specs.declared.looking.Look.{Look}
 use Rattle.mem_rename.specs.declared.looking.Reads.{Reads}

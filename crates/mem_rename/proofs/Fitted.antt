@@ -5,13 +5,13 @@ use Rattle.std.specs.Prelude.{is_some}
 use Rattle.sfs_base.specs.Name.{bucket as name_bucket}
 use Rattle.sfs_base.proofs.BasicTruth.{true_or_false, true_not_false}
 use Rattle.disk_change.specs.OldKept.{OldKept}
-use Rattle.sfs_tree.specs.Tree.{TreeState, row_of, is_directory}
-use Rattle.sfs_tree.specs.Effect.{Effect}
-use Rattle.sfs_tree.specs.Logged.{numbered_node}
-use Rattle.sfs_tree.specs.Verdict.{names_child, place_fault}
-use Rattle.sfs_tree.proofs.Fitting.{not_so}
-use Rattle.flush_core.specs.Rules.{IsOneOf}
-use Rattle.flush_core.proofs.Basics.{in_either}
+use Rattle.tree_laws.specs.Tree.{TreeState, row_of, is_directory}
+use Rattle.tree_laws.specs.Effect.{Effect}
+use Rattle.tree_laws.specs.Logged.{numbered_node}
+use Rattle.tree_laws.specs.Verdict.{names_child, place_fault}
+use Rattle.tree_laws.proofs.Fitting.{not_so}
+use Rattle.cut_laws.specs.Rules.{IsOneOf}
+use Rattle.cut_laws.proofs.Basics.{in_either}
 use Rattle.stamp_table.specs.Hand.{Hand}
 use Rattle.stamp_table.specs.Table.{TableState}
 use Rattle.mem_values.specs.declared.cell.Cell.{Cell}
@@ -116,7 +116,7 @@ module _ (given : ℕ → Option OldKept) (t : TableState) (nodes : ℕ) (table 
         ready.cells cell (readies.file_asked move plan (numbered_node there) cell file among)
 
     changed_held : (cell : CellId)
-        → IsOneOf (cells_changed seen move (Rattle.sfs_tree.specs.Effect.Moves move.directory.0 move.name move.to_directory.0 move.to_name child)) cell
+        → IsOneOf (cells_changed seen move (Rattle.tree_laws.specs.Effect.Moves move.directory.0 move.name move.to_directory.0 move.to_name child)) cell
         → HoldsCell nodes hand.held cell
     changed_held cell among = elim among [
       | inl old ↦ ready.cells cell (inl old)

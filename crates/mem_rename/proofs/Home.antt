@@ -7,23 +7,23 @@ use Rattle.sfs_base.specs.Name.{bucket as name_bucket}
 use Rattle.sfs_base.specs.declared.numbers.Kind.{Kind}
 use Rattle.sfs_base.proofs.BasicTruth.{and_first, and_second, true_or_false, then_false, not_both}
 use Rattle.sfs_base.proofs.BasicOptions.{some_is}
-use Rattle.sfs_tree.specs.declared.reply.Code.{Code}
-use Rattle.sfs_tree.specs.declared.reply.Reply.TheVariants as reply
-use Rattle.sfs_tree.specs.Order.{name_cmp}
-use Rattle.sfs_tree.specs.Tree.{TreeState, row_of, is_directory, count_of, holder_of, bucket_rows}
-use Rattle.sfs_tree.specs.Effect.{Effect, Stays, Moves, tree_with}
-use Rattle.sfs_tree.specs.Fits.{Fits, FitsMoves}
-use Rattle.sfs_tree.specs.Lock.{stands_of}
-use Rattle.sfs_tree.specs.Parts.{is_this, is_in_part, part_without}
-use Rattle.sfs_tree.specs.Sound.{IsSound}
-use Rattle.sfs_tree.specs.Verdict.{answered, done, or_else, directory_fault, place_fault, move_fault, names_child, move_row, tree_after_call}
-use Rattle.sfs_tree.specs.Laws.{IsSoundTree}
-use Rattle.sfs_tree.proofs.Fitting.{not_so}
-use Rattle.sfs_tree.proofs.Names.{get-names_where}
-use Rattle.sfs_tree.proofs.Parts.{parts_after, nodes_after}
-use Rattle.sfs_tree.proofs.RowFacts.{holder_found, named_alive, added_there, added_cases, removed_cases}
-use Rattle.sfs_tree.proofs.SoundTrees.{calls_fit, calls_keep_sound}
-use Rattle.sfs_tree.proofs.Walks.{holder_is}
+use Rattle.tree_laws.specs.declared.reply.Code.{Code}
+use Rattle.tree_laws.specs.declared.reply.Reply.TheVariants as reply
+use Rattle.tree_laws.specs.Order.{name_cmp}
+use Rattle.tree_laws.specs.Tree.{TreeState, row_of, is_directory, count_of, holder_of, bucket_rows}
+use Rattle.tree_laws.specs.Effect.{Effect, Stays, Moves, tree_with}
+use Rattle.tree_laws.specs.Fits.{Fits, FitsMoves}
+use Rattle.tree_laws.specs.Lock.{stands_of}
+use Rattle.tree_laws.specs.Parts.{is_this, is_in_part, part_without}
+use Rattle.tree_laws.specs.Sound.{IsSound}
+use Rattle.tree_laws.specs.Verdict.{answered, done, or_else, directory_fault, place_fault, move_fault, names_child, move_row, tree_after_call}
+use Rattle.tree_laws.specs.Laws.{IsSoundTree}
+use Rattle.tree_laws.proofs.Fitting.{not_so}
+use Rattle.tree_laws.proofs.Names.{get-names_where}
+use Rattle.tree_laws.proofs.Parts.{parts_after, nodes_after}
+use Rattle.tree_laws.proofs.RowFacts.{holder_found, named_alive, added_there, added_cases, removed_cases}
+use Rattle.tree_laws.proofs.SoundTrees.{calls_fit, calls_keep_sound}
+use Rattle.tree_laws.proofs.Walks.{holder_is}
 use Rattle.mem_values.specs.declared.bucket.Bucket.{Bucket}
 use Rattle.mem_values.specs.Stands.{ShowsBucket, if_directory, file_links}
 use Rattle.mem_values.specs.Touches.{touches_standing}

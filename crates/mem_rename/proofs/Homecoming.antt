@@ -3,18 +3,18 @@ use Rattle.std.proofs.Common.{◌≡◌, ℕ, ◌+◌, ◌<◌, Bool, true, fals
 use Rattle.std.proofs.lemmas.List.Elements.{filter_map-append}
 use Rattle.sfs_base.proofs.BasicTruth.{true_or_false}
 use Rattle.disk_change.specs.OldKept.{OldKept}
-use Rattle.sfs_tree.specs.declared.call.Call.{Call}
-use Rattle.sfs_tree.specs.declared.history.Entry.{Entry}
-use Rattle.sfs_tree.specs.Tree.{TreeState, is_directory, bytes_of, made_by}
-use Rattle.sfs_tree.specs.Effect.{Edit, Edits, Moves}
-use Rattle.sfs_tree.specs.Parts.{is_this}
-use Rattle.sfs_tree.specs.Lock.{needs_lock}
-use Rattle.sfs_tree.specs.Logged.{logged_by}
-use Rattle.sfs_tree.specs.Verdict.{verdict, tree_after_call}
-use Rattle.sfs_tree.specs.History.{tree_after, IsLegal}
-use Rattle.sfs_tree.specs.Laws.{IsSoundTree}
-use Rattle.sfs_tree.proofs.Histories.{tree_after-push}
-use Rattle.sfs_tree.proofs.KeepsRest.{calls_keep_the_rest}
+use Rattle.tree_laws.specs.declared.call.Call.{Call}
+use Rattle.tree_laws.specs.declared.history.Entry.{Entry}
+use Rattle.tree_laws.specs.Tree.{TreeState, is_directory, bytes_of, made_by}
+use Rattle.tree_laws.specs.Effect.{Edit, Edits, Moves}
+use Rattle.tree_laws.specs.Parts.{is_this}
+use Rattle.tree_laws.specs.Lock.{needs_lock}
+use Rattle.tree_laws.specs.Logged.{logged_by}
+use Rattle.tree_laws.specs.Verdict.{verdict, tree_after_call}
+use Rattle.tree_laws.specs.History.{tree_after, IsLegal}
+use Rattle.tree_laws.specs.Laws.{IsSoundTree}
+use Rattle.tree_laws.proofs.Histories.{tree_after-push}
+use Rattle.tree_laws.proofs.KeepsRest.{calls_keep_the_rest}
 use Rattle.mem_cells.specs.Part.{IsAddedTo}
 use Rattle.stamp_table.specs.declared.event.Event.{Event}
 use Rattle.stamp_table.specs.declared.event.Event.TheVariants.{Called}
@@ -104,14 +104,14 @@ module _ (given : ℕ → Option OldKept) (first : TreeState) (log : List (Event
   ]
     where
       still : is_directory tree node ≡ true → is_directory next node ≡ true
-      still kind = Rattle.sfs_tree.proofs.Holders.directory_stays tree core (verdict tree core (rename_call move)).effect
+      still kind = Rattle.tree_laws.proofs.Holders.directory_stays tree core (verdict tree core (rename_call move)).effect
           (verdict tree core (rename_call move)).makes node
-          (Rattle.sfs_tree.proofs.SoundTrees.calls_fit tree core (rename_call move) tree_sound core_known)
-          (Rattle.sfs_tree.proofs.KeepsNodes.directory_node tree node kind) ∙ kind
+          (Rattle.tree_laws.proofs.SoundTrees.calls_fit tree core (rename_call move) tree_sound core_known)
+          (Rattle.tree_laws.proofs.KeepsNodes.directory_node tree node kind) ∙ kind
 
       apart : (not (meets_directory seen move) && is_this node (there_seen seen move)) ≡ false
-          → (is_this node (Rattle.sfs_tree.specs.Tree.row_of tree move.to_directory.0 move.to_name) && not (is_directory next node)) ≡ false
-      apart kept = elim (true_or_false (is_this node (Rattle.sfs_tree.specs.Tree.row_of tree move.to_directory.0 move.to_name))) [
+          → (is_this node (Rattle.tree_laws.specs.Tree.row_of tree move.to_directory.0 move.to_name) && not (is_directory next node)) ≡ false
+      apart kept = elim (true_or_false (is_this node (Rattle.tree_laws.specs.Tree.row_of tree move.to_directory.0 move.to_name))) [
         | inr other ↦ ap (λ b. b && not (is_directory next node)) other
         | inl met ↦
             let row = is_this_there node _ met in
@@ -137,7 +137,7 @@ module _ (given : ℕ → Option OldKept) (first : TreeState) (log : List (Event
   }
     where
       no_edit : (edit : Edit) → Rattle.std.proofs.Common.◌≢◌ (verdict tree core entry.call).effect (Edits node edit)
-      no_edit edit = untouched_edits tree core entry.call node edit (ap (λ c. Rattle.sfs_tree.specs.Footprints.touches_bytes c node) call_is)
+      no_edit edit = untouched_edits tree core entry.call node edit (ap (λ c. Rattle.tree_laws.specs.Footprints.touches_bytes c node) call_is)
 
   logged : entry_logged tree entry ≡ rename_logged seen move entry.stamp.0
   logged = ap (λ (c : Call). logged_by tree core entry.stamp.0 (verdict tree core c).effect (verdict tree core c).makes) call_is

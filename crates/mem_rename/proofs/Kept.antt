@@ -4,17 +4,17 @@ use borrow.Author.Tests.{eqb-true}
 use Rattle.sfs_base.specs.Name.{bucket as name_bucket}
 use Rattle.sfs_base.specs.declared.numbers.NodeId.{NodeId}
 use Rattle.sfs_base.proofs.BasicTruth.{and_first, and_second, true_or_false}
-use Rattle.sfs_tree.specs.Tree.{TreeState, row_of, is_directory}
-use Rattle.sfs_tree.specs.Effect.{Effect}
-use Rattle.sfs_tree.specs.Fits.{Fits}
-use Rattle.sfs_tree.specs.Parts.{is_this, is_in_part}
-use Rattle.sfs_tree.specs.Verdict.{verdict, tree_after_call}
-use Rattle.sfs_tree.specs.Laws.{IsSoundTree}
-use Rattle.sfs_tree.proofs.Holders.{directory_stays}
-use Rattle.sfs_tree.proofs.KeepsNodes.{directory_node}
-use Rattle.sfs_tree.proofs.SoundTrees.{calls_fit}
-use Rattle.flush_core.specs.Rules.{IsOneOf}
-use Rattle.flush_core.proofs.Basics.{in_left, in_right}
+use Rattle.tree_laws.specs.Tree.{TreeState, row_of, is_directory}
+use Rattle.tree_laws.specs.Effect.{Effect}
+use Rattle.tree_laws.specs.Fits.{Fits}
+use Rattle.tree_laws.specs.Parts.{is_this, is_in_part}
+use Rattle.tree_laws.specs.Verdict.{verdict, tree_after_call}
+use Rattle.tree_laws.specs.Laws.{IsSoundTree}
+use Rattle.tree_laws.proofs.Holders.{directory_stays}
+use Rattle.tree_laws.proofs.KeepsNodes.{directory_node}
+use Rattle.tree_laws.proofs.SoundTrees.{calls_fit}
+use Rattle.cut_laws.specs.Rules.{IsOneOf}
+use Rattle.cut_laws.proofs.Basics.{in_left, in_right}
 use Rattle.mem_values.specs.declared.cell_id.CellId.{CellId}
 use Rattle.mem_values.specs.declared.cell_id.CellId.TheVariants as id
 use Rattle.mem_values.specs.Places.{IsCell}

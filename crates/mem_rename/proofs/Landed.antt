@@ -8,16 +8,16 @@ use Rattle.sfs_base.specs.Name.{bucket as name_bucket}
 use Rattle.sfs_base.specs.declared.numbers.NodeId.{NodeId}
 use Rattle.sfs_base.proofs.BasicOptions.{some_same}
 use Rattle.disk_change.specs.OldKept.{OldKept}
-use Rattle.sfs_tree.specs.Tree.{TreeState}
-use Rattle.sfs_tree.specs.declared.changes.Change.{Change}
-use Rattle.sfs_tree.specs.declared.reply.Reply.TheVariants as reply
-use Rattle.sfs_tree.specs.Effect.{Moves}
-use Rattle.sfs_tree.specs.Logged.{numbered_node, log_entry}
-use Rattle.sfs_tree.specs.declared.changes.Act.TheVariants.{Add, Remove}
-use Rattle.sfs_tree.specs.Tree.{kind_if}
-use Rattle.sfs_tree.specs.Changes.{other_side}
-use Rattle.sfs_tree.specs.Parts.{is_this}
-use Rattle.sfs_tree.specs.Verdict.{Verdict, done}
+use Rattle.tree_laws.specs.Tree.{TreeState}
+use Rattle.tree_laws.specs.declared.changes.Change.{Change}
+use Rattle.tree_laws.specs.declared.reply.Reply.TheVariants as reply
+use Rattle.tree_laws.specs.Effect.{Moves}
+use Rattle.tree_laws.specs.Logged.{numbered_node, log_entry}
+use Rattle.tree_laws.specs.declared.changes.Act.TheVariants.{Add, Remove}
+use Rattle.tree_laws.specs.Tree.{kind_if}
+use Rattle.tree_laws.specs.Changes.{other_side}
+use Rattle.tree_laws.specs.Parts.{is_this}
+use Rattle.tree_laws.specs.Verdict.{Verdict, done}
 use Rattle.stamp_table.specs.declared.event.Event.{Event}
 use Rattle.stamp_table.specs.declared.event.Event.TheVariants.{Called}
 use Rattle.stamp_table.specs.declared.view.View.{View}
@@ -120,7 +120,7 @@ module _ (given : ℕ → Option OldKept) (t : TableState) (nodes : ℕ) (table 
   abbrev log : List (Event Fact)
   log = stamped.log given t nodes before table ready.work (rename_call move) reply.Ok number back stamps
 
-  abbrev entry : Rattle.sfs_tree.specs.declared.history.Entry.Entry
+  abbrev entry : Rattle.tree_laws.specs.declared.history.Entry.Entry
   entry = stamped.entry given t nodes before table ready.work (rename_call move) reply.Ok number back stamps
 
   abbrev after_log : List (Event Fact)

@@ -5,19 +5,19 @@ use Rattle.std.specs.FinMap.{len}
 use Rattle.sfs_base.specs.Name.{bucket as name_bucket}
 use Rattle.sfs_base.specs.declared.numbers.Kind.{Kind}
 use Rattle.sfs_base.proofs.BasicTruth.{true_or_false}
-use Rattle.sfs_tree.specs.declared.changes.Act.TheVariants.{Add, Remove}
-use Rattle.sfs_tree.specs.declared.changes.Change.{Change}
-use Rattle.sfs_tree.specs.declared.reply.Code.{Code}
-use Rattle.sfs_tree.specs.Tree.{TreeState, row_of, is_directory, kind_if, kind_again, kind_of, walk_up}
-use Rattle.sfs_tree.specs.Changes.{other_side}
-use Rattle.sfs_tree.specs.Effect.{Effect, Stays, Moves}
-use Rattle.sfs_tree.specs.Fits.{MayHold}
-use Rattle.sfs_tree.specs.Logged.{log_entry, logged_by, logged_replaced, recorded_above}
-use Rattle.sfs_tree.specs.Verdict.{or_else, directory_fault, move_row}
-use Rattle.sfs_tree.specs.Laws.{IsSoundTree}
-use Rattle.sfs_tree.proofs.Fitting.{neither, may_hold}
-use Rattle.sfs_tree.proofs.Holders.{read_holders_are_above}
-use Rattle.sfs_tree.proofs.Readings.{directory_by_kind}
+use Rattle.tree_laws.specs.declared.changes.Act.TheVariants.{Add, Remove}
+use Rattle.tree_laws.specs.declared.changes.Change.{Change}
+use Rattle.tree_laws.specs.declared.reply.Code.{Code}
+use Rattle.tree_laws.specs.Tree.{TreeState, row_of, is_directory, kind_if, kind_again, kind_of, walk_up}
+use Rattle.tree_laws.specs.Changes.{other_side}
+use Rattle.tree_laws.specs.Effect.{Effect, Stays, Moves}
+use Rattle.tree_laws.specs.Fits.{MayHold}
+use Rattle.tree_laws.specs.Logged.{log_entry, logged_by, logged_replaced, recorded_above}
+use Rattle.tree_laws.specs.Verdict.{or_else, directory_fault, move_row}
+use Rattle.tree_laws.specs.Laws.{IsSoundTree}
+use Rattle.tree_laws.proofs.Fitting.{neither, may_hold}
+use Rattle.tree_laws.proofs.Holders.{read_holders_are_above}
+use Rattle.tree_laws.proofs.Readings.{directory_by_kind}
 use Rattle.mem_rename.specs.declared.sides.Move.{Move}
 use Rattle.mem_rename.specs.Sights.{Sight, moves_directory, meets_directory, goes_between, ShowsMove}
 use Rattle.mem_rename.specs.Logged.{replaced_logged, effect_logged}

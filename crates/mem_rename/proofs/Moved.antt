@@ -1,14 +1,14 @@
 -- A rename does nothing, or it moves a child; and what is known where it does.
 use Rattle.std.proofs.Common.{◌≡◌, ℕ, true, not, ◌&&◌, Option, Some, None, ◌⊎◌, inl, inr, refl, sym, ap, subst, ◌∙◌, nat_eq}
 use borrow.Author.Tests.{eqb-true}
-use Rattle.sfs_tree.specs.Tree.{TreeState, row_of}
-use Rattle.sfs_tree.specs.Effect.{Effect, Moves}
-use Rattle.sfs_tree.specs.Footprints.{DoesNothing}
-use Rattle.sfs_tree.specs.Lock.{needs_lock, moves_between}
-use Rattle.sfs_tree.specs.Parts.{is_this}
-use Rattle.sfs_tree.specs.Verdict.{verdict}
-use Rattle.sfs_tree.specs.Laws.{IsSoundTree}
-use Rattle.sfs_tree.proofs.OwnEffects.{does_its_own}
+use Rattle.tree_laws.specs.Tree.{TreeState, row_of}
+use Rattle.tree_laws.specs.Effect.{Effect, Moves}
+use Rattle.tree_laws.specs.Footprints.{DoesNothing}
+use Rattle.tree_laws.specs.Lock.{needs_lock, moves_between}
+use Rattle.tree_laws.specs.Parts.{is_this}
+use Rattle.tree_laws.specs.Verdict.{verdict}
+use Rattle.tree_laws.specs.Laws.{IsSoundTree}
+use Rattle.tree_laws.proofs.OwnEffects.{does_its_own}
 use Rattle.mem_rename.specs.declared.sides.Move.{Move}
 use Rattle.mem_rename.specs.Sights.{Sight, rename_call, goes_between, rename_by, ShowsMove}
 use Rattle.mem_rename.specs.Laws.{RenamesNeedLock}
@@ -47,7 +47,7 @@ is_this_there node (Some other) e = ap Some (eqb-true _ _ e)
 module _ (tree : TreeState) (core : ℕ) (move : Move) (seen : Sight) (is : IsSoundTree tree) (shows : ShowsMove tree move seen) where
   -- the same by the values
   pub effect_seen : (rename_by seen move).effect ≡ (verdict tree core (rename_call move)).effect
-  effect_seen = ap (λ (v : Rattle.sfs_tree.specs.Verdict.Verdict). v.effect) (sym (renames_are_as_seen tree core move seen is shows))
+  effect_seen = ap (λ (v : Rattle.tree_laws.specs.Verdict.Verdict). v.effect) (sym (renames_are_as_seen tree core move seen is shows))
 
   same_child : (child other : ℕ)
       → ◌≡◌ {A = Effect} (Moves move.directory.0 move.name move.to_directory.0 move.to_name child)
@@ -62,7 +62,7 @@ module _ (tree : TreeState) (core : ℕ) (move : Move) (seen : Sight) (is : IsSo
     | inr moved ↦ subst (MovesChild tree core move) (same_child child moved.0 (sym moves ∙ (effect_seen ∙ moved.1.effect))) moved.1
   ]
     where
-      never : ◌≡◌ {A = Effect} Rattle.sfs_tree.specs.Effect.Stays (Moves move.directory.0 move.name move.to_directory.0 move.to_name child) → ⊥
+      never : ◌≡◌ {A = Effect} Rattle.tree_laws.specs.Effect.Stays (Moves move.directory.0 move.name move.to_directory.0 move.to_name child) → ⊥
       never e = cc
 
   -- a directory comes to another one exactly where the lock is needed

@@ -4,9 +4,9 @@ use Rattle.std.specs.Prelude.{is_some}
 use Rattle.sfs_base.proofs.BasicTruth.{true_or_false, and_first, and_second, not_both}
 use Rattle.sfs_base.specs.declared.numbers.NodeId.{NodeId}
 use Rattle.disk_change.specs.OldKept.{OldKept}
-use Rattle.sfs_tree.specs.Tree.{TreeState}
-use Rattle.sfs_tree.specs.Logged.{numbered_node}
-use Rattle.sfs_tree.specs.Verdict.{names_child}
+use Rattle.tree_laws.specs.Tree.{TreeState}
+use Rattle.tree_laws.specs.Logged.{numbered_node}
+use Rattle.tree_laws.specs.Verdict.{names_child}
 use Rattle.stamp_table.specs.declared.held.HeldCell.{HeldCell}
 use Rattle.stamp_table.specs.Hand.{Hand, places_of}
 use Rattle.stamp_table.specs.Table.{TableState, cell_at}
@@ -97,7 +97,7 @@ module _ (given : ℕ → Option OldKept) (t : TableState) (nodes : ℕ) (table 
     apart = λ same name. (home.fits tree hand.view.core move seen on.meets.sound
         (fitted.core_there given t nodes table move within plan above hand ready tree on)
         (fitted.shows given t nodes table move within plan above hand ready tree on) child.0 moves).apart
-        ((λ i. Rattle.sfs_tree.specs.Tree.row_of tree (sym same i) (name i)) ∙ moves.row);
+        ((λ i. Rattle.tree_laws.specs.Tree.row_of tree (sym same i) (name i)) ∙ moves.row);
   }
 
 -- what is held at a place is held there too where the places are the same

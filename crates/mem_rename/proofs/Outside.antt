@@ -2,13 +2,13 @@
 use Rattle.std.proofs.Common.{◌≡◌, ℕ, ◌<◌, ◌≤◌, Option, Some, None, ◌⊎◌, inl, inr, sym, ap, ap₂, ◌∙◌, arith}
 use Rattle.std.specs.Prelude.{MatchOption}
 use Rattle.std.specs.Option.{option_or}
-use Rattle.sfs_tree.specs.declared.reply.Code.{Code}
-use Rattle.sfs_tree.specs.declared.reply.Code.TheVariants.{NoEntry}
-use Rattle.sfs_tree.specs.declared.reply.Reply.TheVariants as reply
-use Rattle.sfs_tree.specs.Tree.{TreeState, row_of}
-use Rattle.sfs_tree.specs.Verdict.{verdict, answered, refused, or_else, directory_fault, move_row}
+use Rattle.tree_laws.specs.declared.reply.Code.{Code}
+use Rattle.tree_laws.specs.declared.reply.Code.TheVariants.{NoEntry}
+use Rattle.tree_laws.specs.declared.reply.Reply.TheVariants as reply
+use Rattle.tree_laws.specs.Tree.{TreeState, row_of}
+use Rattle.tree_laws.specs.Verdict.{verdict, answered, refused, or_else, directory_fault, move_row}
 use Rattle.mem_values.specs.Places.{node_count}
-use Rattle.sfs_tree.specs.Laws.{IsSoundTree}
+use Rattle.tree_laws.specs.Laws.{IsSoundTree}
 use Rattle.mem_calls.proofs.Faults.{fault_beyond}
 use Rattle.mem_rename.specs.declared.sides.Move.{Move}
 use Rattle.mem_rename.specs.Sights.{rename_call}

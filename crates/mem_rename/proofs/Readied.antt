@@ -6,7 +6,7 @@ use Rattle.std.proofs.lemmas.Option.{option_and_then_some}
 use Rattle.sfs_base.specs.declared.fault.NoMemory.{NoMemory}
 use Rattle.sfs_base.specs.declared.numbers.NodeId.{NodeId}
 use Rattle.disk_change.specs.OldKept.{OldKept}
-use Rattle.sfs_tree.specs.Tree.{TreeState}
+use Rattle.tree_laws.specs.Tree.{TreeState}
 use Rattle.mem_cells.specs.Part.{IsSamePart, room_kept}
 use Rattle.stamp_table.specs.Hand.{Hand}
 use Rattle.stamp_table.specs.Table.{TableState, with_value}
@@ -62,7 +62,7 @@ module _ (given : ℕ → Option OldKept) (t : TableState) (nodes : ℕ) (before
     bucket_stands first account (cell.Bucket box) (cell.Bucket other) b is is_y stood =
         let equal : box.value ≡ other.value = cc (is ∙ sym is_y) in
         subst (λ (v : Bucket). Rattle.mem_values.specs.Stands.ShowsBucket
-        (Rattle.sfs_tree.specs.History.tree_after first account.calls) node.0 number v) equal stood
+        (Rattle.tree_laws.specs.History.tree_after first account.calls) node.0 number v) equal stood
     bucket_stands first account (cell.Bucket box) (cell.Lock l) b is is_y stood = absurd (cc (is_y))
     bucket_stands first account (cell.Bucket box) (cell.File l) b is is_y stood = absurd (cc (is_y))
     bucket_stands first account (cell.Bucket box) (cell.Pending l) b is is_y stood = absurd (cc (is_y))

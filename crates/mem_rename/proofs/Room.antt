@@ -3,12 +3,12 @@ use Rattle.std.proofs.Common.{◌≡◌, ℕ, ◌+◌, ◌*◌, ◌-◌, ◌^◌
 use borrow.Author.Tests.{eqb-true}
 use Rattle.std.specs.Prelude.{All}
 use Rattle.std.proofs.lemmas.List.Elements.{All-nil, All-cons, All-append}
-use Rattle.sfs_tree.specs.declared.changes.Change.{Change}
-use Rattle.sfs_tree.specs.declared.changes.Act.TheVariants.{Add}
-use Rattle.sfs_tree.specs.Tree.{TreeState, kind_if}
-use Rattle.sfs_tree.specs.Changes.{other_side}
-use Rattle.sfs_tree.specs.Logged.{is_logged_in, log_entry}
-use Rattle.sfs_tree.specs.History.{IsLegal}
+use Rattle.tree_laws.specs.declared.changes.Change.{Change}
+use Rattle.tree_laws.specs.declared.changes.Act.TheVariants.{Add}
+use Rattle.tree_laws.specs.Tree.{TreeState, kind_if}
+use Rattle.tree_laws.specs.Changes.{other_side}
+use Rattle.tree_laws.specs.Logged.{is_logged_in, log_entry}
+use Rattle.tree_laws.specs.History.{IsLegal}
 use Rattle.mem_cells.specs.Log.{log_place, IsInOrder}
 use Rattle.mem_cells.specs.Part.{changes_kept, room_kept}
 use Rattle.mem_cells.proofs.Order.{nothing_in_order, in_order-push}

@@ -3,10 +3,10 @@ use Rattle.std.proofs.Common.{◌≡◌, ℕ, Bool, true, false, cond, List, Som
 use Rattle.std.specs.Ordering.{eq_by_cmp}
 use Rattle.std.specs.Cmp.Lexicographic.{nat_list_cmp_total}
 use Rattle.std.specs.FinMap.{FinMap, get, insert, remove, get-insert, get-remove}
-use Rattle.sfs_tree.specs.Order.{name_cmp}
-use Rattle.sfs_tree.specs.Tree.{TreeState, is_directory}
-use Rattle.sfs_tree.specs.Parts.{is_in_part, part_with, part_without}
-use Rattle.sfs_tree.proofs.Joined.{name_cmp-IsAntisymmetric, is_equal}
+use Rattle.tree_laws.specs.Order.{name_cmp}
+use Rattle.tree_laws.specs.Tree.{TreeState, is_directory}
+use Rattle.tree_laws.specs.Parts.{is_in_part, part_with, part_without}
+use Rattle.tree_laws.proofs.Joined.{name_cmp-IsAntisymmetric, is_equal}
 use Rattle.mem_values.specs.Stands.{if_directory}
 
 module _ (tree : TreeState) where

@@ -6,9 +6,9 @@ use Rattle.std.specs.Cmp.{tied_itself}
 use Rattle.std.specs.Cmp.Lexicographic.{nat_list_cmp_total}
 use Rattle.std.specs.FinMap.{FinMap, get, insert, remove, get-insert, get-remove, same_map}
 use Rattle.sfs_base.specs.declared.numbers.NodeId.{NodeId}
-use Rattle.sfs_tree.specs.Order.{name_cmp}
-use Rattle.sfs_tree.specs.NameRow.{number_of}
-use Rattle.sfs_tree.proofs.Joined.{name_cmp-IsAntisymmetric, is_equal}
+use Rattle.tree_laws.specs.Order.{name_cmp}
+use Rattle.tree_laws.specs.NameRow.{number_of}
+use Rattle.tree_laws.proofs.Joined.{name_cmp-IsAntisymmetric, is_equal}
 use Rattle.mem_calls.proofs.RowsGo.{same_name}
 use Rattle.mem_rename.specs.Moving.{row_again}
 

@@ -7,9 +7,9 @@ use Rattle.sfs_base.specs.declared.numbers.NodeId.{NodeId}
 use Rattle.sfs_base.proofs.BasicTruth.{and_first, and_second, not_true, false_not_true}
 use Rattle.sfs_base.proofs.BasicOptions.{none_some}
 use Rattle.disk_change.specs.OldKept.{OldKept}
-use Rattle.flush_core.specs.Rules.{IsOneOf}
-use Rattle.sfs_tree.specs.History.{IsLegal}
-use Rattle.sfs_tree.specs.Tree.{TreeState}
+use Rattle.cut_laws.specs.Rules.{IsOneOf}
+use Rattle.tree_laws.specs.History.{IsLegal}
+use Rattle.tree_laws.specs.Tree.{TreeState}
 use Rattle.stamp_table.specs.declared.event.Event.{Event}
 use Rattle.stamp_table.specs.declared.view.View.{View}
 use Rattle.stamp_table.specs.Events.{calls_in}

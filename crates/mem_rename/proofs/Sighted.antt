@@ -3,11 +3,11 @@ use Rattle.std.proofs.Common.{◌≡◌, ℕ, ◌<◌, Bool, true, false, ◌||�
 use Rattle.std.specs.Prelude.{option_map, MatchOption}
 use Rattle.std.specs.FinMap.{len}
 use Rattle.std.specs.List.{list_any}
-use Rattle.sfs_tree.specs.NameRow.{node_number}
+use Rattle.tree_laws.specs.NameRow.{node_number}
 use Rattle.sfs_base.specs.Name.{bucket as name_bucket}
 use Rattle.sfs_base.specs.declared.numbers.NodeId.{NodeId}
-use Rattle.sfs_tree.specs.Logged.{numbered_node}
-use Rattle.sfs_tree.specs.Tree.{BUCKET_ROWS}
+use Rattle.tree_laws.specs.Logged.{numbered_node}
+use Rattle.tree_laws.specs.Tree.{BUCKET_ROWS}
 use Rattle.stamp_table.specs.Hand.{Hand}
 use Rattle.mem_values.specs.declared.cell.Cell.{Cell}
 use Rattle.mem_values.specs.declared.cell_id.CellId.TheVariants as id

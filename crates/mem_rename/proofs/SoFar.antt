@@ -3,8 +3,8 @@ use Rattle.std.proofs.Common.{◌≡◌, ◌⊎◌, ℕ, ◌+◌, ◌*◌, ◌<�
 use borrow.Author.Tests.{leb-true, le-leb}
 use Rattle.sfs_base.proofs.BasicTruth.{true_or_false}
 use Rattle.disk_change.specs.OldKept.{OldKept}
-use Rattle.flush_core.specs.Rules.{IsOneOf}
-use Rattle.sfs_tree.specs.Tree.{TreeState}
+use Rattle.cut_laws.specs.Rules.{IsOneOf}
+use Rattle.tree_laws.specs.Tree.{TreeState}
 use Rattle.stamp_table.specs.declared.event.Event.{Event}
 use Rattle.stamp_table.specs.declared.view.View.{View}
 use Rattle.stamp_table.specs.Hand.{Hand}

@@ -1,10 +1,10 @@
 -- A call that fits each tree in which the directories that its core has read are the holders may be stamped.
 use Rattle.std.proofs.Common.{ℕ, List, Option, sym, subst}
-use Rattle.sfs_tree.specs.Lock.{AreHolders}
-use Rattle.sfs_tree.specs.History.{tree_after, IsLegal}
-use Rattle.sfs_tree.specs.Laws.{IsSoundTree}
+use Rattle.tree_laws.specs.Lock.{AreHolders}
+use Rattle.tree_laws.specs.History.{tree_after, IsLegal}
+use Rattle.tree_laws.specs.Laws.{IsSoundTree}
 use Rattle.disk_change.specs.OldKept.{OldKept}
-use Rattle.sfs_tree.specs.Tree.{TreeState}
+use Rattle.tree_laws.specs.Tree.{TreeState}
 use Rattle.stamp_table.specs.declared.event.Event.{Event}
 use Rattle.stamp_table.specs.declared.view.View.{View}
 use Rattle.stamp_table.specs.Steps.{IsPast}

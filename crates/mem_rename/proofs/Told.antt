@@ -6,14 +6,14 @@ use Rattle.std.specs.FinMap.{get}
 use Rattle.sfs_base.specs.Name.{bucket as name_bucket}
 use Rattle.sfs_base.specs.declared.numbers.NodeId.{NodeId}
 use Rattle.sfs_base.proofs.BasicTruth.{or_second, and_first, and_second, then_false, not_true, not_false, not_both, true_or_false}
-use Rattle.sfs_tree.specs.declared.reply.Code.{Code}
-use Rattle.sfs_tree.specs.declared.reply.Code.TheVariants.{NoEntry, NotDir}
-use Rattle.sfs_tree.specs.Tree.{TreeState, row_of, is_alive, is_directory, count_of}
-use Rattle.sfs_tree.specs.NameRow.{number_of}
-use Rattle.sfs_tree.specs.Verdict.{directory_fault}
-use Rattle.sfs_tree.specs.Laws.{IsSoundTree}
-use Rattle.sfs_tree.proofs.Names.{get-own_bucket}
-use Rattle.sfs_tree.proofs.Holders.{standing_is_alive}
+use Rattle.tree_laws.specs.declared.reply.Code.{Code}
+use Rattle.tree_laws.specs.declared.reply.Code.TheVariants.{NoEntry, NotDir}
+use Rattle.tree_laws.specs.Tree.{TreeState, row_of, is_alive, is_directory, count_of}
+use Rattle.tree_laws.specs.NameRow.{number_of}
+use Rattle.tree_laws.specs.Verdict.{directory_fault}
+use Rattle.tree_laws.specs.Laws.{IsSoundTree}
+use Rattle.tree_laws.proofs.Names.{get-own_bucket}
+use Rattle.tree_laws.proofs.Holders.{standing_is_alive}
 use Rattle.mem_values.specs.declared.bucket.Bucket.{Bucket}
 use Rattle.mem_values.specs.Stands.{ShowsBucket, if_directory, file_links}
 use Rattle.mem_rename.specs.Sights.{stands_by, fault_seen}

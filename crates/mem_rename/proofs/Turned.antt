@@ -5,12 +5,12 @@ use Rattle.std.specs.Option.{option_and_then}
 use Rattle.sfs_base.specs.Name.{bucket as name_bucket}
 use Rattle.sfs_base.specs.declared.numbers.NodeId.{NodeId}
 use Rattle.disk_change.specs.OldKept.{OldKept}
-use Rattle.sfs_tree.specs.Tree.{TreeState}
-use Rattle.sfs_tree.specs.declared.reply.Reply.{Reply}
-use Rattle.sfs_tree.specs.declared.reply.Reply.TheVariants as reply
-use Rattle.sfs_tree.specs.Effect.{Moves}
-use Rattle.sfs_tree.specs.Verdict.{Verdict, done}
-use Rattle.sfs_tree.proofs.Joined.{bucket_small}
+use Rattle.tree_laws.specs.Tree.{TreeState}
+use Rattle.tree_laws.specs.declared.reply.Reply.{Reply}
+use Rattle.tree_laws.specs.declared.reply.Reply.TheVariants as reply
+use Rattle.tree_laws.specs.Effect.{Moves}
+use Rattle.tree_laws.specs.Verdict.{Verdict, done}
+use Rattle.tree_laws.proofs.Joined.{bucket_small}
 use Rattle.stamp_table.specs.declared.event.Event.{Event}
 use Rattle.stamp_table.specs.declared.view.View.{View}
 use Rattle.stamp_table.specs.Hand.{Hand, places_of}
@@ -78,7 +78,7 @@ module _ (given : ℕ → Option OldKept) (t : TableState) (nodes : ℕ) (table 
       (bucket_small move.to_name) prepared.row
 
   bucket_there : (node : NodeId) (number : ℕ) → node.0 < nodes → number < 8
-      → Rattle.flush_core.specs.Rules.IsOneOf (Rattle.mem_rename.specs.Plans.asked_cells move plan) (id.Bucket node number)
+      → Rattle.cut_laws.specs.Rules.IsOneOf (Rattle.mem_rename.specs.Plans.asked_cells move plan) (id.Bucket node number)
       → IsSome (bucket_held nodes mid0.held node number)
   bucket_there node number lt small among =
       let b = held_bucket nodes before node number (ready.cells (id.Bucket node number) among) in

@@ -6,12 +6,12 @@ use Rattle.std.proofs.lemmas.Bool.{false_from_ne_true}
 use Rattle.sfs_base.proofs.BasicTruth.{and_first, not_both}
 use Rattle.sfs_base.proofs.BasicOptions.{some_is, none_some}
 use Rattle.sfs_base.proofs.BasicNumbers.{not_same}
-use Rattle.sfs_tree.specs.Tree.{TreeState, row_of, is_alive, is_directory, holder_of}
-use Rattle.sfs_tree.specs.Lock.{IsHolder, AreHolders}
-use Rattle.sfs_tree.specs.NameRow.{number_of}
-use Rattle.sfs_tree.specs.Laws.{IsSoundTree}
-use Rattle.sfs_tree.proofs.Holders.{standing_is_alive}
-use Rattle.sfs_tree.proofs.RowFacts.{holder_found}
+use Rattle.tree_laws.specs.Tree.{TreeState, row_of, is_alive, is_directory, holder_of}
+use Rattle.tree_laws.specs.Lock.{IsHolder, AreHolders}
+use Rattle.tree_laws.specs.NameRow.{number_of}
+use Rattle.tree_laws.specs.Laws.{IsSoundTree}
+use Rattle.tree_laws.proofs.Holders.{standing_is_alive}
+use Rattle.tree_laws.proofs.RowFacts.{holder_found}
 use Rattle.stamp_table.specs.Events.{calls_in, called}
 use Rattle.mem_values.specs.declared.bucket.Bucket.{Bucket}
 use Rattle.mem_values.specs.declared.cell.Cell.TheVariants as cell
@@ -68,8 +68,8 @@ reading_breaks_off_below_the_dead tree node number above bucket is are shows non
 pub read_ways_stay : ReadWaysStay
 read_ways_stay given first before after (cell.Lock lock) node above sound legal stood stands are =
     let calls : calls_in (before ++ after) ≡ calls_in before ++ calls_in after = filter_map-append called before after in
-    subst (λ l. AreHolders (Rattle.sfs_tree.specs.History.tree_after first l) node above) (sym calls)
-    (told_ways_stay first (calls_in before) (calls_in after) node above sound (subst (λ l. Rattle.sfs_tree.specs.History.IsLegal first l) calls legal)
+    subst (λ l. AreHolders (Rattle.tree_laws.specs.History.tree_after first l) node above) (sym calls)
+    (told_ways_stay first (calls_in before) (calls_in after) node above sound (subst (λ l. Rattle.tree_laws.specs.History.IsLegal first l) calls legal)
     (sym stood ∙ (stands ∙ ap (Rattle.mem_values.specs.Logs.last_move first None) calls)) are)
 read_ways_stay given first before after (cell.Bucket b) node above sound legal stood stands are = absurd stood
 read_ways_stay given first before after (cell.File f) node above sound legal stood stands are = absurd stood

@@ -6,17 +6,17 @@ use Rattle.std.specs.Option.{option_or}
 use Rattle.std.specs.FinMap.{len}
 use Rattle.sfs_base.specs.Name.{bucket as name_bucket}
 use Rattle.sfs_base.proofs.BasicTruth.{and_first, and_second, true_or_false}
-use Rattle.sfs_tree.specs.declared.reply.Code.{Code}
-use Rattle.sfs_tree.specs.declared.reply.Code.TheVariants.{NotDir, IsDir, NotEmpty, Invalid, DirFull}
-use Rattle.sfs_tree.specs.declared.reply.Reply.TheVariants as reply
-use Rattle.sfs_tree.specs.Tree.{BUCKET_ROWS, TreeState, row_of, is_directory, lies_below, row_count}
-use Rattle.sfs_tree.specs.Effect.{Moves}
-use Rattle.sfs_tree.specs.Fits.{MayHold}
-use Rattle.sfs_tree.specs.Verdict.{answered, done, or_else, directory_fault, place_fault, move_fault, names_child, move_row}
-use Rattle.sfs_tree.specs.Laws.{IsSoundTree}
-use Rattle.sfs_tree.proofs.Fitting.{may_hold}
-use Rattle.sfs_tree.proofs.Walks.{not_below_own}
-use Rattle.sfs_tree.proofs.Holders.{read_holders_are_above}
+use Rattle.tree_laws.specs.declared.reply.Code.{Code}
+use Rattle.tree_laws.specs.declared.reply.Code.TheVariants.{NotDir, IsDir, NotEmpty, Invalid, DirFull}
+use Rattle.tree_laws.specs.declared.reply.Reply.TheVariants as reply
+use Rattle.tree_laws.specs.Tree.{BUCKET_ROWS, TreeState, row_of, is_directory, lies_below, row_count}
+use Rattle.tree_laws.specs.Effect.{Moves}
+use Rattle.tree_laws.specs.Fits.{MayHold}
+use Rattle.tree_laws.specs.Verdict.{answered, done, or_else, directory_fault, place_fault, move_fault, names_child, move_row}
+use Rattle.tree_laws.specs.Laws.{IsSoundTree}
+use Rattle.tree_laws.proofs.Fitting.{may_hold}
+use Rattle.tree_laws.proofs.Walks.{not_below_own}
+use Rattle.tree_laws.proofs.Holders.{read_holders_are_above}
 use Rattle.mem_rename.specs.declared.sides.Move.{Move}
 use Rattle.mem_rename.specs.Sights.{Sight, rename_call, stands_by, fault_seen, child_seen, there_seen, moves_directory, meets_directory, goes_between, goes_below, are_bare, place_fault_by, move_fault_by, move_by, rename_by, ShowsMove}
 use Rattle.mem_rename.specs.Laws.{RenamesAreAsSeen}

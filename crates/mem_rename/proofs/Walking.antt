@@ -5,13 +5,13 @@ use Rattle.std.specs.FinMap.{get}
 use Rattle.sfs_base.specs.declared.numbers.NodeId.{NodeId}
 use Rattle.sfs_base.proofs.BasicOptions.{none_some, some_is}
 use Rattle.disk_change.specs.OldKept.{OldKept}
-use Rattle.sfs_tree.specs.Tree.{TreeState, is_directory, holder_of}
-use Rattle.sfs_tree.specs.Lock.{AreHolders, stands_of}
-use Rattle.sfs_tree.specs.NameRow.{number_of, node_number}
-use Rattle.sfs_tree.specs.History.{tree_after, IsLegal}
-use Rattle.sfs_tree.specs.Laws.{IsSoundTree}
-use Rattle.sfs_tree.proofs.RowFacts.{holder_found}
-use Rattle.sfs_tree.proofs.KeepsNodes.{directory_node}
+use Rattle.tree_laws.specs.Tree.{TreeState, is_directory, holder_of}
+use Rattle.tree_laws.specs.Lock.{AreHolders, stands_of}
+use Rattle.tree_laws.specs.NameRow.{number_of, node_number}
+use Rattle.tree_laws.specs.History.{tree_after, IsLegal}
+use Rattle.tree_laws.specs.Laws.{IsSoundTree}
+use Rattle.tree_laws.proofs.RowFacts.{holder_found}
+use Rattle.tree_laws.proofs.KeepsNodes.{directory_node}
 use Rattle.stamp_table.specs.declared.event.Event.{Event}
 use Rattle.stamp_table.specs.declared.view.View.{View}
 use Rattle.stamp_table.specs.Events.{calls_in}

@@ -2,10 +2,10 @@
 use Rattle.std.specs.Prelude.{◌≡◌, ℕ, ◌+◌, ◌==◌, Bool, true, false, not, ◌&&◌, Option, Some, None, if◌then◌else◌}
 use Rattle.std.specs.FinMap.{FinMap}
 use Rattle.sfs_base.specs.Name.{bucket as name_bucket}
-use Rattle.sfs_tree.specs.Order.{name_cmp}
-use Rattle.sfs_tree.specs.NameRow.{number_of}
-use Rattle.sfs_tree.specs.Effect.{Moves}
-use Rattle.sfs_tree.specs.Parts.{is_this, part_after, part_without}
+use Rattle.tree_laws.specs.Order.{name_cmp}
+use Rattle.tree_laws.specs.NameRow.{number_of}
+use Rattle.tree_laws.specs.Effect.{Moves}
+use Rattle.tree_laws.specs.Parts.{is_this, part_after, part_without}
 use Rattle.mem_values.specs.declared.bucket.Bucket.{Bucket}
 use Rattle.sfs_base.specs.declared.numbers.Stamp.{Stamp}
 use Rattle.mem_cells.specs.Part.{IsAddedTo}

@@ -2,8 +2,8 @@
 use Rattle.std.specs.Prelude.{ℕ, Bool, true, false, List, [], ◌∷◌, ◌++◌, Option, Some, None}
 use Rattle.sfs_base.specs.Name.{bucket as name_bucket}
 use Rattle.sfs_base.specs.declared.numbers.NodeId.{NodeId}
-use Rattle.sfs_tree.specs.Effect.{Effect, Moves}
-use Rattle.sfs_tree.specs.Logged.{numbered_node}
+use Rattle.tree_laws.specs.Effect.{Effect, Moves}
+use Rattle.tree_laws.specs.Logged.{numbered_node}
 use Rattle.mem_values.specs.declared.cell_id.CellId.{CellId}
 use Rattle.mem_values.specs.declared.cell_id.CellId.TheVariants as id
 use Rattle.mem_rename.specs.declared.sides.Move.{Move}

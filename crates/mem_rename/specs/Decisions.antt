@@ -4,12 +4,12 @@ use Rattle.std.specs.Option.{option_or}
 use Rattle.std.specs.List.{list_any}
 use Rattle.std.specs.FinMap.{get, len}
 use Rattle.sfs_base.specs.declared.numbers.NodeId.{NodeId}
-use Rattle.sfs_tree.specs.declared.reply.Code.{Code}
-use Rattle.sfs_tree.specs.declared.reply.Code.TheVariants.{NoEntry, NotDir, IsDir, NotEmpty, Invalid, DirFull}
-use Rattle.sfs_tree.specs.Tree.{BUCKET_ROWS}
-use Rattle.sfs_tree.specs.Effect.{Moves as MovesEffect}
-use Rattle.sfs_tree.specs.Logged.{numbered_node}
-use Rattle.sfs_tree.specs.Verdict.{Verdict, answered, done}
+use Rattle.tree_laws.specs.declared.reply.Code.{Code}
+use Rattle.tree_laws.specs.declared.reply.Code.TheVariants.{NoEntry, NotDir, IsDir, NotEmpty, Invalid, DirFull}
+use Rattle.tree_laws.specs.Tree.{BUCKET_ROWS}
+use Rattle.tree_laws.specs.Effect.{Moves as MovesEffect}
+use Rattle.tree_laws.specs.Logged.{numbered_node}
+use Rattle.tree_laws.specs.Verdict.{Verdict, answered, done}
 use Rattle.mem_values.specs.declared.bucket.Bucket.{Bucket}
 use Rattle.mem_calls.specs.declared.short.Short.TheVariants as short
 use Rattle.mem_calls.specs.Reply.{reply_of}

@@ -1,17 +1,17 @@
 -- The laws of a rename over the values of cells, each of which a function of the module laws proves.
 use Rattle.std.specs.Prelude.{◌≡◌, ◌≢◌, ◌⊎◌, ℕ, ◌+◌, ◌<◌, ◌&&◌, false, List, [], ◌∷◌, ◌++◌, length, Option, Some, None, IsSome}
-use Rattle.sfs_tree.specs.declared.call.Call.{Call}
-use Rattle.sfs_tree.specs.declared.reply.Reply.{Reply}
-use Rattle.sfs_tree.specs.declared.history.Entry.{Entry}
-use Rattle.sfs_tree.specs.Tree.{TreeState, is_alive, is_directory}
-use Rattle.sfs_tree.specs.Effect.{Moves}
-use Rattle.sfs_tree.specs.Verdict.{verdict, tree_after_call}
-use Rattle.sfs_tree.specs.Lock.{AreHolders, EndsAtRoot, needs_lock}
-use Rattle.sfs_tree.specs.Logged.{logged_by}
-use Rattle.sfs_tree.specs.NameRow.{number_of}
-use Rattle.sfs_tree.specs.History.{tree_after, IsLegal}
-use Rattle.sfs_tree.specs.Laws.{IsSoundTree}
-use Rattle.flush_core.specs.Rules.{IsOneOf}
+use Rattle.tree_laws.specs.declared.call.Call.{Call}
+use Rattle.tree_laws.specs.declared.reply.Reply.{Reply}
+use Rattle.tree_laws.specs.declared.history.Entry.{Entry}
+use Rattle.tree_laws.specs.Tree.{TreeState, is_alive, is_directory}
+use Rattle.tree_laws.specs.Effect.{Moves}
+use Rattle.tree_laws.specs.Verdict.{verdict, tree_after_call}
+use Rattle.tree_laws.specs.Lock.{AreHolders, EndsAtRoot, needs_lock}
+use Rattle.tree_laws.specs.Logged.{logged_by}
+use Rattle.tree_laws.specs.NameRow.{number_of}
+use Rattle.tree_laws.specs.History.{tree_after, IsLegal}
+use Rattle.tree_laws.specs.Laws.{IsSoundTree}
+use Rattle.cut_laws.specs.Rules.{IsOneOf}
 use Rattle.disk_change.specs.OldKept.{OldKept}
 use Rattle.stamp_table.specs.declared.event.Event.{Event}
 use Rattle.stamp_table.specs.declared.event.Event.TheVariants.{Called}

@@ -1,11 +1,11 @@
 -- What a rename logs, by the values that it reads.
 use Rattle.std.specs.Prelude.{ℕ, List, [], ◌∷◌, ◌++◌, Option, Some, None, if◌then◌else◌}
-use Rattle.sfs_tree.specs.declared.changes.Act.TheVariants.{Add, Remove}
-use Rattle.sfs_tree.specs.declared.changes.Change.{Change}
-use Rattle.sfs_tree.specs.Tree.{kind_if}
-use Rattle.sfs_tree.specs.Changes.{other_side}
-use Rattle.sfs_tree.specs.Effect.{Effect, Moves}
-use Rattle.sfs_tree.specs.Logged.{log_entry}
+use Rattle.tree_laws.specs.declared.changes.Act.TheVariants.{Add, Remove}
+use Rattle.tree_laws.specs.declared.changes.Change.{Change}
+use Rattle.tree_laws.specs.Tree.{kind_if}
+use Rattle.tree_laws.specs.Changes.{other_side}
+use Rattle.tree_laws.specs.Effect.{Effect, Moves}
+use Rattle.tree_laws.specs.Logged.{log_entry}
 use Rattle.mem_rename.specs.declared.sides.Move.{Move}
 use Rattle.mem_rename.specs.Sights.{Sight, there_seen, moves_directory, meets_directory, goes_between, rename_by}
 

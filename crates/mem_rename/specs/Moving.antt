@@ -4,7 +4,7 @@ use Rattle.std.specs.FinMap.{FinMap, insert, remove}
 use Rattle.sfs_base.specs.declared.numbers.NodeId.{NodeId}
 use Rattle.sfs_base.specs.declared.numbers.Stamp.{Stamp}
 use Rattle.sfs_base.specs.Name.{bucket as name_bucket}
-use Rattle.sfs_tree.specs.Order.{name_cmp}
+use Rattle.tree_laws.specs.Order.{name_cmp}
 use Rattle.mem_cells.specs.Part.{IsSamePart, room_kept}
 use Rattle.stamp_table.specs.declared.held.HeldCell.{HeldCell}
 use Rattle.stamp_table.specs.Hand.{Hand, places_of}

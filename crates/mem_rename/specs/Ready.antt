@@ -5,8 +5,8 @@ use Rattle.std.specs.List.{list_any}
 use Rattle.sfs_base.specs.Name.{bucket as name_bucket}
 use Rattle.sfs_base.specs.declared.numbers.NodeId.{NodeId}
 use Rattle.disk_change.specs.OldKept.{OldKept}
-use Rattle.sfs_tree.specs.Tree.{TreeState}
-use Rattle.sfs_tree.specs.Lock.{EndsAtRoot, AreHolders}
+use Rattle.tree_laws.specs.Tree.{TreeState}
+use Rattle.tree_laws.specs.Lock.{EndsAtRoot, AreHolders}
 use Rattle.stamp_table.specs.declared.held.HeldCell.{HeldCell}
 use Rattle.stamp_table.specs.Hand.{Hand}
 use Rattle.stamp_table.specs.Table.{TableState}

@@ -1,10 +1,10 @@
 -- What a rename logs of a child that moves, in the words of the code.
 use Rattle.std.specs.Prelude.{◌≡◌, ℕ, ◌≤◌, Bool, List, [], ◌∷◌, ◌++◌, Option, Some, None}
-use Rattle.sfs_tree.specs.declared.changes.Act.TheVariants.{Add, Remove}
-use Rattle.sfs_tree.specs.declared.changes.Change.{Change}
-use Rattle.sfs_tree.specs.Tree.{kind_if}
-use Rattle.sfs_tree.specs.Changes.{other_side}
-use Rattle.sfs_tree.specs.Logged.{log_entry}
+use Rattle.tree_laws.specs.declared.changes.Act.TheVariants.{Add, Remove}
+use Rattle.tree_laws.specs.declared.changes.Change.{Change}
+use Rattle.tree_laws.specs.Tree.{kind_if}
+use Rattle.tree_laws.specs.Changes.{other_side}
+use Rattle.tree_laws.specs.Logged.{log_entry}
 use Rattle.sfs_base.specs.declared.numbers.NodeId.{NodeId}
 use Rattle.mem_rename.specs.declared.sides.Move.{Move}
 use Rattle.mem_rename.specs.declared.looking.Look.{Look}

@@ -4,15 +4,15 @@ use Rattle.std.specs.List.{list_any}
 use Rattle.std.specs.Option.{option_or}
 use Rattle.std.specs.FinMap.{get, len}
 use Rattle.sfs_base.specs.Name.{bucket as name_bucket}
-use Rattle.sfs_tree.specs.declared.call.Call.{Call}
-use Rattle.sfs_tree.specs.declared.call.Call.TheVariants as call
-use Rattle.sfs_tree.specs.declared.reply.Reply.TheVariants as reply
-use Rattle.sfs_tree.specs.declared.reply.Code.{Code}
-use Rattle.sfs_tree.specs.declared.reply.Code.TheVariants.{NoEntry, NotDir, IsDir, NotEmpty, Invalid, DirFull}
-use Rattle.sfs_tree.specs.Tree.{BUCKET_ROWS, TreeState}
-use Rattle.sfs_tree.specs.Effect.{Moves}
-use Rattle.sfs_tree.specs.Lock.{AreHolders, EndsAtRoot}
-use Rattle.sfs_tree.specs.Verdict.{Verdict, refused, answered, done, or_else, names_child}
+use Rattle.tree_laws.specs.declared.call.Call.{Call}
+use Rattle.tree_laws.specs.declared.call.Call.TheVariants as call
+use Rattle.tree_laws.specs.declared.reply.Reply.TheVariants as reply
+use Rattle.tree_laws.specs.declared.reply.Code.{Code}
+use Rattle.tree_laws.specs.declared.reply.Code.TheVariants.{NoEntry, NotDir, IsDir, NotEmpty, Invalid, DirFull}
+use Rattle.tree_laws.specs.Tree.{BUCKET_ROWS, TreeState}
+use Rattle.tree_laws.specs.Effect.{Moves}
+use Rattle.tree_laws.specs.Lock.{AreHolders, EndsAtRoot}
+use Rattle.tree_laws.specs.Verdict.{Verdict, refused, answered, done, or_else, names_child}
 use Rattle.mem_values.specs.declared.bucket.Bucket.{Bucket}
 use Rattle.mem_rename.specs.declared.sides.Move.{Move}
 use Rattle.mem_values.specs.Stands.{ShowsBucket, file_links}

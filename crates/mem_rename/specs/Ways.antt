@@ -1,8 +1,8 @@
 -- How the directories above another one are read under the lock of the tree: one bucket of each, held and let go one by one.
 use Rattle.std.specs.Prelude.{◌≡◌, ℕ, List, [], ◌∷◌, Option}
-use Rattle.sfs_tree.specs.Tree.{TreeState}
-use Rattle.sfs_tree.specs.Lock.{AreHolders}
-use Rattle.sfs_tree.specs.History.{tree_after, IsLegal}
+use Rattle.tree_laws.specs.Tree.{TreeState}
+use Rattle.tree_laws.specs.Lock.{AreHolders}
+use Rattle.tree_laws.specs.History.{tree_after, IsLegal}
 use Rattle.disk_change.specs.OldKept.{OldKept}
 use Rattle.stamp_table.specs.declared.event.Event.{Event}
 use Rattle.stamp_table.specs.declared.view.View.{View}

@@ -1,7 +1,7 @@
 // A rename that changes nothing: it is stamped with its answer.
 ghost use Rattle.std.specs.Prelude.{◌≡◌, ◌<◌, map};
-ghost use Rattle.sfs_tree.specs.NameRow.{node_number};
-ghost use Rattle.sfs_tree.specs.Verdict.{answered};
+ghost use Rattle.tree_laws.specs.NameRow.{node_number};
+ghost use Rattle.tree_laws.specs.Verdict.{answered};
 ghost use Rattle.mem_calls.specs.Table.{IsFileTable};
 ghost use Rattle.mem_calls.specs.Reply.{reply_of};
 ghost use Rattle.mem_calls.specs.Outcome.{IsAnswered};
@@ -13,7 +13,7 @@ use crate::sides::Move;
 use mem_calls::{Short, add_entry};
 use mem_values::{FileCore, FileShared, Given};
 use sfs_base::NodeId;
-use sfs_tree::Changes;
+use tree_laws::Changes;
 use std::alloc::Global;
 
 /// Stamps a rename that changes nothing with its answer, counts its entry, and lets go of all cells. It takes no memory.

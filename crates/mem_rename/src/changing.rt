@@ -9,7 +9,7 @@ use crate::sides::Move;
 use mem_calls::{put, take_bucket, take_file};
 use mem_values::{Bucket, Cell, CellId, FileCell, FileCore};
 use sfs_base::{Name, NoMemory, NodeId, bucket_of};
-use sfs_tree::NameMap;
+use tree_laws::NameMap;
 
 // Gives a name's row this child, or adds it.
 fn put_row(rows: &mut NameMap, name: &Name, child: NodeId) -> Result<(), NoMemory>

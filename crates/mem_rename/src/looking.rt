@@ -7,7 +7,7 @@ use crate::sides::Move;
 use mem_calls::{Short, is_standing};
 use mem_values::Bucket;
 use sfs_base::NodeId;
-use sfs_tree::Code;
+use tree_laws::Code;
 
 /// Whether the two directories stand, the child of the old row and what stands at the new one, and whether these two are directories.
 #[derive(Clone, Copy)]

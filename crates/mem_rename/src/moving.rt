@@ -1,9 +1,9 @@
 // A rename by which a child moves: ready, stamped, and let go.
 ghost use Rattle.std.specs.Prelude.{◌≡◌, ◌<◌, map, Some, MatchResult, cond, true, IsSome, []};
-ghost use Rattle.sfs_tree.specs.NameRow.{node_number};
-ghost use Rattle.sfs_tree.specs.Effect.{Moves as MovesEffect};
-ghost use Rattle.sfs_tree.specs.Verdict.{done};
-ghost use Rattle.sfs_tree.specs.declared.reply.Reply.TheVariants as reply;
+ghost use Rattle.tree_laws.specs.NameRow.{node_number};
+ghost use Rattle.tree_laws.specs.Effect.{Moves as MovesEffect};
+ghost use Rattle.tree_laws.specs.Verdict.{done};
+ghost use Rattle.tree_laws.specs.declared.reply.Reply.TheVariants as reply;
 ghost use Rattle.mem_values.specs.declared.cell_id.CellId.TheVariants as id;
 ghost use Rattle.mem_calls.specs.Table.{IsFileTable};
 ghost use Rattle.mem_calls.specs.Held.{value_held};
@@ -26,7 +26,7 @@ use crate::sights::look_in;
 use mem_calls::{add_entry, put};
 use mem_values::{Cell, CellId, FileCore, FileShared, Given, TreeLock};
 use sfs_base::{NoMemory, NodeId, NodeList, Stamp};
-use sfs_tree::{Ancestors, Reply};
+use tree_laws::{Ancestors, Reply};
 use std::alloc::Global;
 
 // The move of a child by what is held.

@@ -1,6 +1,6 @@
 // A rename on the shared table.
 ghost use Rattle.std.specs.Prelude.{◌≡◌, ◌⊎◌, ◌<◌, ◌≤◌, MatchOption};
-ghost use Rattle.sfs_tree.specs.declared.reply.Code.TheVariants.{NoEntry as NoneThere};
+ghost use Rattle.tree_laws.specs.declared.reply.Code.TheVariants.{NoEntry as NoneThere};
 ghost use Rattle.stamp_table.specs.Table.{IsBetweenCalls};
 ghost use Rattle.mem_calls.specs.Table.{IsFileTable};
 ghost use Rattle.mem_calls.specs.Outcome.{IsAnswered, ComesTo};
@@ -14,7 +14,7 @@ use crate::sides::Move;
 use mem_calls::{answer_call, directory_fault_in, hold_directory, hold_part};
 use mem_values::{FileCore, FileShared, Given};
 use sfs_base::{Gate, NoMemory, bucket_of};
-use sfs_tree::{Code, Reply};
+use tree_laws::{Code, Reply};
 use std::alloc::Global;
 use std::sync::Wait;
 

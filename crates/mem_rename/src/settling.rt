@@ -1,7 +1,7 @@
 // A core comes to hold all that its rename asks for.
 ghost use Rattle.std.specs.Prelude.{◌≡◌, ◌+◌, ◌*◌, ◌<◌, ◌≤◌, map, MatchResult};
-ghost use Rattle.sfs_tree.specs.History.{IsLegal};
-ghost use Rattle.sfs_tree.specs.NameRow.{node_number};
+ghost use Rattle.tree_laws.specs.History.{IsLegal};
+ghost use Rattle.tree_laws.specs.NameRow.{node_number};
 ghost use Rattle.stamp_table.specs.Ascending.{LiesAbove};
 ghost use Rattle.stamp_table.specs.Events.{calls_in};
 ghost use Rattle.stamp_table.specs.Table.{IsBetweenCalls};

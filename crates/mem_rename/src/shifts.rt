@@ -1,14 +1,14 @@
 // The changes that a rename logs of a child that moves.
 ghost use Rattle.std.specs.Prelude.{◌≡◌, ◌+◌, ◌<◌, ◌≤◌, [], ◌∷◌, ◌++◌, IfOk, option_map};
-ghost use Rattle.sfs_tree.specs.declared.changes.Act.TheVariants.{Add as Adding};
-ghost use Rattle.sfs_tree.specs.Changes.{other_side};
-ghost use Rattle.sfs_tree.specs.Logged.{numbered_node, log_entry};
-ghost use Rattle.sfs_tree.specs.Tree.{kind_if};
+ghost use Rattle.tree_laws.specs.declared.changes.Act.TheVariants.{Add as Adding};
+ghost use Rattle.tree_laws.specs.Changes.{other_side};
+ghost use Rattle.tree_laws.specs.Logged.{numbered_node, log_entry};
+ghost use Rattle.tree_laws.specs.Tree.{kind_if};
 ghost use Rattle.mem_rename.specs.Shifts.{gone_entry, gone_by, shift_logged, IsNotedMove};
 
 use crate::sides::Move;
 use sfs_base::{Kind, Name, NoMemory, NodeId, Stamp};
-use sfs_tree::{Act, Ancestors, Change, Changes};
+use tree_laws::{Act, Ancestors, Change, Changes};
 use std::alloc::Global;
 
 /// A child that moves from one directory to another one or the same, what stands there, and whether these two are directories.

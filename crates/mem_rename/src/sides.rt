@@ -3,7 +3,7 @@ ghost use Rattle.std.specs.Prelude.{◌≡◌};
 ghost use Rattle.mem_rename.specs.Sights.{rename_call};
 
 use sfs_base::{Name, NodeId};
-use sfs_tree::Call;
+use tree_laws::Call;
 
 /// A rename: the row of a name in a directory goes to a name in another directory or the same one.
 #[derive(Drop)]

@@ -1,7 +1,7 @@
 // What a rename reads of the cells that its core holds.
 ghost use Rattle.std.specs.Prelude.{◌≡◌, ◌<◌, ◌+◌, map, true, Some, IsSome, MatchOption};
 ghost use Rattle.sfs_base.specs.Name.{bucket};
-ghost use Rattle.sfs_tree.specs.NameRow.{node_number};
+ghost use Rattle.tree_laws.specs.NameRow.{node_number};
 ghost use Rattle.mem_values.specs.declared.cell_id.CellId.TheVariants as id;
 ghost use Rattle.mem_calls.specs.Held.{bucket_held, file_held};
 ghost use Rattle.mem_rename.specs.Sights.{are_bare};

@@ -1,7 +1,7 @@
 // The directories above another one, read under the lock of the tree.
 ghost use Rattle.std.specs.Prelude.{◌≡◌, ◌<◌, map, IfOk, MatchOption};
-ghost use Rattle.sfs_tree.specs.NameRow.{node_number};
-ghost use Rattle.sfs_tree.specs.History.{IsLegal};
+ghost use Rattle.tree_laws.specs.NameRow.{node_number};
+ghost use Rattle.tree_laws.specs.History.{IsLegal};
 ghost use Rattle.stamp_table.specs.Events.{calls_in};
 ghost use Rattle.mem_calls.specs.Table.{IsFileTable};
 ghost use Rattle.mem_calls.specs.Working.{IsWorking};

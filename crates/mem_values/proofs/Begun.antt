@@ -1,7 +1,7 @@
 -- Cells begin with values that stand for them.
 use Rattle.std.proofs.Common.{[], option_map, sym, ap, subst, inl}
 use Rattle.sfs_base.specs.declared.numbers.Stamp.{Stamp}
-use Rattle.sfs_tree.specs.NameRow.{number_of}
+use Rattle.tree_laws.specs.NameRow.{number_of}
 use Rattle.mem_cells.specs.Laws.{IsLeftOf}
 use Rattle.mem_cells.specs.Part.{mark_kept}
 use Rattle.mem_cells.proofs.Left.{parts_begin}

@@ -8,18 +8,18 @@ use Rattle.std.proofs.lemmas.List.Elements.{filter_map-append, All-cons, All-nil
 use Rattle.sfs_base.specs.declared.numbers.Stamp.{Stamp}
 use Rattle.sfs_base.specs.declared.numbers.Kind.{Kind}
 use Rattle.sfs_base.proofs.BasicOptions.{some_same}
-use Rattle.sfs_tree.specs.declared.changes.Change.{Change}
-use Rattle.sfs_tree.specs.Tree.{TreeState, row_of, made_by}
-use Rattle.sfs_tree.specs.Effect.{Effect, Stays, Adds, Removes, Moves, Edits}
-use Rattle.sfs_tree.specs.Logged.{logged_by, logged_replaced}
-use Rattle.sfs_tree.specs.History.{tree_after, IsLegal}
-use Rattle.sfs_tree.specs.Merged.{is_core}
-use Rattle.sfs_tree.specs.Verdict.{verdict}
+use Rattle.tree_laws.specs.declared.changes.Change.{Change}
+use Rattle.tree_laws.specs.Tree.{TreeState, row_of, made_by}
+use Rattle.tree_laws.specs.Effect.{Effect, Stays, Adds, Removes, Moves, Edits}
+use Rattle.tree_laws.specs.Logged.{logged_by, logged_replaced}
+use Rattle.tree_laws.specs.History.{tree_after, IsLegal}
+use Rattle.tree_laws.specs.Merged.{is_core}
+use Rattle.tree_laws.specs.Verdict.{verdict}
 use Rattle.mem_cells.specs.Laws.{IsLeftOf}
 use Rattle.mem_cells.specs.Part.{IsTrimmed, mark_kept}
 use Rattle.mem_cells.proofs.Left.{entries_are_kept, trims_keep}
-use Rattle.flush_core.specs.Rules.{IsOneOf}
-use Rattle.flush_core.proofs.Basics.{in_left, in_right, in_either}
+use Rattle.cut_laws.specs.Rules.{IsOneOf}
+use Rattle.cut_laws.proofs.Basics.{in_left, in_right, in_either}
 use Rattle.disk_change.specs.OldKept.{OldKept}
 use Rattle.stamp_table.specs.declared.event.Event.{Event}
 use Rattle.stamp_table.specs.declared.event.Event.TheVariants.{Called, Told}

@@ -4,25 +4,25 @@ use Rattle.std.specs.Prelude.{◌||◌, if◌then◌else◌}
 use Rattle.std.specs.List.{find}
 use Rattle.std.proofs.lemmas.Bool.{both_ways}
 use Rattle.std.specs.FinMap.{FinMap, get}
-use Rattle.sfs_tree.specs.Order.{name_cmp}
+use Rattle.tree_laws.specs.Order.{name_cmp}
 use Rattle.sfs_base.specs.Name.{bucket}
 use Rattle.sfs_base.specs.declared.numbers.Kind.{Kind}
 use Rattle.sfs_base.proofs.BasicTruth.{or_first, or_second}
-use Rattle.sfs_tree.specs.declared.call.Call.{Call}
-use Rattle.sfs_tree.specs.declared.call.Call.TheVariants as call
-use Rattle.sfs_tree.specs.Tree.{TreeState, row_of, is_directory, is_directory_kind, count_of, bucket_rows, next_number}
-use Rattle.sfs_tree.specs.Effect.{Effect, Stays, Adds, Edit, Edits, Puts, Resizes, tree_with}
-use Rattle.sfs_tree.specs.Verdict.{verdict, tree_after_call}
-use Rattle.sfs_tree.specs.Footprints.{DoesNothing, KeepsRest, own_kind, own_effect, touches_part, touches_bytes, touches_links}
-use Rattle.sfs_tree.specs.Laws.{IsSoundTree}
-use Rattle.sfs_tree.specs.Lock.{needs_lock, moves_between}
-use Rattle.sfs_tree.proofs.Names.{get-names_where}
-use Rattle.sfs_tree.proofs.RowFacts.{named_or_none}
-use Rattle.sfs_tree.proofs.Readings.{directory_by_kind}
-use Rattle.sfs_tree.proofs.KeepsNodes.{directory_node}
-use Rattle.sfs_tree.proofs.KeepsRest.{calls_keep_the_rest}
-use Rattle.sfs_tree.proofs.OwnEffects.{does_its_own}
-use Rattle.flush_core.specs.Rules.{Birth, births_by}
+use Rattle.tree_laws.specs.declared.call.Call.{Call}
+use Rattle.tree_laws.specs.declared.call.Call.TheVariants as call
+use Rattle.tree_laws.specs.Tree.{TreeState, row_of, is_directory, is_directory_kind, count_of, bucket_rows, next_number}
+use Rattle.tree_laws.specs.Effect.{Effect, Stays, Adds, Edit, Edits, Puts, Resizes, tree_with}
+use Rattle.tree_laws.specs.Verdict.{verdict, tree_after_call}
+use Rattle.tree_laws.specs.Footprints.{DoesNothing, KeepsRest, own_kind, own_effect, touches_part, touches_bytes, touches_links}
+use Rattle.tree_laws.specs.Laws.{IsSoundTree}
+use Rattle.tree_laws.specs.Lock.{needs_lock, moves_between}
+use Rattle.tree_laws.proofs.Names.{get-names_where}
+use Rattle.tree_laws.proofs.RowFacts.{named_or_none}
+use Rattle.tree_laws.proofs.Readings.{directory_by_kind}
+use Rattle.tree_laws.proofs.KeepsNodes.{directory_node}
+use Rattle.tree_laws.proofs.KeepsRest.{calls_keep_the_rest}
+use Rattle.tree_laws.proofs.OwnEffects.{does_its_own}
+use Rattle.cut_laws.specs.Rules.{Birth, births_by}
 use Rattle.mem_values.specs.declared.bucket.Bucket.{Bucket}
 use Rattle.mem_values.specs.Stands.{if_directory, ShowsBucket, file_links}
 use Rattle.mem_values.specs.Touches.{touches_standing, makes_node}
@@ -112,17 +112,17 @@ edits_touch tree core (call.Write f at bytes) node edit own = let same : f.0 ≡
 edits_touch tree core (call.Trunc f size) node edit own = let same : f.0 ≡ node = cc (own) in eq-eqb f.0 node same
 edits_touch tree core (call.Unlink d n) node edit own = absurd (no_edit (row_of tree d.0 n) own)
   where
-    no_edit : (row : Option ℕ) → option_map (Rattle.sfs_tree.specs.Effect.Removes d.0 n) row ≡ Some (Edits node edit) → ⊥
+    no_edit : (row : Option ℕ) → option_map (Rattle.tree_laws.specs.Effect.Removes d.0 n) row ≡ Some (Edits node edit) → ⊥
     no_edit None e = cc
     no_edit (Some x) e = cc
 edits_touch tree core (call.Rmdir d n) node edit own = absurd (no_edit (row_of tree d.0 n) own)
   where
-    no_edit : (row : Option ℕ) → option_map (Rattle.sfs_tree.specs.Effect.Removes d.0 n) row ≡ Some (Edits node edit) → ⊥
+    no_edit : (row : Option ℕ) → option_map (Rattle.tree_laws.specs.Effect.Removes d.0 n) row ≡ Some (Edits node edit) → ⊥
     no_edit None e = cc
     no_edit (Some x) e = cc
 edits_touch tree core (call.Rename p n q m) node edit own = absurd (no_edit (row_of tree p.0 n) own)
   where
-    no_edit : (row : Option ℕ) → option_map (Rattle.sfs_tree.specs.Effect.Moves p.0 n q.0 m) row ≡ Some (Edits node edit) → ⊥
+    no_edit : (row : Option ℕ) → option_map (Rattle.tree_laws.specs.Effect.Moves p.0 n q.0 m) row ≡ Some (Edits node edit) → ⊥
     no_edit None e = cc
     no_edit (Some x) e = cc
 

@@ -2,13 +2,13 @@
 use Rattle.std.proofs.Common.{◌≡◌, ℕ, suc, ◌+◌, ◌<◌, ◌≤◌, false, List, [], ◌∷◌, ◌++◌, length, Option, Some, None, sym, refl, ap, ◌∙◌, subst, arith, ⊎_elim}
 use Rattle.std.specs.Prelude.{if◌then◌else◌}
 use Rattle.std.proofs.lemmas.Bool.{cases_Bool}
-use Rattle.sfs_tree.specs.declared.history.Entry.{Entry}
-use Rattle.sfs_tree.specs.Tree.{TreeState}
-use Rattle.sfs_tree.specs.Lock.{needs_lock, AreHolders}
-use Rattle.sfs_tree.specs.History.{tree_after, tree_after_entry, IsLegal, IsLegalFrom}
-use Rattle.sfs_tree.specs.Laws.{IsSoundTree}
-use Rattle.sfs_tree.proofs.Holders.{read_holders_stay}
-use Rattle.sfs_tree.proofs.SoundTrees.{calls_keep_sound}
+use Rattle.tree_laws.specs.declared.history.Entry.{Entry}
+use Rattle.tree_laws.specs.Tree.{TreeState}
+use Rattle.tree_laws.specs.Lock.{needs_lock, AreHolders}
+use Rattle.tree_laws.specs.History.{tree_after, tree_after_entry, IsLegal, IsLegalFrom}
+use Rattle.tree_laws.specs.Laws.{IsSoundTree}
+use Rattle.tree_laws.proofs.Holders.{read_holders_stay}
+use Rattle.tree_laws.proofs.SoundTrees.{calls_keep_sound}
 use Rattle.mem_values.specs.Logs.{last_move}
 use Rattle.mem_values.specs.Laws.{ToldWaysStay}
 

@@ -7,15 +7,15 @@ use Rattle.std.proofs.lemmas.Bool.{cases_Bool, eqb-true}
 use Rattle.std.proofs.lemmas.List.Elements.{filter_map-append}
 use Rattle.std.proofs.lemmas.List.Folds.{find-append}
 use Rattle.sfs_base.specs.declared.numbers.Stamp.{Stamp}
-use Rattle.sfs_tree.specs.declared.history.Entry.{Entry}
-use Rattle.sfs_tree.specs.Tree.{TreeState, bytes_of}
-use Rattle.sfs_tree.specs.Effect.{Effect, Stays, Adds, Removes, Moves, Edit, Edits}
-use Rattle.sfs_tree.specs.Verdict.{verdict}
-use Rattle.sfs_tree.specs.History.{tree_after, tree_after_entry}
-use Rattle.sfs_tree.specs.Lock.{needs_lock}
-use Rattle.sfs_tree.specs.Merged.{is_core}
-use Rattle.flush_core.specs.Rules.{Birth, births_by, births_of}
-use Rattle.flush_core.proofs.Grown.{births_of-push}
+use Rattle.tree_laws.specs.declared.history.Entry.{Entry}
+use Rattle.tree_laws.specs.Tree.{TreeState, bytes_of}
+use Rattle.tree_laws.specs.Effect.{Effect, Stays, Adds, Removes, Moves, Edit, Edits}
+use Rattle.tree_laws.specs.Verdict.{verdict}
+use Rattle.tree_laws.specs.History.{tree_after, tree_after_entry}
+use Rattle.tree_laws.specs.Lock.{needs_lock}
+use Rattle.tree_laws.specs.Merged.{is_core}
+use Rattle.cut_laws.specs.Rules.{Birth, births_by, births_of}
+use Rattle.cut_laws.proofs.Pushed.{births_of-push}
 use Rattle.stamp_table.specs.declared.event.Event.{Event}
 use Rattle.stamp_table.specs.declared.event.Event.TheVariants.{Called}
 use Rattle.stamp_table.specs.Events.{called}

@@ -6,26 +6,26 @@ use Rattle.std.proofs.lemmas.Bool.{cases_Bool, both_ways}
 use Rattle.std.specs.FinMap.{get}
 use Rattle.sfs_base.specs.declared.numbers.Kind.{Kind}
 use Rattle.sfs_base.proofs.BasicTruth.{or_first, or_second}
-use Rattle.sfs_tree.specs.declared.call.Call.{Call}
-use Rattle.sfs_tree.specs.declared.call.Call.TheVariants as call
-use Rattle.sfs_tree.specs.declared.reply.Code.{Code}
-use Rattle.sfs_tree.specs.Tree.{TreeState, row_of, is_alive, is_directory, is_directory_kind, holder_of, next_number}
-use Rattle.sfs_tree.specs.Effect.{Effect, Stays, Adds, Removes, Moves, Edits, Puts, Resizes, tree_with}
-use Rattle.sfs_tree.specs.Verdict.{verdict, tree_after_call, or_else, directory_fault, unlink_row}
-use Rattle.sfs_tree.specs.Sound.{IsSound}
-use Rattle.sfs_tree.specs.Fits.{Fits}
-use Rattle.sfs_tree.specs.Parts.{is_this, kind_after}
-use Rattle.sfs_tree.specs.Footprints.{own_kind}
-use Rattle.sfs_tree.specs.Lock.{stands_of}
-use Rattle.sfs_tree.specs.Laws.{IsSoundTree}
-use Rattle.sfs_tree.proofs.RowFacts.{IsNamed, alive_named, named_alive, holder_found, added_there, added_other, removed_other, is_here, some_not_none, same_some}
-use Rattle.sfs_tree.proofs.Walks.{holder_is}
-use Rattle.sfs_tree.proofs.OwnEffects.{does_its_own, of_one, of_child, of_what_it_does}
-use Rattle.sfs_tree.proofs.Parts.{nodes_after}
-use Rattle.sfs_tree.proofs.Readings.{directory_by_kind}
-use Rattle.sfs_tree.proofs.KeepsNodes.{directory_node}
-use Rattle.sfs_tree.proofs.Holders.{directory_stays, dead_stay_dead}
-use Rattle.sfs_tree.proofs.SoundTrees.{calls_fit, calls_keep_sound}
+use Rattle.tree_laws.specs.declared.call.Call.{Call}
+use Rattle.tree_laws.specs.declared.call.Call.TheVariants as call
+use Rattle.tree_laws.specs.declared.reply.Code.{Code}
+use Rattle.tree_laws.specs.Tree.{TreeState, row_of, is_alive, is_directory, is_directory_kind, holder_of, next_number}
+use Rattle.tree_laws.specs.Effect.{Effect, Stays, Adds, Removes, Moves, Edits, Puts, Resizes, tree_with}
+use Rattle.tree_laws.specs.Verdict.{verdict, tree_after_call, or_else, directory_fault, unlink_row}
+use Rattle.tree_laws.specs.Sound.{IsSound}
+use Rattle.tree_laws.specs.Fits.{Fits}
+use Rattle.tree_laws.specs.Parts.{is_this, kind_after}
+use Rattle.tree_laws.specs.Footprints.{own_kind}
+use Rattle.tree_laws.specs.Lock.{stands_of}
+use Rattle.tree_laws.specs.Laws.{IsSoundTree}
+use Rattle.tree_laws.proofs.RowFacts.{IsNamed, alive_named, named_alive, holder_found, added_there, added_other, removed_other, is_here, some_not_none, same_some}
+use Rattle.tree_laws.proofs.Walks.{holder_is}
+use Rattle.tree_laws.proofs.OwnEffects.{does_its_own, of_one, of_child, of_what_it_does}
+use Rattle.tree_laws.proofs.Parts.{nodes_after}
+use Rattle.tree_laws.proofs.Readings.{directory_by_kind}
+use Rattle.tree_laws.proofs.KeepsNodes.{directory_node}
+use Rattle.tree_laws.proofs.Holders.{directory_stays, dead_stay_dead}
+use Rattle.tree_laws.proofs.SoundTrees.{calls_fit, calls_keep_sound}
 use Rattle.mem_values.specs.Touches.{touches_standing}
 use Rattle.mem_values.proofs.Basics.{left_false}
 

@@ -8,17 +8,17 @@ use Rattle.std.specs.declared.alloc.Global.{Global}
 use Rattle.sfs_base.specs.declared.numbers.NodeId.{NodeId}
 use Rattle.sfs_base.specs.declared.numbers.Stamp.{Stamp}
 use Rattle.sfs_base.proofs.BasicOptions.{some_same}
-use Rattle.sfs_tree.specs.declared.call.Call.TheVariants as call
-use Rattle.sfs_tree.specs.declared.history.Entry.{Entry}
-use Rattle.sfs_tree.specs.Tree.{TreeState, is_alive, made_by}
-use Rattle.sfs_tree.specs.Verdict.{verdict, tree_after_call}
-use Rattle.sfs_tree.specs.History.{tree_after_entry, MayCome, IsLegal, flushes, IsDue}
-use Rattle.sfs_tree.specs.Footprints.{DoesNothing}
-use Rattle.sfs_tree.specs.Logged.{numbered_node, is_logged_in}
-use Rattle.sfs_tree.specs.Lock.{stands_of, IsHolder}
+use Rattle.tree_laws.specs.declared.call.Call.TheVariants as call
+use Rattle.tree_laws.specs.declared.history.Entry.{Entry}
+use Rattle.tree_laws.specs.Tree.{TreeState, is_alive, made_by}
+use Rattle.tree_laws.specs.Verdict.{verdict, tree_after_call}
+use Rattle.tree_laws.specs.History.{tree_after_entry, MayCome, IsLegal, flushes, IsDue}
+use Rattle.tree_laws.specs.Footprints.{DoesNothing}
+use Rattle.tree_laws.specs.Logged.{numbered_node, is_logged_in}
+use Rattle.tree_laws.specs.Lock.{stands_of, IsHolder}
 use Rattle.mem_cells.specs.Log.{is_from}
 use Rattle.mem_cells.specs.Part.{mark_kept}
-use Rattle.flush_core.specs.Rules.{IsOneOf, births_of}
+use Rattle.cut_laws.specs.Rules.{IsOneOf, births_of}
 use Rattle.disk_change.specs.OldKept.{OldKept}
 use Rattle.stamp_table.specs.declared.event.Event.{Event}
 use Rattle.mem_values.specs.declared.fact.Fact.{Fact}
@@ -69,7 +69,7 @@ module _ (given : ℕ → Option OldKept) (first : TreeState) (node holder : ℕ
   legal : IsLegal first (one ∷ two ∷ [])
   legal = (comes 0 0 (omega arith), subst (λ t. MayCome t 1 two × Unit {0}) (sym (same_after 0)) (comes 1 1 (omega arith), tt))
 
-  tree_is : Rattle.sfs_tree.specs.History.tree_after first (one ∷ two ∷ []) ≡ first
+  tree_is : Rattle.tree_laws.specs.History.tree_after first (one ∷ two ∷ []) ≡ first
   tree_is = ap (λ t. tree_after_entry t two) (same_after 0) ∙ same_after 1
 
   abbrev calls_only : Account
@@ -78,7 +78,7 @@ module _ (given : ℕ → Option OldKept) (first : TreeState) (node holder : ℕ
   own_fsync : HasFsync (one ∷ two ∷ []) 1 node 1
   own_fsync = record { entry = two; among = inr (inl refl); own = refl; stamped = refl; fsync = refl }
 
-  holder_there : IsHolder (Rattle.sfs_tree.specs.History.tree_after first (one ∷ two ∷ [])) node holder
+  holder_there : IsHolder (Rattle.tree_laws.specs.History.tree_after first (one ∷ two ∷ [])) node holder
   holder_there = subst (λ t. IsHolder t node holder) (sym tree_is) (stands_there first node holder stands)
 
   no_marks : (part : ℕ) → AreMarksOf calls_only part (mark_in marks.items)
@@ -146,9 +146,9 @@ module _ (given : ℕ → Option OldKept) (first : TreeState) (node holder : ℕ
 
   none_born : births_of first (one ∷ two ∷ []) ≡ []
   none_born =
-      (λ i. Rattle.flush_core.specs.Rules.births_by 0 ((fsync_quiet first 0 node).effect i) ((fsync_quiet first 0 node).makes i)
+      (λ i. Rattle.cut_laws.specs.Rules.births_by 0 ((fsync_quiet first 0 node).effect i) ((fsync_quiet first 0 node).makes i)
       ++ births_of (same_after 0 i) (two ∷ []))
-      ∙ (λ i. Rattle.flush_core.specs.Rules.births_by 1 ((fsync_quiet first 1 node).effect i) ((fsync_quiet first 1 node).makes i) ++ [])
+      ∙ (λ i. Rattle.cut_laws.specs.Rules.births_by 1 ((fsync_quiet first 1 node).effect i) ((fsync_quiet first 1 node).makes i) ++ [])
 
   pending_home : (pending : Pending) → IsWorkedPending pending new → StandsPending given first (account_of log) node pending
   pending_home pending is = record {
@@ -156,11 +156,11 @@ module _ (given : ℕ → Option OldKept) (first : TreeState) (node holder : ℕ
         (λ i. record { cut = is.cut i; last = is.last i; old = is.old i })
         ∙ ap (Rattle.mem_values.specs.Stands.flushed_by given node) (sym (ap (λ o. Rattle.mem_values.specs.Account.writes_by commit o) holds_one));
     made_in =
-        ap Rattle.sfs_tree.specs.NameRow.number_of is.made_in
+        ap Rattle.tree_laws.specs.NameRow.number_of is.made_in
         ∙ sym
         (ap
-        (λ l. option_map (λ (b : Rattle.flush_core.specs.Rules.Birth). b.directory)
-        (find (λ (b : Rattle.flush_core.specs.Rules.Birth). b.node == node) l))
+        (λ l. option_map (λ (b : Rattle.cut_laws.specs.Rules.Birth). b.directory)
+        (find (λ (b : Rattle.cut_laws.specs.Rules.Birth). b.node == node) l))
         none_born);
     trimmed =
         λ writer last part lt. subst (λ (w : Commitment × HeldNode). IsOneOf (account_of log).trimmings
@@ -178,7 +178,7 @@ module _ (given : ℕ → Option OldKept) (first : TreeState) (node holder : ℕ
 
   nothing_logged : (tree : TreeState) (core stamp by : ℕ) → entry_logged tree (worked_fsync stamp by node) ≡ []
   nothing_logged tree core stamp by =
-      λ i. Rattle.sfs_tree.specs.Logged.logged_by tree by stamp ((fsync_quiet tree by node).effect i) ((fsync_quiet tree by node).makes i)
+      λ i. Rattle.tree_laws.specs.Logged.logged_by tree by stamp ((fsync_quiet tree by node).effect i) ((fsync_quiet tree by node).makes i)
 
   none_logged : (core : ℕ) → own_logged first core (one ∷ two ∷ []) ≡ []
   none_logged core = both (0 == core) (1 == core)
@@ -189,7 +189,7 @@ module _ (given : ℕ → Option OldKept) (first : TreeState) (node holder : ℕ
       both false true = rw (nothing_logged (tree_after_entry first one) core 1 1) refl
       both false false = refl
 
-  one_entry : (core : ℕ) → core < 2 → length (filter (Rattle.sfs_tree.specs.Merged.is_core core) (one ∷ two ∷ [])) ≡ 1
+  one_entry : (core : ℕ) → core < 2 → length (filter (Rattle.tree_laws.specs.Merged.is_core core) (one ∷ two ∷ [])) ≡ 1
   one_entry zero lt = refl
   one_entry (suc zero) lt = refl
   one_entry (suc (suc core)) lt = absurd (omega (arith, lt))

@@ -1,13 +1,13 @@
 -- The laws of the cells, each of which a function of the module laws proves.
 use Rattle.std.specs.Prelude.{◌≡◌, ◌⊎◌, ℕ, ◌<◌, ◌&&◌, false, List, [], ◌∷◌, ◌++◌, length, Option, None}
-use Rattle.sfs_tree.specs.declared.call.Call.{Call}
-use Rattle.sfs_tree.specs.declared.reply.Reply.{Reply}
-use Rattle.sfs_tree.specs.declared.history.Entry.{Entry}
-use Rattle.sfs_tree.specs.Tree.{TreeState, bytes_of, made_by}
-use Rattle.sfs_tree.specs.Lock.{AreHolders}
-use Rattle.sfs_tree.specs.History.{tree_after, flushes, is_ok_reply, IsDue, IsLegal}
-use Rattle.sfs_tree.specs.Verdict.{verdict}
-use Rattle.sfs_tree.specs.Laws.{IsSoundTree}
+use Rattle.tree_laws.specs.declared.call.Call.{Call}
+use Rattle.tree_laws.specs.declared.reply.Reply.{Reply}
+use Rattle.tree_laws.specs.declared.history.Entry.{Entry}
+use Rattle.tree_laws.specs.Tree.{TreeState, bytes_of, made_by}
+use Rattle.tree_laws.specs.Lock.{AreHolders}
+use Rattle.tree_laws.specs.History.{tree_after, flushes, is_ok_reply, IsDue, IsLegal}
+use Rattle.tree_laws.specs.Verdict.{verdict}
+use Rattle.tree_laws.specs.Laws.{IsSoundTree}
 use Rattle.disk_change.specs.OldKept.{OldKept}
 use Rattle.stamp_table.specs.declared.event.Event.{Event}
 use Rattle.stamp_table.specs.declared.event.Event.TheVariants.{Called}

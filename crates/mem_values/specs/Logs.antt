@@ -4,16 +4,16 @@ use Rattle.std.specs.List.{find}
 use Rattle.sfs_base.specs.declared.numbers.Stamp.{Stamp}
 use Rattle.mem_files.specs.File.{write_touches, trunc_touches, is_touched}
 use Rattle.mem_files.specs.declared.touched.Touched.{Touched}
-use Rattle.sfs_tree.specs.declared.changes.Change.{Change}
-use Rattle.sfs_tree.specs.declared.history.Entry.{Entry}
-use Rattle.sfs_tree.specs.Tree.{TreeState, bytes_of}
-use Rattle.sfs_tree.specs.Effect.{Effect, Edits, Edit, Puts, Resizes}
-use Rattle.sfs_tree.specs.Verdict.{verdict}
-use Rattle.sfs_tree.specs.History.{tree_after_entry}
-use Rattle.sfs_tree.specs.Logged.{logged_by}
-use Rattle.sfs_tree.specs.Lock.{needs_lock}
-use Rattle.sfs_tree.specs.Merged.{is_core}
-use Rattle.flush_core.specs.Rules.{births_of}
+use Rattle.tree_laws.specs.declared.changes.Change.{Change}
+use Rattle.tree_laws.specs.declared.history.Entry.{Entry}
+use Rattle.tree_laws.specs.Tree.{TreeState, bytes_of}
+use Rattle.tree_laws.specs.Effect.{Effect, Edits, Edit, Puts, Resizes}
+use Rattle.tree_laws.specs.Verdict.{verdict}
+use Rattle.tree_laws.specs.History.{tree_after_entry}
+use Rattle.tree_laws.specs.Logged.{logged_by}
+use Rattle.tree_laws.specs.Lock.{needs_lock}
+use Rattle.tree_laws.specs.Merged.{is_core}
+use Rattle.cut_laws.specs.Rules.{births_of}
 
 -- what an entry logs
 abbrev pub entry_logged : TreeState → Entry → List Change

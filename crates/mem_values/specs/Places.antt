@@ -1,7 +1,7 @@
 -- Where cells lie: the lock of the tree first, then by nodes their buckets and files, then what was flushed of each node, then the logs.
 -- The lock and each log have a line of memory to themselves.
 use Rattle.std.specs.Prelude.{◌≡◌, ◌⊎◌, ℕ, ◌+◌, ◌*◌, ◌<◌, length}
-use Rattle.sfs_tree.specs.Tree.{TreeState}
+use Rattle.tree_laws.specs.Tree.{TreeState}
 use Rattle.mem_values.specs.declared.cell_id.CellId.{CellId}
 use Rattle.mem_values.specs.declared.cell_id.CellId.TheVariants.{Lock, Bucket, File, Pending, Part}
 

@@ -1,15 +1,15 @@
 -- What the value of each cell stands for.
 use Rattle.std.specs.Prelude.{◌≡◌, ◌⊎◌, ℕ, ◌<◌, ◌≤◌, List, length, filter, Option, Some, None, option_map, if◌then◌else◌}
 use Rattle.std.specs.FinMap.{get}
-use Rattle.sfs_tree.specs.declared.history.Entry.{Entry}
-use Rattle.sfs_tree.specs.Tree.{TreeState, is_directory, count_of, bytes_of, made_by, bucket_rows}
-use Rattle.sfs_tree.specs.Lock.{stands_of}
-use Rattle.sfs_tree.specs.History.{tree_after}
-use Rattle.sfs_tree.specs.Merged.{is_core}
-use Rattle.sfs_tree.specs.NameRow.{number_of}
+use Rattle.tree_laws.specs.declared.history.Entry.{Entry}
+use Rattle.tree_laws.specs.Tree.{TreeState, is_directory, count_of, bytes_of, made_by, bucket_rows}
+use Rattle.tree_laws.specs.Lock.{stands_of}
+use Rattle.tree_laws.specs.History.{tree_after}
+use Rattle.tree_laws.specs.Merged.{is_core}
+use Rattle.tree_laws.specs.NameRow.{number_of}
 use Rattle.mem_cells.specs.Laws.{IsLeftOf}
 use Rattle.mem_cells.specs.Part.{mark_kept}
-use Rattle.flush_core.specs.Rules.{IsOneOf}
+use Rattle.cut_laws.specs.Rules.{IsOneOf}
 use Rattle.disk_change.specs.OldKept.{OldKept}
 use Rattle.mem_files.specs.File.{mark_of}
 use Rattle.stamp_table.specs.declared.event.Event.{Event}

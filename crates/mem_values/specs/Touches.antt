@@ -1,13 +1,13 @@
 -- Which cells a call changes.
 use Rattle.std.specs.Prelude.{◌≡◌, ◌⊎◌, ℕ, ◌==◌, Bool, true, false, not, ◌||◌, ◌&&◌, is_some}
 use Rattle.sfs_base.specs.Name.{bucket}
-use Rattle.sfs_tree.specs.declared.call.Call.{Call}
-use Rattle.sfs_tree.specs.declared.call.Call.TheVariants as call
-use Rattle.sfs_tree.specs.Tree.{TreeState, row_of, is_directory, is_directory_kind, next_number}
-use Rattle.sfs_tree.specs.Parts.{is_this}
-use Rattle.sfs_tree.specs.Footprints.{DoesNothing, own_kind, touches_part, touches_bytes, touches_links}
-use Rattle.sfs_tree.specs.Lock.{needs_lock}
-use Rattle.sfs_tree.specs.Verdict.{verdict, tree_after_call}
+use Rattle.tree_laws.specs.declared.call.Call.{Call}
+use Rattle.tree_laws.specs.declared.call.Call.TheVariants as call
+use Rattle.tree_laws.specs.Tree.{TreeState, row_of, is_directory, is_directory_kind, next_number}
+use Rattle.tree_laws.specs.Parts.{is_this}
+use Rattle.tree_laws.specs.Footprints.{DoesNothing, own_kind, touches_part, touches_bytes, touches_links}
+use Rattle.tree_laws.specs.Lock.{needs_lock}
+use Rattle.tree_laws.specs.Verdict.{verdict, tree_after_call}
 use Rattle.mem_values.specs.declared.cell_id.CellId.{CellId}
 use Rattle.mem_values.specs.declared.cell_id.CellId.TheVariants as id
 

@@ -4,12 +4,12 @@ use Rattle.std.specs.Prelude.{◌≡◌, ℕ, ◌<◌, true, List, [], ◌∷◌
 use Rattle.std.specs.declared.alloc.Global.{Global}
 use Rattle.sfs_base.specs.declared.numbers.NodeId.{NodeId}
 use Rattle.sfs_base.specs.declared.numbers.Stamp.{Stamp}
-use Rattle.sfs_tree.specs.declared.call.Call.TheVariants as call
-use Rattle.sfs_tree.specs.declared.reply.Reply.TheVariants as reply
-use Rattle.sfs_tree.specs.declared.history.Entry.{Entry}
-use Rattle.sfs_tree.specs.Tree.{TreeState, is_alive, made_by}
-use Rattle.sfs_tree.specs.Logged.{numbered_node}
-use Rattle.sfs_tree.specs.Lock.{stands_of}
+use Rattle.tree_laws.specs.declared.call.Call.TheVariants as call
+use Rattle.tree_laws.specs.declared.reply.Reply.TheVariants as reply
+use Rattle.tree_laws.specs.declared.history.Entry.{Entry}
+use Rattle.tree_laws.specs.Tree.{TreeState, is_alive, made_by}
+use Rattle.tree_laws.specs.Logged.{numbered_node}
+use Rattle.tree_laws.specs.Lock.{stands_of}
 use Rattle.mem_cells.specs.Part.{changes_kept, mark_kept}
 use Rattle.disk_change.specs.OldKept.{OldKept}
 use Rattle.stamp_table.specs.declared.event.Event.{Event}

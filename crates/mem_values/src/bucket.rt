@@ -1,10 +1,10 @@
 // The rows of a directory that lie in one bucket, and where the directory stands.
 ghost use Rattle.std.specs.Prelude.{◌≡◌, is_some};
 ghost use Rattle.std.specs.FinMap as finmap;
-ghost use Rattle.sfs_tree.specs.Tree.{kind_if};
+ghost use Rattle.tree_laws.specs.Tree.{kind_if};
 
 use sfs_base::{Kind, Name, NodeId};
-use sfs_tree::NameMap;
+use tree_laws::NameMap;
 use std::alloc::Global;
 
 /// One of a directory's eight buckets: its rows, names ascending; those of them that name directories, once more; and the directory in

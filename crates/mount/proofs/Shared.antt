@@ -2,10 +2,10 @@
 use Rattle.std.proofs.Common.{◌≡◌, ℕ, ◌<◌, ◌≤◌, List, [], ◌∷◌, length, replicate, Option, None, Some, cond, refl, sym, ap, ◌∙◌, arith, inl, inr}
 use Rattle.std.specs.Prelude.{is_none, slice_index}
 use Rattle.sfs_base.proofs.BasicOptions.{some_same}
-use Rattle.sfs_tree.specs.Sound.{Above, at_root, below, IsSound, IsWithinLimits}
-use Rattle.sfs_tree.specs.Tree.{TreeState}
-use Rattle.image_tree.specs.Image.{ImageFault, fault_of, tree_of, image_inodes, making_at_mount}
-use Rattle.image_tree.specs.ImageTree.{image_tree}
+use Rattle.tree_laws.specs.Sound.{Above, at_root, below, IsSound, IsWithinLimits}
+use Rattle.tree_laws.specs.Tree.{TreeState}
+use Rattle.image_laws.specs.Image.{ImageFault, fault_of, tree_of, image_inodes, making_at_mount}
+use Rattle.image_laws.specs.ImageTree.{image_tree}
 use Rattle.recovery.proofs.JudgedImage.{has_no_fault}
 
 module _ (tree : TreeState) (share : ℕ) where

@@ -3,10 +3,10 @@ use Rattle.std.specs.Prelude.{◌≡◌, ◌↔◌, ℕ, ◌<◌, ◌/◌, List,
 use Rattle.sfs_image.specs.Part.{Part}
 use Rattle.sfs_image.specs.Settled.{layout_of, parts_of}
 use Rattle.sfs_image.specs.Super.{Layout, IsLayout, data_start}
-use Rattle.sfs_tree.specs.Laws.{IsSoundTree}
-use Rattle.sfs_tree.specs.Sound.{IsWithinLimits}
-use Rattle.image_tree.specs.Image.{tree_of, inodes_shown}
-use Rattle.image_tree.specs.ImageTree.{Making, image_tree}
+use Rattle.tree_laws.specs.Laws.{IsSoundTree}
+use Rattle.tree_laws.specs.Sound.{IsWithinLimits}
+use Rattle.image_laws.specs.Image.{tree_of, inodes_shown}
+use Rattle.image_laws.specs.ImageTree.{Making, image_tree}
 use Rattle.space_map.specs.Pool.{status_of, first_status}
 use Rattle.space_map.specs.Space.{Space}
 use Rattle.disk_change.specs.GivenUp.{IsLeftByGone, entry_number}

@@ -2,7 +2,7 @@
 use Rattle.std.proofs.Common.{◌≡◌, ℕ, true, false, cond, List, [], ◌∷◌, map, inl, inr, nat_lt}
 use Rattle.std.specs.Prelude.{◌↔◌, ◌⊎◌}
 use Rattle.disk_change.specs.Lists.{put_in}
-use Rattle.flush_core.specs.Rules.{IsOneOf}
+use Rattle.cut_laws.specs.Rules.{IsOneOf}
 
 -- one of two things or a third, in another order
 swapped : {A B C D : Type 0} → D ↔ (B ⊎ C) → (A ⊎ D) ↔ (B ⊎ (A ⊎ C))

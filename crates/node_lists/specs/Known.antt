@@ -2,10 +2,10 @@
 use Rattle.std.specs.Prelude.{◌≡◌, ◌↔◌, ◌⊎◌, ℕ, ◌<◌, ◌≤◌, List, length, map, Option, None, Some, slice_index_or, All}
 use Rattle.std.specs.List.Sorted.{IsStrictlyIncreasing}
 use Rattle.sfs_base.specs.declared.numbers.NodeId.{NodeId}
-use Rattle.sfs_tree.specs.NameRow.{node_number}
+use Rattle.tree_laws.specs.NameRow.{node_number}
 use Rattle.disk_change.specs.Lists.{AscendBy, item_with}
-use Rattle.flush_core.specs.Rules.{IsOneOf}
-use Rattle.flush_ties.specs.Look.{Born}
+use Rattle.cut_laws.specs.Rules.{IsOneOf}
+use Rattle.look_laws.specs.Look.{Born}
 use Rattle.dep_closure.specs.declared.gathered.DirectoryChanges.{DirectoryChanges}
 use Rattle.dep_closure.specs.declared.gathered.Gathered.{Gathered}
 use Rattle.dep_closure.specs.declared.gathered.NodeCut.{NodeCut}

@@ -1,6 +1,6 @@
 // What stands in a list by a node.
 ghost use Rattle.std.specs.Prelude.{◌≡◌, ℕ};
-ghost use Rattle.sfs_tree.specs.NameRow.{node_number};
+ghost use Rattle.tree_laws.specs.NameRow.{node_number};
 ghost use Rattle.dep_closure.specs.Gathered.{cut_node, birth_node};
 
 use dep_closure::{NodeBirth, NodeCut};

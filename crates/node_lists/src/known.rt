@@ -1,7 +1,7 @@
 // The cuts, births and inodes of nodes.
 ghost use Rattle.std.specs.Prelude.{◌≡◌, ◌≤◌, ◌<◌, ◌+◌, ◌==◌, ℕ, [], None, length, map, if◌then◌else◌, OnOk};
 ghost use Rattle.sfs_base.specs.Listed.{is_listed};
-ghost use Rattle.sfs_tree.specs.NameRow.{node_number};
+ghost use Rattle.tree_laws.specs.NameRow.{node_number};
 ghost use Rattle.disk_change.specs.Lists.{AscendBy, item_with, put_in};
 ghost use Rattle.dep_closure.specs.Gathered.{birth_node, cut_in, lifted_cut};
 ghost use Rattle.node_lists.specs.Known.{HasOneMoreBirth, HasSameNodes, KeepsRoom};

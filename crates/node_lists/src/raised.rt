@@ -1,6 +1,6 @@
 // Cuts that are raised.
 ghost use Rattle.std.specs.Prelude.{◌≡◌, ◌+◌, ◌≤◌, ℕ, max, ◌==◌, vec_len, vec_capacity, length, map, if◌then◌else◌};
-ghost use Rattle.sfs_tree.specs.NameRow.{node_number};
+ghost use Rattle.tree_laws.specs.NameRow.{node_number};
 ghost use Rattle.disk_change.specs.Lists.{AscendBy};
 ghost use Rattle.dep_closure.specs.Gathered.{cut_node, cut_in, lifted_cut};
 

@@ -17,7 +17,7 @@ use Rattle.sfs_image.proofs.JustMadeLaws.{zeros_are_sound}
 use Rattle.sfs_image.proofs.GivenLaws.{with_slot-same, with_slot-other}
 use Rattle.sfs_image.proofs.NewestLaws.{none_newest, newest_greatest}
 use Rattle.sfs_image.proofs.PartLaws.{free_has_none, gather_same}
-use Rattle.image_tree.specs.Stands.{IsUnused}
+use Rattle.image_laws.specs.Stands.{IsUnused}
 use Rattle.commit_one.specs.Change.{nothing_open}
 use Rattle.recovery.specs.Freed.{free_part, freed_part}
 

@@ -6,7 +6,7 @@ use Rattle.std.specs.Option.{is_some, is_none}
 use Rattle.std.proofs.lemmas.Bool.{cases_Bool, cases_eq, eqb-true, ne_eqb}
 use Rattle.sfs_base.specs.declared.numbers.Kind.TheVariants.{File}
 use Rattle.sfs_base.proofs.BasicTruth.{and_first}
-use Rattle.sfs_tree.specs.Tree.{TreeState, count_of, holds_directory}
+use Rattle.tree_laws.specs.Tree.{TreeState, count_of, holds_directory}
 use Rattle.sfs_image.specs.Part.{Part, seen_of}
 use Rattle.sfs_image.specs.Rules.{breaks_bytes_rule}
 use Rattle.sfs_image.specs.Seen.{SeenInodes}
@@ -16,17 +16,17 @@ use Rattle.sfs_image.specs.Super.{Layout}
 use Rattle.sfs_image.specs.Inode.{inode_fault}
 use Rattle.sfs_image.proofs.RuleLaws.{free_breaks_none}
 use Rattle.sfs_image.proofs.JustMadeLaws.{zeros_are_sound}
-use Rattle.image_tree.specs.Image.{ImageFault, inodes_shown, image_inodes, fault_of, tree_of, making_at_mount, HaveGoodBytes, HasGoodBytes}
-use Rattle.image_tree.specs.ImageTree.{Making, NOTHING_MADE, image_rows, image_tree, shows_directory, tree_with_orphans}
-use Rattle.image_tree.specs.Keeps.{ruled_tree}
-use Rattle.image_tree.specs.Mount.{StandsByItself, own_numbers}
-use Rattle.image_tree.specs.Orphans.{is_orphan, FreesOrphans, IsFreed}
-use Rattle.image_tree.specs.Stands.{IsUnused, StandsForSoundTree}
-use Rattle.image_tree.proofs.Alike.{tree_alike}
-use Rattle.image_tree.proofs.Images.{directory_shown}
-use Rattle.image_tree.proofs.Mounted.{file_is_no_directory, rules_make_standing}
-use Rattle.image_tree.proofs.Orphans.{freed_orphans_keep_the_tree}
-use Rattle.image_tree.proofs.WholeImages.{rule_alike, standing_images_are_read}
+use Rattle.image_laws.specs.Image.{ImageFault, inodes_shown, image_inodes, fault_of, tree_of, making_at_mount, HaveGoodBytes, HasGoodBytes}
+use Rattle.image_laws.specs.ImageTree.{Making, NOTHING_MADE, image_rows, image_tree, shows_directory, tree_with_orphans}
+use Rattle.image_laws.specs.Keeps.{ruled_tree}
+use Rattle.image_laws.specs.Mount.{StandsByItself, own_numbers}
+use Rattle.image_laws.specs.Orphans.{is_orphan, FreesOrphans, IsFreed}
+use Rattle.image_laws.specs.Stands.{IsUnused, StandsForSoundTree}
+use Rattle.image_laws.proofs.Alike.{tree_alike}
+use Rattle.image_laws.proofs.Images.{directory_shown}
+use Rattle.image_laws.proofs.Mounted.{file_is_no_directory, rules_make_standing}
+use Rattle.image_laws.proofs.Orphans.{freed_orphans_keep_the_tree}
+use Rattle.image_laws.proofs.WholeImages.{rule_alike, standing_images_are_read}
 use Rattle.disk_tree.specs.Judged.{fault_of_parts}
 use Rattle.disk_tree.specs.Shown.{AreRuled}
 use Rattle.disk_tree.proofs.PartsSound.{byte_rules_kept}

@@ -2,7 +2,7 @@
 use Rattle.std.proofs.Common.{◌≡◌, ℕ, ◌<◌, cond, List, [], slice_index_or, Option, None, Some, refl, sym, ◌∙◌, ap, subst, arith, inl, inr}
 use Rattle.std.specs.Option.{is_none}
 use Rattle.std.proofs.lemmas.Bool.{cases_Bool, cases_lt, eqb-true}
-use Rattle.sfs_tree.specs.Tree.{TreeState}
+use Rattle.tree_laws.specs.Tree.{TreeState}
 use Rattle.sfs_image.specs.ImageOf.{IsImageOf, PointsToData, transaction_in, table_parts}
 use Rattle.sfs_image.specs.Part.{part_of, is_free_part}
 use Rattle.sfs_image.specs.Seen.{PLACES}
@@ -11,9 +11,9 @@ use Rattle.sfs_image.specs.Super.{Layout}
 use Rattle.sfs_image.proofs.AcceptedLaws.{accepted_stands}
 use Rattle.sfs_image.proofs.PartLaws.{none_past_places}
 use Rattle.sfs_image.proofs.RuleLaws.{good_from_rule}
-use Rattle.image_tree.specs.Image.{ImageFault, first_of_faults, fault_of, tree_of, image_inodes, making_at_mount}
-use Rattle.image_tree.specs.ImageTree.{image_tree}
-use Rattle.image_tree.specs.Rules.{TreeFault}
+use Rattle.image_laws.specs.Image.{ImageFault, first_of_faults, fault_of, tree_of, image_inodes, making_at_mount}
+use Rattle.image_laws.specs.ImageTree.{image_tree}
+use Rattle.image_laws.specs.Rules.{TreeFault}
 use Rattle.disk_tree.specs.Judged.{AreReadParts, IsReadPart, Refused, fault_of_parts}
 use Rattle.disk_tree.specs.Found.{IsFoundIn}
 use Rattle.disk_tree.specs.Told.{SettlesRecords}

@@ -8,7 +8,7 @@ use Rattle.sfs_image.specs.Super.{Layout}
 use Rattle.sfs_dev.specs.Disk.{View, OnlyTold, images}
 use Rattle.sfs_dev.specs.Run.{Advances, CountsOn, EachMoment, Unwritten}
 use Rattle.sfs_dev.proofs.Runs.{EachMoment-trans}
-use Rattle.image_tree.specs.Image.{fault_of}
+use Rattle.image_laws.specs.Image.{fault_of}
 use Rattle.journal_one.specs.Calls.{IsCalm}
 use Rattle.journal_one.specs.Known.{EachLeft}
 use Rattle.commit_one.specs.Change.{nothing_open}

@@ -17,19 +17,19 @@ use Rattle.sfs_image.specs.Slot.{Row, kind_byte}
 use Rattle.sfs_image.specs.SlotBlock.{slots_of}
 use Rattle.sfs_image.specs.Super.{Layout}
 use Rattle.sfs_image.proofs.JustMadeLaws.{just_made_shows, has_none}
-use Rattle.sfs_tree.specs.Build.{root_alone}
-use Rattle.sfs_tree.specs.Laws.{IsSoundTree}
-use Rattle.sfs_tree.specs.Order.{Key, key_cmp}
-use Rattle.sfs_tree.specs.Tree.{BUCKET_ROWS, Node, TreeState, bucket_rows, count_of, holds_directory, name_row, kind_of, bytes_of, links_of, is_directory, is_directory_kind}
-use Rattle.sfs_tree.proofs.Names.{entries-names_where}
-use Rattle.sfs_tree.proofs.KeepsNodes.{node_cases}
-use Rattle.sfs_tree.proofs.SoundTrees.{root_alone_is_sound}
-use Rattle.image_tree.specs.Image.{HasGoodBytes, HaveGoodBytes, inodes_shown, IsReadAsTree}
-use Rattle.image_tree.specs.Renamed.{Numbering, IsMet}
-use Rattle.image_tree.specs.Renamed.IsMet.{root as met_root}
-use Rattle.image_tree.specs.Slots.{BLOCK_SLOTS, looked_up, name_count}
-use Rattle.image_tree.specs.Stands.{BLOCK_BYTES, row_on, ShowsNode, StandsForSoundTree}
-use Rattle.image_tree.proofs.WholeImages.{standing_images_are_read}
+use Rattle.tree_laws.specs.Build.{root_alone}
+use Rattle.tree_laws.specs.Laws.{IsSoundTree}
+use Rattle.tree_laws.specs.Order.{Key, key_cmp}
+use Rattle.tree_laws.specs.Tree.{BUCKET_ROWS, Node, TreeState, bucket_rows, count_of, holds_directory, name_row, kind_of, bytes_of, links_of, is_directory, is_directory_kind}
+use Rattle.tree_laws.proofs.Names.{entries-names_where}
+use Rattle.tree_laws.proofs.KeepsNodes.{node_cases}
+use Rattle.tree_laws.proofs.SoundTrees.{root_alone_is_sound}
+use Rattle.image_laws.specs.Image.{HasGoodBytes, HaveGoodBytes, inodes_shown, IsReadAsTree}
+use Rattle.image_laws.specs.Renamed.{Numbering, IsMet}
+use Rattle.image_laws.specs.Renamed.IsMet.{root as met_root}
+use Rattle.image_laws.specs.Slots.{BLOCK_SLOTS, looked_up, name_count}
+use Rattle.image_laws.specs.Stands.{BLOCK_BYTES, row_on, ShowsNode, StandsForSoundTree}
+use Rattle.image_laws.proofs.WholeImages.{standing_images_are_read}
 use Rattle.recovery.specs.Mkfs.{JustMadeHasRootAlone}
 
 -- the root has its own number, and no other node has one

@@ -2,16 +2,16 @@
 use Rattle.std.proofs.Common.{◌≡◌, ℕ, ◌<◌, cond, List, Option, None, Some, sym, ◌∙◌, ap, subst}
 use Rattle.std.specs.Option.{is_none}
 use Rattle.std.specs.Prelude.{replicate}
-use Rattle.sfs_tree.specs.Tree.{TreeState}
+use Rattle.tree_laws.specs.Tree.{TreeState}
 use Rattle.sfs_image.specs.Part.{Part, seen_of}
 use Rattle.sfs_image.specs.Settled.{SlotFault, super_fault_of, journal_fault_of, layout_of, parts_of}
 use Rattle.sfs_image.specs.Super.{Layout}
 use Rattle.sfs_image.proofs.ImageOfLaws.{read_as}
-use Rattle.image_tree.specs.Image.{ImageFault, inodes_shown, first_of_faults, image_inodes, breaks_bytes_of, fault_of, making_at_mount}
-use Rattle.image_tree.specs.ImageTree.{Making, image_tree}
-use Rattle.image_tree.specs.Rules.{tree_fault}
-use Rattle.image_tree.proofs.Alike.{tree_alike}
-use Rattle.image_tree.proofs.WholeImages.{HasGoodStart}
+use Rattle.image_laws.specs.Image.{ImageFault, inodes_shown, first_of_faults, image_inodes, breaks_bytes_of, fault_of, making_at_mount}
+use Rattle.image_laws.specs.ImageTree.{Making, image_tree}
+use Rattle.image_laws.specs.Rules.{tree_fault}
+use Rattle.image_laws.proofs.Alike.{tree_alike}
+use Rattle.image_laws.proofs.WholeImages.{HasGoodStart}
 use Rattle.disk_tree.specs.Judged.{fault_of_parts}
 use Rattle.disk_tree.proofs.ToldRead.{fault_alike}
 use Rattle.recovery.specs.Recovered.{ShowsTheSame}

@@ -3,7 +3,7 @@ use Rattle.std.specs.Prelude.{◌≡◌, ℕ, ◌≤◌, List, length, None, Som
 use Rattle.std.specs.List.{AllByRecursion}
 use Rattle.sfs_image.specs.ImageOf.{IsImageOf, transaction_in, table_parts}
 use Rattle.sfs_image.specs.Settled.{slot_count}
-use Rattle.image_tree.specs.Image.{Super, Journal, Tree as TreeFaultOf, fault_of}
+use Rattle.image_laws.specs.Image.{Super, Journal, Tree as TreeFaultOf, fault_of}
 use Rattle.disk_tree.specs.Told.{SettlesRecords, IsFoundOf}
 use Rattle.recovery.specs.Open.{AreOpen, IsGoodSlot}
 use Rattle.recovery.specs.Recovering.{AreNewestOf}

@@ -7,8 +7,8 @@ use Rattle.sfs_image.specs.ImageOf.{IsShut, IsJustMade, empty_directory}
 use Rattle.sfs_image.specs.Inode.{inode_bytes}
 use Rattle.sfs_image.specs.Settled.{journal_slot, layout_of}
 use Rattle.sfs_image.specs.Super.{Layout, record_blocks}
-use Rattle.sfs_tree.specs.Build.{root_alone}
-use Rattle.image_tree.specs.Image.{IsReadAsTree}
+use Rattle.tree_laws.specs.Build.{root_alone}
+use Rattle.image_laws.specs.Image.{IsReadAsTree}
 
 -- The disk holds an image that is just made, where it tells what it holds, and nothing is pending.
 pub record IsMadeOn (layout : Layout) (disk : View) : Type 0 where

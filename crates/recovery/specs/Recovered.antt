@@ -6,13 +6,13 @@ use Rattle.sfs_image.specs.Settled.{layout_of, parts_of}
 use Rattle.sfs_image.specs.Super.{IsLayout}
 use Rattle.sfs_dev.specs.Disk.{View}
 use Rattle.sfs_dev.specs.Run.{Advances, Unwritten, HasReadCause}
-use Rattle.sfs_tree.specs.Laws.{IsSoundTree}
-use Rattle.sfs_tree.specs.Sound.{IsWithinLimits}
+use Rattle.tree_laws.specs.Laws.{IsSoundTree}
+use Rattle.tree_laws.specs.Sound.{IsWithinLimits}
 use Rattle.commit_one.specs.Carried.{GoesOnTelling}
 use Rattle.commit_one.specs.Change.{nothing_open}
 use Rattle.journal_one.specs.Known.{EachLeft}
-use Rattle.image_tree.specs.Image.{fault_of, tree_of, inodes_shown}
-use Rattle.image_tree.specs.ImageTree.{image_tree}
+use Rattle.image_laws.specs.Image.{fault_of, tree_of, inodes_shown}
+use Rattle.image_laws.specs.ImageTree.{image_tree}
 use Rattle.disk_tree.specs.Found.{making_when_read}
 use Rattle.disk_tree.specs.Judged.{fault_of_parts}
 use Rattle.disk_tree.specs.KeptParts.{kept_in_use}

@@ -3,10 +3,10 @@ use Rattle.std.proofs.Common.{Vec, Global, append-nil, ◌≡◌, ◌⊎◌, ⊎
 use Rattle.sfs_base.specs.declared.numbers.CoreId.{CoreId}
 use Rattle.sfs_base.specs.declared.numbers.NodeId.{NodeId}
 use Rattle.sfs_base.specs.declared.numbers.Stamp.{Stamp}
-use Rattle.sfs_tree.specs.declared.call.Call.{Call}
-use Rattle.sfs_tree.specs.declared.call.Call.TheVariants.{Look, Make, Link, Unlink, Rmdir, Rename, Write, Read, Trunc, Stat, List as Listing, Fsync}
-use Rattle.sfs_tree.specs.declared.history.Entry.{Entry}
-use Rattle.sfs_tree.specs.History.{tree_after}
+use Rattle.tree_laws.specs.declared.call.Call.{Call}
+use Rattle.tree_laws.specs.declared.call.Call.TheVariants.{Look, Make, Link, Unlink, Rmdir, Rename, Write, Read, Trunc, Stat, List as Listing, Fsync}
+use Rattle.tree_laws.specs.declared.history.Entry.{Entry}
+use Rattle.tree_laws.specs.History.{tree_after}
 use Rattle.sfs_dev.specs.Disk.{View}
 use Rattle.sfs_dev.specs.Run.{Advances}
 use Rattle.volume_laws.specs.Volume.{Volume}
@@ -15,9 +15,9 @@ use Rattle.volume_one.specs.Stands.{Remembers}
 use Rattle.volume_one.specs.declared.flushed.Flushed.{Flushed}
 use Rattle.sfs_base.specs.Lists.{Roomy}
 use Rattle.sfs_base.proofs.BasicTruth.{false_not_true}
-use Rattle.sfs_tree.specs.declared.turns.Turn.{Turn}
-use Rattle.commit_turns.specs.Need.{ImageState}
-use Rattle.commit_turns.specs.OneThread.{ComesNext}
+use Rattle.tree_laws.specs.declared.turns.Turn.{Turn}
+use Rattle.turn_laws.specs.Need.{ImageState}
+use Rattle.turn_laws.specs.OneThread.{ComesNext}
 use Rattle.volume_one.specs.declared.deed.Deed.{Deed}
 use Rattle.scalefs_run.specs.Acks.{MomentsRise}
 use Rattle.scalefs_run.specs.Turns.{TurnsSoFar, turns_by, turns_told}

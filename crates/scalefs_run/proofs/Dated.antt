@@ -4,17 +4,17 @@ use Rattle.std.specs.List.{cons_option}
 use Rattle.std.proofs.lemmas.List.{map-append}
 use Rattle.std.proofs.lemmas.List.Elements.{filter_map-append}
 use Rattle.sfs_base.specs.declared.numbers.NodeId.{NodeId}
-use Rattle.sfs_tree.specs.declared.reply.Reply.{Reply}
-use Rattle.sfs_tree.specs.declared.reply.Reply.TheVariants as reply
-use Rattle.sfs_tree.specs.declared.turns.Turn.{Turn}
-use Rattle.flush_core.specs.Closure.{Flush}
+use Rattle.tree_laws.specs.declared.reply.Reply.{Reply}
+use Rattle.tree_laws.specs.declared.reply.Reply.TheVariants as reply
+use Rattle.tree_laws.specs.declared.turns.Turn.{Turn}
+use Rattle.cut_laws.specs.Closure.{Flush}
 use Rattle.volume_laws.specs.Volume.{Volume}
 use Rattle.volume_one.specs.Deeds.{DidStay}
 use Rattle.volume_one.specs.declared.deed.Deed.{Deed}
 use Rattle.volume_one.specs.declared.deed.Deed.TheVariants as deeds
 use Rattle.scalefs_run.specs.Turns.{turns_of, short_turns, moment_of}
 use Rattle.scalefs_run.specs.declared.turns.Counts.{Counts}
-use Rattle.sfs_tree.specs.declared.history.Entry.{Entry}
+use Rattle.tree_laws.specs.declared.history.Entry.{Entry}
 use Rattle.scalefs_run.specs.Acks.{AcksRise, MomentsRise, GoOnRising, Rise, acks_of, moments_of}
 
 Rise-append : (from mid to : ℕ) (xs ys : List ℕ) → Rise from xs mid → Rise mid ys to → mid ≤ to → Rise from (xs ++ ys) to

@@ -1,10 +1,10 @@
 -- Runs that go on, and runs that end.
 use Rattle.std.proofs.Common.{◌≡◌, ℕ, false, List, [], length, ⊎_elim, Option, Some, None, inl, inr, refl, sym, ap, subst, ◌∙◌, arith}
 use Rattle.std.specs.FinMap.{empty}
-use Rattle.sfs_tree.specs.declared.history.Entry.{Entry}
-use Rattle.sfs_tree.specs.History.{IsLegal}
-use Rattle.sfs_tree.specs.Laws.{IsSoundTree}
-use Rattle.sfs_tree.specs.Tree.{TreeState}
+use Rattle.tree_laws.specs.declared.history.Entry.{Entry}
+use Rattle.tree_laws.specs.History.{IsLegal}
+use Rattle.tree_laws.specs.Laws.{IsSoundTree}
+use Rattle.tree_laws.specs.Tree.{TreeState}
 use Rattle.sfs_dev.specs.Disk.{View}
 use Rattle.sfs_dev.specs.Run.{Advances}
 use Rattle.crash_laws.proofs.Ends.{images_survive, runs_read_back}
@@ -12,10 +12,10 @@ use Rattle.volume_laws.specs.Volume.{Volume}
 use Rattle.scalefs_run.specs.Acks.{AcksRise}
 use Rattle.scalefs_run.specs.Images.{SurvivesRun}
 use Rattle.scalefs_run.specs.Replies.{HasAnswers, HasAnswersSoFar}
-use Rattle.sfs_tree.specs.declared.turns.Turn.{Turn}
-use Rattle.commit_turns.specs.Need.{ImageState}
-use Rattle.commit_turns.specs.Recorded.{IsRecorded}
-use Rattle.commit_turns.proofs.Failed.{standing_are_recorded, failed_are_recorded}
+use Rattle.tree_laws.specs.declared.turns.Turn.{Turn}
+use Rattle.turn_laws.specs.Need.{ImageState}
+use Rattle.turn_laws.specs.Recorded.{IsRecorded}
+use Rattle.turn_laws.proofs.Failed.{standing_are_recorded, failed_are_recorded}
 use Rattle.turn_ties.specs.Plans.{rest_of}
 use Rattle.scalefs_run.specs.Turns.{TurnsSoFar}
 use Rattle.scalefs_run.specs.RunInvariant.{RunStands, StandsNow, IsSafeEnd, StandsAtEnd, HasInvariant, KeepsInvariant, HasEnded, EndsRun}

@@ -6,11 +6,11 @@ use Rattle.sfs_base.specs.Ends.{HasRisen}
 use Rattle.sfs_base.proofs.BasicOptions.{none_some, some_same}
 use Rattle.sfs_base.proofs.BasicTruth.{false_not_true}
 use Rattle.sfs_image.specs.Super.{Layout, IsLayout}
-use Rattle.sfs_tree.specs.Laws.{IsSoundTree}
+use Rattle.tree_laws.specs.Laws.{IsSoundTree}
 use Rattle.sfs_dev.specs.Disk.{View, OnlyTold, images}
 use Rattle.sfs_dev.specs.Run.{CountsOn, EachMoment, HasReadCause, Unwritten}
 use Rattle.sfs_dev.specs.Steps.{IfTold}
-use Rattle.image_tree.specs.Image.{ImageFault as Fault, fault_of}
+use Rattle.image_laws.specs.Image.{ImageFault as Fault, fault_of}
 use Rattle.journal_one.specs.Calls.{IsCalm}
 use Rattle.journal_one.specs.Known.{EachLeft}
 use Rattle.recovery.specs.Cause.{is_recover_disk_fault}

@@ -2,14 +2,14 @@
 use Rattle.std.proofs.Common.{◌≡◌, ℕ, Bool, List, [], Option, Some, IfSome, is_some, refl, sym, ap, subst, ◌∙◌, arith}
 use Rattle.std.specs.FinMap.{get, empty}
 use Rattle.sfs_base.specs.Ends.{HasRisen}
-use Rattle.sfs_tree.specs.declared.history.Entry.{Entry}
+use Rattle.tree_laws.specs.declared.history.Entry.{Entry}
 use Rattle.sfs_image.specs.Settled.{layout_of}
 use Rattle.sfs_image.specs.Super.{Layout}
 use Rattle.sfs_dev.specs.Disk.{View}
 use Rattle.sfs_dev.specs.Run.{Advances}
-use Rattle.image_tree.specs.Image.{tree_of}
-use Rattle.flush_core.specs.Closure.{Flush}
-use Rattle.flush_core.specs.Cut.{Cut}
+use Rattle.image_laws.specs.Image.{tree_of}
+use Rattle.cut_laws.specs.Closure.{Flush}
+use Rattle.cut_laws.specs.Cut.{Cut}
 use Rattle.crash_laws.specs.SoFar.{StandsSoFar}
 use Rattle.crash_laws.specs.Wrote.{Mounts}
 use Rattle.crash_laws.proofs.Begins.{runs_begin}
@@ -19,13 +19,13 @@ use Rattle.volume_one.specs.Begins.{Begins, HoldsNew}
 use Rattle.scalefs_run.specs.Begun.{RunBegins}
 use Rattle.scalefs_run.specs.Replies.{HasAnswersSoFar}
 use Rattle.scalefs_run.specs.RunInvariant.{RunStands, StandsNow}
-use Rattle.sfs_tree.specs.declared.turns.Turn.{Turn}
-use Rattle.image_tree.specs.Image.{inodes_shown}
-use Rattle.image_tree.specs.Stands.{StandsForTree}
-use Rattle.flush_core.specs.Cut.{tree_at_cut}
-use Rattle.commit_turns.specs.Need.{ImageState}
-use Rattle.commit_turns.specs.OneThread.{TurnsStand}
-use Rattle.commit_turns.proofs.Standing.{turns_begin}
+use Rattle.tree_laws.specs.declared.turns.Turn.{Turn}
+use Rattle.image_laws.specs.Image.{inodes_shown}
+use Rattle.image_laws.specs.Stands.{StandsForTree}
+use Rattle.cut_laws.specs.Cut.{tree_at_cut}
+use Rattle.turn_laws.specs.Need.{ImageState}
+use Rattle.turn_laws.specs.OneThread.{TurnsStand}
+use Rattle.turn_laws.proofs.Standing.{turns_begin}
 use Rattle.turn_ties.specs.Plans.{image_held, rest_of}
 use Rattle.scalefs_run.specs.Turns.{TurnsSoFar, HaveTurns, IsImageAtFirst}
 use Rattle.scalefs_run.specs.declared.engine.Engine.{Engine}

@@ -3,13 +3,13 @@ use Rattle.std.proofs.Common.{◌≡◌, ℕ, ◌≤◌, Bool, true, false, ◌|
 use Rattle.sfs_base.specs.Ends.{HasRisen}
 use Rattle.sfs_base.proofs.BasicTruth.{or_false, or_true}
 use Rattle.sfs_base.proofs.Causes.{Rose-earlier}
-use Rattle.sfs_tree.specs.declared.call.Call.{Call}
-use Rattle.sfs_tree.specs.declared.call.Call.TheVariants.{Look, Make, Link, Unlink, Rmdir, Rename, Write, Read, Trunc, Stat, List as Lists, Fsync}
-use Rattle.sfs_tree.specs.declared.history.Entry.{Entry}
-use Rattle.sfs_tree.specs.declared.reply.Reply.{Reply}
-use Rattle.sfs_tree.specs.declared.reply.Reply.TheVariants as reply
-use Rattle.sfs_tree.specs.Tree.{TreeState}
-use Rattle.sfs_tree.specs.History.{tree_after, tree_after_entry}
+use Rattle.tree_laws.specs.declared.call.Call.{Call}
+use Rattle.tree_laws.specs.declared.call.Call.TheVariants.{Look, Make, Link, Unlink, Rmdir, Rename, Write, Read, Trunc, Stat, List as Lists, Fsync}
+use Rattle.tree_laws.specs.declared.history.Entry.{Entry}
+use Rattle.tree_laws.specs.declared.reply.Reply.{Reply}
+use Rattle.tree_laws.specs.declared.reply.Reply.TheVariants as reply
+use Rattle.tree_laws.specs.Tree.{TreeState}
+use Rattle.tree_laws.specs.History.{tree_after, tree_after_entry}
 use Rattle.volume_one.specs.Calls.{is_fsync}
 use Rattle.volume_one.specs.Fsync.{IsFsyncAnswer}
 use Rattle.scalefs_run.specs.Replies.{AreAnswered, IsReplyTo, IsReplyOf, IsLiveReply, has_failed, is_failed_flush, HasAnswers, HasAnswersSoFar}

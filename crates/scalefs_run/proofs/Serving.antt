@@ -12,12 +12,12 @@ use Rattle.sfs_base.proofs.BasicOptions.{none_some, some_same}
 use Rattle.sfs_base.proofs.BasicTruth.{false_not_true}
 use Rattle.sfs_image.specs.Settled.{layout_of}
 use Rattle.sfs_image.specs.Super.{Layout}
-use Rattle.sfs_tree.specs.declared.history.Entry.{Entry}
-use Rattle.sfs_tree.specs.Tree.{TreeState}
+use Rattle.tree_laws.specs.declared.history.Entry.{Entry}
+use Rattle.tree_laws.specs.Tree.{TreeState}
 use Rattle.sfs_dev.specs.Disk.{View, OnlyTold, images}
 use Rattle.sfs_dev.specs.Run.{Advances, CountsOn, EachMoment, HasReadCause, Unwritten}
 use Rattle.sfs_dev.specs.Steps.{IfTold}
-use Rattle.image_tree.specs.Image.{ImageFault as Fault, Super as SuperFault, Journal as JournalFault, Tree as TreeFault, fault_of, tree_of}
+use Rattle.image_laws.specs.Image.{ImageFault as Fault, Super as SuperFault, Journal as JournalFault, Tree as TreeFault, fault_of, tree_of}
 use Rattle.journal_one.specs.Calls.{IsCalm}
 use Rattle.mount.specs.Mounted.{share_of_nodes}
 use Rattle.recovery.specs.Cause.{is_recover_disk_fault}
@@ -43,9 +43,9 @@ use Rattle.scalefs_run.specs.Due.{Judgement, IsJudged, due, judged_status, mount
 use Rattle.scalefs_run.specs.Image.{IsImageRefused, status_of_recovery}
 use Rattle.scalefs_run.specs.Images.{IfQuiet, HasImagesBy}
 use Rattle.scalefs_run.specs.Outcome.{IsOf, HasStatus, HasHistory, HasText, HasReadFault, IsWriteStatus, IsCommand, ComesToDisk, status_of_source}
-use Rattle.sfs_tree.specs.declared.turns.Turn.{Turn}
-use Rattle.commit_turns.specs.Need.{ImageState}
-use Rattle.commit_turns.specs.Recorded.{IsRecorded}
+use Rattle.tree_laws.specs.declared.turns.Turn.{Turn}
+use Rattle.turn_laws.specs.Need.{ImageState}
+use Rattle.turn_laws.specs.Recorded.{IsRecorded}
 use Rattle.scalefs_run.specs.Turns.{IsImageAtFirst, HasTurnsBy}
 use Rattle.scalefs_run.specs.RunInvariant.{EndsRun}
 use Rattle.scalefs_run.specs.Served.{Served, ServedScript, IsCaused, was_mounted}

@@ -5,16 +5,16 @@ use Rattle.sfs_base.specs.declared.numbers.CoreId.{CoreId}
 use Rattle.sfs_base.specs.declared.numbers.NodeId.{NodeId}
 use Rattle.sfs_base.specs.declared.numbers.Stamp.{Stamp}
 use Rattle.sfs_image.specs.Super.{Layout}
-use Rattle.sfs_tree.specs.declared.call.Call.TheVariants.{Fsync}
-use Rattle.sfs_tree.specs.declared.history.Entry.{Entry}
-use Rattle.sfs_tree.specs.declared.reply.Reply.{Reply}
-use Rattle.sfs_tree.specs.declared.reply.Reply.TheVariants as reply
-use Rattle.sfs_tree.specs.History.{IsLegal, tree_after}
-use Rattle.sfs_tree.specs.Laws.{IsSoundTree}
-use Rattle.sfs_tree.specs.Tree.{TreeState, is_alive}
+use Rattle.tree_laws.specs.declared.call.Call.TheVariants.{Fsync}
+use Rattle.tree_laws.specs.declared.history.Entry.{Entry}
+use Rattle.tree_laws.specs.declared.reply.Reply.{Reply}
+use Rattle.tree_laws.specs.declared.reply.Reply.TheVariants as reply
+use Rattle.tree_laws.specs.History.{IsLegal, tree_after}
+use Rattle.tree_laws.specs.Laws.{IsSoundTree}
+use Rattle.tree_laws.specs.Tree.{TreeState, is_alive}
 use Rattle.sfs_dev.specs.Disk.{View}
 use Rattle.sfs_dev.specs.Run.{Advances}
-use Rattle.flush_core.proofs.Basics.{in_left, in_right}
+use Rattle.cut_laws.proofs.Basics.{in_left, in_right}
 use Rattle.crash_laws.specs.Survives.{HasFailure}
 use Rattle.crash_laws.specs.Wrote.{RaisesNext}
 use Rattle.crash_laws.proofs.Commits.{commits_keep, failures_keep}
@@ -28,9 +28,9 @@ use Rattle.volume_one.specs.Fsync.{FsyncCommits, FsyncDoubts, FsyncStays, FsyncM
 use Rattle.volume_one.specs.Stands.{Remembers}
 use Rattle.volume_one.specs.declared.flushed.Flushed.{Flushed}
 use Rattle.volume_one.specs.declared.volume.OpenVolume.{OpenVolume}
-use Rattle.sfs_tree.specs.declared.reply.Code.TheVariants.{NoEntry}
-use Rattle.sfs_tree.specs.declared.turns.Turn.{Turn}
-use Rattle.commit_turns.specs.Need.{ImageState, node_bound}
+use Rattle.tree_laws.specs.declared.reply.Code.TheVariants.{NoEntry}
+use Rattle.tree_laws.specs.declared.turns.Turn.{Turn}
+use Rattle.turn_laws.specs.Need.{ImageState, node_bound}
 use Rattle.commit_one.specs.Carried.{sealed_at}
 use Rattle.volume_one.specs.Deeds.{DidStay, IsDurableDeed}
 use Rattle.volume_one.specs.declared.deed.Deed.{Deed}

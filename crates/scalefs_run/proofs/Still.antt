@@ -1,11 +1,11 @@
 -- Where no call was made, the disk was left alone.
 use Rattle.std.proofs.Common.{◌≡◌, ℕ, ◌+◌, ◌≤◌, List, [], ◌∷◌, ◌++◌, length, refl, sym, ap, ◌∙◌, arith}
 use Rattle.std.proofs.lemmas.List.{length-append}
-use Rattle.sfs_tree.specs.declared.history.Entry.{Entry}
+use Rattle.tree_laws.specs.declared.history.Entry.{Entry}
 use Rattle.scalefs_run.specs.Calls.{Called}
 use Rattle.scalefs_run.specs.Made.{Grown}
 use Rattle.sfs_base.specs.declared.numbers.CoreId.{CoreId}
-use Rattle.sfs_tree.specs.declared.call.Call.{Call}
+use Rattle.tree_laws.specs.declared.call.Call.{Call}
 
 -- a list to which a list was appended is as long as before only where that list is empty
 no_more : (made : List Entry) (n : ℕ) → n + length made ≡ n → made ≡ []

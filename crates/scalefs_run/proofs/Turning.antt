@@ -6,28 +6,28 @@ use Rattle.sfs_base.specs.declared.numbers.CoreId.{CoreId}
 use Rattle.sfs_base.specs.declared.numbers.NodeId.{NodeId}
 use Rattle.sfs_base.specs.declared.numbers.SpaceKind.{SpaceKind}
 use Rattle.sfs_base.specs.declared.numbers.Stamp.{Stamp}
-use Rattle.sfs_tree.specs.declared.call.Call.{Call}
-use Rattle.sfs_tree.specs.declared.call.Call.TheVariants.{Fsync}
-use Rattle.sfs_tree.specs.declared.history.Entry.{Entry}
-use Rattle.sfs_tree.specs.declared.reply.Reply.{Reply}
-use Rattle.sfs_tree.specs.declared.reply.Reply.TheVariants as reply
-use Rattle.sfs_tree.specs.declared.reply.Code.{Code}
-use Rattle.sfs_tree.specs.declared.reply.Code.TheVariants.{NoEntry}
+use Rattle.tree_laws.specs.declared.call.Call.{Call}
+use Rattle.tree_laws.specs.declared.call.Call.TheVariants.{Fsync}
+use Rattle.tree_laws.specs.declared.history.Entry.{Entry}
+use Rattle.tree_laws.specs.declared.reply.Reply.{Reply}
+use Rattle.tree_laws.specs.declared.reply.Reply.TheVariants as reply
+use Rattle.tree_laws.specs.declared.reply.Code.{Code}
+use Rattle.tree_laws.specs.declared.reply.Code.TheVariants.{NoEntry}
 use Rattle.sfs_base.proofs.BasicTruth.{false_not_true}
-use Rattle.sfs_tree.specs.declared.turns.Turn.{Turn}
-use Rattle.sfs_tree.specs.declared.turns.TurnAct.TheVariants as act
-use Rattle.sfs_tree.specs.History.{IsLegal, tree_after}
-use Rattle.sfs_tree.specs.Tree.{is_alive}
+use Rattle.tree_laws.specs.declared.turns.Turn.{Turn}
+use Rattle.tree_laws.specs.declared.turns.TurnAct.TheVariants as act
+use Rattle.tree_laws.specs.History.{IsLegal, tree_after}
+use Rattle.tree_laws.specs.Tree.{is_alive}
 use Rattle.sfs_dev.specs.Disk.{View}
-use Rattle.flush_core.specs.Closure.{Flush}
-use Rattle.flush_core.specs.Rules.{IsOneOf as Among}
-use Rattle.flush_core.proofs.Basics.{in_either}
-use Rattle.commit_turns.specs.LawsOneThread.{TakesNoTurn}
-use Rattle.commit_turns.specs.Need.{ImageState, IsMadeBy, node_bound}
-use Rattle.commit_turns.specs.OneThread.{Resting, TurnsStand, TurnsFailed, ComesNext, IsNextFsync, MayBegin, fsync_of, turn_of}
-use Rattle.commit_turns.proofs.Failed.{calls_fail, halts_fail}
-use Rattle.commit_turns.proofs.Standing.{calls_stand}
-use Rattle.commit_turns.proofs.WholeFsyncs.{commits_stand, empty_commits_stand, shorts_stand, given_back_stand, doubts_fail, opened_doubts_fail}
+use Rattle.cut_laws.specs.Closure.{Flush}
+use Rattle.cut_laws.specs.Rules.{IsOneOf as Among}
+use Rattle.cut_laws.proofs.Basics.{in_either}
+use Rattle.turn_laws.specs.LawsOneThread.{TakesNoTurn}
+use Rattle.turn_laws.specs.Need.{ImageState, IsMadeBy, node_bound}
+use Rattle.turn_laws.specs.OneThread.{Resting, TurnsStand, TurnsFailed, ComesNext, IsNextFsync, MayBegin, fsync_of, turn_of}
+use Rattle.turn_laws.proofs.Failed.{calls_fail, halts_fail}
+use Rattle.turn_laws.proofs.Standing.{calls_stand}
+use Rattle.turn_laws.proofs.WholeFsyncs.{commits_stand, empty_commits_stand, shorts_stand, given_back_stand, doubts_fail, opened_doubts_fail}
 use Rattle.turn_ties.specs.Plans.{Planning, planning_of, image_once_left, rest_of, machine_of_rest, made_of, HasPlan}
 use Rattle.turn_ties.proofs.Leaves.{commits_leave_images, empty_commits_leave_images}
 use Rattle.turn_ties.proofs.Made.{plans_are_made, rests_go_on}

@@ -1,8 +1,8 @@
 -- The moments of acknowledgement of a history, and those of turns.
 use Rattle.std.specs.Prelude.{ℕ, ◌≤◌, List, [], ◌∷◌, map}
 use Rattle.std.specs.List.{filter_map}
-use Rattle.sfs_tree.specs.declared.history.Entry.{Entry}
-use Rattle.sfs_tree.specs.declared.turns.Turn.{Turn}
+use Rattle.tree_laws.specs.declared.history.Entry.{Entry}
+use Rattle.tree_laws.specs.declared.turns.Turn.{Turn}
 
 -- the moments of acknowledgement of a history, in stamp order
 abbrev pub acks_of : List Entry → List ℕ

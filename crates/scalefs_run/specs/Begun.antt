@@ -4,12 +4,12 @@ use Rattle.sfs_dev.specs.Disk.{View}
 use Rattle.sfs_dev.specs.Run.{CountsOn}
 use Rattle.sfs_dev.specs.Steps.{IfTold}
 use Rattle.sfs_image.specs.Settled.{layout_of}
-use Rattle.sfs_tree.specs.Laws.{IsSoundTree}
-use Rattle.image_tree.specs.Image.{tree_of}
+use Rattle.tree_laws.specs.Laws.{IsSoundTree}
+use Rattle.image_laws.specs.Image.{tree_of}
 use Rattle.journal_one.specs.Calls.{IsCalm}
 use Rattle.mount.specs.Mounted.{share_of_nodes}
 use Rattle.volume_laws.specs.Volume.{Volume}
-use Rattle.commit_turns.specs.Need.{ImageState}
+use Rattle.turn_laws.specs.Need.{ImageState}
 use Rattle.scalefs_run.specs.RunInvariant.{RunStands, StandsNow}
 use Rattle.scalefs_run.specs.Turns.{IsImageAtFirst}
 use Rattle.scalefs_run.specs.declared.engine.Engine.{Engine}

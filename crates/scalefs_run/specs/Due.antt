@@ -2,7 +2,7 @@
 use Rattle.std.specs.Prelude.{◌≡◌, ℕ, List, [], length, nat_lt, Option, Some, None, Result, Ok, Err, if◌then◌else◌}
 use Rattle.sfs_base.specs.declared.numbers.Measure.TheVariants.{Bytes, Lines}
 use Rattle.sfs_image.specs.Settled.{layout_of}
-use Rattle.image_tree.specs.Image.{ImageFault as Fault, fault_of}
+use Rattle.image_laws.specs.Image.{ImageFault as Fault, fault_of}
 use Rattle.script.specs.declared.commands.Line.{Line}
 use Rattle.script.specs.Lines.{lines}
 use Rattle.script.specs.Phases.{phases_of}

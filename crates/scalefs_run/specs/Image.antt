@@ -1,13 +1,13 @@
 -- What `mkfs` and `show` do to the image of a disk, and what they write of it.
 use Rattle.std.specs.Prelude.{◌≡◌, ℕ, ◌+◌, ◌-◌, Bool, true, false, List, [], ◌∷◌, ◌++◌, codes, decimal, nat_lt, Option, Some, None, if◌then◌else◌}
 use Rattle.sfs_base.specs.Ends.{HasRisen}
-use Rattle.sfs_tree.specs.Laws.{IsSoundTree}
-use Rattle.sfs_tree.specs.Tree.{TreeState}
+use Rattle.tree_laws.specs.Laws.{IsSoundTree}
+use Rattle.tree_laws.specs.Tree.{TreeState}
 use Rattle.sfs_dev.specs.Disk.{View, images}
 use Rattle.sfs_dev.specs.Run.{CountsOn, EachMoment, Unwritten}
 use Rattle.sfs_dev.specs.Steps.{IfTold}
 use Rattle.sfs_image.specs.Super.{Layout, data_start}
-use Rattle.image_tree.specs.Image.{ImageFault as Fault, Super as SuperFault, Journal as JournalFault, Tree as TreeFault, fault_of, tree_of}
+use Rattle.image_laws.specs.Image.{ImageFault as Fault, Super as SuperFault, Journal as JournalFault, Tree as TreeFault, fault_of, tree_of}
 use Rattle.journal_one.specs.Calls.{IsCalm}
 use Rattle.journal_one.specs.Known.{EachLeft}
 use Rattle.recovery.specs.Mkfs.{HasRootAlone}

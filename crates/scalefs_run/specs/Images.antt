@@ -4,8 +4,8 @@ use Rattle.sfs_dev.specs.Disk.{View}
 use Rattle.sfs_dev.specs.Run.{CountsOn, EachMoment}
 use Rattle.sfs_dev.specs.Steps.{IfTold}
 use Rattle.sfs_image.specs.Settled.{layout_of}
-use Rattle.sfs_tree.specs.declared.history.Entry.{Entry}
-use Rattle.sfs_tree.specs.Tree.{TreeState}
+use Rattle.tree_laws.specs.declared.history.Entry.{Entry}
+use Rattle.tree_laws.specs.Tree.{TreeState}
 use Rattle.journal_one.specs.Calls.{IsCalm}
 use Rattle.crash_laws.specs.Survives.{SurvivesAll, ReadsBack}
 use Rattle.mount.specs.Mounted.{share_of_nodes}

@@ -1,7 +1,7 @@
 -- The calls that a worker made in a phase, and those of all workers.
 use Rattle.std.specs.Prelude.{◌≡◌, ℕ, ◌<◌, ◌≤◌, List, [], ◌++◌, None}
 use Rattle.std.specs.List.{AllByRecursion}
-use Rattle.sfs_tree.specs.declared.history.Entry.{Entry}
+use Rattle.tree_laws.specs.declared.history.Entry.{Entry}
 use Rattle.script.specs.declared.commands.Line.{Line}
 use Rattle.script.specs.Walks.{Position, position_after, next_call, commands_of}
 use Rattle.script.specs.Follows.{Makes, MakesAll, core_entries, replies_of}

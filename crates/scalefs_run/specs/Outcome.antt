@@ -7,7 +7,7 @@ use Rattle.script.specs.declared.fault.ScriptFault.{ScriptFault}
 use Rattle.script.specs.declared.fault.ScriptFault.TheVariants as script
 use Rattle.sfs_base.specs.declared.numbers.Measure.{Measure}
 use Rattle.sfs_base.specs.declared.numbers.Measure.TheVariants.{Bytes, Lines}
-use Rattle.sfs_tree.specs.declared.history.Entry.{Entry}
+use Rattle.tree_laws.specs.declared.history.Entry.{Entry}
 use Rattle.script.specs.declared.commands.Line.{Line}
 use Rattle.script.specs.Follows.{Follows, FollowsSoFar}
 use Rattle.script.specs.Lines.{lines}

@@ -1,14 +1,14 @@
 -- The replies of fsyncs, with their causes.
 use Rattle.std.specs.Prelude.{◌≡◌, ℕ, ◌≤◌, Bool, true, false, ◌||◌, ◌&&◌, List, [], ◌∷◌, Option, IfSome, is_some}
 use Rattle.sfs_base.specs.Ends.{HasRisen}
-use Rattle.sfs_tree.specs.declared.call.Call.{Call}
-use Rattle.sfs_tree.specs.declared.call.Call.TheVariants as call
-use Rattle.sfs_tree.specs.declared.history.Entry.{Entry}
-use Rattle.sfs_tree.specs.declared.reply.Code.TheVariants.{NoEntry}
-use Rattle.sfs_tree.specs.declared.reply.Reply.{Reply}
-use Rattle.sfs_tree.specs.declared.reply.Reply.TheVariants as reply
-use Rattle.sfs_tree.specs.Tree.{TreeState, is_alive}
-use Rattle.sfs_tree.specs.History.{tree_after_entry}
+use Rattle.tree_laws.specs.declared.call.Call.{Call}
+use Rattle.tree_laws.specs.declared.call.Call.TheVariants as call
+use Rattle.tree_laws.specs.declared.history.Entry.{Entry}
+use Rattle.tree_laws.specs.declared.reply.Code.TheVariants.{NoEntry}
+use Rattle.tree_laws.specs.declared.reply.Reply.{Reply}
+use Rattle.tree_laws.specs.declared.reply.Reply.TheVariants as reply
+use Rattle.tree_laws.specs.Tree.{TreeState, is_alive}
+use Rattle.tree_laws.specs.History.{tree_after_entry}
 use Rattle.volume_one.specs.Calls.{is_fsync}
 
 -- Why an fsync of a live node is answered as it is, from whether a commit has failed before, and the count of faults kept then: after a

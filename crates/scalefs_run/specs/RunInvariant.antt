@@ -1,15 +1,15 @@
 -- What a run has done so far.
 use Rattle.std.specs.Prelude.{◌≡◌, ◌⊎◌, ℕ, ◌≤◌, ◌^◌, Bool, List, length, Option, None, Some}
-use Rattle.sfs_tree.specs.declared.history.Entry.{Entry}
-use Rattle.sfs_tree.specs.declared.turns.Turn.{Turn}
-use Rattle.sfs_tree.specs.History.{IsLegal}
-use Rattle.sfs_tree.specs.Tree.{TreeState}
+use Rattle.tree_laws.specs.declared.history.Entry.{Entry}
+use Rattle.tree_laws.specs.declared.turns.Turn.{Turn}
+use Rattle.tree_laws.specs.History.{IsLegal}
+use Rattle.tree_laws.specs.Tree.{TreeState}
 use Rattle.sfs_dev.specs.Disk.{View}
 use Rattle.sfs_dev.specs.Run.{CountsOn}
-use Rattle.commit_turns.specs.Need.{ImageState, node_bound}
-use Rattle.commit_turns.specs.Recorded.{IsRecorded}
-use Rattle.flush_core.specs.Closure.{Flush}
-use Rattle.flush_core.specs.Cut.{Cut}
+use Rattle.turn_laws.specs.Need.{ImageState, node_bound}
+use Rattle.turn_laws.specs.Recorded.{IsRecorded}
+use Rattle.cut_laws.specs.Closure.{Flush}
+use Rattle.cut_laws.specs.Cut.{Cut}
 use Rattle.crash_laws.specs.SoFar.{SoFar, Stands, StandsSoFar}
 use Rattle.crash_laws.specs.Survives.{HasFailure}
 use Rattle.volume_laws.specs.Volume.{Volume}

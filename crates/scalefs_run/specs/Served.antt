@@ -2,15 +2,15 @@
 use Rattle.std.specs.Prelude.{◌≡◌, ℕ, Bool, true, false, List, [], ◌∷◌, Option, Some}
 use Rattle.sfs_base.specs.Ends.{HasRisen}
 use Rattle.sfs_image.specs.Settled.{layout_of}
-use Rattle.sfs_tree.specs.declared.history.Entry.{Entry}
-use Rattle.sfs_tree.specs.declared.turns.Turn.{Turn}
-use Rattle.sfs_tree.specs.History.{IsLegal}
-use Rattle.sfs_tree.specs.Laws.{IsSoundTree}
-use Rattle.sfs_tree.specs.Tree.{TreeState}
+use Rattle.tree_laws.specs.declared.history.Entry.{Entry}
+use Rattle.tree_laws.specs.declared.turns.Turn.{Turn}
+use Rattle.tree_laws.specs.History.{IsLegal}
+use Rattle.tree_laws.specs.Laws.{IsSoundTree}
+use Rattle.tree_laws.specs.Tree.{TreeState}
 use Rattle.sfs_dev.specs.Disk.{View}
 use Rattle.sfs_dev.specs.Run.{CountsOn, Unwritten}
 use Rattle.sfs_dev.specs.Steps.{IfTold}
-use Rattle.image_tree.specs.Image.{tree_of}
+use Rattle.image_laws.specs.Image.{tree_of}
 use Rattle.mount.specs.Mounted.{share_of_nodes}
 use Rattle.script.specs.declared.commands.Line.{Line}
 use Rattle.script.specs.Phases.{phases_of}

@@ -5,25 +5,25 @@ use Rattle.sfs_base.specs.declared.numbers.NodeId.{NodeId}
 use Rattle.sfs_image.specs.ImageOf.{IsImageOf}
 use Rattle.sfs_image.specs.Part.{Part}
 use Rattle.sfs_image.specs.Super.{Layout}
-use Rattle.sfs_tree.specs.declared.call.Call.{Call}
-use Rattle.sfs_tree.specs.declared.call.Call.TheVariants as call
-use Rattle.sfs_tree.specs.declared.history.Entry.{Entry}
-use Rattle.sfs_tree.specs.declared.reply.Reply.{Reply}
-use Rattle.sfs_tree.specs.declared.reply.Reply.TheVariants as reply
-use Rattle.sfs_tree.specs.declared.turns.Turn.{Turn}
-use Rattle.sfs_tree.specs.declared.turns.TurnAct.TheVariants as act
-use Rattle.sfs_tree.specs.Tree.{TreeState}
+use Rattle.tree_laws.specs.declared.call.Call.{Call}
+use Rattle.tree_laws.specs.declared.call.Call.TheVariants as call
+use Rattle.tree_laws.specs.declared.history.Entry.{Entry}
+use Rattle.tree_laws.specs.declared.reply.Reply.{Reply}
+use Rattle.tree_laws.specs.declared.reply.Reply.TheVariants as reply
+use Rattle.tree_laws.specs.declared.turns.Turn.{Turn}
+use Rattle.tree_laws.specs.declared.turns.TurnAct.TheVariants as act
+use Rattle.tree_laws.specs.Tree.{TreeState}
 use Rattle.sfs_dev.specs.Disk.{View}
 use Rattle.sfs_dev.specs.Run.{CountsOn}
-use Rattle.image_tree.specs.Image.{inodes_shown}
-use Rattle.image_tree.specs.Renamed.{Numbering}
-use Rattle.image_tree.specs.Stands.{StandsForTree}
+use Rattle.image_laws.specs.Image.{inodes_shown}
+use Rattle.image_laws.specs.Renamed.{Numbering}
+use Rattle.image_laws.specs.Stands.{StandsForTree}
 use Rattle.commit_one.specs.Change.{nothing_open}
-use Rattle.flush_core.specs.Cut.{tree_at_cut}
-use Rattle.flush_core.specs.Rules.{IsOneOf}
-use Rattle.commit_turns.specs.Need.{ImageState}
-use Rattle.commit_turns.specs.OneThread.{TurnsStand, TurnsFailed, turn_of}
-use Rattle.commit_turns.specs.Recorded.{IsRecorded}
+use Rattle.cut_laws.specs.Cut.{tree_at_cut}
+use Rattle.cut_laws.specs.Rules.{IsOneOf}
+use Rattle.turn_laws.specs.Need.{ImageState}
+use Rattle.turn_laws.specs.OneThread.{TurnsStand, TurnsFailed, turn_of}
+use Rattle.turn_laws.specs.Recorded.{IsRecorded}
 use Rattle.space_laws.specs.Laws.{state_of_parts}
 use Rattle.turn_ties.specs.Plans.{rest_of}
 use Rattle.volume_laws.specs.Volume.{Volume}

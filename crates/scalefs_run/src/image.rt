@@ -4,7 +4,7 @@ ghost use Rattle.std.specs.Prelude.{◌≡◌, ◌≤◌, true, false, string_by
 ghost use Rattle.sfs_base.specs.Ends.{HasRisen};
 ghost use Rattle.sfs_dev.specs.Run.{Advances};
 ghost use Rattle.sfs_image.specs.Super.{InRange, IsLayout, data_start};
-ghost use Rattle.sfs_tree.specs.Sound.{IsSound};
+ghost use Rattle.tree_laws.specs.Sound.{IsSound};
 ghost use Rattle.script.specs.TreeTexts.{tree_text};
 ghost use Rattle.scalefs_run.specs.Outcome.{HasText, IsWriteStatus, reaches_disk};
 ghost use Rattle.scalefs_run.specs.Image.{layout_text, status_of_recovery, MakesImage, ShowsImage};

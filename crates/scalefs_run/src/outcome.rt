@@ -3,7 +3,7 @@ ghost use Rattle.scalefs_run.specs.Outcome.{status_text};
 ghost use Rattle.scalefs_run.specs.declared.outcome.Status.TheVariants.{BadImage};
 
 use sfs_base::{Measure, NoMemory};
-use sfs_tree::{History, Turns};
+use tree_laws::{History, Turns};
 use std::alloc::Global;
 
 /// What is wrong in an image.

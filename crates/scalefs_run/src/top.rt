@@ -21,7 +21,7 @@ use fmt_super::Layout;
 use script::{LONGEST_SCRIPT, Script, ScriptFault};
 use sfs_base::{Gate, Measure, ReadAllFault, Sink, Source, read_all};
 use sfs_dev::Disk;
-use sfs_tree::{History, Turns};
+use tree_laws::{History, Turns};
 use std::alloc::Global;
 use std::sync::Wait;
 use std::thread::Threads;

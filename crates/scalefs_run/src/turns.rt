@@ -1,10 +1,10 @@
 // The turns at the disk that an fsync took, by what it did.
 ghost use Rattle.std.specs.Prelude.{◌≡◌, ◌≤◌, ◌<◌, ◌-◌, ◌^◌, ◌++◌};
-ghost use Rattle.commit_turns.specs.OneThread.{turn_of};
+ghost use Rattle.turn_laws.specs.OneThread.{turn_of};
 ghost use Rattle.scalefs_run.specs.Turns.{turns_of, turns_told, short_turns, failed_turns, moment_of};
 
 use sfs_base::NodeId;
-use sfs_tree::{Call, Entry, Reply, Turn, TurnAct, Turns};
+use tree_laws::{Call, Entry, Reply, Turn, TurnAct, Turns};
 use volume_one::Deed;
 
 /// The disk's counts of device calls and of faults when an fsync began and when it ended.

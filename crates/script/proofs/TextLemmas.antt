@@ -9,11 +9,11 @@ use Rattle.sfs_base.proofs.BasicTruth.{and_first}
 use Rattle.percent_encoding.specs.Percent.{percent_encode, encode_byte, percent_encode_byte}
 use Rattle.percent_encoding.specs.AsciiSet.{should_percent_encode, contains}
 use Rattle.script.specs.declared.writing.arguments.TheConstants.{ESCAPED}
-use Rattle.sfs_tree.specs.declared.listing.NameKind.{NameKind}
-use Rattle.sfs_tree.specs.NameKinds.{name_kind}
+use Rattle.tree_laws.specs.declared.listing.NameKind.{NameKind}
+use Rattle.tree_laws.specs.NameKinds.{name_kind}
 use Rattle.std.proofs.Common.{map}
 use Rattle.script.specs.Texts.{is_shown, byte_text, name_text, listed_text, entry_text, history_text}
-use Rattle.sfs_tree.specs.declared.history.Entry.{Entry}
+use Rattle.tree_laws.specs.declared.history.Entry.{Entry}
 use Rattle.std.proofs.Common.{take, Option, Some, None, IsSome, slice_get}
 use Rattle.std.proofs.Math.Seq.{take-length}
 use Rattle.std.proofs.lemmas.Option.{slice_get_within, get_or_from_slice_get}

@@ -10,13 +10,13 @@ use Rattle.std.specs.Cmp.Lexicographic.{nat_list_cmp_total}
 use Rattle.std.specs.FinMap.{entries, entries_sorted, get-entries, len}
 use Rattle.sfs_base.proofs.BasicNumbers.{not_less}
 use Rattle.sfs_base.proofs.BasicOptions.{some_same}
-use Rattle.sfs_tree.specs.Tree.{TreeState, row_of, is_directory, names_of}
-use Rattle.sfs_tree.specs.Sound.{Above, at_root, below, IsSound}
-use Rattle.sfs_tree.specs.Shape.{Met, met_from, met, with_file, files_met}
-use Rattle.sfs_tree.proofs.Found.{each_entry}
-use Rattle.sfs_tree.proofs.Joined.{name_cmp-IsAntisymmetric}
-use Rattle.sfs_tree.proofs.Names.{get-names_where}
-use Rattle.sfs_tree.proofs.Walks.{fewer_above}
+use Rattle.tree_laws.specs.Tree.{TreeState, row_of, is_directory, names_of}
+use Rattle.tree_laws.specs.Sound.{Above, at_root, below, IsSound}
+use Rattle.tree_laws.specs.Shape.{Met, met_from, met, with_file, files_met}
+use Rattle.tree_laws.proofs.Found.{each_entry}
+use Rattle.tree_laws.proofs.Joined.{name_cmp-IsAntisymmetric}
+use Rattle.tree_laws.proofs.Names.{get-names_where}
+use Rattle.tree_laws.proofs.Walks.{fewer_above}
 use Rattle.script.specs.declared.writing.tree.Unmet.{Unmet}
 use Rattle.script.specs.Texts.{name_text}
 use Rattle.script.specs.TreeTexts.{names_text, path_text, directory_text, file_text, group_in, met_text, tree_text}

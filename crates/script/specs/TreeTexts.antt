@@ -1,7 +1,7 @@
 -- The text of a tree: a line for each node where a walk from the root meets it, depth first, names ascending by their bytes.
 use Rattle.std.specs.Prelude.{ℕ, ◌==◌, List, [], ◌∷◌, ◌++◌, codes, flat_map, length, position, unwrap_or, if◌then◌else◌}
-use Rattle.sfs_tree.specs.Tree.{TreeState, is_directory, bytes_of, links_of, row_count}
-use Rattle.sfs_tree.specs.Shape.{Met, met, files_met}
+use Rattle.tree_laws.specs.Tree.{TreeState, is_directory, bytes_of, links_of, row_count}
+use Rattle.tree_laws.specs.Shape.{Met, met, files_met}
 use Rattle.script.specs.Texts.{name_text, number_text}
 
 -- the names of a path, a `/` before each

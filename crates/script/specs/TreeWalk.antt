@@ -2,9 +2,9 @@
 use Rattle.std.specs.Prelude.{◌≡◌, ℕ, zero, suc, ◌==◌, ◌<◌, true, not, List, [], ◌∷◌, ◌++◌, codes, flat_map, filter, fold, length, map, reverse, string_bytes, if◌then◌else◌}
 use Rattle.std.specs.List.{AllByRecursion, position_or_len}
 use Rattle.std.specs.FinMap.{entries, len}
-use Rattle.sfs_tree.specs.Shape.{with_file, files_met}
-use Rattle.sfs_tree.specs.Sound.{Above}
-use Rattle.sfs_tree.specs.Tree.{TreeState, is_directory, names_of}
+use Rattle.tree_laws.specs.Shape.{with_file, files_met}
+use Rattle.tree_laws.specs.Sound.{Above}
+use Rattle.tree_laws.specs.Tree.{TreeState, is_directory, names_of}
 use Rattle.script.specs.declared.writing.tree.Unmet.{Unmet}
 use Rattle.script.specs.declared.writing.tree.Walk.{Walk}
 use Rattle.script.specs.Texts.{name_text}

@@ -5,12 +5,13 @@ use Rattle.std.specs.Ordering.{nat_cmp}
 use Rattle.std.proofs.lemmas.List.{get_or-set_same, get_or-set_other, length-append, length-set}
 use Rattle.std.specs.FinMap.{FinMap, get, insert, remove, empty, entries, len, get-empty, len-empty}
 use Rattle.sfs_tree.specs.declared.counts.Counts.{Counts}
-use Rattle.sfs_tree.specs.Order.{Key, key_cmp}
-use Rattle.sfs_tree.specs.Tree.{Node, count_of, names_it}
-use Rattle.sfs_tree.specs.Buckets.{stands_in}
-use Rattle.sfs_tree.specs.Counts.{is_directory_in, holds_directory_in, count_inside, count_directories, one_if, IsCounted, IsWide, MayRise, MayFall}
-use Rattle.sfs_tree.proofs.Joined.{count-insert}
-use Rattle.sfs_tree.proofs.Counting.{count-remove, count-le-len, len_more, len_less, count_agree, count_some, came, Came, stayed}
+use Rattle.tree_laws.specs.Order.{Key, key_cmp}
+use Rattle.tree_laws.specs.Tree.{Node, count_of, names_it}
+use Rattle.tree_laws.specs.Buckets.{stands_in}
+use Rattle.sfs_tree.specs.Counts.{is_directory_in, holds_directory_in, count_inside, count_directories, IsCounted, IsWide, MayRise, MayFall}
+use Rattle.tree_laws.specs.Tree.{one_if}
+use Rattle.tree_laws.proofs.Joined.{count-insert}
+use Rattle.tree_laws.proofs.Counting.{count-remove, count-le-len, len_more, len_less, count_agree, count_some, came, Came, stayed}
 use Rattle.sfs_base.proofs.BasicNumbers.{plus_zero, same_number}
 use Rattle.sfs_base.proofs.BasicOptions.{none_some}
 

@@ -5,10 +5,10 @@ use Rattle.std.specs.Ordering.{nat_cmp}
 use Rattle.std.proofs.lemmas.Nat.{div-mul-add, mod-mul-add}
 use Rattle.std.proofs.lemmas.List.{get_or-set_same, get_or-set_other, length-set, length-replicate}
 use Rattle.std.specs.FinMap.{FinMap, get, insert, empty, get-empty}
-use Rattle.sfs_tree.specs.Tree.{Node, TreeState}
-use Rattle.sfs_tree.specs.Sound.{IsNumbered}
-use Rattle.sfs_tree.specs.Effect.{Edit, edited, with_edit}
-use Rattle.sfs_tree.specs.Build.{IsFounded}
+use Rattle.tree_laws.specs.Tree.{Node, TreeState}
+use Rattle.tree_laws.specs.Sound.{IsNumbered}
+use Rattle.tree_laws.specs.Effect.{Edit, edited, with_edit}
+use Rattle.tree_laws.specs.Build.{IsFounded}
 use Rattle.sfs_tree.proofs.StoreKept.{some_before}
 use Rattle.sfs_base.proofs.BasicOptions.{none_not_some, none_there}
 use Rattle.sfs_base.proofs.BasicLists.{zeros_read}

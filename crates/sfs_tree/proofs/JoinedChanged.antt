@@ -6,11 +6,11 @@ use Rattle.std.specs.FinMap.{empty, get, insert, remove, len, get-insert, get-re
 use borrow.Author.Tests.{eqb-true, eq-eqb, eqb-false, ltb-true, ltb-false}
 use Rattle.std.proofs.lemmas.List.{get_or_past, length-set}
 use Rattle.sfs_base.specs.Name.{bucket}
-use Rattle.sfs_tree.specs.Order.{name_cmp, Key, key_cmp}
+use Rattle.tree_laws.specs.Order.{name_cmp, Key, key_cmp}
 use Rattle.sfs_tree.specs.RowsState.{RowsState}
-use Rattle.sfs_tree.specs.Buckets.{Bucket, bucket_at, joined, IsPlaced, IsBuilt}
-use Rattle.sfs_tree.proofs.Joined.{key_cmp_total, name_cmp-IsAntisymmetric, is_equal, same_key, other_key, bucket_small, bucket_at_set, get-joined, len-joined}
-use Rattle.sfs_tree.proofs.Counting.{same_rows}
+use Rattle.tree_laws.specs.Buckets.{Bucket, bucket_at, joined, IsPlaced, IsBuilt}
+use Rattle.tree_laws.proofs.Joined.{key_cmp_total, name_cmp-IsAntisymmetric, is_equal, same_key, other_key, bucket_small, bucket_at_set, get-joined, len-joined}
+use Rattle.tree_laws.proofs.Counting.{same_rows}
 use Rattle.sfs_base.proofs.BasicOptions.{none_not_some, some_true}
 
 module _ (ms : List Bucket) (d : ℕ) (name : List ℕ) (v : Option ℕ) (new : Bucket) (h : IsPlaced ms) (lt : 8 * d + bucket name < length ms)

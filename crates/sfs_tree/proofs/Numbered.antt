@@ -6,8 +6,8 @@ use Rattle.std.specs.Cmp.{nat_cmp_total, unsigned_ties}
 use Rattle.std.specs.FinMap.{FinMap, find, get, insert, get-from_entries, get-insert, same_map, nat_cmp-IsAntisymmetric}
 use Rattle.std.proofs.lemmas.List.{get_or-set_same, get_or-set_other, get_or_past}
 use Rattle.sfs_tree.specs.declared.nodes.NodeData.{NodeData}
-use Rattle.sfs_tree.specs.Tree.{Node}
-use Rattle.sfs_tree.specs.Effect.{Edit, edited, with_edit}
+use Rattle.tree_laws.specs.Tree.{Node}
+use Rattle.tree_laws.specs.Effect.{Edit, edited, with_edit}
 use Rattle.sfs_tree.specs.Nodes.{node_of, nodes_from, numbered}
 use Rattle.sfs_base.proofs.BasicNumbers.{less_not_same}
 use Rattle.sfs_base.proofs.BasicOptions.{none_not_some, none_some}

@@ -5,17 +5,17 @@ use Rattle.std.specs.Option.{option_map_or}
 use Rattle.std.specs.Cmp.{nat_cmp_total, tied_itself}
 use Rattle.std.specs.FinMap.{FinMap, get, insert, remove, empty, len, get-empty, len-empty, get-insert, nat_cmp-IsAntisymmetric}
 use Rattle.sfs_tree.specs.declared.counts.Counts.{Counts}
-use Rattle.sfs_tree.specs.Order.{Key, key_cmp}
-use Rattle.sfs_tree.specs.Tree.{Node, is_directory_kind}
-use Rattle.sfs_tree.specs.Effect.{Edit, edited, with_edit}
+use Rattle.tree_laws.specs.Order.{Key, key_cmp}
+use Rattle.tree_laws.specs.Tree.{Node, is_directory_kind}
+use Rattle.tree_laws.specs.Effect.{Edit, edited, with_edit}
 use Rattle.sfs_tree.specs.NodesState.{NodesState}
 use Rattle.sfs_tree.specs.RowsState.{RowsState}
 use Rattle.sfs_tree.specs.StoreState.{StoreState, HasPlace}
 use Rattle.sfs_tree.specs.Counts.{is_directory_in, IsCounted, IsWide, MayRise, MayFall}
 use Rattle.sfs_tree.specs.Store.{IsStored}
-use Rattle.sfs_tree.proofs.Joined.{is_equal}
+use Rattle.tree_laws.proofs.Joined.{is_equal}
 use Rattle.sfs_tree.proofs.Counted.{IsCounted-nodes, MayRise-counted, MayFall-counted}
-use Rattle.sfs_tree.proofs.Counting.{came, Came, stayed, len_more}
+use Rattle.tree_laws.proofs.Counting.{came, Came, stayed, len_more}
 use Rattle.sfs_base.proofs.BasicOptions.{none_some, none_not_some}
 
 is_some : {X : Type 0} (o : Option X) (x : X) → o ≡ Some x → IsSome o

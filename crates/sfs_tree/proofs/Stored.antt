@@ -2,9 +2,9 @@
 use Rattle.std.proofs.Common.{◌≡◌, ℕ, zero, suc, List, [], ◌∷◌, ◌++◌, replicate, sym, ap, subst, ◌∙◌, arith}
 use Rattle.std.specs.FinMap.{empty, get-empty, len-empty}
 use Rattle.std.proofs.lemmas.List.{append-nil, append_assoc, length-append}
-use Rattle.sfs_tree.specs.Order.{name_cmp}
-use Rattle.sfs_tree.specs.Buckets.{Bucket, joined, IsPlaced, IsBuilt}
-use Rattle.sfs_tree.proofs.Joined.{IsPlaced-push, joined-push}
+use Rattle.tree_laws.specs.Order.{name_cmp}
+use Rattle.tree_laws.specs.Buckets.{Bucket, joined, IsPlaced, IsBuilt}
+use Rattle.tree_laws.proofs.Joined.{IsPlaced-push, joined-push}
 use Rattle.sfs_base.proofs.BasicOptions.{none_not_some}
 
 pub IsPlaced-new : IsPlaced []

@@ -4,9 +4,9 @@ use Rattle.std.specs.Option.{option_map_or}
 use Rattle.std.specs.Ordering.{nat_cmp}
 use Rattle.std.specs.FinMap.{FinMap, entries, get, len}
 use Rattle.sfs_tree.specs.declared.counts.Counts.{Counts}
-use Rattle.sfs_tree.specs.Order.{Key, key_cmp}
-use Rattle.sfs_tree.specs.Tree.{Node, is_directory_kind, count_of}
-use Rattle.sfs_tree.specs.Buckets.{stands_in}
+use Rattle.tree_laws.specs.Order.{Key, key_cmp}
+use Rattle.tree_laws.specs.Tree.{Node, is_directory_kind, count_of, one_if}
+use Rattle.tree_laws.specs.Buckets.{stands_in}
 
 -- whether a number is that of a directory
 abbrev pub is_directory_in : FinMap nat_cmp Node → ℕ → Bool
@@ -23,10 +23,6 @@ count_inside rows directory = count_by (stands_in directory) (entries rows)
 -- how many rows stand in a directory and name directories
 abbrev pub count_directories : FinMap key_cmp ℕ → FinMap nat_cmp Node → ℕ → ℕ
 count_directories rows nodes directory = count_by (holds_directory_in nodes directory) (entries rows)
-
--- 1 where it is so, and else 0
-abbrev pub one_if : Bool → ℕ
-one_if holds = if holds then 1 else 0
 
 -- The stored counts are those of the rows, and a directory that one row names has its holder stored.
 pub record IsCounted (rows : FinMap key_cmp ℕ) (nodes : FinMap nat_cmp Node) (counts : Counts) : Type 0 where

@@ -3,7 +3,7 @@ use Rattle.std.specs.Prelude.{ℕ, suc, List, [], ◌∷◌, Option, Some, None}
 use Rattle.std.specs.Ordering.{nat_cmp}
 use Rattle.std.specs.FinMap.{FinMap, from_entries}
 use Rattle.sfs_tree.specs.declared.nodes.NodeData.{NodeData}
-use Rattle.sfs_tree.specs.Tree.{Node}
+use Rattle.tree_laws.specs.Tree.{Node}
 
 -- a node as it is stored
 abbrev pub node_of : NodeData → Node

@@ -3,7 +3,7 @@ use Rattle.std.specs.Prelude.{ℕ, refl}
 use Rattle.std.specs.Coded.{Coded, code_by, coded×, coded_ℕ}
 use Rattle.std.specs.Ordering.{nat_cmp}
 use Rattle.std.specs.FinMap.{FinMap, code}
-use Rattle.sfs_tree.specs.Tree.{Node, node_code}
+use Rattle.tree_laws.specs.Tree.{Node, node_code}
 
 -- the nodes, and how many numbers have a place
 pub record NodesState : Type 0 where

@@ -2,7 +2,7 @@
 use Rattle.std.specs.Prelude.{ℕ, refl}
 use Rattle.std.specs.Coded.{Coded, code_by, coded×, coded_ℕ, coded_list}
 use Rattle.std.specs.FinMap.{FinMap, code}
-use Rattle.sfs_tree.specs.Order.{key_cmp}
+use Rattle.tree_laws.specs.Order.{key_cmp}
 
 -- the rows, and for how many directories there are buckets
 pub record RowsState : Type 0 where

@@ -3,8 +3,8 @@ use Rattle.std.specs.Prelude.{ℕ, ◌<◌, ◌⊎◌, IsSome, refl}
 use Rattle.std.specs.Coded.{Coded, code_by, coded×, coded_ℕ, coded_list}
 use Rattle.std.specs.Ordering.{nat_cmp}
 use Rattle.std.specs.FinMap.{FinMap, code, get}
-use Rattle.sfs_tree.specs.Order.{key_cmp}
-use Rattle.sfs_tree.specs.Tree.{Node, node_code}
+use Rattle.tree_laws.specs.Order.{key_cmp}
+use Rattle.tree_laws.specs.Tree.{Node, node_code}
 
 -- the rows, the nodes, and how many numbers have a place
 pub record StoreState : Type 0 where

@@ -3,9 +3,10 @@
 ghost use Rattle.std.specs.Prelude.{◌≡◌, ◌≢◌, ◌+◌, ◌-◌, ◌<◌, ◌≤◌, ◌^◌, ◌++◌, ℕ, List, [], ◌∷◌, None, Some, true, length, IfOk, OnOk, OnErr, slice_index, slice_set, vec_len};
 ghost use Rattle.std.specs.FinMap as finmap;
 ghost use Rattle.std.specs.Ordering.{nat_cmp};
-ghost use Rattle.sfs_tree.specs.Order.{key_cmp};
-ghost use Rattle.sfs_tree.specs.Tree.{Node, count_of};
-ghost use Rattle.sfs_tree.specs.Counts.{IsCounted, IsWide, MayRise, MayFall, one_if, is_directory_in};
+ghost use Rattle.tree_laws.specs.Order.{key_cmp};
+ghost use Rattle.tree_laws.specs.Tree.{Node, count_of};
+ghost use Rattle.sfs_tree.specs.Counts.{IsCounted, IsWide, MayRise, MayFall, is_directory_in};
+ghost use Rattle.tree_laws.specs.Tree.{one_if};
 
 use sfs_base::NoMemory;
 use std::alloc::Global;

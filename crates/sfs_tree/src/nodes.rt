@@ -1,9 +1,9 @@
 // Each node lies at its number.
 ghost use Rattle.std.specs.Prelude.{◌≡◌, ◌+◌, ◌<◌, ◌≤◌, ◌^◌, length, None, option_map, IfOk, IfSome, IfNone, IsSome, OnOk, OnErr};
 ghost use Rattle.std.specs.FinMap as finmap;
-ghost use Rattle.sfs_tree.specs.Tree.{is_directory_kind};
+ghost use Rattle.tree_laws.specs.Tree.{is_directory_kind};
 ghost use Rattle.sfs_tree.specs.Counts.{is_directory_in};
-ghost use Rattle.sfs_tree.specs.Effect.{Puts, Resizes, with_edit};
+ghost use Rattle.tree_laws.specs.Effect.{Puts, Resizes, with_edit};
 ghost use Rattle.sfs_tree.specs.Nodes.{node_of};
 
 use crate::file_bytes::{put_bytes, set_size};
@@ -32,7 +32,7 @@ impl NodeData {
 
 impl NodeData {
     ghost use Rattle.sfs_tree.specs.Nodes.{node_of};
-    ghost use Rattle.sfs_tree.specs.Effect.{Puts, Resizes, edited};
+    ghost use Rattle.tree_laws.specs.Effect.{Puts, Resizes, edited};
 
     /// An equal node.
     pub fn copy(&self) -> Result<NodeData, NoMemory>
@@ -85,7 +85,7 @@ impl Model for Nodes {
 
 impl Nodes {
     ghost use Rattle.sfs_tree.specs.Nodes.{node_of};
-    ghost use Rattle.sfs_tree.specs.Least.{IsLeast, NoneFrom};
+    ghost use Rattle.tree_laws.specs.Least.{IsLeast, NoneFrom};
 
     /// No nodes, and no places.
     pub fn new(alloc: Global) -> Self

@@ -2,10 +2,10 @@
 ghost use Rattle.std.specs.Prelude.{◌≡◌, ◌⊎◌, ◌+◌, ◌*◌, ◌<◌, ◌≤◌, ◌++◌, None, replicate, IfOk, IfSome, IfNone, IsSome, OnOk, OnErr, slice_set, vec_len};
 ghost use Rattle.std.specs.FinMap as finmap;
 ghost use Rattle.sfs_base.specs.Name.{bucket};
-ghost use Rattle.sfs_tree.specs.Tree.{bucket_rows};
-ghost use Rattle.sfs_tree.specs.Buckets.{bucket_at};
+ghost use Rattle.tree_laws.specs.Tree.{bucket_rows};
+ghost use Rattle.tree_laws.specs.Buckets.{bucket_at};
 
-use crate::NameMap;
+use tree_laws::NameMap;
 use sfs_base::{Name, NoMemory, NodeId, bucket_of};
 use std::alloc::Global;
 use std::marker::Model;
@@ -27,7 +27,7 @@ impl Model for Rows {
 
     ghost coded = { rows_code };
 
-    ghost use Rattle.sfs_tree.specs.Buckets.{joined, IsBuilt};
+    ghost use Rattle.tree_laws.specs.Buckets.{joined, IsBuilt};
 
     ghost view = { λ s. record { rows = joined s.buckets.items; places = length s.buckets.items / 8 } };
 
@@ -35,7 +35,7 @@ impl Model for Rows {
 }
 
 impl Rows {
-    ghost use Rattle.sfs_tree.specs.NameRow.{number_of};
+    ghost use Rattle.tree_laws.specs.NameRow.{number_of};
 
     /// No rows, and buckets for no directory.
     pub fn new(alloc: Global) -> Self

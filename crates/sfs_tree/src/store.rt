@@ -3,9 +3,9 @@ ghost use Rattle.std.specs.Prelude.{◌≡◌, ◌≢◌, ◌+◌, ◌*◌, ◌<
 ghost use Rattle.std.specs.FinMap as finmap;
 ghost use Rattle.std.specs.List as list;
 ghost use Rattle.sfs_base.specs.Name.{bucket};
-ghost use Rattle.sfs_tree.specs.Tree.{count_of, names_it, names_of, bucket_rows};
+ghost use Rattle.tree_laws.specs.Tree.{count_of, names_it, names_of, bucket_rows};
 
-use crate::NameMap;
+use tree_laws::NameMap;
 use crate::counts::{Counts, number_at};
 use crate::nodes::{NodeData, Nodes};
 use crate::rows::Rows;
@@ -37,8 +37,8 @@ impl Model for Store {
 
 impl Store {
     ghost use Rattle.sfs_tree.specs.Nodes.{node_of};
-    ghost use Rattle.sfs_tree.specs.Least.{IsLeast, NoneFrom};
-    ghost use Rattle.sfs_tree.specs.NameRow.{number_of};
+    ghost use Rattle.tree_laws.specs.Least.{IsLeast, NoneFrom};
+    ghost use Rattle.tree_laws.specs.NameRow.{number_of};
     ghost use Rattle.sfs_tree.specs.Counts.{is_directory_in, count_directories};
 
     /// No nodes and no rows.
@@ -176,7 +176,7 @@ impl Store {
 impl Store {
     ghost use Rattle.sfs_tree.specs.Nodes.{node_of};
     ghost use Rattle.sfs_tree.specs.Counts.{is_directory_in};
-    ghost use Rattle.sfs_tree.specs.Effect.{Puts, Resizes, with_edit};
+    ghost use Rattle.tree_laws.specs.Effect.{Puts, Resizes, with_edit};
     ghost use Rattle.sfs_tree.specs.StoreState.{HasPlace};
 
     /// Puts a node at its number.

@@ -4,7 +4,7 @@ ghost use Rattle.sfs_base.specs.Name.{bucket};
 
 use crate::nodes::NodeData;
 use crate::store::Store;
-use crate::{Call, Reply};
+use tree_laws::{Call, Reply};
 use sfs_base::{CoreId, Kind, Name, NoMemory, NodeId};
 use std::alloc::Global;
 use std::marker::Model;
@@ -30,13 +30,13 @@ pub struct Tree {
 }
 
 impl Model for Tree {
-    ghost use Rattle.sfs_tree.specs.Tree.{TreeState, tree_code};
+    ghost use Rattle.tree_laws.specs.Tree.{TreeState, tree_code};
 
     ghost Value = { TreeState };
 
     ghost coded = { tree_code };
 
-    ghost use Rattle.sfs_tree.specs.Build.{IsFounded};
+    ghost use Rattle.tree_laws.specs.Build.{IsFounded};
 
     ghost view = { λ t. record { rows = t.store.rows; nodes = t.store.nodes; first = t.first; share = t.share; made = t.made.items } };
 
@@ -45,12 +45,12 @@ impl Model for Tree {
 
 impl Tree {
     ghost use Rattle.sfs_base.specs.declared.numbers.Kind.TheVariants.{Directory};
-    ghost use Rattle.sfs_tree.specs.Tree.{row_of, is_directory, bucket_rows, made_by};
-    ghost use Rattle.sfs_tree.specs.Build.{root_alone, with_node, with_row};
-    ghost use Rattle.sfs_tree.specs.Sound.{IsSound, IsNumbered};
-    ghost use Rattle.sfs_tree.specs.Step.{IsReadable};
-    ghost use Rattle.sfs_tree.specs.Laws.{IsSoundTree};
-    ghost use Rattle.sfs_tree.specs.Verdict.{verdict, tree_after_call};
+    ghost use Rattle.tree_laws.specs.Tree.{row_of, is_directory, bucket_rows, made_by};
+    ghost use Rattle.tree_laws.specs.Build.{root_alone, with_node, with_row};
+    ghost use Rattle.tree_laws.specs.Sound.{IsSound, IsNumbered};
+    ghost use Rattle.tree_laws.specs.Step.{IsReadable};
+    ghost use Rattle.tree_laws.specs.Laws.{IsSoundTree};
+    ghost use Rattle.tree_laws.specs.Verdict.{verdict, tree_after_call};
 
     /// The root alone. The first new node has the number `first`, 1 to 16,384; each of the cores may
     /// make `share` nodes, together at most 65,536.
@@ -152,8 +152,8 @@ fn copied(numbers: &Vec<u32>) -> Result<Vec<u32>, NoMemory>
 }
 
 impl Tree {
-    ghost use Rattle.sfs_tree.specs.Sound.{IsSound};
-    ghost use Rattle.sfs_tree.specs.Step.{IsReadable, IsStep};
+    ghost use Rattle.tree_laws.specs.Sound.{IsSound};
+    ghost use Rattle.tree_laws.specs.Step.{IsReadable, IsStep};
 
     // Does the call, by its kind.
     fn run(&mut self, core: CoreId, call: &Call) -> Result<Reply, NoMemory>

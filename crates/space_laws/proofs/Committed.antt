@@ -10,12 +10,12 @@ use Rattle.sfs_base.proofs.BasicTruth.{true_not_false, not_true}
 use Rattle.sfs_image.specs.Part.{Part}
 use Rattle.sfs_image.specs.Seen.{SeenInodes, PLACES}
 use Rattle.sfs_image.specs.Super.{Layout, data_start}
-use Rattle.sfs_tree.specs.declared.history.Entry.{Entry}
-use Rattle.sfs_tree.specs.Tree.{TreeState}
+use Rattle.tree_laws.specs.declared.history.Entry.{Entry}
+use Rattle.tree_laws.specs.Tree.{TreeState}
 use Rattle.fmt_journal.specs.declared.tx.Tx.{Tx}
-use Rattle.image_tree.specs.Image.{inodes_shown}
-use Rattle.image_tree.specs.Renamed.{Numbering}
-use Rattle.image_tree.proofs.Numbers.{granted}
+use Rattle.image_laws.specs.Image.{inodes_shown}
+use Rattle.image_laws.specs.Renamed.{Numbering}
+use Rattle.image_laws.proofs.Numbers.{granted}
 use Rattle.block_map.specs.Kept.{pointer_kept}
 use Rattle.block_map.specs.Remap.{gives_up, fresh_for, pointer_remapped}
 use Rattle.block_map.proofs.Left.{remapped_pointers_stand}
@@ -40,13 +40,13 @@ use Rattle.commit_laws.proofs.OwnInodes.{mapped_is_in, ascending_is_in}
 use Rattle.commit_laws.proofs.PlanShown.{IsBuiltNode, node_built}
 use Rattle.commit_laws.proofs.Ranked.{nodes_are_built_by_rank}
 use Rattle.commit_laws.proofs.SeatsOfPlan.{there_is_in, in_is_there, in_mapped, in_kept, in_is_among, among_is_in, ascending_once, after_had, after_none, seat_comes}
-use Rattle.flush_core.specs.Closure.{Flush}
-use Rattle.flush_core.specs.Cut.{Cut, tree_at_cut}
-use Rattle.flush_commits.specs.Laws.{AreEntriesAfter}
-use Rattle.flush_commits.specs.Planned.{IsPlannedFsync}
-use Rattle.flush_commits.specs.Ready.{KeepsEntries}
-use Rattle.flush_commits.proofs.Clean.{over_parts}
-use Rattle.flush_commits.proofs.Later.{built_is_kept, entries_after}
+use Rattle.cut_laws.specs.Closure.{Flush}
+use Rattle.cut_laws.specs.Cut.{Cut, tree_at_cut}
+use Rattle.flush_laws.specs.Laws.{AreEntriesAfter}
+use Rattle.flush_laws.specs.Planned.{IsPlannedFsync}
+use Rattle.flush_laws.specs.Ready.{KeepsEntries}
+use Rattle.flush_laws.proofs.Clean.{over_parts}
+use Rattle.flush_laws.proofs.Later.{built_is_kept, entries_after}
 use Rattle.space_laws.specs.Laws.{CommitsKeepMaps}
 use Rattle.space_laws.specs.Map.{WasUsed}
 use Rattle.space_laws.proofs.Ended.{HoldsLater, ends_right}

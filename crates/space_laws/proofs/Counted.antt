@@ -12,13 +12,13 @@ use Rattle.sfs_base.proofs.BasicTruth.{not_false}
 use Rattle.sfs_image.specs.Part.{Part}
 use Rattle.sfs_image.specs.Seen.{SeenInodes}
 use Rattle.sfs_image.specs.Super.{Layout, data_start}
-use Rattle.sfs_tree.specs.declared.history.Entry.{Entry}
-use Rattle.sfs_tree.specs.Tree.{TreeState, kind_of}
-use Rattle.image_tree.specs.Image.{inodes_shown}
-use Rattle.image_tree.specs.Need.{rank}
-use Rattle.image_tree.specs.Renamed.{Numbering}
-use Rattle.image_tree.proofs.Ranks.{rank_more}
-use Rattle.image_tree.proofs.Standing.{not_used}
+use Rattle.tree_laws.specs.declared.history.Entry.{Entry}
+use Rattle.tree_laws.specs.Tree.{TreeState, kind_of}
+use Rattle.image_laws.specs.Image.{inodes_shown}
+use Rattle.image_laws.specs.Need.{rank}
+use Rattle.image_laws.specs.Renamed.{Numbering}
+use Rattle.image_laws.proofs.Ranks.{rank_more}
+use Rattle.image_laws.proofs.Standing.{not_used}
 use Rattle.space_map.specs.Pool.{Pool, status_of, is_free, free_count}
 use Rattle.space_map.specs.declared.status.Status.{Status}
 use Rattle.space_map.specs.declared.status.Status.TheVariants.{Free, Taken, Granted}
@@ -27,11 +27,11 @@ use Rattle.disk_change.specs.GivenUp.{IsLeftByGone, entry_number}
 use Rattle.disk_change.specs.declared.old.OldEntry.{OldEntry}
 use Rattle.commit_laws.proofs.OwnInodes.{mapped_is_in}
 use Rattle.commit_laws.proofs.SeatsOfPlan.{in_mapped}
-use Rattle.flush_core.specs.Closure.{Flush}
-use Rattle.flush_core.specs.Cut.{Cut, tree_at_cut}
-use Rattle.flush_commits.specs.Ready.{IsBetweenCommits, KeepsEntries}
-use Rattle.commit_turns.specs.Need.{is_unused, is_held_in}
-use Rattle.commit_turns.proofs.ListedNeeds.{none_counted, rank_agrees, held_are_found}
+use Rattle.cut_laws.specs.Closure.{Flush}
+use Rattle.cut_laws.specs.Cut.{Cut, tree_at_cut}
+use Rattle.flush_laws.specs.Ready.{IsBetweenCommits, KeepsEntries}
+use Rattle.turn_laws.specs.Need.{is_unused, is_held_in}
+use Rattle.turn_laws.proofs.ListedNeeds.{none_counted, rank_agrees, held_are_found}
 use Rattle.space_laws.specs.Laws.{MapsCountFree}
 use Rattle.space_laws.specs.Map.{IsRowOf}
 use Rattle.space_laws.proofs.Holders.{low_number, shown_at}

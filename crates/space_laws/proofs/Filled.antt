@@ -24,13 +24,13 @@ use Rattle.sfs_image.specs.Super.{Layout}
 use Rattle.sfs_image.proofs.BytesLaws.{zeros_from_none, none_from_map, zeros-byte, option_or-None}
 use Rattle.sfs_image.proofs.RuleFacts.{slots_say}
 use Rattle.sfs_image.proofs.SlotBlockLaws.{slot_in-sound}
-use Rattle.sfs_tree.specs.declared.history.Entry.{Entry}
-use Rattle.sfs_tree.specs.Tree.{TreeState}
+use Rattle.tree_laws.specs.declared.history.Entry.{Entry}
+use Rattle.tree_laws.specs.Tree.{TreeState}
 use Rattle.absorb.specs.declared.nets.NetRow.{NetRow}
-use Rattle.image_tree.specs.Image.{inodes_shown}
-use Rattle.image_tree.specs.Keeps.{MayStand, KeepsRules}
-use Rattle.image_tree.specs.Renamed.{Numbering}
-use Rattle.image_tree.proofs.Standing.{keeps as standing_keeps}
+use Rattle.image_laws.specs.Image.{inodes_shown}
+use Rattle.image_laws.specs.Keeps.{MayStand, KeepsRules}
+use Rattle.image_laws.specs.Renamed.{Numbering}
+use Rattle.image_laws.proofs.Standing.{keeps as standing_keeps}
 use Rattle.block_map.specs.Kept.{Kept, kept_of, kept_slots}
 use Rattle.space_map.specs.Space.{GrantedNumbers}
 use Rattle.disk_change.specs.AllBuilt.{numbers_with, built_by, nodes_with_grant}
@@ -57,11 +57,11 @@ use Rattle.commit_laws.proofs.PartsMade.{in_flat}
 use Rattle.commit_laws.proofs.Ranked.{nodes_are_built_by_rank}
 use Rattle.commit_laws.proofs.SeatsOfPlan.{in_is_there, there_is_in, in_mapped, in_is_among, among_is_in}
 use Rattle.commit_laws.proofs.Shown.{found_is_in}
-use Rattle.flush_core.specs.Closure.{Flush}
-use Rattle.flush_core.specs.Cut.{Cut, tree_at_cut}
-use Rattle.cut_trees.specs.Next.{IsStorableAtCut}
-use Rattle.cut_trees.proofs.Next.{cut_trees_are_storable}
-use Rattle.flush_commits.specs.Ready.{IsBetweenCommits, KeepsEntries}
+use Rattle.cut_laws.specs.Closure.{Flush}
+use Rattle.cut_laws.specs.Cut.{Cut, tree_at_cut}
+use Rattle.raise_laws.specs.Next.{IsStorableAtCut}
+use Rattle.raise_laws.proofs.Next.{cut_trees_are_storable}
+use Rattle.flush_laws.specs.Ready.{IsBetweenCommits, KeepsEntries}
 use Rattle.space_laws.specs.Laws.{BringsNames, PlansFillSlots, GrantsServePlans}
 use Rattle.space_laws.proofs.Asked.{enters_counted}
 use Rattle.space_laws.proofs.Holders.{in_front}

@@ -7,10 +7,10 @@ use Rattle.sfs_base.proofs.BasicOptions.{some_same}
 use Rattle.sfs_image.specs.Part.{Part, seen_of}
 use Rattle.sfs_image.specs.Seen.{PLACES, FILE_BLOCKS}
 use Rattle.sfs_image.specs.Super.{Layout}
-use Rattle.sfs_tree.specs.declared.history.Entry.{Entry}
-use Rattle.sfs_tree.specs.Tree.{TreeState}
-use Rattle.image_tree.specs.Need.{Rewrite, pointer_after, rewrites_table, table_has_pointer}
-use Rattle.image_tree.specs.Renamed.{Numbering}
+use Rattle.tree_laws.specs.declared.history.Entry.{Entry}
+use Rattle.tree_laws.specs.Tree.{TreeState}
+use Rattle.image_laws.specs.Need.{Rewrite, pointer_after, rewrites_table, table_has_pointer}
+use Rattle.image_laws.specs.Renamed.{Numbering}
 use Rattle.block_map.specs.Kept.{Kept, pointer_kept}
 use Rattle.block_map.specs.Remap.{gives_up, fresh_for}
 use Rattle.disk_change.specs.Lists.{item_with}
@@ -19,9 +19,9 @@ use Rattle.disk_change.specs.declared.old.OldEntry.{OldEntry}
 use Rattle.commit_laws.proofs.Granted.{is_in, in_dropped}
 use Rattle.commit_laws.proofs.KeptShown.{kept_parts_show}
 use Rattle.commit_laws.proofs.KnownDirectories.{own_item}
-use Rattle.flush_core.specs.Closure.{Flush}
-use Rattle.flush_core.specs.Cut.{Cut}
-use Rattle.flush_commits.specs.Ready.{IsBetweenCommits, KeepsEntries}
+use Rattle.cut_laws.specs.Closure.{Flush}
+use Rattle.cut_laws.specs.Cut.{Cut}
+use Rattle.flush_laws.specs.Ready.{IsBetweenCommits, KeepsEntries}
 
 -- the block that an entry has at a place
 abbrev pub pointer_in : OldEntry → ℕ → ℕ

@@ -9,13 +9,13 @@ use Rattle.sfs_base.proofs.BasicOptions.{some_same}
 use Rattle.sfs_image.specs.Part.{Part, seen_of}
 use Rattle.sfs_image.specs.Seen.{PLACES}
 use Rattle.sfs_image.specs.Super.{Layout, slot_blocks, record_blocks, data_start}
-use Rattle.sfs_tree.specs.declared.history.Entry.{Entry}
-use Rattle.sfs_tree.specs.Tree.{TreeState}
-use Rattle.image_tree.specs.Image.{inodes_shown}
-use Rattle.image_tree.specs.Need.{GrantServes}
-use Rattle.image_tree.specs.Numbers.{InodeGrantServes}
-use Rattle.image_tree.specs.Renamed.{Numbering}
-use Rattle.image_tree.specs.Stands.{IsUnused}
+use Rattle.tree_laws.specs.declared.history.Entry.{Entry}
+use Rattle.tree_laws.specs.Tree.{TreeState}
+use Rattle.image_laws.specs.Image.{inodes_shown}
+use Rattle.image_laws.specs.Need.{GrantServes}
+use Rattle.image_laws.specs.Numbers.{InodeGrantServes}
+use Rattle.image_laws.specs.Renamed.{Numbering}
+use Rattle.image_laws.specs.Stands.{IsUnused}
 use Rattle.block_map.specs.Kept.{kept_of, pointer_kept}
 use Rattle.space_map.specs.Pool.{status_of}
 use Rattle.space_map.specs.Space.{Space, GrantedNumbers}
@@ -28,9 +28,9 @@ use Rattle.commit_laws.specs.CommitOfPlan.{CommitPlan, change_planned}
 use Rattle.commit_laws.proofs.KeptShown.{kept_parts_show}
 use Rattle.commit_laws.proofs.Ranked.{needs_are_those}
 use Rattle.commit_laws.proofs.SeatsOfPlan.{in_mapped}
-use Rattle.flush_core.specs.Closure.{Flush}
-use Rattle.flush_core.specs.Cut.{Cut}
-use Rattle.flush_commits.specs.Ready.{IsBetweenCommits, KeepsEntries}
+use Rattle.cut_laws.specs.Closure.{Flush}
+use Rattle.cut_laws.specs.Cut.{Cut}
+use Rattle.flush_laws.specs.Ready.{IsBetweenCommits, KeepsEntries}
 use Rattle.space_laws.specs.Laws.{GrantsServe}
 use Rattle.space_laws.specs.Map.{IsMapOf, WasGranted}
 use Rattle.space_laws.proofs.Asked.{all_asked, enters_counted}

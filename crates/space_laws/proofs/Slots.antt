@@ -11,9 +11,9 @@ use Rattle.sfs_base.proofs.BasicLists.{same_bytes}
 use Rattle.sfs_base.proofs.BasicTruth.{true_not_false}
 use Rattle.sfs_image.specs.Slot.{Row, IsSlot}
 use Rattle.sfs_image.specs.SlotBlock.{AreSlots}
-use Rattle.sfs_tree.specs.Tree.{kind_if}
+use Rattle.tree_laws.specs.Tree.{kind_if}
 use Rattle.absorb.specs.declared.nets.NetRow.{NetRow}
-use Rattle.image_tree.specs.Commit.{row_in_net}
+use Rattle.image_laws.specs.Commit.{row_in_net}
 use Rattle.disk_change.specs.Directory.{is_among, row_brought, slot_moved, block_moved, row_new, rows_new, fill_front, rows_left, old_blocks_after, rows_behind, empty_block, block_added, blocks_for, slot_blocks_after}
 use Rattle.disk_change.specs.Numbered.{slot_numbered, block_numbered, row_with_inode}
 use Rattle.disk_change.proofs.Blocks.{length-fill}

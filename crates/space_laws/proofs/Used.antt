@@ -10,10 +10,10 @@ use Rattle.sfs_base.proofs.BasicOptions.{none_some, some_same}
 use Rattle.sfs_base.proofs.BasicTruth.{or_first, or_second}
 use Rattle.sfs_image.specs.Part.{Part}
 use Rattle.sfs_image.specs.Seen.{SeenInodes, FILE_BLOCKS}
-use Rattle.sfs_tree.specs.Tree.{TreeState}
+use Rattle.tree_laws.specs.Tree.{TreeState}
 use Rattle.fmt_journal.specs.declared.tx.TxBlock.{TxBlock}
-use Rattle.image_tree.specs.Numbers.{grant_for}
-use Rattle.image_tree.specs.Renamed.{Numbering}
+use Rattle.image_laws.specs.Numbers.{grant_for}
+use Rattle.image_laws.specs.Renamed.{Numbering}
 use Rattle.block_map.specs.Kept.{pointer_kept}
 use Rattle.block_map.specs.RemapLaws.{IsHeld}
 use Rattle.block_map.specs.declared.changed.ChangedBlock.{ChangedBlock}

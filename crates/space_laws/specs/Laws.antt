@@ -5,12 +5,12 @@ use Rattle.sfs_image.specs.Part.{Part}
 use Rattle.sfs_image.specs.Slot.{Row}
 use Rattle.sfs_image.specs.SlotBlock.{AreSlots}
 use Rattle.sfs_image.specs.Super.{Layout, data_start}
-use Rattle.sfs_tree.specs.declared.history.Entry.{Entry}
-use Rattle.sfs_tree.specs.Tree.{TreeState}
+use Rattle.tree_laws.specs.declared.history.Entry.{Entry}
+use Rattle.tree_laws.specs.Tree.{TreeState}
 use Rattle.fmt_journal.specs.declared.tx.Tx.{Tx}
 use Rattle.absorb.specs.declared.nets.NetRow.{NetRow}
-use Rattle.image_tree.specs.Image.{inodes_shown}
-use Rattle.image_tree.specs.Renamed.{Numbering}
+use Rattle.image_laws.specs.Image.{inodes_shown}
+use Rattle.image_laws.specs.Renamed.{Numbering}
 use Rattle.space_map.specs.Pool.{status_of, first_status, free_count}
 use Rattle.space_map.specs.Space.{Space, GrantedNumbers}
 use Rattle.space_map.specs.declared.status.Status.TheVariants.{Granted}
@@ -20,12 +20,12 @@ use Rattle.disk_change.specs.GivenUp.{IsLeftByGone, entry_number}
 use Rattle.disk_change.specs.declared.directory_net.DirectoryNet.{DirectoryNet}
 use Rattle.disk_change.specs.declared.old.OldEntry.{OldEntry}
 use Rattle.commit_laws.specs.CommitOfPlan.{CommitPlan, change_planned, ServesPlan}
-use Rattle.flush_core.specs.Closure.{Flush}
-use Rattle.flush_core.specs.Cut.{Cut}
-use Rattle.flush_commits.specs.Laws.{AreEntriesAfter}
-use Rattle.flush_commits.specs.Planned.{IsPlanAt, GrantsPlan, IsPlannedFsync}
-use Rattle.flush_commits.specs.Ready.{IsBetweenCommits, KeepsEntries}
-use Rattle.commit_turns.specs.Need.{ImageState, free_inodes, free_blocks}
+use Rattle.cut_laws.specs.Closure.{Flush}
+use Rattle.cut_laws.specs.Cut.{Cut}
+use Rattle.flush_laws.specs.Laws.{AreEntriesAfter}
+use Rattle.flush_laws.specs.Planned.{IsPlanAt, GrantsPlan, IsPlannedFsync}
+use Rattle.flush_laws.specs.Ready.{IsBetweenCommits, KeepsEntries}
+use Rattle.turn_laws.specs.Need.{ImageState, free_inodes, free_blocks}
 use Rattle.space_laws.specs.Map.{IsMapOf, WasGranted, WasReturned, WasUsed}
 
 -- A map is right that begins with what nodes have as taken, and with all else free.

@@ -4,14 +4,14 @@ use Rattle.std.proofs.lemmas.Bool.{cases_Bool, both_ways, not-true}
 use Rattle.std.specs.Prelude.{◌↔◌, IsTrue, if◌then◌else◌}
 use Rattle.sfs_base.specs.declared.numbers.CoreId.{CoreId}
 use Rattle.sfs_base.specs.declared.numbers.Stamp.{Stamp}
-use Rattle.sfs_tree.specs.Tree.{TreeState}
-use Rattle.sfs_tree.specs.History.{tree_after_entry, flushes, IsFsyncReply, is_ok_reply, IsDue, MayCome, IsLegalFrom}
-use Rattle.sfs_tree.specs.Verdict.{verdict, tree_after_call}
-use Rattle.sfs_tree.specs.declared.call.Call.{Call}
-use Rattle.sfs_tree.specs.declared.call.Call.TheVariants as call
-use Rattle.sfs_tree.specs.declared.reply.Reply.{Reply}
-use Rattle.sfs_tree.specs.declared.reply.Reply.TheVariants as reply
-use Rattle.sfs_tree.specs.declared.history.Entry.{Entry}
+use Rattle.tree_laws.specs.Tree.{TreeState}
+use Rattle.tree_laws.specs.History.{tree_after_entry, flushes, IsFsyncReply, is_ok_reply, IsDue, MayCome, IsLegalFrom}
+use Rattle.tree_laws.specs.Verdict.{verdict, tree_after_call}
+use Rattle.tree_laws.specs.declared.call.Call.{Call}
+use Rattle.tree_laws.specs.declared.call.Call.TheVariants as call
+use Rattle.tree_laws.specs.declared.reply.Reply.{Reply}
+use Rattle.tree_laws.specs.declared.reply.Reply.TheVariants as reply
+use Rattle.tree_laws.specs.declared.history.Entry.{Entry}
 use Rattle.stamp_table.specs.Answered.{asks_fsync, is_refusal, is_want, is_served, without_answer, unanswered, IsWellAnswered, AreWellAnswered, waits_for_answer}
 use Rattle.stamp_table.specs.Table.{with_answer}
 

@@ -7,7 +7,7 @@ use lib.ListN.{get_elem?}
 use mathlib.Core.Option.{some, some-injective, some-ne-none}
 use Rattle.atomic_table.specs.Table.{Splits, opening}
 use Rattle.atomic_table.specs.Seated.{TableId}
-use Rattle.sfs_tree.specs.Tree.{TreeState}
+use Rattle.tree_laws.specs.Tree.{TreeState}
 use Rattle.stamp_table.specs.declared.event.Event.{Event}
 use Rattle.stamp_table.specs.declared.view.View.{View}
 use Rattle.stamp_table.specs.Rule.{Kept}

@@ -6,13 +6,13 @@ use Rattle.std.proofs.lemmas.List.{length-map}
 use Rattle.std.specs.declared.alloc.Global.{Global}
 use Rattle.atomic_table.specs.Table.{Joins, Final, Seen}
 use Rattle.atomic_table.specs.declared.shared.Seat.{Seat}
-use Rattle.sfs_tree.specs.Tree.{TreeState}
-use Rattle.sfs_tree.specs.History.{tree_after_entry, IsLegal, IsLegalFrom}
-use Rattle.sfs_tree.specs.Merged.{is_core, MakeTheHistory}
-use Rattle.sfs_tree.specs.declared.history.Entry.{Entry}
-use Rattle.sfs_tree.proofs.Cores.{cores_after}
-use Rattle.sfs_tree.proofs.OwnEntries.{own_entries_are_cores}
-use Rattle.sfs_tree.proofs.CoreLists.{cores_make_the_history}
+use Rattle.tree_laws.specs.Tree.{TreeState}
+use Rattle.tree_laws.specs.History.{tree_after_entry, IsLegal, IsLegalFrom}
+use Rattle.tree_laws.specs.Merged.{is_core, MakeTheHistory}
+use Rattle.tree_laws.specs.declared.history.Entry.{Entry}
+use Rattle.tree_laws.proofs.Cores.{cores_after}
+use Rattle.tree_laws.proofs.OwnEntries.{own_entries_are_cores}
+use Rattle.tree_laws.proofs.CoreLists.{cores_make_the_history}
 use Rattle.stamp_table.specs.declared.event.Event.{Event}
 use Rattle.stamp_table.specs.declared.event.Event.TheVariants.{Called, Told}
 use Rattle.stamp_table.specs.declared.view.View.{View}

@@ -3,8 +3,8 @@ use Rattle.std.proofs.Common.{◌≡◌, ℕ, ◌<◌, ◌==◌, true, false, Li
 use Rattle.std.specs.Prelude.{if◌then◌else◌}
 use Rattle.std.proofs.lemmas.Bool.{cases_Bool, eqb-true}
 use Rattle.sfs_base.specs.declared.numbers.CoreId.{CoreId}
-use Rattle.sfs_tree.specs.Merged.{is_core}
-use Rattle.sfs_tree.specs.declared.history.Entry.{Entry}
+use Rattle.tree_laws.specs.Merged.{is_core}
+use Rattle.tree_laws.specs.declared.history.Entry.{Entry}
 use Rattle.stamp_table.specs.Answered.{unanswered, IsWellAnswered, AreWellAnswered}
 use Rattle.stamp_table.proofs.Answered.{same_call}
 

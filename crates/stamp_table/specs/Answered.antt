@@ -1,11 +1,11 @@
 -- Answers of fsyncs: a core adds one to an entry after its stamp, and the history of the table does not have it.
 use Rattle.std.specs.Prelude.{◌≡◌, ◌↔◌, Bool, true, false, not, ◌&&◌, List, [], ◌∷◌, None, map, IsSome, IsTrue, if◌then◌else◌}
-use Rattle.sfs_tree.specs.declared.call.Call.{Call}
-use Rattle.sfs_tree.specs.declared.call.Call.TheVariants as call
-use Rattle.sfs_tree.specs.declared.reply.Reply.{Reply}
-use Rattle.sfs_tree.specs.declared.reply.Reply.TheVariants as reply
-use Rattle.sfs_tree.specs.declared.history.Entry.{Entry}
-use Rattle.sfs_tree.specs.History.{IsFsyncReply, is_ok_reply}
+use Rattle.tree_laws.specs.declared.call.Call.{Call}
+use Rattle.tree_laws.specs.declared.call.Call.TheVariants as call
+use Rattle.tree_laws.specs.declared.reply.Reply.{Reply}
+use Rattle.tree_laws.specs.declared.reply.Reply.TheVariants as reply
+use Rattle.tree_laws.specs.declared.history.Entry.{Entry}
+use Rattle.tree_laws.specs.History.{IsFsyncReply, is_ok_reply}
 use Rattle.stamp_table.specs.declared.event.Event.{Event}
 use Rattle.stamp_table.specs.Events.{calls_in}
 

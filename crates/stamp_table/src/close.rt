@@ -2,8 +2,8 @@
 ghost use Rattle.std.specs.Prelude.{◌≡◌, ◌<◌, ◌≤◌, ℕ, [], true, length, map, filter, slice_get, Some};
 ghost use Rattle.std.specs.Vec.{vec_capacity};
 ghost use Rattle.atomic_table.specs.Seated.{TableId};
-ghost use Rattle.sfs_tree.specs.History.{IsLegal};
-ghost use Rattle.sfs_tree.specs.Merged.{is_core};
+ghost use Rattle.tree_laws.specs.History.{IsLegal};
+ghost use Rattle.tree_laws.specs.Merged.{is_core};
 ghost use Rattle.std.specs.Mem.Slots.{IsFull};
 ghost use Rattle.std.specs.List.{AllZip};
 ghost use Rattle.stamp_table.specs.Answered.{AreCallsOf};
@@ -15,7 +15,8 @@ use crate::meaning::Gather;
 use crate::shared::CoreSeat;
 use crate::{Core, Event, Law, Meaning, Shared, View};
 use atomic_table::{Closed, Table};
-use sfs_tree::{Entry, History, Tree};
+use sfs_tree::Tree;
+use tree_laws::{Entry, History};
 use std::alloc::Global;
 
 impl<C: Drop, X> Core<C, X> {

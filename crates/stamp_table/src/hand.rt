@@ -1,6 +1,6 @@
 // A core, and the cells that it holds.
 ghost use Rattle.std.specs.Prelude.{◌≡◌, ◌<◌, ◌≤◌, ◌^◌, ◌++◌, ◌∷◌, ◌↔◌, [], length, reverse, OnOk, Some, None, IsSome, IsTrue, if◌then◌else◌};
-ghost use Rattle.sfs_tree.specs.History.{IsFsyncReply, is_ok_reply};
+ghost use Rattle.tree_laws.specs.History.{IsFsyncReply, is_ok_reply};
 ghost use Rattle.stamp_table.specs.Answered.{waits_for_answer};
 ghost use Rattle.stamp_table.specs.declared.held.HeldCell.{HeldCell};
 ghost use Rattle.stamp_table.specs.Hand.{places_of};
@@ -10,7 +10,7 @@ ghost use Rattle.stamp_table.specs.Table.{HoldsMore, HoldsAll, MayCall, MayTell,
 use crate::shared::CoreSeat;
 use crate::{HeldCell, Meaning, Shared};
 use sfs_base::{CoreId, NoMemory, Stamp};
-use sfs_tree::{Call, Entry, Reply};
+use tree_laws::{Call, Entry, Reply};
 use std::marker::{Brand, Model};
 use std::sync::Wait;
 
@@ -47,7 +47,7 @@ impl<C, X> Model for Core<C, X> {
     ghost use Rattle.std.specs.Vec.{vec_capacity, vec_len};
     ghost use Rattle.stamp_table.specs.Hand.{Hand, spare_of, IsCore, LeadsWell, WaitsWell};
     ghost use Rattle.stamp_table.specs.Codes.{hand_code};
-    ghost use Rattle.sfs_tree.specs.contracts.history.Entry as entry;
+    ghost use Rattle.tree_laws.specs.contracts.history.Entry as entry;
 
     ghost Value = { Hand C X };
 

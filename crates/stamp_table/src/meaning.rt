@@ -1,16 +1,17 @@
 // What cells stand for, and what each step on a table tells. The types are for the proofs alone.
 ghost use Rattle.std.specs.Prelude.{◌≡◌, ℕ, List, Option, Some, None};
-ghost use Rattle.sfs_tree.specs.Tree.{TreeState};
+ghost use Rattle.tree_laws.specs.Tree.{TreeState};
 ghost use Rattle.stamp_table.specs.declared.event.Event.{Event};
 ghost use Rattle.stamp_table.specs.declared.event.Event.TheVariants.{Called};
-ghost use Rattle.sfs_tree.specs.declared.history.Entry.{Entry};
+ghost use Rattle.tree_laws.specs.declared.history.Entry.{Entry};
 ghost use Rattle.stamp_table.specs.Rule.{Kept, lock_word};
 ghost use Rattle.stamp_table.specs.Steps.{gatherer, one_more, newcomer, gathered, spent, MayTake, Gave, Adds};
 ghost use Rattle.stamp_table.specs.Events.{event_core, is_call, IsLawful, stands_for, told_by, NO_ENTRY, NO_TREE};
 
 use crate::{Event, View};
 use atomic_table::{Join, Play, Split, TableRule};
-use sfs_tree::{Entry, Tree};
+use sfs_tree::Tree;
+use tree_laws::Entry;
 use std::marker::{Brand, PhantomData};
 
 /// What the cells of a table stand for, and what its cores may tell.

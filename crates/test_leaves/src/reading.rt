@@ -1,7 +1,7 @@
 // Trees read from an image of 1,024 blocks with 64 inodes and 2 cores. The record of inode i stands
 // at byte 86,016 + 512 * i of the disk, and block 29, the first of the data area, at 118,784.
 ghost use Rattle.std.specs.Prelude.{IfOk};
-ghost use Rattle.sfs_tree.specs.Sound.{IsSound};
+ghost use Rattle.tree_laws.specs.Sound.{IsSound};
 
 use crate::making::{Edit, assert_only_read, edit, made_over};
 use dev_fake::Fuse;

@@ -1,6 +1,6 @@
 // Recovering a disk of 40 blocks with 64 inodes and 2 cores, with two open slots and an orphan. Its data area begins at block 29.
 ghost use Rattle.std.specs.Prelude.{IfOk};
-ghost use Rattle.sfs_tree.specs.Laws.{IsSoundTree};
+ghost use Rattle.tree_laws.specs.Laws.{IsSoundTree};
 
 use crate::making::{Edit, assert_only_read, edit, made_over};
 use fmt_super::Layout;

@@ -1,7 +1,7 @@
 // Cores that count in cells of one table, each in a thread of its own.
 ghost use Rattle.std.specs.Prelude.{◌≡◌, ◌<◌, ◌≤◌, ℕ, All, length, slice_index_or};
 ghost use Rattle.stamp_table.specs.Table.{IsBetweenCalls, IsSameCore};
-ghost use Rattle.sfs_tree.specs.Sound.{IsSound};
+ghost use Rattle.tree_laws.specs.Sound.{IsSound};
 
 use sfs_base::{NoMemory, NodeId};
 use sfs_tree::{Call, Entry, History, Reply, Tree};

@@ -1,7 +1,7 @@
 // Calls of the tree on a table, by one core and by several at once: what each answers is what the plain tree answers where it stands in
 // the history.
 ghost use Rattle.std.specs.Prelude.{◌≡◌, ◌+◌, ◌<◌, length};
-ghost use Rattle.sfs_tree.specs.Sound.{IsSound};
+ghost use Rattle.tree_laws.specs.Sound.{IsSound};
 ghost use Rattle.stamp_table.specs.Table.{IsBetweenCalls, IsSameCore};
 ghost use Rattle.begun_tables.specs.Begun.{BeginsTable, IsCallTable};
 

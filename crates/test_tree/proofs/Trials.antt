@@ -1,11 +1,11 @@
 -- A trial stays a sound tree of two cores.
 use Rattle.std.proofs.Common.{◌≡◌, ◌<◌, ℕ, ◌+◌, List, length, Option, Some, None, refl, sym, subst, ◌∙◌}
-use Rattle.sfs_tree.specs.declared.call.Call.{Call}
-use Rattle.sfs_tree.specs.Tree.{TreeState}
-use Rattle.sfs_tree.specs.Verdict.{tree_after_call}
-use Rattle.sfs_tree.specs.Laws.{IsSoundTree}
-use Rattle.sfs_tree.proofs.Cores.{cores_after}
-use Rattle.sfs_tree.proofs.SoundTrees.{calls_keep_sound}
+use Rattle.tree_laws.specs.declared.call.Call.{Call}
+use Rattle.tree_laws.specs.Tree.{TreeState}
+use Rattle.tree_laws.specs.Verdict.{tree_after_call}
+use Rattle.tree_laws.specs.Laws.{IsSoundTree}
+use Rattle.tree_laws.proofs.Cores.{cores_after}
+use Rattle.tree_laws.proofs.SoundTrees.{calls_keep_sound}
 
 -- this is a sound tree of two cores
 abbrev pub IsTrial : TreeState → Type 0

@@ -1,6 +1,6 @@
 // Calls on a tree, and what they are answered, as texts that were worked out by hand.
 ghost use Rattle.std.specs.Prelude.{◌<◌, ◌≤◌, IfOk};
-ghost use Rattle.sfs_tree.specs.Step.{IsReadable};
+ghost use Rattle.tree_laws.specs.Step.{IsReadable};
 
 use call_log::foresee;
 use script::{text, tree_text};
@@ -44,7 +44,7 @@ impl Model for Trial {
 
     ghost Value = { ℕ };
 
-    ghost use Rattle.sfs_tree.specs.Laws.{IsSoundTree};
+    ghost use Rattle.tree_laws.specs.Laws.{IsSoundTree};
 
     ghost view = { λ trial. length trial.tree.made };
 

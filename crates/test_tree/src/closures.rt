@@ -1,8 +1,8 @@
 // The closure of an fsync from the logs of its calls, beside the machine of calls and commits: the members are the nodes whose cuts
 // the machine raises.
 ghost use Rattle.std.specs.Prelude.{◌≡◌, length};
-ghost use Rattle.sfs_tree.specs.Step.{IsReadable};
-ghost use Rattle.flush_core.specs.Machine.{MachineState, MayBeTold};
+ghost use Rattle.tree_laws.specs.Step.{IsReadable};
+ghost use Rattle.cut_laws.specs.Machine.{MachineState, MayBeTold};
 
 use crate::calls::{Trial, root_alone};
 use crate::machine::{Run, begun_at};

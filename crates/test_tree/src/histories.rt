@@ -1,6 +1,6 @@
 // Histories and their cursors.
 ghost use Rattle.std.specs.Prelude.{◌≡◌, IfOk};
-ghost use Rattle.sfs_tree.specs.Merged.{entries_in, EachOnce};
+ghost use Rattle.tree_laws.specs.Merged.{entries_in, EachOnce};
 
 use sfs_base::{CoreId, NodeId, Stamp};
 use sfs_tree::{Call, Cursor, Entry, History, Reply, Turn, TurnAct, Turns};

@@ -1,6 +1,6 @@
 // The machine of calls and commits: a run of three commits, and each reason to refuse an event.
 ghost use Rattle.std.specs.Prelude.{◌≡◌, ◌≤◌, length, IfOk};
-ghost use Rattle.flush_core.specs.Machine.{MachineState, MayBeTold};
+ghost use Rattle.cut_laws.specs.Machine.{MachineState, MayBeTold};
 
 use crate::calls::{Asked, call_of};
 use flush_core::{CommitList, Event, Refused, State};

@@ -1,7 +1,7 @@
 // The rows of a story's nodes at a cut, and why they are no sound tree.
 ghost use Rattle.std.specs.Prelude.{◌≡◌, ◌≤◌, length, IfOk};
-ghost use Rattle.sfs_tree.specs.Sound.{IsSound};
-ghost use Rattle.sfs_tree.specs.Step.{IsReadable};
+ghost use Rattle.tree_laws.specs.Sound.{IsSound};
+ghost use Rattle.tree_laws.specs.Step.{IsReadable};
 
 use crate::calls::{Asked, call_of};
 use flush_core::{Cut, Rule, Story};

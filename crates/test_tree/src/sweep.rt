@@ -1,6 +1,6 @@
 // A sweep over many small histories and cuts: each cut that breaks no rule has rows that are a sound tree.
 ghost use Rattle.std.specs.Prelude.{IfOk};
-ghost use Rattle.sfs_tree.specs.Step.{IsReadable};
+ghost use Rattle.tree_laws.specs.Step.{IsReadable};
 
 use crate::calls::Asked::{self, Mkdir};
 use crate::shapes::{Plot, Row, begun};

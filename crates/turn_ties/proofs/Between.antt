@@ -6,18 +6,18 @@ use Rattle.std.proofs.lemmas.Bool.{cases_Bool}
 use Rattle.std.proofs.lemmas.List.Elements.{All-contains}
 use Rattle.sfs_base.proofs.BasicOptions.{none_some}
 use Rattle.sfs_image.specs.Seen.{Seen, SeenInodes}
-use Rattle.sfs_tree.specs.NameRow.{number_of}
-use Rattle.sfs_tree.specs.Sound.{IsWithinLimits}
-use Rattle.sfs_tree.specs.Tree.{TreeState, row_of, kind_of, is_directory, is_directory_kind, names_of}
-use Rattle.sfs_tree.proofs.Names.{get-names_where}
-use Rattle.sfs_tree.proofs.Readings.{directory_by_kind}
+use Rattle.tree_laws.specs.NameRow.{number_of}
+use Rattle.tree_laws.specs.Sound.{IsWithinLimits}
+use Rattle.tree_laws.specs.Tree.{TreeState, row_of, kind_of, is_directory, is_directory_kind, names_of}
+use Rattle.tree_laws.proofs.Names.{get-names_where}
+use Rattle.tree_laws.proofs.Readings.{directory_by_kind}
 use Rattle.absorb.specs.declared.nets.NetRow.{NetRow}
 use Rattle.absorb.specs.Net.{IsNetRow}
-use Rattle.image_tree.specs.Commit.{blank}
-use Rattle.image_tree.specs.Renamed.{Numbering}
-use Rattle.image_tree.specs.Sizes.{DirectoriesFit}
-use Rattle.image_tree.specs.Stands.{StandsForTree}
-use Rattle.image_tree.proofs.Standing.{byte_directory}
+use Rattle.image_laws.specs.Commit.{blank}
+use Rattle.image_laws.specs.Renamed.{Numbering}
+use Rattle.image_laws.specs.Sizes.{DirectoriesFit}
+use Rattle.image_laws.specs.Stands.{StandsForTree}
+use Rattle.image_laws.proofs.Standing.{byte_directory}
 use Rattle.disk_change.specs.Directory.{is_among}
 use Rattle.disk_change.specs.Links.{directories_concerned}
 use Rattle.disk_change.specs.Nodes.{net_node}

@@ -14,19 +14,19 @@ use Rattle.sfs_base.specs.declared.numbers.Kind.TheVariants.{Directory}
 use Rattle.sfs_image.specs.Rules.{DIRECTORY_BLOCKS}
 use Rattle.sfs_image.specs.Seen.{Seen, SeenInodes, FILE_BLOCKS, PLACES}
 use Rattle.sfs_image.specs.Slot.{Row, kind_byte}
-use Rattle.sfs_tree.specs.NameRow.{number_of}
-use Rattle.sfs_tree.specs.Tree.{TreeState, row_of, kind_of, names_of, BUCKET_ROWS}
+use Rattle.tree_laws.specs.NameRow.{number_of}
+use Rattle.tree_laws.specs.Tree.{TreeState, row_of, kind_of, names_of, BUCKET_ROWS}
 use Rattle.absorb.specs.Net.{IsNetRow}
 use Rattle.absorb.specs.declared.nets.NetRow.{NetRow}
-use Rattle.image_tree.specs.Commit.{blank, slots_after, brought_row, new_rows}
-use Rattle.image_tree.specs.Need.{slots_in_block, same_slots, rewrites_slots, directory_rewrite}
-use Rattle.image_tree.specs.Renamed.{Numbering}
-use Rattle.image_tree.specs.Slots.{looked_up, name_count, has_name, in_blocks, blocks_up_to_last}
-use Rattle.image_tree.specs.Stands.{row_on}
-use Rattle.image_tree.proofs.NetRows.{once_ascending}
-use Rattle.image_tree.proofs.Renaming.{under_is}
-use Rattle.image_tree.proofs.Sizes.{rows-le}
-use Rattle.image_tree.proofs.SlotRows.{count_slot, looked_counts}
+use Rattle.image_laws.specs.Commit.{blank, slots_after, brought_row, new_rows}
+use Rattle.image_laws.specs.Need.{slots_in_block, same_slots, rewrites_slots, directory_rewrite}
+use Rattle.image_laws.specs.Renamed.{Numbering}
+use Rattle.image_laws.specs.Slots.{looked_up, name_count, has_name, in_blocks, blocks_up_to_last}
+use Rattle.image_laws.specs.Stands.{row_on}
+use Rattle.image_laws.proofs.NetRows.{once_ascending}
+use Rattle.image_laws.proofs.Renaming.{under_is}
+use Rattle.image_laws.proofs.Sizes.{rows-le}
+use Rattle.image_laws.proofs.SlotRows.{count_slot, looked_counts}
 use Rattle.block_map.specs.Changed.{change_of}
 use Rattle.block_map.specs.Kept.{pointer_kept}
 use Rattle.block_map.specs.declared.changed.ChangedBlock.{ChangedBlock}
@@ -48,7 +48,7 @@ use Rattle.commit_laws.proofs.Shown.{children_of, length_in_blocks}
 use Rattle.commit_laws.proofs.SlotBlocks.{in_block_joined, block_after}
 use Rattle.commit_laws.proofs.SlotsKept.{brought_is, long_after, net_slots_are_those}
 use Rattle.commit_laws.proofs.SlotsTouched.{TellsApart, block_touched, length_after}
-use Rattle.commit_turns.specs.Need.{stand_in}
+use Rattle.turn_laws.specs.Need.{stand_in}
 use Rattle.turn_ties.proofs.Between.{IsPlanBetween, seen, directories_known}
 use Rattle.turn_ties.proofs.FewNew.{few_new, few_blocks}
 

@@ -9,15 +9,15 @@ use Rattle.std.proofs.lemmas.Map.Text.{is_eq-slice_cmp}
 use Rattle.sfs_base.proofs.BasicLists.{bytes_same, same_bytes}
 use Rattle.sfs_base.proofs.BasicOptions.{none_not_some, some_not_none}
 use Rattle.sfs_image.specs.Slot.{Row}
-use Rattle.sfs_tree.specs.NameRow.{number_of}
-use Rattle.sfs_tree.specs.Order.{name_cmp}
-use Rattle.sfs_tree.specs.Tree.{TreeState}
+use Rattle.tree_laws.specs.NameRow.{number_of}
+use Rattle.tree_laws.specs.Order.{name_cmp}
+use Rattle.tree_laws.specs.Tree.{TreeState}
 use Rattle.absorb.specs.declared.nets.NetRow.{NetRow}
-use Rattle.image_tree.specs.Commit.{row_in_net, slot_after, new_rows, filled, slots_after}
-use Rattle.image_tree.specs.Renamed.{Numbering}
-use Rattle.image_tree.specs.Slots.{rows_end, blocks_up_to_last}
-use Rattle.image_tree.specs.Stands.{row_on}
-use Rattle.image_tree.proofs.NetRows.{HasNamesOnce}
+use Rattle.image_laws.specs.Commit.{row_in_net, slot_after, new_rows, filled, slots_after}
+use Rattle.image_laws.specs.Renamed.{Numbering}
+use Rattle.image_laws.specs.Slots.{rows_end, blocks_up_to_last}
+use Rattle.image_laws.specs.Stands.{row_on}
+use Rattle.image_laws.proofs.NetRows.{HasNamesOnce}
 
 abbrev Names : Type 0
 Names = FinMap name_cmp ℕ

@@ -12,10 +12,10 @@ use Rattle.sfs_base.specs.declared.numbers.SpaceKind.TheVariants.{Inodes, Blocks
 use Rattle.sfs_base.specs.Listed.{is_listed}
 use Rattle.sfs_image.specs.Seen.{PLACES}
 use Rattle.sfs_image.specs.Super.{data_start}
-use Rattle.sfs_tree.specs.Tree.{TreeState}
-use Rattle.image_tree.specs.Image.{inodes_shown}
-use Rattle.image_tree.specs.Need.{takes_place, rank}
-use Rattle.image_tree.proofs.Ranks.{rank_more}
+use Rattle.tree_laws.specs.Tree.{TreeState}
+use Rattle.image_laws.specs.Image.{inodes_shown}
+use Rattle.image_laws.specs.Need.{takes_place, rank}
+use Rattle.image_laws.proofs.Ranks.{rank_more}
 use Rattle.space_map.specs.Pool.{free_count}
 use Rattle.space_map.specs.Space.{Space, shortage}
 use Rattle.space_map.specs.declared.fault.SpaceFault.{SpaceFault}
@@ -31,10 +31,10 @@ use Rattle.commit_laws.specs.NumbersGiven.{AreNumbered}
 use Rattle.commit_laws.proofs.CommitMade.{map_there}
 use Rattle.commit_laws.proofs.OwnInodes.{mapped_is_in}
 use Rattle.commit_laws.proofs.SeatsOfPlan.{among_is_in, ascending_once, there_is_in}
-use Rattle.commit_turns.specs.Books.{free_in, FitsFree, amount_of, IsTooFew, IsShortOf}
-use Rattle.commit_turns.specs.Need.{Amount, Made, is_unused, is_held_in, free_inodes, free_blocks, enters_by_made, node_bound}
-use Rattle.commit_turns.specs.OneThread.{Resting, machine_at}
-use Rattle.commit_turns.proofs.ListedNeeds.{inodes_are_listed, none_counted}
+use Rattle.turn_laws.specs.Books.{free_in, FitsFree, amount_of, IsTooFew, IsShortOf}
+use Rattle.turn_laws.specs.Need.{Amount, Made, is_unused, is_held_in, free_inodes, free_blocks, enters_by_made, node_bound}
+use Rattle.turn_laws.specs.OneThread.{Resting, machine_at}
+use Rattle.turn_laws.proofs.ListedNeeds.{inodes_are_listed, none_counted}
 use Rattle.space_laws.specs.Laws.{CountsFree}
 use Rattle.space_laws.proofs.Asked.{enters_counted}
 use Rattle.space_laws.proofs.Counted.{maps_count_free}

@@ -13,9 +13,9 @@ use Rattle.sfs_image.specs.Inode.{inode_bytes}
 use Rattle.sfs_image.specs.Part.{Part, part_of, seen_of}
 use Rattle.sfs_image.specs.Seen.{Seen, SeenInodes, PLACES}
 use Rattle.sfs_image.proofs.Basics.{found_passes}
-use Rattle.sfs_tree.specs.Tree.{TreeState, kind_of}
-use Rattle.image_tree.specs.Commit.{Commit, IsCommit, IsBuiltAnew, HasBlock, hole, kept, fresh, seen_before}
-use Rattle.image_tree.specs.Image.{inodes_shown}
+use Rattle.tree_laws.specs.Tree.{TreeState, kind_of}
+use Rattle.image_laws.specs.Commit.{Commit, IsCommit, IsBuiltAnew, HasBlock, hole, kept, fresh, seen_before}
+use Rattle.image_laws.specs.Image.{inodes_shown}
 use Rattle.disk_change.specs.AllBuilt.{nodes_with_grant}
 use Rattle.disk_change.specs.Built.{Built}
 use Rattle.disk_change.specs.Directory.{is_among}
@@ -36,9 +36,9 @@ use Rattle.commit_laws.proofs.OwnInodes.{mapped_is_in}
 use Rattle.commit_laws.proofs.PlanShown.{IsBuiltNode, node_built}
 use Rattle.commit_laws.proofs.SeatsOfPlan.{there_is_in, among_is_in, node_seated, number_at}
 use Rattle.commit_laws.proofs.Shown.{found_is_in}
-use Rattle.flush_core.specs.Cut.{tree_at_cut}
-use Rattle.flush_commits.proofs.Clean.{next_stands, over_parts, clean_plan}
-use Rattle.flush_commits.proofs.Later.{kept_number}
+use Rattle.cut_laws.specs.Cut.{tree_at_cut}
+use Rattle.flush_laws.proofs.Clean.{next_stands, over_parts, clean_plan}
+use Rattle.flush_laws.proofs.Later.{kept_number}
 use Rattle.volume_laws.specs.Commits.{parts_left}
 use Rattle.volume_laws.specs.Volume.{Volume, OneFsync, IsPlannedFor}
 

@@ -9,9 +9,9 @@ use Rattle.sfs_base.proofs.BasicNumbers.{not_same, plus_zero}
 use Rattle.sfs_base.proofs.BasicOptions.{none_some, some_same}
 use Rattle.sfs_base.proofs.BasicTruth.{and_true}
 use Rattle.sfs_image.specs.Seen.{SeenInodes}
-use Rattle.sfs_tree.specs.Tree.{kind_of}
-use Rattle.image_tree.specs.Image.{inodes_shown}
-use Rattle.image_tree.proofs.Standing.{not_used}
+use Rattle.tree_laws.specs.Tree.{kind_of}
+use Rattle.image_laws.specs.Image.{inodes_shown}
+use Rattle.image_laws.proofs.Standing.{not_used}
 use Rattle.space_map.specs.Pool.{Pool, status_of, is_free, free_from, free_numbers}
 use Rattle.space_map.specs.Space.{Space}
 use Rattle.space_map.specs.declared.status.Status.{Status}
@@ -23,10 +23,10 @@ use Rattle.disk_change.specs.declared.old.OldEntry.{OldEntry}
 use Rattle.commit_laws.specs.CommitOfPlan.{change_planned}
 use Rattle.commit_laws.proofs.OwnInodes.{mapped_is_in}
 use Rattle.commit_laws.proofs.SeatsOfPlan.{in_mapped}
-use Rattle.flush_core.specs.Cut.{tree_at_cut}
-use Rattle.flush_commits.specs.Ready.{IsBetweenCommits, KeepsEntries}
-use Rattle.commit_turns.specs.Books.{least_open}
-use Rattle.commit_turns.specs.Need.{is_unused}
+use Rattle.cut_laws.specs.Cut.{tree_at_cut}
+use Rattle.flush_laws.specs.Ready.{IsBetweenCommits, KeepsEntries}
+use Rattle.turn_laws.specs.Books.{least_open}
+use Rattle.turn_laws.specs.Need.{is_unused}
 use Rattle.space_laws.specs.Map.{IsRowOf}
 use Rattle.volume_laws.specs.Volume.{Volume}
 use Rattle.turn_ties.specs.Laws.{GrantsAreTheLeast}

@@ -10,13 +10,13 @@ use Rattle.std.proofs.lemmas.Option.{slice_get-map, slice_get_within}
 use Rattle.sfs_base.proofs.BasicTruth.{false_not_true, true_not_false, and_second}
 use Rattle.sfs_image.specs.Seen.{Seen, SeenInodes, PLACES}
 use Rattle.sfs_image.specs.Super.{data_start}
-use Rattle.sfs_tree.specs.Tree.{TreeState}
-use Rattle.image_tree.specs.Commit.{Commit}
-use Rattle.image_tree.specs.Made.{IsMadeFrom}
-use Rattle.image_tree.specs.Need.{Rewrite, takes_place, pointer_after, takes_in_row, place_in_row, granted_block, rank}
-use Rattle.image_tree.specs.Numbers.{grant_for}
-use Rattle.image_tree.proofs.Made.{built_seen}
-use Rattle.image_tree.proofs.Ranks.{rank_below}
+use Rattle.tree_laws.specs.Tree.{TreeState}
+use Rattle.image_laws.specs.Commit.{Commit}
+use Rattle.image_laws.specs.Made.{IsMadeFrom}
+use Rattle.image_laws.specs.Need.{Rewrite, takes_place, pointer_after, takes_in_row, place_in_row, granted_block, rank}
+use Rattle.image_laws.specs.Numbers.{grant_for}
+use Rattle.image_laws.proofs.Made.{built_seen}
+use Rattle.image_laws.proofs.Ranks.{rank_below}
 use Rattle.disk_change.specs.Built.{rewrite_in}
 use Rattle.disk_change.specs.Directory.{is_among}
 use Rattle.disk_change.specs.Lists.{AscendBy}
@@ -31,9 +31,9 @@ use Rattle.commit_laws.proofs.BegunShown.{made, from as made_from}
 use Rattle.commit_laws.proofs.CommitMade.{rewrite_of_node}
 use Rattle.commit_laws.proofs.Rewritten.{take_same}
 use Rattle.commit_laws.proofs.SeatsOfPlan.{there_is_in, node_seated, node_there}
-use Rattle.flush_core.specs.Machine.{MachineState}
-use Rattle.commit_turns.specs.Books.{GivesGranted, IsRewritten, Leaves}
-use Rattle.commit_turns.specs.Need.{Amount, Made, rewrite_needed}
+use Rattle.cut_laws.specs.Machine.{MachineState}
+use Rattle.turn_laws.specs.Books.{GivesGranted, IsRewritten, Leaves}
+use Rattle.turn_laws.specs.Need.{Amount, Made, rewrite_needed}
 use Rattle.space_laws.proofs.Asked.{enters_counted}
 use Rattle.volume_laws.specs.Volume.{Volume, OneFsync, IsVolumeStanding, IsPlannedFor}
 use Rattle.turn_ties.specs.Laws.{CommitsLeaveImages, EmptyCommitsLeaveImages}

@@ -3,14 +3,14 @@ use Rattle.std.proofs.Common.{◌≡◌, Bool, true, false, Option, Some, None, 
 use Rattle.sfs_base.proofs.BasicTruth.{true_not_false}
 use Rattle.mem_files.specs.File.{File}
 use Rattle.disk_change.specs.Planned.{Planned}
-use Rattle.flush_core.specs.Cut.{cut_of}
-use Rattle.flush_core.proofs.Lists.{lists_keep}
-use Rattle.flush_ties.specs.Look.{itself, member}
+use Rattle.cut_laws.specs.Cut.{cut_of}
+use Rattle.cut_laws.proofs.Lists.{lists_keep}
+use Rattle.look_laws.specs.Look.{itself, member}
 use Rattle.dep_closure.specs.Gathered.{cut_in}
-use Rattle.fsync_dir.specs.Plan.{is_held, AreFileChanges}
-use Rattle.fsync_file.specs.Touched.{IsFileChange}
-use Rattle.fsync_plans.specs.Plans.{HasFileOf, IsInTime}
-use Rattle.fsync_plans.proofs.Sees.{SeesCommit, sees_enough}
+use Rattle.flush_plan.specs.Plan.{is_held, AreFileChanges}
+use Rattle.flush_plan.specs.Touched.{IsFileChange}
+use Rattle.plan_laws.specs.Plans.{HasFileOf, IsInTime}
+use Rattle.plan_laws.proofs.Sees.{SeesCommit, sees_enough}
 use Rattle.volume_laws.specs.Volume.{Volume, IsVolumeStanding}
 use Rattle.turn_ties.specs.Led.{Sources, IsPlannedFrom, LeadsVolume, planning_led, LedPlansAreTied}
 use Rattle.turn_ties.specs.Plans.{HasPlan, ChangesOwnFile}

@@ -6,22 +6,22 @@ use Rattle.std.proofs.lemmas.Bool.{cases_lt, eqb-true, eqb-false}
 use Rattle.std.proofs.lemmas.Bool.Decides.{nat_tests}
 use Rattle.sfs_base.proofs.BasicNumbers.{not_below, not_same, same_number}
 use Rattle.sfs_base.proofs.BasicTruth.{and_false, true_not_false}
-use Rattle.sfs_tree.specs.Changes.{FileChange as Edited, edits_of, bytes_at}
-use Rattle.sfs_tree.specs.History.{tree_after}
-use Rattle.sfs_tree.specs.Tree.{TreeState, is_directory, is_directory_kind}
-use Rattle.sfs_tree.proofs.Readings.{directory_by_kind}
+use Rattle.tree_laws.specs.Changes.{FileChange as Edited, edits_of, bytes_at}
+use Rattle.tree_laws.specs.History.{tree_after}
+use Rattle.tree_laws.specs.Tree.{TreeState, is_directory, is_directory_kind}
+use Rattle.tree_laws.proofs.Readings.{directory_by_kind}
 use Rattle.sfs_base.specs.declared.numbers.NodeId.{NodeId}
 use Rattle.disk_change.specs.Lists.{item_with}
 use Rattle.disk_change.specs.Pages.{page_block}
 use Rattle.disk_change.specs.declared.files.FileChange.{FileChange}
 use Rattle.commit_laws.specs.Rewritten.{has_page}
-use Rattle.flush_core.specs.Closure.{every_entry, itself}
-use Rattle.flush_core.specs.Cut.{cut_of, tree_at_cut}
-use Rattle.flush_core.proofs.CutNodes.{cuts_keep_kinds}
-use Rattle.flush_core.proofs.MemberKinds.{members_are_directories}
-use Rattle.cut_trees.specs.Next.{IsMountedHistory}
-use Rattle.cut_trees.specs.Spans.{is_edit_between}
-use Rattle.commit_turns.specs.Touched.{is_touched_by, is_touched_between}
+use Rattle.cut_laws.specs.Closure.{every_entry, itself}
+use Rattle.cut_laws.specs.Cut.{cut_of, tree_at_cut}
+use Rattle.cut_laws.proofs.CutNodes.{cuts_keep_kinds}
+use Rattle.cut_laws.proofs.MemberKinds.{members_are_directories}
+use Rattle.raise_laws.specs.Next.{IsMountedHistory}
+use Rattle.raise_laws.specs.Spans.{is_edit_between}
+use Rattle.turn_laws.specs.Touched.{is_touched_by, is_touched_between}
 use Rattle.volume_laws.specs.Volume.{Volume}
 use Rattle.turn_ties.specs.Laws.{OwnFilesAreTouched}
 use Rattle.turn_ties.specs.Plans.{HasPlan, HasTouchedPages, ChangesOwnFile, Planning}

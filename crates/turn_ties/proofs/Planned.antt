@@ -4,12 +4,12 @@ use Rattle.sfs_base.proofs.BasicOptions.{none_some}
 use Rattle.sfs_base.proofs.BasicTruth.{true_not_false}
 use Rattle.sfs_image.specs.Part.{seen_of}
 use Rattle.sfs_image.specs.Seen.{SeenInodes}
-use Rattle.sfs_tree.specs.History.{tree_after}
-use Rattle.sfs_tree.specs.Tree.{TreeState, bytes_of, is_directory, is_directory_kind}
-use Rattle.sfs_tree.proofs.Readings.{directory_by_kind}
-use Rattle.image_tree.specs.Commit.{MayFollow}
-use Rattle.image_tree.specs.Image.{inodes_shown}
-use Rattle.image_tree.specs.Renamed.{Numbering}
+use Rattle.tree_laws.specs.History.{tree_after}
+use Rattle.tree_laws.specs.Tree.{TreeState, bytes_of, is_directory, is_directory_kind}
+use Rattle.tree_laws.proofs.Readings.{directory_by_kind}
+use Rattle.image_laws.specs.Commit.{MayFollow}
+use Rattle.image_laws.specs.Image.{inodes_shown}
+use Rattle.image_laws.specs.Renamed.{Numbering}
 use Rattle.disk_change.specs.Directory.{is_among}
 use Rattle.disk_change.specs.declared.enter.Enter.{Enter}
 use Rattle.disk_change.specs.declared.old.OldEntry.{OldEntry}
@@ -17,14 +17,14 @@ use Rattle.commit_laws.specs.CommitOfPlan.{PlansFrom, PlansTo}
 use Rattle.commit_laws.specs.KeptShown.{KeepsSeen}
 use Rattle.commit_laws.proofs.BytesKept.{good_parts_fit, good_parts_have_none_behind}
 use Rattle.commit_laws.proofs.KeptShown.{kept_parts_show}
-use Rattle.flush_core.specs.Closure.{one_more}
-use Rattle.flush_core.specs.Cut.{tree_at_cut}
-use Rattle.flush_core.proofs.BlankFiles.{files_enter_blank}
-use Rattle.flush_core.proofs.CutNodes.{cuts_keep_kinds}
-use Rattle.cut_trees.specs.Next.{NumbersInodes, IsStorableAtCut, IsOneMore}
-use Rattle.cut_trees.proofs.Next.{cut_trees_are_storable, raised_trees_follow, others_are_aside}
-use Rattle.flush_commits.specs.Ready.{IsBetweenCommits}
-use Rattle.flush_commits.proofs.Clean.{no_net, standing, good_parts}
+use Rattle.cut_laws.specs.Closure.{one_more}
+use Rattle.cut_laws.specs.Cut.{tree_at_cut}
+use Rattle.cut_laws.proofs.BlankFiles.{files_enter_blank}
+use Rattle.cut_laws.proofs.CutNodes.{cuts_keep_kinds}
+use Rattle.raise_laws.specs.Next.{NumbersInodes, IsStorableAtCut, IsOneMore}
+use Rattle.raise_laws.proofs.Next.{cut_trees_are_storable, raised_trees_follow, others_are_aside}
+use Rattle.flush_laws.specs.Ready.{IsBetweenCommits}
+use Rattle.flush_laws.proofs.Clean.{no_net, standing, good_parts}
 use Rattle.turn_ties.specs.Plans.{HasPlan, Planning}
 use Rattle.volume_laws.specs.Volume.{Volume}
 use Rattle.turn_ties.proofs.Between.{IsPlanBetween}

@@ -11,13 +11,13 @@ use Rattle.sfs_image.specs.Bytes.{nonzero_in}
 use Rattle.sfs_image.specs.Seen.{Seen, SeenInodes, FILE_BLOCKS}
 use Rattle.sfs_image.specs.Slot.{kind_byte, kind_of as kind_at}
 use Rattle.sfs_image.proofs.Basics.{found_passes}
-use Rattle.sfs_tree.specs.Tree.{TreeState, kind_of, bytes_of, is_directory, is_directory_kind}
-use Rattle.sfs_tree.proofs.Readings.{directory_by_kind}
-use Rattle.image_tree.specs.Commit.{blank, slots_after}
-use Rattle.image_tree.specs.Need.{Rewrite, directory_rewrite, file_rewrite}
-use Rattle.image_tree.specs.Renamed.{Numbering}
-use Rattle.image_tree.specs.Stands.{ShowsNode}
-use Rattle.image_tree.proofs.Images.{kind_again}
+use Rattle.tree_laws.specs.Tree.{TreeState, kind_of, bytes_of, is_directory, is_directory_kind}
+use Rattle.tree_laws.proofs.Readings.{directory_by_kind}
+use Rattle.image_laws.specs.Commit.{blank, slots_after}
+use Rattle.image_laws.specs.Need.{Rewrite, directory_rewrite, file_rewrite}
+use Rattle.image_laws.specs.Renamed.{Numbering}
+use Rattle.image_laws.specs.Stands.{ShowsNode}
+use Rattle.image_laws.proofs.Images.{kind_again}
 use Rattle.block_map.specs.declared.changed.ChangedBlock.{ChangedBlock}
 use Rattle.disk_change.specs.AllBuilt.{pages_of_node}
 use Rattle.disk_change.specs.Built.{rewrite_in}
@@ -41,7 +41,7 @@ use Rattle.commit_laws.proofs.NumbersGiven.{kept_in}
 use Rattle.commit_laws.proofs.OwnInodes.{mapped_is_in}
 use Rattle.commit_laws.proofs.RewrittenBlocks.{change_said, page_bytes, block_zeros}
 use Rattle.commit_laws.proofs.Shown.{found_is_in}
-use Rattle.commit_turns.specs.Need.{stand_in}
+use Rattle.turn_laws.specs.Need.{stand_in}
 use Rattle.turn_ties.proofs.Between.{IsPlanBetween, seen}
 use Rattle.turn_ties.proofs.Directories.{Begins, directory_says}
 

@@ -9,8 +9,8 @@ use Rattle.sfs_base.proofs.BasicOptions.{none_some, some_not_none}
 use Rattle.sfs_base.proofs.BasicTruth.{true_not_false, and_first, and_second, not_true}
 use Rattle.sfs_base.specs.Listed.{is_listed}
 use Rattle.sfs_image.specs.Seen.{SeenInodes}
-use Rattle.sfs_tree.specs.Tree.{TreeState}
-use Rattle.image_tree.specs.Renamed.{Numbering}
+use Rattle.tree_laws.specs.Tree.{TreeState}
+use Rattle.image_laws.specs.Renamed.{Numbering}
 use Rattle.disk_change.specs.Directory.{is_among}
 use Rattle.disk_change.specs.Lists.{AscendBy}
 use Rattle.disk_change.specs.Nodes.{entry_node, enter_node}
@@ -25,9 +25,9 @@ use Rattle.commit_laws.specs.NumbersGiven.{node_leaves}
 use Rattle.commit_laws.proofs.NumbersGiven.{kept_in}
 use Rattle.commit_laws.proofs.OwnInodes.{mapped_is_in}
 use Rattle.commit_laws.proofs.SeatsOfPlan.{in_is_there, in_mapped, in_kept, in_is_among, among_is_in, ascending_once, once_append}
-use Rattle.commit_turns.specs.LawsNeed.{AreOnce}
-use Rattle.cut_trees.specs.Next.{NumbersInodes}
-use Rattle.flush_commits.specs.Planned.{HasMoves}
+use Rattle.turn_laws.specs.LawsNeed.{AreOnce}
+use Rattle.raise_laws.specs.Next.{NumbersInodes}
+use Rattle.flush_laws.specs.Planned.{HasMoves}
 
 -- numbers that stand once are listed once
 pub once_listed : (numbers : List ℕ) → StandOnce numbers → AreOnce numbers

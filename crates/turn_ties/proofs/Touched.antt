@@ -12,12 +12,12 @@ use Rattle.sfs_base.proofs.BasicNumbers.{not_below, zero_plus}
 use Rattle.sfs_base.proofs.BasicTruth.{and_false, and_first, and_second, or_true, true_not_false}
 use Rattle.sfs_base.specs.declared.numbers.Stamp.{Stamp}
 use Rattle.sfs_image.proofs.Basics.{found_passes}
-use Rattle.sfs_tree.specs.declared.history.Entry.{Entry}
-use Rattle.sfs_tree.specs.Changes.{FileChange, edits_by, edits_of, bytes_at}
-use Rattle.sfs_tree.specs.Effect.{Effect, Stays, Adds, Removes, Moves, Edits, Edit, Puts, Resizes, edited}
-use Rattle.sfs_tree.specs.History.{tree_after_entry, IsLegalFrom, IsLegal}
-use Rattle.sfs_tree.specs.Tree.{TreeState}
-use Rattle.sfs_tree.specs.Verdict.{verdict}
+use Rattle.tree_laws.specs.declared.history.Entry.{Entry}
+use Rattle.tree_laws.specs.Changes.{FileChange, edits_by, edits_of, bytes_at}
+use Rattle.tree_laws.specs.Effect.{Effect, Stays, Adds, Removes, Moves, Edits, Edit, Puts, Resizes, edited}
+use Rattle.tree_laws.specs.History.{tree_after_entry, IsLegalFrom, IsLegal}
+use Rattle.tree_laws.specs.Tree.{TreeState}
+use Rattle.tree_laws.specs.Verdict.{verdict}
 use Rattle.mem_files.specs.File.{File, room, blocks_of, no_blocks, is_touched}
 use Rattle.disk_change.specs.Lists.{AscendBy, item_with}
 use Rattle.disk_change.specs.Pages.{page_block}
@@ -27,13 +27,13 @@ use Rattle.commit_laws.proofs.NumbersGiven.{kept_in}
 use Rattle.commit_laws.proofs.OwnInodes.{mapped_is_in}
 use Rattle.commit_laws.proofs.SeatsOfPlan.{in_mapped, in_kept}
 use Rattle.commit_laws.proofs.Shown.{found_is_in}
-use Rattle.flush_core.specs.Rules.{IsOneOf}
-use Rattle.cut_trees.specs.Spans.{is_edit_between}
-use Rattle.cut_trees.proofs.Spans.{spans_make_bytes}
-use Rattle.commit_turns.specs.Touched.{touches, is_touched_by, is_touched_between}
-use Rattle.fsync_file.specs.Touched.{page_of, is_marked_from, pages_from}
-use Rattle.file_marks.specs.Touched.{touched_by, IsTouchedBetween}
-use Rattle.file_marks.proofs.Edits.{edits_from}
+use Rattle.cut_laws.specs.Rules.{IsOneOf}
+use Rattle.raise_laws.specs.Spans.{is_edit_between}
+use Rattle.raise_laws.proofs.Spans.{spans_make_bytes}
+use Rattle.turn_laws.specs.Touched.{touches, is_touched_by, is_touched_between}
+use Rattle.flush_plan.specs.Touched.{page_of, is_marked_from, pages_from}
+use Rattle.mark_laws.specs.Touched.{touched_by, IsTouchedBetween}
+use Rattle.mark_laws.proofs.Edits.{edits_from}
 use Rattle.turn_ties.specs.Laws.{MarkedPagesAreTouched}
 
 -- each change of a list has a stamp below those of all later ones

@@ -2,9 +2,9 @@
 use Rattle.std.specs.Prelude.{◌≡◌, ℕ, ◌≤◌, ◌^◌, List, [], ◌∷◌, ◌++◌, None, Some, is_some, take}
 use Rattle.sfs_base.specs.declared.numbers.NodeId.{NodeId}
 use Rattle.sfs_base.specs.declared.numbers.SpaceKind.{SpaceKind}
-use Rattle.sfs_tree.specs.declared.history.Entry.{Entry}
-use Rattle.sfs_tree.specs.History.{IsLegal}
-use Rattle.sfs_tree.specs.Tree.{TreeState}
+use Rattle.tree_laws.specs.declared.history.Entry.{Entry}
+use Rattle.tree_laws.specs.History.{IsLegal}
+use Rattle.tree_laws.specs.Tree.{TreeState}
 use Rattle.mem_files.specs.File.{File}
 use Rattle.space_map.specs.Pool.{free_numbers}
 use Rattle.space_map.specs.Space.{Space, shortage}
@@ -12,12 +12,12 @@ use Rattle.space_map.specs.declared.fault.SpaceFault.TheVariants.{NoSpace}
 use Rattle.disk_change.specs.Lists.{item_with}
 use Rattle.disk_change.specs.Pages.{page_block}
 use Rattle.disk_change.specs.declared.files.FileChange.{FileChange}
-use Rattle.commit_turns.specs.Books.{free_in, FitsFree, IsShortOf, Leaves}
-use Rattle.commit_turns.specs.Need.{nothing, IsMadeBy, node_bound}
-use Rattle.commit_turns.specs.OneThread.{resting_after}
-use Rattle.commit_turns.specs.Touched.{is_touched_between}
-use Rattle.fsync_file.specs.Touched.{IsFileChange}
-use Rattle.file_marks.specs.FileAt.{IsFileAt}
+use Rattle.turn_laws.specs.Books.{free_in, FitsFree, IsShortOf, Leaves}
+use Rattle.turn_laws.specs.Need.{nothing, IsMadeBy, node_bound}
+use Rattle.turn_laws.specs.OneThread.{resting_after}
+use Rattle.turn_laws.specs.Touched.{is_touched_between}
+use Rattle.flush_plan.specs.Touched.{IsFileChange}
+use Rattle.mark_laws.specs.FileAt.{IsFileAt}
 use Rattle.turn_ties.specs.Plans.{image_held, image_once_left, rest_of, machine_of_rest, books_of_rest, Planning, planning_of, made_of, need_of_planning, granted_of_planning, HasPlan, HasTouchedPages, ChangesOwnFile, amount_planned, need_planned, EntersFit, IsRestingMap}
 use Rattle.volume_laws.specs.Stores.{volume_left}
 use Rattle.volume_laws.specs.Volume.{Volume, OneFsync, IsVolumeStanding, IsPlannedFor}

@@ -2,15 +2,15 @@
 use Rattle.std.specs.Prelude.{◌≡◌, true, is_some, List, map, Option}
 use Rattle.sfs_base.specs.declared.numbers.NodeId.{NodeId}
 use Rattle.sfs_base.specs.declared.numbers.Stamp.{Stamp}
-use Rattle.sfs_tree.specs.NameRow.{node_number}
+use Rattle.tree_laws.specs.NameRow.{node_number}
 use Rattle.mem_files.specs.File.{File}
 use Rattle.disk_change.specs.declared.old.OldEntry.{OldEntry}
 use Rattle.dep_closure.specs.declared.gathered.Gathered.{Gathered}
-use Rattle.fsync_dir.specs.declared.concern.Concern.{Concern}
-use Rattle.fsync_dir.specs.declared.plans.FsyncPlan.{FsyncPlan}
-use Rattle.fsync_dir.specs.Plan.{is_held}
-use Rattle.fsync_plans.specs.Leads.{LeadsToCut}
-use Rattle.fsync_plans.specs.Plans.{planned_flush, PlansFsync, IsInTime}
+use Rattle.flush_plan.specs.declared.concern.Concern.{Concern}
+use Rattle.flush_plan.specs.declared.plans.FsyncPlan.{FsyncPlan}
+use Rattle.flush_plan.specs.Plan.{is_held}
+use Rattle.plan_laws.specs.Leads.{LeadsToCut}
+use Rattle.plan_laws.specs.Plans.{planned_flush, PlansFsync, IsInTime}
 use Rattle.volume_laws.specs.Volume.{Volume, IsVolumeStanding}
 use Rattle.turn_ties.specs.Plans.{Planning, HasPlan, HasTouchedPages}
 

@@ -1,8 +1,8 @@
 -- An fsync of a volume that has a plan, beside what turns say of it.
 use Rattle.std.specs.Prelude.{◌≡◌, ℕ, ◌<◌, ◌≤◌, ◌^◌, Bool, true, false, List, [], ◌∷◌, sum_by, count_by}
 use Rattle.sfs_image.specs.Seen.{FILE_BLOCKS}
-use Rattle.sfs_tree.specs.History.{tree_after}
-use Rattle.sfs_tree.specs.Tree.{is_directory}
+use Rattle.tree_laws.specs.History.{tree_after}
+use Rattle.tree_laws.specs.Tree.{is_directory}
 use Rattle.mem_files.specs.File.{File}
 use Rattle.space_map.specs.Space.{Space}
 use Rattle.space_map.specs.declared.grant.Need.{Need}
@@ -13,17 +13,17 @@ use Rattle.disk_change.specs.declared.files.FileChange.{FileChange}
 use Rattle.disk_change.specs.declared.old.OldEntry.{OldEntry}
 use Rattle.commit_laws.specs.CommitOfPlan.{CommitPlan, change_planned, numbers_planned}
 use Rattle.commit_laws.specs.Rewritten.{has_page}
-use Rattle.flush_core.specs.Closure.{every_entry, Flush, IsRaised, AreInodesAfter}
-use Rattle.flush_core.specs.Cut.{Cut, cut_of, tree_at_cut}
-use Rattle.flush_core.specs.Machine.{MachineState}
-use Rattle.flush_commits.specs.Planned.{IsPlanAt}
-use Rattle.flush_commits.specs.Ready.{KeepsEntries}
-use Rattle.commit_turns.specs.Books.{Books}
-use Rattle.commit_turns.specs.Need.{ImageState, Amount, Made}
-use Rattle.commit_turns.specs.OneThread.{Resting, machine_at, books_at, need_at, granted_at}
-use Rattle.commit_turns.specs.Touched.{is_touched_between}
-use Rattle.fsync_file.specs.Touched.{IsFileChange}
-use Rattle.file_marks.specs.FileAt.{IsFileAt}
+use Rattle.cut_laws.specs.Closure.{every_entry, Flush, IsRaised, AreInodesAfter}
+use Rattle.cut_laws.specs.Cut.{Cut, cut_of, tree_at_cut}
+use Rattle.cut_laws.specs.Machine.{MachineState}
+use Rattle.flush_laws.specs.Planned.{IsPlanAt}
+use Rattle.flush_laws.specs.Ready.{KeepsEntries}
+use Rattle.turn_laws.specs.Books.{Books}
+use Rattle.turn_laws.specs.Need.{ImageState, Amount, Made}
+use Rattle.turn_laws.specs.OneThread.{Resting, machine_at, books_at, need_at, granted_at}
+use Rattle.turn_laws.specs.Touched.{is_touched_between}
+use Rattle.flush_plan.specs.Touched.{IsFileChange}
+use Rattle.mark_laws.specs.FileAt.{IsFileAt}
 use Rattle.space_laws.specs.Laws.{HasNoneGranted, state_of_parts}
 use Rattle.space_laws.specs.Map.{IsMapOf}
 use Rattle.volume_laws.specs.Commits.{parts_left}

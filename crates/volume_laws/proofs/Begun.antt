@@ -10,17 +10,17 @@ use Rattle.sfs_base.proofs.BasicTruth.{true_not_false, and_first, and_second}
 use Rattle.sfs_base.specs.declared.numbers.Kind.TheVariants.{File, Directory}
 use Rattle.sfs_image.specs.Seen.{SeenInodes, FILE_BLOCKS}
 use Rattle.sfs_image.specs.Slot.{kind_byte}
-use Rattle.sfs_tree.specs.Tree.{TreeState, Node, is_alive, is_directory}
-use Rattle.sfs_tree.proofs.RowFacts.{root_alive, named_alive, named_or_none}
-use Rattle.image_tree.specs.ImageTree.{Making, is_used, node_shown, tree_with_orphans}
-use Rattle.image_tree.specs.Mount.{StandsByItself, own_numbers}
-use Rattle.image_tree.specs.Renamed.{Numbering, IsMet, root, named}
-use Rattle.image_tree.specs.Stands.{BLOCK_BYTES, own_size}
-use Rattle.image_tree.proofs.Images.{get_node, no_node_outside}
-use Rattle.image_tree.proofs.Standing.{not_used}
-use Rattle.flush_core.specs.LawsInodes.{AreAllAlive}
-use Rattle.cut_trees.specs.Next.{NumbersInodes}
-use Rattle.file_marks.specs.Changed.{HasShortFiles}
+use Rattle.tree_laws.specs.Tree.{TreeState, Node, is_alive, is_directory}
+use Rattle.tree_laws.proofs.RowFacts.{root_alive, named_alive, named_or_none}
+use Rattle.image_laws.specs.ImageTree.{Making, is_used, node_shown, tree_with_orphans}
+use Rattle.image_laws.specs.Mount.{StandsByItself, own_numbers}
+use Rattle.image_laws.specs.Renamed.{Numbering, IsMet, root, named}
+use Rattle.image_laws.specs.Stands.{BLOCK_BYTES, own_size}
+use Rattle.image_laws.proofs.Images.{get_node, no_node_outside}
+use Rattle.image_laws.proofs.Standing.{not_used}
+use Rattle.cut_laws.specs.LawsInodes.{AreAllAlive}
+use Rattle.raise_laws.specs.Next.{NumbersInodes}
+use Rattle.mark_laws.specs.Changed.{HasShortFiles}
 
 -- what inodes show, with the nodes of their own tree
 module _ (image : SeenInodes) (making : Making) where
@@ -66,8 +66,8 @@ module _ (image : SeenInodes) (making : Making) where
       let is = numbered node i has in
       ap is_some (get_node image (is_used image) node is.low) ∙ ap (λ b. is_some (cond b (Some (node_shown (image.seen node))) None)) is.used
 
-  module _ (itself_is : StandsByItself image making) (kinds : Rattle.image_tree.specs.Mount.ShowsByKind image)
-      (none_left : Rattle.image_tree.specs.Mount.HasNoOrphans image) where
+  module _ (itself_is : StandsByItself image making) (kinds : Rattle.image_laws.specs.Mount.ShowsByKind image)
+      (none_left : Rattle.image_laws.specs.Mount.HasNoOrphans image) where
     pub numbers_inodes : NumbersInodes num (λ node. is_some (get tree.nodes node))
     numbers_inodes = record {
       root = itself_is.stands.root;
@@ -94,7 +94,7 @@ module _ (image : SeenInodes) (making : Making) where
 
         is_directory_node : (image.seen node).kind ≡ kind_byte Directory → is_directory tree node ≡ true
         is_directory_node directory =
-            Rattle.image_tree.proofs.Images.directory_where image (is_used image) making
+            Rattle.image_laws.proofs.Images.directory_where image (is_used image) making
             (λ i kind. ap (λ n. not (nat_eq n 0)) kind) node is.0
             ∙ eq-eqb (image.seen node).kind (kind_byte Directory) directory
 
@@ -125,6 +125,6 @@ module _ (image : SeenInodes) (making : Making) where
             let size = kinds.sizes node low (λ free. not_used File (sym file ∙ free)) in
             let own : own_size (image.seen node) ≡ length (image.seen node).bytes =
             ap (λ k. cond (nat_eq k (kind_byte Directory))
-            (BLOCK_BYTES * (Rattle.std.specs.Prelude.◌/◌ (length (image.seen node).slots) Rattle.image_tree.specs.Slots.BLOCK_SLOTS))
+            (BLOCK_BYTES * (Rattle.std.specs.Prelude.◌/◌ (length (image.seen node).slots) Rattle.image_laws.specs.Slots.BLOCK_SLOTS))
             (length (image.seen node).bytes)) file in
             subst (λ (n : ℕ). n ≤ BLOCK_BYTES * FILE_BLOCKS) (size ∙ own) (sizes node low file)

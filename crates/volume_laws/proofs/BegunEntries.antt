@@ -9,9 +9,9 @@ use Rattle.sfs_base.proofs.BasicTruth.{not_true}
 use Rattle.sfs_image.specs.Part.{Part, is_free_part}
 use Rattle.sfs_image.specs.Seen.{SeenInodes}
 use Rattle.sfs_image.specs.Super.{Layout}
-use Rattle.image_tree.specs.Image.{inodes_shown}
-use Rattle.image_tree.specs.ImageTree.{NOTHING_MADE}
-use Rattle.image_tree.specs.Mount.{own_numbers}
+use Rattle.image_laws.specs.Image.{inodes_shown}
+use Rattle.image_laws.specs.ImageTree.{NOTHING_MADE}
+use Rattle.image_laws.specs.Mount.{own_numbers}
 use Rattle.block_map.specs.Kept.{kept_of}
 use Rattle.disk_change.specs.declared.old.OldEntry.{OldEntry}
 use Rattle.disk_tree.specs.KeptParts.{NumberedKept, kept_if_used, kept_in_use}
@@ -19,7 +19,7 @@ use Rattle.commit_laws.proofs.Granted.{given_by}
 use Rattle.commit_laws.proofs.KnownDirectories.{given_is_in}
 use Rattle.commit_laws.proofs.OwnInodes.{mapped_is_in}
 use Rattle.commit_laws.proofs.SeatsOfPlan.{in_mapped}
-use Rattle.flush_commits.specs.Ready.{KeepsEntries}
+use Rattle.flush_laws.specs.Ready.{KeepsEntries}
 use Rattle.mount.specs.Mounted.{entry_mounted, entries_mounted}
 use Rattle.mount.proofs.EntriesAscend.{entries_ascend}
 use Rattle.volume_laws.proofs.Begun.{numbered, number_of}

@@ -11,7 +11,7 @@ use Rattle.sfs_image.specs.Super.{Layout, InRange}
 use Rattle.sfs_image.proofs.ImageOfLaws.{parts_instead}
 use Rattle.fmt_journal.specs.declared.tx.Tx.{Tx}
 use Rattle.fmt_journal.specs.declared.tx.TxRecord.{TxRecord}
-use Rattle.image_tree.specs.Image.{inodes_shown, IsReadAsTree}
+use Rattle.image_laws.specs.Image.{inodes_shown, IsReadAsTree}
 use Rattle.journal_one.specs.Job.{Place, Job, LiesInData}
 use Rattle.journal_one.specs.Packed.{record_entry, block_of, contents_of}
 use Rattle.commit_one.specs.Change.{nothing_open, parts_after, job_for}
@@ -22,10 +22,10 @@ use Rattle.commit_laws.proofs.GrantWritten.{fresh_numbers}
 use Rattle.commit_laws.proofs.OwnInodes.{mapped_is_in}
 use Rattle.commit_laws.proofs.SeatsOfPlan.{in_mapped}
 use Rattle.crash_laws.specs.Wrote.{Wrote}
-use Rattle.flush_commits.specs.Journal.{AreSpelled, ShowsCommit}
-use Rattle.flush_commits.specs.Planned.{IsPlannedFsync}
-use Rattle.flush_commits.proofs.Clean.{over_parts}
-use Rattle.flush_commits.proofs.Journal.{others_stay, low_record, shows_commit}
+use Rattle.flush_laws.specs.Journal.{AreSpelled, ShowsCommit}
+use Rattle.flush_laws.specs.Planned.{IsPlannedFsync}
+use Rattle.flush_laws.proofs.Clean.{over_parts}
+use Rattle.flush_laws.proofs.Journal.{others_stay, low_record, shows_commit}
 use Rattle.volume_laws.specs.Commits.{parts_left, parts_brought, HasJob, OkCommitsGoOn, HasNothingToWrite, IsWrittenAlready, EmptyCommitsWrite, WasBuilt, CanCommit, BuiltJobsWritePlans}
 use Rattle.volume_laws.specs.Volume.{Volume, OneFsync, tree_held, tree_raised}
 

@@ -13,17 +13,17 @@ use Rattle.sfs_image.proofs.BytesLaws.{length-zeros, zeros-byte}
 use Rattle.sfs_image.proofs.InodeLaws.{inode_bytes-inode_of}
 use Rattle.sfs_image.proofs.JustMadeLaws.{zeros_are_sound}
 use Rattle.sfs_image.proofs.RuleLaws.{free_breaks_none}
-use Rattle.image_tree.specs.Image.{inodes_shown, HaveGoodBytes}
-use Rattle.image_tree.specs.ImageTree.{Making, image_tree, tree_with_orphans}
-use Rattle.image_tree.specs.Mount.{ShowsByKind, StandsByItself}
-use Rattle.image_tree.specs.Orphans.{FreesOrphans, IsFreed}
-use Rattle.image_tree.specs.Rules.{KeepsByteRules}
-use Rattle.image_tree.specs.Stands.{IsUnused}
-use Rattle.image_tree.proofs.Faults.{no_fault_is_rules_kept}
-use Rattle.image_tree.proofs.Mounted.{file_is_no_directory, rules_make_standing}
-use Rattle.image_tree.proofs.Orphans.{freed_orphans_keep_the_tree}
-use Rattle.image_tree.proofs.Parts.{IsWholePart, gathered_whole, shows_by_kind, holds_apart, root_shown}
-use Rattle.image_tree.proofs.WholeImages.{rule_alike}
+use Rattle.image_laws.specs.Image.{inodes_shown, HaveGoodBytes}
+use Rattle.image_laws.specs.ImageTree.{Making, image_tree, tree_with_orphans}
+use Rattle.image_laws.specs.Mount.{ShowsByKind, StandsByItself}
+use Rattle.image_laws.specs.Orphans.{FreesOrphans, IsFreed}
+use Rattle.image_laws.specs.Rules.{KeepsByteRules}
+use Rattle.image_laws.specs.Stands.{IsUnused}
+use Rattle.image_laws.proofs.Faults.{no_fault_is_rules_kept}
+use Rattle.image_laws.proofs.Mounted.{file_is_no_directory, rules_make_standing}
+use Rattle.image_laws.proofs.Orphans.{freed_orphans_keep_the_tree}
+use Rattle.image_laws.proofs.Parts.{IsWholePart, gathered_whole, shows_by_kind, holds_apart, root_shown}
+use Rattle.image_laws.proofs.WholeImages.{rule_alike}
 use Rattle.disk_tree.specs.Judged.{fault_of_parts}
 use Rattle.disk_tree.specs.Shown.{AreRuled}
 use Rattle.disk_tree.proofs.PartsSound.{byte_rules_kept}

@@ -3,22 +3,22 @@ use Rattle.std.proofs.Common.{◌≡◌, ℕ, ◌≤◌, List, [], ◌∷◌, �
 use Rattle.std.specs.FinMap.{get}
 use Rattle.std.proofs.Math.Seq.{take-append_seam}
 use Rattle.std.proofs.lemmas.List.{length-append}
-use Rattle.sfs_tree.specs.declared.history.Entry.{Entry}
-use Rattle.sfs_tree.specs.History.{tree_after}
-use Rattle.sfs_tree.specs.Tree.{TreeState, is_alive}
-use Rattle.image_tree.specs.Image.{inodes_shown}
-use Rattle.image_tree.specs.Stands.{StandsForTree}
-use Rattle.flush_core.specs.Closure.{every_entry, Flush, HasLiveNode, AreFlushed}
-use Rattle.flush_core.specs.Cut.{tree_at_cut}
-use Rattle.flush_core.specs.Laws.{KeepsAll}
-use Rattle.flush_core.specs.LawsGrowth.{HasMoreNodes}
-use Rattle.flush_core.specs.Rules.{IsOneOf}
-use Rattle.flush_core.proofs.CutNodes.{cuts_keep_kinds}
-use Rattle.flush_core.proofs.Lists.{lists_keep}
-use Rattle.flush_core.proofs.Prefix.{take_take}
-use Rattle.flush_core.proofs.RunFacts.{cuts_stay_low}
-use Rattle.flush_core.proofs.WholeHistory.{none_above, flushes_grow, cut_trees_grow}
-use Rattle.cut_trees.specs.Next.{IsMountedHistory}
+use Rattle.tree_laws.specs.declared.history.Entry.{Entry}
+use Rattle.tree_laws.specs.History.{tree_after}
+use Rattle.tree_laws.specs.Tree.{TreeState, is_alive}
+use Rattle.image_laws.specs.Image.{inodes_shown}
+use Rattle.image_laws.specs.Stands.{StandsForTree}
+use Rattle.cut_laws.specs.Closure.{every_entry, Flush, HasLiveNode, AreFlushed}
+use Rattle.cut_laws.specs.Cut.{tree_at_cut}
+use Rattle.cut_laws.specs.Laws.{KeepsAll}
+use Rattle.cut_laws.specs.LawsGrowth.{HasMoreNodes}
+use Rattle.cut_laws.specs.Rules.{IsOneOf}
+use Rattle.cut_laws.proofs.CutNodes.{cuts_keep_kinds}
+use Rattle.cut_laws.proofs.Lists.{lists_keep}
+use Rattle.cut_laws.proofs.Prefix.{take_take}
+use Rattle.cut_laws.proofs.RunFacts.{cuts_stay_low}
+use Rattle.cut_laws.proofs.WholeHistory.{none_above, flushes_grow, cut_trees_grow}
+use Rattle.raise_laws.specs.Next.{IsMountedHistory}
 use Rattle.volume_laws.proofs.MoreNodes.{stands_more}
 use Rattle.volume_laws.specs.Laws.{LongerHistoriesStayBetween}
 use Rattle.volume_laws.specs.Volume.{Volume, tree_held, IsVolumeStanding}

@@ -3,12 +3,12 @@ use Rattle.std.proofs.Common.{◌≡◌, ℕ, List, Option, Some, None, IsSome, 
 use Rattle.std.specs.FinMap.{get}
 use Rattle.sfs_image.specs.Seen.{Seen, SeenInodes}
 use Rattle.sfs_image.specs.Slot.{kind_byte}
-use Rattle.sfs_tree.specs.Sound.{IsSound}
-use Rattle.sfs_tree.specs.Tree.{TreeState, row_of}
-use Rattle.image_tree.specs.Renamed.{Numbering}
-use Rattle.image_tree.specs.Stands.{inode_under, row_on, ShowsNode, StandsForTree}
-use Rattle.flush_core.specs.LawsGrowth.{HasMoreNodes}
-use Rattle.commit_turns.proofs.MoreNodes.{kind_more, bytes_more, links_more, row_more}
+use Rattle.tree_laws.specs.Sound.{IsSound}
+use Rattle.tree_laws.specs.Tree.{TreeState, row_of}
+use Rattle.image_laws.specs.Renamed.{Numbering}
+use Rattle.image_laws.specs.Stands.{inode_under, row_on, ShowsNode, StandsForTree}
+use Rattle.cut_laws.specs.LawsGrowth.{HasMoreNodes}
+use Rattle.turn_laws.proofs.MoreNodes.{kind_more, bytes_more, links_more, row_more}
 
 -- each node with a number is one of the tree's
 module _ (num : Numbering) (tree more : TreeState) (sound : IsSound tree) (has : HasMoreNodes tree more)

@@ -8,16 +8,16 @@ use Rattle.sfs_image.specs.Slot.{kind_byte}
 use Rattle.sfs_image.specs.Super.{Layout}
 use Rattle.sfs_image.proofs.RuleFacts.{sizes_say}
 use Rattle.sfs_base.specs.declared.numbers.Kind.TheVariants.{File}
-use Rattle.sfs_tree.specs.Laws.{IsSoundTree}
-use Rattle.sfs_tree.specs.Sound.{IsWithinLimits}
-use Rattle.sfs_tree.specs.Tree.{TreeState}
-use Rattle.image_tree.specs.Image.{inodes_shown}
-use Rattle.image_tree.specs.ImageTree.{Making, tree_with_orphans}
-use Rattle.image_tree.specs.Mount.{own_numbers}
-use Rattle.flush_core.specs.Closure.{none}
-use Rattle.flush_core.specs.Cut.{tree_at_cut}
-use Rattle.flush_commits.specs.Ready.{KeepsEntries}
-use Rattle.file_marks.specs.Changed.{HasShortFiles}
+use Rattle.tree_laws.specs.Laws.{IsSoundTree}
+use Rattle.tree_laws.specs.Sound.{IsWithinLimits}
+use Rattle.tree_laws.specs.Tree.{TreeState}
+use Rattle.image_laws.specs.Image.{inodes_shown}
+use Rattle.image_laws.specs.ImageTree.{Making, tree_with_orphans}
+use Rattle.image_laws.specs.Mount.{own_numbers}
+use Rattle.cut_laws.specs.Closure.{none}
+use Rattle.cut_laws.specs.Cut.{tree_at_cut}
+use Rattle.flush_laws.specs.Ready.{KeepsEntries}
+use Rattle.mark_laws.specs.Changed.{HasShortFiles}
 use Rattle.crash_laws.proofs.Begins.{first_nodes}
 use Rattle.recovery.specs.Freed.{without_unlinked}
 use Rattle.mount.specs.Mounted.{making_with, IsSoundMount}
@@ -59,7 +59,7 @@ module _ (nodes size : ℕ) (mounted : Mounted) (store : ℕ → List ℕ) (soun
   stand_after : StandInBlocks store layout linked
   stand_after = stand_linked layout parts store some sound.faultless stand
 
-  good_after : Rattle.image_tree.specs.Image.HaveGoodBytes layout linked
+  good_after : Rattle.image_laws.specs.Image.HaveGoodBytes layout linked
   good_after = good layout parts store some sound.faultless stand
 
   standing : IsVolumeStanding (volume_begun tree layout store linked)

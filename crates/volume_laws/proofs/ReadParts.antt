@@ -12,9 +12,9 @@ use Rattle.sfs_image.specs.Super.{Layout}
 use Rattle.sfs_image.proofs.InodeLaws.{inode_bytes-inode_of, pointers_of-zeros}
 use Rattle.sfs_image.proofs.MadeLaws.{made_turns}
 use Rattle.sfs_image.proofs.PartLaws.{pointer_of_table}
-use Rattle.image_tree.specs.Image.{inodes_shown}
-use Rattle.image_tree.specs.Stands.{HoldsApart}
-use Rattle.image_tree.proofs.Parts.{IsWholePart, holds_apart}
+use Rattle.image_laws.specs.Image.{inodes_shown}
+use Rattle.image_laws.specs.Stands.{HoldsApart}
+use Rattle.image_laws.proofs.Parts.{IsWholePart, holds_apart}
 use Rattle.disk_tree.specs.Judged.{fault_of_parts}
 use Rattle.disk_tree.specs.Whole.{IsReadWhole}
 use Rattle.disk_tree.proofs.PartsSound.{byte_rules_kept}

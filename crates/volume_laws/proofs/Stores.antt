@@ -10,9 +10,9 @@ use Rattle.sfs_image.specs.Part.{part_of, pointer_at, IsGathered}
 use Rattle.sfs_image.specs.Seen.{SeenInodes, PLACES}
 use Rattle.sfs_image.specs.Super.{data_start}
 use Rattle.sfs_image.proofs.PartLaws.{gather_same, none_past_places}
-use Rattle.sfs_tree.specs.Tree.{TreeState, bytes_of}
+use Rattle.tree_laws.specs.Tree.{TreeState, bytes_of}
 use Rattle.fmt_journal.specs.declared.tx.TxBlock.{TxBlock}
-use Rattle.image_tree.specs.Image.{inodes_shown}
+use Rattle.image_laws.specs.Image.{inodes_shown}
 use Rattle.journal_one.specs.Packed.{block_of}
 use Rattle.disk_change.specs.AllBuilt.{numbers_with, nodes_with_grant, pages_of_node, fresh_of_node, fresh_of_commit}
 use Rattle.disk_change.specs.Built.{Built}
@@ -28,10 +28,10 @@ use Rattle.commit_laws.proofs.OwnInodes.{mapped_is_in}
 use Rattle.commit_laws.proofs.PlanShown.{IsBuiltNode, node_built}
 use Rattle.commit_laws.proofs.RewrittenBlocks.{page_bytes}
 use Rattle.commit_laws.proofs.Shown.{found_is_in}
-use Rattle.flush_core.specs.Closure.{Flush}
-use Rattle.flush_core.proofs.Basics.{in_either}
-use Rattle.flush_commits.proofs.Clean.{over_parts}
-use Rattle.flush_commits.proofs.Later.{fsyncs_leave_ready}
+use Rattle.cut_laws.specs.Closure.{Flush}
+use Rattle.cut_laws.proofs.Basics.{in_either}
+use Rattle.flush_laws.proofs.Clean.{over_parts}
+use Rattle.flush_laws.proofs.Later.{fsyncs_leave_ready}
 use Rattle.space_laws.proofs.Used.{in_some}
 use Rattle.volume_laws.specs.Stores.{IsStoreLeft, StoresGoOn, CommitsStayStanding}
 use Rattle.volume_laws.specs.Volume.{Volume, OneFsync, IsPlannedFor, tree_held, tree_raised}
@@ -139,7 +139,7 @@ commits_stay_standing volume one later stands is comes there = record {
       | inl before ↦ stands.among.live flush before
       | inr own ↦ elim own [
         | inl same ↦
-            subst (λ (f : Flush). Rattle.flush_core.specs.Closure.HasLiveNode volume.first volume.history f) same comes.live
+            subst (λ (f : Flush). Rattle.cut_laws.specs.Closure.HasLiveNode volume.first volume.history f) same comes.live
         | inr none ↦ absurd none
       ]
     ];

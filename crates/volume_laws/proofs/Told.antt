@@ -7,7 +7,7 @@ use Rattle.sfs_image.specs.Settled.{layout_of, parts_of}
 use Rattle.sfs_image.specs.Super.{Layout}
 use Rattle.sfs_image.proofs.ImageOfLaws.{parts_instead}
 use Rattle.commit_one.specs.Change.{nothing_open}
-use Rattle.image_tree.specs.Image.{IsReadAsTree}
+use Rattle.image_laws.specs.Image.{IsReadAsTree}
 use Rattle.recovery.specs.Freed.{without_unlinked}
 use Rattle.recovery.specs.Recovered.{ShowsTheSame, IsRecoveredFrom}
 use Rattle.recovery.proofs.JudgedImage.{has_no_fault}

@@ -13,9 +13,9 @@ use Rattle.sfs_image.proofs.AcceptedLaws.{raw_of}
 use Rattle.sfs_image.proofs.Basics.{get_or-tabulate}
 use Rattle.sfs_image.proofs.BytesLaws.{length-part}
 use Rattle.sfs_image.proofs.InodeLaws.{inode_bytes-inode_of}
-use Rattle.image_tree.specs.Image.{ImageFault, inodes_shown, image_inodes, first_of_faults, breaks_bytes_of, fault_of, making_at_mount}
-use Rattle.image_tree.specs.ImageTree.{image_tree}
-use Rattle.image_tree.specs.Rules.{TreeFault, tree_fault}
+use Rattle.image_laws.specs.Image.{ImageFault, inodes_shown, image_inodes, first_of_faults, breaks_bytes_of, fault_of, making_at_mount}
+use Rattle.image_laws.specs.ImageTree.{image_tree}
+use Rattle.image_laws.specs.Rules.{TreeFault, tree_fault}
 use Rattle.disk_tree.specs.Judged.{fault_of_parts}
 use Rattle.disk_tree.specs.Told.{SettlesRecords}
 use Rattle.disk_tree.specs.Whole.{IsReadWhole, IsWholeRecord}

@@ -8,14 +8,14 @@ use Rattle.sfs_image.specs.ImageOf.{IsImageOf}
 use Rattle.sfs_image.specs.Part.{Part, IsGathered}
 use Rattle.sfs_image.specs.Settled.{image_block, parts_of}
 use Rattle.sfs_image.specs.Super.{Layout, data_start}
-use Rattle.sfs_tree.specs.Tree.{TreeState}
+use Rattle.tree_laws.specs.Tree.{TreeState}
 use Rattle.journal_one.specs.Known.{EachLeft}
 use Rattle.commit_one.specs.Change.{nothing_open}
-use Rattle.image_tree.specs.Image.{inodes_shown}
-use Rattle.image_tree.specs.Mount.{own_numbers}
-use Rattle.file_marks.specs.Changed.{HasShortFiles}
-use Rattle.flush_commits.specs.Journal.{AreSpelled}
-use Rattle.flush_commits.specs.Ready.{KeepsEntries}
+use Rattle.image_laws.specs.Image.{inodes_shown}
+use Rattle.image_laws.specs.Mount.{own_numbers}
+use Rattle.mark_laws.specs.Changed.{HasShortFiles}
+use Rattle.flush_laws.specs.Journal.{AreSpelled}
+use Rattle.flush_laws.specs.Ready.{KeepsEntries}
 use Rattle.crash_laws.specs.Wrote.{Mounts}
 use Rattle.recovery.specs.Freed.{without_unlinked}
 use Rattle.recovery.specs.Recovered.{ShowsTheSame, IsRecoveredFrom}

@@ -16,7 +16,7 @@ use Rattle.disk_change.specs.Written.{IsTransactionOf}
 use Rattle.commit_laws.specs.CommitOfPlan.{change_planned}
 use Rattle.commit_laws.specs.PartsStand.{part_next}
 use Rattle.crash_laws.specs.Wrote.{Wrote}
-use Rattle.flush_commits.specs.Journal.{WritesPlan, AreSpelled, parts_given, ShowsCommit}
+use Rattle.flush_laws.specs.Journal.{WritesPlan, AreSpelled, parts_given, ShowsCommit}
 use Rattle.volume_laws.specs.Volume.{Volume, OneFsync, IsPlannedFor, tree_held, tree_raised}
 
 -- the parts of a volume once an fsync is on its disk

@@ -1,7 +1,7 @@
 -- The laws of a volume, each of which a function of the module laws proves.
 use Rattle.std.specs.Prelude.{[], ◌∷◌, ◌++◌}
-use Rattle.sfs_tree.specs.declared.history.Entry.{Entry}
-use Rattle.cut_trees.specs.Next.{IsMountedHistory}
+use Rattle.tree_laws.specs.declared.history.Entry.{Entry}
+use Rattle.raise_laws.specs.Next.{IsMountedHistory}
 use Rattle.volume_laws.specs.Volume.{Volume, IsVolumeStanding}
 
 -- A volume goes on standing once a call has come.

@@ -5,8 +5,8 @@ use Rattle.sfs_dev.specs.Run.{Advances, CountsOn, EachMoment}
 use Rattle.sfs_dev.specs.Steps.{IfTold}
 use Rattle.sfs_image.specs.Part.{Part}
 use Rattle.sfs_image.specs.Super.{IsLayout}
-use Rattle.sfs_tree.specs.Laws.{IsSoundTree}
-use Rattle.sfs_tree.specs.Sound.{IsWithinLimits}
+use Rattle.tree_laws.specs.Laws.{IsSoundTree}
+use Rattle.tree_laws.specs.Sound.{IsWithinLimits}
 use Rattle.journal_one.specs.Calls.{IsCalm}
 use Rattle.journal_one.specs.Known.{EachLeft}
 use Rattle.commit_one.specs.Carried.{GoesOnTelling}

@@ -1,8 +1,8 @@
 -- The blocks of a volume after a commit.
 use Rattle.std.specs.Prelude.{ℕ, ◌≤◌, List, [], ◌∷◌, ◌++◌, length}
 use Rattle.commit_laws.specs.CommitOfPlan.{numbers_planned}
-use Rattle.flush_core.specs.Closure.{HasLiveNode}
-use Rattle.flush_commits.specs.Laws.{IsStoreAfter}
+use Rattle.cut_laws.specs.Closure.{HasLiveNode}
+use Rattle.flush_laws.specs.Laws.{IsStoreAfter}
 use Rattle.volume_laws.specs.Commits.{parts_left}
 use Rattle.volume_laws.specs.Volume.{Volume, OneFsync, IsVolumeStanding, IsPlannedFor}
 

@@ -2,17 +2,17 @@
 use Rattle.std.specs.Prelude.{ℕ, Bool, List, length}
 use Rattle.sfs_image.specs.Part.{Part}
 use Rattle.sfs_image.specs.Super.{Layout}
-use Rattle.sfs_tree.specs.declared.history.Entry.{Entry}
-use Rattle.sfs_tree.specs.Tree.{TreeState}
-use Rattle.image_tree.specs.Renamed.{Numbering}
+use Rattle.tree_laws.specs.declared.history.Entry.{Entry}
+use Rattle.tree_laws.specs.Tree.{TreeState}
+use Rattle.image_laws.specs.Renamed.{Numbering}
 use Rattle.space_map.specs.Space.{GrantedNumbers}
 use Rattle.disk_change.specs.declared.old.OldEntry.{OldEntry}
 use Rattle.commit_laws.specs.CommitOfPlan.{CommitPlan}
-use Rattle.flush_core.specs.Closure.{Flush}
-use Rattle.flush_core.specs.Cut.{Cut, tree_at_cut}
-use Rattle.flush_core.specs.LawsGrowth.{AreAmongFirst}
-use Rattle.flush_commits.specs.Planned.{IsPlannedFsync}
-use Rattle.flush_commits.specs.Ready.{IsBetweenCommits}
+use Rattle.cut_laws.specs.Closure.{Flush}
+use Rattle.cut_laws.specs.Cut.{Cut, tree_at_cut}
+use Rattle.cut_laws.specs.LawsGrowth.{AreAmongFirst}
+use Rattle.flush_laws.specs.Planned.{IsPlannedFsync}
+use Rattle.flush_laws.specs.Ready.{IsBetweenCommits}
 
 -- A volume between two calls: the tree of its mount and the history since, the fsyncs that are on the disk with the cut and the inodes that
 -- they left, the numbers of its nodes, and the layout of its disk with the blocks and the parts on it.

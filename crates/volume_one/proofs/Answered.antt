@@ -11,18 +11,18 @@ use Rattle.sfs_dev.specs.Run.{Advances, CountsOn}
 use Rattle.sfs_dev.specs.Steps.{IfTold}
 use Rattle.sfs_image.specs.Super.{Layout}
 use Rattle.sfs_base.specs.Ends.{HasRisen}
-use Rattle.sfs_tree.specs.declared.reply.Reply.{Reply}
-use Rattle.sfs_tree.specs.declared.reply.Reply.TheVariants as reply
-use Rattle.sfs_tree.specs.NameRow.{node_number}
-use Rattle.sfs_tree.specs.Tree.{is_alive}
+use Rattle.tree_laws.specs.declared.reply.Reply.{Reply}
+use Rattle.tree_laws.specs.declared.reply.Reply.TheVariants as reply
+use Rattle.tree_laws.specs.NameRow.{node_number}
+use Rattle.tree_laws.specs.Tree.{is_alive}
 use Rattle.journal_one.specs.Job.{Job}
 use Rattle.journal_one.specs.Packed.{Contents, block_of}
 use Rattle.journal_one.specs.declared.doubt.Doubt.{Doubt}
 use Rattle.space_map.specs.Space.{Space, GrantedNumbers}
 use Rattle.crash_laws.specs.Wrote.{Wrote}
-use Rattle.flush_core.specs.Closure.{Closure, every_entry}
-use Rattle.fsync_dir.specs.declared.plans.FsyncPlan.{FsyncPlan}
-use Rattle.fsync_plans.specs.Plans.{planned_flush}
+use Rattle.cut_laws.specs.Closure.{Closure, every_entry}
+use Rattle.flush_plan.specs.declared.plans.FsyncPlan.{FsyncPlan}
+use Rattle.plan_laws.specs.Plans.{planned_flush}
 use Rattle.volume_laws.specs.Stores.{volume_left}
 use Rattle.volume_laws.specs.Volume.{Volume, OneFsync, tree_held, tree_raised}
 use Rattle.volume_laws.proofs.Stores.{stores_go_on}

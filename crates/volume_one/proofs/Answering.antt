@@ -5,16 +5,16 @@ use Rattle.sfs_base.specs.declared.numbers.CoreId.{CoreId}
 use Rattle.sfs_base.specs.declared.numbers.NodeId.{NodeId}
 use Rattle.sfs_base.specs.declared.numbers.Stamp.{Stamp}
 use Rattle.sfs_dev.specs.Disk.{View}
-use Rattle.sfs_tree.specs.declared.call.Call.TheVariants as call
-use Rattle.sfs_tree.specs.declared.history.Entry.{Entry}
-use Rattle.sfs_tree.specs.declared.reply.Code.TheVariants.{NoEntry}
-use Rattle.sfs_tree.specs.declared.reply.Reply.{Reply}
-use Rattle.sfs_tree.specs.declared.reply.Reply.TheVariants as reply
-use Rattle.sfs_tree.specs.History.{MayCome, tree_after, is_ok_reply, IsDue, IsFsyncReply}
-use Rattle.sfs_tree.specs.Tree.{TreeState, is_alive}
-use Rattle.sfs_tree.specs.Verdict.{verdict, or_else, answered}
+use Rattle.tree_laws.specs.declared.call.Call.TheVariants as call
+use Rattle.tree_laws.specs.declared.history.Entry.{Entry}
+use Rattle.tree_laws.specs.declared.reply.Code.TheVariants.{NoEntry}
+use Rattle.tree_laws.specs.declared.reply.Reply.{Reply}
+use Rattle.tree_laws.specs.declared.reply.Reply.TheVariants as reply
+use Rattle.tree_laws.specs.History.{MayCome, tree_after, is_ok_reply, IsDue, IsFsyncReply}
+use Rattle.tree_laws.specs.Tree.{TreeState, is_alive}
+use Rattle.tree_laws.specs.Verdict.{verdict, or_else, answered}
 use Rattle.core_logs.specs.Logs.{MayAdd}
-use Rattle.flush_core.specs.Closure.{Flush}
+use Rattle.cut_laws.specs.Closure.{Flush}
 use Rattle.volume_laws.specs.Volume.{Volume}
 use Rattle.volume_laws.specs.Stores.{volume_left}
 use Rattle.volume_one.specs.Calls.{call_entry}
@@ -24,7 +24,7 @@ use Rattle.volume_one.specs.Stands.{Remembers}
 use Rattle.volume_one.specs.declared.flushed.Flushed.{Flushed}
 use Rattle.volume_one.specs.declared.preparing.Ready.{Ready}
 use Rattle.volume_one.specs.declared.volume.OpenVolume.{OpenVolume}
-use Rattle.fsync_dir.specs.declared.plans.FsyncPlan.{FsyncPlan}
+use Rattle.flush_plan.specs.declared.plans.FsyncPlan.{FsyncPlan}
 use Rattle.space_map.specs.Space.{GrantedNumbers}
 use Rattle.volume_one.proofs.Entering.{core_within, fsync_remembered, fsync_may_be_added}
 

@@ -7,15 +7,15 @@ use Rattle.std.proofs.Math.Nat.{div-mul-le_self}
 use Rattle.sfs_base.proofs.BasicNumbers.{le_itself}
 use Rattle.sfs_dev.specs.Disk.{View}
 use Rattle.sfs_image.specs.Super.{Layout, IsLayout}
-use Rattle.sfs_tree.specs.Tree.{TreeState}
+use Rattle.tree_laws.specs.Tree.{TreeState}
 use Rattle.journal_one.proofs.Kept.{IsLawful}
 use Rattle.disk_change.specs.declared.old.OldEntry.{OldEntry}
 use Rattle.core_logs.specs.Logs.{AreBlank}
 use Rattle.core_logs.proofs.Keeping.{blank_logs_keep}
-use Rattle.file_marks.specs.Changed.{HasShortFiles}
+use Rattle.mark_laws.specs.Changed.{HasShortFiles}
 use Rattle.file_table.specs.Table.{HoldsFilesOf}
-use Rattle.flush_commits.specs.Ready.{KeepsEntries}
-use Rattle.commit_turns.specs.Need.{node_bound}
+use Rattle.flush_laws.specs.Ready.{KeepsEntries}
+use Rattle.turn_laws.specs.Need.{node_bound}
 use Rattle.mount.specs.Mounted.{IsSoundMount}
 use Rattle.mount.specs.declared.begin.Mounted.{Mounted}
 use Rattle.space_laws.specs.Map.{IsMapOf}

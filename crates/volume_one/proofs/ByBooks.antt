@@ -8,8 +8,8 @@ use Rattle.sfs_base.specs.declared.numbers.NodeId.{NodeId}
 use Rattle.sfs_base.specs.declared.numbers.SpaceKind.{SpaceKind}
 use Rattle.sfs_base.specs.declared.numbers.Stamp.{Stamp}
 use Rattle.sfs_dev.specs.Disk.{View}
-use Rattle.sfs_tree.specs.NameRow.{node_number}
-use Rattle.sfs_tree.specs.Tree.{is_alive}
+use Rattle.tree_laws.specs.NameRow.{node_number}
+use Rattle.tree_laws.specs.Tree.{is_alive}
 use Rattle.journal_one.specs.Packed.{Contents}
 use Rattle.journal_one.specs.declared.doubt.Doubt.{Doubt}
 use Rattle.space_map.specs.Pool.{free_numbers}
@@ -17,10 +17,10 @@ use Rattle.space_map.specs.Space.{Space, GrantedNumbers, shortage}
 use Rattle.space_map.specs.declared.fault.SpaceFault.TheVariants.{NoSpace}
 use Rattle.space_map.specs.declared.grant.Need.{Need}
 use Rattle.disk_change.specs.Planned.{Planned, as_u32}
-use Rattle.flush_core.specs.Closure.{Closure, every_entry}
-use Rattle.commit_turns.specs.Need.{Amount, nothing}
-use Rattle.fsync_dir.specs.declared.plans.FsyncPlan.{FsyncPlan}
-use Rattle.fsync_plans.specs.Plans.{planned_flush}
+use Rattle.cut_laws.specs.Closure.{Closure, every_entry}
+use Rattle.turn_laws.specs.Need.{Amount, nothing}
+use Rattle.flush_plan.specs.declared.plans.FsyncPlan.{FsyncPlan}
+use Rattle.plan_laws.specs.Plans.{planned_flush}
 use Rattle.turn_ties.specs.Led.{planning_led}
 use Rattle.turn_ties.specs.Plans.{IsRestingMap, planning_of, amount_planned, need_planned, need_of_planning}
 use Rattle.turn_ties.proofs.Fits.{fits_are_the_books, shorts_are_the_books, counted_nodes_fit}

@@ -2,9 +2,9 @@
 use Rattle.std.proofs.Common.{◌≡◌, ℕ, Bool, List, length, map, Some, refl, subst, arith}
 use Rattle.sfs_base.specs.declared.numbers.NodeId.{NodeId}
 use Rattle.sfs_base.specs.declared.numbers.Stamp.{Stamp}
-use Rattle.sfs_tree.specs.declared.history.Entry.{Entry}
-use Rattle.sfs_tree.specs.NameRow.{node_number}
-use Rattle.sfs_tree.specs.Tree.{TreeState}
+use Rattle.tree_laws.specs.declared.history.Entry.{Entry}
+use Rattle.tree_laws.specs.NameRow.{node_number}
+use Rattle.tree_laws.specs.Tree.{TreeState}
 use Rattle.fmt_journal.specs.declared.tx.Tx.{Tx}
 use Rattle.journal_one.specs.Packed.{contents_of}
 use Rattle.space_map.specs.Pool.{Grants}
@@ -13,12 +13,12 @@ use Rattle.disk_change.specs.Planned.{Planned}
 use Rattle.disk_change.specs.Written.{IsTransactionOf}
 use Rattle.disk_change.specs.declared.old.OldEntry.{OldEntry}
 use Rattle.commit_laws.specs.CommitOfPlan.{CommitPlan, change_planned}
-use Rattle.flush_core.specs.Closure.{HasLiveNode}
-use Rattle.flush_core.specs.Cut.{Cut}
-use Rattle.flush_commits.specs.Planned.{GrantsPlan}
-use Rattle.fsync_plans.specs.Leads.{LeadsToCut}
-use Rattle.fsync_plans.specs.Plans.{planned_flush}
-use Rattle.fsync_dir.specs.declared.plans.FsyncPlan.{FsyncPlan}
+use Rattle.cut_laws.specs.Closure.{HasLiveNode}
+use Rattle.cut_laws.specs.Cut.{Cut}
+use Rattle.flush_laws.specs.Planned.{GrantsPlan}
+use Rattle.plan_laws.specs.Leads.{LeadsToCut}
+use Rattle.plan_laws.specs.Plans.{planned_flush}
+use Rattle.flush_plan.specs.declared.plans.FsyncPlan.{FsyncPlan}
 use Rattle.space_laws.specs.Laws.{BringsNames}
 use Rattle.space_laws.specs.Map.{WasGranted}
 use Rattle.space_laws.proofs.Filled.{grants_serve_plans}

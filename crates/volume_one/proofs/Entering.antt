@@ -8,36 +8,36 @@ use Rattle.std.specs.BTreeSet.{contains}
 use Rattle.std.specs.Ordering.{nat_cmp}
 use Rattle.sfs_base.specs.declared.numbers.NodeId.{NodeId}
 use Rattle.sfs_base.specs.Listed.{is_listed}
-use Rattle.sfs_tree.specs.NameRow.{node_number}
-use Rattle.sfs_tree.specs.declared.call.Call.{Call}
-use Rattle.sfs_tree.specs.declared.call.Call.TheVariants as call
-use Rattle.sfs_tree.specs.declared.changes.Change.{Change}
-use Rattle.sfs_tree.specs.declared.history.Entry.{Entry}
-use Rattle.sfs_tree.specs.declared.reply.Code.{Code}
-use Rattle.sfs_tree.specs.declared.reply.Reply.TheVariants as reply
-use Rattle.sfs_tree.specs.Effect.{Effect, Stays, Adds, Removes, Moves, Edits, tree_with}
-use Rattle.sfs_tree.specs.Fits.{Fits}
-use Rattle.sfs_tree.specs.History.{IsLegal, MayCome, tree_after, tree_after_entry}
-use Rattle.sfs_tree.specs.Laws.{IsSoundTree}
-use Rattle.sfs_tree.specs.Logged.{logged_by}
-use Rattle.sfs_tree.specs.Tree.{TreeState}
-use Rattle.sfs_tree.specs.Verdict.{Verdict, verdict, or_else, answered, node_fault}
-use Rattle.sfs_tree.proofs.Cores.{cores_stay}
-use Rattle.sfs_tree.proofs.FileHistories.{histories_keep_sound}
-use Rattle.sfs_tree.proofs.Histories.{tree_after-push, IsLegal-push}
-use Rattle.sfs_tree.proofs.SoundTrees.{calls_fit}
+use Rattle.tree_laws.specs.NameRow.{node_number}
+use Rattle.tree_laws.specs.declared.call.Call.{Call}
+use Rattle.tree_laws.specs.declared.call.Call.TheVariants as call
+use Rattle.tree_laws.specs.declared.changes.Change.{Change}
+use Rattle.tree_laws.specs.declared.history.Entry.{Entry}
+use Rattle.tree_laws.specs.declared.reply.Code.{Code}
+use Rattle.tree_laws.specs.declared.reply.Reply.TheVariants as reply
+use Rattle.tree_laws.specs.Effect.{Effect, Stays, Adds, Removes, Moves, Edits, tree_with}
+use Rattle.tree_laws.specs.Fits.{Fits}
+use Rattle.tree_laws.specs.History.{IsLegal, MayCome, tree_after, tree_after_entry}
+use Rattle.tree_laws.specs.Laws.{IsSoundTree}
+use Rattle.tree_laws.specs.Logged.{logged_by}
+use Rattle.tree_laws.specs.Tree.{TreeState}
+use Rattle.tree_laws.specs.Verdict.{Verdict, verdict, or_else, answered, node_fault}
+use Rattle.tree_laws.proofs.Cores.{cores_stay}
+use Rattle.tree_laws.proofs.FileHistories.{histories_keep_sound}
+use Rattle.tree_laws.proofs.Histories.{tree_after-push, IsLegal-push}
+use Rattle.tree_laws.proofs.SoundTrees.{calls_fit}
 use Rattle.mem_cells.specs.Log.{log_place}
 use Rattle.mem_cells.specs.Part.{changes_kept}
-use Rattle.flush_core.specs.Rules.{IsOneOf, Birth, births_by, births_of}
-use Rattle.flush_core.proofs.Basics.{in_left, in_right, in_either}
-use Rattle.flush_core.proofs.Grown.{births_of-push}
-use Rattle.cut_trees.specs.Next.{IsMountedHistory}
+use Rattle.cut_laws.specs.Rules.{IsOneOf, Birth, births_by, births_of}
+use Rattle.cut_laws.proofs.Basics.{in_left, in_right, in_either}
+use Rattle.cut_laws.proofs.Pushed.{births_of-push}
+use Rattle.raise_laws.specs.Next.{IsMountedHistory}
 use Rattle.core_logs.specs.Kept.{KeepsUnflushed, is_entry_of, logged_in_tree}
 use Rattle.core_logs.specs.Logs.{Logs, AreSameChanges, AreWithEntry, HasRoom, MayAdd, part_of}
 use Rattle.core_logs.proofs.Keeping.{room_keeps, entries_keep}
 use Rattle.core_logs.proofs.Ordered.{logged_in_order}
 use Rattle.dep_closure.specs.Gathered.{born_as, cut_in}
-use Rattle.file_marks.specs.Laws.{verdict_behind}
+use Rattle.mark_laws.specs.Laws.{verdict_behind}
 use Rattle.volume_laws.specs.Volume.{Volume}
 use Rattle.volume_laws.proofs.Longer.{longer_histories_stay_between}
 use Rattle.volume_one.specs.Calls.{kept_with}

@@ -6,20 +6,20 @@ use Rattle.sfs_base.specs.declared.numbers.Kind.{Kind}
 use Rattle.sfs_base.specs.declared.numbers.Kind.TheVariants.{File as IsFile, Directory as IsDirectory}
 use Rattle.sfs_base.specs.declared.numbers.NodeId.{NodeId}
 use Rattle.sfs_base.specs.declared.numbers.Stamp.{Stamp}
-use Rattle.sfs_tree.specs.declared.call.Call.{Call}
-use Rattle.sfs_tree.specs.declared.call.Call.TheVariants as call
-use Rattle.sfs_tree.specs.declared.reply.Code.{Code}
-use Rattle.sfs_tree.specs.declared.reply.Code.TheVariants.{NotPermitted, NotDir, NotEmpty, FileTooBig}
-use Rattle.sfs_tree.specs.declared.reply.Reply.{Reply}
-use Rattle.sfs_tree.specs.declared.reply.Reply.TheVariants as reply
-use Rattle.sfs_tree.specs.Effect.{Adds, Removes, Moves, Edits, Edit, Puts, Resizes}
-use Rattle.sfs_tree.specs.Tree.{TreeState, row_of, is_directory, row_count, next_number}
-use Rattle.sfs_tree.specs.Verdict.{LARGEST_FILE, Verdict, verdict, refused, answered, done, or_else, directory_fault, file_fault, node_fault, link_fault, make_fault, make_node, look_row, unlink_row, rmdir_row, move_row, move_fault, names_child}
+use Rattle.tree_laws.specs.declared.call.Call.{Call}
+use Rattle.tree_laws.specs.declared.call.Call.TheVariants as call
+use Rattle.tree_laws.specs.declared.reply.Code.{Code}
+use Rattle.tree_laws.specs.declared.reply.Code.TheVariants.{NotPermitted, NotDir, NotEmpty, FileTooBig}
+use Rattle.tree_laws.specs.declared.reply.Reply.{Reply}
+use Rattle.tree_laws.specs.declared.reply.Reply.TheVariants as reply
+use Rattle.tree_laws.specs.Effect.{Adds, Removes, Moves, Edits, Edit, Puts, Resizes}
+use Rattle.tree_laws.specs.Tree.{TreeState, row_of, is_directory, row_count, next_number}
+use Rattle.tree_laws.specs.Verdict.{LARGEST_FILE, Verdict, verdict, refused, answered, done, or_else, directory_fault, file_fault, node_fault, link_fault, make_fault, make_node, look_row, unlink_row, rmdir_row, move_row, move_fault, names_child}
 use Rattle.mem_files.specs.File.{File, mark_of}
 use Rattle.dep_closure.specs.Gathered.{born_as}
-use Rattle.flush_core.specs.Rules.{IsOneOf, Birth}
-use Rattle.flush_ties.specs.Look.{Born}
-use Rattle.file_marks.specs.Laws.{IsUnmarked}
+use Rattle.cut_laws.specs.Rules.{IsOneOf, Birth}
+use Rattle.look_laws.specs.Look.{Born}
+use Rattle.mark_laws.specs.Laws.{IsUnmarked}
 use Rattle.volume_one.specs.Calls.{HasKept, HasNew, HasNewFile, new_file}
 use Rattle.volume_one.specs.declared.volume.OpenVolume.{OpenVolume}
 use Rattle.volume_one.proofs.Entering.{IsBornBy, KnowsBirths, HasSameDisk, births_stay}

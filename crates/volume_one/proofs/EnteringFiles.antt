@@ -14,24 +14,24 @@ use Rattle.sfs_base.proofs.BasicTruth.{true_not_false}
 use Rattle.sfs_base.specs.declared.numbers.Kind.{Kind}
 use Rattle.sfs_base.specs.declared.numbers.Kind.TheVariants.{File as IsFile, Directory as IsDirectory}
 use Rattle.sfs_base.specs.declared.numbers.Stamp.{Stamp}
-use Rattle.sfs_tree.specs.declared.history.Entry.{Entry}
-use Rattle.sfs_tree.specs.Effect.{Effect, Stays, Adds, Removes, Moves, Edits, Edit, Puts, edited, with_edit, tree_with}
-use Rattle.sfs_tree.specs.Fits.{Fits}
-use Rattle.sfs_tree.specs.History.{tree_after}
-use Rattle.sfs_tree.specs.Tree.{TreeState, Node, is_directory, is_directory_kind, next_number}
-use Rattle.sfs_tree.specs.Verdict.{Verdict}
-use Rattle.sfs_tree.proofs.Histories.{tree_after-push}
-use Rattle.sfs_tree.proofs.Holders.{directory_stays}
-use Rattle.sfs_tree.proofs.KeepsNodes.{node_cases}
-use Rattle.flush_core.proofs.Nodes.{node_stays}
+use Rattle.tree_laws.specs.declared.history.Entry.{Entry}
+use Rattle.tree_laws.specs.Effect.{Effect, Stays, Adds, Removes, Moves, Edits, Edit, Puts, edited, with_edit, tree_with}
+use Rattle.tree_laws.specs.Fits.{Fits}
+use Rattle.tree_laws.specs.History.{tree_after}
+use Rattle.tree_laws.specs.Tree.{TreeState, Node, is_directory, is_directory_kind, next_number}
+use Rattle.tree_laws.specs.Verdict.{Verdict}
+use Rattle.tree_laws.proofs.Histories.{tree_after-push}
+use Rattle.tree_laws.proofs.Holders.{directory_stays}
+use Rattle.tree_laws.proofs.KeepsNodes.{node_cases}
+use Rattle.cut_laws.proofs.Nodes.{node_stays}
 use Rattle.mem_files.specs.File.{File, mark_of, is_touched, no_blocks, blocks_of}
-use Rattle.cut_trees.specs.Next.{IsMountedHistory}
-use Rattle.file_marks.specs.FileAt.{IsFileAt, IsMarkedEdit}
-use Rattle.file_marks.specs.Laws.{IsUnmarked, verdict_behind}
-use Rattle.file_marks.proofs.Kept.{edits_keep_files, others_keep_files, new_files_begin}
-use Rattle.file_marks.specs.Touched.{touched_by}
+use Rattle.raise_laws.specs.Next.{IsMountedHistory}
+use Rattle.mark_laws.specs.FileAt.{IsFileAt, IsMarkedEdit}
+use Rattle.mark_laws.specs.Laws.{IsUnmarked, verdict_behind}
+use Rattle.mark_laws.proofs.Kept.{edits_keep_files, others_keep_files, new_files_begin}
+use Rattle.mark_laws.specs.Touched.{touched_by}
 use Rattle.file_table.specs.Table.{file_at, HasSameFiles, SetsFile, EditsFile}
-use Rattle.fsync_file.specs.Touched.{is_marked_from}
+use Rattle.flush_plan.specs.Touched.{is_marked_from}
 use Rattle.volume_one.specs.Memory.{HoldsFiles}
 
 -- A file has the bytes of another one, and its marks.

@@ -12,22 +12,22 @@ use Rattle.sfs_base.specs.declared.numbers.CoreId.{CoreId}
 use Rattle.sfs_base.specs.declared.numbers.Kind.{Kind}
 use Rattle.sfs_base.specs.declared.numbers.NodeId.{NodeId}
 use Rattle.sfs_base.specs.declared.numbers.Stamp.{Stamp}
-use Rattle.sfs_tree.specs.declared.call.Call.{Call}
-use Rattle.sfs_tree.specs.declared.call.Call.TheVariants as call
-use Rattle.sfs_tree.specs.declared.changes.Change.{Change}
-use Rattle.sfs_tree.specs.declared.history.Entry.{Entry}
-use Rattle.sfs_tree.specs.declared.reply.Code.{Code}
-use Rattle.sfs_tree.specs.declared.reply.Code.TheVariants.{FileTooBig}
-use Rattle.sfs_tree.specs.declared.reply.Reply.{Reply}
-use Rattle.sfs_tree.specs.declared.reply.Reply.TheVariants as reply
-use Rattle.sfs_tree.specs.Effect.{Edits, Puts, Resizes, Moves}
-use Rattle.sfs_tree.specs.Fits.{Fits}
-use Rattle.sfs_tree.specs.History.{IsDue, MayCome, flushes, is_ok_reply, tree_after}
-use Rattle.sfs_tree.specs.Logged.{is_logged_in, logged_by, logged_replaced}
-use Rattle.sfs_tree.specs.Sound.{IsSound}
-use Rattle.sfs_tree.specs.Tree.{TreeState, row_of, is_directory, next_number}
-use Rattle.sfs_tree.specs.Verdict.{LARGEST_FILE, verdict, tree_after_call, refused, answered, done, or_else, file_fault, make_fault, make_node, names_child}
-use Rattle.sfs_tree.proofs.Fitting.{live_file}
+use Rattle.tree_laws.specs.declared.call.Call.{Call}
+use Rattle.tree_laws.specs.declared.call.Call.TheVariants as call
+use Rattle.tree_laws.specs.declared.changes.Change.{Change}
+use Rattle.tree_laws.specs.declared.history.Entry.{Entry}
+use Rattle.tree_laws.specs.declared.reply.Code.{Code}
+use Rattle.tree_laws.specs.declared.reply.Code.TheVariants.{FileTooBig}
+use Rattle.tree_laws.specs.declared.reply.Reply.{Reply}
+use Rattle.tree_laws.specs.declared.reply.Reply.TheVariants as reply
+use Rattle.tree_laws.specs.Effect.{Edits, Puts, Resizes, Moves}
+use Rattle.tree_laws.specs.Fits.{Fits}
+use Rattle.tree_laws.specs.History.{IsDue, MayCome, flushes, is_ok_reply, tree_after}
+use Rattle.tree_laws.specs.Logged.{is_logged_in, logged_by, logged_replaced}
+use Rattle.tree_laws.specs.Sound.{IsSound}
+use Rattle.tree_laws.specs.Tree.{TreeState, row_of, is_directory, next_number}
+use Rattle.tree_laws.specs.Verdict.{LARGEST_FILE, verdict, tree_after_call, refused, answered, done, or_else, file_fault, make_fault, make_node, names_child}
+use Rattle.tree_laws.proofs.Fitting.{live_file}
 use Rattle.mem_files.specs.File.{File}
 use Rattle.call_log.specs.Foreseen.{IsForeseen, removal_foreseen, move_foreseen, logged_after, change_of_node}
 use Rattle.call_log.proofs.Replies.{foreseen_is_logged}
@@ -37,10 +37,10 @@ use Rattle.core_logs.proofs.Keeping.{room_keeps, entries_may_be_added}
 use Rattle.dep_closure.specs.Gathered.{birth_node, born_as}
 use Rattle.dep_closure.specs.declared.gathered.NodeBirth.{NodeBirth}
 use Rattle.disk_change.specs.Lists.{item_with}
-use Rattle.flush_core.specs.Rules.{IsOneOf}
-use Rattle.flush_core.proofs.NewNodes.{births_are_new_nodes}
-use Rattle.flush_core.proofs.Prefixes.{alive_node}
-use Rattle.flush_core.proofs.RunFacts.{found_in}
+use Rattle.cut_laws.specs.Rules.{IsOneOf}
+use Rattle.cut_laws.proofs.NewNodes.{births_are_new_nodes}
+use Rattle.cut_laws.proofs.Prefixes.{alive_node}
+use Rattle.cut_laws.proofs.RunFacts.{found_in}
 use Rattle.file_table.specs.Table.{file_at}
 use Rattle.volume_laws.specs.Volume.{Volume}
 use Rattle.volume_one.specs.Calls.{is_fsync, call_entry, kept_with, HasKept, MayKeep}

@@ -23,7 +23,7 @@ use Rattle.disk_change.specs.OldKept.{OldKept}
 use Rattle.disk_change.proofs.Keyed.{ascends_behind, first_is_least}
 use Rattle.commit_laws.proofs.KnownDirectories.{given_is_in}
 use Rattle.commit_laws.proofs.SeatsOfPlan.{in_is_among, among_is_in}
-use Rattle.flush_commits.specs.Planned.{HasOldEntries}
+use Rattle.flush_laws.specs.Planned.{HasOldEntries}
 use Rattle.volume_one.specs.Entries.{KeptNodes, old_in, old_at, disk_entry_with, entry_at, disk_entries_at, disk_entries_in, HasSameEntries}
 
 -- what a function gives of a list is given of one of its items

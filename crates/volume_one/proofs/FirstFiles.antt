@@ -7,8 +7,8 @@ use Rattle.sfs_base.proofs.BasicTruth.{true_not_false}
 use Rattle.sfs_base.specs.declared.numbers.Kind.{Kind}
 use Rattle.sfs_base.specs.declared.numbers.Kind.TheVariants.{File as IsFile, Directory}
 use Rattle.mem_files.specs.File.{File, mark_of}
-use Rattle.sfs_tree.specs.Tree.{TreeState, Node, is_directory, is_directory_kind}
-use Rattle.file_marks.proofs.Kept.{files_begin}
+use Rattle.tree_laws.specs.Tree.{TreeState, Node, is_directory, is_directory_kind}
+use Rattle.mark_laws.proofs.Kept.{files_begin}
 use Rattle.file_table.specs.Table.{file_at, node_kind, HoldsFilesOf}
 use Rattle.volume_one.specs.Memory.{HoldsFiles}
 

@@ -7,19 +7,19 @@ use Rattle.sfs_base.proofs.BasicTruth.{true_not_false}
 use Rattle.sfs_base.specs.Listed.{is_listed}
 use Rattle.sfs_base.specs.declared.numbers.NodeId.{NodeId}
 use Rattle.sfs_image.specs.Part.{Part}
-use Rattle.sfs_tree.specs.NameRow.{node_number}
-use Rattle.sfs_tree.specs.Tree.{TreeState}
-use Rattle.image_tree.specs.Renamed.{Numbering}
+use Rattle.tree_laws.specs.NameRow.{node_number}
+use Rattle.tree_laws.specs.Tree.{TreeState}
+use Rattle.image_laws.specs.Renamed.{Numbering}
 use Rattle.disk_change.specs.Nodes.{entry_node}
 use Rattle.disk_change.specs.declared.old.OldEntry.{OldEntry}
 use Rattle.commit_laws.proofs.OwnInodes.{mapped_is_in}
 use Rattle.commit_laws.proofs.SeatsOfPlan.{in_mapped, in_is_among, among_is_in}
-use Rattle.cut_trees.specs.Next.{NumbersInodes}
+use Rattle.raise_laws.specs.Next.{NumbersInodes}
 use Rattle.dep_closure.specs.Gathered.{cut_in, born_as}
 use Rattle.dep_closure.specs.declared.gathered.NodeBirth.{NodeBirth}
 use Rattle.dep_closure.specs.declared.gathered.NodeCut.{NodeCut}
-use Rattle.flush_core.specs.Rules.{IsOneOf}
-use Rattle.flush_commits.specs.Ready.{KeepsEntries}
+use Rattle.cut_laws.specs.Rules.{IsOneOf}
+use Rattle.flush_laws.specs.Ready.{KeepsEntries}
 use Rattle.node_lists.specs.Known.{Known}
 use Rattle.volume_one.specs.Begins.{node_of_old}
 use Rattle.volume_one.specs.Memory.{KnowsNodes}

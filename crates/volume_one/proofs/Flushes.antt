@@ -15,9 +15,9 @@ use Rattle.commit_one.specs.Carried.{Carries, TakesCalls, device_calls}
 use Rattle.commit_one.specs.Change.{job_for}
 use Rattle.space_map.specs.Space.{Space, GrantedNumbers}
 use Rattle.crash_laws.specs.Wrote.{Wrote}
-use Rattle.flush_commits.specs.Journal.{CarriesCommit, ShowsCommit}
-use Rattle.flush_commits.proofs.Carried.{carried_commits_write, doubtful_commits_write}
-use Rattle.fsync_dir.specs.declared.plans.FsyncPlan.{FsyncPlan}
+use Rattle.flush_laws.specs.Journal.{CarriesCommit, ShowsCommit}
+use Rattle.flush_laws.proofs.Carried.{carried_commits_write, doubtful_commits_write}
+use Rattle.flush_plan.specs.declared.plans.FsyncPlan.{FsyncPlan}
 use Rattle.volume_laws.specs.Commits.{HasJob, HasNothingToWrite, IsWrittenAlready, parts_left, parts_brought, CanCommit}
 use Rattle.volume_laws.specs.Stores.{volume_left}
 use Rattle.volume_laws.specs.Volume.{Volume, OneFsync, tree_held, tree_raised}

@@ -3,14 +3,14 @@ use Rattle.std.proofs.Common.{◌≡◌, true, length, Option, Some, None, sym, 
 use Rattle.sfs_base.specs.declared.numbers.NodeId.{NodeId}
 use Rattle.sfs_base.specs.declared.numbers.Stamp.{Stamp}
 use Rattle.sfs_image.specs.Super.{Layout}
-use Rattle.sfs_tree.specs.Tree.{is_alive}
+use Rattle.tree_laws.specs.Tree.{is_alive}
 use Rattle.journal_one.specs.Packed.{Contents}
 use Rattle.space_map.specs.Space.{Space, GrantedNumbers}
 use Rattle.core_logs.specs.Logs.{AreGathered}
 use Rattle.file_table.specs.Table.{file_at}
-use Rattle.fsync_dir.specs.declared.plans.FsyncPlan.{FsyncPlan}
-use Rattle.fsync_plans.specs.Leads.{LeadsToCut}
-use Rattle.fsync_plans.specs.Plans.{planned_flush}
+use Rattle.flush_plan.specs.declared.plans.FsyncPlan.{FsyncPlan}
+use Rattle.plan_laws.specs.Leads.{LeadsToCut}
+use Rattle.plan_laws.specs.Plans.{planned_flush}
 use Rattle.volume_laws.specs.Volume.{Volume}
 use Rattle.volume_one.specs.Carry.{MayCarry}
 use Rattle.volume_one.specs.Ends.{IsReserved}

@@ -7,19 +7,19 @@ use Rattle.sfs_base.proofs.BasicOptions.{none_some}
 use Rattle.sfs_base.specs.Listed.{is_listed}
 use Rattle.sfs_base.specs.declared.numbers.NodeId.{NodeId}
 use Rattle.sfs_base.specs.declared.numbers.Stamp.{Stamp}
-use Rattle.sfs_tree.specs.declared.history.Entry.{Entry}
-use Rattle.sfs_tree.specs.History.{IsLegal, tree_after}
-use Rattle.sfs_tree.specs.Laws.{IsSoundTree}
-use Rattle.sfs_tree.specs.NameRow.{node_number}
-use Rattle.sfs_tree.specs.Tree.{TreeState, is_alive, is_directory}
-use Rattle.sfs_tree.proofs.FileHistories.{histories_keep_sound}
+use Rattle.tree_laws.specs.declared.history.Entry.{Entry}
+use Rattle.tree_laws.specs.History.{IsLegal, tree_after}
+use Rattle.tree_laws.specs.Laws.{IsSoundTree}
+use Rattle.tree_laws.specs.NameRow.{node_number}
+use Rattle.tree_laws.specs.Tree.{TreeState, is_alive, is_directory}
+use Rattle.tree_laws.proofs.FileHistories.{histories_keep_sound}
 use Rattle.mem_files.specs.File.{File}
-use Rattle.flush_core.specs.Cut.{Cut, cut_of}
-use Rattle.flush_core.specs.Closure.{Flush, Closure, HasLiveNode, AreFlushed, every_entry, one_more, none}
-use Rattle.flush_core.specs.Rules.{IsOneOf}
-use Rattle.flush_core.proofs.Basics.{in_left, in_right}
-use Rattle.flush_core.proofs.Prefixes.{alive_node}
-use Rattle.flush_core.proofs.WholeHistory.{none_above}
+use Rattle.cut_laws.specs.Cut.{Cut, cut_of}
+use Rattle.cut_laws.specs.Closure.{Flush, Closure, HasLiveNode, AreFlushed, every_entry, one_more, none}
+use Rattle.cut_laws.specs.Rules.{IsOneOf}
+use Rattle.cut_laws.proofs.Basics.{in_left, in_right}
+use Rattle.cut_laws.proofs.Prefixes.{alive_node}
+use Rattle.cut_laws.proofs.WholeHistory.{none_above}
 use Rattle.core_logs.specs.Laws.{GathersUnflushed}
 use Rattle.core_logs.specs.Logs.{AreGathered}
 use Rattle.core_logs.proofs.Gathered.{unflushed_is_gathered}
@@ -29,13 +29,13 @@ use Rattle.dep_closure.specs.Gathered.{IsOrderly, cut_in, born_as}
 use Rattle.dep_closure.specs.History.{HasUnflushed}
 use Rattle.dep_closure.proofs.True.{lists_are_closures}
 use Rattle.dep_closure.proofs.Enough.{unflushed_is_enough}
-use Rattle.file_marks.specs.FileAt.{IsFileAt}
+use Rattle.mark_laws.specs.FileAt.{IsFileAt}
 use Rattle.file_table.specs.Table.{file_at}
-use Rattle.fsync_plans.specs.Leads.{LeadsToCut}
-use Rattle.fsync_plans.specs.Plans.{PlansFsync, HasFileOf, IsInTime, planned_flush, whole}
-use Rattle.fsync_plans.proofs.Leads.{plans_lead_to_cuts, live_files_are_held}
-use Rattle.fsync_dir.specs.declared.plans.FsyncPlan.{FsyncPlan}
-use Rattle.fsync_dir.specs.Plan.{is_held}
+use Rattle.plan_laws.specs.Leads.{LeadsToCut}
+use Rattle.plan_laws.specs.Plans.{PlansFsync, HasFileOf, IsInTime, planned_flush, whole}
+use Rattle.plan_laws.proofs.Leads.{plans_lead_to_cuts, live_files_are_held}
+use Rattle.flush_plan.specs.declared.plans.FsyncPlan.{FsyncPlan}
+use Rattle.flush_plan.specs.Plan.{is_held}
 use Rattle.node_lists.specs.Known.{OrderlyLogs}
 use Rattle.turn_ties.specs.Led.{Sources, IsTied, planning_led}
 use Rattle.turn_ties.proofs.Led.{led_plans_are_tied}

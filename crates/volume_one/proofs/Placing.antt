@@ -10,7 +10,7 @@ use Rattle.std.proofs.lemmas.List.{take_more, map-append, get_or-map, length-map
 use Rattle.std.proofs.lemmas.List.Elements.{All-append, All-nil, All-cons, filter_map-append}
 use Rattle.std.specs.List.{cons_option}
 use Rattle.sfs_base.specs.declared.numbers.NodeId.{NodeId}
-use Rattle.sfs_tree.specs.NameRow.{node_number}
+use Rattle.tree_laws.specs.NameRow.{node_number}
 use Rattle.disk_change.specs.declared.old.OldEntry.{OldEntry}
 use Rattle.volume_one.specs.Entries.{KeptNodes, old_at, kept_in, entry_at, disk_entries_at}
 use Rattle.std.proofs.lemmas.List.Kept.{AllPairs-from_increasing}

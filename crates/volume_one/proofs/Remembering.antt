@@ -2,7 +2,7 @@
 use Rattle.std.proofs.Common.{◌≡◌, ℕ, List, length, map, refl, sym, ap, subst, ◌∙◌}
 use Rattle.std.specs.Prelude.{◌↔◌}
 use Rattle.sfs_base.specs.Listed.{is_listed}
-use Rattle.sfs_tree.specs.NameRow.{node_number}
+use Rattle.tree_laws.specs.NameRow.{node_number}
 use Rattle.space_map.specs.Space.{Space, GrantedNumbers}
 use Rattle.space_map.specs.Pool.{BecomeAll}
 use Rattle.space_map.specs.declared.status.Status.TheVariants.{Free}
@@ -10,8 +10,8 @@ use Rattle.disk_change.specs.declared.old.OldEntry.{OldEntry}
 use Rattle.core_logs.specs.Kept.{KeepsUnflushed}
 use Rattle.core_logs.specs.Logs.{Logs}
 use Rattle.dep_closure.specs.Gathered.{cut_in, born_as}
-use Rattle.flush_core.specs.Rules.{IsOneOf, births_of}
-use Rattle.flush_commits.specs.Ready.{KeepsEntries}
+use Rattle.cut_laws.specs.Rules.{IsOneOf, births_of}
+use Rattle.flush_laws.specs.Ready.{KeepsEntries}
 use Rattle.node_lists.specs.Known.{HasSameNodes}
 use Rattle.space_laws.specs.Laws.{HasNoneGranted}
 use Rattle.space_laws.specs.Map.{IsMapOf, WasReturned}
@@ -27,7 +27,7 @@ use Rattle.volume_one.specs.declared.volume.OpenVolume.{OpenVolume}
 use Rattle.volume_one.proofs.Committing.{IsGranted, commit_plan, was_granted}
 use Rattle.volume_one.proofs.EntriesKept.{same_entries}
 use Rattle.volume_one.proofs.Spaces.{all_granted, none_once_free}
-use Rattle.fsync_dir.specs.declared.plans.FsyncPlan.{FsyncPlan}
+use Rattle.flush_plan.specs.declared.plans.FsyncPlan.{FsyncPlan}
 use Rattle.sfs_base.specs.declared.numbers.NodeId.{NodeId}
 use Rattle.sfs_base.specs.declared.numbers.Stamp.{Stamp}
 

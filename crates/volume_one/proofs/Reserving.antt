@@ -3,7 +3,7 @@ use Rattle.std.proofs.Common.{◌≡◌, None, take, sym, ap, subst, ◌∙◌}
 use Rattle.space_map.specs.Pool.{Grants, free_numbers}
 use Rattle.space_map.specs.Space.{Space, GrantedNumbers, shortage}
 use Rattle.space_map.specs.declared.grant.Need.{Need}
-use Rattle.fsync_dir.specs.declared.plans.FsyncPlan.{FsyncPlan}
+use Rattle.flush_plan.specs.declared.plans.FsyncPlan.{FsyncPlan}
 use Rattle.volume_one.specs.Ends.{IsReserved, need_of_change}
 
 -- as much was reserved as the plan needs

@@ -8,8 +8,8 @@ use Rattle.sfs_base.proofs.BasicTruth.{true_not_false}
 use Rattle.sfs_base.specs.Listed.{is_listed}
 use Rattle.sfs_base.specs.declared.numbers.NodeId.{NodeId}
 use Rattle.sfs_base.specs.declared.numbers.Stamp.{Stamp}
-use Rattle.image_tree.specs.Image.{inodes_shown}
-use Rattle.image_tree.specs.Renamed.{HasNumber}
+use Rattle.image_laws.specs.Image.{inodes_shown}
+use Rattle.image_laws.specs.Renamed.{HasNumber}
 use Rattle.space_map.specs.Pool.{Pool, Ends}
 use Rattle.disk_change.specs.AllBuilt.{after_commit, entry_after, nodes_with_grant}
 use Rattle.disk_change.specs.Built.{Built}
@@ -18,11 +18,11 @@ use Rattle.disk_change.specs.Seated.{Seated}
 use Rattle.commit_laws.specs.PartsMade.{IsPlanOverParts}
 use Rattle.core_logs.specs.Logs.{AreTrimmedOf}
 use Rattle.dep_closure.specs.Gathered.{cut_in, born_as}
-use Rattle.flush_core.specs.Rules.{IsOneOf, births_of}
-use Rattle.flush_commits.proofs.Clean.{over_parts}
+use Rattle.cut_laws.specs.Rules.{IsOneOf, births_of}
+use Rattle.flush_laws.proofs.Clean.{over_parts}
 use Rattle.space_laws.specs.Laws.{HasNoneGranted}
 use Rattle.volume_laws.specs.Volume.{Volume, OneFsync, IsPlannedFor, IsVolumeStanding, tree_held, tree_raised}
-use Rattle.sfs_tree.specs.NameRow.{node_number}
+use Rattle.tree_laws.specs.NameRow.{node_number}
 use Rattle.space_map.specs.Space.{Space, GrantedNumbers}
 use Rattle.disk_change.specs.Lists.{AscendBy, item_with}
 use Rattle.disk_change.specs.Nodes.{entry_node, entry_old}
@@ -37,13 +37,13 @@ use Rattle.commit_laws.proofs.PlanShown.{node_built}
 use Rattle.commit_laws.proofs.Shown.{found_is_in}
 use Rattle.core_logs.specs.Kept.{KeepsUnflushed}
 use Rattle.core_logs.proofs.Keeping.{trims_keep_unflushed}
-use Rattle.flush_core.specs.Cut.{cut_of}
-use Rattle.flush_core.proofs.RunFacts.{found_in}
-use Rattle.flush_core.specs.Closure.{Closure, IsConcerned, every_entry}
-use Rattle.flush_commits.specs.Laws.{AreEntriesAfter}
-use Rattle.flush_commits.specs.Ready.{KeepsEntries}
-use Rattle.flush_commits.proofs.Later.{fsyncs_keep_entries}
-use Rattle.fsync_dir.specs.declared.plans.FsyncPlan.{FsyncPlan}
+use Rattle.cut_laws.specs.Cut.{cut_of}
+use Rattle.cut_laws.proofs.RunFacts.{found_in}
+use Rattle.cut_laws.specs.Closure.{Closure, IsConcerned, every_entry}
+use Rattle.flush_laws.specs.Laws.{AreEntriesAfter}
+use Rattle.flush_laws.specs.Ready.{KeepsEntries}
+use Rattle.flush_laws.proofs.Later.{fsyncs_keep_entries}
+use Rattle.flush_plan.specs.declared.plans.FsyncPlan.{FsyncPlan}
 use Rattle.space_laws.specs.Map.{IsMapOf}
 use Rattle.space_laws.proofs.Committed.{commits_keep_maps}
 use Rattle.space_laws.proofs.Mapped.{grants_keep_maps}

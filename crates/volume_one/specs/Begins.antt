@@ -7,13 +7,13 @@ use Rattle.sfs_dev.specs.Run.{CountsOn}
 use Rattle.sfs_dev.specs.Steps.{IfTold}
 use Rattle.sfs_image.specs.Settled.{layout_of}
 use Rattle.sfs_image.specs.Super.{IsLayout}
-use Rattle.sfs_tree.specs.Laws.{IsSoundTree}
-use Rattle.sfs_tree.specs.Sound.{IsWithinLimits}
-use Rattle.image_tree.specs.Image.{tree_of}
+use Rattle.tree_laws.specs.Laws.{IsSoundTree}
+use Rattle.tree_laws.specs.Sound.{IsWithinLimits}
+use Rattle.image_laws.specs.Image.{tree_of}
 use Rattle.disk_change.specs.declared.old.OldEntry.{OldEntry}
 use Rattle.journal_one.specs.Calls.{IsCalm}
 use Rattle.crash_laws.specs.Wrote.{Mounts}
-use Rattle.commit_turns.specs.Need.{node_bound}
+use Rattle.turn_laws.specs.Need.{node_bound}
 use Rattle.mount.specs.Mounted.{share_of_nodes}
 use Rattle.volume_laws.specs.Volume.{Volume}
 use Rattle.volume_one.specs.Fsync.{HoldsVolume}

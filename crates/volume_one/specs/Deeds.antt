@@ -3,13 +3,13 @@ use Rattle.std.specs.Prelude.{◌≡◌, ◌↔◌, ℕ, ◌+◌, ◌<◌, ◌�
 use Rattle.sfs_base.specs.declared.numbers.SpaceKind.{SpaceKind}
 use Rattle.sfs_dev.specs.Disk.{View}
 use Rattle.sfs_dev.specs.Run.{CountsOn}
-use Rattle.sfs_tree.specs.declared.reply.Reply.{Reply}
-use Rattle.sfs_tree.specs.declared.reply.Reply.TheVariants as reply
+use Rattle.tree_laws.specs.declared.reply.Reply.{Reply}
+use Rattle.tree_laws.specs.declared.reply.Reply.TheVariants as reply
 use Rattle.journal_one.specs.Job.{Job}
 use Rattle.commit_one.specs.Carried.{sealed_at}
-use Rattle.flush_core.specs.Closure.{every_entry, Flush, Closure}
-use Rattle.commit_turns.specs.Books.{free_in, FitsFree, IsShortOf}
-use Rattle.commit_turns.specs.Need.{nothing, node_bound}
+use Rattle.cut_laws.specs.Closure.{every_entry, Flush, Closure}
+use Rattle.turn_laws.specs.Books.{free_in, FitsFree, IsShortOf}
+use Rattle.turn_laws.specs.Need.{nothing, node_bound}
 use Rattle.turn_ties.specs.Led.{IsTied}
 use Rattle.turn_ties.specs.Plans.{Planning, planning_of, books_of_rest, need_of_planning, granted_of_planning}
 use Rattle.volume_laws.specs.Commits.{HasJob}

@@ -3,7 +3,7 @@ use Rattle.std.specs.Prelude.{◌≡◌, ℕ, List, map, is_some, if◌then◌el
 use Rattle.sfs_base.specs.declared.numbers.Stamp.{Stamp}
 use Rattle.sfs_base.specs.Listed.{is_listed}
 use Rattle.sfs_base.specs.Memory.{raised}
-use Rattle.sfs_tree.specs.NameRow.{node_number}
+use Rattle.tree_laws.specs.NameRow.{node_number}
 use Rattle.space_map.specs.Pool.{Ends}
 use Rattle.space_map.specs.Space.{GrantedNumbers}
 use Rattle.core_logs.specs.Logs.{AreTrimmedOf}

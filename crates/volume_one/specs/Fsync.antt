@@ -1,6 +1,6 @@
 -- What an fsync makes of an open volume and of its disk.
 use Rattle.std.specs.Prelude.{◌≡◌, ℕ, ◌≤◌, Bool, true, false, List, [], length, Option, Some, None}
-use Rattle.sfs_tree.specs.declared.reply.Code.TheVariants.{NoEntry}
+use Rattle.tree_laws.specs.declared.reply.Code.TheVariants.{NoEntry}
 use Rattle.sfs_base.specs.Ends.{HasRisen}
 use Rattle.sfs_base.specs.Memory.{raised}
 use Rattle.sfs_base.specs.declared.numbers.CoreId.{CoreId}
@@ -9,12 +9,12 @@ use Rattle.sfs_base.specs.declared.numbers.Stamp.{Stamp}
 use Rattle.sfs_dev.specs.Disk.{View, images}
 use Rattle.sfs_dev.specs.Run.{CountsOn}
 use Rattle.sfs_dev.specs.Steps.{IfTold}
-use Rattle.sfs_tree.specs.declared.call.Call.TheVariants as call
-use Rattle.sfs_tree.specs.declared.reply.Reply.{Reply}
-use Rattle.sfs_tree.specs.declared.reply.Reply.TheVariants as reply
+use Rattle.tree_laws.specs.declared.call.Call.TheVariants as call
+use Rattle.tree_laws.specs.declared.reply.Reply.{Reply}
+use Rattle.tree_laws.specs.declared.reply.Reply.TheVariants as reply
 use Rattle.core_logs.specs.Logs.{AreWithEntry}
 use Rattle.crash_laws.specs.Wrote.{Wrote}
-use Rattle.flush_core.specs.Closure.{Flush}
+use Rattle.cut_laws.specs.Closure.{Flush}
 use Rattle.volume_laws.specs.Commits.{HoldsParts}
 use Rattle.volume_laws.specs.Stores.{ComesNow, IsStoreLeft, volume_left}
 use Rattle.volume_laws.specs.Volume.{Volume, OneFsync, IsPlannedFor, tree_held, tree_raised}

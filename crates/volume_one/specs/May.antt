@@ -1,7 +1,7 @@
 -- Which plans can be carried to the disk once they are granted and ready.
 use Rattle.sfs_image.specs.Super.{Layout}
 use Rattle.space_map.specs.Space.{Space, GrantedNumbers}
-use Rattle.fsync_dir.specs.declared.plans.FsyncPlan.{FsyncPlan}
+use Rattle.flush_plan.specs.declared.plans.FsyncPlan.{FsyncPlan}
 use Rattle.volume_one.specs.Carry.{MayCarry}
 use Rattle.volume_one.specs.Ends.{IsReserved}
 use Rattle.volume_one.specs.Ready.{IsReadyFor}

@@ -2,15 +2,15 @@
 use Rattle.std.specs.Prelude.{◌≡◌, ◌↔◌, ℕ, false, Bool, List, length, map, Option, Some, IsSome}
 use Rattle.std.specs.FinMap.{get}
 use Rattle.sfs_base.specs.Listed.{is_listed}
-use Rattle.sfs_tree.specs.declared.history.Entry.{Entry}
-use Rattle.sfs_tree.specs.History.{tree_after}
-use Rattle.sfs_tree.specs.NameRow.{node_number}
-use Rattle.sfs_tree.specs.Tree.{TreeState, is_directory}
+use Rattle.tree_laws.specs.declared.history.Entry.{Entry}
+use Rattle.tree_laws.specs.History.{tree_after}
+use Rattle.tree_laws.specs.NameRow.{node_number}
+use Rattle.tree_laws.specs.Tree.{TreeState, is_directory}
 use Rattle.mem_files.specs.File.{File}
-use Rattle.flush_core.specs.Cut.{Cut, cut_of}
-use Rattle.flush_core.specs.Rules.{IsOneOf, births_of}
+use Rattle.cut_laws.specs.Cut.{Cut, cut_of}
+use Rattle.cut_laws.specs.Rules.{IsOneOf, births_of}
 use Rattle.dep_closure.specs.Gathered.{cut_in, born_as}
-use Rattle.file_marks.specs.FileAt.{IsFileAt}
+use Rattle.mark_laws.specs.FileAt.{IsFileAt}
 use Rattle.file_table.specs.Table.{file_at}
 use Rattle.node_lists.specs.Known.{Known}
 

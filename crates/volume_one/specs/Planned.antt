@@ -2,16 +2,16 @@
 use Rattle.std.specs.Prelude.{◌≡◌, map, Option}
 use Rattle.sfs_base.specs.declared.numbers.NodeId.{NodeId}
 use Rattle.sfs_base.specs.declared.numbers.Stamp.{Stamp}
-use Rattle.sfs_tree.specs.NameRow.{node_number}
+use Rattle.tree_laws.specs.NameRow.{node_number}
 use Rattle.mem_files.specs.File.{File}
 use Rattle.core_logs.specs.Logs.{AreGathered}
 use Rattle.dep_closure.specs.declared.gathered.Gathered.{Gathered}
 use Rattle.dep_closure.specs.Gathered.{IsOrderly}
 use Rattle.file_table.specs.Table.{file_at}
-use Rattle.fsync_dir.specs.declared.concern.Concern.{Concern}
-use Rattle.fsync_dir.specs.declared.plans.FsyncPlan.{FsyncPlan}
-use Rattle.fsync_dir.specs.Concerned.{IsConcernOf}
-use Rattle.fsync_dir.specs.Plan.{IsPlanOf}
+use Rattle.flush_plan.specs.declared.concern.Concern.{Concern}
+use Rattle.flush_plan.specs.declared.plans.FsyncPlan.{FsyncPlan}
+use Rattle.flush_plan.specs.Concerned.{IsConcernOf}
+use Rattle.flush_plan.specs.Plan.{IsPlanOf}
 use Rattle.node_lists.specs.Known.{HasSameNodes, IsGatheredFrom}
 use Rattle.volume_one.specs.Entries.{KeptNodes, disk_entries_at}
 use Rattle.volume_one.specs.declared.volume.OpenVolume.{OpenVolume}

@@ -1,7 +1,7 @@
 -- A commit that has all that it needs of memory.
 use Rattle.std.specs.Prelude.{◌≡◌, ◌≤◌, [], length, map, Option, None, Some}
 use Rattle.std.specs.List.Sorted.{IsStrictlyIncreasing}
-use Rattle.sfs_tree.specs.NameRow.{node_number}
+use Rattle.tree_laws.specs.NameRow.{node_number}
 use Rattle.fmt_journal.specs.declared.tx.Tx.{Tx}
 use Rattle.journal_one.specs.Packed.{Contents, AreContents, contents_of}
 use Rattle.space_map.specs.Space.{GrantedNumbers}
@@ -9,7 +9,7 @@ use Rattle.disk_change.specs.AllBuilt.{after_commit}
 use Rattle.disk_change.specs.Lists.{AscendBy}
 use Rattle.disk_change.specs.Nodes.{entry_node}
 use Rattle.disk_change.specs.Written.{IsTransactionOf}
-use Rattle.fsync_dir.specs.declared.plans.FsyncPlan.{FsyncPlan}
+use Rattle.flush_plan.specs.declared.plans.FsyncPlan.{FsyncPlan}
 use Rattle.node_lists.specs.Known.{HasSameNodes}
 use Rattle.volume_one.specs.Entries.{HaveDiskPlaces, HasSameEntries}
 use Rattle.volume_one.specs.declared.preparing.Ready.{Ready}

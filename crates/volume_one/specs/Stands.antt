@@ -3,11 +3,11 @@ use Rattle.std.specs.Prelude.{◌≡◌, ℕ, length}
 use Rattle.std.specs.BTreeMap.{IsOrdered}
 use Rattle.std.specs.Ordering.{nat_cmp}
 use Rattle.sfs_image.specs.Super.{IsLayout}
-use Rattle.sfs_tree.specs.History.{tree_after}
+use Rattle.tree_laws.specs.History.{tree_after}
 use Rattle.core_logs.specs.Kept.{KeepsUnflushed}
-use Rattle.file_marks.specs.Changed.{HasShortFiles}
-use Rattle.flush_commits.specs.Journal.{AreSpelled}
-use Rattle.flush_commits.specs.Ready.{KeepsEntries}
+use Rattle.mark_laws.specs.Changed.{HasShortFiles}
+use Rattle.flush_laws.specs.Journal.{AreSpelled}
+use Rattle.flush_laws.specs.Ready.{KeepsEntries}
 use Rattle.space_laws.specs.Laws.{HasNoneGranted}
 use Rattle.space_laws.specs.Map.{IsMapOf}
 use Rattle.volume_laws.specs.Volume.{Volume, IsVolumeStanding}

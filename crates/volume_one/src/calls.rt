@@ -1,7 +1,7 @@
 // A call other than an fsync: the tree makes it, and what it changes is logged and marked.
 ghost use Rattle.std.specs.Prelude.{◌≡◌, ◌<◌, ◌-◌, ◌^◌, false, None, length, IfOk, OnOk};
-ghost use Rattle.sfs_tree.specs.Step.{IsReadable};
-ghost use Rattle.sfs_tree.specs.Verdict.{verdict};
+ghost use Rattle.tree_laws.specs.Step.{IsReadable};
+ghost use Rattle.tree_laws.specs.Verdict.{verdict};
 ghost use Rattle.volume_one.specs.Calls.{GoesOnWith, HasKept, HasNew, MayKeep, call_entry, is_fsync};
 ghost use Rattle.volume_one.specs.Stands.{IsStandingAt};
 ghost use Rattle.disk_change.specs.Lists.{item_with};
@@ -11,7 +11,7 @@ use crate::OpenVolume;
 use call_log::{foresee, logged_after};
 use mem_files::FileBytes;
 use sfs_base::{CoreId, Kind, NoMemory, NodeId, Stamp};
-use sfs_tree::{Call, Reply};
+use tree_laws::{Call, Reply};
 
 impl OpenVolume {
     /// Makes a call of a core, other than an fsync, at the next stamp. Want of memory ends the volume:

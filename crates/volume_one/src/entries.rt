@@ -4,7 +4,7 @@ ghost use Rattle.std.specs.Option.{option_copied};
 ghost use Rattle.std.specs.Ordering.{nat_cmp};
 ghost use Rattle.std.specs.BTreeMap.{IsOrdered};
 ghost use Rattle.std.specs.List.Sorted.{IsStrictlyIncreasing};
-ghost use Rattle.sfs_tree.specs.NameRow.{node_number};
+ghost use Rattle.tree_laws.specs.NameRow.{node_number};
 ghost use Rattle.disk_change.specs.Lists.{item_with};
 ghost use Rattle.disk_change.specs.Nodes.{entry_node};
 ghost use Rattle.volume_one.specs.Entries.{old_at, kept_in, disk_entries_at, AreReplaced, HaveDiskPlaces, HasDiskPlace, HasSameEntries};

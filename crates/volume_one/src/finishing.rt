@@ -1,6 +1,6 @@
 // What memory keeps once a commit is durable. None of it takes memory.
 ghost use Rattle.std.specs.Prelude.{◌≤◌, length, map};
-ghost use Rattle.sfs_tree.specs.NameRow.{node_number};
+ghost use Rattle.tree_laws.specs.NameRow.{node_number};
 ghost use Rattle.space_map.specs.Space.{AllGranted};
 ghost use Rattle.volume_one.specs.Finished.{HasFinished, HasInodesBy};
 ghost use Rattle.volume_one.specs.Ready.{HasReadyRoom};

@@ -1,7 +1,7 @@
 ghost use Rattle.std.specs.Prelude.{◌≡◌, None};
 
 use crate::deed::Deed;
-use sfs_tree::Reply;
+use tree_laws::Reply;
 
 /// What an fsync was answered, the disk's count of device calls when it was on the disk, and what it did.
 #[derive(Drop)]

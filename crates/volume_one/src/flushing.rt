@@ -5,8 +5,8 @@ ghost use Rattle.std.specs.Prelude.{◌≡◌, ◌≤◌, ◌<◌, ◌-◌, ◌^
 ghost use Rattle.std.specs.List.Sorted.{IsStrictlyIncreasing};
 ghost use Rattle.sfs_image.specs.Super.{IsLayout};
 ghost use Rattle.sfs_dev.specs.Run.{Advances};
-ghost use Rattle.sfs_tree.specs.NameRow.{node_number};
-ghost use Rattle.sfs_tree.specs.Tree.{is_alive};
+ghost use Rattle.tree_laws.specs.NameRow.{node_number};
+ghost use Rattle.tree_laws.specs.Tree.{is_alive};
 ghost use Rattle.space_map.specs.Space.{AllGranted};
 ghost use Rattle.volume_one.specs.Carry.{CarriesPacked, MayCarry};
 ghost use Rattle.volume_one.specs.Ends.{FlushEnds, GrantEnds, PlanEnds, ReadyEnds};
@@ -21,11 +21,11 @@ use crate::flushed::Flushed;
 use crate::preparing::Ready;
 use commit_one::{Committed, commit};
 use disk_change::need;
-use fsync_dir::FsyncPlan;
+use flush_plan::FsyncPlan;
 use journal_one::{Doubt, Idle, Packed};
 use sfs_base::{CoreId, NodeId, Stamp};
 use sfs_dev::Disk;
-use sfs_tree::{Changes, Code, Reply};
+use tree_laws::{Changes, Code, Reply};
 use space_map::{Grant, SpaceFault};
 
 impl OpenVolume {

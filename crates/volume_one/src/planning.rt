@@ -8,7 +8,7 @@ ghost use Rattle.volume_one.specs.Stands.{IsStandingAt};
 use crate::OpenVolume;
 use crate::entries::{DiskNodes, entries_of};
 use dep_closure::Gathered;
-use fsync_dir::{FsyncPlan, concerned, plan};
+use flush_plan::{FsyncPlan, concerned, plan};
 use mem_files::FileBytes;
 use sfs_base::{NoMemory, NodeId, Stamp};
 use std::alloc::Global;

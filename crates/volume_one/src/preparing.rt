@@ -1,14 +1,14 @@
 // What a commit needs of memory, before its first device call.
 ghost use Rattle.std.specs.Prelude.{map, IfOk};
 ghost use Rattle.std.specs.List.Sorted.{IsStrictlyIncreasing};
-ghost use Rattle.sfs_tree.specs.NameRow.{node_number};
+ghost use Rattle.tree_laws.specs.NameRow.{node_number};
 ghost use Rattle.volume_one.specs.Ready.{IsReadyFor, HasReadyRoom, IsSameButRoom, IsUnpacked};
 
 use crate::OpenVolume;
 use crate::entries::make_places;
 use disk_change::{Built, OldDisk, build};
 use fmt_journal::Tx;
-use fsync_dir::FsyncPlan;
+use flush_plan::FsyncPlan;
 use journal_one::Packed;
 use sfs_base::{BlockList, InodeList, NoMemory, NodeList, RoomyList};
 use space_map::Grant;

@@ -1,14 +1,14 @@
 // A call joins the history where its answer is one that it may have.
 ghost use Rattle.std.specs.Prelude.{◌≡◌, ◌<◌, ◌↔◌, true, false, length, IfOk};
-ghost use Rattle.sfs_tree.specs.Step.{IsReadable};
-ghost use Rattle.sfs_tree.specs.History.{IsFsyncReply, is_ok_reply};
-ghost use Rattle.flush_core.specs.declared.event.Event.TheVariants as event;
+ghost use Rattle.tree_laws.specs.Step.{IsReadable};
+ghost use Rattle.tree_laws.specs.History.{IsFsyncReply, is_ok_reply};
+ghost use Rattle.cut_laws.specs.declared.event.Event.TheVariants as event;
 
 use super::State;
-use crate::event::Refused;
+use cut_laws::Refused;
 use crate::story::flushes;
 use sfs_base::{NoMemory, Stamp};
-use sfs_tree::{Entry, Reply};
+use tree_laws::{Entry, Reply};
 
 impl State {
     ghost use Rattle.flush_core.specs.State.{Answers};

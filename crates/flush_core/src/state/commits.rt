@@ -1,16 +1,16 @@
 // The events of commits.
 ghost use Rattle.std.specs.Prelude.{◌≡◌, false, List, map, IfOk};
-ghost use Rattle.sfs_tree.specs.Sound.{IsSound};
-ghost use Rattle.sfs_tree.specs.declared.history.Entry.{Entry};
-ghost use Rattle.flush_core.specs.declared.event.Event.TheVariants as event;
-ghost use Rattle.flush_core.specs.Closure.{every_entry, AreRaised};
+ghost use Rattle.tree_laws.specs.Sound.{IsSound};
+ghost use Rattle.tree_laws.specs.declared.history.Entry.{Entry};
+ghost use Rattle.cut_laws.specs.declared.event.Event.TheVariants as event;
+ghost use Rattle.cut_laws.specs.Closure.{every_entry, AreRaised};
 ghost use Rattle.flush_core.specs.NodeSets.{has_node};
 ghost use Rattle.flush_core.specs.Flights.{flight_as};
 ghost use Rattle.flush_core.specs.Past.{IsPast};
 ghost use Rattle.flush_core.specs.State.{kept_flushes, tree_has};
 
 use super::State;
-use crate::event::{CommitList, Refused};
+use cut_laws::{CommitList, Refused};
 use crate::flight::{
     InFlight, end_flight, first_not_flying, first_not_opened, flush_of, is_flying, is_opened,
     least_taken, mark_opened, new_flight,
@@ -23,7 +23,7 @@ use sfs_tree::Tree;
 use std::alloc::Global;
 
 impl State {
-    ghost use Rattle.flush_core.specs.Machine.{BeginsFlight};
+    ghost use Rattle.cut_laws.specs.Machine.{BeginsFlight};
     ghost use Rattle.flush_core.specs.State.{Answers, IsRaisedTo, machine_of, inodes_of};
 
     // Begins a commit.

@@ -1,12 +1,12 @@
 // The names that a command walks, and its last call.
 ghost use Rattle.std.specs.Prelude.{◌≡◌, IfOk};
-ghost use Rattle.sfs_tree.specs.declared.call.Call.TheVariants as call;
+ghost use Rattle.tree_laws.specs.declared.call.Call.TheVariants as call;
 ghost use Rattle.script.specs.Places.{last_name};
 ghost use Rattle.script.specs.Walks.{first_walk, second_walk, last_call, node_id};
 
 use crate::{Command, NamePath};
 use sfs_base::{Chunk, Kind, Name, NoMemory, NodeId};
-use sfs_tree::Call;
+use tree_laws::Call;
 
 // The names that a command walks first, from the root on.
 pub fn first_walk(command: &Command) -> &[Name]

@@ -5,7 +5,7 @@ ghost use Rattle.script.specs.Workers.{walk_state_of};
 use crate::Command;
 use crate::working::calls::{first_walk, last_call, look, second_walk};
 use sfs_base::{Name, NoMemory, NodeId};
-use sfs_tree::{Call, Reply};
+use tree_laws::{Call, Reply};
 
 /// What is left of a command.
 #[derive(Clone, Copy)]

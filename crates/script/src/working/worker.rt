@@ -4,7 +4,7 @@ ghost use Rattle.script.specs.Walks.{Done, go_on, started, taken, call_of, comma
 use crate::working::steps::{Walk, after, begun, call_of};
 use crate::{Line, Phase};
 use sfs_base::NoMemory;
-use sfs_tree::{Call, Reply};
+use tree_laws::{Call, Reply};
 use std::marker::Model;
 
 /// A worker at its commands in a phase. Contracts see where it stands: what is left of the command

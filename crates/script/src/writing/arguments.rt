@@ -1,12 +1,12 @@
 // What a line of the text is made of: names, rows and bytes.
 ghost use Rattle.std.specs.Prelude.{◌≡◌, ◌++◌, ℕ, map, flat_map, OnOk, string_bytes};
-ghost use Rattle.sfs_tree.specs.NameKinds.{name_kind};
+ghost use Rattle.tree_laws.specs.NameKinds.{name_kind};
 ghost use Rattle.script.specs.Texts.{name_text, number_text, row_text, bytes_text, listed_text};
 
 use crate::writing::fixed_words::mark_word;
 use percent_encoding::{AsciiSet, CONTROLS, ascii_set, percent_encode};
 use sfs_base::{Chunk, Name, NoMemory, NodeId};
-use sfs_tree::NameRows;
+use tree_laws::NameRows;
 use std::alloc::Global;
 
 /// The bytes of a name that are written as `%` and two hex digits, beside those above 127.

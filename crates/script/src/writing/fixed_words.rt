@@ -3,7 +3,7 @@ ghost use Rattle.std.specs.Prelude.{◌≡◌};
 ghost use Rattle.script.specs.Texts.{kind_text, make_text, code_text, space_text, mark_text};
 
 use sfs_base::{Kind, SpaceKind};
-use sfs_tree::Code;
+use tree_laws::Code;
 
 pub fn make_word(kind: Kind) -> &'static str
     ensures { result.now ≡ make_text kind }

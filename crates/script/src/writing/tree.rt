@@ -1,9 +1,9 @@
 // A tree as text.
 ghost use Rattle.std.specs.Prelude.{◌≡◌, ◌<◌, ◌++◌, false, [], codes, length, IfOk, OnOk, string_bytes, true};
 ghost use Rattle.indexmap.specs.IndexSet.{keys};
-ghost use Rattle.sfs_tree.specs.Shape.{with_file};
-ghost use Rattle.sfs_tree.specs.Sound.{IsSound};
-ghost use Rattle.sfs_tree.specs.Tree.{is_directory, bytes_of};
+ghost use Rattle.tree_laws.specs.Shape.{with_file};
+ghost use Rattle.tree_laws.specs.Sound.{IsSound};
+ghost use Rattle.tree_laws.specs.Tree.{is_directory, bytes_of};
 ghost use Rattle.script.specs.Texts.{name_text};
 ghost use Rattle.script.specs.TreeTexts.{directory_text, file_text, tree_text};
 ghost use Rattle.script.specs.TreeWalk.{item_of, items_of, child_items, shown_path, IsGroupIn, IsWalkOf, IsWalkBefore, left_to_meet};

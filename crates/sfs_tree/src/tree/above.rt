@@ -6,9 +6,9 @@ use super::Tree;
 use sfs_base::{NoMemory, NodeId};
 
 impl Tree {
-    ghost use Rattle.sfs_tree.specs.NameRow.{node_number};
-    ghost use Rattle.sfs_tree.specs.Tree.{is_directory, walk_up};
-    ghost use Rattle.sfs_tree.specs.Sound.{IsSound};
+    ghost use Rattle.tree_laws.specs.NameRow.{node_number};
+    ghost use Rattle.tree_laws.specs.Tree.{is_directory, walk_up};
+    ghost use Rattle.tree_laws.specs.Sound.{IsSound};
 
     /// The directories above a directory of a sound tree, from its holder on up to the root.
     pub fn above(&self, dir: NodeId) -> Result<Vec<NodeId>, NoMemory>

@@ -1,17 +1,17 @@
 // The calls that change a file's bytes.
 ghost use Rattle.std.specs.Prelude.{◌≡◌, ℕ, IfOk, OnErr};
-ghost use Rattle.sfs_tree.specs.declared.call.Call.TheVariants as call;
+ghost use Rattle.tree_laws.specs.declared.call.Call.TheVariants as call;
 
 use super::Tree;
 use super::faults::refused;
-use crate::{Code, Reply};
+use tree_laws::{Code, Reply};
 use sfs_base::{Chunk, NoMemory, NodeId};
 
 /// How many bytes a file has at most.
 const LARGEST_FILE: u64 = 67_551_232;
 
 impl Tree {
-    ghost use Rattle.sfs_tree.specs.Step.{IsStep};
+    ghost use Rattle.tree_laws.specs.Step.{IsStep};
 
     pub(super) fn write(&mut self, file: NodeId, at: u64, bytes: &Chunk) -> Result<Reply, NoMemory>
         ensures ok { IfOk result (λ reply. (core : ℕ) → IsStep self.old core (call.Write file at bytes.now) reply self.new) }

@@ -4,7 +4,7 @@ ghost use Rattle.std.specs.FinMap as finmap;
 ghost use Rattle.sfs_base.specs.Name.{bucket};
 
 use super::Tree;
-use crate::{Code, Reply};
+use tree_laws::{Code, Reply};
 use sfs_base::{Kind, Name, NodeId, bucket_of};
 
 /// How many rows a bucket of a directory holds at most.
@@ -18,8 +18,8 @@ pub(super) fn refused(code: Code) -> Reply
 }
 
 impl Tree {
-    ghost use Rattle.sfs_tree.specs.Tree.{is_directory, kind_of};
-    ghost use Rattle.sfs_tree.specs.Verdict.{directory_fault, file_fault, node_fault, is_full};
+    ghost use Rattle.tree_laws.specs.Tree.{is_directory, kind_of};
+    ghost use Rattle.tree_laws.specs.Verdict.{directory_fault, file_fault, node_fault, is_full};
 
     pub(super) fn is_directory(&self, node: NodeId) -> bool
         ensures { result ≡ is_directory self.now node.0 }

@@ -2,22 +2,22 @@
 ghost use Rattle.std.specs.Prelude.{◌≡◌, ◌+◌, ◌<◌, ◌≤◌, ℕ, None, Some, length, IsTrue, IfOk, OnOk, OnErr};
 ghost use Rattle.std.specs.FinMap as finmap;
 ghost use Rattle.sfs_base.specs.Name.{bucket};
-ghost use Rattle.sfs_tree.specs.declared.call.Call.TheVariants as call;
+ghost use Rattle.tree_laws.specs.declared.call.Call.TheVariants as call;
 
 use super::Tree;
 use super::faults::refused;
 use crate::nodes::NodeData;
-use crate::{Code, Reply};
+use tree_laws::{Code, Reply};
 use sfs_base::{CoreId, Kind, Name, NoMemory, NodeId};
 
 /// Up to how many links a further one may bring a file.
 const MOST_LINKS: u32 = 65_535;
 
 impl Tree {
-    ghost use Rattle.sfs_tree.specs.Tree.{row_of, is_directory, bucket_rows, made_by, next_number};
-    ghost use Rattle.sfs_tree.specs.Effect.{Adds, tree_with};
-    ghost use Rattle.sfs_tree.specs.Verdict.{make_fault};
-    ghost use Rattle.sfs_tree.specs.Step.{IsStep};
+    ghost use Rattle.tree_laws.specs.Tree.{row_of, is_directory, bucket_rows, made_by, next_number};
+    ghost use Rattle.tree_laws.specs.Effect.{Adds, tree_with};
+    ghost use Rattle.tree_laws.specs.Verdict.{make_fault};
+    ghost use Rattle.tree_laws.specs.Step.{IsStep};
 
     pub(super) fn make(
         &mut self,
@@ -96,10 +96,10 @@ impl Tree {
 }
 
 impl Tree {
-    ghost use Rattle.sfs_tree.specs.Verdict.{link_fault, unlink_row, rmdir_row};
-    ghost use Rattle.sfs_tree.specs.Tree.{row_of};
-    ghost use Rattle.sfs_tree.specs.Sound.{IsSound};
-    ghost use Rattle.sfs_tree.specs.Step.{IsStep, IsLine};
+    ghost use Rattle.tree_laws.specs.Verdict.{link_fault, unlink_row, rmdir_row};
+    ghost use Rattle.tree_laws.specs.Tree.{row_of};
+    ghost use Rattle.tree_laws.specs.Sound.{IsSound};
+    ghost use Rattle.tree_laws.specs.Step.{IsStep, IsLine};
 
     pub(super) fn link(&mut self, file: NodeId, dir: NodeId, name: &Name) -> Result<Reply, NoMemory>
         requires { IsSound self.old }

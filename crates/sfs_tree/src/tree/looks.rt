@@ -1,19 +1,19 @@
 // The calls that leave the tree as it is.
 ghost use Rattle.std.specs.Prelude.{◌≡◌, ◌≤◌, ℕ, map, take, drop, IfOk};
 ghost use Rattle.std.specs.FinMap as finmap;
-ghost use Rattle.sfs_tree.specs.declared.call.Call.TheVariants as call;
+ghost use Rattle.tree_laws.specs.declared.call.Call.TheVariants as call;
 
 use super::Tree;
 use super::faults::refused;
-use crate::{Code, NameKind, NameMap, NameRows, Reply};
+use tree_laws::{Code, NameKind, NameMap, NameRows, Reply};
 use sfs_base::{Chunk, Name, NoMemory, NodeId};
 use std::alloc::Global;
 
 impl Tree {
-    ghost use Rattle.sfs_tree.specs.Tree.{bytes_of, links_of};
-    ghost use Rattle.sfs_tree.specs.Names.{with_kinds};
-    ghost use Rattle.sfs_tree.specs.Verdict.{size_of};
-    ghost use Rattle.sfs_tree.specs.Step.{IsAnswer};
+    ghost use Rattle.tree_laws.specs.Tree.{bytes_of, links_of};
+    ghost use Rattle.tree_laws.specs.Names.{with_kinds};
+    ghost use Rattle.tree_laws.specs.Verdict.{size_of};
+    ghost use Rattle.tree_laws.specs.Step.{IsAnswer};
 
     pub(super) fn look(&self, dir: NodeId, name: &Name) -> Reply
         ensures { IsAnswer self.now (call.Look dir name.now) result }

@@ -3,15 +3,15 @@ ghost use Rattle.std.specs.Prelude.{◌≡◌, ◌<◌, None, true, option_map, 
 ghost use Rattle.std.specs.FinMap as finmap;
 
 use super::Tree;
-use crate::NameMap;
+use tree_laws::NameMap;
 use sfs_base::{Kind, Name, NoMemory, NodeId};
 
 impl Tree {
-    ghost use Rattle.sfs_tree.specs.Tree.{row_of, is_alive, is_directory, holder_of, bucket_rows, names_of, bytes_of};
-    ghost use Rattle.sfs_tree.specs.NameRow.{number_of};
+    ghost use Rattle.tree_laws.specs.Tree.{row_of, is_alive, is_directory, holder_of, bucket_rows, names_of, bytes_of};
+    ghost use Rattle.tree_laws.specs.NameRow.{number_of};
     ghost use Rattle.std.specs.Option.{option_or};
-    ghost use Rattle.sfs_tree.specs.Sound.{IsSound};
-    ghost use Rattle.sfs_tree.specs.Least.{IsLeast, NoneFrom, first_behind};
+    ghost use Rattle.tree_laws.specs.Sound.{IsSound};
+    ghost use Rattle.tree_laws.specs.Least.{IsLeast, NoneFrom, first_behind};
 
     /// The kind of a node, `None` exactly where the tree has no such node.
     pub fn kind(&self, node: NodeId) -> Option<Kind>

@@ -2,20 +2,20 @@
 // child in place of its own, which takes no memory.
 ghost use Rattle.std.specs.Prelude.{◌≡◌, ◌==◌, ◌&&◌, ◌||◌, ◌<◌, ◌≤◌, ℕ, List, None, Some, true, IfOk, OnErr};
 ghost use Rattle.std.specs.FinMap as finmap;
-ghost use Rattle.sfs_tree.specs.declared.call.Call.TheVariants as call;
+ghost use Rattle.tree_laws.specs.declared.call.Call.TheVariants as call;
 
 use super::Tree;
 use super::faults::refused;
-use crate::{Code, Reply};
+use tree_laws::{Code, Reply};
 use sfs_base::{Name, NoMemory, NodeId};
 
 impl Tree {
-    ghost use Rattle.sfs_tree.specs.Tree.{row_of, is_directory, lies_below};
-    ghost use Rattle.sfs_tree.specs.NameRow.{number_of};
-    ghost use Rattle.sfs_tree.specs.Sound.{IsSound};
-    ghost use Rattle.sfs_tree.specs.Verdict.{directory_fault, move_row, move_fault, place_fault};
+    ghost use Rattle.tree_laws.specs.Tree.{row_of, is_directory, lies_below};
+    ghost use Rattle.tree_laws.specs.NameRow.{number_of};
+    ghost use Rattle.tree_laws.specs.Sound.{IsSound};
+    ghost use Rattle.tree_laws.specs.Verdict.{directory_fault, move_row, move_fault, place_fault};
     ghost use Rattle.std.specs.Option.{option_or};
-    ghost use Rattle.sfs_tree.specs.Step.{IsStep, IsLine};
+    ghost use Rattle.tree_laws.specs.Step.{IsStep, IsLine};
 
     pub(super) fn rename(
         &mut self,

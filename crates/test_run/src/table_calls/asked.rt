@@ -1,6 +1,6 @@
 // Calls as the tables of the tests have them.
 ghost use Rattle.std.specs.Prelude.{◌≡◌, true, IfSome};
-ghost use Rattle.sfs_tree.specs.Step.{IsReadable};
+ghost use Rattle.tree_laws.specs.Step.{IsReadable};
 
 use sfs_base::{Chunk, Kind, Name, NodeId};
 use sfs_tree::Call;

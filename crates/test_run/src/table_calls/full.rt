@@ -1,7 +1,7 @@
 // Calls on a tree that holds as much as it may: a file with as many names as a file may have, buckets with as many rows, and a core that
 // has made all its nodes.
 ghost use Rattle.std.specs.Prelude.{◌+◌, ◌<◌, ◌≤◌, IfOk, OnOk, length};
-ghost use Rattle.sfs_tree.specs.Sound.{IsSound};
+ghost use Rattle.tree_laws.specs.Sound.{IsSound};
 ghost use Rattle.stamp_table.specs.Table.{IsBetweenCalls};
 ghost use Rattle.begun_tables.specs.Begun.{BeginsTable, IsBuiltTree, IsCallTable, KeepsNumbers};
 

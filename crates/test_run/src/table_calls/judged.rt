@@ -1,6 +1,6 @@
 // Whether a history is the one that was asked for.
 ghost use Rattle.std.specs.Prelude.{◌≡◌, ◌<◌, length};
-ghost use Rattle.sfs_tree.specs.Sound.{IsSound};
+ghost use Rattle.tree_laws.specs.Sound.{IsSound};
 
 use crate::table_calls::asked::{Asked, is_asked};
 use crate::table_calls::drawn::{Draw, draws};

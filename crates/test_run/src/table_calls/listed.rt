@@ -1,6 +1,6 @@
 // Calls of each kind that one core makes, with the errors that are due.
 ghost use Rattle.std.specs.Prelude.{◌+◌, ◌<◌, length};
-ghost use Rattle.sfs_tree.specs.Sound.{IsSound};
+ghost use Rattle.tree_laws.specs.Sound.{IsSound};
 ghost use Rattle.stamp_table.specs.Table.{IsBetweenCalls, IsSameCore};
 ghost use Rattle.begun_tables.specs.Begun.{BeginsTable, IsCallTable};
 

@@ -1,6 +1,6 @@
 // Two cores that move two directories below each other at the same time. Both moves together would close a loop, so one of them is refused.
 ghost use Rattle.std.specs.Prelude.{◌≡◌, length};
-ghost use Rattle.sfs_tree.specs.Sound.{IsSound};
+ghost use Rattle.tree_laws.specs.Sound.{IsSound};
 ghost use Rattle.stamp_table.specs.Table.{IsBetweenCalls, IsSameCore};
 ghost use Rattle.begun_tables.specs.Begun.{IsCallTable};
 

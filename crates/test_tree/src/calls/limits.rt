@@ -1,6 +1,6 @@
 // Limits, and the numbers of two cores.
 ghost use Rattle.std.specs.Prelude.{◌<◌, IfOk};
-ghost use Rattle.sfs_tree.specs.Step.{IsReadable};
+ghost use Rattle.tree_laws.specs.Step.{IsReadable};
 
 use super::Asked::{self, Create, Link, List, Mkdir, Rename, Stat, Unlink};
 use super::{Trial, made, root_alone};

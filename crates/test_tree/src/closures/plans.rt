@@ -5,7 +5,7 @@ use super::{NODES, Watched};
 use disk_change::{Built, DiskChange, OldDisk, OldNode, build, need};
 use fmt_inode::{Inode, Tables};
 use fmt_slots::SlotList;
-use fsync_dir::{concerned, plan};
+use flush_plan::{concerned, plan};
 use mem_files::FileBytes;
 use sfs_base::{Kind, NodeId, NodeList, Stamp};
 use space_map::{Grant, Need, SpaceMap};

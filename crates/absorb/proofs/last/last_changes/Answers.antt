@@ -1,7 +1,7 @@
 use Rattle.std.proofs.Common.{◌++◌, ◌∷◌, [], ◌∙◌, sym, ap, subst, take, length, ◌<◌, arith}
 use Rattle.std.proofs.lemmas.List.{take_more}
 use Rattle.std.specs.FinMap.Entries.{put}
-use Rattle.sfs_tree.specs.Order.{name_cmp}
+use Rattle.tree_laws.specs.Order.{name_cmp}
 use Rattle.absorb.specs.Last.{lent, AreLast}
 use Rattle.absorb.proofs.LastChanges.{lent-inserted, AreLast-push}
 use Rattle.absorb.proofs.last.last_changes.Goals as goal

@@ -1,7 +1,7 @@
 use Rattle.std.proofs.Common.{rules, arith, sym, subst}
 use Rattle.std.specs.FinMap.{len-entries}
 use Rattle.sfs_base.specs.Name.{bucket}
-use Rattle.sfs_tree.specs.Tree.{bucket_rows}
+use Rattle.tree_laws.specs.Tree.{bucket_rows}
 use Rattle.mem_begin.proofs.Rows.{bucket_fits}
 use Rattle.begun_tables.specs.Begun.{IsBuiltTree}
 use Rattle.begun_tables.proofs.Built.{begins_with_row, few_rows, row_fits, within_with_row}

@@ -5,7 +5,7 @@ use Rattle.sfs_image.specs.Inode.{Inode, Table}
 use Rattle.sfs_image.specs.Part.{tabulate}
 use Rattle.sfs_image.specs.Seen.{FILE_BLOCKS}
 use Rattle.sfs_image.proofs.Basics.{get_or-tabulate}
-use Rattle.image_tree.specs.Need.{takes_place, rank}
+use Rattle.image_laws.specs.Need.{takes_place, rank}
 use Rattle.block_map.specs.declared.rewrite.TableFate.{TableFate}
 use Rattle.block_map.specs.declared.rewrite.TableFate.TheVariants.{Stays}
 use Rattle.block_map.specs.declared.changed.ChangedBlock.{ChangedBlock}

@@ -1,6 +1,6 @@
 use Rattle.std.proofs.Common.{◌≡◌, ℕ, ◌<◌, ◌+◌, get_or, length}
 use Rattle.sfs_image.specs.Seen.{FILE_BLOCKS}
-use Rattle.image_tree.specs.Need.{takes_place, rank}
+use Rattle.image_laws.specs.Need.{takes_place, rank}
 use Rattle.block_map.specs.Remap.{rewrite_of, pointer_remapped}
 use Rattle.block_map.proofs.remapping.indirect_after.Given as goal
 

@@ -3,7 +3,7 @@ use Rattle.std.specs.List.{range_with_len}
 use Rattle.sfs_image.specs.Inode.{Table}
 use Rattle.sfs_image.specs.Part.{tabulate}
 use Rattle.sfs_image.proofs.Basics.{get_or-tabulate}
-use Rattle.image_tree.specs.Need.{Rewrite}
+use Rattle.image_laws.specs.Need.{Rewrite}
 use Rattle.block_map.specs.declared.rewrite.TableFate.{TableFate}
 use Rattle.block_map.specs.declared.rewrite.TableFate.TheVariants.{Stays}
 use Rattle.block_map.specs.Remap.{rewrite_of, table_fate, table_by_fate, table_remapped}

@@ -1,6 +1,6 @@
 use Rattle.std.proofs.Common.{arith, ap, ◌∙◌, ◌+◌}
 use Rattle.std.proofs.lemmas.List.{length-set}
-use Rattle.image_tree.specs.Need.{first_block}
+use Rattle.image_laws.specs.Need.{first_block}
 use Rattle.block_map.specs.Remap.{rewrite_of, pointer_remapped}
 use Rattle.block_map.proofs.Tables.{tabulated, set_more}
 use Rattle.block_map.proofs.remapping.written.Goals as goal

@@ -1,5 +1,5 @@
 use Rattle.std.proofs.Common.{◌≡◌, ℕ, ◌<◌, ◌+◌, get_or, length}
-use Rattle.image_tree.specs.Need.{first_block}
+use Rattle.image_laws.specs.Need.{first_block}
 use Rattle.block_map.specs.Remap.{rewrite_of, pointer_remapped}
 use Rattle.block_map.proofs.remapping.written.Given as goal
 

@@ -1,6 +1,6 @@
 use Rattle.std.proofs.Common.{arith, sym, ◌∙◌, ◌+◌}
 use Rattle.sfs_image.specs.Seen.{FILE_BLOCKS}
-use Rattle.image_tree.specs.Need.{takes_place}
+use Rattle.image_laws.specs.Need.{takes_place}
 use Rattle.block_map.specs.Remap.{rewrite_of}
 use Rattle.block_map.proofs.Counts.{rank_of_tables, rank_within, next_fate_counts}
 use Rattle.block_map.proofs.rewrite.blocks_needed.Goals as goal

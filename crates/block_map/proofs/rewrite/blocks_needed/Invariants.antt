@@ -1,5 +1,5 @@
 use Rattle.std.proofs.Common.{◌≡◌, ◌+◌}
-use Rattle.image_tree.specs.Need.{takes_place, rank}
+use Rattle.image_laws.specs.Need.{takes_place, rank}
 use Rattle.sfs_image.specs.Seen.{FILE_BLOCKS}
 use Rattle.block_map.specs.Remap.{rewrite_of}
 use Rattle.block_map.proofs.rewrite.blocks_needed.Given as goal

@@ -1,5 +1,5 @@
 use Rattle.std.proofs.Common.{arith, sym, ap, ◌∙◌, ◌+◌}
-use Rattle.image_tree.specs.Need.{has_pointer}
+use Rattle.image_laws.specs.Need.{has_pointer}
 use Rattle.block_map.specs.Remap.{rewrite_of}
 use Rattle.block_map.proofs.Tables.{pointer_found, no_pointer_found}
 use Rattle.block_map.proofs.rewrite.has_pointers.Goals as goal

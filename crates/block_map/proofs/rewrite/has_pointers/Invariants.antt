@@ -1,5 +1,5 @@
 use Rattle.std.proofs.Common.{◌≡◌, ℕ, ◌<◌, ◌+◌, false}
-use Rattle.image_tree.specs.Need.{has_pointer, first_block}
+use Rattle.image_laws.specs.Need.{has_pointer, first_block}
 use Rattle.block_map.specs.Remap.{rewrite_of}
 use Rattle.block_map.proofs.rewrite.has_pointers.Given as goal
 

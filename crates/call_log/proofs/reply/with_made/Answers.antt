@@ -1,7 +1,7 @@
 use Rattle.std.proofs.Common.{◌≡◌, ◌++◌, ◌+◌, ◌<◌, List, length, map, take, drop, set, get_or, suc, ap, ◌∙◌, subst, arith}
 use Rattle.std.proofs.lemmas.Grind.{common_steps}
 use Rattle.std.specs.Vec.{vec_len}
-use Rattle.sfs_tree.specs.declared.changes.Change.{Change}
+use Rattle.tree_laws.specs.declared.changes.Change.{Change}
 use Rattle.call_log.specs.Foreseen.{change_of_node}
 use Rattle.call_log.proofs.Replies.{next_changed}
 use Rattle.call_log.proofs.reply.with_made.Goals as goal

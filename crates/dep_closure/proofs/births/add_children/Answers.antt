@@ -1,7 +1,7 @@
 use Rattle.std.proofs.Common.{◌≡◌, ℕ, refl, take, subst}
 use Rattle.std.proofs.lemmas.List.{take_all}
-use Rattle.sfs_tree.specs.declared.changes.Change.{Change}
-use Rattle.flush_core.specs.Engine.{OfSome}
+use Rattle.tree_laws.specs.declared.changes.Change.{Change}
+use Rattle.cut_laws.specs.Elements.{OfSome}
 use Rattle.dep_closure.specs.Brought.{AddsTo}
 use Rattle.dep_closure.proofs.Growing.{set_more, set_same}
 use Rattle.dep_closure.proofs.births.add_children.Goals as goal

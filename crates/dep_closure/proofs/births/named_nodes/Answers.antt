@@ -1,11 +1,11 @@
 use Rattle.std.proofs.Common.{ℕ, ◌∙◌, subst, List, map, inl, inr}
 use Rattle.std.proofs.lemmas.List.{take_all}
-use Rattle.flush_core.specs.Engine.{OfSome}
-use Rattle.flush_core.specs.Rules.{IsOneOf}
-use Rattle.flush_core.proofs.Listed.{one_at}
+use Rattle.cut_laws.specs.Elements.{OfSome}
+use Rattle.cut_laws.specs.Rules.{IsOneOf}
+use Rattle.cut_laws.proofs.Listed.{one_at}
 use Rattle.dep_closure.specs.declared.gathered.DirectoryChanges.{DirectoryChanges}
 use Rattle.dep_closure.specs.Brought.{AddsTo}
-use Rattle.sfs_tree.specs.NameRow.{node_number}
+use Rattle.tree_laws.specs.NameRow.{node_number}
 use Rattle.dep_closure.specs.Gathered.{IsNamedByLog, IsOwnLog, lifted_cut}
 use Rattle.dep_closure.proofs.Growing.{set_more, has_one, one_has}
 use Rattle.dep_closure.proofs.Looked.{one_of_all}

@@ -1,8 +1,8 @@
 use Rattle.std.proofs.Common.{◌≡◌, ℕ, List, map, true, ◌↔◌, sym, ap, subst, ◌∙◌}
 use Rattle.std.proofs.lemmas.Result.{IfOk-weaker}
 use Rattle.sfs_base.specs.Listed.{is_listed}
-use Rattle.flush_ties.specs.Look.{Gathers}
-use Rattle.sfs_tree.specs.NameRow.{node_number}
+use Rattle.look_laws.specs.Look.{Gathers}
+use Rattle.tree_laws.specs.NameRow.{node_number}
 use Rattle.dep_closure.specs.Gathered.{look_of}
 use Rattle.dep_closure.proofs.Closed.{closes_first, closes_next, closes_sooner, closes_last, listed_one}
 use Rattle.dep_closure.proofs.closing.closure.Goals as goal

@@ -2,7 +2,7 @@ use Rattle.std.proofs.Common.{◌≡◌, Some, subst}
 use Rattle.std.specs.Prelude.{Option}
 use Rattle.std.proofs.lemmas.Result.{on_ok_weaker}
 use Rattle.sfs_base.specs.declared.numbers.NodeId.{NodeId}
-use Rattle.sfs_tree.specs.NameRow.{number_of}
+use Rattle.tree_laws.specs.NameRow.{number_of}
 use Rattle.dep_closure.specs.Brought.{GrowsBy, SpanBrings, BirthBrings, birthplace_due}
 use Rattle.dep_closure.specs.Gathered.{look_of}
 use Rattle.dep_closure.proofs.Growing.{grows_as, grows_both}

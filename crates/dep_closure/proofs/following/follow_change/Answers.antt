@@ -1,8 +1,8 @@
 use Rattle.std.proofs.Common.{◌≡◌, Some, subst, ◌⊎◌}
 use Rattle.std.proofs.lemmas.Result.{on_ok_weaker}
-use Rattle.sfs_tree.specs.NameRow.{number_of}
-use Rattle.flush_core.specs.Rules.{IsOneOf}
-use Rattle.flush_core.specs.Engine.{OfSome}
+use Rattle.tree_laws.specs.NameRow.{number_of}
+use Rattle.cut_laws.specs.Rules.{IsOneOf}
+use Rattle.cut_laws.specs.Elements.{OfSome}
 use Rattle.dep_closure.specs.Brought.{GrowsBy}
 use Rattle.dep_closure.specs.Spans.{ended_by}
 use Rattle.dep_closure.proofs.Ends.{some_listed, listed_some}

@@ -1,10 +1,10 @@
 use Rattle.std.proofs.Common.{List, filter, sym, ap, subst, refl, ◌∙◌, nat_eq}
 use Rattle.std.specs.List.{find}
 use Rattle.std.proofs.lemmas.Result.{on_ok_weaker}
-use Rattle.sfs_tree.specs.declared.changes.Change.{Change}
+use Rattle.tree_laws.specs.declared.changes.Change.{Change}
 use Rattle.mem_cells.specs.Log.{IsInOrder}
-use Rattle.flush_core.specs.Engine.{OfSome}
-use Rattle.flush_core.proofs.RunFacts.{found_in}
+use Rattle.cut_laws.specs.Elements.{OfSome}
+use Rattle.cut_laws.proofs.RunFacts.{found_in}
 use Rattle.dep_closure.specs.Brought.{GrowsBy, ChangeBrings, SpanBrings, AreOfOneDirectory}
 use Rattle.dep_closure.specs.Gathered.{IsOwnLog, look_of, noted_as, cut_in, log_directory}
 use Rattle.dep_closure.specs.Spans.{is_in_span}

@@ -1,6 +1,6 @@
 use Rattle.std.proofs.Common.{ℕ, sym, subst, ap, ◌∙◌, ◌+◌, ◌∷◌, drop}
 use Rattle.std.proofs.lemmas.List.{take_rest}
-use Rattle.sfs_tree.specs.declared.changes.Change.{Change}
+use Rattle.tree_laws.specs.declared.changes.Change.{Change}
 use Rattle.mem_cells.specs.Log.{IsInOrder}
 use Rattle.mem_cells.proofs.Order.{in_order-drop}
 use Rattle.dep_closure.specs.Brought.{GrowsBy, ChangeBrings, LoggedBrings}

@@ -1,5 +1,5 @@
 use Rattle.std.proofs.Common.{take}
-use Rattle.flush_core.specs.Engine.{OfSome}
+use Rattle.cut_laws.specs.Elements.{OfSome}
 use Rattle.dep_closure.specs.Brought.{GrowsBy, ChangeBrings}
 use Rattle.dep_closure.specs.Gathered.{noted_as}
 use Rattle.dep_closure.proofs.following.follow_span.Given as goal

@@ -1,6 +1,6 @@
 use Rattle.std.proofs.Common.{ap, ◌∙◌}
 use Rattle.std.specs.Prelude.{is_some}
-use Rattle.sfs_tree.specs.NameRow.{node_number}
+use Rattle.tree_laws.specs.NameRow.{node_number}
 use Rattle.dep_closure.proofs.Looked.{found_listed, some_mapped}
 use Rattle.dep_closure.proofs.lookup.has_node.Goals as goal
 

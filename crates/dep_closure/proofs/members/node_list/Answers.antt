@@ -3,7 +3,7 @@ use Rattle.std.specs.List.Sorted.{IsStrictlyIncreasing}
 use Rattle.std.proofs.lemmas.List.{map-id}
 use Rattle.std.proofs.lemmas.Iterator.Consumers.{YieldsList-end, YieldsList-from_rest}
 use Rattle.std.proofs.lemmas.Map.Keys.{IsStrictlyIncreasing-from_sorted}
-use Rattle.sfs_tree.specs.NameRow.{node_number}
+use Rattle.tree_laws.specs.NameRow.{node_number}
 use Rattle.dep_closure.proofs.members.node_list.Goals as goal
 
 pub returns-clause-ascending : goal.returns-clause-ascending

@@ -1,6 +1,6 @@
 use Rattle.std.proofs.Common.{rules, nat_lt}
 use Rattle.std.proofs.lemmas.List.Sorted.{IsPartitionPoint-from_clause}
-use Rattle.sfs_tree.specs.declared.changes.Change.{Change}
+use Rattle.tree_laws.specs.declared.changes.Change.{Change}
 use Rattle.dep_closure.proofs.Parts.{stamps_parted, behind_place, before_place}
 use Rattle.dep_closure.proofs.spans.place_of.Goals as goal
 

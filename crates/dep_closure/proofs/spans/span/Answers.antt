@@ -1,5 +1,5 @@
 use Rattle.std.proofs.Common.{nat_lt, refl, ap, ◌∙◌, filter}
-use Rattle.sfs_tree.specs.declared.changes.Change.{Change}
+use Rattle.tree_laws.specs.declared.changes.Change.{Change}
 use Rattle.std.proofs.lemmas.List.Sorted.{IsNonDecreasingBy-take}
 use Rattle.mem_cells.specs.Log.{is_from, log_place}
 use Rattle.dep_closure.specs.Spans.{is_in_span}

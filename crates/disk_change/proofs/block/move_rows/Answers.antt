@@ -3,7 +3,7 @@ use Rattle.std.specs.List.{list_any}
 use Rattle.std.specs.Option.{option_and_then, option_copied}
 use Rattle.sfs_base.proofs.BasicTruth.{or_true, or_false}
 use Rattle.sfs_image.specs.Slot.{Row}
-use Rattle.image_tree.specs.Commit.{row_in_net}
+use Rattle.image_laws.specs.Commit.{row_in_net}
 use Rattle.std.proofs.lemmas.List.Folds.{list_any_more}
 use Rattle.disk_change.specs.Directory.{slot_moved, is_in_net}
 use Rattle.disk_change.proofs.Blocks.{moved_there, step_moved, step_stays, moved_by, stays_by}

@@ -1,5 +1,5 @@
 use Rattle.std.proofs.Common.{◌≡◌, take, map}
-use Rattle.sfs_tree.specs.NameRow.{node_number}
+use Rattle.tree_laws.specs.NameRow.{node_number}
 use Rattle.disk_change.proofs.change.numbers_of.Given as goal
 
 abbrev pub invariant-loop-node : goal.invariant-loop-node

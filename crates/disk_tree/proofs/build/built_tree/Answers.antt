@@ -1,7 +1,7 @@
 use Rattle.std.proofs.Common.{ℕ, List, sym, ap, ◌∙◌}
 use Rattle.sfs_base.specs.Lists.{Roomy}
 use Rattle.sfs_image.specs.Inode.{Inode}
-use Rattle.sfs_tree.specs.Tree.{TreeState}
+use Rattle.tree_laws.specs.Tree.{TreeState}
 use Rattle.disk_tree.specs.Built.{with_nodes, node_entries}
 use Rattle.disk_tree.proofs.NodesPut.{root_put}
 use Rattle.disk_tree.proofs.build.built_tree.Goals as goal

@@ -2,7 +2,7 @@ use Rattle.std.proofs.Common.{ℕ, List, ap, ◌∙◌, arith}
 use Rattle.std.specs.Prelude.{slice_index}
 use Rattle.std.specs.FinMap.{get}
 use Rattle.sfs_image.specs.Inode.{Inode}
-use Rattle.sfs_tree.specs.Tree.{TreeState}
+use Rattle.tree_laws.specs.Tree.{TreeState}
 use Rattle.disk_tree.specs.Built.{with_nodes, node_entries, with_node_of}
 use Rattle.disk_tree.specs.Inodes.{inode_at}
 use Rattle.disk_tree.proofs.NodesPut.{absent_node, put_node_more}

@@ -1,5 +1,5 @@
 use Rattle.std.proofs.Common.{sym, ap, subst, ◌∙◌}
-use Rattle.sfs_tree.specs.Tree.{TreeState}
+use Rattle.tree_laws.specs.Tree.{TreeState}
 use Rattle.disk_tree.specs.Built.{with_entries, row_entries, MayPut}
 use Rattle.disk_tree.proofs.Entries.{no_entries}
 use Rattle.disk_tree.proofs.Putting.{may_put_again}

@@ -4,9 +4,9 @@ use Rattle.std.specs.List.Sorted.{IsPermutation}
 use Rattle.std.proofs.lemmas.List.{get_or_read}
 use Rattle.sfs_base.specs.Name.{bucket}
 use Rattle.sfs_image.specs.Slot.{Row}
-use Rattle.sfs_tree.specs.Build.{with_row}
-use Rattle.sfs_tree.specs.Order.{key_cmp}
-use Rattle.sfs_tree.specs.Tree.{TreeState, is_directory, row_of, bucket_rows}
+use Rattle.tree_laws.specs.Build.{with_row}
+use Rattle.tree_laws.specs.Order.{key_cmp}
+use Rattle.tree_laws.specs.Tree.{TreeState, is_directory, row_of, bucket_rows}
 use Rattle.disk_tree.specs.Built.{with_entries, entries_to, MayPut}
 use Rattle.disk_tree.specs.Reached.{row_at}
 use Rattle.disk_tree.specs.Rows.{NO_ROW, rows_of_inode}

@@ -1,6 +1,6 @@
 use Rattle.std.proofs.Common.{◌≡◌, true, get_or, refl, sym, ◌∙◌}
 use Rattle.flush_core.specs.NodeSets.{has_node}
-use Rattle.flush_core.proofs.Listed.{one_at, more_hold}
+use Rattle.cut_laws.proofs.Listed.{one_at, more_hold}
 use Rattle.flush_core.proofs.closure.absent_among.Goals as goal
 
 pub returns-then-not-has : goal.returns-then-not-has

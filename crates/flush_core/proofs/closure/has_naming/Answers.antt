@@ -1,6 +1,6 @@
 use Rattle.std.proofs.Common.{arith, refl}
 use Rattle.flush_core.specs.Engine.{NamesUnflushed}
-use Rattle.flush_core.proofs.Listed.{one_at, more_hold}
+use Rattle.cut_laws.proofs.Listed.{one_at, more_hold}
 use Rattle.flush_core.proofs.closure.has_naming.Goals as goal
 use Rattle.flush_core.proofs.closure.has_naming.Goals.{else-change-node-via-then-change-node+else-get-change, else-change-node-via-else-change-node}
 

@@ -1,5 +1,5 @@
 use Rattle.std.proofs.Common.{◌≡◌, ◌^◌, true, inl, inr, sym, subst, ◌∙◌, arith}
-use Rattle.flush_core.specs.Closure.{every_entry, Closure, itself}
+use Rattle.cut_laws.specs.Closure.{every_entry, Closure, itself}
 use Rattle.flush_core.specs.NodeSets.{has_node}
 use Rattle.sfs_base.proofs.BasicTruth.{not_both}
 use Rattle.flush_core.proofs.Marks.{with_in, with_kept, with_cases, marked_within}

@@ -1,7 +1,7 @@
 use Rattle.std.proofs.Common.{◌≡◌, ◌-◌, ◌^◌, ℕ, true, List}
-use Rattle.sfs_tree.specs.declared.history.Entry.{Entry}
-use Rattle.sfs_tree.specs.Tree.{TreeState}
-use Rattle.flush_core.specs.Closure.{every_entry, Closure}
+use Rattle.tree_laws.specs.declared.history.Entry.{Entry}
+use Rattle.tree_laws.specs.Tree.{TreeState}
+use Rattle.cut_laws.specs.Closure.{every_entry, Closure}
 use Rattle.flush_core.specs.NodeSets.{has_node}
 use Rattle.flush_core.specs.Past.{IsPast}
 use Rattle.flush_core.proofs.Counting.{count_below}

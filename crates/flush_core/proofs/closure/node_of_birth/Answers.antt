@@ -2,7 +2,7 @@ use Rattle.std.proofs.Common.{◌≡◌, true, ℕ, get_or, refl}
 use Rattle.flush_core.specs.Engine.{RequiresBirthplace}
 use Rattle.flush_core.specs.NodeSets.{has_node}
 use Rattle.flush_core.specs.declared.past.BornNode.{BornNode}
-use Rattle.flush_core.proofs.Listed.{one_at, more_hold, all_hold}
+use Rattle.cut_laws.proofs.Listed.{one_at, more_hold, all_hold}
 use Rattle.flush_core.proofs.closure.node_of_birth.Goals as goal
 
 no_birth : BornNode

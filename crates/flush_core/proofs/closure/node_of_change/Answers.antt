@@ -1,7 +1,7 @@
 use Rattle.std.proofs.Common.{◌≡◌, true, ℕ}
 use Rattle.flush_core.specs.Engine.{RequiresNodeFor}
 use Rattle.flush_core.specs.NodeSets.{has_node}
-use Rattle.flush_core.proofs.Listed.{one_at, more_hold, all_hold}
+use Rattle.cut_laws.proofs.Listed.{one_at, more_hold, all_hold}
 use Rattle.flush_core.proofs.closure.node_of_change.Goals as goal
 
 pub returns-in-Some : goal.returns-in-Some

@@ -2,7 +2,7 @@ use Rattle.std.proofs.Common.{◌≡◌, ℕ, true, take}
 use Rattle.flush_core.specs.declared.past.OwnChange.{OwnChange}
 use Rattle.flush_core.specs.Engine.{RequiresNodeFor}
 use Rattle.flush_core.specs.NodeSets.{has_node}
-use Rattle.flush_core.specs.Rules.{IsOneOf}
+use Rattle.cut_laws.specs.Rules.{IsOneOf}
 use Rattle.flush_core.proofs.closure.node_of_change.Given as goal
 
 abbrev pub invariant-loop-change : goal.invariant-loop-change

@@ -1,5 +1,6 @@
 use Rattle.std.proofs.Common.{take}
-use Rattle.flush_core.specs.Engine.{OfSome, Joins, NamesFor}
+use Rattle.flush_core.specs.Engine.{Joins, NamesFor}
+use Rattle.cut_laws.specs.Elements.{OfSome}
 use Rattle.flush_core.proofs.closure.with_named.Given as goal
 
 abbrev pub invariant-loop-change : goal.invariant-loop-change

@@ -3,7 +3,7 @@ use Rattle.std.specs.Prelude.{filter, ◌==◌}
 use Rattle.std.proofs.lemmas.Fn.{filter_same}
 use Rattle.std.proofs.iter.Serving.{serving}
 use Rattle.flush_core.specs.declared.flight.InFlight.{InFlight}
-use Rattle.flush_core.specs.Machine.{Flight}
+use Rattle.cut_laws.specs.Machine.{Flight}
 use Rattle.flush_core.specs.Flights.{flight_as}
 use Rattle.flush_core.proofs.flight.end_flight.Goals as goal
 

@@ -1,10 +1,10 @@
 use Rattle.std.proofs.Common.{◌≡◌, true, map, refl, sym, ap, ◌∙◌}
 use Rattle.flush_core.specs.declared.flight.InFlight.{InFlight}
 use Rattle.flush_core.specs.NodeSets.{has_node}
-use Rattle.flush_core.specs.Machine.{Flight}
+use Rattle.cut_laws.specs.Machine.{Flight}
 use Rattle.flush_core.specs.Flights.{flight_as, IsTaken}
-use Rattle.flush_core.proofs.Basics.{no_true}
-use Rattle.flush_core.proofs.Listed.{one_at, more_hold, all_hold, from_map, to_map}
+use Rattle.cut_laws.proofs.Basics.{no_true}
+use Rattle.cut_laws.proofs.Listed.{one_at, more_hold, all_hold, from_map, to_map}
 use Rattle.flush_core.proofs.flight.is_taken.Goals as goal
 
 pub loop-flight-init : goal.loop-flight-init

@@ -1,7 +1,7 @@
 use Rattle.std.proofs.Common.{◌++◌, ◌∷◌, [], map, take, get_or, sym, subst, ◌∙◌}
 use Rattle.std.proofs.lemmas.List.{take_more, take_all}
 use Rattle.flush_core.specs.Flights.{flight_as}
-use Rattle.flush_core.proofs.Basics.{no_true}
+use Rattle.cut_laws.proofs.Basics.{no_true}
 use Rattle.flush_core.proofs.Least.{IsLeastOf, least_passed, least_more, least_in}
 use Rattle.flush_core.proofs.flight.least_taken.Goals.{then-is_taken, else-is_taken}
 use Rattle.flush_core.proofs.flight.least_taken.Goals as goal

@@ -1,7 +1,7 @@
 use Rattle.std.proofs.Common.{◌≡◌, ◌≤◌, ◌+◌, ℕ, List, [], ◌∷◌, ◌++◌, length, map, take, drop, set, refl, sym, ap, subst, ◌∙◌, arith}
 use Rattle.std.proofs.lemmas.List.{append-nil, drop_all, take_all}
 use Rattle.flush_core.specs.declared.flight.InFlight.{InFlight}
-use Rattle.flush_core.specs.Machine.{opened_for}
+use Rattle.cut_laws.specs.Machine.{opened_for}
 use Rattle.flush_core.specs.Flights.{flight_as, kept_opened}
 use Rattle.flush_core.proofs.InPlace.{IsChanged, changed_more, changed_all}
 use Rattle.flush_core.proofs.flight.mark_opened.Goals as goal

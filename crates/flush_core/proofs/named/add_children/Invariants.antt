@@ -1,5 +1,6 @@
 use Rattle.std.proofs.Common.{take}
-use Rattle.flush_core.specs.Engine.{OfSome, Joins}
+use Rattle.flush_core.specs.Engine.{Joins}
+use Rattle.cut_laws.specs.Elements.{OfSome}
 use Rattle.flush_core.specs.Named.{IsChildOf}
 use Rattle.flush_core.proofs.named.add_children.Given as goal
 

@@ -1,7 +1,7 @@
 use Rattle.std.proofs.Common.{◌≡◌, ◌-◌, ◌^◌, ◌<◌, ℕ, true, IsSome}
 use Rattle.std.specs.FinMap.{get}
-use Rattle.sfs_tree.specs.Least.{first_behind}
-use Rattle.sfs_tree.specs.NameRow.{number_of}
+use Rattle.tree_laws.specs.Least.{first_behind}
+use Rattle.tree_laws.specs.NameRow.{number_of}
 use Rattle.flush_core.specs.NodeSets.{has_node}
 use Rattle.flush_core.proofs.named.add_nodes.Given as goal
 

@@ -1,6 +1,6 @@
 use Rattle.std.proofs.Common.{◌≡◌, Option, Some, None, false, is_some, sym, ◌∙◌}
 use Rattle.sfs_base.specs.declared.numbers.NodeId.{NodeId}
-use Rattle.sfs_tree.specs.NameRow.{number_of}
+use Rattle.tree_laws.specs.NameRow.{number_of}
 use Rattle.flush_core.proofs.ChildRows.{remove_absent}
 use Rattle.flush_core.proofs.named.take.Goals as goal
 

@@ -1,5 +1,5 @@
 use Rattle.std.proofs.Common.{◌≡◌, map, take}
-use Rattle.sfs_tree.specs.NameRow.{node_number}
+use Rattle.tree_laws.specs.NameRow.{node_number}
 use Rattle.flush_core.proofs.plan.numbers_of.Given as goal
 
 abbrev pub invariant-loop-node : goal.invariant-loop-node

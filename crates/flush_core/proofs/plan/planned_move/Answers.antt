@@ -1,6 +1,6 @@
 use Rattle.std.proofs.Common.{◌≡◌, false, sym, ap, ◌∙◌}
-use Rattle.sfs_tree.specs.Tree.{is_directory, is_alive}
-use Rattle.sfs_tree.specs.Changes.{RowChange, added, other_side}
+use Rattle.tree_laws.specs.Tree.{is_directory, is_alive}
+use Rattle.tree_laws.specs.Changes.{RowChange, added, other_side}
 use Rattle.flush_core.specs.declared.past.OwnChange.{OwnChange}
 use Rattle.flush_core.specs.Past.{row_change_of}
 use Rattle.flush_core.proofs.KeptAbove.{noted_taken, noted_put, noted_more}

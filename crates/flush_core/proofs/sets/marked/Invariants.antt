@@ -1,5 +1,5 @@
 use Rattle.std.proofs.Common.{◌≡◌, ◌<◌, ◌↔◌, ℕ, true, false, get_or}
-use Rattle.flush_core.specs.Rules.{IsOneOf}
+use Rattle.cut_laws.specs.Rules.{IsOneOf}
 use Rattle.flush_core.proofs.sets.marked.Given as goal
 
 abbrev pub invariant-loop-place : goal.invariant-loop-place

@@ -1,4 +1,4 @@
-use Rattle.flush_core.proofs.Listed.{one_at}
+use Rattle.cut_laws.proofs.Listed.{one_at}
 use Rattle.flush_core.proofs.Stories.{past_sound, next_core, next_ready}
 use Rattle.flush_core.proofs.story.replayed.Goals as goal
 

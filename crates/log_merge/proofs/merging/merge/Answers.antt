@@ -1,6 +1,6 @@
 use Rattle.std.proofs.Common.{◌++◌, ◌∷◌, [], ◌∙◌, sym, ap, subst, take, List, length, ◌<◌, arith}
 use Rattle.std.proofs.lemmas.List.{take_more}
-use Rattle.sfs_tree.specs.declared.changes.Change.{Change}
+use Rattle.tree_laws.specs.declared.changes.Change.{Change}
 use Rattle.mem_cells.specs.Part.{CoreLog}
 use Rattle.log_merge.specs.Merge.{part_changes, parts_changes, IsMergeOf}
 use Rattle.log_merge.proofs.Owned.{parts_changes-push, merge-merged}

@@ -1,6 +1,6 @@
 use Rattle.std.proofs.Common.{sym, subst}
 use Rattle.std.specs.Prelude.{Option}
-use Rattle.sfs_tree.specs.declared.changes.Change.{Change}
+use Rattle.tree_laws.specs.declared.changes.Change.{Change}
 use Rattle.log_merge.specs.Merge.{TakesNext}
 use Rattle.log_merge.proofs.Taking.{MergesTo, merges_step}
 use Rattle.log_merge.proofs.merging.merge_two.Goals as goal

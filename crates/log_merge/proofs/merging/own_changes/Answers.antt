@@ -1,7 +1,7 @@
 use Rattle.std.proofs.Common.{◌≡◌, ◌≤◌, ◌<◌, ◌∷◌, [], ◌++◌, ◌∙◌, sym, ap, subst, length, take, Some, filter, arith, List}
 use Rattle.std.specs.Prelude.{slice_get}
 use Rattle.sfs_base.proofs.BasicOptions.{none_some, some_same}
-use Rattle.sfs_tree.specs.declared.changes.Change.{Change}
+use Rattle.tree_laws.specs.declared.changes.Change.{Change}
 use Rattle.mem_cells.specs.Log.{IsInOrder}
 use Rattle.mem_cells.specs.Part.{changes_kept}
 use Rattle.log_merge.specs.Merge.{is_under}

@@ -1,6 +1,6 @@
 use Rattle.std.proofs.Common.{◌≡◌, List, ℕ, sym, ap, ◌∙◌}
 use Rattle.std.specs.FinMap.{FinMap, get, insert}
-use Rattle.sfs_tree.specs.Order.{name_cmp}
+use Rattle.tree_laws.specs.Order.{name_cmp}
 use Rattle.mem_values.specs.Stands.{if_directory}
 use Rattle.mem_begin.proofs.Rows.{directory_more, file_more}
 use Rattle.mem_begin.proofs.bucket.add_row.Goals as goal

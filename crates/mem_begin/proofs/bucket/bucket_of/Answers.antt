@@ -1,9 +1,9 @@
 use Rattle.std.proofs.Common.{◌≡◌, ◌≤◌, ℕ, length, take, sym, ap, ◌∙◌, arith}
 use Rattle.std.specs.FinMap.{FinMap, entries, from_entries, get, get-empty, insert}
-use Rattle.sfs_tree.specs.Order.{name_cmp}
-use Rattle.sfs_tree.specs.NameRow.{number_of}
-use Rattle.sfs_tree.specs.Tree.{TreeState, bucket_rows}
-use Rattle.sfs_tree.specs.Lock.{stands_of}
+use Rattle.tree_laws.specs.Order.{name_cmp}
+use Rattle.tree_laws.specs.NameRow.{number_of}
+use Rattle.tree_laws.specs.Tree.{TreeState, bucket_rows}
+use Rattle.tree_laws.specs.Lock.{stands_of}
 use Rattle.mem_values.specs.declared.bucket.Bucket.{Bucket}
 use Rattle.mem_values.specs.Stands.{if_directory, ShowsBucket}
 use Rattle.mem_begin.specs.Beginning.{ShowsDirectories}

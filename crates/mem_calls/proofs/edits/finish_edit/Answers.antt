@@ -1,7 +1,7 @@
 use Rattle.std.proofs.Common.{◌≡◌, Some, refl, sym, ap, subst, IsSome}
-use Rattle.sfs_tree.specs.declared.reply.Reply.TheVariants as reply
-use Rattle.sfs_tree.specs.Effect.{Edits}
-use Rattle.sfs_tree.specs.Verdict.{done}
+use Rattle.tree_laws.specs.declared.reply.Reply.TheVariants as reply
+use Rattle.tree_laws.specs.Effect.{Edits}
+use Rattle.tree_laws.specs.Verdict.{done}
 use Rattle.stamp_table.specs.Hand.{Hand}
 use Rattle.stamp_table.specs.Table.{Stamps, MayCall}
 use Rattle.mem_values.specs.declared.cell.Cell.{Cell}

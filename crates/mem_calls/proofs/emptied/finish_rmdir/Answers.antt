@@ -1,12 +1,12 @@
 use Rattle.std.proofs.Common.{◌+◌, ◌*◌, ℕ, [], ◌∷◌, None, refl, sym, ap, subst, ◌∙◌, IsSome}
 use Rattle.std.specs.FinMap.{get}
 use Rattle.sfs_base.specs.declared.numbers.Kind.TheVariants.{Directory}
-use Rattle.sfs_tree.specs.declared.changes.Act.TheVariants.{Remove}
-use Rattle.sfs_tree.specs.declared.call.Call.TheVariants as call
-use Rattle.sfs_tree.specs.declared.reply.Reply.TheVariants as reply
-use Rattle.sfs_tree.specs.Effect.{Removes}
-use Rattle.sfs_tree.specs.Logged.{log_entry}
-use Rattle.sfs_tree.specs.Verdict.{done}
+use Rattle.tree_laws.specs.declared.changes.Act.TheVariants.{Remove}
+use Rattle.tree_laws.specs.declared.call.Call.TheVariants as call
+use Rattle.tree_laws.specs.declared.reply.Reply.TheVariants as reply
+use Rattle.tree_laws.specs.Effect.{Removes}
+use Rattle.tree_laws.specs.Logged.{log_entry}
+use Rattle.tree_laws.specs.Verdict.{done}
 use Rattle.mem_cells.specs.Part.{IsAddedTo}
 use Rattle.stamp_table.specs.Hand.{Hand}
 use Rattle.stamp_table.specs.Table.{MayCall, with_value}

@@ -1,6 +1,6 @@
 use Rattle.std.proofs.Common.{◌≡◌, ◌<◌, Some, false, sym, ◌∙◌, ap, subst, arith}
 use Rattle.std.specs.Option.{option_map_or}
-use Rattle.sfs_tree.specs.NameRow.{number_of}
+use Rattle.tree_laws.specs.NameRow.{number_of}
 use Rattle.mem_calls.specs.Held.{bucket_held, is_standing}
 use Rattle.mem_calls.proofs.Shown.{name_shows}
 use Rattle.mem_calls.proofs.Statuses.{small_buckets, rows_are}

@@ -1,5 +1,5 @@
 use Rattle.std.proofs.Common.{refl, subst, sym, ap}
-use Rattle.sfs_tree.specs.Verdict.{verdict, answered}
+use Rattle.tree_laws.specs.Verdict.{verdict, answered}
 use Rattle.mem_calls.specs.Parts.{MayTake, TakesEntry}
 use Rattle.mem_calls.proofs.Stamped.{may_come}
 use Rattle.mem_calls.proofs.Stamped as stamped

@@ -2,7 +2,7 @@ use Rattle.std.proofs.Common.{◌≡◌, Some, sym, ◌∙◌, ap, subst, ◌<�
 use Rattle.std.specs.FinMap.{get, len}
 use Rattle.sfs_base.proofs.BasicOptions.{none_of}
 use Rattle.mem_calls.specs.Held.{bucket_held, file_held}
-use Rattle.sfs_tree.specs.Verdict.{refused}
+use Rattle.tree_laws.specs.Verdict.{refused}
 use Rattle.mem_calls.proofs.Shown.{name_shows, file_shows}
 use Rattle.mem_calls.proofs.LinkFaults.{linked_of, link_refused, link_exists, link_most, link_full, link_done}
 use Rattle.mem_calls.proofs.links.link_in.Goals as goal

@@ -1,5 +1,5 @@
 use Rattle.std.proofs.Common.{◌≡◌, map}
-use Rattle.sfs_tree.specs.NameKinds.{name_kind}
+use Rattle.tree_laws.specs.NameKinds.{name_kind}
 use Rattle.mem_calls.specs.Listed.{kinds_held, join_until}
 use Rattle.mem_calls.proofs.lists.all_rows.Given as goal
 

@@ -2,7 +2,7 @@ use Rattle.std.proofs.Common.{rules}
 use Rattle.std.specs.Cmp.Lexicographic.{nat_list_cmp_total}
 use Rattle.std.proofs.lemmas.List.MinMax.{ranks_by}
 use Rattle.std.proofs.lemmas.List.Sorted.{answers_always}
-use Rattle.sfs_tree.specs.declared.listing.NameKind.{NameKind}
+use Rattle.tree_laws.specs.declared.listing.NameKind.{NameKind}
 use Rattle.mem_calls.specs.Listed.{precedes_by_name}
 use Rattle.mem_calls.proofs.lists.by_name.Goals as goal
 

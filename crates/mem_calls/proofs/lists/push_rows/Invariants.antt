@@ -1,6 +1,6 @@
 use Rattle.std.proofs.Common.{◌≡◌, ◌++◌, map, take}
-use Rattle.sfs_tree.specs.NameRow.{name_and_child}
-use Rattle.sfs_tree.specs.NameKinds.{name_kind}
+use Rattle.tree_laws.specs.NameRow.{name_and_child}
+use Rattle.tree_laws.specs.NameKinds.{name_kind}
 use Rattle.mem_calls.specs.Listed.{with_kind}
 use Rattle.mem_calls.proofs.lists.push_rows.Given as goal
 

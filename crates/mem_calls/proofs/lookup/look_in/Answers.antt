@@ -1,6 +1,6 @@
 use Rattle.std.proofs.Common.{refl, sym, ◌∙◌, ap, subst, IsSome}
-use Rattle.sfs_tree.specs.declared.reply.Reply.TheVariants as reply
-use Rattle.sfs_tree.specs.Verdict.{answered}
+use Rattle.tree_laws.specs.declared.reply.Reply.TheVariants as reply
+use Rattle.tree_laws.specs.Verdict.{answered}
 use Rattle.mem_calls.specs.Held.{bucket_held}
 use Rattle.mem_calls.proofs.Shown.{name_shows}
 use Rattle.mem_calls.proofs.Looks.{look_found, look_missed}

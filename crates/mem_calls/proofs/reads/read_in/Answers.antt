@@ -1,6 +1,6 @@
 use Rattle.std.proofs.Common.{List, ℕ, sym, ◌∙◌, ap, take, drop}
-use Rattle.sfs_tree.specs.declared.reply.Reply.TheVariants as reply
-use Rattle.sfs_tree.specs.Verdict.{answered, or_else, read_bytes}
+use Rattle.tree_laws.specs.declared.reply.Reply.TheVariants as reply
+use Rattle.tree_laws.specs.Verdict.{answered, or_else, read_bytes}
 use Rattle.mem_calls.proofs.Shown.{file_shows}
 use Rattle.mem_calls.proofs.reads.read_in.Goals as goal
 

@@ -1,5 +1,5 @@
 use Rattle.std.proofs.Common.{◌≡◌, ◌<◌, ◌≤◌, ◌+◌, ◌*◌, ℕ, List, [], ◌∷◌, length, sym, ◌∙◌, ap, subst, arith, refl}
-use Rattle.sfs_tree.proofs.Joined.{bucket_small}
+use Rattle.tree_laws.proofs.Joined.{bucket_small}
 use Rattle.stamp_table.specs.Ascending.{LiesAbove}
 use Rattle.mem_values.specs.declared.cell_id.CellId.TheVariants as id
 use Rattle.mem_calls.specs.Held.{HoldsDirectory, stands_held}

@@ -14,7 +14,7 @@ returns-in_default-get-clause-due c = λ tree meets.
     within c.bucket_of-number.ensures c.bucket_in-bucket.ensures in
     let fault = sym (c.directory_fault_in.ensures.fault tree meets) ∙ c.in_default.is in
     unlink_missed tree c.args.core.now.view.core c.args.dir c.args.name.now c.bucket_in-bucket.result.now shows fault
-    (sym c.get.ensures ∙ ap Rattle.sfs_tree.specs.NameRow.number_of c.in_default-get.is)
+    (sym c.get.ensures ∙ ap Rattle.tree_laws.specs.NameRow.number_of c.in_default-get.is)
 
 pub returns-then-is_some-clause-due : goal.returns-then-is_some-clause-due
 returns-then-is_some-clause-due c = λ tree meets.

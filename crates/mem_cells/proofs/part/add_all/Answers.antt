@@ -1,7 +1,7 @@
 use Rattle.std.proofs.Common.{◌≤◌, ◌∷◌, ◌++◌, ℕ, List, filter, length, ap, ◌∙◌, sym, subst, arith}
 use Rattle.std.specs.Prelude.{All}
-use Rattle.sfs_tree.specs.declared.changes.Change.{Change}
-use Rattle.sfs_tree.specs.Logged.{is_logged_in}
+use Rattle.tree_laws.specs.declared.changes.Change.{Change}
+use Rattle.tree_laws.specs.Logged.{is_logged_in}
 use Rattle.mem_cells.specs.Log.{log_place, IsInOrder}
 use Rattle.mem_cells.specs.Part.{log_of, StandBehind}
 use Rattle.mem_cells.proofs.Logs.{joined_on, room_left, own_first}

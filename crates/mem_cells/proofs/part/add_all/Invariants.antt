@@ -1,5 +1,5 @@
 use Rattle.std.proofs.Common.{◌≡◌, ◌≤◌, ◌++◌, ℕ, filter, length}
-use Rattle.sfs_tree.specs.Logged.{is_logged_in}
+use Rattle.tree_laws.specs.Logged.{is_logged_in}
 use Rattle.mem_cells.specs.Log.{IsInOrder}
 use Rattle.mem_cells.specs.Part.{log_of, StandBehind}
 use Rattle.mem_cells.proofs.part.add_all.Given as goal

@@ -1,6 +1,6 @@
 use Rattle.std.proofs.Common.{Some, None, sym, subst, ◌≡◌}
 use Rattle.sfs_base.specs.Name.{bucket as name_bucket}
-use Rattle.sfs_tree.proofs.Joined.{bucket_small}
+use Rattle.tree_laws.proofs.Joined.{bucket_small}
 use Rattle.mem_rename.specs.Moving.{without_row, less_one, at_file, bucket_moved, ChangesHeld}
 use Rattle.mem_rename.proofs.HeldChanges.{both_held, bucket_step, file_step}
 use Rattle.mem_rename.proofs.Changeable.{still_can}

@@ -1,7 +1,7 @@
 use Rattle.std.proofs.Common.{map, sym, ap, subst, ◌∙◌}
-use Rattle.sfs_tree.specs.NameRow.{node_number}
-use Rattle.sfs_tree.specs.declared.call.Call.{Call}
-use Rattle.sfs_tree.specs.declared.reply.Reply.TheVariants as reply
+use Rattle.tree_laws.specs.NameRow.{node_number}
+use Rattle.tree_laws.specs.declared.call.Call.{Call}
+use Rattle.tree_laws.specs.declared.reply.Reply.TheVariants as reply
 use Rattle.stamp_table.specs.Table.{MayCall, Stamps}
 use Rattle.mem_values.specs.Stands.{StandsAt}
 use Rattle.mem_values.specs.Facts.{IsLawfulLog}

@@ -1,6 +1,6 @@
 use Rattle.std.proofs.Common.{subst, sym, IsSome}
 use Rattle.sfs_base.specs.Name.{bucket as name_bucket}
-use Rattle.sfs_tree.proofs.Joined.{bucket_small}
+use Rattle.tree_laws.proofs.Joined.{bucket_small}
 use Rattle.mem_rename.proofs.Readied.{works_kept, refused_kept, works_same, refused_same, kept_bucket}
 use Rattle.mem_rename.proofs.readying.prepare.Goals as goal
 

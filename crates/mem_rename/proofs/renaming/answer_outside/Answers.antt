@@ -1,5 +1,5 @@
 use Rattle.std.proofs.Common.{◌≡◌, ap, ◌∙◌, arith}
-use Rattle.sfs_tree.specs.Verdict.{verdict}
+use Rattle.tree_laws.specs.Verdict.{verdict}
 use Rattle.mem_values.specs.Places.{node_count}
 use Rattle.mem_calls.proofs.HeldKinds.{still_directory}
 use Rattle.mem_calls.proofs.Faults.{same_count}

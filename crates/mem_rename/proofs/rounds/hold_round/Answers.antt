@@ -1,5 +1,5 @@
 use Rattle.std.proofs.Common.{rules, map, ◌∙◌, subst}
-use Rattle.sfs_tree.specs.NameRow.{node_number}
+use Rattle.tree_laws.specs.NameRow.{node_number}
 use Rattle.mem_rename.specs.Holding.{HoldsAsked}
 use Rattle.mem_rename.proofs.Gathered.{round}
 use Rattle.mem_rename.proofs.rounds.hold_round.Goals as goal

@@ -1,5 +1,5 @@
 use Rattle.std.proofs.Common.{sym, ap, ◌∙◌, map}
-use Rattle.sfs_tree.specs.NameRow.{node_number}
+use Rattle.tree_laws.specs.NameRow.{node_number}
 use Rattle.mem_rename.specs.Decisions.{decision_by, verdict_of}
 use Rattle.mem_rename.specs.Ready.{sight_of}
 use Rattle.mem_rename.proofs.Sighted.{old_there, new_there}

@@ -1,5 +1,5 @@
 use Rattle.std.proofs.Common.{sym, subst, ◌∙◌, arith, map}
-use Rattle.sfs_tree.specs.NameRow.{node_number}
+use Rattle.tree_laws.specs.NameRow.{node_number}
 use Rattle.mem_rename.specs.Rounds.{IsPlanWithin}
 use Rattle.mem_rename.proofs.Settled.{refused_same, none_within, settled}
 use Rattle.mem_rename.proofs.settling.settle.Goals as goal

@@ -1,7 +1,7 @@
 use Rattle.std.proofs.Common.{◌≡◌, refl, sym, subst, ap, ◌∙◌, IsSome, map, nat_le}
 use Rattle.std.specs.FinMap.{len}
-use Rattle.sfs_tree.specs.NameRow.{node_number}
-use Rattle.sfs_tree.specs.Tree.{BUCKET_ROWS}
+use Rattle.tree_laws.specs.NameRow.{node_number}
+use Rattle.tree_laws.specs.Tree.{BUCKET_ROWS}
 use Rattle.mem_calls.specs.Held.{bucket_held}
 use Rattle.sfs_base.specs.Name.{bucket as name_bucket}
 use Rattle.mem_values.specs.declared.bucket.Bucket.{Bucket}

@@ -4,9 +4,9 @@ use Rattle.std.specs.Prelude.{slice_index}
 use Rattle.std.proofs.lemmas.List.{length-replicate}
 use Rattle.std.proofs.Math.Nat.{div-mul-le_self}
 use Rattle.sfs_image.specs.Super.{Layout}
-use Rattle.sfs_tree.specs.Sound.{IsSound, IsWithinLimits}
-use Rattle.sfs_tree.specs.Tree.{TreeState}
-use Rattle.image_tree.specs.Image.{tree_of}
+use Rattle.tree_laws.specs.Sound.{IsSound, IsWithinLimits}
+use Rattle.tree_laws.specs.Tree.{TreeState}
+use Rattle.image_laws.specs.Image.{tree_of}
 use Rattle.disk_change.specs.Lists.{AscendBy}
 use Rattle.disk_change.specs.Nodes.{entry_node}
 use Rattle.disk_change.specs.declared.old.OldEntry.{OldEntry}

@@ -1,6 +1,6 @@
 use Rattle.std.proofs.Common.{◌<◌, length, map, cond, nat_eq, get_or, max, ap, ◌∙◌, sym, arith}
 use Rattle.std.proofs.lemmas.List.{get_or-map, length-map}
-use Rattle.sfs_tree.specs.NameRow.{node_number}
+use Rattle.tree_laws.specs.NameRow.{node_number}
 use Rattle.dep_closure.specs.Gathered.{cut_in}
 use Rattle.node_lists.proofs.Cuts.{lifted_more}
 use Rattle.node_lists.proofs.raised.raise_all.Goals as goal

@@ -1,5 +1,5 @@
 use Rattle.std.proofs.Common.{◌≡◌, ℕ, ◌+◌, ◌-◌, ◌≤◌, length, map, take, vec_len, vec_capacity}
-use Rattle.sfs_tree.specs.NameRow.{node_number}
+use Rattle.tree_laws.specs.NameRow.{node_number}
 use Rattle.disk_change.specs.Lists.{AscendBy}
 use Rattle.dep_closure.specs.Gathered.{cut_node, cut_in, lifted_cut}
 use Rattle.node_lists.proofs.raised.raise_all.Given as goal

@@ -1,8 +1,8 @@
 -- An fsync is answered by the volume.
 use Rattle.std.proofs.Common.{◌≡◌, refl, sym, ap, subst, ◌∙◌}
 use Rattle.sfs_base.specs.declared.numbers.NodeId.{NodeId}
-use Rattle.sfs_tree.specs.declared.call.Call.{Call}
-use Rattle.sfs_tree.specs.declared.call.Call.TheVariants.{Fsync}
+use Rattle.tree_laws.specs.declared.call.Call.{Call}
+use Rattle.tree_laws.specs.declared.call.Call.TheVariants.{Fsync}
 use Rattle.scalefs_run.specs.Calls.{IsFsyncAnswered}
 use Rattle.scalefs_run.specs.declared.engine.Engine.{Engine}
 use Rattle.scalefs_run.proofs.engine.answer.Goals as goal

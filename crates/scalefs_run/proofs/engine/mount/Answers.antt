@@ -1,7 +1,7 @@
 -- A run begins with the volume that was opened.
 use Rattle.std.proofs.Common.{ap}
 use Rattle.sfs_base.specs.Lists.{Roomy}
-use Rattle.sfs_tree.specs.declared.turns.Turn.{Turn}
+use Rattle.tree_laws.specs.declared.turns.Turn.{Turn}
 use Rattle.scalefs_run.specs.declared.engine.Engine.{Engine}
 use Rattle.scalefs_run.proofs.Mounted.{run_begins}
 use Rattle.scalefs_run.proofs.engine.mount.Goals as goal

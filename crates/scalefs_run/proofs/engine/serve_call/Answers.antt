@@ -3,13 +3,13 @@ use Rattle.std.proofs.Common.{◌≡◌, ◌<◌, ◌≤◌, Vec, Global, vec_le
 use Rattle.std.specs.Vec.{vec_capacity}
 use Rattle.sfs_base.proofs.BasicOptions.{on_err}
 use Rattle.sfs_base.specs.declared.numbers.Stamp.{Stamp}
-use Rattle.sfs_tree.specs.declared.history.Entry.{Entry}
-use Rattle.sfs_tree.specs.Tree.{TreeState}
-use Rattle.sfs_tree.proofs.Cores.{cores_stay}
+use Rattle.tree_laws.specs.declared.history.Entry.{Entry}
+use Rattle.tree_laws.specs.Tree.{TreeState}
+use Rattle.tree_laws.proofs.Cores.{cores_stay}
 use Rattle.sfs_dev.specs.Disk.{View}
 use Rattle.volume_one.specs.Calls.{call_entry}
 use Rattle.sfs_base.specs.Lists.{Roomy}
-use Rattle.sfs_tree.specs.declared.turns.Turn.{Turn}
+use Rattle.tree_laws.specs.declared.turns.Turn.{Turn}
 use Rattle.scalefs_run.specs.Turns.{turns_told}
 use Rattle.scalefs_run.specs.declared.turns.Counts.{Counts}
 use Rattle.scalefs_run.specs.RunInvariant.{HasInvariant, EndsRun}

@@ -3,8 +3,8 @@ use Rattle.std.proofs.Common.{Vec, Global, vec_len, get_or, ◌≡◌, ℕ, ◌<
 use Rattle.sfs_base.proofs.BasicOptions.{on_err}
 use Rattle.sfs_dev.proofs.Runs.{GoesOn-refl, GoesOn-trans}
 use Rattle.sfs_base.specs.declared.numbers.CoreId.{CoreId}
-use Rattle.sfs_tree.specs.declared.call.Call.{Call}
-use Rattle.sfs_tree.specs.declared.history.Entry.{Entry}
+use Rattle.tree_laws.specs.declared.call.Call.{Call}
+use Rattle.tree_laws.specs.declared.history.Entry.{Entry}
 use Rattle.script.specs.Limits.{calls_left}
 use Rattle.script.specs.Walks.{Position, call_of, started, commands_of}
 use Rattle.scalefs_run.specs.Calls.{Called}

@@ -4,8 +4,8 @@ use Rattle.std.specs.List.{All}
 use Rattle.sfs_base.specs.Ends.{HasRisen}
 use Rattle.sfs_dev.proofs.Runs.{GoesOn-trans}
 use Rattle.sfs_base.specs.Lists.{Roomy}
-use Rattle.sfs_tree.specs.declared.history.Entry.{Entry}
-use Rattle.sfs_tree.specs.declared.turns.Turn.{Turn}
+use Rattle.tree_laws.specs.declared.history.Entry.{Entry}
+use Rattle.tree_laws.specs.declared.turns.Turn.{Turn}
 use Rattle.script.specs.declared.commands.Line.{Line}
 use Rattle.script.specs.Follows.{Follows, FollowsSoFar}
 use Rattle.script.specs.Texts.{history_text}

@@ -2,8 +2,8 @@
 use Rattle.std.proofs.Common.{List, [], sym, subst}
 use Rattle.sfs_base.specs.Ends.{HasRisen}
 use Rattle.sfs_base.specs.Lists.{Roomy}
-use Rattle.sfs_tree.specs.declared.history.Entry.{Entry}
-use Rattle.sfs_tree.specs.declared.turns.Turn.{Turn}
+use Rattle.tree_laws.specs.declared.history.Entry.{Entry}
+use Rattle.tree_laws.specs.declared.turns.Turn.{Turn}
 use Rattle.scalefs_run.specs.Served.{ServedScript}
 use Rattle.scalefs_run.proofs.Serving.{served_unread, served_read}
 use Rattle.scalefs_run.proofs.top.serve_source.Goals as goal

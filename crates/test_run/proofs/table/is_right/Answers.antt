@@ -1,7 +1,7 @@
 use Rattle.std.proofs.Common.{rules, arith, ap, sym, ◌∙◌, subst, length}
 use Rattle.std.proofs.lemmas.List.{length-replicate}
-use Rattle.sfs_tree.specs.Sound.{IsSound}
-use Rattle.sfs_tree.proofs.SoundTrees.{root_alone_is_sound}
+use Rattle.tree_laws.specs.Sound.{IsSound}
+use Rattle.tree_laws.proofs.SoundTrees.{root_alone_is_sound}
 use Rattle.test_run.proofs.table.is_right.Goals as goal
 
 pub loop-place-init : goal.loop-place-init

@@ -1,6 +1,6 @@
 use Rattle.std.proofs.Common.{refl, sym, subst, arith}
-use Rattle.sfs_tree.specs.Tree.{TreeState}
-use Rattle.sfs_tree.proofs.SoundTrees.{root_alone_is_sound}
+use Rattle.tree_laws.specs.Tree.{TreeState}
+use Rattle.tree_laws.proofs.SoundTrees.{root_alone_is_sound}
 use Rattle.test_tree.proofs.Trials.{IsTrial}
 use Rattle.test_tree.proofs.calls.root_alone.Goals as goal
 

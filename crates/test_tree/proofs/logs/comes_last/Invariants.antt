@@ -1,5 +1,5 @@
 use Rattle.std.proofs.Common.{◌<◌, ◌≤◌, ℕ, get_or, length}
-use Rattle.sfs_tree.specs.declared.changes.Change.{Change}
+use Rattle.tree_laws.specs.declared.changes.Change.{Change}
 use Rattle.mem_cells.specs.Log.{log_place}
 use Rattle.mem_cells.specs.Part.{changes_kept}
 use Rattle.test_tree.proofs.logs.comes_last.Given as goal

@@ -1,6 +1,6 @@
 use Rattle.std.proofs.Common.{sym, subst, arith}
-use Rattle.sfs_tree.specs.Sound.{IsSound}
-use Rattle.sfs_tree.proofs.SoundTrees.{root_alone_is_sound}
+use Rattle.tree_laws.specs.Sound.{IsSound}
+use Rattle.tree_laws.proofs.SoundTrees.{root_alone_is_sound}
 use Rattle.test_tree.proofs.machine.begun_at.Goals as goal
 
 pub new-state-requires : goal.new-state-requires

@@ -3,7 +3,7 @@ use Rattle.std.specs.Option.{option_copied}
 use Rattle.std.specs.Prelude.{option_to_list}
 use Rattle.std.proofs.lemmas.List.{take_all}
 use Rattle.sfs_base.specs.declared.numbers.NodeId.{NodeId}
-use Rattle.sfs_tree.specs.NameRow.{node_number}
+use Rattle.tree_laws.specs.NameRow.{node_number}
 use Rattle.disk_change.specs.declared.old.OldEntry.{OldEntry}
 use Rattle.disk_change.specs.Lists.{AscendBy}
 use Rattle.disk_change.specs.Nodes.{entry_node}

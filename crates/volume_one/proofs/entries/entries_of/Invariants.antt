@@ -1,5 +1,5 @@
 use Rattle.std.proofs.Common.{◌≡◌, map, take}
-use Rattle.sfs_tree.specs.NameRow.{node_number}
+use Rattle.tree_laws.specs.NameRow.{node_number}
 use Rattle.volume_one.specs.Entries.{disk_entries_at}
 use Rattle.volume_one.proofs.entries.entries_of.Given as goal
 

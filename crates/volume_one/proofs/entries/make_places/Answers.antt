@@ -1,7 +1,7 @@
 use Rattle.std.proofs.Common.{ℕ, List, map, take, subst, ◌∙◌}
 use Rattle.std.proofs.lemmas.List.{take_all}
 use Rattle.sfs_base.specs.declared.numbers.NodeId.{NodeId}
-use Rattle.sfs_tree.specs.NameRow.{node_number}
+use Rattle.tree_laws.specs.NameRow.{node_number}
 use Rattle.volume_one.specs.Entries.{HasDiskPlace, HaveDiskPlaces}
 use Rattle.volume_one.proofs.Placing.{all_next, all_weaker}
 use Rattle.volume_one.proofs.entries.make_places.Goals as goal

@@ -1,6 +1,6 @@
 use Rattle.std.proofs.Common.{◌≡◌, ◌-◌, ◌<◌, ℕ, suc, true, cond, length, map, take, drop, subst, arith}
 use Rattle.sfs_base.specs.Listed.{is_listed}
-use Rattle.sfs_tree.specs.NameRow.{node_number}
+use Rattle.tree_laws.specs.NameRow.{node_number}
 use Rattle.disk_change.specs.Lists.{item_with}
 use Rattle.disk_change.specs.Nodes.{entry_node}
 use Rattle.volume_one.specs.Entries.{old_at, kept_in, HasDiskPlace}

@@ -2,7 +2,7 @@ use Rattle.std.proofs.Common.{◌≡◌, ◌≤◌, ℕ, true, cond, length, map
 use Rattle.std.specs.BTreeMap.{IsOrdered}
 use Rattle.std.specs.Ordering.{nat_cmp}
 use Rattle.sfs_base.specs.Listed.{is_listed}
-use Rattle.sfs_tree.specs.NameRow.{node_number}
+use Rattle.tree_laws.specs.NameRow.{node_number}
 use Rattle.disk_change.specs.Lists.{item_with}
 use Rattle.disk_change.specs.Nodes.{entry_node}
 use Rattle.volume_one.specs.Entries.{old_at, kept_in, HaveDiskPlaces}

@@ -1,7 +1,7 @@
 use Rattle.std.proofs.Common.{◌≡◌, cond, map, take, get_or, is_some, sym, ap, ◌∙◌, arith, nat_eq}
 use Rattle.sfs_base.specs.Listed.{is_listed}
 use Rattle.sfs_base.specs.declared.numbers.NodeId.{NodeId}
-use Rattle.sfs_tree.specs.NameRow.{node_number}
+use Rattle.tree_laws.specs.NameRow.{node_number}
 use Rattle.volume_one.specs.Entries.{old_at}
 use Rattle.volume_one.proofs.Placing.{listed_more, marked_next, same_node, some_copied}
 use Rattle.volume_one.proofs.finishing.mark_inodes.Goals as goal

@@ -2,9 +2,9 @@ use Rattle.std.proofs.Common.{List, map, ap, subst, ◌∙◌}
 use Rattle.std.specs.Option.{option_copied}
 use Rattle.std.proofs.lemmas.Result.{IfOk-weaker}
 use Rattle.sfs_base.specs.declared.numbers.NodeId.{NodeId}
-use Rattle.sfs_tree.specs.NameRow.{node_number}
+use Rattle.tree_laws.specs.NameRow.{node_number}
 use Rattle.disk_change.specs.declared.old.OldEntry.{OldEntry}
-use Rattle.fsync_dir.specs.Plan.{IsPlanOf}
+use Rattle.flush_plan.specs.Plan.{IsPlanOf}
 use Rattle.volume_one.specs.Entries.{disk_entries_at}
 use Rattle.volume_one.specs.Planned.{IsPlannedByGathered}
 use Rattle.volume_one.proofs.planning.plan_of.Goals as goal

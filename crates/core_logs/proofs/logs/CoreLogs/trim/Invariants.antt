@@ -1,5 +1,5 @@
 use Rattle.std.proofs.Common.{map, take}
-use Rattle.sfs_tree.specs.NameRow.{node_number}
+use Rattle.tree_laws.specs.NameRow.{node_number}
 use Rattle.core_logs.specs.Logs.{AreTrimmedOf}
 use Rattle.core_logs.proofs.logs.CoreLogs.trim.Given as goal
 

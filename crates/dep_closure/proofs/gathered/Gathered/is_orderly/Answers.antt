@@ -1,7 +1,7 @@
 use Rattle.std.proofs.Common.{map, subst, sym}
 use Rattle.std.specs.Prelude.{All}
 use Rattle.std.specs.List.Sorted.{IsStrictlyIncreasing}
-use Rattle.sfs_tree.specs.NameRow.{node_number}
+use Rattle.tree_laws.specs.NameRow.{node_number}
 use Rattle.dep_closure.specs.Gathered.{IsOwnLog, log_directory, cut_node, birth_node}
 use Rattle.dep_closure.proofs.gathered.Gathered.is_orderly.Goals as goal
 

@@ -1,7 +1,7 @@
 use Rattle.std.proofs.Common.{sym, ap, subst, ◌∙◌, nat_eq}
 use Rattle.std.specs.List.{find}
 use Rattle.mem_cells.specs.Log.{IsInOrder}
-use Rattle.flush_core.proofs.RunFacts.{found_in}
+use Rattle.cut_laws.proofs.RunFacts.{found_in}
 use Rattle.dep_closure.specs.Gathered.{IsOwnLog, log_directory}
 use Rattle.dep_closure.proofs.Looked.{one_of_all}
 use Rattle.dep_closure.proofs.gathered.Gathered.span.Goals as goal

@@ -2,7 +2,7 @@ use Rattle.std.proofs.Common.{arith, ap, ◌∙◌, sym, subst, refl, ◌+◌, c
 use Rattle.std.specs.Bool.{OnFalse}
 use Rattle.std.specs.BTreeSet.{IsUnchanged}
 use Rattle.sfs_base.proofs.BasicTruth.{not_false}
-use Rattle.flush_core.specs.Rules.{IsOneOf}
+use Rattle.cut_laws.specs.Rules.{IsOneOf}
 use Rattle.dep_closure.proofs.Growing.{grows_one, grows_same, has_one}
 use Rattle.dep_closure.proofs.members.Found.add.Goals as goal
 

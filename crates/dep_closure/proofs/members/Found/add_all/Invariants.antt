@@ -1,5 +1,5 @@
 use Rattle.std.proofs.Common.{◌≡◌, take}
-use Rattle.flush_core.specs.Engine.{OfSome}
+use Rattle.cut_laws.specs.Elements.{OfSome}
 use Rattle.dep_closure.specs.Brought.{GrowsBy}
 use Rattle.dep_closure.proofs.members.Found.add_all.Given as goal
 

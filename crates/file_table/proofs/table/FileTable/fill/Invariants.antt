@@ -1,6 +1,6 @@
 use Rattle.std.proofs.Common.{◌≡◌, ◌-◌, ◌^◌, ◌<◌, ◌≤◌, ℕ, None}
-use Rattle.sfs_tree.specs.Least.{first_behind}
-use Rattle.sfs_tree.specs.NameRow.{number_of}
+use Rattle.tree_laws.specs.Least.{first_behind}
+use Rattle.tree_laws.specs.NameRow.{number_of}
 use Rattle.file_table.specs.Table.{file_at, IsOfNode}
 use Rattle.file_table.proofs.table.FileTable.fill.Given as goal
 

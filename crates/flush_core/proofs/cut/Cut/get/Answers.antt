@@ -1,5 +1,5 @@
 use Rattle.std.proofs.Common.{sym, ap, ◌∙◌}
-use Rattle.flush_core.specs.Cut.{Cut, cut_of}
+use Rattle.cut_laws.specs.Cut.{Cut, cut_of}
 use Rattle.flush_core.proofs.Stamps.{cut_of-by_nodes}
 use Rattle.flush_core.proofs.cut.Cut.get.Goals as goal
 

@@ -1,5 +1,5 @@
 use Rattle.std.proofs.Common.{Result, Ok, Err, OnErr, ap, arith, ◌∙◌}
-use Rattle.flush_core.specs.Cut.{Cut, cut_of}
+use Rattle.cut_laws.specs.Cut.{Cut, cut_of}
 use Rattle.flush_core.specs.Stamps.{by_nodes, at_least}
 use Rattle.flush_core.proofs.Stamps.{raised_stamps, same_stamps}
 use Rattle.flush_core.proofs.cut.Cut.raise.Goals as goal

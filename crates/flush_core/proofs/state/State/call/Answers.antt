@@ -1,13 +1,13 @@
 use Rattle.std.proofs.Common.{rules, ◌≡◌, ◌<◌, ◌++◌, ◌∷◌, [], length, inr, sym, ap, subst, ◌∙◌}
-use Rattle.sfs_tree.specs.declared.history.Entry.{Entry}
-use Rattle.sfs_tree.specs.History.{MayCome}
-use Rattle.flush_core.specs.declared.event.Event.TheVariants as event
-use Rattle.flush_core.specs.declared.event.Refused.TheVariants as refused
-use Rattle.flush_core.specs.Machine.{IsRefused, Accepts}
+use Rattle.tree_laws.specs.declared.history.Entry.{Entry}
+use Rattle.tree_laws.specs.History.{MayCome}
+use Rattle.cut_laws.specs.declared.event.Event.TheVariants as event
+use Rattle.cut_laws.specs.declared.event.Refused.TheVariants as refused
+use Rattle.cut_laws.specs.Machine.{IsRefused, Accepts}
 use Rattle.flush_core.specs.State.{KeptState, machine_of}
 use Rattle.flush_core.specs.Story.{StoryState, end_of, with_entry, IsReadyPast}
 use Rattle.flush_core.specs.contracts.state.State as shown
-use Rattle.flush_core.proofs.Basics.{no_true}
+use Rattle.cut_laws.proofs.Basics.{no_true}
 use Rattle.flush_core.proofs.Stories.{past_sound, past_core, joined_ready}
 use Rattle.flush_core.proofs.Called.{not_legal, may_come, takes_call}
 use Rattle.flush_core.proofs.state.State.call.Goals as goal

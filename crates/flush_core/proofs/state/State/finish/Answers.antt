@@ -1,6 +1,6 @@
 use Rattle.std.proofs.Common.{map, option_map, Some, refl, sym, ap, ◌∙◌}
 use Rattle.std.specs.Prelude.{not, ◌==◌, filter}
-use Rattle.flush_core.specs.Machine.{Flight}
+use Rattle.cut_laws.specs.Machine.{Flight}
 use Rattle.flush_core.specs.Flights.{flight_as, flight_in, flush_as, flush_in, is_opened_in}
 use Rattle.flush_core.specs.State.{KeptState}
 use Rattle.flush_core.proofs.Ended.{takes_durable}

@@ -2,7 +2,7 @@ use Rattle.std.proofs.Common.{◌≡◌, ◌+◌, Bool, List, map, take, sym, su
 use Rattle.std.specs.List.{list_any}
 use Rattle.flush_core.specs.declared.raise.Raise.{Raise}
 use Rattle.flush_core.specs.NodeSets.{has_node}
-use Rattle.flush_core.specs.Closure.{every_entry, Flush, AreRaised, none, one_more}
+use Rattle.cut_laws.specs.Closure.{every_entry, Flush, AreRaised, none, one_more}
 use Rattle.flush_core.specs.Flights.{flight_as}
 use Rattle.flush_core.specs.State.{kept_flushes}
 use Rattle.flush_core.proofs.KeptFlights.{kept_more, kept_same}

@@ -1,7 +1,7 @@
 use Rattle.std.proofs.Common.{List, map, take}
-use Rattle.sfs_tree.specs.declared.history.Entry.{Entry}
+use Rattle.tree_laws.specs.declared.history.Entry.{Entry}
 use Rattle.flush_core.specs.NodeSets.{has_node}
-use Rattle.flush_core.specs.Closure.{every_entry, AreRaised}
+use Rattle.cut_laws.specs.Closure.{every_entry, AreRaised}
 use Rattle.flush_core.specs.Past.{IsPast}
 use Rattle.flush_core.specs.Flights.{flight_as}
 use Rattle.flush_core.specs.State.{kept_flushes}

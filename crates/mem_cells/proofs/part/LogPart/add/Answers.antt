@@ -1,5 +1,5 @@
 use Rattle.std.proofs.Common.{sym, subst, List}
-use Rattle.sfs_tree.specs.declared.changes.Change.{Change}
+use Rattle.tree_laws.specs.declared.changes.Change.{Change}
 use Rattle.mem_cells.specs.Log.{IsInOrder}
 use Rattle.mem_cells.specs.Part.{CoreLog, changes_kept, StandBehind}
 use Rattle.mem_cells.proofs.part.LogPart.add.Goals as goal

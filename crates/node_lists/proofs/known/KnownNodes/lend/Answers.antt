@@ -1,4 +1,4 @@
-use Rattle.sfs_tree.specs.NameRow.{node_number}
+use Rattle.tree_laws.specs.NameRow.{node_number}
 use Rattle.dep_closure.specs.Gathered.{cut_node, birth_node}
 use Rattle.node_lists.proofs.Increasing.{ascending_increases}
 use Rattle.node_lists.proofs.known.KnownNodes.lend.Goals as goal

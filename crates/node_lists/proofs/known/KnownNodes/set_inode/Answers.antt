@@ -1,5 +1,5 @@
 use Rattle.std.proofs.Common.{map}
-use Rattle.sfs_tree.specs.NameRow.{node_number}
+use Rattle.tree_laws.specs.NameRow.{node_number}
 use Rattle.disk_change.proofs.Places.{ascends_put}
 use Rattle.node_lists.proofs.Items.{ascends_without, is_listed-put_in, is_listed-without, listed_already, nowhere, somewhere}
 use Rattle.node_lists.proofs.known.KnownNodes.set_inode.Goals as goal

@@ -1,4 +1,4 @@
-use Rattle.sfs_tree.specs.NameRow.{node_number}
+use Rattle.tree_laws.specs.NameRow.{node_number}
 use Rattle.dep_closure.specs.Gathered.{cut_node, birth_node}
 use Rattle.dep_closure.proofs.Searches.{numbers_rise}
 use Rattle.node_lists.proofs.known.KnownNodes.take_back.Goals as goal

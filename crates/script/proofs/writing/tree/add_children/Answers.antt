@@ -5,7 +5,7 @@ use Rattle.std.proofs.Common.{slice_get, inl, inr}
 use Rattle.sfs_base.proofs.BasicOptions.{some_not_none}
 use Rattle.std.specs.FinMap.{entries, len-entries, len}
 use Rattle.sfs_base.proofs.BasicNumbers.{suc_again}
-use Rattle.sfs_tree.specs.Tree.{names_of}
+use Rattle.tree_laws.specs.Tree.{names_of}
 use Rattle.script.specs.Texts.{name_text}
 use Rattle.script.specs.TreeWalk.{item_of, items_of}
 use Rattle.script.proofs.TreeWalkLemmas.{none_put, child_put}

@@ -1,6 +1,6 @@
 use Rattle.std.proofs.Common.{◌≡◌, ◌≤◌, ◌++◌, map, drop}
 use Rattle.std.specs.FinMap.{entries, len}
-use Rattle.sfs_tree.specs.Tree.{names_of}
+use Rattle.tree_laws.specs.Tree.{names_of}
 use Rattle.script.specs.TreeWalk.{item_of, items_of, child_item}
 use Rattle.script.proofs.writing.tree.add_children.Given as goal
 

@@ -2,7 +2,7 @@ use Rattle.std.proofs.Common.{◌≡◌, map, option_map, List, ℕ, [], ◌∷�
 use Rattle.std.proofs.lemmas.List.{take_all, length-map}
 use Rattle.std.specs.FinMap.{from_entries}
 use Rattle.sfs_tree.specs.declared.nodes.NodeData.{NodeData}
-use Rattle.sfs_tree.specs.Tree.{Node}
+use Rattle.tree_laws.specs.Tree.{Node}
 use Rattle.sfs_tree.specs.NodesState.{NodesState}
 use Rattle.sfs_tree.specs.Nodes.{node_of, nodes_from, numbered}
 use Rattle.sfs_tree.proofs.nodes.Nodes.copy.Goals as goal

@@ -4,7 +4,7 @@ use Rattle.std.proofs.lemmas.List.{get_or_read, get_or_past, set-get_or}
 use Rattle.sfs_tree.specs.declared.nodes.Nodes.TheInside.{Inside}
 use Rattle.sfs_tree.specs.NodesState.{NodesState}
 use Rattle.sfs_tree.specs.Nodes.{numbered, node_of}
-use Rattle.sfs_tree.specs.Effect.{Puts, with_edit}
+use Rattle.tree_laws.specs.Effect.{Puts, with_edit}
 use Rattle.sfs_tree.proofs.Numbered.{numbered_same, numbered_edited, get-numbered}
 use Rattle.sfs_tree.proofs.nodes.Nodes.write.Goals as goal
 use Rattle.sfs_tree.proofs.nodes.Nodes.write.Goals.{in-Some+in_ok-write-in-Some, in-None}

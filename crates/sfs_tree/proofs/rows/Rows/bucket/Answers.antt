@@ -2,8 +2,8 @@ use Rattle.std.proofs.Common.{◌+◌, ◌*◌, sym, ap, ◌∙◌, arith}
 use Rattle.std.specs.FinMap.{empty}
 use Rattle.std.proofs.lemmas.List.{get_or_past, get_or_read}
 use Rattle.sfs_tree.specs.RowsState.{RowsState}
-use Rattle.sfs_tree.specs.Tree.{bucket_rows}
-use Rattle.sfs_tree.proofs.Names.{bucket_rows-joined}
+use Rattle.tree_laws.specs.Tree.{bucket_rows}
+use Rattle.tree_laws.proofs.Names.{bucket_rows-joined}
 use Rattle.sfs_tree.proofs.rows.Rows.bucket.Goals as goal
 
 pub returns-then-place-len-clause-none : goal.returns-then-place-len-clause-none

@@ -1,8 +1,8 @@
 use Rattle.std.proofs.Common.{sym, ap, ◌∙◌}
 use Rattle.std.specs.FinMap.{get, get-empty}
-use Rattle.sfs_tree.specs.Order.{name_cmp}
-use Rattle.sfs_tree.specs.Tree.{bucket_rows}
-use Rattle.sfs_tree.proofs.Names.{get-own_bucket}
+use Rattle.tree_laws.specs.Order.{name_cmp}
+use Rattle.tree_laws.specs.Tree.{bucket_rows}
+use Rattle.tree_laws.proofs.Names.{get-own_bucket}
 use Rattle.sfs_tree.proofs.rows.Rows.get.Goals as goal
 
 pub returns-in-Some : goal.returns-in-Some

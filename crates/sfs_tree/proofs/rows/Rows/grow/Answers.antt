@@ -1,6 +1,6 @@
 use Rattle.std.proofs.Common.{sym, ap, subst, ◌∙◌}
 use Rattle.sfs_tree.specs.RowsState.{RowsState}
-use Rattle.sfs_tree.specs.Buckets.{joined, IsBuilt}
+use Rattle.tree_laws.specs.Buckets.{joined, IsBuilt}
 use Rattle.sfs_tree.proofs.Stored.{IsBuilt-grown, joined-grown}
 use Rattle.sfs_tree.proofs.rows.Rows.grow.Goals as goal
 

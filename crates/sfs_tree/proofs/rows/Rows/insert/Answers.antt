@@ -2,10 +2,10 @@ use Rattle.std.proofs.Common.{◌≡◌, ◌+◌, ◌*◌, ◌/◌, ◌<◌, ◌
 use Rattle.std.specs.FinMap.{get, insert, len}
 use Rattle.sfs_base.specs.Name.{bucket}
 use Rattle.sfs_tree.specs.RowsState.{RowsState}
-use Rattle.sfs_tree.specs.Tree.{bucket_rows}
-use Rattle.sfs_tree.specs.Buckets.{Bucket, joined, bucket_at, IsBuilt}
-use Rattle.sfs_tree.proofs.Names.{bucket_rows-joined}
-use Rattle.sfs_tree.proofs.Joined.{bucket_small, get-joined, IsPlaced-insert, joined-insert}
+use Rattle.tree_laws.specs.Tree.{bucket_rows}
+use Rattle.tree_laws.specs.Buckets.{Bucket, joined, bucket_at, IsBuilt}
+use Rattle.tree_laws.proofs.Names.{bucket_rows-joined}
+use Rattle.tree_laws.proofs.Joined.{bucket_small, get-joined, IsPlaced-insert, joined-insert}
 use Rattle.sfs_tree.proofs.JoinedChanged.{IsBuilt-set, len-built}
 use Rattle.sfs_tree.proofs.rows.Rows.insert.Goals as goal
 use Rattle.sfs_tree.proofs.rows.Rows.insert.Goals.{In_ok-insert_at}

@@ -1,5 +1,5 @@
 use Rattle.std.proofs.Common.{sym, subst, refl}
-use Rattle.sfs_tree.specs.Buckets.{IsBuilt}
+use Rattle.tree_laws.specs.Buckets.{IsBuilt}
 use Rattle.sfs_tree.proofs.Stored.{IsPlaced-new}
 use Rattle.sfs_tree.proofs.rows.Rows.new.Goals as goal
 

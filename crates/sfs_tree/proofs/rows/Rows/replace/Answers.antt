@@ -2,7 +2,7 @@ use Rattle.std.proofs.Common.{◌≡◌, ◌+◌, ◌*◌, ◌<◌, set, IsSome,
 use Rattle.std.specs.FinMap.{get, insert}
 use Rattle.sfs_base.specs.Name.{bucket}
 use Rattle.sfs_tree.specs.RowsState.{RowsState}
-use Rattle.sfs_tree.specs.Buckets.{joined, bucket_at, IsBuilt}
+use Rattle.tree_laws.specs.Buckets.{joined, bucket_at, IsBuilt}
 use Rattle.sfs_tree.proofs.JoinedChanged.{row_stands, row_within, row_there, IsPlaced-replaced, joined-replaced, IsBuilt-set, len-built}
 use Rattle.sfs_tree.proofs.rows.Rows.replace.Goals as goal
 use Rattle.sfs_tree.proofs.rows.Rows.replace.Goals.{After-replace_at}

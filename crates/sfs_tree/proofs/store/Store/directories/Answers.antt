@@ -1,6 +1,6 @@
 use Rattle.std.proofs.Common.{◌≡◌, ap, ◌∙◌, slice_index, arith}
 use Rattle.sfs_tree.specs.Counts.{holds_directory_in, count_directories}
-use Rattle.sfs_tree.proofs.Counting.{count-le-len}
+use Rattle.tree_laws.proofs.Counting.{count-le-len}
 use Rattle.sfs_tree.proofs.store.Store.directories.Goals as goal
 
 pub returns-clause-small : goal.returns-clause-small

@@ -1,8 +1,8 @@
 use Rattle.std.proofs.Common.{Some, sym, ap, ◌∙◌, subst, ◌≤◌, ℕ, slice_index, option_map}
 use Rattle.std.specs.List as list
 use Rattle.std.specs.FinMap.{entries}
-use Rattle.sfs_tree.specs.Tree.{count_of, names_it}
-use Rattle.sfs_tree.specs.Order.{Key}
+use Rattle.tree_laws.specs.Tree.{count_of, names_it}
+use Rattle.tree_laws.specs.Order.{Key}
 use Rattle.sfs_tree.specs.StoreState.{StoreState}
 use Rattle.sfs_tree.specs.Counts.{is_directory_in}
 use Rattle.sfs_tree.proofs.Moved.{holder_none, holder_some}

@@ -1,8 +1,8 @@
 use Rattle.std.proofs.Common.{sym, ap, ◌∙◌, slice_index}
 use Rattle.std.specs.FinMap.{len}
 use Rattle.sfs_tree.specs.StoreState.{StoreState}
-use Rattle.sfs_tree.specs.Tree.{names_of}
-use Rattle.sfs_tree.proofs.Names.{len-names_of}
+use Rattle.tree_laws.specs.Tree.{names_of}
+use Rattle.tree_laws.proofs.Names.{len-names_of}
 use Rattle.sfs_tree.proofs.store.Store.inside.Goals as goal
 
 pub returns : goal.returns

@@ -1,14 +1,15 @@
 use Rattle.std.proofs.Common.{◌≡◌, ◌≢◌, true, IsSome, Some, None, sym, ap, subst, ◌∙◌}
 use Rattle.std.specs.FinMap.{get, insert, remove}
 use Rattle.sfs_tree.specs.declared.counts.Counts.{Counts}
-use Rattle.sfs_tree.specs.Order.{Key}
-use Rattle.sfs_tree.specs.Tree.{count_of}
+use Rattle.tree_laws.specs.Order.{Key}
+use Rattle.tree_laws.specs.Tree.{count_of}
 use Rattle.sfs_tree.specs.StoreState.{StoreState}
 use Rattle.sfs_tree.specs.Counts.{is_directory_in, IsCounted, IsWide}
 use Rattle.sfs_tree.specs.Store.{IsStored}
-use Rattle.sfs_tree.proofs.Counting.{get_other-remove, none_removed}
+use Rattle.tree_laws.proofs.Counting.{get_other-remove, none_removed}
 use Rattle.sfs_tree.proofs.StoreKept.{IsStored-row, may_fall}
-use Rattle.sfs_tree.proofs.Moved.{swapped, replaced, apart_by_child, still_some, once_still, IsStored-without, may_rise_again}
+use Rattle.sfs_tree.proofs.Moved.{apart_by_child, still_some, once_still, IsStored-without, may_rise_again}
+use Rattle.tree_laws.proofs.Swapped.{swapped, replaced}
 use Rattle.sfs_tree.proofs.store.Store.move_onto.Goals as goal
 use Rattle.sfs_tree.proofs.store.Store.move_onto.Goals.{After-replace, After-take, After-take-2}
 

@@ -1,12 +1,13 @@
 use Rattle.std.proofs.Common.{◌≡◌, ◌≢◌, ◌<◌, true, IsSome, Some, None, sym, ap, subst, ◌∙◌}
 use Rattle.std.specs.FinMap.{get, insert, remove}
-use Rattle.sfs_tree.specs.Order.{Key}
-use Rattle.sfs_tree.specs.Tree.{count_of}
+use Rattle.tree_laws.specs.Order.{Key}
+use Rattle.tree_laws.specs.Tree.{count_of}
 use Rattle.sfs_tree.specs.StoreState.{StoreState}
 use Rattle.sfs_tree.specs.Counts.{is_directory_in, IsCounted}
-use Rattle.sfs_tree.proofs.Counting.{get_other-remove}
+use Rattle.tree_laws.proofs.Counting.{get_other-remove}
 use Rattle.sfs_tree.proofs.StoreKept.{IsStored-row, may_fall, has_place}
-use Rattle.sfs_tree.proofs.Moved.{swapped, apart, still_some, without, IsStored-without, may_rise_again}
+use Rattle.sfs_tree.proofs.Moved.{apart, still_some, without, IsStored-without, may_rise_again}
+use Rattle.tree_laws.proofs.Swapped.{swapped}
 use Rattle.sfs_tree.proofs.store.Store.move_row.Goals as goal
 use Rattle.sfs_tree.proofs.store.Store.move_row.Goals.{In_ok-insert, After-take}
 

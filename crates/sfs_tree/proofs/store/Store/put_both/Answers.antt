@@ -1,7 +1,7 @@
 use Rattle.std.proofs.Common.{◌≡◌, ◌<◌, IsSome, Some, None, false, refl, sym, ap, subst, ◌∙◌}
 use Rattle.std.specs.FinMap.{get}
 use Rattle.std.specs.Option.{option_map_or}
-use Rattle.sfs_tree.specs.Tree.{Node, is_directory_kind}
+use Rattle.tree_laws.specs.Tree.{Node, is_directory_kind}
 use Rattle.sfs_tree.specs.StoreState.{StoreState}
 use Rattle.sfs_tree.specs.Nodes.{node_of}
 use Rattle.sfs_tree.specs.Store.{IsStored}

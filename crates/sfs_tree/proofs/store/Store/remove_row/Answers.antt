@@ -1,6 +1,6 @@
 use Rattle.std.proofs.Common.{◌≡◌, true, Some, sym, ap, ◌∙◌}
 use Rattle.std.specs.FinMap.{get}
-use Rattle.sfs_tree.specs.Tree.{count_of}
+use Rattle.tree_laws.specs.Tree.{count_of}
 use Rattle.sfs_tree.specs.StoreState.{StoreState}
 use Rattle.sfs_tree.specs.Counts.{is_directory_in}
 use Rattle.sfs_tree.proofs.StoreKept.{IsStored-removed, may_fall}

@@ -1,4 +1,4 @@
-use Rattle.sfs_tree.specs.Effect.{Resizes}
+use Rattle.tree_laws.specs.Effect.{Resizes}
 use Rattle.sfs_tree.proofs.StoreKept.{IsStored-edited}
 use Rattle.sfs_tree.proofs.store.Store.resize.Goals as goal
 

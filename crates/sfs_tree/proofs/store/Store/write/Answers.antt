@@ -1,4 +1,4 @@
-use Rattle.sfs_tree.specs.Effect.{Puts}
+use Rattle.tree_laws.specs.Effect.{Puts}
 use Rattle.sfs_tree.proofs.StoreKept.{IsStored-edited}
 use Rattle.sfs_tree.proofs.store.Store.write.Goals as goal
 

@@ -1,9 +1,9 @@
 use Rattle.std.proofs.Common.{◌≡◌, ◌-◌, ◌<◌, ◌≤◌, ◌++◌, ℕ, zero, suc, List, [], ◌∷◌, map, Some, sym, ap, subst, ◌∙◌, arith}
 use Rattle.std.proofs.lemmas.List.{map-append, append_assoc}
 use Rattle.sfs_base.specs.declared.numbers.NodeId.{NodeId}
-use Rattle.sfs_tree.specs.Tree.{TreeState, count_of, holder_of, and_above, walk_up}
-use Rattle.sfs_tree.specs.NameRow.{node_number}
-use Rattle.sfs_tree.proofs.SoundTree.{sound_few, sound_holder}
+use Rattle.tree_laws.specs.Tree.{TreeState, count_of, holder_of, and_above, walk_up}
+use Rattle.tree_laws.specs.NameRow.{node_number}
+use Rattle.tree_laws.proofs.SoundTree.{sound_few, sound_holder}
 use Rattle.sfs_tree.proofs.tree.Tree.above.Goals as goal
 
 pub holder-requires-clause-once : goal.holder-requires-clause-once

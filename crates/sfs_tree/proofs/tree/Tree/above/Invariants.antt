@@ -1,7 +1,7 @@
 use Rattle.std.proofs.Common.{◌≡◌, true, map, ◌++◌}
 use Rattle.std.specs.FinMap.{len}
-use Rattle.sfs_tree.specs.NameRow.{node_number}
-use Rattle.sfs_tree.specs.Tree.{is_directory, walk_up}
+use Rattle.tree_laws.specs.NameRow.{node_number}
+use Rattle.tree_laws.specs.Tree.{is_directory, walk_up}
 use Rattle.sfs_tree.proofs.tree.Tree.above.Given as goal
 
 abbrev pub invariant-loop-steps : goal.invariant-loop-steps

@@ -1,10 +1,10 @@
 use Rattle.std.proofs.Common.{◌≡◌, ℕ, List, map, IsSome, IsTrue, OnOk, Ok, Err, sym, ap, subst, ◌∙◌}
 use Rattle.std.specs.FinMap.{get, find, entries_sorted, is_sorted, get-entries, get-empty}
-use Rattle.sfs_tree.specs.Order.{name_cmp}
-use Rattle.sfs_tree.specs.Tree.{bucket_rows, TreeState}
-use Rattle.sfs_tree.specs.NameRow.{name_and_child}
+use Rattle.tree_laws.specs.Order.{name_cmp}
+use Rattle.tree_laws.specs.Tree.{bucket_rows, TreeState}
+use Rattle.tree_laws.specs.NameRow.{name_and_child}
 use Rattle.std.specs.Option.{option_or}
-use Rattle.sfs_tree.proofs.RowsByName.{was_true}
+use Rattle.tree_laws.proofs.RowsByName.{was_true}
 use Rattle.sfs_tree.proofs.tree.Tree.add_bucket.Goals as goal
 use Rattle.sfs_tree.proofs.tree.Tree.add_bucket.Goals.{After-rows}
 

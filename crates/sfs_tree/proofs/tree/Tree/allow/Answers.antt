@@ -1,6 +1,6 @@
 use Rattle.std.proofs.Common.{◌≡◌, ℕ, sym, subst, slice_index}
 use Rattle.sfs_tree.specs.contracts.tree.Tree.{the_view}
-use Rattle.sfs_tree.specs.Tree.{TreeState}
+use Rattle.tree_laws.specs.Tree.{TreeState}
 use Rattle.sfs_tree.proofs.Founded.{founded_numbers, numbered_unmade}
 use Rattle.sfs_tree.proofs.tree.Tree.allow.Goals as goal
 

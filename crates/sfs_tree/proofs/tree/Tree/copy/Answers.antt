@@ -1,5 +1,5 @@
 use Rattle.std.proofs.Common.{subst}
-use Rattle.sfs_tree.specs.Sound.{IsNumbered}
+use Rattle.tree_laws.specs.Sound.{IsNumbered}
 use Rattle.sfs_tree.proofs.Founded.{founded_numbers}
 use Rattle.sfs_tree.proofs.tree.Tree.copy.Goals as goal
 

@@ -1,7 +1,7 @@
 use Rattle.std.proofs.Common.{◌≡◌, IsSome, replicate, sym, ap, subst, ◌∙◌, rules}
 use Rattle.std.specs.FinMap.{get, insert}
 use Rattle.sfs_base.specs.declared.numbers.Kind.TheVariants.{Directory}
-use Rattle.sfs_tree.specs.Build.{IsFounded}
+use Rattle.tree_laws.specs.Build.{IsFounded}
 use Rattle.sfs_tree.proofs.Founded.{IsFounded-new, root_below}
 use Rattle.sfs_tree.proofs.tree.Tree.empty.Goals as goal
 

@@ -1,6 +1,6 @@
 use Rattle.std.proofs.Common.{◌≤◌, sym, subst}
-use Rattle.sfs_tree.specs.Tree.{TreeState, count_of}
-use Rattle.sfs_tree.proofs.SoundTree.{sound_few}
+use Rattle.tree_laws.specs.Tree.{TreeState, count_of}
+use Rattle.tree_laws.proofs.SoundTree.{sound_few}
 use Rattle.sfs_tree.proofs.tree.Tree.holder.Goals as goal
 
 pub holder-requires-clause-once : goal.holder-requires-clause-once

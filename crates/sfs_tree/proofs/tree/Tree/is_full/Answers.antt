@@ -2,8 +2,8 @@ use Rattle.std.proofs.Common.{ℕ, sym, ap, ◌∙◌}
 use Rattle.std.specs.Prelude.{nat_le}
 use Rattle.std.specs.FinMap.{len, len-empty}
 use Rattle.sfs_base.specs.Name.{bucket}
-use Rattle.sfs_tree.specs.Order.{name_cmp}
-use Rattle.sfs_tree.specs.Tree.{TreeState, bucket_rows}
+use Rattle.tree_laws.specs.Order.{name_cmp}
+use Rattle.tree_laws.specs.Tree.{TreeState, bucket_rows}
 use Rattle.sfs_tree.proofs.tree.Tree.is_full.Goals as goal
 
 pub returns-in-None : goal.returns-in-None

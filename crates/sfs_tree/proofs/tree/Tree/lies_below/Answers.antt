@@ -1,8 +1,8 @@
 use Rattle.std.proofs.Common.{◌≡◌, ◌≢◌, ◌-◌, ◌<◌, ◌≤◌, ℕ, zero, suc, true, false, ◌||◌, Some, nat_eq, refl, sym, ap, subst, ◌∙◌, arith}
 use borrow.Author.Tests.{eqb-true}
 use Rattle.std.specs.List.{list_any}
-use Rattle.sfs_tree.specs.Tree.{TreeState, count_of, holder_of, walk_up}
-use Rattle.sfs_tree.proofs.SoundTree.{sound_few, sound_holder, walk_some}
+use Rattle.tree_laws.specs.Tree.{TreeState, count_of, holder_of, walk_up}
+use Rattle.tree_laws.proofs.SoundTree.{sound_few, sound_holder, walk_some}
 use Rattle.sfs_tree.proofs.tree.Tree.lies_below.Goals as goal
 
 pub holder-requires-clause-once : goal.holder-requires-clause-once

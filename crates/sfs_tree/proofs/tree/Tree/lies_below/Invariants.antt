@@ -1,6 +1,6 @@
 use Rattle.std.proofs.Common.{◌≡◌, true, nat_eq}
 use Rattle.std.specs.List.{list_any}
-use Rattle.sfs_tree.specs.Tree.{is_directory, walk_up, lies_below}
+use Rattle.tree_laws.specs.Tree.{is_directory, walk_up, lies_below}
 use Rattle.sfs_tree.proofs.tree.Tree.lies_below.Given as goal
 
 abbrev pub invariant-loop-steps : goal.invariant-loop-steps

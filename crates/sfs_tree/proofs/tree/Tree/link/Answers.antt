@@ -1,10 +1,10 @@
 use Rattle.std.proofs.Common.{◌≡◌, ℕ, List, Bool, true, false, not, Option, Some, None, cond, IsSome, refl, sym, subst}
 use Rattle.std.specs.FinMap.{get}
-use Rattle.sfs_tree.specs.Tree.{TreeState, is_alive, is_directory}
-use Rattle.sfs_tree.specs.Verdict.{link_fault}
-use Rattle.sfs_tree.specs.declared.reply.Code.{Code}
-use Rattle.sfs_tree.specs.declared.reply.Code.TheVariants.{NoEntry, NotPermitted}
-use Rattle.sfs_tree.proofs.SoundTree.{sound_file}
+use Rattle.tree_laws.specs.Tree.{TreeState, is_alive, is_directory}
+use Rattle.tree_laws.specs.Verdict.{link_fault}
+use Rattle.tree_laws.specs.declared.reply.Code.{Code}
+use Rattle.tree_laws.specs.declared.reply.Code.TheVariants.{NoEntry, NotPermitted}
+use Rattle.tree_laws.proofs.SoundTree.{sound_file}
 use Rattle.sfs_tree.proofs.tree.Tree.link.Goals as goal
 
 -- where no condition holds, the file is alive and no directory

@@ -1,8 +1,8 @@
 use Rattle.std.proofs.Common.{◌≡◌, ◌+◌, ◌*◌, ◌<◌, length, set, slice_index, sym, ap, subst, ◌∙◌}
 use Rattle.std.proofs.lemmas.List.{get_or_read}
 use Rattle.std.specs.FinMap.{get, insert}
-use Rattle.sfs_tree.specs.Tree.{TreeState, Node, next_number}
-use Rattle.sfs_tree.specs.Build.{IsFounded}
+use Rattle.tree_laws.specs.Tree.{TreeState, Node, next_number}
+use Rattle.tree_laws.specs.Build.{IsFounded}
 use Rattle.sfs_tree.proofs.Founded.{new_number, IsFounded-made}
 use Rattle.sfs_tree.proofs.tree.Tree.make_node.Goals as goal
 use Rattle.sfs_tree.proofs.tree.Tree.make_node.Goals.{In_ok-grow}

@@ -1,7 +1,7 @@
 use Rattle.std.proofs.Common.{sym, ap, ◌∙◌}
-use Rattle.sfs_tree.specs.NameRow.{number_of}
-use Rattle.sfs_tree.specs.Tree.{TreeState, is_directory, count_of}
-use Rattle.sfs_tree.proofs.SoundTree.{sound_once}
+use Rattle.tree_laws.specs.NameRow.{number_of}
+use Rattle.tree_laws.specs.Tree.{TreeState, is_directory, count_of}
+use Rattle.tree_laws.proofs.SoundTree.{sound_once}
 use Rattle.sfs_tree.proofs.tree.Tree.move_child.Goals as goal
 
 pub move_onto-requires-clause-once : goal.move_onto-requires-clause-once

@@ -1,8 +1,8 @@
 use Rattle.std.proofs.Common.{Some, cond, sym, ap, ◌∙◌}
-use Rattle.sfs_tree.specs.declared.reply.Code.TheVariants.{Invalid}
-use Rattle.sfs_tree.specs.NameRow.{number_of}
-use Rattle.sfs_tree.specs.Tree.{row_of}
-use Rattle.sfs_tree.specs.Verdict.{place_fault}
+use Rattle.tree_laws.specs.declared.reply.Code.TheVariants.{Invalid}
+use Rattle.tree_laws.specs.NameRow.{number_of}
+use Rattle.tree_laws.specs.Tree.{row_of}
+use Rattle.tree_laws.specs.Verdict.{place_fault}
 use Rattle.sfs_tree.proofs.tree.Tree.move_fault.Goals as goal
 
 pub returns-in-Some : goal.returns-in-Some

@@ -1,10 +1,10 @@
 use Rattle.std.proofs.Common.{cond, nat_lt, None, sym, ap, ◌∙◌, arith}
 use Rattle.std.specs.FinMap.{get, get-empty}
 use Rattle.sfs_base.specs.Name.{bucket}
-use Rattle.sfs_tree.specs.Order.{name_cmp}
-use Rattle.sfs_tree.specs.Tree.{bucket_rows}
+use Rattle.tree_laws.specs.Order.{name_cmp}
+use Rattle.tree_laws.specs.Tree.{bucket_rows}
 use Rattle.std.specs.Option.{option_or}
-use Rattle.sfs_tree.proofs.Names.{next_bucket, bucket_apart, all_buckets, none_below}
+use Rattle.tree_laws.proofs.Names.{next_bucket, bucket_apart, all_buckets, none_below}
 use Rattle.sfs_tree.proofs.tree.Tree.names.Goals as goal
 
 pub loop-number-init : goal.loop-number-init

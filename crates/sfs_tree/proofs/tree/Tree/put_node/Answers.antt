@@ -1,7 +1,7 @@
 use Rattle.std.proofs.Common.{sym, ap, subst, ◌∙◌, ◌<◌}
 use Rattle.std.specs.FinMap.{insert}
-use Rattle.sfs_tree.specs.Tree.{TreeState, Node}
-use Rattle.sfs_tree.specs.Build.{IsFounded}
+use Rattle.tree_laws.specs.Tree.{TreeState, Node}
+use Rattle.tree_laws.specs.Build.{IsFounded}
 use Rattle.sfs_tree.proofs.Founded.{IsFounded-node}
 use Rattle.sfs_tree.proofs.tree.Tree.put_node.Goals as goal
 

@@ -1,6 +1,6 @@
 use Rattle.std.proofs.Common.{sym, ap, ◌∙◌}
-use Rattle.sfs_tree.specs.Tree.{TreeState, is_directory, count_of}
-use Rattle.sfs_tree.proofs.SoundTree.{sound_once}
+use Rattle.tree_laws.specs.Tree.{TreeState, is_directory, count_of}
+use Rattle.tree_laws.proofs.SoundTree.{sound_once}
 use Rattle.sfs_tree.proofs.tree.Tree.remove_directory.Goals as goal
 
 pub remove_row-requires-clause-once : goal.remove_row-requires-clause-once

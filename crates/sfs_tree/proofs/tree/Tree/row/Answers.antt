@@ -3,13 +3,13 @@ use Rattle.std.proofs.lemmas.Bool.Decides.{nat_tests}
 use Rattle.std.specs.Prelude.{slice_get}
 use Rattle.std.specs.FinMap.{FinMap, get, entries, empty, len, len-entries, len-empty, get-empty, same_map}
 use Rattle.sfs_base.specs.Name.{bucket}
-use Rattle.sfs_tree.proofs.Names.{get-names_where}
-use Rattle.sfs_tree.proofs.Joined.{bucket_small, name_cmp-IsAntisymmetric}
+use Rattle.tree_laws.proofs.Names.{get-names_where}
+use Rattle.tree_laws.proofs.Joined.{bucket_small, name_cmp-IsAntisymmetric}
 use Rattle.std.specs.Cmp.Lexicographic.{nat_list_cmp_total}
 use Rattle.std.proofs.lemmas.List.{nil_from_length}
-use Rattle.sfs_tree.specs.Order.{name_cmp, key_cmp}
-use Rattle.sfs_tree.specs.Buckets.{Bucket}
-use Rattle.sfs_tree.specs.Tree.{TreeState, bucket_rows}
+use Rattle.tree_laws.specs.Order.{name_cmp, key_cmp}
+use Rattle.tree_laws.specs.Buckets.{Bucket}
+use Rattle.tree_laws.specs.Tree.{TreeState, bucket_rows}
 use Rattle.sfs_tree.proofs.tree.Tree.row.Goals as goal
 
 -- no rows have none at any place

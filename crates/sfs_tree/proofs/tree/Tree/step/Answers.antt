@@ -1,12 +1,12 @@
 use Rattle.std.proofs.Common.{◌≡◌, ℕ, ◌<◌, length, Result, Ok, Err, OnErr, IfOk, sym, subst}
-use Rattle.sfs_tree.specs.declared.call.Call.{Call}
-use Rattle.sfs_tree.specs.declared.reply.Reply.{Reply}
-use Rattle.sfs_tree.specs.Tree.{TreeState}
-use Rattle.sfs_tree.specs.Sound.{IsNumbered}
-use Rattle.sfs_tree.specs.Laws.{IsSoundTree}
-use Rattle.sfs_tree.specs.Step.{IsStep}
+use Rattle.tree_laws.specs.declared.call.Call.{Call}
+use Rattle.tree_laws.specs.declared.reply.Reply.{Reply}
+use Rattle.tree_laws.specs.Tree.{TreeState}
+use Rattle.tree_laws.specs.Sound.{IsNumbered}
+use Rattle.tree_laws.specs.Laws.{IsSoundTree}
+use Rattle.tree_laws.specs.Step.{IsStep}
 use Rattle.sfs_tree.proofs.Founded.{founded_numbers}
-use Rattle.sfs_tree.proofs.SoundTrees.{calls_keep_sound}
+use Rattle.tree_laws.proofs.SoundTrees.{calls_keep_sound}
 use Rattle.sfs_tree.proofs.tree.Tree.step.Goals as goal
 
 -- the tree after a call, or as it was

@@ -1,6 +1,6 @@
 use Rattle.std.proofs.Common.{sym, subst}
-use Rattle.sfs_tree.specs.Effect.{Resizes}
-use Rattle.sfs_tree.specs.Build.{IsFounded}
+use Rattle.tree_laws.specs.Effect.{Resizes}
+use Rattle.tree_laws.specs.Build.{IsFounded}
 use Rattle.sfs_tree.proofs.Founded.{IsFounded-edited}
 use Rattle.sfs_tree.proofs.tree.Tree.trunc.Goals as goal
 

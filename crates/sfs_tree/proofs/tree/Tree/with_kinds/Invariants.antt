@@ -1,7 +1,7 @@
 use Rattle.std.proofs.Common.{◌≡◌, map, take, ℕ, List}
-use Rattle.sfs_tree.specs.NameKinds.{name_kind}
-use Rattle.sfs_tree.specs.NameRow.{name_and_child}
-use Rattle.sfs_tree.specs.Tree.{kind_of}
+use Rattle.tree_laws.specs.NameKinds.{name_kind}
+use Rattle.tree_laws.specs.NameRow.{name_and_child}
+use Rattle.tree_laws.specs.Tree.{kind_of}
 use Rattle.sfs_tree.proofs.tree.Tree.with_kinds.Given as goal
 
 abbrev pub invariant-loop-row : goal.invariant-loop-row

@@ -1,5 +1,5 @@
 use Rattle.std.proofs.Common.{rules, ap, sym, ◌∙◌, subst, List, refl}
-use Rattle.sfs_tree.specs.declared.history.Entry.{Entry}
+use Rattle.tree_laws.specs.declared.history.Entry.{Entry}
 use Rattle.stamp_table.specs.Hand.{IsCore}
 use Rattle.stamp_table.proofs.Entering.{IsWaitingEntry, last_waits, has_answered}
 use Rattle.stamp_table.proofs.hand.Core.answer.Goals as goal

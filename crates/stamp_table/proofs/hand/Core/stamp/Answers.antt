@@ -1,6 +1,6 @@
 use Rattle.std.proofs.Common.{subst, ap, sym, ◌<◌, ℕ, ◌+◌, List, Option}
 use Rattle.sfs_base.specs.declared.numbers.Stamp.{Stamp}
-use Rattle.sfs_tree.specs.declared.history.Entry.{Entry}
+use Rattle.tree_laws.specs.declared.history.Entry.{Entry}
 use Rattle.stamp_table.specs.Table.{MayCall}
 use Rattle.stamp_table.specs.Hand.{IsCore, LeadsWell, WaitsWell}
 use Rattle.stamp_table.proofs.Entering.{may_enter, entered, waits_now, below_most}

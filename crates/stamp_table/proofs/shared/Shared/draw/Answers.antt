@@ -1,5 +1,5 @@
 use Rattle.std.proofs.Common.{rules, ℕ, subst}
-use Rattle.sfs_tree.specs.declared.history.Entry.{Entry}
+use Rattle.tree_laws.specs.declared.history.Entry.{Entry}
 use Rattle.stamp_table.specs.Table.{AddsEntry}
 use Rattle.stamp_table.proofs.Asking.{asks_draw}
 use Rattle.stamp_table.proofs.shared.Shared.draw.Goals as goal

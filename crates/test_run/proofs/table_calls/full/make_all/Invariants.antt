@@ -1,5 +1,5 @@
 use Rattle.std.proofs.Common.{◌<◌, length}
-use Rattle.sfs_tree.specs.Sound.{IsSound}
+use Rattle.tree_laws.specs.Sound.{IsSound}
 use Rattle.stamp_table.specs.Table.{IsBetweenCalls}
 use Rattle.test_run.proofs.table_calls.full.make_all.Given as goal
 

@@ -1,5 +1,5 @@
 use Rattle.std.proofs.Common.{◌≡◌, length}
-use Rattle.sfs_tree.specs.Sound.{IsSound}
+use Rattle.tree_laws.specs.Sound.{IsSound}
 use Rattle.test_run.proofs.table_calls.judged.judged.Given as goal
 
 abbrev pub invariant-loop-stamp : goal.invariant-loop-stamp

@@ -1,6 +1,6 @@
 use Rattle.std.proofs.Common.{◌≡◌, sym, subst, Result, Ok, Err, OnOk, OnErr}
-use Rattle.sfs_tree.specs.Tree.{TreeState}
-use Rattle.sfs_tree.specs.Verdict.{tree_after_call}
+use Rattle.tree_laws.specs.Tree.{TreeState}
+use Rattle.tree_laws.specs.Verdict.{tree_after_call}
 use Rattle.test_tree.proofs.Trials.{IsTrial, after_call}
 use Rattle.test_tree.proofs.calls.Trial.step.Goals as goal
 

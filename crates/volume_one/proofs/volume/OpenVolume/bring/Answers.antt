@@ -3,7 +3,7 @@ use Rattle.std.specs.Prelude.{MatchOption}
 use Rattle.space_map.specs.Space.{shortage}
 use Rattle.space_map.specs.declared.fault.SpaceFault.{SpaceFault}
 use Rattle.space_map.specs.declared.fault.SpaceFault.TheVariants as fault
-use Rattle.sfs_tree.specs.declared.reply.Reply.TheVariants as reply
+use Rattle.tree_laws.specs.declared.reply.Reply.TheVariants as reply
 use Rattle.volume_one.specs.Ends.{PlanEnds, short, unreserved, reserved, need_of_change, with_space}
 use Rattle.volume_one.specs.declared.deed.Deed.TheVariants as deeds
 use Rattle.volume_one.specs.declared.flushed.Flushed.{Flushed}

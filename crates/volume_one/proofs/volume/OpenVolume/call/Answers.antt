@@ -1,8 +1,8 @@
 -- A call other than an fsync: it is foreseen, made, logged and kept, and the volume goes on with its entry.
 use Rattle.std.proofs.Common.{List, None, refl, sym, ap, subst, ◌∙◌, arith}
-use Rattle.sfs_tree.specs.declared.changes.Change.{Change}
-use Rattle.sfs_tree.specs.declared.reply.Reply.{Reply}
-use Rattle.sfs_tree.specs.Tree.{TreeState}
+use Rattle.tree_laws.specs.declared.changes.Change.{Change}
+use Rattle.tree_laws.specs.declared.reply.Reply.{Reply}
+use Rattle.tree_laws.specs.Tree.{TreeState}
 use Rattle.call_log.specs.Foreseen.{logged_after}
 use Rattle.core_logs.specs.Logs.{MayAdd, AreWithEntry}
 use Rattle.volume_one.specs.Calls.{HasKept, MayKeep, call_entry, kept_with}

@@ -1,7 +1,7 @@
 use Rattle.std.proofs.Common.{◌≡◌, Option, Some, refl, sym, ap, subst, ◌∙◌}
 use Rattle.std.specs.Prelude.{Ok, Err}
 use Rattle.journal_one.specs.Packed.{Contents}
-use Rattle.sfs_tree.specs.declared.reply.Reply.TheVariants as reply
+use Rattle.tree_laws.specs.declared.reply.Reply.TheVariants as reply
 use Rattle.volume_one.specs.Carry.{CarriesPacked}
 use Rattle.volume_one.specs.Ends.{ReadyEnds, carried, doubted, doubtful_deed, refused_with, acknowledged}
 use Rattle.volume_one.specs.declared.deed.Deed.{Deed}

@@ -1,5 +1,5 @@
 use Rattle.std.proofs.Common.{◌≡◌, true, refl, sym, subst}
-use Rattle.sfs_tree.specs.Tree.{is_alive}
+use Rattle.tree_laws.specs.Tree.{is_alive}
 use Rattle.volume_one.specs.Ends.{FlushEnds, dead, stopped, unplanned, planned}
 use Rattle.volume_one.specs.declared.flushed.Flushed.{Flushed}
 use Rattle.volume_one.specs.declared.volume.OpenVolume.{OpenVolume}

@@ -1,5 +1,0 @@
-use Rattle.commit_turns.proofs.WholeFsyncs.{given_back_stand as law}
-use Rattle.commit_turns.proofs.laws.one_thread.given_back_stand.Goals as goal
-
-pub returns : goal.returns
-returns c = law

@@ -1,5 +1,0 @@
-use Rattle.commit_turns.proofs.Failed.{standing_are_recorded as law}
-use Rattle.commit_turns.proofs.laws.one_thread.standing_are_recorded.Goals as goal
-
-pub returns : goal.returns
-returns c = law

@@ -1,5 +1,0 @@
-use Rattle.commit_turns.proofs.Behind.{grants_are_taken_up as law}
-use Rattle.commit_turns.proofs.laws.turns.grants_are_taken_up.Goals as goal
-
-pub returns : goal.returns
-returns c = law

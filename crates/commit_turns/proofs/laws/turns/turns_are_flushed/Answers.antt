@@ -1,5 +1,0 @@
-use Rattle.commit_turns.proofs.Machines.{turns_are_flushed as law}
-use Rattle.commit_turns.proofs.laws.turns.turns_are_flushed.Goals as goal
-
-pub returns : goal.returns
-returns c = law

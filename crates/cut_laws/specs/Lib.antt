@@ -1,0 +1,11 @@
+pub mod Closure
+pub mod Covers
+pub mod Cut
+pub mod Elements
+pub mod Laws
+pub mod LawsGrowth
+pub mod LawsInodes
+pub mod LawsRuns
+pub mod Machine
+pub mod Rules
+pub mod Runs

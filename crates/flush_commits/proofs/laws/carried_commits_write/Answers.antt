@@ -1,5 +1,0 @@
-use Rattle.flush_commits.proofs.Carried.{carried_commits_write as law}
-use Rattle.flush_commits.proofs.laws.carried_commits_write.Goals as goal
-
-pub returns : goal.returns
-returns g c = law (g.D.Disk.view c.args.disk.now) (g.D.Disk.view c.args.later.now)

@@ -1,5 +1,0 @@
-use Rattle.flush_core.proofs.NewNodes.{births_are_new_nodes as law}
-use Rattle.flush_core.proofs.laws.inodes.births_are_new_nodes.Goals as goal
-
-pub returns : goal.returns
-returns c = law

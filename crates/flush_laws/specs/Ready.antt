@@ -1,0 +1,40 @@
+-- What is known of the disk and of memory between the commits of a mount.
+use Rattle.std.specs.Prelude.{◌≡◌, ◌↔◌, ◌⊎◌, ℕ, ◌<◌, ◌≤◌, Bool, true, false, List, length, Some, Contains}
+use Rattle.sfs_image.specs.Part.{Part, IsGathered}
+use Rattle.sfs_image.specs.Super.{Layout, InRange, data_start}
+use Rattle.tree_laws.specs.declared.history.Entry.{Entry}
+use Rattle.tree_laws.specs.Tree.{TreeState}
+use Rattle.image_laws.specs.Image.{inodes_shown, HaveGoodBytes}
+use Rattle.image_laws.specs.Renamed.{Numbering}
+use Rattle.image_laws.specs.Stands.{StandsForTree}
+use Rattle.block_map.specs.Kept.{kept_of}
+use Rattle.disk_change.specs.Lists.{AscendBy}
+use Rattle.disk_change.specs.Nodes.{entry_node}
+use Rattle.disk_change.specs.declared.old.OldEntry.{OldEntry}
+use Rattle.cut_laws.specs.Closure.{every_entry, Flush, AreFlushed}
+use Rattle.cut_laws.specs.Cut.{Cut, tree_at_cut}
+use Rattle.raise_laws.specs.Next.{IsMountedHistory, NumbersInodes}
+
+-- Parts of a layout stand in a store of blocks, of which those of the data area are whole, and break no rule on the bytes of one inode.
+pub record AreSoundParts (layout : Layout) (store : ℕ → List ℕ) (parts : ℕ → Part) : Type 0 where
+  pub gathered : (i : ℕ) → i < layout.inodes → IsGathered store (parts i)
+  pub records : (i : ℕ) → i < layout.inodes → length (parts i).raw ≡ 512
+  pub whole : (block : ℕ) → data_start layout ≤ block → block < layout.blocks → length (store block) ≡ 4096
+  pub good : HaveGoodBytes layout parts
+  pub ranges : InRange layout
+
+-- Between two commits the fsyncs so far have left a cut and the nodes with an inode, which are numbered; and the parts of the disk are sound
+-- and stand for the tree at the cut.
+pub record IsBetweenCommits (first : TreeState) (history : List Entry) (flushes : List Flush) (cut : Cut) (inodes : ℕ → Bool) (num : Numbering)
+    (layout : Layout) (store : ℕ → List ℕ) (parts : ℕ → Part) : Type 0 where
+  pub history_is : IsMountedHistory first history
+  pub flushed : AreFlushed first history every_entry flushes cut inodes
+  pub numbers : NumbersInodes num inodes
+  pub sound : AreSoundParts layout store parts
+  pub stands : StandsForTree num (tree_at_cut first history cut) (inodes_shown layout parts)
+
+-- Memory keeps an entry of each node that has a number, with what is kept of its part.
+pub record KeepsEntries (num : Numbering) (parts : ℕ → Part) (entries : List OldEntry) : Type 0 where
+  pub ascend : AscendBy entry_node entries
+  pub each : (entry : OldEntry) → Contains entries entry → (num entry.node.0 ≡ Some entry.old.number) × (entry.old.kept ≡ kept_of (parts entry.old.number))
+  pub all : (node i : ℕ) → num node ≡ Some i → (entry : OldEntry) × Contains entries entry × (entry.node.0 ≡ node)

@@ -1,0 +1,10 @@
+pub mod Concerned
+pub mod Ends
+pub mod FilePlan
+pub mod Kinds
+pub mod Laws
+pub mod Moved
+pub mod Names
+pub mod Net
+pub mod Plan
+pub mod Touched

@@ -1,0 +1,34 @@
+// An fsync of a file whose namings are all flushed.
+ghost use Rattle.std.specs.Prelude.{IfOk};
+ghost use Rattle.flush_plan.specs.FilePlan.{IsFilePlan};
+
+use crate::touched::file_change;
+use disk_change::{DiskChange, EnterList, FileChangeList, NetList, OldDisk};
+use mem_files::FileBytes;
+use sfs_base::{NoMemory, NodeId, NodeList, Stamp};
+use std::alloc::Global;
+
+/// What an fsync of one file alone changes: its size, and the blocks whose mark is `cut` at least. No row
+/// comes or goes, and no node gets or loses an inode. `old` has what the disk has of the file. Only want of
+/// memory refuses it.
+pub fn plan_file(
+    alloc: Global,
+    file: NodeId,
+    cut: Stamp,
+    old: OldDisk,
+    bytes: &FileBytes,
+) -> Result<DiskChange, NoMemory>
+    ensures { IfOk result (λ change. IsFilePlan file cut.0 old.items bytes.now change) }
+{
+    let mut files = FileChangeList::new(alloc);
+    files.reserve(1)?;
+    files.push(file_change(alloc, file, cut, bytes)?);
+    DiskChange::new(
+        alloc,
+        old,
+        NetList::new(alloc),
+        files,
+        &EnterList::new(alloc),
+        &NodeList::new(alloc),
+    )
+}

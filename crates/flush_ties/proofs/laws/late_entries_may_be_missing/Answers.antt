@@ -1,5 +1,0 @@
-use Rattle.flush_ties.proofs.Fitting.{late_entries_may_be_missing as law}
-use Rattle.flush_ties.proofs.laws.late_entries_may_be_missing.Goals as goal
-
-pub returns : goal.returns
-returns c = law

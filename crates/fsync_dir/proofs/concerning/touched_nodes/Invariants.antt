@@ -1,8 +1,0 @@
-use Rattle.std.proofs.Common.{take}
-use Rattle.flush_core.specs.Engine.{OfSome}
-use Rattle.dep_closure.specs.Brought.{AddsTo}
-use Rattle.fsync_dir.specs.Concerned.{IsTouchedBy}
-use Rattle.fsync_dir.proofs.concerning.touched_nodes.Given as goal
-
-abbrev pub invariant-loop-member : goal.invariant-loop-member
-invariant-loop-member l = AddsTo l.initial.touched l.touched (OfSome (take l.member-index l.nodes) (IsTouchedBy l.logs l.below))

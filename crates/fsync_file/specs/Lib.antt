@@ -1,2 +1,0 @@
-pub mod FilePlan
-pub mod Touched

@@ -1,5 +1,0 @@
-use Rattle.fsync_plans.proofs.Leads.{plans_lead_to_cuts as law}
-use Rattle.fsync_plans.proofs.laws.plans_lead_to_cuts.Goals as goal
-
-pub returns : goal.returns
-returns c = law

@@ -1,5 +1,0 @@
-use Rattle.image_tree.proofs.Places.{blocks_are_kept_or_rewritten as law}
-use Rattle.image_tree.proofs.laws.blocks_are_kept_or_rewritten.Goals as goal
-
-pub returns : goal.returns
-returns c = law

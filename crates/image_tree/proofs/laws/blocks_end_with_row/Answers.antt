@@ -1,5 +1,0 @@
-use Rattle.image_tree.proofs.LastBlock.{blocks_end_with_row as law}
-use Rattle.image_tree.proofs.laws.blocks_end_with_row.Goals as goal
-
-pub returns : goal.returns
-returns c = law

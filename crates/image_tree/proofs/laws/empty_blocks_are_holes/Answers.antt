@@ -1,5 +1,0 @@
-use Rattle.image_tree.proofs.BlockRows.{empty_blocks_are_holes as law}
-use Rattle.image_tree.proofs.laws.empty_blocks_are_holes.Goals as goal
-
-pub returns : goal.returns
-returns c = law

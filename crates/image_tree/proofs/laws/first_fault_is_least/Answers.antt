@@ -1,5 +1,0 @@
-use Rattle.image_tree.proofs.FirstFault.{first_fault_is_least as law}
-use Rattle.image_tree.proofs.laws.first_fault_is_least.Goals as goal
-
-pub returns : goal.returns
-returns c = law

@@ -1,5 +1,0 @@
-use Rattle.image_tree.proofs.Faults.{free_inodes_break_no_tree_rule as law}
-use Rattle.image_tree.proofs.laws.free_inodes_break_no_tree_rule.Goals as goal
-
-pub returns : goal.returns
-returns c = law

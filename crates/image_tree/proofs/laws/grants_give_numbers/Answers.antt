@@ -1,5 +1,0 @@
-use Rattle.image_tree.proofs.Numbers.{grants_give_numbers as law}
-use Rattle.image_tree.proofs.laws.grants_give_numbers.Goals as goal
-
-pub returns : goal.returns
-returns c = law

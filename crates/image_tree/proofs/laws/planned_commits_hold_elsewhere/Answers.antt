@@ -1,5 +1,0 @@
-use Rattle.image_tree.proofs.Elsewhere.{planned_commits_hold_elsewhere as law}
-use Rattle.image_tree.proofs.laws.planned_commits_hold_elsewhere.Goals as goal
-
-pub returns : goal.returns
-returns c = law

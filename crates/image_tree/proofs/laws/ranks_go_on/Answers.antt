@@ -1,5 +1,0 @@
-use Rattle.image_tree.proofs.Ranks.{ranks_go_on as law}
-use Rattle.image_tree.proofs.laws.ranks_go_on.Goals as goal
-
-pub returns : goal.returns
-returns c = law

@@ -1,5 +1,0 @@
-use Rattle.image_tree.proofs.Mounted.{rules_make_standing as law}
-use Rattle.image_tree.proofs.laws.rules_make_standing.Goals as goal
-
-pub returns : goal.returns
-returns c = law

@@ -1,5 +1,0 @@
-use Rattle.image_tree.proofs.WholeImages.{standing_images_are_read as law}
-use Rattle.image_tree.proofs.laws.standing_images_are_read.Goals as goal
-
-pub returns : goal.returns
-returns c = law

@@ -1,5 +1,0 @@
-use Rattle.image_tree.proofs.Standing.{standing_images_show as law}
-use Rattle.image_tree.proofs.laws.standing_images_show.Goals as goal
-
-pub returns : goal.returns
-returns c = law

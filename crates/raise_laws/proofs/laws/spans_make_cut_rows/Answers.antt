@@ -1,0 +1,5 @@
+use Rattle.raise_laws.proofs.Spans.{spans_make_cut_rows as law}
+use Rattle.raise_laws.proofs.laws.spans_make_cut_rows.Goals as goal
+
+pub returns : goal.returns
+returns c = law

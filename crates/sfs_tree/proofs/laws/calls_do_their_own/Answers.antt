@@ -1,5 +1,0 @@
-use Rattle.sfs_tree.proofs.OwnEffects.{does_its_own as law}
-use Rattle.sfs_tree.proofs.laws.calls_do_their_own.Goals as goal
-
-pub returns : goal.returns
-returns c = law

@@ -1,5 +1,0 @@
-use Rattle.sfs_tree.proofs.KeepsRest.{calls_keep_the_rest as law}
-use Rattle.sfs_tree.proofs.laws.calls_keep_the_rest.Goals as goal
-
-pub returns : goal.returns
-returns c = law

@@ -1,5 +1,0 @@
-use Rattle.sfs_tree.proofs.CoreLists.{cores_make_the_history as law}
-use Rattle.sfs_tree.proofs.laws.cores_make_the_history.Goals as goal
-
-pub returns : goal.returns
-returns c = law

@@ -1,5 +1,0 @@
-use Rattle.sfs_tree.proofs.SoundTrees.{drawn_number_is_new as law}
-use Rattle.sfs_tree.proofs.laws.drawn_number_is_new.Goals as goal
-
-pub returns : goal.returns
-returns c = law

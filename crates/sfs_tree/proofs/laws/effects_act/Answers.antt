@@ -1,5 +1,0 @@
-use Rattle.sfs_tree.proofs.Acts.{effects_act as law}
-use Rattle.sfs_tree.proofs.laws.effects_act.Goals as goal
-
-pub returns : goal.returns
-returns c = law

@@ -1,6 +1,0 @@
-use Rattle.std.proofs.Common.{◌≡◌, ◌+◌, length, drop}
-use Rattle.sfs_tree.specs.Merged.{entries_in}
-use Rattle.sfs_tree.proofs.merge.count_entries.Given as goal
-
-abbrev pub invariant-loop-part : goal.invariant-loop-part
-invariant-loop-part l = l.count + length (entries_in (drop l.part-index l.parts)) ≡ length (entries_in l.parts)

@@ -1,7 +1,0 @@
-use Rattle.std.proofs.Common.{◌≡◌, drop}
-use Rattle.std.specs.List.{find}
-use Rattle.sfs_tree.specs.Merged.{has_stamp}
-use Rattle.sfs_tree.proofs.merge.stamped_in.Given as goal
-
-abbrev pub invariant-loop-entry : goal.invariant-loop-entry
-invariant-loop-entry l = find (has_stamp l.stamp) (drop l.entry-index l.entries) ≡ find (has_stamp l.stamp) l.entries
