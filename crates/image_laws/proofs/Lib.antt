@@ -23,4 +23,5 @@ pub mod Sizes
 pub mod SlotRows
 pub mod SlotsAfter
 pub mod Standing
+mod Tables
 pub mod WholeImages

@@ -5,6 +5,7 @@ pub mod Image
 pub mod ImageTree
 pub mod Keeps
 pub mod Laws
+pub mod LawsOfNeed
 pub mod LinkChanges
 pub mod Made
 pub mod Mount

@@ -5,6 +5,7 @@ ghost use Rattle.image_laws.specs.Laws.{NetsGiveLinks, NetsKeepPlaces, BlocksEnd
 ghost use Rattle.image_laws.specs.Laws.{RanksGoOn, RanksTakeFreeBlocks, SlotBlocksShow, EmptyBlocksAreHoles, ByteBlocksShow};
 ghost use Rattle.image_laws.specs.Laws.{RulesMakeStanding, FreedOrphansKeepTheTree, NoFaultIsRulesKept, FirstFaultIsLeast, FreeInodesBreakNoTreeRule};
 ghost use Rattle.image_laws.specs.Laws.{OrphansBreakNoTreeRule, TreesOfImagesAreMounted, StandingImagesAreRead, StandingPartsAreRead};
+ghost use Rattle.image_laws.specs.LawsOfNeed.{TablesAreRewrittenWhereTheyChange};
 
 /// A tree under other numbers is sound where the first is, and has its shape.
 pub fn renamed_trees_have_one_shape()
@@ -149,4 +150,9 @@ pub fn standing_images_are_read()
 /// An image whose parts, with what its open journal slots give, stand for a sound tree has no fault, and a tree of that shape.
 pub fn standing_parts_are_read()
     ensures { StandingPartsAreRead }
+{}
+
+/// An indirect block is rewritten exactly where one of its pointers changes, or it covers no byte any more.
+pub fn tables_are_rewritten_where_they_change()
+    ensures { TablesAreRewrittenWhereTheyChange }
 {}

@@ -11,6 +11,6 @@ pub use laws::{
     no_commit_is_a_step, no_fault_is_rules_kept, orphans_break_no_tree_rule,
     planned_commits_hold_elsewhere, ranks_go_on, ranks_serve_grants, ranks_take_free_blocks,
     renamed_trees_have_one_shape, rules_make_standing, slot_blocks_show, standing_images_are_read,
-    standing_images_show, standing_parts_are_read, trees_of_images_are_mounted,
-    unconcerned_nodes_stay,
+    standing_images_show, standing_parts_are_read, tables_are_rewritten_where_they_change,
+    trees_of_images_are_mounted, unconcerned_nodes_stay,
 };

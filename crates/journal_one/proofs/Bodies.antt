@@ -1,17 +1,18 @@
 -- The pieces of a commit are read as its body.
-use Rattle.std.proofs.Common.{◌≡◌, ◌≢◌, ℕ, ◌+◌, ◌-◌, ◌*◌, ◌<◌, ◌≤◌, Bool, List, [], length, get_or, None, Some, refl, sym, ◌∙◌, ap, subst, arith, cond}
+use Rattle.std.proofs.Common.{◌≡◌, ◌≢◌, ℕ, ◌+◌, ◌-◌, ◌*◌, ◌<◌, ◌≤◌, Bool, List, [], ◌++◌, take, length, get_or, None, Some, refl, sym, ◌∙◌, ap, subst, arith, cond}
 use Rattle.sfs_image.specs.Bytes.{part, zeros, u32_bytes, u64_bytes, number_from}
-use Rattle.sfs_image.specs.Journal.{head_of, HasRangesOf, number_byte, record_byte}
+use Rattle.sfs_image.specs.Journal.{head_of, head_bytes, HasRangesOf, number_byte, record_byte}
 use Rattle.sfs_image.specs.Laws.{record_at}
 use Rattle.sfs_image.specs.Settled.{Stamped, body_in, record_in, journal_slot, slot_byte, slot_count, settled, table_byte, table_record}
 use Rattle.sfs_image.specs.Super.{slot_blocks}
 use Rattle.sfs_image.proofs.BytesLaws.{number_from-u32_bytes, number_from-u64_bytes}
 use Rattle.sfs_image.proofs.EntriesLaws.{read_again, ranges_have}
 use Rattle.sfs_image.proofs.FrameLaws.{part-part}
+use Rattle.sfs_image.proofs.JournalLaws.{behind_512}
 use Rattle.sfs_image.proofs.SettledLaws.{settled_newest}
 use Rattle.journal_one.specs.Job.{Job, Piece, numbers_piece, records_piece, head_piece, body_piece, table_piece, no_entry, IsJob}
 use Rattle.journal_one.specs.Known.{IsWrittenIn, IsOpenIn}
-use Rattle.journal_one.specs.Laws.{job_body, HasPieces, HasBodyOf}
+use Rattle.journal_one.specs.Laws.{job_body, job_head, HasPieces, HasBodyOf}
 use Rattle.journal_one.proofs.Places.{body_is, body_lies, length-numbers, length-records, length-head, entry_long, few_entries}
 
 -- a part of bytes that stand
@@ -87,6 +88,13 @@ module _ (job : Job) (image : List ℕ) (is : IsJob job) (has : HasPieces job im
       let entries = again.again in
       let stamp = stamp_read in
       record { count = again.count; numbers = again.sound; body = λ i. record { stamp = stamp i; entries = entries i } }
+
+  -- the first block has the bytes of the head
+  pub head_spelled : part 512 16 (part 0 4096 (journal_slot job.place.layout image job.place.slot)) ≡ part 512 16 (head_bytes (job_head job))
+  unfolding slot zeros
+  head_spelled =
+      let bytes : part 0 16 (head_piece job).bytes ≡ take 16 (u32_bytes (length job.entries) ++ (zeros 4 ++ (u64_bytes job.stamp ++ zeros 3568))) = refl in
+      in_head 0 16 (omega arith) (omega arith) ∙ bytes ∙ sym (ap (take 16) (behind_512 (job_head job)))
 
   -- what an open slot settles
   pub slot_settles : (i : ℕ) (ours : Stamped (List ℕ)) → IsOpenIn job.place image → record_in i (job_body job) ≡ Some ours

@@ -1,7 +1,7 @@
 -- The laws of a commit's pieces, each of which a function of the module laws proves.
-use Rattle.std.specs.Prelude.{◌≡◌, ◌≢◌, ℕ, ◌<◌, ◌≤◌, List, None, Some, length, slice_index_or}
+use Rattle.std.specs.Prelude.{◌≡◌, ◌≢◌, ℕ, ◌<◌, ◌≤◌, false, List, None, Some, length, slice_index_or}
 use Rattle.sfs_image.specs.Bytes.{part}
-use Rattle.sfs_image.specs.Journal.{head_of, numbers_of, numbers_fault}
+use Rattle.sfs_image.specs.Journal.{Head, head_of, head_bytes, numbers_of, numbers_fault}
 use Rattle.sfs_image.specs.Laws.{record_at}
 use Rattle.sfs_image.specs.Settled.{Body, Stamped, body_in, record_in, journal_slot, slot_count, settled, table_record}
 use Rattle.sfs_dev.specs.Ranges.{Apart}
@@ -25,6 +25,16 @@ pub record HasBodyOf (job : Job) (image : List ℕ) : Type 0 where
 -- Where the pieces of a commit stand in an image, its slot has its body.
 abbrev pub BodiesAreRead : Type 0
 BodiesAreRead = (job : Job) (image : List ℕ) → IsJob job → HasPieces job image → HasBodyOf job image
+
+-- the head of a commit, as it is before its gate is opened
+abbrev pub job_head : Job → Head
+job_head job = record { gate = false; count = length job.entries; stamp = job.stamp }
+
+-- Where the pieces of a commit stand in an image, the first block of its slot has, from the count to the end of the commit stamp, the bytes of
+-- its head.
+abbrev pub HeadsAreSpelled : Type 0
+HeadsAreSpelled = (job : Job) (image : List ℕ) → IsJob job → HasPieces job image
+    → part 512 16 (part 0 4096 (journal_slot job.place.layout image job.place.slot)) ≡ part 512 16 (head_bytes (job_head job))
 
 -- A record of an open slot is settled where no other open slot has one with a commit stamp as great or greater.
 abbrev pub OpenSlotsSettle : Type 0

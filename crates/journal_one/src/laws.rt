@@ -2,7 +2,7 @@
 ghost use Rattle.std.specs.Prelude.{◌≡◌};
 ghost use Rattle.journal_one.specs.Job.{HaveOwnBlocks};
 ghost use Rattle.journal_one.specs.Known.{IsIdle, IsFilling};
-ghost use Rattle.journal_one.specs.Laws.{BodiesAreRead, OpenSlotsSettle, PiecesLeaveTheGate, PlacedRecordsAreInTheTable};
+ghost use Rattle.journal_one.specs.Laws.{BodiesAreRead, HeadsAreSpelled, OpenSlotsSettle, PiecesLeaveTheGate, PlacedRecordsAreInTheTable};
 
 use crate::Filling;
 use sfs_dev::Disk;
@@ -17,6 +17,11 @@ pub fn fillings_begin<D: Disk>(filling: &Filling, _disk: &D)
 /// Where the pieces of a commit stand in an image, its slot has the commit stamp and the records.
 pub fn bodies_are_read()
     ensures { BodiesAreRead }
+{}
+
+/// Where the pieces of a commit stand in an image, its slot's first block has the bytes of its head.
+pub fn heads_are_spelled()
+    ensures { HeadsAreSpelled }
 {}
 
 /// No write that fills a slot covers the byte of its gate.

@@ -11,7 +11,7 @@ mod work;
 pub use close::{Closing, Copied, Placed};
 pub use doubt::{Doubt, sync};
 pub use laws::{
-    bodies_are_read, fillings_begin, open_slots_settle, pieces_leave_the_gate,
+    bodies_are_read, fillings_begin, heads_are_spelled, open_slots_settle, pieces_leave_the_gate,
     placed_records_are_in_the_table,
 };
 pub use packed::Packed;

@@ -1,5 +1,6 @@
 pub mod Disk
 pub mod Holds
+pub mod Laws
 pub mod Left
 pub mod Log
 pub mod LogLaws

@@ -16,15 +16,15 @@ length-head_bytes head =
     omega arith
 
 -- five pieces, the first apart
-first_apart : (a b c d e : List ℕ) → a ++ b ++ c ++ d ++ e ≡ a ++ (b ++ (c ++ (d ++ e)))
+pub first_apart : (a b c d e : List ℕ) → a ++ b ++ c ++ d ++ e ≡ a ++ (b ++ (c ++ (d ++ e)))
 first_apart a b c d e = simp append_assoc
 
-behind_512 : (head : Head) → drop 512 (head_bytes head) ≡ u32_bytes head.count ++ (zeros 4 ++ (u64_bytes head.stamp ++ zeros 3568))
+pub behind_512 : (head : Head) → drop 512 (head_bytes head) ≡ u32_bytes head.count ++ (zeros 4 ++ (u64_bytes head.stamp ++ zeros 3568))
 behind_512 head =
     ap (drop 512) (first_apart (zeros 512) (u32_bytes head.count) (zeros 4) (u64_bytes head.stamp) (zeros 3568))
     ∙ drop_at (zeros 512) _ 512 (length-zeros 512)
 
-behind_520 : (head : Head) → drop 520 (head_bytes head) ≡ u64_bytes head.stamp ++ zeros 3568
+pub behind_520 : (head : Head) → drop 520 (head_bytes head) ≡ u64_bytes head.stamp ++ zeros 3568
 behind_520 head =
     sym (drop-drop 8 512 (head_bytes head)) ∙ ap (drop 8) (behind_512 head) ∙ drop_at (zeros 4) (u64_bytes head.stamp ++ zeros 3568) 4 (length-zeros 4)
 

@@ -2,6 +2,7 @@ pub mod AcceptedLaws
 pub mod Basics
 pub mod BytesLaws
 pub mod EntriesLaws
+mod FieldLaws
 pub mod FrameLaws
 pub mod GateLaws
 pub mod GivenLaws

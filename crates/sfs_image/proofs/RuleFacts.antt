@@ -1,4 +1,4 @@
--- What the rules on sizes, on last blocks and on slots say.
+-- What the rules on records, on inode 0, on sizes, on last blocks and on slots say.
 use Rattle.std.proofs.Common.{◌≡◌, ◌≢◌, ℕ, ◌+◌, ◌-◌, ◌*◌, ◌/◌, ◌%◌, ◌<◌, ◌≤◌, Bool, true, false, not, eqb, ltb, ◌&&◌, List, [], drop, length, get_or, slice_index, None, is_some, is_none, option_map, replicate, All, refl, sym, ap, ◌∙◌, arith, inl, inr}
 use Rattle.std.specs.Prelude.{◌↔◌, slice_index_or}
 use Rattle.std.specs.List.{position}
@@ -6,12 +6,14 @@ use Rattle.std.proofs.lemmas.Bool.{cond-true, cond-false, lt-ltb, not-false, cas
 use Rattle.std.proofs.lemmas.List.{get_or-take, get_or-drop, length-take, same_lists, length-replicate, get_or-replicate, get_or_default}
 use Rattle.std.proofs.lemmas.List.Folds.{list_any_at, list_any_none}
 use Rattle.sfs_image.specs.Bytes.{part, zeros, is_nonzero, nonzero_in}
-use Rattle.sfs_image.specs.Inode.{table_of, entry_of}
+use Rattle.sfs_image.specs.Inode.{inode_fault, table_of, entry_of}
+use Rattle.sfs_image.specs.LawsOfFields.{IsGoodRecord}
 use Rattle.sfs_image.specs.LawsOfParts.{AreTheLimits, FitsSize}
 use Rattle.sfs_image.specs.Part.{Part, inode_in, file_byte, directory_blocks, is_file_part, is_directory_part}
-use Rattle.sfs_image.specs.Rules.{first_covered, DIRECTORY_BLOCKS, breaks_size, breaks_tail, breaks_slots}
+use Rattle.sfs_image.specs.Rules.{first_covered, DIRECTORY_BLOCKS, breaks_record, breaks_root, breaks_size, breaks_tail, breaks_slots}
 use Rattle.sfs_image.specs.Seen.{FILE_BLOCKS}
 use Rattle.sfs_image.specs.SlotBlock.{slots_fault}
+use Rattle.sfs_image.proofs.InodeLaws.{inode_facts}
 use Rattle.sfs_image.proofs.BytesLaws.{zeros_from_none, zeros-byte, zeros-is, no_nonzero-zeros, none_from_map}
 use Rattle.sfs_base.proofs.BasicOptions.{none_of}
 use Rattle.sfs_base.proofs.BasicTruth.{then_false}
@@ -131,3 +133,34 @@ tables_cover k n far table entry =
 
 pub limits : AreTheLimits
 limits = record { file = refl; directory = refl }
+
+-- An inode keeps the first rule exactly where its record is good.
+pub records_say : (own : Part) → (breaks_record own ≡ false) ↔ IsGoodRecord own.raw
+records_say own = (good, keeps)
+  where
+    good : breaks_record own ≡ false → IsGoodRecord own.raw
+    good whole =
+        let facts = inode_facts own.raw (none_of (inode_fault own.raw) whole) in
+        record {
+          kind = facts.kind;
+          between = zeros_in_range 1 3 own.raw facts.gap;
+          free = λ free. zeros_in_range 4 508 own.raw (facts.free free);
+        }
+
+    keeps : IsGoodRecord own.raw → breaks_record own ≡ false
+    keeps is =
+        let kind : ltb 2 (slice_index own.raw 0) ≡ false = le-ltb 2 (slice_index own.raw 0) is.kind in
+        let gap : nonzero_in 1 3 own.raw ≡ None = range_of_zeros 1 3 own.raw is.between in
+        let none : inode_fault own.raw ≡ None = rw (kind, gap) (elim (cases_Bool (eqb (slice_index own.raw 0) 0)) [
+          | inl free ↦ cond-true (eqb (slice_index own.raw 0) 0) (nonzero_in 4 508 own.raw) None free
+              ∙ range_of_zeros 4 508 own.raw (is.free (eqb-true _ _ free))
+          | inr used ↦ cond-false (eqb (slice_index own.raw 0) 0) (nonzero_in 4 508 own.raw) None used
+        ]) in
+        ap is_some none
+
+-- An inode keeps the second rule exactly where it is a directory, if it is inode 0.
+pub roots_say : (own : Part) (i : ℕ) → (breaks_root own i ≡ false) ↔ (i ≡ 0 → is_directory_part own ≡ true)
+roots_say own i = (
+  λ keeps first. not-false (is_directory_part own) (then_false (eqb i 0) _ keeps (eq-eqb i 0 first)),
+  λ directory. asked (eqb i 0) _ (λ first. not_from_true _ (directory (eqb-true i 0 first))),
+)

@@ -5,6 +5,7 @@ pub mod ImageWrites
 pub mod Inode
 pub mod Journal
 pub mod Laws
+pub mod LawsOfFields
 pub mod LawsOfParts
 pub mod Part
 pub mod Rules

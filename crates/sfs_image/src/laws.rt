@@ -8,6 +8,7 @@ ghost use Rattle.sfs_image.specs.Laws.{JournalFaultsAreFirst, FreshBlocksMakePar
 ghost use Rattle.sfs_image.specs.Laws.{RangesHaveEntries, SlotsAreNumbered, EntriesAreReadAgain, SettledIsNewest};
 ghost use Rattle.sfs_image.specs.Laws.{MadePartsTurn, SettledIsTables, ImagesStandForParts, DataWritesKeep, TableWritesKeep};
 ghost use Rattle.sfs_image.specs.Laws.{OldestMayShut, TablesStayFull, BodyWritesKeep, OpenedGatesAdd, ShutGatesKeep};
+ghost use Rattle.sfs_image.specs.LawsOfFields.{FieldsHavePlaces, RecordsSay, RootsSay};
 ghost use Rattle.sfs_image.specs.LawsOfParts.{BytesAreShown, SlotsAreShown, SizesSay, PointersSay, TailsSay};
 ghost use Rattle.sfs_image.specs.LawsOfParts.{PointersHavePlaces, BlocksCoverTheirOwn, TablesCoverFromTheirFirst, AreTheLimits};
 ghost use Rattle.sfs_image.specs.LawsOfParts.{BlocksSay, SlotsSay, HolesAreZeros, BytesAreTheBlocks};
@@ -44,6 +45,11 @@ pub fn slot_block_is_format()
 /// The head of a journal slot is read again from its bytes, but for the gate, which they close.
 pub fn head_is_read_again()
     ensures { (head : Head) → IsHead head → head_of (head_bytes head) ≡ record head { gate = false } }
+{}
+
+/// The fields of superblock, slot, record and head stand each at its bytes.
+pub fn fields_have_places()
+    ensures { FieldsHavePlaces }
 {}
 
 /// The parts of a disk lie one behind another.
@@ -146,8 +152,11 @@ pub fn directories_show_their_slots()
     ensures { SlotsAreShown }
 {}
 
-/// What the rules on sizes, pointers, blocks, last blocks and slots say: an inode keeps one exactly where a fact of it holds.
+/// What the rules on records, on inode 0, on sizes, pointers, blocks, last blocks and slots say: an inode keeps one exactly where a
+/// fact of it holds.
 pub fn rules_say()
+    ensures records { RecordsSay }
+    ensures roots { RootsSay }
     ensures sizes { SizesSay }
     ensures pointers { PointersSay }
     ensures blocks { BlocksSay }

@@ -20,6 +20,7 @@ pub mod Logs
 pub mod Merged
 pub mod Names
 pub mod Numbers
+mod Orders
 pub mod OwnEffects
 pub mod OwnEntries
 pub mod Parts

@@ -7,6 +7,7 @@ pub mod Footprints
 pub mod History
 pub mod Kept
 pub mod Laws
+pub mod LawsOfOrder
 pub mod Least
 pub mod Lock
 pub mod Logged

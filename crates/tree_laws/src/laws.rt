@@ -9,6 +9,7 @@ ghost use Rattle.tree_laws.specs.Laws.{LogsErase, LogsTellWays, HistoriesStayWit
 ghost use Rattle.tree_laws.specs.Laws.{TreesAgreeWithThemselves, OwnEntriesAreCores, TouchesAreNamed, CallsTouchOne};
 ghost use Rattle.tree_laws.specs.Laws.{RowsAreTheTrees, BytesAreTheTrees, CoresMakeTheHistory};
 ghost use Rattle.tree_laws.specs.Laws.{ShapeIsAsWorked};
+ghost use Rattle.tree_laws.specs.LawsOfOrder.{ConditionsHaveTheirOrder};
 
 /// The root alone is a sound tree.
 pub fn root_alone_is_sound()
@@ -168,6 +169,11 @@ pub fn touches_are_named()
 /// A call touches the bytes of one file and the links of one node at most.
 pub fn calls_touch_one()
     ensures { CallsTouchOne }
+{}
+
+/// The conditions of a directory, of a link and of a creation are tried in their order.
+pub fn conditions_have_their_order()
+    ensures { ConditionsHaveTheirOrder }
 {}
 
 /// The shape of a tree whose file has three names is the one that was worked out by hand.
