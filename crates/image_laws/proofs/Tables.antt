@@ -7,7 +7,7 @@ use Rattle.std.proofs.lemmas.List.Folds.{list_any_at, list_any_none}
 use Rattle.std.proofs.lemmas.List.FromFn.{get_or-range_with_len, length-range_with_len}
 use Rattle.sfs_base.proofs.BasicTruth.{false_not_true, true_not_false}
 use Rattle.sfs_image.specs.Seen.{FILE_BLOCKS}
-use Rattle.image_laws.specs.LawsOfNeed.{StaysTable, AreNew}
+use Rattle.image_laws.specs.LawsOfNeed.{StaysTable, AreElsewhere}
 use Rattle.image_laws.specs.Need.{Rewrite, changes_pointer, table_blocks, first_block, rewrites_table, pointer_after}
 
 -- a pointer of a file's block afterwards, by what is done with the block
@@ -28,7 +28,7 @@ none_stays false zeros new old apart same = refl
 none_stays true false new old apart same = absurd (apart same)
 none_stays true true new old apart same = not_from_true (eqb old 0) (eq-eqb old 0 (sym same))
 
-module _ (rewrite : Rewrite) (fresh : ℕ → ℕ) (table : ℕ) (within : table < 16) (new : AreNew rewrite fresh) where
+module _ (rewrite : Rewrite) (fresh : ℕ → ℕ) (table : ℕ) (within : table < 16) (new : AreElsewhere rewrite fresh) where
   -- the pointer of a file's block
   after_is : (n : ℕ) → n < FILE_BLOCKS → pointer_after rewrite fresh n ≡ after (rewrite.is_rewritten n) (rewrite.is_zero n) (fresh n) (rewrite.pointers n)
   after_is n low = cond-true (ltb n FILE_BLOCKS) _ _ (lt-ltb n FILE_BLOCKS low)
@@ -88,6 +88,6 @@ module _ (rewrite : Rewrite) (fresh : ℕ → ℕ) (table : ℕ) (within : table
         | inr there ↦ and_right _ _ (lt-leb rewrite.blocks (first_block table) (is.covers (eqb-false _ 0 there)))
       ]
 
-pub tables_are_rewritten : (rewrite : Rewrite) (fresh : ℕ → ℕ) (table : ℕ) → table < 16 → AreNew rewrite fresh
+pub tables_are_rewritten : (rewrite : Rewrite) (fresh : ℕ → ℕ) (table : ℕ) → table < 16 → AreElsewhere rewrite fresh
     → (rewrites_table rewrite table ≡ false) ↔ StaysTable rewrite fresh table
 tables_are_rewritten rewrite fresh table within new = (kept rewrite fresh table within new, stays_whole rewrite fresh table within new)

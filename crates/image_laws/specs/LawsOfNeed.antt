@@ -9,10 +9,10 @@ pub record StaysTable (rewrite : Rewrite) (fresh : ℕ → ℕ) (table : ℕ) : 
   pub covers : rewrite.pointers (FILE_BLOCKS + table) ≢ 0 → 108 + 1024 * table < rewrite.blocks
 
 -- no fresh block stands at its place already
-abbrev pub AreNew : Rewrite → (ℕ → ℕ) → Type 0
-AreNew rewrite fresh = (place : ℕ) → fresh place ≢ rewrite.pointers place
+abbrev pub AreElsewhere : Rewrite → (ℕ → ℕ) → Type 0
+AreElsewhere rewrite fresh = (place : ℕ) → fresh place ≢ rewrite.pointers place
 
 -- An indirect block is not rewritten exactly where it stays, whichever fresh blocks are taken.
 abbrev pub TablesAreRewrittenWhereTheyChange : Type 0
-TablesAreRewrittenWhereTheyChange = (rewrite : Rewrite) (fresh : ℕ → ℕ) (table : ℕ) → table < 16 → AreNew rewrite fresh
+TablesAreRewrittenWhereTheyChange = (rewrite : Rewrite) (fresh : ℕ → ℕ) (table : ℕ) → table < 16 → AreElsewhere rewrite fresh
     → (rewrites_table rewrite table ≡ false) ↔ StaysTable rewrite fresh table

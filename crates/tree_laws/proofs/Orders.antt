@@ -3,7 +3,7 @@ use Rattle.std.proofs.Common.{◌≡◌, ℕ, ◌<◌, ◌≤◌, true, false, L
 use Rattle.std.specs.FinMap.{len}
 use Rattle.std.proofs.lemmas.Bool.{le-leb, lt-leb}
 use Rattle.sfs_base.specs.Name.{bucket}
-use Rattle.tree_laws.specs.LawsOfOrder.{AsksDirectory, AsksLinked, MayLink, AsksLink, AsksMake, ConditionsHaveTheirOrder}
+use Rattle.tree_laws.specs.LawsOfOrder.{AsksDirectory, AsksLinked, IsLinkable, AsksLink, AsksMake, ConditionsHaveTheirOrder}
 use Rattle.tree_laws.specs.Tree.{TreeState, row_of, is_alive, is_directory, count_of, bucket_rows, made_by}
 use Rattle.tree_laws.specs.Verdict.{directory_fault, make_fault, link_fault}
 
@@ -20,7 +20,7 @@ asks_linked tree file directory name = record {
   directory_linked = λ alive is. rw (alive, is) refl;
 }
 
-asks_link : (tree : TreeState) (file directory : ℕ) (name : List ℕ) → MayLink tree file directory → AsksLink tree file directory name
+asks_link : (tree : TreeState) (file directory : ℕ) (name : List ℕ) → IsLinkable tree file directory → AsksLink tree file directory name
 asks_link tree file directory name may =
     let alive = may.alive in
     let is_file = may.is_file in

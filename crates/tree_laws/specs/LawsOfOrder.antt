@@ -18,7 +18,7 @@ pub record AsksLinked (tree : TreeState) (file directory : ℕ) (name : List ℕ
   pub directory_linked : is_alive tree file ≡ true → is_directory tree file ≡ true → link_fault tree file directory name ≡ Some NotPermitted
 
 -- A file and a directory for which a link may be asked.
-pub record MayLink (tree : TreeState) (file directory : ℕ) : Type 0 where
+pub record IsLinkable (tree : TreeState) (file directory : ℕ) : Type 0 where
   pub alive : is_alive tree file ≡ true
   pub is_file : is_directory tree file ≡ false
   pub usable : directory_fault tree directory ≡ None
@@ -46,5 +46,5 @@ pub record AsksMake (tree : TreeState) (core directory : ℕ) (name : List ℕ) 
 pub record ConditionsHaveTheirOrder : Type 0 where
   pub directory : (tree : TreeState) (directory : ℕ) → AsksDirectory tree directory
   pub linked : (tree : TreeState) (file directory : ℕ) (name : List ℕ) → AsksLinked tree file directory name
-  pub link : (tree : TreeState) (file directory : ℕ) (name : List ℕ) → MayLink tree file directory → AsksLink tree file directory name
+  pub link : (tree : TreeState) (file directory : ℕ) (name : List ℕ) → IsLinkable tree file directory → AsksLink tree file directory name
   pub make : (tree : TreeState) (core directory : ℕ) (name : List ℕ) → directory_fault tree directory ≡ None → AsksMake tree core directory name
