@@ -20,8 +20,9 @@ use Rattle.turn_laws.specs.Need.{ImageState}
 use Rattle.turn_laws.specs.OneThread.{ComesNext}
 use Rattle.volume_one.specs.declared.deed.Deed.{Deed}
 use Rattle.scalefs_run.specs.Acks.{MomentsRise}
-use Rattle.scalefs_run.specs.Turns.{TurnsSoFar, turns_by, turns_told}
+use Rattle.scalefs_run.specs.Turns.{TurnsSoFar, turns_by, turns_told, EachGoesByOne}
 use Rattle.scalefs_run.specs.declared.turns.Counts.{Counts}
+use Rattle.scalefs_run.proofs.Going.{turns_before, ways_go_on}
 use Rattle.scalefs_run.proofs.Turning.{turns_none}
 use Rattle.scalefs_run.specs.Calls.{IsCallAnswered, IsFsyncAnswered}
 use Rattle.scalefs_run.specs.Replies.{is_failure}
@@ -102,6 +103,10 @@ module _ (old : Engine) (reserved : Vec Entry Global) (room : Roomy Turn) (new :
         (subst (λ (l : List Turn). TurnsSoFar start image (kept_with kept entry) before.faults l old.volume.failed) (sym turns_are)
         (turns_none start image kept before.faults old.turns.items old.volume.failed entry comes
         (λ node is alive. absurd (false_not_true (sym none ∙ ap is_fsync is))) stands.turns))
+        (subst (λ (l : List Turn). EachGoesByOne kept.first (kept.history ++ entry ∷ []) l) (append-nil old.turns.items ∙ sym turns_are)
+        (ways_go_on kept.first kept.history entry old.turns.items [] stands.remembers.stands.between.history_is.legal
+        (turns_before start image kept before.faults old.turns.items old.volume.failed stands.turns) stands.goes
+        comes (λ turn one. absurd one) (λ node is alive. absurd (false_not_true (sym none ∙ ap is_fsync is)))))
         (λ from rise. subst (λ (l : List Turn). MomentsRise from l before.now) (sym turns_are) rise))
 
     flushed_node : (node : NodeId) → call ≡ Fsync node → HasGoneOn start image kept old done before after

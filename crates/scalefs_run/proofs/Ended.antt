@@ -17,7 +17,7 @@ use Rattle.turn_laws.specs.Need.{ImageState}
 use Rattle.turn_laws.specs.Recorded.{IsRecorded}
 use Rattle.turn_laws.proofs.Failed.{standing_are_recorded, failed_are_recorded}
 use Rattle.turn_ties.specs.Plans.{rest_of}
-use Rattle.scalefs_run.specs.Turns.{TurnsSoFar}
+use Rattle.scalefs_run.specs.Turns.{TurnsSoFar, EachGoesByOne}
 use Rattle.scalefs_run.specs.RunInvariant.{RunStands, StandsNow, IsSafeEnd, StandsAtEnd, HasInvariant, KeepsInvariant, HasEnded, EndsRun}
 use Rattle.scalefs_run.specs.declared.engine.Engine.{Engine}
 use Rattle.scalefs_run.proofs.Dated.{rising_both}
@@ -61,6 +61,7 @@ ends_after old mid new before between after goes one ends start image kept stand
       legal = subst (λ (t : TreeState). IsLegal t new.entries.items) tree ended.legal;
       answers = subst (λ (t : TreeState). HasAnswers start after.faults t new.entries.items) tree ended.answers;
       recorded = subst (λ (t : TreeState). IsRecorded t new.entries.items image start after.faults new.turns.items) tree ended.recorded;
+      goes = subst (λ (t : TreeState). EachGoesByOne t new.entries.items new.turns.items) tree ended.goes;
       dated = λ counts.
           rising_both kept.history first.later.history new.entries.items old.turns.items mid.turns.items new.turns.items before.now between.now after.now
           (first.dated (let later = goes.later in omega arith)) (ended.dated counts);
@@ -110,6 +111,7 @@ stands_end start image kept engine disk stands = record {
   recorded =
       subst (λ (h : List Entry). IsRecorded kept.first h image start disk.faults engine.turns.items) stands.history
       (recorded_at_end start image kept disk.faults engine.turns.items engine.volume.failed stands.answers stands.turns);
+  goes = subst (λ (h : List Entry). EachGoesByOne kept.first h engine.turns.items) stands.history stands.goes;
   dated = λ counts. record { acks = λ from rise. subst (λ (h : List Entry). AcksRise from h disk.now) stands.history rise; turns = λ from rise. rise };
   safe = λ share from counts safe.
       subst (λ (h : List Entry). IsSafeEnd share from kept.first h disk) stands.history (safe_end share from kept engine.volume.failed disk safe);
@@ -132,6 +134,7 @@ keeps_end old new before after keeps start image kept stands =
       legal = subst (λ (t : TreeState). IsLegal t new.entries.items) tree ended.legal;
       answers = subst (λ (t : TreeState). HasAnswers start after.faults t new.entries.items) tree ended.answers;
       recorded = subst (λ (t : TreeState). IsRecorded t new.entries.items image start after.faults new.turns.items) tree ended.recorded;
+      goes = subst (λ (t : TreeState). EachGoesByOne t new.entries.items new.turns.items) tree ended.goes;
       dated = λ counts.
           rising_both kept.history gone.later.history new.entries.items old.turns.items new.turns.items new.turns.items before.now after.now after.now
           (gone.dated counts) (ended.dated counts);

@@ -1,5 +1,5 @@
 -- An image is made, shown or refused.
-use Rattle.std.proofs.Common.{◌≡◌, ℕ, false, cond, List, Option, None, Some, Err, refl, sym, ap, subst, ◌∙◌}
+use Rattle.std.proofs.Common.{◌≡◌, ℕ, true, false, cond, List, Option, None, Some, Err, refl, sym, ap, subst, ◌∙◌}
 use Rattle.std.specs.Prelude.{nat_lt}
 use borrow.Author.Tests.{le-ltb}
 use Rattle.sfs_base.specs.Ends.{HasRisen}
@@ -11,6 +11,7 @@ use Rattle.sfs_dev.specs.Disk.{View, OnlyTold, images}
 use Rattle.sfs_dev.specs.Run.{CountsOn, EachMoment, HasReadCause, Unwritten}
 use Rattle.sfs_dev.specs.Steps.{IfTold}
 use Rattle.image_laws.specs.Image.{ImageFault as Fault, fault_of}
+use Rattle.sfs_dev.proofs.Runs.{Rests-refl}
 use Rattle.journal_one.specs.Calls.{IsCalm}
 use Rattle.journal_one.specs.Known.{EachLeft}
 use Rattle.recovery.specs.Cause.{is_recover_disk_fault}
@@ -24,8 +25,8 @@ use Rattle.recovery.proofs.JudgedImage.{has_no_fault}
 use Rattle.recovery.proofs.RootAlone.{just_made_has_root_alone}
 use Rattle.script.specs.TreeTexts.{tree_text}
 use Rattle.scalefs_run.specs.declared.outcome.Status.{Status}
-use Rattle.scalefs_run.specs.declared.outcome.Status.TheVariants.{Done, NoMemory, BadImage, DiskFault, TooSmall}
-use Rattle.scalefs_run.specs.Image.{blocks_wanted, making_due, layout_text, has_text, MakesImage, showing_due, status_of_recovery, IsImageRefused, ShowsImage}
+use Rattle.scalefs_run.specs.declared.outcome.Status.TheVariants.{Done, WriteFault, NoMemory, BadImage, DiskFault, TooSmall}
+use Rattle.scalefs_run.specs.Image.{blocks_wanted, making_due, layout_text, has_text, is_refused_memory, MakesImage, showing_due, status_of_recovery, IsImageRefused, ShowsImage}
 use Rattle.scalefs_run.specs.Outcome.{HasStatus, HasText, IsWriteStatus, IsCommand, ComesToDisk}
 use Rattle.scalefs_run.proofs.Serving.{write_status}
 
@@ -37,9 +38,9 @@ making_is_due layout size fits =
     ∙ ap (λ b. cond b (TooSmall layout.blocks size) Done) (le-ltb _ _ fits.within)
 
 pub image_made : (layout : Layout) (old new : View) (Sink : Type 0) (before after : Option (List ℕ)) (status : Status) → IsLayout old.size layout
-    → IsMadeOn layout new → IsWriteStatus Sink status → HasText (layout_text layout) before after status
+    → IsMadeOn layout new → IsWriteStatus Sink status → has_text status ≡ true → HasText (layout_text layout) before after status
     → MakesImage layout Sink before after old new status
-image_made layout old new Sink before after status fits made wrote text = record {
+image_made layout old new Sink before after status fits made wrote has_it text = record {
   status_is =
       subst (λ (due : Status). HasStatus due ⊥ Sink (HasRisen old.faults new.faults) status) (sym (making_is_due layout old.size fits))
       (write_status Sink (HasRisen old.faults new.faults) status wrote);
@@ -47,6 +48,22 @@ image_made layout old new Sink before after status fits made wrote text = record
   made = λ has content told image left.
       let sole = (subst (λ (o : Option (List ℕ)). OnlyTold o (images new)) told made.calm) image left in
       subst (HasRootAlone layout) (sym sole) (just_made_has_root_alone layout content (made.made content told));
+  untouched = λ refused. absurd (never status has_it refused);
+}
+  where
+    never : (status : Status) → has_text status ≡ true → is_refused_memory status ≡ true → ⊥
+    never Done has refused = false_not_true refused
+    never WriteFault has refused = false_not_true refused
+    never _ has refused = false_not_true has
+
+-- one for which memory was wanting, before the disk was touched
+pub not_made : (layout : Layout) (disk : View) (Sink : Type 0) (text : Option (List ℕ)) → IsLayout disk.size layout
+    → MakesImage layout Sink text text disk disk NoMemory
+not_made layout disk Sink text fits = record {
+  status_is = subst (λ (due : Status). HasStatus due ⊥ Sink (HasRisen disk.faults disk.faults) NoMemory) (sym (making_is_due layout disk.size fits)) tt;
+  text = refl;
+  made = λ has. absurd (false_not_true has);
+  untouched = λ refused. Rests-refl disk;
 }
 
 pub image_shown : (old new : View) (report : Report) (Sink : Type 0) (before after : Option (List ℕ)) (status : Status)

@@ -1,6 +1,8 @@
 pub mod Called
+mod Complete
 pub mod Dated
 pub mod Ended
+pub mod Going
 pub mod Images
 pub mod Making
 pub mod Mounted

@@ -1,9 +1,10 @@
 -- A run that begins, and one that was refused before its first call.
-use Rattle.std.proofs.Common.{◌≡◌, ℕ, Bool, List, [], Option, Some, IfSome, is_some, refl, sym, ap, subst, ◌∙◌, arith}
+use Rattle.std.proofs.Common.{◌≡◌, ℕ, Bool, List, [], Option, Some, true, IfSome, is_some, refl, sym, ap, subst, ◌∙◌, arith}
 use Rattle.std.specs.FinMap.{get, empty}
 use Rattle.sfs_base.specs.Ends.{HasRisen}
 use Rattle.tree_laws.specs.declared.history.Entry.{Entry}
 use Rattle.sfs_image.specs.Settled.{layout_of}
+use Rattle.sfs_image.specs.Part.{Part}
 use Rattle.sfs_image.specs.Super.{Layout}
 use Rattle.sfs_dev.specs.Disk.{View}
 use Rattle.sfs_dev.specs.Run.{Advances}
@@ -25,9 +26,10 @@ use Rattle.image_laws.specs.Stands.{StandsForTree}
 use Rattle.cut_laws.specs.Cut.{tree_at_cut}
 use Rattle.turn_laws.specs.Need.{ImageState}
 use Rattle.turn_laws.specs.OneThread.{TurnsStand}
+use Rattle.scalefs_run.proofs.Going.{none_goes_by}
 use Rattle.turn_laws.proofs.Standing.{turns_begin}
 use Rattle.turn_ties.specs.Plans.{image_held, rest_of}
-use Rattle.scalefs_run.specs.Turns.{TurnsSoFar, HaveTurns, IsImageAtFirst}
+use Rattle.scalefs_run.specs.Turns.{TurnsSoFar, HaveTurns, IsImageAtFirst, EachGoesByOne}
 use Rattle.scalefs_run.specs.declared.engine.Engine.{Engine}
 
 module _ (nodes : ℕ) (engine : Engine) (before after : View) (begins : Begins nodes before after engine.volume) (none : engine.entries.items ≡ [])
@@ -74,6 +76,10 @@ module _ (nodes : ℕ) (engine : Engine) (before after : View) (begins : Begins 
           (sym new.no_call)
           (turns_begin kept.first told_at_first after.faults begins.sound)))
 
+  -- a node with a number is one of the first tree
+  in_tree : (node i : ℕ) → kept.num node ≡ Some i → is_some (get kept.first.nodes node) ≡ true
+  in_tree node i has = sym (ap (λ (inodes : ℕ → Bool). inodes node) begins.is_new.all_have_inodes) ∙ (begins.remembers.stands.between.numbers.each node).1 (i, has)
+
   image_at_first : IsImageAtFirst before after kept.first told_at_first
   image_at_first = record {
     num = kept.num;
@@ -85,13 +91,27 @@ module _ (nodes : ℕ) (engine : Engine) (before after : View) (begins : Begins 
         (subst
         (λ (c : Cut). StandsForTree kept.num (tree_at_cut kept.first kept.history c) (inodes_shown kept.layout kept.parts)) begins.is_new.no_cut
         begins.remembers.stands.between.stands);
+    own = λ node i has. (begins.is_new.own_number node i has, in_tree node i has);
+    of_image = λ image told.
+        let is = begins.told image told in
+        record {
+          layout_is = sym is.layout_is;
+          freed = λ i within. ap (λ (parts : ℕ → Part). parts i) is.parts;
+        };
     told = λ content told calm counts.
         let held = ((begins.told content told).holds calm counts).holds in
         (after.now, goes.later, omega arith, λ left is. held.parts held.content held.tells left is);
   }
 
+  -- no fsync has come
+  none_goes : EachGoesByOne kept.first kept.history engine.turns.items
+  none_goes =
+      subst (λ (h : List Entry). EachGoesByOne kept.first h engine.turns.items) (sym begins.is_new.no_call)
+      (subst (λ (l : List Turn). EachGoesByOne kept.first [] l) (sym no_turn) (none_goes_by kept.first))
+
   stands : RunStands before.faults told_at_first kept engine after
   stands = record {
+    goes = none_goes;
     remembers = begins.remembers;
     history = begins.is_new.no_call ∙ sym none;
     cores = begins.cores;

@@ -41,7 +41,7 @@ use Rattle.scalefs_run.specs.Acks.{AcksRise, MomentsRise}
 use Rattle.scalefs_run.specs.Begun.{RunBegins}
 use Rattle.scalefs_run.specs.Due.{Judgement, IsJudged, due, judged_status, mounted_status, workers_status, script_status, phases_in}
 use Rattle.scalefs_run.specs.Image.{IsImageRefused, status_of_recovery}
-use Rattle.scalefs_run.specs.Images.{IfQuiet, HasImagesBy}
+use Rattle.scalefs_run.specs.Images.{IfToldAndCalm, HasImagesBy}
 use Rattle.scalefs_run.specs.Outcome.{IsOf, HasStatus, HasHistory, HasText, HasReadFault, IsWriteStatus, IsCommand, ComesToDisk, status_of_source}
 use Rattle.tree_laws.specs.declared.turns.Turn.{Turn}
 use Rattle.turn_laws.specs.Need.{ImageState}
@@ -54,7 +54,7 @@ use Rattle.scalefs_run.proofs.Ended.{survives}
 
 -- each moment of a call shows what the image at its entry does
 abbrev pub ShowsEntry : View → View → Type 0
-ShowsEntry old new = IfQuiet old new (λ image. EachMoment old new (λ _ now. ShowsTheSame now image))
+ShowsEntry old new = IfToldAndCalm old new (λ image. EachMoment old new (λ _ now. ShowsTheSame now image))
 
 -- a disk on which nothing was done
 pub shows_untouched : (disk : View) → ShowsEntry disk disk
@@ -108,6 +108,8 @@ image_on old mid new first image goes is = record {
   parts = is.parts;
   is = is.is;
   stands = is.stands;
+  own = is.own;
+  of_image = is.of_image;
   told = λ content told calm counts.
       let later = goes.later in
       let found = is.told content told calm (omega (arith, later, counts)) in
@@ -275,6 +277,7 @@ module _ (nodes : ℕ) (phases : List (List Line)) (Sink : Type 0) (before after
         image = begins.image;
         image_is = image_on old mid new begins.kept.first begins.image goes begins.image_is;
         recorded = (ends old.faults begins.image begins.kept begins.stands).recorded;
+        goes = (ends old.faults begins.image begins.kept begins.stands).goes;
         dated = λ counts. ((ends old.faults begins.image begins.kept begins.stands).dated counts).turns old.now (no_turn_yet begins.no_turn);
       }
       told false was =

@@ -5,6 +5,7 @@ use Rattle.sfs_base.specs.declared.numbers.CoreId.{CoreId}
 use Rattle.sfs_base.specs.declared.numbers.NodeId.{NodeId}
 use Rattle.sfs_base.specs.declared.numbers.Stamp.{Stamp}
 use Rattle.sfs_image.specs.Super.{Layout}
+use Rattle.tree_laws.specs.declared.call.Call.{Call}
 use Rattle.tree_laws.specs.declared.call.Call.TheVariants.{Fsync}
 use Rattle.tree_laws.specs.declared.history.Entry.{Entry}
 use Rattle.tree_laws.specs.declared.reply.Reply.{Reply}
@@ -35,8 +36,9 @@ use Rattle.commit_one.specs.Carried.{sealed_at}
 use Rattle.volume_one.specs.Deeds.{DidStay, IsDurableDeed}
 use Rattle.volume_one.specs.declared.deed.Deed.{Deed}
 use Rattle.volume_one.specs.declared.deed.Deed.TheVariants as deeds
-use Rattle.scalefs_run.specs.Turns.{TurnsSoFar, HaveTurns, HaveFailed, moment_of, turns_of}
+use Rattle.scalefs_run.specs.Turns.{TurnsSoFar, HaveTurns, HaveFailed, moment_of, turns_of, EachGoesByOne}
 use Rattle.scalefs_run.specs.declared.turns.Counts.{Counts}
+use Rattle.scalefs_run.proofs.Going.{AnswersBy, goes_by, own_stamps, turns_before, ways_go_on}
 use Rattle.scalefs_run.proofs.Turning.{no_error, alive_of, working_of, halted_of, no_live_error, nothing_told, halted, turns_commit, turns_doubt, turns_short, turns_back}
 use Rattle.scalefs_run.specs.Replies.{is_failure, HasAnswersSoFar, IsReplyTo, is_failed_flush}
 use Rattle.scalefs_run.specs.RunInvariant.{RunStands, StandsNow, HasGoneOn}
@@ -80,7 +82,8 @@ module _ (start : ℕ) (image : ImageState) (kept : Volume) (old new : Engine) (
     (size : after.size ≡ before.size)
     (remembers : Remembers later new.volume) (entries : new.entries.items ≡ old.entries.items ++ entry ∷ [])
     (answers : HasAnswersSoFar start after.faults kept.first (kept.history ++ entry ∷ []) new.volume.failed)
-    (turns : TurnsSoFar start image later after.faults new.turns.items new.volume.failed) where
+    (turns : TurnsSoFar start image later after.faults new.turns.items new.volume.failed)
+    (ways : EachGoesByOne kept.first (kept.history ++ entry ∷ []) new.turns.items) where
   same_layout : new.volume.layout ≡ old.volume.layout
   same_layout = remembers.disk.layout ∙ layout ∙ sym stands.remembers.disk.layout
 
@@ -93,6 +96,9 @@ module _ (start : ℕ) (image : ImageState) (kept : Volume) (old new : Engine) (
     large = let had = stands.large in let same = ap (λ (l : Layout). l.blocks) same_layout in omega (arith, size);
     few = subst (λ (t : TreeState). node_bound t ≤ 2 ^ 32) (sym first) stands.few;
     turns = turns;
+    goes =
+        subst (λ (t : TreeState). EachGoesByOne t later.history new.turns.items) (sym first)
+        (subst (λ (h : List Entry). EachGoesByOne kept.first h new.turns.items) (sym history) ways);
     answers =
         subst (λ (t : TreeState). HasAnswersSoFar start after.faults t later.history new.volume.failed) (sym first)
         (subst (λ (h : List Entry). HasAnswersSoFar start after.faults kept.first h new.volume.failed) (sym history) answers);
@@ -105,9 +111,10 @@ pub goes_on_still : (start : ℕ) (image : ImageState) (kept : Volume) (old new 
     → ((count : ℕ) → IfSome old.volume.failed (λ faults. faults ≡ count)
     → IsReplyTo (tree_after kept.first kept.history) (is_some old.volume.failed) count entry.call entry.reply)
     → TurnsSoFar start image (kept_with kept entry) disk.faults new.turns.items old.volume.failed
+    → EachGoesByOne kept.first (kept.history ++ entry ∷ []) new.turns.items
     → ((from : ℕ) → MomentsRise from old.turns.items disk.now → MomentsRise from new.turns.items disk.now)
     → HasGoneOn start image kept old new disk disk
-goes_on_still start image kept old new disk entry stands remembers failed entries no_ack fine cause turns moments =
+goes_on_still start image kept old new disk entry stands remembers failed entries no_ack fine cause turns ways moments =
     let answers =
     answered_on start disk.faults kept.first kept.history old.volume.failed stands.answers entry cause disk.faults fine (omega arith) stands.answers.kept in
     record {
@@ -116,7 +123,7 @@ goes_on_still start image kept old new disk entry stands remembers failed entrie
       stands =
           stands_on start image kept old new disk disk stands entry (kept_with kept entry) refl refl refl refl remembers entries
           (subst (HasAnswersSoFar start disk.faults kept.first (kept.history ++ entry ∷ [])) (sym failed) answers)
-          (subst (TurnsSoFar start image (kept_with kept entry) disk.faults new.turns.items) (sym failed) turns);
+          (subst (TurnsSoFar start image (kept_with kept entry) disk.faults new.turns.items) (sym failed) turns) ways;
       dated = λ counts. record {
         acks = λ from rise. AcksRise-push from disk.now disk.now kept.history entry rise (no_moment entry.ack disk.now disk.now no_ack) (omega arith);
         turns = moments;
@@ -126,6 +133,14 @@ goes_on_still start image kept old new disk entry stands remembers failed entrie
           (now_on share from kept entry disk (sound_with kept old.volume stands.remembers)
           (legal_with (kept_with kept entry) new.volume remembers) no_ack old.volume.failed safe);
     }
+
+-- the node that was asked for
+node_asked : (node other : NodeId) → Fsync node ≡ Fsync other → node.0 ≡ other.0
+node_asked node other is = ap asked_of is
+  where
+    asked_of : Call → ℕ
+    asked_of (Fsync n) = n.0
+    asked_of _ = 0
 
 -- an fsync comes
 module _ (start : ℕ) (image : ImageState) (kept : Volume) (old new : Engine) (before after : View) (stands : RunStands start image kept old before)
@@ -146,6 +161,45 @@ module _ (start : ℕ) (image : ImageState) (kept : Volume) (old new : Engine) (
   had_turns : old.volume.failed ≡ None → HaveTurns image kept counts.faults_before old.turns.items
   had_turns none =
       subst (λ n. HaveTurns image kept n old.turns.items) (sym own) (subst (TurnsSoFar start image kept before.faults old.turns.items) none stands.turns)
+
+  -- its turns go its way
+  ways : IsLegal kept.first (kept.history ++ entry ∷ [])
+      → (is_alive (tree_after kept.first kept.history) node.0 ≡ true → AnswersBy flushed.deed flushed.reply)
+      → EachGoesByOne kept.first (kept.history ++ entry ∷ []) new.turns.items
+  ways legal did =
+      subst (λ (l : List Turn). EachGoesByOne kept.first (kept.history ++ entry ∷ []) l) (sym told)
+      (ways_go_on kept.first kept.history entry old.turns.items (turns_of entry node counts flushed.deed) (legal_with kept old.volume stands.remembers)
+      (turns_before start image kept before.faults old.turns.items old.volume.failed stands.turns) stands.goes
+      (record { stamped = sym counted; legal = legal }) (own_stamps entry node counts flushed.deed)
+      (λ other asked alive. goes_by entry node counts flushed.deed
+      (did (ap (λ (n : ℕ). is_alive (tree_after kept.first kept.history) n) (node_asked node other asked) ∙ alive))))
+
+  -- what a commit did that is durable, by its answer
+  durable_answer : (one : OneFsync) (moment : ℕ) (did : Deed) → flushed.reply ≡ reply.Ok → IsDurableDeed kept one before after moment did
+      → AnswersBy did flushed.reply
+  durable_answer one moment deeds.Empty ok is = ok
+  durable_answer one moment deeds.Committed ok is = ok
+  durable_answer one moment deeds.Nothing ok is = absurd is
+  durable_answer one moment deeds.Halted ok is = absurd is
+  durable_answer one moment deeds.Short ok is = absurd is
+  durable_answer one moment deeds.GivenBack ok is = absurd is
+  durable_answer one moment (deeds.Failed opened) ok is = absurd is
+
+  -- what one did that left all as it was
+  stayed_answer : (given : Reply) (did : Deed) → flushed.reply ≡ given → DidStay kept (fsync_at node stamp) given did
+      → is_alive (tree_after kept.first kept.history) node.0 ≡ true → AnswersBy did flushed.reply
+  stayed_answer (reply.NoSpace kind need free) did is was alive =
+      subst (λ (d : Deed). AnswersBy d flushed.reply) (sym was.0) (kind, need, free, is)
+  stayed_answer reply.NoMemory deeds.Nothing is was alive = is
+  stayed_answer reply.NoMemory deeds.GivenBack is was alive = is
+  stayed_answer reply.NoMemory deeds.Halted is was alive = absurd was
+  stayed_answer reply.NoMemory deeds.Short is was alive = absurd was
+  stayed_answer reply.NoMemory deeds.Empty is was alive = absurd was
+  stayed_answer reply.NoMemory deeds.Committed is was alive = absurd was
+  stayed_answer reply.NoMemory (deeds.Failed opened) is was alive = absurd was
+  stayed_answer (reply.Stopped faults) did is was alive = subst (λ (d : Deed). AnswersBy d flushed.reply) (sym was) (faults, is)
+  stayed_answer (reply.Error code) did is was alive = absurd (no_live_error _ old.volume.failed flushed.reply code answer_is alive is)
+  stayed_answer _ did is was alive = absurd was
 
   cause : (count : ℕ) → IfSome old.volume.failed (λ faults. faults ≡ count)
       → IsReplyTo (tree_after kept.first kept.history) (is_some old.volume.failed) count (Fsync node) flushed.reply
@@ -223,7 +277,8 @@ module _ (start : ℕ) (image : ImageState) (kept : Volume) (old new : Engine) (
             (turns_commit start image kept old.turns.items stamp core node flushed counts (legal_with later new.volume makes.remembers) counted
             (alive_of (is_alive (tree_after kept.first kept.history) node.0) old.volume.failed flushed.reply answer_is
             (λ is. no_error reply.Ok refl (sym ok ∙ is)))
-            had.used had.below had.stand (with_fsync core stamp node flushed) before after old.volume new.volume makes))));
+            had.used had.below had.stand (with_fsync core stamp node flushed) before after old.volume new.volume makes))))
+            (ways (legal_with later new.volume makes.remembers) (λ alive. durable_answer makes.one makes.moment flushed.deed ok makes.did.did));
         dated = λ count_on.
             let bounds = makes.on_disk count_on in
             let at : moment_of entry ≡ makes.moment = ap (λ (a : Option ℕ). unwrap_or a 0) acked in
@@ -272,7 +327,9 @@ module _ (start : ℕ) (image : ImageState) (kept : Volume) (old new : Engine) (
             (turns_doubt start image kept old.turns.items stamp core node flushed counts (legal_with later new.volume makes.remembers) counted
             (alive_of (is_alive (tree_after kept.first kept.history) node.0) old.volume.failed flushed.reply answer_is
             (λ is. no_error reply.DiskFailed refl (sym failed ∙ is)))
-            had.used had.below had.stand (with_fsync core stamp node flushed) before after old.volume new.volume makes own then_faults stands.answers.later)));
+            had.used had.below had.stand (with_fsync core stamp node flushed) before after old.volume new.volume makes own then_faults stands.answers.later)))
+            (ways (legal_with later new.volume makes.remembers)
+            (λ alive. subst (λ (d : Deed). AnswersBy d flushed.reply) (sym makes.did.did) failed));
         dated = λ count_on. record {
           acks = λ from rise. AcksRise-push from before.now after.now kept.history entry rise (no_moment flushed.ack before.now after.now no_ack) goes.later;
           turns = turns_go_on
@@ -337,7 +394,8 @@ module _ (start : ℕ) (image : ImageState) (kept : Volume) (old new : Engine) (
           (subst (TurnsSoFar start image (kept_with kept entry) before.faults (old.turns.items ++ turns_of entry node counts deeds.Halted)) (sym some)
           (halted start image kept old.turns.items stamp core node flushed counts legal counted
           (alive_at (reply.Stopped faults) is (no_error (reply.Stopped faults) refl)) faults before.faults
-          (subst (TurnsSoFar start image kept before.faults old.turns.items) some stands.turns) is))
+          (subst (TurnsSoFar start image kept before.faults old.turns.items) some stands.turns) is
+          (own ∙ sym (subst (λ (o : Option ℕ). IfSome o (λ f. f ≡ before.faults)) some stands.answers.kept))))
       by (reply.Error code) is did =
           subst (λ (d : Deed). TurnsSoFar start image (kept_with kept entry) before.faults (old.turns.items ++ turns_of entry node counts d) old.volume.failed)
           (sym did)
@@ -363,6 +421,7 @@ module _ (start : ℕ) (image : ImageState) (kept : Volume) (old new : Engine) (
         (subst (λ (l : List Turn). TurnsSoFar start image (kept_with kept entry) before.faults l old.volume.failed) (sym told)
         (other_turns (legal_with (kept_with kept entry) new.volume makes.remembers) given is
         (subst (λ r. DidStay kept (fsync_at node stamp) r flushed.deed) is makes.did)))
+        (ways (legal_with (kept_with kept entry) new.volume makes.remembers) (stayed_answer flushed.reply flushed.deed refl makes.did))
         (stays_rising makes.same makes.did))
 
     pub goes_on_fsync : FsyncMakes disks (with_fsync core stamp node flushed) kept

@@ -143,12 +143,13 @@ module _ (start : ℕ) (image : ImageState) (kept : Volume) (turns : List Turn) 
     next = record { next = comes; asked = refl; alive = alive }
 
     -- one that halts
-    pub halted : (failed faults : ℕ) → HaveFailed start image kept turns failed → flushed.reply ≡ reply.Stopped failed
+    pub halted : (failed faults : ℕ) → HaveFailed start image kept turns failed → flushed.reply ≡ reply.Stopped failed → counts.faults_before ≡ failed
         → TurnsSoFar start image (kept_with kept entry) faults (turns ++ turns_of entry node counts deeds.Halted) (Some failed)
-    halted failed faults so_far given = record {
+    halted failed faults so_far given same = record {
       before = so_far.before;
       since = so_far.since;
-      fail = halts_fail kept.first kept.history image so_far.before failed turns entry node 0 counts.calls_before counts.faults_before next given so_far.fail;
+      fail = halts_fail kept.first kept.history image so_far.before failed turns entry node 0 counts.calls_before counts.faults_before next given same
+          so_far.fail;
     }
 
     module _ (used : List ℕ) (below : (commit : ℕ) → Among used commit → commit ≤ length kept.history)

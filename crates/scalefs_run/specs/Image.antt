@@ -44,12 +44,18 @@ has_text Done = true
 has_text WriteFault = true
 has_text _ = false
 
--- An image was made on a disk: the status has its cause, and the layout's line was written; and where it came to that, each image that a
--- crash may leave has this layout and the root alone.
+-- whether memory was refused
+abbrev pub is_refused_memory : Status → Bool
+is_refused_memory NoMemory = true
+is_refused_memory _ = false
+
+-- An image was made on a disk: the status has its cause, and the layout's line was written; where it came to that, each image that a crash may
+-- leave has this layout and the root alone; and where memory was refused, the disk was not written to.
 pub record MakesImage (layout : Layout) (Sink : Type 0) (before after : Option (List ℕ)) (old new : View) (status : Status) : Type 0 where
   pub status_is : HasStatus (making_due layout old.size) ⊥ Sink (HasRisen old.faults new.faults) status
   pub text : HasText (layout_text layout) before after status
   pub made : has_text status ≡ true → IfTold new.content (λ content. (image : List ℕ) → images new image → HasRootAlone layout image)
+  pub untouched : is_refused_memory status ≡ true → Unwritten old new
 
 -- an image's first fault as a status names it
 abbrev pub fault_named : Fault → ImageFault

@@ -13,8 +13,8 @@ use Rattle.recovery.specs.Recovered.{ShowsTheSame}
 
 -- This holds of the image at the entry of a disk that told it and on which nothing was pending, while the count of its device calls has not
 -- come to its last value.
-abbrev pub IfQuiet : View → View → (List ℕ → Type 0) → Type 0
-IfQuiet old new P = IfTold old.content (λ image. IsCalm old → CountsOn new → P image)
+abbrev pub IfToldAndCalm : View → View → (List ℕ → Type 0) → Type 0
+IfToldAndCalm old new P = IfTold old.content (λ image. IsCalm old → CountsOn new → P image)
 
 -- A run from moment `from` on survives each crash. For each of its moments, every image that a crash then or later may leave is read as the tree
 -- at a closed cut that covers the history at the moment, and that a list of its fsyncs has raised which begins with those acknowledged by

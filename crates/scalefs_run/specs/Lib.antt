@@ -2,6 +2,7 @@ pub mod Acks
 pub mod Begun
 pub mod Calls
 pub mod Commands
+pub mod Complete
 pub mod Due
 pub mod Image
 pub mod Images

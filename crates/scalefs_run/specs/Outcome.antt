@@ -90,10 +90,10 @@ HasHistory phases history WriteFault = Follows phases history
 HasHistory phases history NoMemory = FollowsSoFar phases history
 HasHistory phases history _ = history ≡ []
 
--- What is written with a status: the whole text, the front of it, or nothing.
+-- What is written with a status: the whole text, a front that lacks some of it, or nothing.
 abbrev pub HasText : List ℕ → Option (List ℕ) → Option (List ℕ) → Status → Type 0
 HasText text before after Done = Appends before after text
-HasText text before after WriteFault = (n : ℕ) × (n ≤ length text) × Appends before after (take n text)
+HasText text before after WriteFault = (n : ℕ) × (n < length text) × Appends before after (take n text)
 HasText text before after _ = after ≡ before
 
 -- whether a call with this status came to the disk

@@ -17,12 +17,12 @@ use Rattle.volume_one.specs.Fsync.{HoldsVolume}
 use Rattle.volume_one.specs.Stands.{Remembers}
 use Rattle.scalefs_run.specs.Acks.{GoOnRising}
 use Rattle.scalefs_run.specs.Replies.{HasAnswers, HasAnswersSoFar}
-use Rattle.scalefs_run.specs.Turns.{TurnsSoFar}
+use Rattle.scalefs_run.specs.Turns.{TurnsSoFar, EachGoesByOne}
 use Rattle.scalefs_run.specs.declared.engine.Engine.{Engine}
 
 -- What is in hand belongs to a history: the engine's volume remembers it, and its entries are those made so far. There are as many cores as
 -- the layout has, which lies on the disk, and no more nodes than there are numbers for. Each fsync is answered for its cause, and the turns so far
--- tell what each did, where the disk began with `start` faults and its image told this.
+-- tell what each did, where the disk began with `start` faults and its image told this, and go the ways of the fsyncs.
 pub record RunStands (start : ℕ) (image : ImageState) (kept : Volume) (engine : Engine) (disk : View) : Type 0 where
   pub remembers : Remembers kept engine.volume
   pub history : kept.history ≡ engine.entries.items
@@ -31,6 +31,7 @@ pub record RunStands (start : ℕ) (image : ImageState) (kept : Volume) (engine 
   pub few : node_bound kept.first ≤ 2 ^ 32
   pub answers : HasAnswersSoFar start disk.faults kept.first kept.history engine.volume.failed
   pub turns : TurnsSoFar start image kept disk.faults engine.turns.items engine.volume.failed
+  pub goes : EachGoesByOne kept.first kept.history engine.turns.items
 
 -- What a crash may have left so far, by whether a commit has failed: while none has, the volume stands, and the disk holds it.
 abbrev pub StandsNow : ℕ → ℕ → Volume → View → Option ℕ → Type 0
@@ -68,13 +69,14 @@ pub record IsSafeEnd (share from : ℕ) (first : TreeState) (history : List Entr
   pub so_far : SoFar share from first history disk
   pub ends : StandsAtEnd share first history disk ⊎ HasFailure history
 
--- A run has ended that stood before: its history is legal, each fsync is answered for its cause, its turns are recorded, the moments of
+-- A run has ended that stood before: its history is legal, each fsync is answered for its cause and goes its way, its turns are recorded, the moments of
 -- acknowledgements and of turns go on to rise, and what was safe is safe. `had` are the turns before.
 pub record HasEnded (start : ℕ) (image : ImageState) (kept : Volume) (failed : Option ℕ) (had : List Turn) (history : List Entry) (turns : List Turn)
     (before after : View) : Type 0 where
   pub legal : IsLegal kept.first history
   pub answers : HasAnswers start after.faults kept.first history
   pub recorded : IsRecorded kept.first history image start after.faults turns
+  pub goes : EachGoesByOne kept.first history turns
   pub dated : CountsOn after → GoOnRising kept.history had before.now history turns after.now
   pub safe : (share from : ℕ) → CountsOn after → StandsNow share from kept before failed → IsSafeEnd share from kept.first history after
 

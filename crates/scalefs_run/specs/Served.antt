@@ -20,7 +20,7 @@ use Rattle.scalefs_run.specs.declared.outcome.Status.TheVariants.{Done, WriteFau
 use Rattle.scalefs_run.specs.Acks.{AcksRise}
 use Rattle.scalefs_run.specs.Due.{Judgement, IsJudged, due, phases_in}
 use Rattle.scalefs_run.specs.Image.{IsImageRefused}
-use Rattle.scalefs_run.specs.Images.{IfQuiet, HasImagesBy}
+use Rattle.scalefs_run.specs.Images.{IfToldAndCalm, HasImagesBy}
 use Rattle.scalefs_run.specs.Outcome.{IsOf, HasStatus, HasHistory, HasText}
 use Rattle.scalefs_run.specs.Replies.{HasAnswers}
 use Rattle.scalefs_run.specs.Turns.{HasTurnsBy}
@@ -69,7 +69,7 @@ pub record Served (due_by : Judgement → Status) (nodes : ℕ) (phases : List (
   -- its turns at the disk tell what each fsync did
   pub turns_are : HasTurnsBy (was_mounted status history) old new first history turns
   -- what a crash leaves at each moment, and what a read gives at the end
-  pub images : IfQuiet old new (HasImagesBy (was_mounted status history) nodes first old new history)
+  pub images : IfToldAndCalm old new (HasImagesBy (was_mounted status history) nodes first old new history)
 
 -- the same of the script that the source gave
 abbrev pub ServedScript : ℕ → Option (List ℕ) → Type 0 → Type 0 → Option (List ℕ) → Option (List ℕ) → View → View → Status → List Entry → List Turn → Type 0

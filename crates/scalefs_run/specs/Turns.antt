@@ -1,9 +1,10 @@
 -- The turns at the disk of one fsync, by what it did, and those of a run.
-use Rattle.std.specs.Prelude.{◌≡◌, ℕ, ◌+◌, ◌-◌, ◌≤◌, max, Bool, true, false, List, [], ◌∷◌, length, unwrap_or, Option, None, Some}
-use Rattle.std.specs.FinMap.{empty}
+use Rattle.std.specs.Prelude.{◌≡◌, ℕ, ◌+◌, ◌-◌, ◌≤◌, max, Bool, true, false, List, [], ◌∷◌, length, is_some, unwrap_or, Option, None, Some}
+use Rattle.std.specs.FinMap.{empty, get}
 use Rattle.sfs_base.specs.declared.numbers.NodeId.{NodeId}
 use Rattle.sfs_image.specs.ImageOf.{IsImageOf}
 use Rattle.sfs_image.specs.Part.{Part}
+use Rattle.sfs_image.specs.Settled.{layout_of, parts_of}
 use Rattle.sfs_image.specs.Super.{Layout}
 use Rattle.tree_laws.specs.declared.call.Call.{Call}
 use Rattle.tree_laws.specs.declared.call.Call.TheVariants as call
@@ -23,14 +24,17 @@ use Rattle.cut_laws.specs.Cut.{tree_at_cut}
 use Rattle.cut_laws.specs.Rules.{IsOneOf}
 use Rattle.turn_laws.specs.Need.{ImageState}
 use Rattle.turn_laws.specs.OneThread.{TurnsStand, TurnsFailed, turn_of}
-use Rattle.turn_laws.specs.Recorded.{IsRecorded}
+use Rattle.turn_laws.specs.Recorded.{IsLiveFsync, IsRecorded}
+use Rattle.turn_laws.specs.Ways.{own_turns, GoesWay}
+use Rattle.sfs_dev.specs.Steps.{IfTold}
+use Rattle.recovery.specs.Freed.{AreUnlinkedFree}
 use Rattle.space_laws.specs.Laws.{state_of_parts}
 use Rattle.turn_ties.specs.Plans.{rest_of}
 use Rattle.volume_laws.specs.Volume.{Volume}
 use Rattle.volume_one.specs.declared.deed.Deed.{Deed}
 use Rattle.volume_one.specs.declared.deed.Deed.TheVariants as deed
 use Rattle.scalefs_run.specs.Acks.{MomentsRise}
-use Rattle.scalefs_run.specs.Images.{IfQuiet}
+use Rattle.scalefs_run.specs.Images.{IfToldAndCalm}
 use Rattle.scalefs_run.specs.declared.turns.Counts.{Counts}
 
 -- the number of the commit of an fsync: no two fsyncs have one stamp
@@ -105,23 +109,53 @@ abbrev pub TurnsSoFar : ℕ → ImageState → Volume → ℕ → List Turn → 
 TurnsSoFar start image kept faults turns None = HaveTurns image kept faults turns
 TurnsSoFar start image kept faults turns (Some failed) = HaveFailed start image kept turns failed
 
--- What an image has to tell at the begin of a run: some parts that stand for its tree, under some numbering of its nodes; and where the disk told
--- its content and nothing was pending, at some moment of the call each image that a crash may leave stands for these parts.
+-- a layout and parts are an image's: its layout, and its settled parts but for orphans, which are freed
+pub record AreOfImage (layout : Layout) (parts : ℕ → Part) (image : List ℕ) : Type 0 where
+  pub layout_is : layout ≡ layout_of image
+  pub freed : AreUnlinkedFree layout (parts_of layout image) parts
+
+-- each node that has a number is one of a tree, and the number is its own
+abbrev pub HaveOwnNumbers : Numbering → TreeState → Type 0
+HaveOwnNumbers num tree = (node i : ℕ) → num node ≡ Some i → (i ≡ node) × (is_some (get tree.nodes node) ≡ true)
+
+-- What an image has to tell at the begin of a run: parts that stand for its tree, in which each node has its own number. Where the disk told its
+-- content, they are that image's; and where besides nothing was pending, at some moment of the call each image that a crash may leave stands for
+-- these parts.
 pub record IsImageAtFirst (old new : View) (first : TreeState) (image : ImageState) : Type 0 where
   pub num : Numbering
   pub layout : Layout
   pub parts : ℕ → Part
   pub is : image ≡ state_of_parts num layout parts
   pub stands : StandsForTree num (tree_at_cut first [] empty) (inodes_shown layout parts)
-  pub told : IfQuiet old new (λ content. (moment : ℕ) × (old.now ≤ moment) × (moment ≤ new.now)
+  pub own : HaveOwnNumbers num first
+  pub of_image : IfTold old.content (AreOfImage layout parts)
+  pub told : IfToldAndCalm old new (λ content. (moment : ℕ) × (old.now ≤ moment) × (moment ≤ new.now)
       × ((left : List ℕ) → new.crash_images moment left → IsImageOf layout nothing_open parts left))
 
--- The turns of a run are recorded, over an image that stands at its begin; and while the disk's count of calls has not come to its last value
--- their moments do not fall, and lie within the run.
+-- Where a commit became durable, its gate was opened by the device call before the sync behind which it was acknowledged; where no device call was
+-- made, at its begin.
+abbrev pub OpensByTheGate : List Turn → Type 0
+OpensByTheGate (granted ∷ begun ∷ opened ∷ durable ∷ []) = durable.act ≡ act.Durable → opened.now ≡ max begun.now (durable.now - 1)
+OpensByTheGate (begun ∷ opened ∷ durable ∷ []) = durable.act ≡ act.Durable → opened.now ≡ max begun.now (durable.now - 1)
+OpensByTheGate _ = Unit {0}
+
+-- The turns of an fsync of one thread go one of the ways with its answer, and a commit of theirs was opened by its gate's write.
+pub record GoesByOne (turns : List Turn) (given : Reply) : Type 0 where
+  pub goes : GoesWay turns given
+  pub gate : OpensByTheGate turns
+
+-- So it is of each fsync of a live node.
+abbrev pub EachGoesByOne : TreeState → List Entry → List Turn → Type 0
+EachGoesByOne first history turns =
+    (entry : Entry) (node : NodeId) → IsLiveFsync first history entry node → GoesByOne (own_turns entry.stamp.0 turns) entry.reply
+
+-- The turns of a run are recorded, over an image that stands at its begin, and each fsync of a live node goes its way; and while the disk's count
+-- of calls has not come to its last value the moments of turns do not fall, and lie within the run.
 pub record HasTurns (old new : View) (first : TreeState) (history : List Entry) (turns : List Turn) : Type 0 where
   pub image : ImageState
   pub image_is : IsImageAtFirst old new first image
   pub recorded : IsRecorded first history image old.faults new.faults turns
+  pub goes : EachGoesByOne first history turns
   pub dated : CountsOn new → MomentsRise old.now turns new.now
 
 -- the same by whether the image was mounted: where it was not, there are none

@@ -7,7 +7,7 @@ ghost use Rattle.sfs_image.specs.Super.{InRange, IsLayout, data_start};
 ghost use Rattle.tree_laws.specs.Sound.{IsSound};
 ghost use Rattle.script.specs.TreeTexts.{tree_text};
 ghost use Rattle.scalefs_run.specs.Outcome.{HasText, IsWriteStatus, reaches_disk};
-ghost use Rattle.scalefs_run.specs.Image.{layout_text, status_of_recovery, MakesImage, ShowsImage};
+ghost use Rattle.scalefs_run.specs.Image.{has_text, layout_text, status_of_recovery, MakesImage, ShowsImage};
 
 use crate::{ImageFault, Status};
 use fmt_super::Layout;
@@ -135,6 +135,7 @@ fn write_tree<K: Sink>(alloc: Global, report: &Report, sink: &mut K) -> Status
 pub fn write_text<K: Sink>(sink: &mut K, text: &[u8]) -> Status
     ensures status { IsWriteStatus (HasRisen (K.faults sink.old) (K.faults sink.new)) result }
     ensures text { HasText text.now (K.written sink.old) (K.written sink.new) result }
+    ensures has { has_text result ≡ true }
 {
     match write_all(sink, text) {
         Ok(()) => Status::Done,

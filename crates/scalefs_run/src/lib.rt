@@ -3,6 +3,7 @@
 
 mod engine;
 mod image;
+pub mod laws;
 mod outcome;
 mod top;
 mod turns;

@@ -21,10 +21,10 @@ use fmt_super::Layout;
 use script::{LONGEST_SCRIPT, Script, ScriptFault};
 use sfs_base::{Gate, Measure, ReadAllFault, Sink, Source, read_all};
 use sfs_dev::Disk;
-use tree_laws::{History, Turns};
 use std::alloc::Global;
 use std::sync::Wait;
 use std::thread::Threads;
+use tree_laws::{History, Turns};
 
 /// Does what the words say. `mkfs BLOCKS INODES CORES` makes an empty image on the disk and writes its
 /// numbers. `show` recovers the image of the disk and writes the text of its tree. `run` or `run NODES`, the

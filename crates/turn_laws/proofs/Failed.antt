@@ -1,5 +1,5 @@
 -- Turns of which one has failed, over one entry more, and turns at the end of a run.
-use Rattle.std.proofs.Common.{◌≡◌, ℕ, ◌≤◌, List, [], ◌∷◌, ◌++◌, Option, Some, None, inl, inr, refl, sym, ap, subst, ◌∙◌}
+use Rattle.std.proofs.Common.{◌≡◌, ℕ, ◌≤◌, List, [], ◌∷◌, ◌++◌, Option, Some, None, inl, inr, refl, sym, ap, subst, ◌∙◌, arith}
 use Rattle.std.specs.Prelude.{filter}
 use Rattle.std.proofs.lemmas.List.{append-nil}
 use Rattle.sfs_base.proofs.BasicNumbers.{le_itself}
@@ -40,22 +40,22 @@ module _ (first : TreeState) (history : List Entry) (image : ImageState) (before
         (adds_none first history entry next failed.legal turns failed.each (record { 0 = 0 })).own none;
   }
 
-  module _ (node : NodeId) (number moment own : ℕ) where
+  module _ (node : NodeId) (number moment own : ℕ) (kept : own ≡ faults) where
     abbrev turn : Turn
     turn = turn_of entry node number moment own act.Halted
 
     nobody : (books : Books) → books.waiting ≡ [] → (other : Waiting) → IsOneOf books.waiting other → ⊥
     nobody books none other one = subst (λ (l : List Waiting). IsOneOf l other) none one
 
-    counts : (most : ℕ) (o : Option ℕ) → o ≡ Some faults → CountsFaults before most o act.Halted own
-    counts most o e = subst (λ (o : Option ℕ). CountsFaults before most o act.Halted own) (sym e) tt
+    counts : (most : ℕ) (o : Option ℕ) → o ≡ Some faults → faults ≤ most → CountsFaults before most o act.Halted own
+    counts most o e le = subst (λ (o : Option ℕ). CountsFaults before most o act.Halted own) (sym e) (omega (arith, kept), omega (arith, kept, le))
 
-    halts : (more : List Entry) (most : ℕ)
+    halts : (more : List Entry) (most : ℕ) → faults ≤ most
         → IsTurn before most (over ((history ++ entry ∷ []) ++ more) failed.books) turn
         (over ((history ++ entry ∷ []) ++ more) (without_waiting entry.stamp.0 failed.books))
-    halts more most = record {
+    halts more most le = record {
       own = λ other one same. absurd (nobody failed.books failed.settled other one);
-      faults = counts most failed.books.failed failed.failed;
+      faults = counts most failed.books.failed failed.failed le;
       does = refl;
     }
 
@@ -70,7 +70,7 @@ module _ (first : TreeState) (history : List Entry) (image : ImageState) (before
           books = without_waiting entry.stamp.0 failed.books;
           failed = failed.failed;
           settled = ap (filter (is_other_waiting entry.stamp.0)) failed.settled;
-          turns_are = λ more most legal le. one_turn turns turn _ _ (still_failed more most legal le) (halts more most);
+          turns_are = λ more most legal le. one_turn turns turn _ _ (still_failed more most legal le) (halts more most le);
           each = each_on first history entry is.next failed.legal turns failed.each node (then_turn turns turn) is adds.each;
           ends =
               ends_on first history entry is.next failed.legal (Some faults) turns (then_turn turns turn) (Some turn) failed.ends adds.others adds.own
@@ -81,8 +81,8 @@ pub calls_fail : CallsFail
 calls_fail first history image before faults turns entry next none failed = calls_on first history image before faults turns entry failed next none
 
 pub halts_fail : HaltsFail
-halts_fail first history image before faults turns entry node number moment own is answered failed =
-    halts_on first history image before faults turns entry failed node number moment own is answered
+halts_fail first history image before faults turns entry node number moment own is answered kept failed =
+    halts_on first history image before faults turns entry failed node number moment own kept is answered
 
 pub standing_are_recorded : StandingAreRecorded
 standing_are_recorded first history image from before most turns rest le stand = record {

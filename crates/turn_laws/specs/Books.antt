@@ -228,13 +228,13 @@ Does act.Durable books turn later = SettlesCommit books turn later
 Does act.Fail books turn later = FailsCommit books turn later
 
 -- What a turn's count of faults is: until a commit has failed that before the first failure, and of the failure one that has risen, to at
--- most another; and once a commit has failed, only turns that halt or give back come, and no others halt.
+-- most another; and once a commit has failed, only turns that halt or give back come, with a count from that on, and no others halt.
 abbrev pub CountsFaults : ℕ → ℕ → Option ℕ → TurnAct → ℕ → Type 0
 CountsFaults before most None act.Fail faults = HasRisen before faults × (faults ≤ most)
 CountsFaults before most None act.Halted faults = ⊥
 CountsFaults before most None _ faults = faults ≡ before
-CountsFaults before most (Some failed) act.Halted faults = Unit {0}
-CountsFaults before most (Some failed) act.GivenBack faults = Unit {0}
+CountsFaults before most (Some failed) act.Halted faults = (failed ≤ faults) × (faults ≤ most)
+CountsFaults before most (Some failed) act.GivenBack faults = (failed ≤ faults) × (faults ≤ most)
 CountsFaults before most (Some failed) _ faults = ⊥
 
 -- A turn, with the books before and after it: no other fsync of its core waits, its count of faults is right, and the books change by its act.

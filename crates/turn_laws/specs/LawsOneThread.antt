@@ -121,7 +121,7 @@ abbrev pub HaltsFail : Type 0
 HaltsFail =
     (first : TreeState) (history : List Entry) (image : ImageState) (before faults : ℕ) (turns : List Turn) (entry : Entry) (node : NodeId)
     (number moment own : ℕ)
-    → IsNextFsync first history entry node → entry.reply ≡ reply.Stopped faults
+    → IsNextFsync first history entry node → entry.reply ≡ reply.Stopped faults → own ≡ faults
     → TurnsFailed first history image before faults turns
     → TurnsFailed first (history ++ entry ∷ []) image before faults (then_turn turns (turn_of entry node number moment own act.Halted))
 

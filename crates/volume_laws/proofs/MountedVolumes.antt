@@ -1,6 +1,6 @@
 -- Each mount that ended with an Ok begins a volume.
-use Rattle.std.proofs.Common.{◌≡◌, ℕ, ◌<◌, List, Option, Some, None, refl, sym, ◌∙◌, arith}
-use Rattle.sfs_base.proofs.BasicOptions.{none_some}
+use Rattle.std.proofs.Common.{◌≡◌, ℕ, ◌<◌, List, Option, Some, None, refl, sym, ap, ◌∙◌, arith}
+use Rattle.sfs_base.proofs.BasicOptions.{none_some, some_same}
 use Rattle.sfs_dev.specs.Disk.{View}
 use Rattle.sfs_image.specs.Settled.{image_block, parts_of}
 use Rattle.journal_one.proofs.Kept.{IsLawful}
@@ -27,6 +27,7 @@ module _ (nodes : ℕ) (mounted : Mounted) (old new : View) (lawful : IsLawful o
         store = stand.0;
         parts = without_unlinked was.sound.parts;
         begins = mounts_begin nodes old.size mounted stand.0 was.sound stand.1;
+        of_image = λ image is. absurd (none_some (sym none ∙ is));
         told = λ image is. absurd (none_some (sym none ∙ is));
       }
 
@@ -39,6 +40,7 @@ module _ (nodes : ℕ) (mounted : Mounted) (old new : View) (lawful : IsLawful o
     store = image_block image;
     parts = without_unlinked (parts_of mounted.layout image);
     begins = told_mounts_begin nodes old.size image mounted (record { is = was.told image is; sound = was.sound; sized = lawful.whole image is });
+    of_image = λ same same_is. ap (λ (bytes : List ℕ). without_unlinked (parts_of mounted.layout bytes)) (some_same (sym is ∙ same_is));
     told = λ same same_is calm counts.
         let leaves = told_mounts_leave old new nodes image mounted (record {
           is = was.told image is;

@@ -4,6 +4,7 @@ use Rattle.sfs_dev.specs.Disk.{View, images}
 use Rattle.sfs_dev.specs.Run.{Advances, CountsOn, EachMoment}
 use Rattle.sfs_dev.specs.Steps.{IfTold}
 use Rattle.sfs_image.specs.Part.{Part}
+use Rattle.sfs_image.specs.Settled.{parts_of}
 use Rattle.sfs_image.specs.Super.{IsLayout}
 use Rattle.tree_laws.specs.Laws.{IsSoundTree}
 use Rattle.tree_laws.specs.Sound.{IsWithinLimits}
@@ -11,6 +12,7 @@ use Rattle.journal_one.specs.Calls.{IsCalm}
 use Rattle.journal_one.specs.Known.{EachLeft}
 use Rattle.commit_one.specs.Carried.{GoesOnTelling}
 use Rattle.crash_laws.specs.Wrote.{Mounts}
+use Rattle.recovery.specs.Freed.{without_unlinked}
 use Rattle.recovery.specs.Recovered.{ShowsTheSame, IsRecoveredFrom}
 use Rattle.mount.specs.Mounted.{share_of_nodes, IsMountOf, IsSoundMount}
 use Rattle.mount.specs.declared.begin.Mounted.{Mounted}
@@ -34,8 +36,8 @@ pub record LeavesBegun (nodes : ℕ) (mounted : Mounted) (store : ℕ → List �
   pub tells : (now : List ℕ) × (new.content ≡ Some now)
   pub leaves : IfTold new.content (images new)
 
--- A mount begins a volume, whose layout lies on the disk and whose tree is sound and within its limits; and where the disk told its content
--- and nothing was pending, it leaves this volume.
+-- A mount begins a volume, whose layout lies on the disk and whose tree is sound and within its limits; where the disk told its content, its
+-- parts are the image's without orphans; and where nothing was pending, it leaves this volume.
 pub record IsBegunVolume (nodes : ℕ) (mounted : Mounted) (old new : View) : Type 0 where
   pub fits : IsLayout old.size mounted.layout
   pub sound : IsSoundTree mounted.tree
@@ -43,6 +45,7 @@ pub record IsBegunVolume (nodes : ℕ) (mounted : Mounted) (old new : View) : Ty
   pub store : ℕ → List ℕ
   pub parts : ℕ → Part
   pub begins : BeginsVolume mounted store parts
+  pub of_image : IfTold old.content (λ image. parts ≡ without_unlinked (parts_of mounted.layout image))
   pub told : IfTold old.content (λ image. IsCalm old → CountsOn new → LeavesBegun nodes mounted store parts old new)
 
 -- Each mount that ended with an Ok begins a volume, whether its disk told its content or not.

@@ -1,12 +1,18 @@
 -- An open volume begins, where memory was laid out of what was mounted.
-use Rattle.std.proofs.Common.{◌≡◌, ℕ, ◌+◌, ◌*◌, ◌/◌, ◌<◌, ◌≤◌, ◌^◌, List, [], length, map, None, Some, refl, sym, ap, subst, ◌∙◌, arith}
+use Rattle.std.proofs.Common.{◌≡◌, ℕ, ◌+◌, ◌*◌, ◌/◌, ◌<◌, ◌≤◌, ◌^◌, ◌&&◌, ltb, List, [], length, map, None, Some, inl, inr, refl, sym, ap, subst, ◌∙◌, arith}
 use Rattle.std.specs.BTreeMap.{IsOrdered}
 use Rattle.std.specs.Ordering.{nat_cmp}
+use Rattle.std.proofs.lemmas.Bool.{cases_Bool, cond-true, cond-false}
 use Rattle.std.proofs.lemmas.List.{length-replicate}
 use Rattle.std.proofs.Math.Nat.{div-mul-le_self}
 use Rattle.sfs_base.proofs.BasicNumbers.{le_itself}
+use Rattle.sfs_base.proofs.BasicOptions.{none_some, some_same}
 use Rattle.sfs_dev.specs.Disk.{View}
+use Rattle.sfs_image.specs.Seen.{SeenInodes}
 use Rattle.sfs_image.specs.Super.{Layout, IsLayout}
+use Rattle.image_laws.specs.Image.{inodes_shown}
+use Rattle.image_laws.specs.ImageTree.{is_used}
+use Rattle.image_laws.specs.Mount.{own_numbers}
 use Rattle.tree_laws.specs.Tree.{TreeState}
 use Rattle.journal_one.proofs.Kept.{IsLawful}
 use Rattle.disk_nodes.specs.declared.old.OldEntry.{OldEntry}
@@ -69,6 +75,13 @@ few_nodes nodes size mounted most sound =
     shared_low : (n cores : ℕ) → cores * (n / cores) ≤ n
     shared_low n cores = let low = div-mul-le_self n cores in omega (arith, low)
 
+-- an image's own numbers are those of its inodes
+own_number : (image : SeenInodes) (node i : ℕ) → own_numbers image node ≡ Some i → i ≡ node
+own_number image node i is = elim (cases_Bool (ltb node image.count && is_used image node)) [
+  | inl has ↦ some_same (sym is ∙ cond-true (ltb node image.count && is_used image node) (Some node) None has)
+  | inr none ↦ absurd (none_some (sym (cond-false (ltb node image.count && is_used image node) (Some node) None none) ∙ is))
+]
+
 module _ (nodes : ℕ) (mounted : Mounted) (old new : View) (lawful : IsLawful old) (lawful_later : IsLawful new) (was : WasMounted nodes mounted old new)
     (volume : OpenVolume) (laid : IsLaidOut mounted volume) where
   begun : IsBegunVolume nodes mounted old new
@@ -111,6 +124,7 @@ module _ (nodes : ℕ) (mounted : Mounted) (old new : View) (lawful : IsLawful o
       record {
         layout_is = sym mount.layout_is;
         tree = mount.tree;
+        parts = b.of_image image is;
         holds = λ calm counts.
             let leaves = b.told image is calm counts in
             record {
@@ -126,7 +140,7 @@ module _ (nodes : ℕ) (mounted : Mounted) (old new : View) (lawful : IsLawful o
       by b = record {
         kept = kept_of_mount b;
         remembers = remembers b;
-        is_new = record { no_call = refl; no_fsync = refl; no_cut = refl; all_have_inodes = refl };
+        is_new = record { no_call = refl; no_fsync = refl; no_cut = refl; all_have_inodes = refl; own_number = own_number (inodes_shown mounted.layout b.parts) };
         fits = subst (IsLayout old.size) (sym laid.layout) b.fits;
         sound = b.sound;
         limits = b.limits;

@@ -1,0 +1,98 @@
+-- What is due where nothing fails, and that there are disks of which all is asked.
+use Rattle.std.specs.Prelude.{◌≡◌, ◌⊎◌, ℕ, Bool, true, List, Option, Some, None}
+use Rattle.sfs_base.specs.Ends.{HasRisen}
+use Rattle.sfs_base.specs.declared.numbers.NodeId.{NodeId}
+use Rattle.sfs_base.specs.declared.numbers.SpaceKind.{SpaceKind}
+use Rattle.sfs_dev.specs.Disk.{View}
+use Rattle.sfs_dev.specs.Memory.{memory_view, IsFresh}
+use Rattle.sfs_dev.specs.Run.{CountsOn}
+use Rattle.sfs_dev.specs.declared.memory.Memory.{Memory}
+use Rattle.sfs_image.specs.Super.{Layout}
+use Rattle.image_laws.specs.Image.{fault_of}
+use Rattle.script.specs.declared.commands.Line.{Line}
+use Rattle.tree_laws.specs.declared.history.Entry.{Entry}
+use Rattle.tree_laws.specs.declared.reply.Reply.{Reply}
+use Rattle.tree_laws.specs.declared.reply.Reply.TheVariants as reply
+use Rattle.tree_laws.specs.declared.turns.Turn.{Turn}
+use Rattle.tree_laws.specs.declared.turns.TurnAct.{TurnAct}
+use Rattle.tree_laws.specs.declared.turns.TurnAct.TheVariants as act
+use Rattle.tree_laws.specs.Tree.{TreeState}
+use Rattle.cut_laws.specs.Rules.{IsOneOf}
+use Rattle.turn_laws.specs.Recorded.{IsLiveFsync}
+use Rattle.scalefs_run.specs.declared.outcome.Status.{Status}
+use Rattle.scalefs_run.specs.declared.outcome.Status.TheVariants.{Done, NoMemory}
+use Rattle.scalefs_run.specs.Due.{Judgement}
+use Rattle.scalefs_run.specs.Image.{making_due, MakesImage, ShowsImage}
+use Rattle.scalefs_run.specs.Images.{IfToldAndCalm}
+use Rattle.scalefs_run.specs.Served.{Served}
+
+-- the counts of faults of a source and a sink, before a call and after it
+pub record EndFaults : Type 0 where
+  pub source_before : ℕ
+  pub source_after : ℕ
+  pub sink_before : ℕ
+  pub sink_after : ℕ
+
+-- no count rose
+pub record NothingFailed (ends : EndFaults) (old new : View) : Type 0 where
+  pub source : HasRisen ends.source_before ends.source_after → ⊥
+  pub sink : HasRisen ends.sink_before ends.sink_after → ⊥
+  pub disk : HasRisen old.faults new.faults → ⊥
+
+-- it was done, but for want of memory
+abbrev pub IsDone : Status → Type 0
+IsDone status = (status ≡ Done) ⊎ (status ≡ NoMemory)
+
+-- an act of a commit that fails, or of one that stops behind it
+abbrev pub GoesWell : TurnAct → Type 0
+GoesWell act.Fail = ⊥
+GoesWell act.Halted = ⊥
+GoesWell _ = Unit {0}
+
+-- some turn of an entry found too little
+pub record WasShortOf (turns : List Turn) (entry : Entry) (kind : SpaceKind) (need free : ℕ) : Type 0 where
+  pub turn : Turn
+  pub among : IsOneOf turns turn
+  pub own : turn.stamp.0 ≡ entry.stamp.0
+  pub did : turn.act ≡ act.Short kind need free
+
+-- the answer of an fsync of a live node: Ok, or want of memory, or too little space with its turn
+abbrev pub IsWellAnswered : List Turn → Entry → Reply → Type 0
+IsWellAnswered turns entry reply.Ok = Unit {0}
+IsWellAnswered turns entry reply.NoMemory = Unit {0}
+IsWellAnswered turns entry (reply.NoSpace kind need free) = WasShortOf turns entry kind need free
+IsWellAnswered turns entry _ = ⊥
+
+-- A run went well: it was done, no commit failed or stopped, and each fsync of a live node was answered so.
+pub record WentWell (first : TreeState) (status : Status) (history : List Entry) (turns : List Turn) : Type 0 where
+  pub done : IsDone status
+  pub turns_are : (turn : Turn) → IsOneOf turns turn → GoesWell turn.act
+  pub answers : (entry : Entry) (node : NodeId) → IsLiveFsync first history entry node → IsWellAnswered turns entry entry.reply
+
+-- Where nothing failed and no other status was due than Done, a run went well.
+abbrev pub RunsAreComplete : View → View → Type 0
+RunsAreComplete old new = (due_by : Judgement → Status) (nodes : ℕ) (phases : List (List Line)) (ends : EndFaults) (before after : Option (List ℕ))
+    (status : Status) (history : List Entry) (turns : List Turn)
+    → (served : Served due_by nodes phases (HasRisen ends.source_before ends.source_after) (HasRisen ends.sink_before ends.sink_after) before after old new
+    status history turns)
+    → due_by served.caused.judged ≡ Done → NothingFailed ends old new → WentWell served.first status history turns
+
+-- So `mkfs` is done of a layout that fits, and `show` of an image without a fault.
+abbrev pub MakingsAreComplete : View → View → Type 0
+MakingsAreComplete old new = (layout : Layout) (ends : EndFaults) (before after : Option (List ℕ)) (status : Status)
+    → MakesImage layout (HasRisen ends.sink_before ends.sink_after) before after old new status → making_due layout old.size ≡ Done
+    → NothingFailed ends old new → IsDone status
+
+abbrev pub ShowingsAreComplete : View → View → Type 0
+ShowingsAreComplete old new = (ends : EndFaults) (before after : Option (List ℕ)) (status : Status) (image : List ℕ)
+    → ShowsImage (HasRisen ends.sink_before ends.sink_after) before after old new status → old.content ≡ Some image → fault_of image ≡ None
+    → NothingFailed ends old new → IsDone status
+
+-- Of a disk in memory of which no call was made yet all is asked, up to each later one whose count goes on.
+abbrev pub FreshDisksAreAsked : Type 0
+FreshDisksAreAsked = (old new : Memory) (bytes : List ℕ) (test : List ℕ → Bool) → IsFresh old bytes → CountsOn (memory_view new)
+    → IfToldAndCalm (memory_view old) (memory_view new) (λ image. test image ≡ true) → test bytes ≡ true
+
+-- And its count goes on.
+abbrev pub FreshDisksCountOn : Type 0
+FreshDisksCountOn = (memory : Memory) (bytes : List ℕ) → IsFresh memory bytes → CountsOn (memory_view memory)
