@@ -3,9 +3,9 @@ ghost use Rattle.std.specs.Prelude.{IfOk};
 ghost use Rattle.absorb.specs.Last.{lent, AreLast};
 
 use sfs_base::NoMemory;
-use tree_laws::Change;
 use std::alloc::Global;
 use std::collections::BTreeMap;
+use tree_laws::Change;
 
 // Changes by the bytes of their names, one a name.
 pub(crate) type ByName<'a> = BTreeMap<&'a [u8], &'a Change>;

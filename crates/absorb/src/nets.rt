@@ -5,8 +5,8 @@ ghost use Rattle.absorb.specs.Last.{lent_row, net_row_by};
 
 use crate::last::{ByName, last_changes};
 use sfs_base::{Name, NoMemory, NodeId, RoomyList};
-use tree_laws::{Act, Change, Changes, NameMap};
 use std::alloc::Global;
+use tree_laws::{Act, Change, Changes, NameMap};
 
 /// A name whose child differs: the child before and the one after, each `None` where no row has the
 /// name.

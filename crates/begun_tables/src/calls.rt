@@ -10,9 +10,9 @@ use mem_calls::{Numbers, call};
 use mem_rename::{Move, RENAME_CELLS, rename};
 use mem_values::FileCore;
 use sfs_base::Gate;
-use tree_laws::{Call, Reply};
 use std::alloc::Global;
 use std::sync::Wait;
+use tree_laws::{Call, Reply};
 
 // Makes a call for which the core has room.
 fn make_ready<R: Wait, G: Gate>(

@@ -10,7 +10,6 @@ use begun_tables::{Files, begun, make_call};
 use mem_calls::Numbers;
 use mem_values::FileCore;
 use sfs_base::{CoreId, Kind, NoGate, NodeId};
-use tree_laws::{Call, Reply};
 use std::alloc::Global;
 use std::rt::Clock;
 use std::sync::Wait;
@@ -18,6 +17,7 @@ use std::sync::atomic::{AtomicU64, Ordering};
 use std::thread::Threads;
 use std::time::Instant;
 use std::{io, thread};
+use tree_laws::{Call, Reply};
 
 /// What is measured: a load on so many cores, so many rounds of each, in directories of their own or all in one.
 #[derive(Clone, Copy)]

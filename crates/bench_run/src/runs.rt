@@ -4,10 +4,10 @@ ghost use Rattle.std.specs.Prelude.{◌≤◌};
 use scalefs_run::{Outcome, Status, run};
 use sfs_base::{BytesSink, BytesSource, NoGate, NoMemory};
 use sfs_dev::{Act, Memory};
-use tree_laws::{Call, History};
 use std::alloc::Global;
 use std::sync::Wait;
 use std::thread::Threads;
+use tree_laws::{Call, History};
 
 /// What a run took.
 #[derive(Clone, Copy)]

@@ -9,8 +9,8 @@ ghost use Rattle.call_log.specs.Foreseen.{IsForeseen, removal_foreseen};
 use crate::moved::moved_rows;
 use sfs_base::{Kind, Name, NoMemory, NodeId, Stamp};
 use sfs_tree::Tree;
-use tree_laws::{Act, Ancestors, Call, Change, Changes};
 use std::alloc::Global;
+use tree_laws::{Act, Ancestors, Call, Change, Changes};
 
 /// The changes of rows that a call logs at this stamp where nothing refuses it, in a sound tree before the
 /// call. A node that it makes has the number 0 in them, until its reply tells it. A rename of a directory

@@ -11,8 +11,8 @@ ghost use Rattle.call_log.specs.Foreseen.{move_foreseen};
 use crate::ahead::{kind_in, removed};
 use sfs_base::{Kind, Name, NoMemory, NodeId, RoomyList, Stamp};
 use sfs_tree::Tree;
-use tree_laws::{Act, Ancestors, Change, Changes};
 use std::alloc::Global;
+use tree_laws::{Act, Ancestors, Change, Changes};
 
 /// The rows that a rename from one place to another changes: what it replaces goes, the old row goes, and
 /// the new row comes. There are none where the latter's directory is no directory.

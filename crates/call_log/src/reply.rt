@@ -3,8 +3,8 @@ ghost use Rattle.std.specs.Prelude.{◌≡◌, map};
 ghost use Rattle.call_log.specs.Foreseen.{logged_after, change_of_node};
 
 use sfs_base::{NodeId, RoomyList};
-use tree_laws::{Change, Changes, Reply};
 use std::alloc::Global;
+use tree_laws::{Change, Changes, Reply};
 
 /// What a call logs that was answered so, of the changes that were foreseen: none where it was refused, and
 /// otherwise these; the node that it made is the reply's. It takes no memory.

@@ -7,10 +7,10 @@ ghost use Rattle.core_logs.specs.Logs.{AreBlank, AreSameChanges, HasRoom, AreWit
 
 use mem_cells::LogPart;
 use sfs_base::{CoreId, NoMemory, NodeId};
-use tree_laws::Changes;
 use std::alloc::Global;
 use std::collections::BTreeSet;
 use std::marker::Model;
+use tree_laws::Changes;
 
 /// The changes of rows that calls made, in the log of the core of each, and the directories of which there
 /// may be some. Contracts see the logs by core and these directories.

@@ -2,8 +2,8 @@ ghost use Rattle.std.specs.Prelude.{◌≡◌};
 ghost use Rattle.cut_laws.specs.declared.event.Refused.TheVariants.{NoMemory as WantsMemory};
 
 use sfs_base::{NoMemory, NodeId, RoomyList, Stamp};
-use tree_laws::{Entry, Reply};
 use std::alloc::{AllocError, AllocFailed};
+use tree_laws::{Entry, Reply};
 
 /// Numbers of commits.
 pub type CommitList = RoomyList<u64>;

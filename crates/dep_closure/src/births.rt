@@ -17,9 +17,9 @@ use crate::gathered::{DirectoryChanges, Gathered};
 use crate::lookup::{find_node, has_node};
 use crate::spans::from_stamp;
 use sfs_base::{NoMemory, NodeId, Stamp};
-use tree_laws::Change;
 use std::alloc::Global;
 use std::collections::BTreeSet;
+use tree_laws::Change;
 
 /// The nodes that a gathered change names which is not flushed: it does not lie below its directory's cut,
 /// where the cuts of the nodes of `lifted`, which ascend, are `to` at least. Each log is read once, from its

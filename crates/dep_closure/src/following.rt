@@ -15,8 +15,8 @@ use crate::lookup::{cut_of, find_node};
 use crate::members::Found;
 use crate::spans::{ended_child, span};
 use sfs_base::{NoMemory, NodeId, Stamp};
-use tree_laws::Change;
 use std::collections::BTreeSet;
+use tree_laws::Change;
 
 // Adds what a member brings in.
 pub(crate) fn follow(

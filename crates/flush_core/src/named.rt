@@ -18,8 +18,8 @@ use crate::past::{OwnChange, Past};
 use crate::sets::NodeSet;
 use sfs_base::{Name, NoMemory, NodeId};
 use sfs_tree::Tree;
-use tree_laws::{NameMap, NameRow};
 use std::alloc::Global;
+use tree_laws::{NameMap, NameRow};
 
 /// The nodes that some row at a cut names, where the history's first tree is sound. It takes time in proportion to the
 /// number of the first tree's nodes and the changes, times that of the changes.

@@ -9,8 +9,8 @@ ghost use Rattle.flush_core.specs.Grows.{Grows, HasBirth};
 use crate::plan::{planned_changes, put};
 use sfs_base::{Name, NoMemory, NodeId};
 use sfs_tree::Tree;
-use tree_laws::{Call, Entry, Reply};
 use std::alloc::Global;
+use tree_laws::{Call, Entry, Reply};
 
 /// A row that a call took away or put, with the directories above the changed one where a directory was
 /// put by a rename between two directories.

@@ -10,8 +10,8 @@ ghost use Rattle.flush_core.specs.Plan.{plan_of, removal, moving, KeepAllAbove, 
 use crate::past::OwnChange;
 use sfs_base::{Kind, Name, NoMemory, NodeId};
 use sfs_tree::Tree;
-use tree_laws::Call;
 use std::alloc::Global;
+use tree_laws::Call;
 
 /// The changes that a call makes where it isn't refused, but for the making of a node. Where a
 /// directory is put by a rename between two, those above the new one are kept.

@@ -3,10 +3,10 @@ ghost use Rattle.std.specs.Prelude.{◌≡◌, ◌⊎◌, OnOk, OnErr, IfErr};
 ghost use Rattle.tree_laws.specs.Sound.{IsSound};
 
 use crate::cut::Cut;
-use cut_laws::{Event, Refused};
 use crate::flight::InFlight;
 use crate::sets::NodeSet;
 use crate::story::Story;
+use cut_laws::{Event, Refused};
 use sfs_base::NodeId;
 use sfs_tree::Tree;
 use std::alloc::Global;

@@ -17,9 +17,9 @@ use crate::past::Past;
 use crate::rules::{Rule, broken_rule};
 use sfs_base::{CoreId, NoMemory, NodeId, Stamp};
 use sfs_tree::Tree;
-use tree_laws::{Call, Entry, NameMap, Reply};
 use std::alloc::Global;
 use std::marker::Model;
+use tree_laws::{Call, Entry, NameMap, Reply};
 
 /// A first tree and a legal history from it, as the definitions of cuts speak of them. It is a plain
 /// program to compare others with: what it tells of a cut goes over all calls.

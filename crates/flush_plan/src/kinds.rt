@@ -8,9 +8,9 @@ ghost use Rattle.flush_plan.specs.Kinds.{kind_told, spans_in};
 
 use dep_closure::Gathered;
 use sfs_base::{Kind, NoMemory, NodeList, Stamp};
-use tree_laws::Change;
 use std::alloc::Global;
 use std::collections::BTreeMap;
+use tree_laws::Change;
 
 // The kinds of the nodes that the changes in the spans of members name, by their numbers.
 pub(crate) fn kinds_told(

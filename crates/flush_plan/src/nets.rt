@@ -8,9 +8,9 @@ ghost use Rattle.flush_plan.specs.Net.{HasGoodNames, IsNetBy, child_before};
 
 use absorb::{Net, NetRow};
 use sfs_base::{NoMemory, NodeId, RoomyList};
-use tree_laws::{Act, Change};
 use std::alloc::Global;
 use std::collections::BTreeMap;
+use tree_laws::{Act, Change};
 
 // Changes by the bytes of their names, one a name.
 type ByName<'a> = BTreeMap<&'a [u8], &'a Change>;

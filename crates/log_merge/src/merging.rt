@@ -5,9 +5,9 @@ ghost use Rattle.log_merge.specs.Merge.{part_changes, parts_changes, IsMergeOf, 
 
 use mem_cells::LogPart;
 use sfs_base::{NoMemory, NodeId, RoomyList, Stamp};
-use tree_laws::{Act, Change, Changes};
 use std::alloc::Global;
 use std::collections::VecDeque;
+use tree_laws::{Act, Change, Changes};
 
 /// The changes of a directory below a stamp from the logs of all cores, each once, by their stamps, and
 /// within one stamp removals before additions. With n changes of the directory in p parts it takes time

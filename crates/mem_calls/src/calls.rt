@@ -11,9 +11,9 @@ use crate::numbers::Numbers;
 use crate::{link, list, look, make, read, rmdir, stat, trunc, unlink, write};
 use mem_values::{FileCore, FileShared, Given};
 use sfs_base::{Gate, NoMemory};
-use tree_laws::{Call, Reply};
 use std::alloc::Global;
 use std::sync::Wait;
+use tree_laws::{Call, Reply};
 
 /// Makes a call that is neither a rename nor an fsync. It may wait. Only want of memory refuses it.
 pub fn call<R: Wait, T: Given, G: Gate>(

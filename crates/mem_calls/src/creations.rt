@@ -17,9 +17,9 @@ use crate::making::{finish_make, make_in};
 use crate::numbers::Numbers;
 use mem_values::{CellId, FileCore, FileShared, Given};
 use sfs_base::{Gate, Kind, Name, NoMemory, NodeId, bucket_of};
-use tree_laws::{Call, Reply};
 use std::alloc::Global;
 use std::sync::Wait;
+use tree_laws::{Call, Reply};
 
 // How many nodes the core has made, by its own log, which it holds for that alone.
 fn read_made<R: Wait, T: Given>(

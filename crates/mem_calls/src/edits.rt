@@ -20,9 +20,9 @@ use crate::short::Short;
 use crate::taking::{add_entry, put, take_file};
 use mem_values::{Cell, CellId, FileCore, FileShared, Given};
 use sfs_base::{Chunk, Gate, NoMemory, NodeId};
-use tree_laws::{Call, Changes, Code, Reply};
 use std::alloc::Global;
 use std::sync::Wait;
+use tree_laws::{Call, Changes, Code, Reply};
 
 // What an edit answers that changes nothing, by what is held; none where it is to be done.
 fn edit_answer(core: &FileCore, nodes: u32, file: NodeId, edit: &FileEdit) -> Option<Short>

@@ -26,9 +26,9 @@ use crate::status::directory_counts;
 use crate::taking::{put_part, with_entry};
 use mem_values::{CellId, FileCore, FileShared, Given};
 use sfs_base::{Gate, Kind, Name, NoMemory, NodeId, bucket_of};
-use tree_laws::{Call, Code, Reply};
 use std::alloc::Global;
 use std::sync::Wait;
+use tree_laws::{Call, Code, Reply};
 
 // The directory that a row of a bucket names which is held, where the row's own directory stands.
 fn directory_named(core: &FileCore, nodes: u32, dir: NodeId, name: &Name) -> Option<NodeId>

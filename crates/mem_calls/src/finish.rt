@@ -9,8 +9,8 @@ ghost use Rattle.mem_calls.specs.Outcome.{IsAnswered};
 
 use crate::taking::add_entry;
 use mem_values::{FileCore, FileShared, Given};
-use tree_laws::{Call, Changes, Reply};
 use std::alloc::Global;
+use tree_laws::{Call, Changes, Reply};
 
 /// Stamps a call that changes nothing, counts its entry, and lets go of all cells. It takes no memory.
 pub fn finish<T: Given>(

@@ -21,9 +21,9 @@ use crate::rows::{added_row, raise_links};
 use crate::taking::{put_bucket, put_part, with_entry};
 use mem_values::{CellId, FileCore, FileShared, Given};
 use sfs_base::{Gate, Kind, Name, NoMemory, NodeId, bucket_of};
-use tree_laws::{Call, Code, Reply};
 use std::alloc::Global;
 use std::sync::Wait;
+use tree_laws::{Call, Code, Reply};
 
 // From how many links on a file can't have a further one.
 const MOST_LINKS: u32 = 65_535;

@@ -18,9 +18,9 @@ use crate::held::{bucket_in, directory_fault_in};
 use crate::holding::{CALL_CELLS, hold_node, hold_part, let_all_go};
 use mem_values::{Bucket, FileCore, FileShared, Given};
 use sfs_base::{Gate, NoMemory, NodeId};
-use tree_laws::{Call, NameKind, NameRows, Reply};
 use std::alloc::Global;
 use std::sync::Wait;
+use tree_laws::{Call, NameKind, NameRows, Reply};
 
 // Puts the rows of a bucket behind the last.
 fn push_rows(rows: &mut Vec<NameKind>, bucket: &Bucket) -> Result<(), NoMemory>

@@ -15,9 +15,9 @@ use crate::holding::{CALL_CELLS, hold_directory, hold_part};
 use crate::short::Short;
 use mem_values::{FileCore, FileShared, Given};
 use sfs_base::{Gate, Name, NodeId, bucket_of};
-use tree_laws::{Call, Code, Reply};
 use std::alloc::Global;
 use std::sync::Wait;
+use tree_laws::{Call, Code, Reply};
 
 // What a look-up answers, by what is held.
 fn look_in(core: &FileCore, nodes: u32, dir: NodeId, name: &Name) -> Short

@@ -17,8 +17,8 @@ use crate::settling::settle;
 use crate::taking::{put_bucket, put_part, with_entry, with_node};
 use mem_values::{FileCore, FileShared, Given};
 use sfs_base::{Kind, Name, NoMemory, NodeId, bucket_of};
-use tree_laws::{Call, Code, Reply};
 use std::alloc::Global;
+use tree_laws::{Call, Code, Reply};
 
 /// The node that is made, or why none is, by what is held.
 pub(crate) fn make_in(

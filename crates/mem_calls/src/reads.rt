@@ -13,9 +13,9 @@ use crate::holding::{CALL_CELLS, hold_file, hold_part, let_all_go};
 use mem_files::FileBytes;
 use mem_values::{FileCore, FileShared, Given};
 use sfs_base::{Chunk, Gate, NoMemory, NodeId};
-use tree_laws::{Call, Reply};
 use std::alloc::Global;
 use std::sync::Wait;
+use tree_laws::{Call, Reply};
 
 // The bytes from a place on, so many of them or up to the end.
 fn bytes_from(alloc: Global, file: &FileBytes, at: u64, count: u32) -> Result<Chunk, NoMemory>

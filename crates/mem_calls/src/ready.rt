@@ -11,8 +11,8 @@ use crate::holding::let_all_go;
 use crate::taking::{put, take_part};
 use mem_values::{Cell, CellId, FileCore, FileShared, Given, PartCell};
 use sfs_base::{Name, NoMemory, NodeId};
-use tree_laws::Changes;
 use std::alloc::Global;
+use tree_laws::Changes;
 
 /// A name once more, room for one change, and the own log with room for it.
 #[derive(Drop)]

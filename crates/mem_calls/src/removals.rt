@@ -21,9 +21,9 @@ use crate::rows::{lower_links, remove_row, removed_row};
 use crate::taking::{put, with_entry};
 use mem_values::{Cell, CellId, FileCore, FileShared, Given};
 use sfs_base::{Gate, Kind, Name, NoMemory, NodeId, bucket_of};
-use tree_laws::{Call, Code, Reply};
 use std::alloc::Global;
 use std::sync::Wait;
+use tree_laws::{Call, Code, Reply};
 
 // The file that a row of a bucket names which is held, where the directory stands.
 fn file_named(core: &FileCore, nodes: u32, dir: NodeId, name: &Name) -> Option<NodeId>

@@ -11,8 +11,8 @@ ghost use Rattle.mem_calls.specs.Changes.{IsWithoutRow, RemovesRow, LowersLinks,
 use crate::taking::{put, take_bucket, take_file};
 use mem_values::{Bucket, Cell, CellId, FileCell, FileCore};
 use sfs_base::{Kind, Name, NoMemory, NodeId, Stamp};
-use tree_laws::{Act, Ancestors, Change, Changes, NameMap};
 use std::alloc::Global;
+use tree_laws::{Act, Ancestors, Change, Changes, NameMap};
 
 // The bucket without the row of this name.
 fn without_row(bucket: Box<Bucket>, name: &Name) -> Box<Bucket>

@@ -15,9 +15,9 @@ use crate::holding::{CALL_CELLS, hold_node, hold_part};
 use crate::short::Short;
 use mem_values::{FileCore, FileShared, Given};
 use sfs_base::{Gate, Kind, NodeId};
-use tree_laws::{Call, Code, Reply};
 use std::alloc::Global;
 use std::sync::Wait;
+use tree_laws::{Call, Code, Reply};
 
 /// A directory's links and its rows, by all of its buckets.
 pub(crate) fn directory_counts(core: &FileCore, nodes: u32, node: NodeId) -> (u32, u64)

@@ -4,10 +4,10 @@ ghost use Rattle.std.specs.Option.{option_copied};
 ghost use Rattle.mem_cells.specs.Log.{log_place, is_from, IsInOrder};
 
 use sfs_base::{NoMemory, Stamp};
-use tree_laws::Change;
 use std::alloc::Global;
 use std::collections::VecDeque;
 use std::marker::Model;
+use tree_laws::Change;
 
 /// A directory's changes, the oldest first, and the mark below which they were trimmed.
 #[derive(Debug, Drop)]

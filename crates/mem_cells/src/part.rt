@@ -7,9 +7,9 @@ ghost use Rattle.mem_cells.specs.Part.{log_of, changes_kept, mark_kept, room_kep
 
 use crate::log::DirectoryLog;
 use sfs_base::{NoMemory, NodeId, Stamp};
-use tree_laws::{Change, Changes};
 use std::alloc::Global;
 use std::marker::Model;
+use tree_laws::{Change, Changes};
 
 /// One core's changes of directories, those of each in the order of their stamps, with the mark below
 /// which they were trimmed, and how many entries the core has. Contracts see for each directory its

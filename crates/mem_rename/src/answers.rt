@@ -13,8 +13,8 @@ use crate::sides::Move;
 use mem_calls::{Short, add_entry};
 use mem_values::{FileCore, FileShared, Given};
 use sfs_base::NodeId;
-use tree_laws::Changes;
 use std::alloc::Global;
+use tree_laws::Changes;
 
 /// Stamps a rename that changes nothing with its answer, counts its entry, and lets go of all cells. It takes no memory.
 pub(crate) fn answer<T: Given>(

@@ -26,8 +26,8 @@ use crate::sights::look_in;
 use mem_calls::{add_entry, put};
 use mem_values::{Cell, CellId, FileCore, FileShared, Given, TreeLock};
 use sfs_base::{NoMemory, NodeId, NodeList, Stamp};
-use tree_laws::{Ancestors, Reply};
 use std::alloc::Global;
+use tree_laws::{Ancestors, Reply};
 
 // The move of a child by what is held.
 fn shift_in(core: &FileCore, nodes: u32, move_: &Move, plan: Plan, child: NodeId) -> Shift

@@ -14,9 +14,9 @@ use crate::sides::Move;
 use mem_calls::{answer_call, directory_fault_in, hold_directory, hold_part};
 use mem_values::{FileCore, FileShared, Given};
 use sfs_base::{Gate, NoMemory, bucket_of};
-use tree_laws::{Code, Reply};
 use std::alloc::Global;
 use std::sync::Wait;
+use tree_laws::{Code, Reply};
 
 /// For how many cells a core has room as a rename begins.
 pub const RENAME_CELLS: u32 = 24;

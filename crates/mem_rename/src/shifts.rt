@@ -8,8 +8,8 @@ ghost use Rattle.mem_rename.specs.Shifts.{gone_entry, gone_by, shift_logged, IsN
 
 use crate::sides::Move;
 use sfs_base::{Kind, Name, NoMemory, NodeId, Stamp};
-use tree_laws::{Act, Ancestors, Change, Changes};
 use std::alloc::Global;
+use tree_laws::{Act, Ancestors, Change, Changes};
 
 /// A child that moves from one directory to another one or the same, what stands there, and whether these two are directories.
 #[derive(Clone, Copy)]

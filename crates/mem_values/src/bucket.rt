@@ -4,8 +4,8 @@ ghost use Rattle.std.specs.FinMap as finmap;
 ghost use Rattle.tree_laws.specs.Tree.{kind_if};
 
 use sfs_base::{Kind, Name, NodeId};
-use tree_laws::NameMap;
 use std::alloc::Global;
+use tree_laws::NameMap;
 
 /// One of a directory's eight buckets: its rows, names ascending; those of them that name directories, once more; and the directory in
 /// which this one stands, none where it stands nowhere.

@@ -9,8 +9,8 @@ ghost use Rattle.script.specs.Texts.{call_text, reply_text, entry_text, history_
 use crate::writing::arguments::{write_bytes, write_node, write_row, write_rows};
 use crate::writing::fixed_words::{code_word, kind_word, make_word, space_word};
 use sfs_base::NoMemory;
-use tree_laws::{Call, Entry, History, Reply};
 use std::alloc::Global;
+use tree_laws::{Call, Entry, History, Reply};
 
 /// The text of a history: for each entry a line `STAMP CORE CALL = REPLY`, in stamp order. It takes
 /// time in proportion to the text.

@@ -9,5 +9,7 @@ mod store;
 mod tree;
 
 pub use tree::Tree;
-pub use tree_laws::{Act, Ancestors, Call, Change, Changes, Code, Cursor, Entry, History};
-pub use tree_laws::{NameKind, NameMap, NameRow, NameRows, Reply, Turn, TurnAct, Turns};
+pub use tree_laws::{
+    Act, Ancestors, Call, Change, Changes, Code, Cursor, Entry, History, NameKind, NameMap,
+    NameRow, NameRows, Reply, Turn, TurnAct, Turns,
+};

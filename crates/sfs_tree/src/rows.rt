@@ -5,10 +5,10 @@ ghost use Rattle.sfs_base.specs.Name.{bucket};
 ghost use Rattle.tree_laws.specs.Tree.{bucket_rows};
 ghost use Rattle.tree_laws.specs.Buckets.{bucket_at};
 
-use tree_laws::NameMap;
 use sfs_base::{Name, NoMemory, NodeId, bucket_of};
 use std::alloc::Global;
 use std::marker::Model;
+use tree_laws::NameMap;
 
 /// How many buckets a directory has.
 const BUCKETS: usize = 8;

@@ -5,13 +5,13 @@ ghost use Rattle.std.specs.List as list;
 ghost use Rattle.sfs_base.specs.Name.{bucket};
 ghost use Rattle.tree_laws.specs.Tree.{count_of, names_it, names_of, bucket_rows};
 
-use tree_laws::NameMap;
 use crate::counts::{Counts, number_at};
 use crate::nodes::{NodeData, Nodes};
 use crate::rows::Rows;
 use sfs_base::{Name, NoMemory, NodeId};
 use std::alloc::Global;
 use std::marker::Model;
+use tree_laws::NameMap;
 
 /// The rows and nodes of a tree.
 #[derive(Debug, Drop)]

@@ -4,10 +4,10 @@ ghost use Rattle.sfs_base.specs.Name.{bucket};
 
 use crate::nodes::NodeData;
 use crate::store::Store;
-use tree_laws::{Call, Reply};
 use sfs_base::{CoreId, Kind, Name, NoMemory, NodeId};
 use std::alloc::Global;
 use std::marker::Model;
+use tree_laws::{Call, Reply};
 
 mod above;
 mod bytes;

@@ -16,8 +16,8 @@ use crate::shared::CoreSeat;
 use crate::{Core, Event, Law, Meaning, Shared, View};
 use atomic_table::{Closed, Table};
 use sfs_tree::Tree;
-use tree_laws::{Entry, History};
 use std::alloc::Global;
+use tree_laws::{Entry, History};
 
 impl<C: Drop, X> Core<C, X> {
     // The seat that gathers, which the first core has.

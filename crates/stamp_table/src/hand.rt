@@ -10,9 +10,9 @@ ghost use Rattle.stamp_table.specs.Table.{HoldsMore, HoldsAll, MayCall, MayTell,
 use crate::shared::CoreSeat;
 use crate::{HeldCell, Meaning, Shared};
 use sfs_base::{CoreId, NoMemory, Stamp};
-use tree_laws::{Call, Entry, Reply};
 use std::marker::{Brand, Model};
 use std::sync::Wait;
+use tree_laws::{Call, Entry, Reply};
 
 // How many events a core has at most, so that the stamp word never comes to its end.
 const MOST_ENTRIES: u64 = 1 << 50;

@@ -11,8 +11,8 @@ ghost use Rattle.stamp_table.specs.Events.{event_core, is_call, IsLawful, stands
 use crate::{Event, View};
 use atomic_table::{Join, Play, Split, TableRule};
 use sfs_tree::Tree;
-use tree_laws::Entry;
 use std::marker::{Brand, PhantomData};
+use tree_laws::Entry;
 
 /// What the cells of a table stand for, and what its cores may tell.
 pub trait Meaning<C, X> {

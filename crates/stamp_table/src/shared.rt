@@ -10,11 +10,11 @@ use crate::{Event, Law, Meaning, View};
 use atomic_table::{Seat, Table};
 use sfs_base::CoreId;
 use sfs_tree::Tree;
-use tree_laws::{Call, Entry, Reply};
 use std::alloc::Global;
 use std::hint;
 use std::marker::Model;
 use std::sync::Wait;
+use tree_laws::{Call, Entry, Reply};
 
 // The first lock word. The stamp word before it has a line of memory to itself.
 pub(crate) const LOCKS: usize = 16;

@@ -126,13 +126,15 @@ impl NameMap {
 impl NameMap {
     ghost use Rattle.std.specs.Option.{option_or};
 
-    // Adds rows whose names no row has.
-    pub(crate) fn add_rows(&mut self, alloc: Global, rows: &[NameRow]) -> Result<(), NoMemory>
+    /// Adds rows, which ascend by the bytes of their names, and whose names no row has. Want of memory
+    /// leaves the rows as they are.
+    pub fn add_rows(&mut self, alloc: Global, rows: &[NameRow]) -> Result<(), NoMemory>
         requires sorted { IsTrue (finmap.is_sorted name_cmp (map name_and_child rows.now)) }
         requires apart { (name : _) → IsSome (finmap.find name_cmp name (map name_and_child rows.now))
             → finmap.get self.old name ≡ None }
-        ensures { OnOk result ((name : _) → finmap.get self.new name
+        ensures ok { OnOk result ((name : _) → finmap.get self.new name
             ≡ option_or (finmap.find name_cmp name (map name_and_child rows.now)) (finmap.get self.old name)) }
+        ensures err { OnErr result (self.new ≡ self.old) }
     {
         self.rows = merged(alloc, rows, &self.rows)?;
         Ok(())

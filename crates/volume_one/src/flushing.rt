@@ -25,8 +25,8 @@ use flush_plan::FsyncPlan;
 use journal_one::{Doubt, Idle, Packed};
 use sfs_base::{CoreId, NodeId, Stamp};
 use sfs_dev::Disk;
-use tree_laws::{Changes, Code, Reply};
 use space_map::{Grant, SpaceFault};
+use tree_laws::{Changes, Code, Reply};
 
 impl OpenVolume {
     /// An fsync of a core, at the next stamp: brings all that it flushes to the disk in one commit. A node that

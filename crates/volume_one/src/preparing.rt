@@ -7,8 +7,8 @@ ghost use Rattle.volume_one.specs.Ready.{IsReadyFor, HasReadyRoom, IsSameButRoom
 use crate::OpenVolume;
 use crate::entries::make_places;
 use disk_change::{Built, OldDisk, build};
-use fmt_journal::Tx;
 use flush_plan::FsyncPlan;
+use fmt_journal::Tx;
 use journal_one::Packed;
 use sfs_base::{BlockList, InodeList, NoMemory, NodeList, RoomyList};
 use space_map::Grant;

@@ -5,8 +5,8 @@ ghost use Rattle.tree_laws.specs.History.{IsFsyncReply, is_ok_reply};
 ghost use Rattle.cut_laws.specs.declared.event.Event.TheVariants as event;
 
 use super::State;
-use cut_laws::Refused;
 use crate::story::flushes;
+use cut_laws::Refused;
 use sfs_base::{NoMemory, Stamp};
 use tree_laws::{Entry, Reply};
 

@@ -10,7 +10,6 @@ ghost use Rattle.flush_core.specs.Past.{IsPast};
 ghost use Rattle.flush_core.specs.State.{kept_flushes, tree_has};
 
 use super::State;
-use cut_laws::{CommitList, Refused};
 use crate::flight::{
     InFlight, end_flight, first_not_flying, first_not_opened, flush_of, is_flying, is_opened,
     least_taken, mark_opened, new_flight,
@@ -18,6 +17,7 @@ use crate::flight::{
 use crate::past::Past;
 use crate::raise::{Raise, commit};
 use crate::sets::NodeSet;
+use cut_laws::{CommitList, Refused};
 use sfs_base::{NoMemory, NodeId, Stamp};
 use sfs_tree::Tree;
 use std::alloc::Global;

@@ -4,8 +4,8 @@ ghost use Rattle.script.specs.Walks.{Done, go_on, started, taken, call_of, comma
 use crate::working::steps::{Walk, after, begun, call_of};
 use crate::{Line, Phase};
 use sfs_base::NoMemory;
-use tree_laws::{Call, Reply};
 use std::marker::Model;
+use tree_laws::{Call, Reply};
 
 /// A worker at its commands in a phase. Contracts see where it stands: what is left of the command
 /// at hand, and the commands behind it.

@@ -6,8 +6,8 @@ ghost use Rattle.script.specs.Texts.{name_text, number_text, row_text, bytes_tex
 use crate::writing::fixed_words::mark_word;
 use percent_encoding::{AsciiSet, CONTROLS, ascii_set, percent_encode};
 use sfs_base::{Chunk, Name, NoMemory, NodeId};
-use tree_laws::NameRows;
 use std::alloc::Global;
+use tree_laws::NameRows;
 
 /// The bytes of a name that are written as `%` and two hex digits, beside those above 127.
 const ESCAPED: AsciiSet = ascii_set!(CONTROLS.add(b' ').add(b'%'));

@@ -4,8 +4,8 @@ ghost use Rattle.tree_laws.specs.declared.call.Call.TheVariants as call;
 
 use super::Tree;
 use super::faults::refused;
-use tree_laws::{Code, Reply};
 use sfs_base::{Chunk, NoMemory, NodeId};
+use tree_laws::{Code, Reply};
 
 /// How many bytes a file has at most.
 const LARGEST_FILE: u64 = 67_551_232;

@@ -4,8 +4,8 @@ ghost use Rattle.std.specs.FinMap as finmap;
 ghost use Rattle.sfs_base.specs.Name.{bucket};
 
 use super::Tree;
-use tree_laws::{Code, Reply};
 use sfs_base::{Kind, Name, NodeId, bucket_of};
+use tree_laws::{Code, Reply};
 
 /// How many rows a bucket of a directory holds at most.
 const BUCKET_ROWS: usize = 4096;

@@ -7,8 +7,8 @@ ghost use Rattle.tree_laws.specs.declared.call.Call.TheVariants as call;
 use super::Tree;
 use super::faults::refused;
 use crate::nodes::NodeData;
-use tree_laws::{Code, Reply};
 use sfs_base::{CoreId, Kind, Name, NoMemory, NodeId};
+use tree_laws::{Code, Reply};
 
 /// Up to how many links a further one may bring a file.
 const MOST_LINKS: u32 = 65_535;

@@ -5,9 +5,9 @@ ghost use Rattle.tree_laws.specs.declared.call.Call.TheVariants as call;
 
 use super::Tree;
 use super::faults::refused;
-use tree_laws::{Code, NameKind, NameMap, NameRows, Reply};
 use sfs_base::{Chunk, Name, NoMemory, NodeId};
 use std::alloc::Global;
+use tree_laws::{Code, NameKind, NameMap, NameRows, Reply};
 
 impl Tree {
     ghost use Rattle.tree_laws.specs.Tree.{bytes_of, links_of};

@@ -3,8 +3,8 @@ ghost use Rattle.std.specs.Prelude.{◌≡◌, ◌<◌, None, true, option_map, 
 ghost use Rattle.std.specs.FinMap as finmap;
 
 use super::Tree;
-use tree_laws::NameMap;
 use sfs_base::{Kind, Name, NoMemory, NodeId};
+use tree_laws::NameMap;
 
 impl Tree {
     ghost use Rattle.tree_laws.specs.Tree.{row_of, is_alive, is_directory, holder_of, bucket_rows, names_of, bytes_of};

@@ -6,8 +6,8 @@ ghost use Rattle.tree_laws.specs.declared.call.Call.TheVariants as call;
 
 use super::Tree;
 use super::faults::refused;
-use tree_laws::{Code, Reply};
 use sfs_base::{Name, NoMemory, NodeId};
+use tree_laws::{Code, Reply};
 
 impl Tree {
     ghost use Rattle.tree_laws.specs.Tree.{row_of, is_directory, lies_below};

@@ -33,7 +33,7 @@ returns-in-Some c =
     ≡ option_or (get (bucket_rows c.args.dir.0 c.args.number c.args.self.now.rows) name) (get c.args.names.now name))) [
       | Ok u ↦ λ h name. h name ∙ ap (λ o. option_or o (get c.args.names.now name)) (found name)
       | Err e ↦ λ _. tt
-    ] c.add_rows.ensures
+    ] c.add_rows.ensures.ok
 
 pub returns-in-None : goal.returns-in-None
 returns-in-None c = λ name.

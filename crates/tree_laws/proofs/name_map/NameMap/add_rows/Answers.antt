@@ -28,9 +28,9 @@ sorted c =
 pub invariant_of-self : goal.invariant_of-self
 invariant_of-self c = sorted (goal.at.invariant_of-self c).In_ok-self-inside
 
-pub returns : goal.returns
-returns c = λ name.
-    let at = (goal.at.returns c).In_ok-self-inside in
+pub returns-clause-ok : goal.returns-clause-ok
+returns-clause-ok c = λ name.
+    let at = (goal.at.returns-clause-ok c).In_ok-self-inside in
     get-map_of c.in_ok-self-inside.field-0.items name (sorted at)
     ∙ ap (find name_cmp name) (rows at)
     ∙ find-both_lists name (map name_and_child c.args.rows.now) (map name_and_child c.self.inside.rows.items) (apart at)
