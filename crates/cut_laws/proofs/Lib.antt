@@ -18,6 +18,7 @@ pub mod RunFacts
 pub mod Children
 pub mod Alike
 pub mod Prefixes
+mod LeastSet
 pub mod Listed
 pub mod NamedRows
 pub mod Pushed

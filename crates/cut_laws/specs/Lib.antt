@@ -5,6 +5,7 @@ pub mod Elements
 pub mod Laws
 pub mod LawsGrowth
 pub mod LawsInodes
+pub mod LawsLeast
 pub mod LawsRuns
 pub mod Machine
 pub mod Rules

@@ -6,7 +6,9 @@ mod inodes;
 mod runs;
 
 pub use cuts::{closed_cuts_are_sound, cuts_keep_kinds, directories_are_cut, files_are_cut};
-pub use fsyncs::{fsyncs_cover, fsyncs_keep, histories_are_covered, lists_cover, lists_keep};
+pub use fsyncs::{
+    closures_are_least, fsyncs_cover, fsyncs_keep, histories_are_covered, lists_cover, lists_keep,
+};
 pub use growth::{cut_trees_grow, entries_may_come, flushes_grow, stamps_are_once};
 pub use inodes::{
     births_are_new_nodes, directories_are_named, directories_stay_named, files_enter_blank,

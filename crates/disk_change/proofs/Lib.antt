@@ -2,6 +2,7 @@ pub mod Ascending
 pub mod Blocks
 pub mod BuiltNodes
 pub mod Counted
+pub mod Differing
 pub mod Directories
 pub mod Held
 pub mod Keyed

@@ -5,6 +5,7 @@ pub mod CountNets
 pub mod Directory
 pub mod Fresh
 pub mod GivenUp
+pub mod Laws
 pub mod Links
 pub mod Lists
 pub mod Nodes

@@ -130,7 +130,7 @@ module _ (first : TreeState) (history : List Entry) (entry : Entry) (next : Come
     ]
 
   -- an fsync of the longer history is one of the history, or the next one
-  back : (other : Entry) (node : NodeId) → IsLiveFsync first longer other node
+  pub back : (other : Entry) (node : NodeId) → IsLiveFsync first longer other node
       → IsLiveFsync first history other node ⊎ ((entry ≡ other) × (is_alive (tree_after first history) node.0 ≡ true))
   back other node is = elim (in_either history (entry ∷ []) other is.among) [
     | inl before ↦ inl (record {

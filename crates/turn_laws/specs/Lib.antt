@@ -1,6 +1,9 @@
 pub mod Books
+pub mod LawsBooks
 pub mod Need
 pub mod Recorded
+pub mod Ways
+pub mod LawsWays
 pub mod Touched
 pub mod LawsNeed
 pub mod LawsTurns

@@ -1,5 +1,6 @@
 // Laws of fsyncs over one history, one alone and in lists.
 ghost use Rattle.cut_laws.specs.Laws.{FsyncsCover, FsyncsKeep, HistoriesAreCovered, ListsCover, ListsKeep};
+ghost use Rattle.cut_laws.specs.LawsLeast.{ClosuresAreLeast};
 
 /// An fsync keeps the cut closed, and each directory with an inode has its making below its birth place's cut.
 pub fn fsyncs_keep()
@@ -24,4 +25,9 @@ pub fn lists_cover()
 /// A list of fsyncs that has all those acknowledged by a moment covers the history at it.
 pub fn histories_are_covered()
     ensures { HistoriesAreCovered }
+{}
+
+/// What an fsync flushes is the least set of nodes that keeps its rules.
+pub fn closures_are_least()
+    ensures { ClosuresAreLeast }
 {}
