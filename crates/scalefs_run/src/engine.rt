@@ -25,8 +25,8 @@ use recovery::RecoverFault;
 use script::{Phase, Worker};
 use sfs_base::{CoreId, NoMemory, Stamp};
 use sfs_dev::Disk;
-use tree_laws::{Call, Entry, Turns};
 use std::alloc::Global;
+use tree_laws::{Call, Entry, Turns};
 use volume_one::{Deed, Flushed, OpenVolume, open};
 
 /// What a run has in hand: its volume, the calls so far, and the turns of their fsyncs at the disk.

@@ -3,8 +3,8 @@ ghost use Rattle.scalefs_run.specs.Outcome.{status_text};
 ghost use Rattle.scalefs_run.specs.declared.outcome.Status.TheVariants.{BadImage};
 
 use sfs_base::{Measure, NoMemory};
-use tree_laws::{History, Turns};
 use std::alloc::Global;
+use tree_laws::{History, Turns};
 
 /// What is wrong in an image.
 #[derive(Clone, Copy, Debug, PartialEq, Eq)]
