@@ -13,7 +13,7 @@ use Rattle.sfs_image.specs.ImageWrites.{AgreesOutside, LiesApart, HasRecordsOf}
 use Rattle.sfs_image.specs.Journal.{Entry, head_of}
 use Rattle.sfs_image.specs.Part.{Part, IsGathered, pointer_at}
 use Rattle.sfs_image.specs.Settled.{Stamped, image_block, journal_slot, slot_byte, slot_count, table_byte, table_record}
-use Rattle.sfs_image.proofs.GateLaws.{gate_opens, gate_shuts, oldest_may_shut}
+use Rattle.sfs_image.proofs.GateLaws.{gate_opens, gate_shuts, oldest_of_all, oldest_may_shut}
 use Rattle.sfs_image.proofs.GivenLaws.{with_slot-same, with_slot-other}
 use Rattle.sfs_image.proofs.ImageOfLaws.{fresh_make}
 use Rattle.sfs_image.proofs.NewestLaws.{none_newest, newest_none}
@@ -30,6 +30,10 @@ use Rattle.commit_one.specs.Change.{nothing_open, entry_of_part, transaction_of,
 -- the same of two lists of bytes, in the words of images
 agrees : (at n : ℕ) (old new : List ℕ) → SameOutside at n old new → AgreesOutside at n old new
 agrees at n old new same = record { before = same.before; behind = same.after; size = same.size }
+
+-- a number from another on and below its successor is the other
+only_one : (first i : ℕ) → first ≤ i → i < first + 1 → first ≡ i
+only_one first i from low = omega arith
 
 -- where nothing is found, nothing passes
 not_found_at : {X : Type 0} (test : X → Bool) (xs : List X) (k : ℕ) (d : X) → find test xs ≡ None → k < length xs → test (get_or xs k d) ≡ false
@@ -220,14 +224,14 @@ module _ (job : Job) (is : IsJob job) (parts : ℕ → Part) (new : List InodePa
       let at : (table_piece job k).at ≡ table_byte job.place.layout (get_or job.entries k no_entry).inode + 0 = omega arith in
       let same_at : SameOutside (table_byte job.place.layout (get_or job.entries k no_entry).inode + 0) (length (table_piece job k).bytes) was image =
       subst (λ (a : ℕ). SameOutside a (length (table_piece job k).bytes) was image) at same in
-      table_written job.place.layout (opened_by job new) parts (get_or job.entries k no_entry).inode was image stands
+      table_written job.place.layout (opened_by job new) parts (get_or job.entries k no_entry).inode 1 was image stands
       (record {
         from = 0;
         n = length (table_piece job k).bytes;
         written = agrees (table_byte job.place.layout (get_or job.entries k no_entry).inode + 0) (length (table_piece job k).bytes) was image same_at;
-        within = entry_below job is k lt;
+        within = let low = entry_below job is k lt in omega arith;
         fits = omega (arith, entry_long job is k lt);
-        taken = subst (λ (i : ℕ). given job.place.layout (opened_by job new) i ≢ None) inode (is_given k few);
+        taken = λ i from low. subst (λ (i : ℕ). given job.place.layout (opened_by job new) i ≢ None) (inode ∙ only_one _ i from low) (is_given k few);
       })
 
   -- the table has the records of the commit where they stand there
@@ -275,9 +279,10 @@ module _ (job : Job) (is : IsJob job) (parts : ℕ → Part) (new : List InodePa
             within = is.place.within;
             written = agrees (slot_byte job.place.layout job.place.slot) 1 was image same;
             may = oldest_may_shut job.place.layout (opened_by job new) parts job.place.slot (transaction_of job new) was is.place.within own
+                (oldest_of_all job.place.layout (opened_by job new) job.place.slot (transaction_of job new) own
                 (λ j other h apart open_with. absurd
                 (let never : None ≡ Some other = sym (with_slot-other nothing_open job.place.slot (Some (transaction_of job new)) j apart) ∙ open_with in
-                cc))
+                cc)))
                 (inr records);
             gate = gate;
           }) in

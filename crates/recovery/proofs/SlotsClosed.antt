@@ -8,12 +8,12 @@ use Rattle.sfs_base.proofs.BasicTruth.{not_both}
 use Rattle.sfs_base.proofs.BasicOptions.{some_same}
 use Rattle.sfs_image.specs.Bytes.{part}
 use Rattle.sfs_image.specs.ImageOf.{Transaction, part_given, given, with_opened, with_slot, IsSlotOf, IsImageOf, PointsToData}
-use Rattle.sfs_image.specs.ImageWrites.{AgreesOutside, IsFullTable, IsOldest, ShutsGate}
+use Rattle.sfs_image.specs.ImageWrites.{AgreesOutside, IsFullTable, IsOldestOfItsInodes, ShutsGate}
 use Rattle.sfs_image.specs.Journal.{head_of}
 use Rattle.sfs_image.specs.Part.{Part, IsGathered}
 use Rattle.sfs_image.specs.Settled.{Stamped, image_block, journal_slot, slot_byte, slot_count}
 use Rattle.sfs_image.specs.Super.{Layout}
-use Rattle.sfs_image.proofs.GateLaws.{gate_shuts, oldest_may_shut, tables_stay_full}
+use Rattle.sfs_image.proofs.GateLaws.{gate_shuts, oldest_of_all, oldest_may_shut, tables_stay_full}
 use Rattle.sfs_image.proofs.GivenLaws.{with_slot-same, with_slot-other}
 use Rattle.sfs_image.proofs.NewestLaws.{none_newest}
 use Rattle.sfs_image.proofs.WrittenLaws.{gate_written}
@@ -76,8 +76,8 @@ module _ (layout : Layout) (parts : ℕ → Part) (found : List OpenSlot) (last 
       apart (to.settles.stands.stamps other.number one.number there.transaction own.transaction low within there.is_open own.is_open
       (there.stamp ∙ sym stamps ∙ sym own.stamp))
 
-  is_oldest : IsOldest layout to.settles.opened one.number own.transaction
-  is_oldest j other low apart open_with = elim (to.still_open.others j low) [
+  is_less : (j : ℕ) (other : Transaction) → j < slot_count layout → j ≢ one.number → to.settles.opened j ≡ Some other → own.transaction.stamp < other.stamp
+  is_less j other low apart open_with = elim (to.still_open.others j low) [
     | inl none ↦ absurd (let never : None ≡ Some other = sym none ∙ open_with in cc)
     | inr there ↦
         let slot = there.1 in
@@ -91,6 +91,9 @@ module _ (layout : Layout) (parts : ℕ → Part) (found : List OpenSlot) (last 
         let less : one.stamp < slot.stamp = less_of one.stamp slot.stamp le distinct in
         subst (λ n. n < other.stamp) (sym own.stamp) (subst (λ n. one.stamp < n) (sym stamp) less)
   ]
+
+  is_oldest : IsOldestOfItsInodes layout to.settles.opened one.number
+  is_oldest = oldest_of_all layout to.settles.opened one.number own.transaction own.is_open is_less
 
   agrees : AgreesOutside (slot_byte layout one.number) 1 was image
   agrees = record { before = same.before; behind = same.after; size = same.size }

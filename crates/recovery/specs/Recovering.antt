@@ -1,5 +1,6 @@
 -- What recovery knows of a disk while it brings the records of open slots home and closes the slots.
 use Rattle.std.specs.Prelude.{◌≡◌, ◌≢◌, ◌⊎◌, ℕ, ◌<◌, ◌≤◌, nat_lt, Bool, true, false, List, [], length, slice_index_or, Option, None, Some, Result, OnOk}
+use Rattle.std.specs.List.{flat_map}
 use Rattle.sfs_image.specs.ImageOf.{Transaction, with_opened, given, IsImageOf, transaction_in, table_parts}
 use Rattle.sfs_image.specs.ImageWrites.{IsFullTable}
 use Rattle.sfs_image.specs.Part.{Part}
@@ -13,9 +14,16 @@ use Rattle.commit_one.specs.Change.{nothing_open}
 use Rattle.recovery.specs.Open.{AreOpen}
 use Rattle.recovery.specs.declared.journals.OpenSlot.{OpenSlot}
 
--- the record of an inode at its place in the table
-abbrev pub record_piece : Layout → ℕ → List ℕ → Piece
-record_piece layout inode bytes = record { at = table_byte layout inode; bytes = bytes }
+-- the records of inodes from a first one on at their place in the table, one behind another
+abbrev pub records_piece : Layout → ℕ → List (List ℕ) → Piece
+records_piece layout first records = record { at = table_byte layout first; bytes = flat_map (λ bytes. bytes) records }
+
+-- Of the inodes from a first one to below an end each has a commit stamp; where there are none, the first one has none.
+pub record IsEndOfNeighbours (stamps : List (Option ℕ)) (first end : ℕ) : Type 0 where
+  pub from : first ≤ end
+  pub within : end ≤ length stamps
+  pub stamped : (i : ℕ) → first ≤ i → i < end → slice_index_or stamps i None ≢ None
+  pub none : end ≡ first → slice_index_or stamps first None ≡ None
 
 -- Newest records are those of the parts that an image stands for: an inode has a commit stamp where an open slot gives it one.
 pub record AreNewestOf (layout : Layout) (opened : ℕ → Option Transaction) (parts : ℕ → Part) (stamps : List (Option ℕ))

@@ -1,5 +1,5 @@
-//! The program. `scalefs IMAGE mkfs BLOCKS INODES CORES` makes an image file, `scalefs IMAGE show` recovers it and
-//! writes its tree, and `scalefs IMAGE run [NODES]` mounts it, runs the script on standard input and writes the
+//! The program. `scalefs IMAGE mkfs BLOCKS INODES CORES [SLOTS]` makes an image file, `scalefs IMAGE show` recovers
+//! it and writes its tree, and `scalefs IMAGE run [NODES]` mounts it, runs the script on standard input and writes the
 //! text of its history.
 #![tactic(auto)]
 

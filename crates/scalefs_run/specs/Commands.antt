@@ -22,8 +22,8 @@ pub record RefusesWords (place : ℕ) (before after : Option (List ℕ)) (status
 -- written to the sink, old and new are the disk. `mkfs` and `show` make no call.
 abbrev pub ServedCommand : Command → Option (List ℕ) → Type 0 → Type 0 → Option (List ℕ) → Option (List ℕ) → View → View → Status → List Entry → List Turn
     → Type 0
-ServedCommand (Mkfs blocks inodes cores) left Source Sink before after old new status history turns =
-    MakesImage (layout_asked blocks inodes cores) Sink before after old new status × (history ≡ []) × (turns ≡ [])
+ServedCommand (Mkfs blocks inodes cores slots) left Source Sink before after old new status history turns =
+    MakesImage (layout_asked blocks inodes cores slots) Sink before after old new status × (history ≡ []) × (turns ≡ [])
 ServedCommand Show left Source Sink before after old new status history turns = ShowsImage Sink before after old new status × (history ≡ []) × (turns ≡ [])
 ServedCommand (Run nodes) left Source Sink before after old new status history turns =
     ServedScript nodes left Source Sink before after old new status history turns

@@ -2,6 +2,7 @@
 use Rattle.std.specs.Prelude.{ℕ, ◌≤◌, ◌==◌, Bool, List, [], ◌∷◌, codes, bytes_eq, nat_le, Option, Some, None, Result, Ok, Err, if◌then◌else◌, false}
 use Rattle.std.specs.List.{list_any}
 use Rattle.script.specs.Words.{number_up_to}
+use Rattle.sfs_image.specs.declared.limits.TheConstants.{MOST_SLOTS}
 use Rattle.sfs_image.specs.Super.{Layout}
 use Rattle.scalefs_run.specs.declared.words.Command.{Command}
 use Rattle.scalefs_run.specs.declared.words.Command.TheVariants.{Mkfs, Show, Run}
@@ -35,6 +36,10 @@ MOST_INODES = 16384
 abbrev pub MOST_CORES : ℕ
 MOST_CORES = 16
 
+-- how many journal slots each core has where the words don't say
+abbrev pub SLOTS : ℕ
+SLOTS = 1
+
 -- a number that is none is bad at its place, and so is one that is too small
 abbrev pub from_least : ℕ → ℕ → Option ℕ → Result ℕ ℕ
 from_least place least None = Err place
@@ -49,21 +54,33 @@ abbrev pub run_of : Result ℕ ℕ → Result Command ℕ
 run_of (Ok nodes) = Ok (Run nodes)
 run_of (Err place) = Err place
 
--- `mkfs`, with these numbers; the first that is bad is named
-abbrev pub mkfs_of : Result ℕ ℕ → Result ℕ ℕ → Result ℕ ℕ → Result Command ℕ
-mkfs_of (Err place) inodes cores = Err place
-mkfs_of (Ok blocks) (Err place) cores = Err place
-mkfs_of (Ok blocks) (Ok inodes) (Err place) = Err place
-mkfs_of (Ok blocks) (Ok inodes) (Ok cores) = Ok (Mkfs blocks inodes cores)
+-- the number of each core's journal slots, which may be missing
+abbrev pub slots_asked : Option (List ℕ) → Result ℕ ℕ
+slots_asked None = Ok SLOTS
+slots_asked (Some word) = number_asked 4 1 MOST_SLOTS word
 
--- the words `run`, `run NODES`, `show` and `mkfs BLOCKS INODES CORES`; no others are a command
+-- `mkfs`, with these numbers; the first that is bad is named
+abbrev pub mkfs_of : Result ℕ ℕ → Result ℕ ℕ → Result ℕ ℕ → Result ℕ ℕ → Result Command ℕ
+mkfs_of (Err place) inodes cores slots = Err place
+mkfs_of (Ok blocks) (Err place) cores slots = Err place
+mkfs_of (Ok blocks) (Ok inodes) (Err place) slots = Err place
+mkfs_of (Ok blocks) (Ok inodes) (Ok cores) (Err place) = Err place
+mkfs_of (Ok blocks) (Ok inodes) (Ok cores) (Ok slots) = Ok (Mkfs blocks inodes cores slots)
+
+-- `mkfs`, with these words
+abbrev pub mkfs_asked : List ℕ → List ℕ → List ℕ → Option (List ℕ) → Result Command ℕ
+mkfs_asked blocks inodes cores slots =
+    mkfs_of (number_asked 1 LEAST_BLOCKS MOST_BLOCKS blocks) (number_asked 2 LEAST_INODES MOST_INODES inodes) (number_asked 3 1 MOST_CORES cores)
+    (slots_asked slots)
+
+-- the words `run`, `run NODES`, `show`, `mkfs BLOCKS INODES CORES` and `mkfs BLOCKS INODES CORES SLOTS`; no others are a command
 abbrev pub command_in : List (List ℕ) → Result Command ℕ
 command_in (word ∷ []) = if bytes_eq word (codes "run") then Ok (Run NODES) else if bytes_eq word (codes "show") then Ok Show else Err 0
 command_in (word ∷ nodes ∷ []) = if bytes_eq word (codes "run") then run_of (number_asked 1 1 MOST_NODES nodes) else Err 0
 command_in (word ∷ blocks ∷ inodes ∷ cores ∷ []) =
-    if bytes_eq word (codes "mkfs")
-    then mkfs_of (number_asked 1 LEAST_BLOCKS MOST_BLOCKS blocks) (number_asked 2 LEAST_INODES MOST_INODES inodes) (number_asked 3 1 MOST_CORES cores)
-    else Err 0
+    if bytes_eq word (codes "mkfs") then mkfs_asked blocks inodes cores None else Err 0
+command_in (word ∷ blocks ∷ inodes ∷ cores ∷ slots ∷ []) =
+    if bytes_eq word (codes "mkfs") then mkfs_asked blocks inodes cores (Some slots) else Err 0
 command_in _ = Err 0
 
 -- What the words ask for, or the place at which they are bad: 0 where one begins with `-` or they are no command.
@@ -77,10 +94,11 @@ pub record IsFromTo (least most number : ℕ) : Type 0 where
 
 -- a command's numbers are in their ranges
 abbrev pub IsInRange : Command → Type 0
-IsInRange (Mkfs blocks inodes cores) = IsFromTo LEAST_BLOCKS MOST_BLOCKS blocks × IsFromTo LEAST_INODES MOST_INODES inodes × IsFromTo 1 MOST_CORES cores
+IsInRange (Mkfs blocks inodes cores slots) =
+    IsFromTo LEAST_BLOCKS MOST_BLOCKS blocks × IsFromTo LEAST_INODES MOST_INODES inodes × IsFromTo 1 MOST_CORES cores × IsFromTo 1 MOST_SLOTS slots
 IsInRange Show = Unit {0}
 IsInRange (Run nodes) = nodes ≤ MOST_NODES
 
--- the layout that the words of `mkfs` ask for: one journal slot for each core
-abbrev pub layout_asked : ℕ → ℕ → ℕ → Layout
-layout_asked blocks inodes cores = record { blocks = blocks; inodes = inodes; cores = cores; slots = 1 }
+-- the layout that the numbers of `mkfs` ask for
+abbrev pub layout_asked : ℕ → ℕ → ℕ → ℕ → Layout
+layout_asked blocks inodes cores slots = record { blocks = blocks; inodes = inodes; cores = cores; slots = slots }

@@ -26,8 +26,8 @@ use std::sync::Wait;
 use std::thread::Threads;
 use tree_laws::{History, Turns};
 
-/// Does what the words say. `mkfs BLOCKS INODES CORES` makes an empty image on the disk and writes its
-/// numbers. `show` recovers the image of the disk and writes the text of its tree. `run` or `run NODES`, the
+/// Does what the words say. `mkfs BLOCKS INODES CORES` or `mkfs BLOCKS INODES CORES SLOTS`, the number of each
+/// core's journal slots, makes an empty image on the disk and writes its numbers. `show` recovers the image of the disk and writes the text of its tree. `run` or `run NODES`, the
 /// number of new nodes, mounts the image of the disk and runs a script on it: the source gives it, the sink
 /// takes the text of the history, and the disk keeps what was flushed. The disk is not touched before the
 /// whole script is in the grammar. No thread is started yet, and the gate is not asked.
@@ -95,12 +95,13 @@ fn serve_command<S: Source, K: Sink, D: Disk>(
             blocks,
             inodes,
             cores,
+            slots,
         } => {
             let layout = Layout {
                 blocks,
                 inodes,
                 cores,
-                slots: 1,
+                slots,
             };
             let status = make_image(alloc, &layout, sink, disk);
             (status, History::new(alloc), Turns::new(alloc))

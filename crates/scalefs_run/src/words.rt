@@ -1,8 +1,10 @@
-ghost use Rattle.std.specs.Prelude.{◌≡◌, ◌∷◌, [], map, string_bytes, IfOk};
+ghost use Rattle.std.specs.Prelude.{◌≡◌, ◌∷◌, [], map, option_map, string_bytes, IfOk};
 ghost use Rattle.std.specs.List.{list_any};
-ghost use Rattle.scalefs_run.specs.Words.{command_asked, command_in, number_asked, begins_with_dash, IsInRange, IsFromTo, run_of, mkfs_of};
-ghost use Rattle.scalefs_run.specs.Words.{LEAST_BLOCKS as BLOCKS_LOW, MOST_BLOCKS as BLOCKS_HIGH, LEAST_INODES as INODES_LOW, MOST_INODES as INODES_HIGH, MOST_CORES as CORES_HIGH, MOST_NODES as NODES_HIGH};
+ghost use Rattle.scalefs_run.specs.Words.{command_asked, command_in, number_asked, begins_with_dash, IsInRange, IsFromTo, run_of, slots_asked, mkfs_asked};
+ghost use Rattle.scalefs_run.specs.Words.{MOST_NODES as NODES_HIGH};
+ghost use Rattle.sfs_image.specs.declared.limits.TheConstants.{MOST_SLOTS as SLOTS_HIGH};
 
+use fmt_super::MOST_SLOTS;
 use script::number_up_to;
 
 /// How many new nodes a run may make where its words don't say.
@@ -22,14 +24,18 @@ const MOST_INODES: u32 = 16_384;
 
 const MOST_CORES: u32 = 16;
 
+/// How many journal slots each core has where the words don't say.
+const SLOTS: u32 = 1;
+
 /// What the words ask for.
 #[derive(Clone, Copy)]
 pub enum Command {
-    /// An empty image of so many blocks, inodes and cores.
+    /// An empty image of so many blocks, inodes and cores, each core with so many journal slots.
     Mkfs {
         blocks: u32,
         inodes: u32,
         cores: u32,
+        slots: u32,
     },
     /// The tree of an image.
     Show,
@@ -87,7 +93,14 @@ fn command_in(words: &[String]) -> Result<Command, u32>
         }
         [word, blocks, inodes, cores] => {
             if word.as_str() == "mkfs" {
-                mkfs_of(blocks, inodes, cores)
+                mkfs_asked(blocks, inodes, cores, None)
+            } else {
+                Err(0)
+            }
+        }
+        [word, blocks, inodes, cores, slots] => {
+            if word.as_str() == "mkfs" {
+                mkfs_asked(blocks, inodes, cores, Some(slots))
             } else {
                 Err(0)
             }
@@ -119,20 +132,37 @@ fn run_of(nodes: &String) -> Result<Command, u32>
     Ok(Command::Run { nodes })
 }
 
-// An image of so many blocks, inodes and cores.
-fn mkfs_of(blocks: &String, inodes: &String, cores: &String) -> Result<Command, u32>
-    ensures command { result ≡ mkfs_of (number_asked 1 BLOCKS_LOW BLOCKS_HIGH (string_bytes blocks.now)) (number_asked 2 INODES_LOW INODES_HIGH (string_bytes inodes.now))
-        (number_asked 3 1 CORES_HIGH (string_bytes cores.now)) }
+// An image of so many blocks, inodes and cores, and so many slots if that is said.
+fn mkfs_asked(
+    blocks: &String,
+    inodes: &String,
+    cores: &String,
+    slots: Option<&String>,
+) -> Result<Command, u32>
+    ensures command { result ≡ mkfs_asked (string_bytes blocks.now) (string_bytes inodes.now) (string_bytes cores.now) (option_map (λ word. string_bytes word.now) slots.entry) }
     ensures ranges { IfOk result IsInRange }
 {
     let blocks = number_asked(1, LEAST_BLOCKS, MOST_BLOCKS, blocks)?;
     let inodes = number_asked(2, LEAST_INODES, MOST_INODES, inodes)?;
     let cores = number_asked(3, 1, MOST_CORES, cores)?;
+    let slots = slots_asked(slots)?;
     Ok(Command::Mkfs {
         blocks,
         inodes,
         cores,
+        slots,
     })
+}
+
+// The number of each core's journal slots.
+fn slots_asked(slots: Option<&String>) -> Result<u32, u32>
+    ensures number { result ≡ slots_asked (option_map (λ word. string_bytes word.now) slots.entry) }
+    ensures range { IfOk result (IsFromTo 1 SLOTS_HIGH) }
+{
+    match slots {
+        Some(word) => number_asked(4, 1, MOST_SLOTS, word),
+        None => Ok(SLOTS),
+    }
 }
 
 // The number that a word spells, where it is in its range; else the word is bad at this place.

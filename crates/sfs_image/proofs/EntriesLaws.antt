@@ -131,7 +131,7 @@ read_again inodes entries slot small are has = record {
 }
 
 -- one of the pieces that stand one behind another from a place on
-piece_at : {X : Type 0} (f : X → List ℕ) (m : ℕ) (d : X) (xs : List X) (from : ℕ) (bytes : List ℕ)
+pub piece_at : {X : Type 0} (f : X → List ℕ) (m : ℕ) (d : X) (xs : List X) (from : ℕ) (bytes : List ℕ)
     → ((j : ℕ) → j < length xs → length (f (get_or xs j d)) ≡ m) →
     part from (m * length xs) bytes ≡ flat_map f xs → (k : ℕ) → k < length xs → part (from + m * k) m bytes ≡ f (get_or xs k d)
 piece_at f m d xs from bytes long is k h =

@@ -4,7 +4,7 @@ use Rattle.std.specs.Prelude.{unwrap_or}
 use Rattle.std.proofs.lemmas.Bool.{cases_eq}
 use Rattle.sfs_image.specs.Bytes.{part}
 use Rattle.sfs_image.specs.ImageOf.{InodePart, Transaction, part_given, given, with_opened, with_slot, HasBody, IsSlotOf, HaveOwnStamps, IsImageOf, PointsToData}
-use Rattle.sfs_image.specs.ImageWrites.{HasNewestRecords, MayShut, IsFullTable, HasRecordsOf, IsOldest, AgreesOutside, OpensGate, ShutsGate}
+use Rattle.sfs_image.specs.ImageWrites.{HasNewestRecords, MayShut, IsFullTable, HasRecordsOf, IsOldestOfItsInodes, AgreesOutside, OpensGate, ShutsGate}
 use Rattle.sfs_image.specs.Laws.{IsShutAfter}
 use Rattle.sfs_image.specs.Part.{Part, IsGathered, pointer_at}
 use Rattle.sfs_image.specs.Settled.{table_byte, Stamped, image_block, slot_byte, slot_count, journal_slot, table_record}
@@ -203,17 +203,23 @@ gate_shuts layout opened parts k old new is shuts = record {
   same = same_then layout opened parts k old new is shuts;
 }
 
+-- the oldest of all open slots is the oldest of its inodes
+pub oldest_of_all : (layout : Layout) (opened : ℕ → Option Transaction) (k : ℕ) (one : Transaction) → opened k ≡ Some one
+    → ((j : ℕ) (other : Transaction) → j < slot_count layout → j ≢ k → opened j ≡ Some other → one.stamp < other.stamp)
+    → IsOldestOfItsInodes layout opened k
+oldest_of_all layout opened k one open_with oldest i j other ours h apart gives own =
+    let giver = given_by i (opened j) other gives in
+    let mine = stamp_given i one ours (sym (ap (part_given i) open_with) ∙ own) in
+    let theirs = giver.2 in
+    let order = oldest j giver.0 h apart giver.1 in
+    omega arith
+
 pub oldest_may_shut : (layout : Layout) (opened : ℕ → Option Transaction) (parts : ℕ → Part) (k : ℕ) (one : Transaction) (image : List ℕ)
     → k < slot_count layout
-    → opened k ≡ Some one → IsOldest layout opened k one → (IsFullTable layout opened parts image) ⊎ (HasRecordsOf layout one image)
+    → opened k ≡ Some one → IsOldestOfItsInodes layout opened k → (IsFullTable layout opened parts image) ⊎ (HasRecordsOf layout one image)
     → MayShut layout opened k image
 oldest_may_shut layout opened parts k one image within open_with oldest has = record {
-  older = λ i j other ours h apart gives own.
-      let giver = given_by i (opened j) other gives in
-      let mine = stamp_given i one ours (sym (ap (part_given i) open_with) ∙ own) in
-      let theirs = giver.2 in
-      let order = oldest j giver.0 h apart giver.1 in
-      omega arith;
+  older = oldest;
   table = λ i ours h own none. elim has [
     | inl full ↦ full i h ∙ ap (λ (part : Part). part.raw) (unwrapped (parts i) (given_alone layout opened k within i ours own none))
     | inr records ↦ record_given_is layout one image i ours records (sym (ap (part_given i) open_with) ∙ own)

@@ -1,6 +1,6 @@
 -- Writes that keep what an image stands for.
 use Rattle.std.proofs.Common.{◌≡◌, ◌≢◌, ℕ, ◌+◌, ◌*◌, ◌/◌, ◌<◌, ◌≤◌, List, Option, None, ap, ◌∙◌, arith, inl, inr}
-use Rattle.std.proofs.lemmas.Bool.{cases_order}
+use Rattle.std.proofs.lemmas.Bool.{cases_lt, cases_order}
 use Rattle.sfs_image.specs.Bytes.{part}
 use Rattle.sfs_image.specs.ImageOf.{Transaction, given, with_opened, IsSlotOf, IsImageOf}
 use Rattle.sfs_image.specs.ImageWrites.{AgreesOutside, LiesApart}
@@ -8,7 +8,7 @@ use Rattle.sfs_image.specs.Part.{Part, IsGathered, pointer_at}
 use Rattle.sfs_image.specs.Settled.{table_byte, image_block, layout_of, super_fault_of, slot_byte, slot_count, journal_slot}
 use Rattle.sfs_image.specs.Super.{Layout, slot_blocks, data_start, super_of, super_fault}
 use Rattle.sfs_image.proofs.FrameLaws.{part_apart}
-use Rattle.sfs_image.proofs.LayoutLaws.{divided}
+use Rattle.sfs_image.proofs.LayoutLaws.{divided, records_fit}
 use Rattle.sfs_image.proofs.PartLaws.{gathered_same}
 
 -- a write that keeps each slot what it is, and is apart from the superblock, from the records of inodes that no open slot has,
@@ -81,19 +81,22 @@ module _ (layout : Layout) where
   pub table_behind_slots : (i k a n : ℕ) → k < slot_count layout → LiesApart (slot_byte layout k) (4096 * slot_blocks layout.inodes) (table_byte layout i + a) n
   table_behind_slots i k a n h = inl (let last = (divided layout).last_slot k h in omega arith)
 
-  -- a record of the table and another one
-  pub records_apart : (i j a n : ℕ) → i ≢ j → a + n ≤ 512 → LiesApart (table_byte layout i) 512 (table_byte layout j + a) n
-  records_apart i j a n apart fits =
-      elim (cases_order i j) [
-        | inl e ↦ absurd (apart e)
-        | inr (inl below) ↦ inl (omega arith)
-        | inr (inr above) ↦ inr (omega arith)
+  -- a record of the table and the records of other inodes, one behind another
+  pub records_apart : (i first count a n : ℕ) → (first ≤ i → i < first + count → ⊥) → a + n ≤ 512 * count →
+      LiesApart (table_byte layout i) 512 (table_byte layout first + a) n
+  records_apart i first count a n apart fits =
+      elim (cases_lt i first) [
+        | inl below ↦ inl (omega arith)
+        | inr from ↦ elim (cases_lt i (first + count)) [
+          | inl within ↦ absurd (apart from within)
+          | inr behind ↦ inr (omega arith)
+        ]
       ]
 
-  -- a record of the table and the data
-  pub table_before_data : (i block a n : ℕ) → i < layout.inodes → a + n ≤ 512 → data_start layout ≤ block →
-      LiesApart (4096 * block) 4096 (table_byte layout i + a) n
-  table_before_data i block a n h fits high = inr (let last = (divided layout).table i h in omega arith)
+  -- records of the table and the data
+  pub table_before_data : (first count block a n : ℕ) → first + count ≤ layout.inodes → a + n ≤ 512 * count → data_start layout ≤ block →
+      LiesApart (4096 * block) 4096 (table_byte layout first + a) n
+  table_before_data first count block a n within fits high = inr (let last = records_fit layout.inodes in omega arith)
 
   -- the data and the slots, and the table
   pub data_behind_slots : (k at n : ℕ) → k < slot_count layout → 4096 * data_start layout ≤ at →

@@ -1,8 +1,8 @@
 -- The parts of a disk lie one behind another.
-use Rattle.std.proofs.Common.{◌≡◌, ℕ, ◌+◌, ◌*◌, ◌<◌, ◌≤◌, ap, arith}
+use Rattle.std.proofs.Common.{◌≡◌, ℕ, ◌+◌, ◌*◌, ◌<◌, ◌≤◌, refl, ap, arith}
 use Rattle.std.proofs.Math.Nat.{mul-le-mul_right}
 use Rattle.std.proofs.lemmas.Nat.{div-mul-add, mod-mul-add}
-use Rattle.sfs_image.specs.Laws.{IsDivided, IsNumberOf}
+use Rattle.sfs_image.specs.Laws.{IsDivided, IsNumberOf, RingsLieCoreByCore}
 use Rattle.sfs_image.specs.Settled.{slot_count}
 use Rattle.sfs_image.specs.Super.{Layout, slot_blocks, number_blocks, record_blocks}
 
@@ -10,7 +10,7 @@ use Rattle.sfs_image.specs.Super.{Layout, slot_blocks, number_blocks, record_blo
 numbers_fit : (inodes : ℕ) → 4 * inodes ≤ 4096 * number_blocks inodes
 numbers_fit inodes = omega arith
 
-records_fit : (inodes : ℕ) → 512 * inodes ≤ 4096 * record_blocks inodes
+pub records_fit : (inodes : ℕ) → 512 * inodes ≤ 4096 * record_blocks inodes
 records_fit inodes = omega arith
 
 -- pieces of m, one behind another
@@ -34,3 +34,6 @@ numbered layout core slot h = record {
   core_again = div-mul-add core layout.slots slot h;
   slot_again = mod-mul-add core layout.slots slot h;
 }
+
+pub rings : RingsLieCoreByCore
+rings = record { first_core = refl; second_core = refl; table = refl; contents = refl; count = refl; slots = λ image. refl }

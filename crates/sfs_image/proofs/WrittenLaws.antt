@@ -2,7 +2,7 @@
 use Rattle.std.proofs.Common.{◌≡◌, None, Some, ℕ, ◌+◌, ◌*◌, ◌<◌, ◌≤◌, List, Option, sym, ap, ◌∙◌, subst, arith, inl, inr}
 use Rattle.std.proofs.lemmas.Bool.{cases_eq}
 use Rattle.sfs_image.specs.ImageOf.{Transaction, given, with_opened, IsShut, IsSlotOf, IsImageOf}
-use Rattle.sfs_image.specs.ImageWrites.{LeavesGate, WritesData, WritesRecord, WritesBody, AgreesOutside, LiesApart}
+use Rattle.sfs_image.specs.ImageWrites.{LeavesGate, WritesData, WritesRecords, WritesBody, AgreesOutside, LiesApart}
 use Rattle.sfs_image.specs.Part.{Part, pointer_at}
 use Rattle.sfs_image.specs.Settled.{table_byte, slot_byte, slot_count, journal_slot}
 use Rattle.sfs_image.specs.Super.{Layout, slot_blocks}
@@ -28,16 +28,17 @@ module _ (layout : Layout) (opened : ℕ → Option Transaction) (parts : ℕ �
         blocks = to.apart;
       }) is
 
-  -- a write within the record of an inode that an open slot has keeps all parts
-  record_kept : (j : ℕ) → WritesRecord layout opened j old new → IsImageOf layout opened parts new
-  record_kept j to =
-      aside_kept layout opened parts (table_byte layout j + to.from) to.n old new (record {
+  -- a write within the records of inodes that open slots have keeps all parts
+  records_kept : (first count : ℕ) → WritesRecords layout opened first count old new → IsImageOf layout opened parts new
+  records_kept first count to =
+      aside_kept layout opened parts (table_byte layout first + to.from) to.n old new (record {
         same = to.written;
-        behind = let first = (divided layout).first_slot 0 in omega arith;
-        slots = λ k h. slot_same k (table_byte layout j + to.from) to.n to.written (table_behind_slots layout j k to.from to.n h);
-        table = λ i h none. records_apart layout i j to.from to.n (λ e. to.taken (ap (given layout opened) (sym e) ∙ none)) to.fits;
+        behind = let slot = (divided layout).first_slot 0 in omega arith;
+        slots = λ k h. slot_same k (table_byte layout first + to.from) to.n to.written (table_behind_slots layout first k to.from to.n h);
+        table = λ i h none. records_apart layout i first count to.from to.n (λ from low. to.taken i from low none) to.fits;
         blocks = λ i place h there.
-            table_before_data layout j (pointer_at (with_opened layout opened parts i) place) to.from to.n to.within to.fits (is.pointers i h place there).0;
+            table_before_data layout first count (pointer_at (with_opened layout opened parts i) place) to.from to.n to.within to.fits
+            (is.pointers i h place there).0;
       }) is
 
   -- a write within a slot that leaves the slot what it is keeps all parts
@@ -87,10 +88,10 @@ pub data_written : (layout : Layout) (opened : ℕ → Option Transaction) (part
     → WritesData layout opened parts old new → IsImageOf layout opened parts new
 data_written layout opened parts old new is to = data_kept layout opened parts old new is to
 
--- So does one to the record of an inode that an open slot has.
-pub table_written : (layout : Layout) (opened : ℕ → Option Transaction) (parts : ℕ → Part) (i : ℕ) (old new : List ℕ) → IsImageOf layout opened parts old
-    → WritesRecord layout opened i old new → IsImageOf layout opened parts new
-table_written layout opened parts i old new is to = record_kept layout opened parts old new is i to
+-- So does one to the records of inodes that open slots have.
+pub table_written : (layout : Layout) (opened : ℕ → Option Transaction) (parts : ℕ → Part) (first count : ℕ) (old new : List ℕ)
+    → IsImageOf layout opened parts old → WritesRecords layout opened first count old new → IsImageOf layout opened parts new
+table_written layout opened parts first count old new is to = records_kept layout opened parts old new is first count to
 
 -- So does one behind the gate of a closed slot.
 pub body_written : (layout : Layout) (opened : ℕ → Option Transaction) (parts : ℕ → Part) (k : ℕ) (old new : List ℕ) → IsImageOf layout opened parts old

@@ -26,11 +26,15 @@ pub record MayOpen (layout : Layout) (opened : ℕ → Option Transaction) (one 
   pub gathered : All (λ (inner : InodePart). IsGathered store inner.part) one.parts
   pub pointers : All (λ (inner : InodePart). PointsToData layout inner.part) one.parts
 
--- A slot may be closed whose transaction has a lesser commit stamp than each other which gives an inode that it gives too, and
--- which gives no inode alone whose record is not in the table.
+-- Slot k is the oldest of its inodes: it has a lesser commit stamp than each other open slot which gives an inode that it gives too.
+abbrev pub IsOldestOfItsInodes : Layout → (ℕ → Option Transaction) → ℕ → Type 0
+IsOldestOfItsInodes layout opened k =
+    (i j : ℕ) (other ours : Stamped Part) → j < slot_count layout → j ≢ k → part_given i (opened j) ≡ Some other → part_given i (opened k) ≡ Some ours →
+    ours.stamp < other.stamp
+
+-- A slot may be closed which is the oldest of its inodes, and which gives no inode alone whose record is not in the table.
 pub record MayShut (layout : Layout) (opened : ℕ → Option Transaction) (k : ℕ) (image : List ℕ) : Type 0 where
-  pub older : (i j : ℕ) (other ours : Stamped Part) → j < slot_count layout → j ≢ k → part_given i (opened j) ≡ Some other →
-      part_given i (opened k) ≡ Some ours → ours.stamp < other.stamp
+  pub older : IsOldestOfItsInodes layout opened k
   pub table : (i : ℕ) (ours : Stamped Part) → i < layout.inodes → part_given i (opened k) ≡ Some ours → given layout (with_slot opened k None) i ≡ None →
       table_record layout image i ≡ ours.value.raw
 
@@ -47,10 +51,6 @@ HasNewestRecords layout opened image =
 abbrev pub HasRecordsOf : Layout → Transaction → List ℕ → Type 0
 HasRecordsOf layout one image = All (λ (inner : InodePart). table_record layout image inner.inode ≡ inner.part.raw) one.parts
 
--- no open slot has a lesser commit stamp than slot k, which is open with a transaction
-abbrev pub IsOldest : Layout → (ℕ → Option Transaction) → ℕ → Transaction → Type 0
-IsOldest layout opened k one = (j : ℕ) (other : Transaction) → j < slot_count layout → j ≢ k → opened j ≡ Some other → one.stamp < other.stamp
-
 -- A write to the data area, apart from the blocks of all parts.
 pub record WritesData (layout : Layout) (opened : ℕ → Option Transaction) (parts : ℕ → Part) (old new : List ℕ) : Type 0 where
   pub at : ℕ
@@ -60,14 +60,14 @@ pub record WritesData (layout : Layout) (opened : ℕ → Option Transaction) (p
   pub apart : (i place : ℕ) → i < layout.inodes → pointer_at (with_opened layout opened parts i) place ≢ 0
       → LiesApart (4096 * pointer_at (with_opened layout opened parts i) place) 4096 at n
 
--- A write of n bytes within the table's record of inode i, which an open slot has.
-pub record WritesRecord (layout : Layout) (opened : ℕ → Option Transaction) (i : ℕ) (old new : List ℕ) : Type 0 where
+-- A write of n bytes within the table's records of so many inodes, from a first one on, each of which an open slot has.
+pub record WritesRecords (layout : Layout) (opened : ℕ → Option Transaction) (first count : ℕ) (old new : List ℕ) : Type 0 where
   pub from : ℕ
   pub n : ℕ
-  pub written : AgreesOutside (table_byte layout i + from) n old new
-  pub within : i < layout.inodes
-  pub fits : from + n ≤ 512
-  pub taken : given layout opened i ≢ None
+  pub written : AgreesOutside (table_byte layout first + from) n old new
+  pub within : first + count ≤ layout.inodes
+  pub fits : from + n ≤ 512 * count
+  pub taken : (i : ℕ) → first ≤ i → i < first + count → given layout opened i ≢ None
 
 -- A write of n bytes behind the gate of slot k, which is closed.
 pub record WritesBody (layout : Layout) (opened : ℕ → Option Transaction) (k : ℕ) (old new : List ℕ) : Type 0 where

@@ -1,8 +1,8 @@
 -- The laws of images, each of which a function of the module laws proves.
-use Rattle.std.specs.Prelude.{◌≡◌, ◌≢◌, ◌⊎◌, ℕ, ◌+◌, ◌*◌, ◌/◌, ◌%◌, ◌<◌, ◌≤◌, ◌^◌, List, Option, None, Some, if◌then◌else◌, true, false}
+use Rattle.std.specs.Prelude.{◌≡◌, ◌≢◌, ◌⊎◌, ℕ, ◌+◌, ◌*◌, ◌/◌, ◌%◌, ◌<◌, ◌≤◌, ◌^◌, List, [], ◌∷◌, map, Option, None, Some, if◌then◌else◌, true, false}
 use Rattle.sfs_image.specs.Bytes.{part}
 use Rattle.sfs_image.specs.ImageOf.{MayBeSlotOf, opened_among, IsSlotOf, IsAccepted, transaction_in, table_parts, Transaction, with_opened, with_slot, IsImageOf, FreshBlock, StandIn, TurnsInto, empty_directory, IsJustMade, IsMadeOf}
-use Rattle.sfs_image.specs.ImageWrites.{HasNewestRecords, IsFullTable, HasRecordsOf, IsOldest, MayShut, LeavesGate, WritesData, WritesRecord, WritesBody, OpensGate, ShutsGate}
+use Rattle.sfs_image.specs.ImageWrites.{HasNewestRecords, IsFullTable, HasRecordsOf, IsOldestOfItsInodes, MayShut, LeavesGate, WritesData, WritesRecords, WritesBody, OpensGate, ShutsGate}
 use Rattle.sfs_image.specs.Rules.{breaks_bytes_rule}
 use Rattle.sfs_image.specs.Journal.{Entry, head_of, entries_of, numbers_of, numbers_fault, number_byte, record_byte, records_start, AreEntries, HasEntries, HasRangesOf}
 use Rattle.sfs_image.specs.Part.{Part, IsGathered, inode_in, is_free_part}
@@ -32,6 +32,21 @@ pub record IsNumberOf (layout : Layout) (core slot k : ℕ) : Type 0 where
 -- Each slot of a core has its number.
 abbrev pub SlotsAreNumbered : Type 0
 SlotsAreNumbered = (layout : Layout) (core slot : ℕ) → slot < layout.slots → IsNumberOf layout core slot (core * layout.slots + slot)
+
+-- a disk of 1,024 blocks with 64 inodes and two cores, each with three slots of 10 blocks
+abbrev pub two_rings : Layout
+two_rings = record { blocks = 1024; inodes = 64; cores = 2; slots = 3 }
+
+-- On that disk the slots of core 0 lie behind the superblock, those of core 1 behind them, each core's in their order; then the table and
+-- the data. So of an image.
+pub record RingsLieCoreByCore : Type 0 where
+  pub first_core : map (slot_start two_rings 0) (0 ∷ 1 ∷ 2 ∷ []) ≡ 1 ∷ 11 ∷ 21 ∷ []
+  pub second_core : map (slot_start two_rings 1) (0 ∷ 1 ∷ 2 ∷ []) ≡ 31 ∷ 41 ∷ 51 ∷ []
+  pub table : table_start two_rings ≡ 61
+  pub contents : data_start two_rings ≡ 69
+  pub count : slot_count two_rings ≡ 6
+  pub slots : (image : List ℕ) → map (journal_slot two_rings image) (0 ∷ 1 ∷ 2 ∷ 3 ∷ 4 ∷ 5 ∷ [])
+      ≡ map (λ block. part (4096 * block) 40960 image) (1 ∷ 11 ∷ 21 ∷ 31 ∷ 41 ∷ 51 ∷ [])
 
 -- what a slot is read as where these entries stand in it
 pub record AreReadAgain (inodes : ℕ) (entries : List Entry) (slot : List ℕ) : Type 0 where
@@ -116,10 +131,10 @@ abbrev pub DataWritesKeep : Type 0
 DataWritesKeep = (layout : Layout) (opened : ℕ → Option Transaction) (parts : ℕ → Part) (old new : List ℕ) → IsImageOf layout opened parts old
     → WritesData layout opened parts old new → IsImageOf layout opened parts new
 
--- A write within the table's record of an inode that an open slot has, whole or torn, keeps what an image stands for.
+-- A write within the table's records of neighbouring inodes, each of which an open slot has, whole or torn, keeps what an image stands for.
 abbrev pub TableWritesKeep : Type 0
-TableWritesKeep = (layout : Layout) (opened : ℕ → Option Transaction) (parts : ℕ → Part) (i : ℕ) (old new : List ℕ) → IsImageOf layout opened parts old
-    → WritesRecord layout opened i old new → IsImageOf layout opened parts new
+TableWritesKeep = (layout : Layout) (opened : ℕ → Option Transaction) (parts : ℕ → Part) (first count : ℕ) (old new : List ℕ)
+    → IsImageOf layout opened parts old → WritesRecords layout opened first count old new → IsImageOf layout opened parts new
 
 -- A write behind the gate of a closed slot, whole or torn, keeps what an image stands for.
 abbrev pub BodyWritesKeep : Type 0
@@ -158,10 +173,10 @@ ShutGatesKeep = (layout : Layout) (opened : ℕ → Option Transaction) (parts :
     → ShutsGate layout opened k old new
     → IsShutAfter layout opened parts k new
 
--- The slot with the least commit stamp may be closed where the table has the records of all parts, or those of its own.
-abbrev pub OldestMayShut : Type 0
-OldestMayShut = (layout : Layout) (opened : ℕ → Option Transaction) (parts : ℕ → Part) (k : ℕ) (one : Transaction) (image : List ℕ) → k < slot_count layout
-    → opened k ≡ Some one → IsOldest layout opened k one → (IsFullTable layout opened parts image) ⊎ (HasRecordsOf layout one image)
+-- A slot that is the oldest of its inodes may be closed where the table has the records of all parts, or those of its own.
+abbrev pub OldestOfItsInodesMayShut : Type 0
+OldestOfItsInodesMayShut = (layout : Layout) (opened : ℕ → Option Transaction) (parts : ℕ → Part) (k : ℕ) (one : Transaction) (image : List ℕ)
+    → k < slot_count layout → opened k ≡ Some one → IsOldestOfItsInodes layout opened k → (IsFullTable layout opened parts image) ⊎ (HasRecordsOf layout one image)
     → MayShut layout opened k image
 
 -- A table that has the newest records of the open slots has the records of all parts.

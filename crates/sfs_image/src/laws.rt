@@ -5,9 +5,9 @@ ghost use Rattle.sfs_image.specs.Inode.{IsInode, inode_of, inode_fault, inode_by
 ghost use Rattle.sfs_image.specs.Journal.{Head, IsHead, head_of, head_bytes};
 ghost use Rattle.sfs_image.specs.Laws.{NewestRecordsFill, JustMadeShowsRoot, AcceptedImagesStand, LeftGatesKeep, GatesSayWhichAreOpen};
 ghost use Rattle.sfs_image.specs.Laws.{JournalFaultsAreFirst, FreshBlocksMakeParts, LayoutsDivide};
-ghost use Rattle.sfs_image.specs.Laws.{RangesHaveEntries, SlotsAreNumbered, EntriesAreReadAgain, SettledIsNewest};
+ghost use Rattle.sfs_image.specs.Laws.{RangesHaveEntries, SlotsAreNumbered, RingsLieCoreByCore, EntriesAreReadAgain, SettledIsNewest};
 ghost use Rattle.sfs_image.specs.Laws.{MadePartsTurn, SettledIsTables, ImagesStandForParts, DataWritesKeep, TableWritesKeep};
-ghost use Rattle.sfs_image.specs.Laws.{OldestMayShut, TablesStayFull, BodyWritesKeep, OpenedGatesAdd, ShutGatesKeep};
+ghost use Rattle.sfs_image.specs.Laws.{OldestOfItsInodesMayShut, TablesStayFull, BodyWritesKeep, OpenedGatesAdd, ShutGatesKeep};
 ghost use Rattle.sfs_image.specs.LawsOfFields.{FieldsHavePlaces, RecordsSay, RootsSay};
 ghost use Rattle.sfs_image.specs.LawsOfParts.{BytesAreShown, SlotsAreShown, SizesSay, PointersSay, TailsSay};
 ghost use Rattle.sfs_image.specs.LawsOfParts.{PointersHavePlaces, BlocksCoverTheirOwn, TablesCoverFromTheirFirst, AreTheLimits};
@@ -62,6 +62,11 @@ pub fn slots_are_numbered()
     ensures { SlotsAreNumbered }
 {}
 
+/// On a disk of two cores with three slots each, the slots lie core by core, then in their order.
+pub fn rings_lie_core_by_core()
+    ensures { RingsLieCoreByCore }
+{}
+
 /// Entries that stand in a slot are read again from it.
 pub fn entries_are_read_again()
     ensures { EntriesAreReadAgain }
@@ -112,7 +117,8 @@ pub fn data_writes_keep()
     ensures { DataWritesKeep }
 {}
 
-/// A write within the table's record of an inode that an open slot has keeps what an image stands for.
+/// A write within the table's records of neighbouring inodes, each of which an open slot has, keeps what an
+/// image stands for.
 pub fn table_writes_keep()
     ensures { TableWritesKeep }
 {}
@@ -179,9 +185,10 @@ pub fn gates_say_which_are_open()
     ensures { GatesSayWhichAreOpen }
 {}
 
-/// The open slot with the least commit stamp may be closed where the table has the records of all parts, or those of its own.
-pub fn oldest_may_shut()
-    ensures { OldestMayShut }
+/// An open slot that is the oldest of its inodes may be closed where the table has the records of all parts, or
+/// those of its own.
+pub fn oldest_of_its_inodes_may_shut()
+    ensures { OldestOfItsInodesMayShut }
 {}
 
 /// A table that has the records of all parts has them once a gate has shut.

@@ -1,2 +1,2 @@
 /// The most slots that a core's journal has.
-pub const MOST_SLOTS: u32 = 1;
+pub const MOST_SLOTS: u32 = 8;

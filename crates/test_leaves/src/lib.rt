@@ -15,6 +15,8 @@ mod ends;
 #[cfg(test)]
 mod files;
 #[cfg(test)]
+mod helpers;
+#[cfg(test)]
 mod images;
 #[cfg(test)]
 mod inodes;
@@ -30,6 +32,8 @@ mod names;
 mod reading;
 #[cfg(test)]
 mod recovering;
+#[cfg(test)]
+mod rings;
 #[cfg(test)]
 mod slots;
 #[cfg(test)]

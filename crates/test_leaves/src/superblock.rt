@@ -38,7 +38,7 @@ fn a_superblock_has_its_bytes(rt: HostRuntime) {
     assert_eq!(rt; &bytes[..28], FRONT.as_slice());
     assert_eq!(rt; first_nonzero(&bytes, 28, 4096), None);
     assert_eq!(rt; decode(&bytes, 1024), Ok(LAYOUT));
-    assert_eq!(rt; MOST_SLOTS, 1);
+    assert_eq!(rt; MOST_SLOTS, 8);
 }
 
 #[test]
@@ -49,7 +49,7 @@ fn each_field_is_refused_at_its_place(rt: HostRuntime) {
     assert_bad(&rt, 12, 17, 12);
     assert_bad(&rt, 20, 15, 20);
     assert_bad(&rt, 22, 1, 20);
-    assert_bad(&rt, 24, 2, 24);
+    assert_bad(&rt, 24, 9, 24);
     // 1,025 blocks are more than the disk has.
     assert_bad(&rt, 16, 1, 16);
     assert_bad(&rt, 28, 1, 28);

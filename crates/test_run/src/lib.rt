@@ -10,9 +10,13 @@ mod ends;
 #[cfg(test)]
 mod flushed;
 #[cfg(test)]
+mod helpers;
+#[cfg(test)]
 mod histories;
 #[cfg(test)]
 mod images;
+#[cfg(test)]
+mod rings;
 #[cfg(test)]
 mod rows;
 #[cfg(test)]

@@ -1,5 +1,6 @@
 use Rattle.std.proofs.Common.{◌≡◌, ◌++◌, List, [], Option, Some, None, subst, sym, ap, ◌∙◌, OnOk}
 use Rattle.std.specs.Option.{option_copied, option_map_or}
+use Rattle.sfs_base.specs.Lists.{Roomy}
 use Rattle.disk_change.specs.Built.{Built}
 use Rattle.disk_change.specs.Fresh.{fresh_written}
 use Rattle.keyed_list.specs.Ascending.{item_with}
@@ -21,4 +22,4 @@ returns-in-None c =
     ap (λ (b : Built). item_with file_node b.node c.args.files.now.items) (sym c.node.view_is) ∙ sym c.find.ensures ∙ ap option_copied c.in-None.is in
     subst (λ (pages : List Page). OnOk c.push_fresh-in-None-2.result
     (c.push_fresh-in-None-2.new.fresh.items ≡ c.args.blocks.now.items ++ fresh_written c.args.node.now pages))
-    (c.new.ensures ∙ sym (ap (λ (o : Option FileChange). option_map_or (λ one. one.pages.items) o []) found)) c.push_fresh-in-None-2.ensures
+    (ap (λ (l : Roomy Page). l.items) c.new.ensures ∙ sym (ap (λ (o : Option FileChange). option_map_or (λ one. one.pages.items) o []) found)) c.push_fresh-in-None-2.ensures
