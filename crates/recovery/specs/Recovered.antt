@@ -1,5 +1,5 @@
 -- What a recovery answers, and what each crash during it leaves.
-use Rattle.std.specs.Prelude.{◌≡◌, ℕ, ◌<◌, List, length, None, Some, Result}
+use Rattle.std.specs.Prelude.{◌≡◌, ℕ, ◌<◌, List, length, None, Some, Result, Ok, Err}
 use Rattle.sfs_image.specs.ImageOf.{IsImageOf}
 use Rattle.sfs_image.specs.Part.{Part}
 use Rattle.sfs_image.specs.Settled.{layout_of, parts_of}
@@ -36,6 +36,12 @@ LeavesRefused old new (BadJournal core slot at) = Unwritten old new
 LeavesRefused old new (BadImage inode rule) = Unwritten old new
 LeavesRefused old new DiskFailed = Unit {0}
 LeavesRefused old new NoMemory = Unit {0}
+
+-- A recovery writes where something is to be done: a refusal of an image has written nothing to it, and neither has a recovery that found no
+-- slot open and no orphan.
+abbrev pub WritesIfDue : View → View → Result Report RecoverFault → Type 0
+WritesIfDue old new (Ok report) = report.closed ≡ 0 → report.freed ≡ 0 → Unwritten old new
+WritesIfDue old new (Err fault) = LeavesRefused old new fault
 
 -- What a recovery reports of an image, whose settled records are whole: its layout and its tree, what is kept of its inodes in use without
 -- orphans, how many slots were open, and how many orphans there were.

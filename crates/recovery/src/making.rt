@@ -1,6 +1,6 @@
 // A disk is made by closing each slot, writing the inode table with the root in it, and then the
 // superblock; a sync ends it. A crash before that may leave any of this.
-ghost use Rattle.std.specs.Prelude.{◌≡◌, ◌≤◌, OnOk, IfOk};
+ghost use Rattle.std.specs.Prelude.{◌≡◌, ◌≤◌, OnOk, IfOk, IsErrOf};
 ghost use Rattle.sfs_dev.specs.Run.{Advances};
 ghost use Rattle.sfs_dev.specs.Steps.{IfTold};
 ghost use Rattle.sfs_image.specs.Settled.{slot_count};
@@ -27,12 +27,14 @@ const EMPTY_DIRECTORY: Inode = Inode {
 
 /// Makes an empty image of this layout, which the disk can have: every journal slot closed, inode 0 the
 /// root without rows, every other inode free. After Ok nothing is pending. The blocks of the data area
-/// are left as they are. It takes memory for the inode table, 512 bytes an inode.
+/// are left as they are. It takes memory for the inode table, 512 bytes an inode, before the disk is
+/// touched.
 pub fn mkfs<D: Disk>(alloc: Global, disk: &mut D, layout: &Layout) -> Result<(), MkfsFault>
     requires layout { IsLayout (D.view disk.old).size layout.now }
     ensures made { OnOk result (IsMadeOn layout.now (D.view disk.new)) }
     ensures advances { Advances (D.view disk.old) (D.view disk.new) }
     ensures cause { HasMkfsCause (D.view disk.old).faults (D.view disk.new).faults result }
+    ensures untouched { IsErrOf result MkfsFault.NoMemory → disk.new ≡ disk.old }
 {
     let Ok(table) = new_table(alloc, layout) else {
         return Err(MkfsFault::NoMemory);

@@ -1,6 +1,6 @@
 // What recovery writes once an image was judged: the newest records come home, then the slots are closed,
 // then orphans are freed. Until the table has a record, its slot stays open.
-ghost use Rattle.std.specs.Prelude.{◌≡◌, ℕ, List, Option, Some, length, OnOk};
+ghost use Rattle.std.specs.Prelude.{◌≡◌, ℕ, List, Option, Some, None, length, OnOk};
 ghost use Rattle.std.specs.List.{AllByRecursion};
 ghost use Rattle.sfs_image.specs.Super.{IsLayout};
 ghost use Rattle.journal_one.specs.Calls.{IsCalm};
@@ -38,6 +38,7 @@ pub fn settle_disk<D: Disk>(
     ensures calm { IsCalm (D.view disk.old) → OnOk result (IsCalm (D.view disk.new)) }
     ensures settles { (image : List ℕ) → (D.view disk.old).content ≡ Some image → IsCalm (D.view disk.old) → IsReadyToSettle layout.now found.now stamps.now records.now image
         → RecoversTo layout.now (settled_parts layout.now image) (D.view disk.old) (D.view disk.new) result }
+    ensures untouched { length found.now ≡ 0 → packed ≡ None → disk.new ≡ disk.old }
 {
     settle_slots(disk, layout, found, stamps, records)?;
     match packed {
@@ -62,6 +63,7 @@ fn settle_slots<D: Disk>(
     ensures calm { IsCalm (D.view disk.old) → OnOk result (IsCalm (D.view disk.new)) }
     ensures settles { (image : List ℕ) → (D.view disk.old).content ≡ Some image → IsCalm (D.view disk.old) → IsReadyToSettle layout.now found.now stamps.now records.now image
         → ClosesAll layout.now (settled_parts layout.now image) (D.view disk.old) (D.view disk.new) result }
+    ensures untouched { length found.now ≡ 0 → disk.new ≡ disk.old }
 {
     if found.is_empty() {
         return Ok(());

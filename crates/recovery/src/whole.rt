@@ -5,7 +5,7 @@ ghost use Rattle.sfs_dev.specs.Run.{CountsOn, EachMoment};
 ghost use Rattle.sfs_dev.specs.Steps.{IfTold};
 ghost use Rattle.journal_one.specs.Calls.{IsCalm};
 ghost use Rattle.recovery.specs.Judging.{IsFaultOf};
-ghost use Rattle.recovery.specs.Recovered.{ShowsTheSame, LeavesRefused, IsReportOf, IsSoundReport, HoldsRecovered, RunsRecovery};
+ghost use Rattle.recovery.specs.Recovered.{ShowsTheSame, WritesIfDue, IsReportOf, IsSoundReport, HoldsRecovered, RunsRecovery};
 
 use crate::fault::RecoverFault;
 use crate::judged::{Judged, judge};
@@ -34,7 +34,7 @@ pub struct Report {
 
 /// Recovers a disk: it reads and checks its image, brings what open slots have into the inode table, closes
 /// them, and frees the inodes of files of link count 0. An image in which something is wrong is refused with
-/// its first fault, and not written to. After a failure, and after a crash at any device call, it may be
+/// its first fault, and not written to; nor is one written to that has no open slot and no orphan. After a failure, and after a crash at any device call, it may be
 /// begun again: the image shows the same tree.
 pub fn recover<D: Disk>(alloc: Global, disk: &mut D) -> Result<Report, RecoverFault>
     ensures ok { IfTold (D.view disk.old).content (λ image. IfOk result (IsReportOf image)) }
@@ -45,7 +45,7 @@ pub fn recover<D: Disk>(alloc: Global, disk: &mut D) -> Result<Report, RecoverFa
     ensures ended { IfTold (D.view disk.old).content (λ image. IsCalm (D.view disk.old)
         → OnOk result (HoldsRecovered image (D.view disk.old) (D.view disk.new))) }
     ensures calm { IsCalm (D.view disk.old) → OnOk result (IsCalm (D.view disk.new)) }
-    ensures refused { IfErr result (LeavesRefused (D.view disk.old) (D.view disk.new)) }
+    ensures unwritten { WritesIfDue (D.view disk.old) (D.view disk.new) result }
     ensures runs { RunsRecovery (D.view disk.old) (D.view disk.new) result }
 {
     let Judged {

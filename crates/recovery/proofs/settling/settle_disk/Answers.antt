@@ -1,5 +1,6 @@
 -- The slots are settled, and then orphans are freed.
-use Rattle.std.proofs.Common.{◌≡◌, ℕ, ◌*◌, ◌<◌, ◌≤◌, List, length, Option, Some, All, ap, subst, ◌∙◌, arith}
+use Rattle.std.proofs.Common.{◌≡◌, ℕ, ◌*◌, ◌<◌, ◌≤◌, List, length, Option, Some, All, sym, ap, subst, ◌∙◌, arith}
+use Rattle.sfs_base.proofs.BasicOptions.{none_some}
 use Rattle.sfs_image.specs.Journal.{Entry}
 use Rattle.sfs_image.specs.Settled.{slot_count}
 use Rattle.sfs_image.specs.Super.{Layout, IsLayout}
@@ -45,6 +46,9 @@ returns-in-Some-clause-settles g c image told calm ready =
     (some_slot old.size layout c.requires.layout) c.free_unlinked.ensures.ran.advances closes
     (c.free_unlinked.ensures.frees (settled_parts layout image) (length records) _ (packing.1 ∙ ap freeing (unlinked_is records (length records)))
     (subst (λ n. n ≤ length records) c.requires.records (let le : length records ≤ length records = omega arith in le)) closes.closed)
+
+pub returns-in-Some-clause-untouched : goal.returns-in-Some-clause-untouched
+returns-in-Some-clause-untouched g c found none = absurd (none_some (sym none ∙ c.in-Some.is))
 
 pub returns-in-None-clause-settles : goal.returns-in-None-clause-settles
 returns-in-None-clause-settles g c image told calm ready =

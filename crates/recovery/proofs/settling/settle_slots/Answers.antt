@@ -1,5 +1,6 @@
 -- The slots are settled, where some are open.
-use Rattle.std.proofs.Common.{◌≡◌, true, nat_eq, List, [], ◌∷◌, length, refl, sym, arith}
+use Rattle.std.proofs.Common.{◌≡◌, ℕ, true, false, nat_eq, List, [], ◌∷◌, length, refl, sym, ap, ◌∙◌, arith}
+use Rattle.sfs_base.proofs.BasicTruth.{false_not_true}
 use Rattle.std.proofs.lemmas.Bool.{eqb-true}
 use Rattle.recovery.specs.declared.journals.OpenSlot.{OpenSlot}
 use Rattle.sfs_image.specs.ImageOf.{transaction_in, table_parts}
@@ -10,6 +11,15 @@ use Rattle.recovery.proofs.settling.settle_slots.Goals as goal
 none_found : (found : List OpenSlot) → true ≡ nat_eq (length found) 0 → found ≡ []
 none_found [] none = refl
 none_found (one ∷ rest) some = absurd (let e = eqb-true (length (one ∷ rest)) 0 (sym some) in omega (arith, e))
+
+some_found : (found : List OpenSlot) → false ≡ nat_eq (length found) 0 → length found ≡ 0 → ⊥
+some_found found some none = false_not_true (some ∙ ap (λ (n : ℕ). nat_eq n 0) none)
+
+pub returns-in_err-bring_home-clause-untouched : goal.returns-in_err-bring_home-clause-untouched
+returns-in_err-bring_home-clause-untouched g c none = absurd (some_found c.args.found.now c.if-is_empty.ensures none)
+
+pub returns-clause-untouched : goal.returns-clause-untouched
+returns-clause-untouched g c none = absurd (some_found c.args.found.now c.if-is_empty.ensures none)
 
 pub returns-then-is_empty-clause-settles : goal.returns-then-is_empty-clause-settles
 returns-then-is_empty-clause-settles g c image told calm ready =

@@ -1,5 +1,5 @@
 -- A recovery reads, judges and settles.
-use Rattle.std.proofs.Common.{ℕ, ◌<◌, ◌≤◌, length, sym, ap, subst, ◌∙◌, arith}
+use Rattle.std.proofs.Common.{◌≡◌, ℕ, ◌<◌, ◌≤◌, List, length, Option, Some, None, refl, sym, ap, subst, ◌∙◌, arith}
 use Rattle.std.specs.List.Sorted.{IsStrictlyIncreasing}
 use Rattle.sfs_base.specs.Ends.{HasRisen}
 use Rattle.sfs_dev.proofs.Runs.{GoesOn-trans}
@@ -8,7 +8,9 @@ use Rattle.recovery.proofs.JudgedImage.{image_stands, settled_whole}
 use Rattle.recovery.proofs.KeptLinked.{kept_linked, orphans_are_those, unlinked_few, slots_few}
 use Rattle.recovery.proofs.RecoverMoments.{calm_stays, read_moments, all_moments, all_ended, ready_by, failed_for}
 use Rattle.recovery.proofs.Unlinked.{unlinked_ascend}
-use Rattle.recovery.specs.Freed.{unlinked_in, is_linked_kept}
+use Rattle.journal_one.specs.Packed.{Contents}
+use Rattle.sfs_dev.specs.Run.{Unwritten}
+use Rattle.recovery.specs.Freed.{PacksFreeing, unlinked_in, is_linked_kept}
 use Rattle.sfs_image.specs.Settled.{parts_of}
 use Rattle.std.specs.List.{filter}
 use Rattle.recovery.proofs.whole.recover.Goals as goal
@@ -147,6 +149,19 @@ returns-clause-ended g c image told calm =
       left = all_ended image judged.layout judged.records.items own.settles some own.faultless (view c.judge.new.disk) (view c.settle_disk.new.disk) _ done;
       tells = λ content is. done.told content (c.in_ok-layout.ensures.reads.unwritten.content ∙ is);
     }
+
+-- nothing is packed where there is nothing to free
+packs_nothing : (inodes : List ℕ) (packed : Option Contents) → PacksFreeing inodes packed → length inodes ≡ 0 → packed ≡ None
+packs_nothing inodes None packs none = refl
+packs_nothing inodes (Some some) packs none = absurd (let few = packs.0 in omega (arith, few, none))
+
+pub returns-clause-unwritten : goal.returns-clause-unwritten
+returns-clause-unwritten g c closed freed =
+    let view = g.D.Disk.view in
+    let none_open = ap length c.deref-2.ensures.value ∙ sym (c.count_of.ensures ∙ ap length c.deref-4.ensures.value) ∙ closed in
+    let none_freed = ap length c.deref.ensures.value ∙ sym (c.count_of-2.ensures ∙ ap length c.deref-5.ensures.value) ∙ freed in
+    let same = c.in_ok-settle_disk.ensures.untouched none_open (packs_nothing _ _ c.in_ok-packed.ensures none_freed) in
+    subst (λ disk. Unwritten (view c.args.disk.now) (view disk)) (sym same) c.in_ok-layout.ensures.reads.unwritten
 
 pub returns-clause-calm : goal.returns-clause-calm
 returns-clause-calm g c calm =

@@ -24,4 +24,4 @@ returns-in-Err-clause-shows g c =
     (sym c.status_of_recovery.ensures)
     (image_refused (g.D.Disk.view c.args.disk.now) (g.D.Disk.view c.recover.new.disk)
     (HasRisen (g.K.Sink.faults c.args.sink.now) (g.K.Sink.faults c.args.sink.now)) written told.moments
-    c.in-Err.fault told.bad told.refused told.runs.cause)
+    c.in-Err.fault told.bad told.unwritten told.runs.cause)
