@@ -5,16 +5,16 @@ ghost use Rattle.tree_laws.specs.Step.{IsReadable};
 ghost use Rattle.cut_laws.specs.Machine.{MachineState, MayBeTold};
 
 use crate::calls::{Trial, root_alone};
+use crate::helpers::{got, holds};
 use crate::machine::{Run, begun_at};
 use call_log::logged_after;
 use dep_closure::{DirectoryChanges, Gathered, NodeBirth, NodeCut, closure};
 use flush_core::Event;
 use plans::OnDisk;
 use sfs_base::{CoreId, Kind, Name, NodeId, NodeList, RoomyList, Stamp};
-use sfs_tree::{Act, Ancestors, Call, Change, Entry, Reply};
 use std::alloc::Global;
 use std::process::Abort;
-use std::test::Fail;
+use tree_laws::{Act, Ancestors, Call, Change, Entry, Reply};
 
 mod drawn;
 mod plans;
@@ -38,28 +38,27 @@ struct Watched {
 }
 
 // Nobody's calls yet. The first new node is 64.
-fn begun(alloc: Global) -> Result<Watched, Fail> {
+fn begun(rt: &impl Abort, alloc: Global) -> Watched {
     let mut directories = Vec::new(alloc);
-    directories.push(0)?;
-    Ok(Watched {
+    got(rt, directories.push(0));
+    Watched {
         alloc,
-        trial: root_alone(alloc, 512)?,
-        run: begun_at(alloc, 64, 512)?,
+        trial: got(rt, root_alone(alloc, 512)),
+        run: got(rt, begun_at(alloc, 64, 512)),
         logged: Vec::new(alloc),
         births: Vec::new(alloc),
         directories,
         stamp: 0,
         commits: 0,
-        disk: plans::made(alloc)?,
-    })
+        disk: plans::made(rt, alloc),
+    }
 }
 
 // Puts changes behind the others.
-fn log_all(logged: &mut Vec<Change>, told: Vec<Change>) -> Result<(), Fail> {
+fn log_all(rt: &impl Abort, logged: &mut Vec<Change>, told: Vec<Change>) {
     for change in told {
-        logged.push(change)?;
+        got(rt, logged.push(change));
     }
-    Ok(())
 }
 
 // Whether these changes, and no others, stand from a place on.
@@ -90,37 +89,37 @@ fn is_same(change: &Change, other: &Change) -> bool {
 
 impl Watched {
     // The child of a row.
-    fn child(&self, dir: NodeId, name: &Name) -> Result<Option<NodeId>, Fail> {
-        Ok(self.trial.tree.names(dir)?.get(name))
+    fn child(&self, rt: &impl Abort, dir: NodeId, name: &Name) -> Option<NodeId> {
+        got(rt, self.trial.tree.names(dir)).get(name)
     }
 
     // The directory that has a row of a node.
-    fn holder(&self, node: NodeId) -> Result<Option<NodeId>, Fail> {
+    fn holder(&self, rt: &impl Abort, node: NodeId) -> Option<NodeId> {
         for directory in &self.directories {
-            let names = self.trial.tree.names(NodeId(*directory))?;
+            let names = got(rt, self.trial.tree.names(NodeId(*directory)));
             for row in names.rows() {
                 if row.child == node {
-                    return Ok(Some(NodeId(*directory)));
+                    return Some(NodeId(*directory));
                 }
             }
         }
-        Ok(None)
+        None
     }
 
     // The directories above one, its holder first.
-    fn above(&self, dir: NodeId) -> Result<Ancestors, Fail> {
+    fn above(&self, rt: &impl Abort, dir: NodeId) -> Ancestors {
         let mut above = Vec::new(self.alloc);
         let mut place = dir;
         for _ in &self.directories {
-            match self.holder(place)? {
+            match self.holder(rt, place) {
                 Some(holder) => {
-                    above.push(holder)?;
+                    got(rt, above.push(holder));
                     place = holder;
                 }
                 None => break,
             }
         }
-        Ok(Ancestors::new(NodeList::from_vec(above)))
+        Ancestors::new(NodeList::from_vec(above))
     }
 
     // The kind of a node.
@@ -129,202 +128,215 @@ impl Watched {
     }
 
     // A change of the next call that no rename between two directories makes.
-    fn change(&self, dir: NodeId, name: &Name, child: NodeId, act: Act) -> Result<Change, Fail> {
-        Ok(Change {
+    fn change(&self, rt: &impl Abort, dir: NodeId, name: &Name, child: NodeId, act: Act) -> Change {
+        Change {
             stamp: Stamp(self.stamp),
             dir,
-            name: name.copy()?,
+            name: got(rt, name.copy()),
             child,
             kind: self.kind(child),
             act,
             other: None,
             above: Ancestors::none(self.alloc),
-        })
+        }
     }
 
     // The changes of a rename that puts a child.
-    fn moved(&self, from: (NodeId, &Name), to: (NodeId, &Name)) -> Result<Vec<Change>, Fail> {
+    fn moved(&self, rt: &impl Abort, from: (NodeId, &Name), to: (NodeId, &Name)) -> Vec<Change> {
         let mut changes = Vec::new(self.alloc);
-        let Some(child) = self.child(from.0, from.1)? else {
-            return Ok(changes);
+        let Some(child) = self.child(rt, from.0, from.1) else {
+            return changes;
         };
-        if let Some(there) = self.child(to.0, to.1)? {
+        if let Some(there) = self.child(rt, to.0, to.1) {
             if there == child {
-                return Ok(changes);
+                return changes;
             }
-            changes.push(self.change(to.0, to.1, there, Act::Remove)?)?;
+            got(
+                rt,
+                changes.push(self.change(rt, to.0, to.1, there, Act::Remove)),
+            );
         }
-        changes.push(self.change(from.0, from.1, child, Act::Remove)?)?;
-        changes.push(self.change(to.0, to.1, child, Act::Add)?)?;
+        got(
+            rt,
+            changes.push(self.change(rt, from.0, from.1, child, Act::Remove)),
+        );
+        got(
+            rt,
+            changes.push(self.change(rt, to.0, to.1, child, Act::Add)),
+        );
         if from.0 != to.0 {
-            self.tell_sides(&mut changes, from.0, to.0)?;
+            self.tell_sides(rt, &mut changes, from.0, to.0);
         }
-        Ok(changes)
+        changes
     }
 
     // Tells changes the two sides of their rename, and what puts a directory those above it.
-    fn tell_sides(&self, changes: &mut Vec<Change>, from: NodeId, to: NodeId) -> Result<(), Fail> {
+    fn tell_sides(&self, rt: &impl Abort, changes: &mut Vec<Change>, from: NodeId, to: NodeId) {
         for change in changes.iter_mut() {
             change.other = Some(if change.dir == from { to } else { from });
             if change.act == Act::Add && change.kind == Kind::Directory {
-                change.above = self.above(to)?;
+                change.above = self.above(rt, to);
             }
         }
-        Ok(())
     }
 
     // What a call would log that is answered Ok.
-    fn told(&self, call: &Call) -> Result<Vec<Change>, Fail> {
+    fn told(&self, rt: &impl Abort, call: &Call) -> Vec<Change> {
         let mut changes = Vec::new(self.alloc);
         match call {
             Call::Link { file, dir, name } => {
-                changes.push(self.change(*dir, name, *file, Act::Add)?)?;
+                got(
+                    rt,
+                    changes.push(self.change(rt, *dir, name, *file, Act::Add)),
+                );
             }
-            Call::Unlink { dir, name } => self.gone(&mut changes, *dir, name)?,
-            Call::Rmdir { dir, name } => self.gone(&mut changes, *dir, name)?,
+            Call::Unlink { dir, name } => self.gone(rt, &mut changes, *dir, name),
+            Call::Rmdir { dir, name } => self.gone(rt, &mut changes, *dir, name),
             Call::Rename {
                 dir,
                 name,
                 to_dir,
                 to_name,
-            } => return self.moved((*dir, name), (*to_dir, to_name)),
+            } => return self.moved(rt, (*dir, name), (*to_dir, to_name)),
             _ => {}
         }
-        Ok(changes)
+        changes
     }
 
     // Adds the change by which a row goes.
-    fn gone(&self, changes: &mut Vec<Change>, dir: NodeId, name: &Name) -> Result<(), Fail> {
-        if let Some(child) = self.child(dir, name)? {
-            changes.push(self.change(dir, name, child, Act::Remove)?)?;
+    fn gone(&self, rt: &impl Abort, changes: &mut Vec<Change>, dir: NodeId, name: &Name) {
+        if let Some(child) = self.child(rt, dir, name) {
+            got(
+                rt,
+                changes.push(self.change(rt, dir, name, child, Act::Remove)),
+            );
         }
-        Ok(())
     }
 
     // Makes a call, tells it the machine, and logs it.
-    fn make(&mut self, rt: &impl Abort, call: &Call) -> Result<(), Fail>
+    fn make(&mut self, rt: &impl Abort, call: &Call)
         requires { IsReadable call.now }
     {
-        let foreseen = self.trial.foresee(Stamp(self.stamp), call)?;
-        let told = self.told(call)?;
-        let reply = self.trial.step(0, call)?;
+        let foreseen = self.trial.foresee(rt, Stamp(self.stamp), call);
+        let told = self.told(rt, call);
+        let reply = got(rt, self.trial.step(0, call));
         let before = self.logged.len();
-        self.log(call, &reply, told)?;
+        self.log(rt, call, &reply, told);
         let logged = logged_after(self.alloc, foreseen, &reply);
-        assert!(rt; is_last(logged.as_slice(), before, &self.logged));
-        self.tell_call(rt, call, reply, None)
+        holds(rt, is_last(logged.as_slice(), before, &self.logged));
+        self.tell_call(rt, call, reply, None);
     }
 
     // Logs what a call has changed by its reply.
-    fn log(&mut self, call: &Call, reply: &Reply, told: Vec<Change>) -> Result<(), Fail> {
+    fn log(&mut self, rt: &impl Abort, call: &Call, reply: &Reply, told: Vec<Change>) {
         match reply {
-            Reply::Ok => log_all(&mut self.logged, told),
-            Reply::Node { node, kind } => self.log_made(call, *node, *kind),
-            _ => Ok(()),
+            Reply::Ok => log_all(rt, &mut self.logged, told),
+            Reply::Node { node, kind } => self.log_made(rt, call, *node, *kind),
+            _ => {}
         }
     }
 
     // Logs the node that a call has made.
-    fn log_made(&mut self, call: &Call, node: NodeId, kind: Kind) -> Result<(), Fail> {
+    fn log_made(&mut self, rt: &impl Abort, call: &Call, node: NodeId, kind: Kind) {
         if let Call::Make { dir, name, .. } = call {
-            let made = self.change(*dir, name, node, Act::Add)?;
-            self.logged.push(made)?;
-            self.births.push(NodeBirth { node, dir: *dir })?;
+            let made = self.change(rt, *dir, name, node, Act::Add);
+            got(rt, self.logged.push(made));
+            got(rt, self.births.push(NodeBirth { node, dir: *dir }));
             if kind == Kind::Directory {
-                self.directories.push(node.0)?;
+                got(rt, self.directories.push(node.0));
             }
         }
-        Ok(())
     }
 
     // Tells the machine an event, which it takes.
-    fn tell(&mut self, rt: &impl Abort, event: &Event) -> Result<(), Fail>
+    fn tell(&mut self, rt: &impl Abort, event: &Event)
         requires { (state : MachineState) → length state.first.made ≡ 2 → MayBeTold state event.now }
     {
         let taken = self.run.step(event).is_ok();
-        assert!(rt; taken);
-        Ok(())
+        holds(rt, taken);
     }
 
     // Tells the machine a call with its reply.
-    fn tell_call(
-        &mut self,
-        rt: &impl Abort,
-        call: &Call,
-        reply: Reply,
-        ack: Option<u64>,
-    ) -> Result<(), Fail>
+    fn tell_call(&mut self, rt: &impl Abort, call: &Call, reply: Reply, ack: Option<u64>)
         requires { IsReadable call.now }
     {
         let entry = Entry {
             stamp: Stamp(self.stamp),
             core: CoreId(0),
-            call: call.copy()?,
+            call: got(rt, call.copy()),
             reply,
             ack,
         };
-        self.tell(rt, &Event::Call { entry })?;
+        self.tell(rt, &Event::Call { entry });
         self.stamp = self.stamp.saturating_add(1);
-        Ok(())
     }
 
     // What an fsync gathers of the calls so far: all of it, or what is not flushed alone.
-    fn gathered(&self, all: bool) -> Result<Gathered, Fail> {
+    fn gathered(&self, rt: &impl Abort, all: bool) -> Gathered {
         let mut logs = Vec::new(self.alloc);
         let mut cuts = Vec::new(self.alloc);
         let mut inodes = Vec::new(self.alloc);
         for node in 0..NODES {
             let cut = self.run.state.cut().get(node);
-            let changes = self.changes(node, if all { 0 } else { cut })?;
+            let changes = self.changes(rt, node, if all { 0 } else { cut });
             if !changes.is_empty() {
-                logs.push(DirectoryChanges {
-                    dir: NodeId(node),
-                    changes: RoomyList::from_vec(changes),
-                })?;
+                got(
+                    rt,
+                    logs.push(DirectoryChanges {
+                        dir: NodeId(node),
+                        changes: RoomyList::from_vec(changes),
+                    }),
+                );
             }
             if cut > 0 {
-                cuts.push(NodeCut {
-                    node: NodeId(node),
-                    cut: Stamp(cut),
-                })?;
+                got(
+                    rt,
+                    cuts.push(NodeCut {
+                        node: NodeId(node),
+                        cut: Stamp(cut),
+                    }),
+                );
             }
             if self.run.state.has_inode(NodeId(node)) {
-                inodes.push(NodeId(node))?;
+                got(rt, inodes.push(NodeId(node)));
             }
         }
-        Ok(Gathered {
+        Gathered {
             logs: RoomyList::from_vec(logs),
             cuts: RoomyList::from_vec(cuts),
-            births: RoomyList::from_vec(self.births.to_vec(self.alloc)?),
+            births: RoomyList::from_vec(got(rt, self.births.to_vec(self.alloc))),
             inodes: NodeList::from_vec(inodes),
-        })
+        }
     }
 
     // A directory's changes from a stamp on.
-    fn changes(&self, dir: u32, from: u64) -> Result<Vec<Change>, Fail> {
+    fn changes(&self, rt: &impl Abort, dir: u32, from: u64) -> Vec<Change> {
         let mut changes = Vec::new(self.alloc);
         for change in &self.logged {
             if change.dir.0 == dir && change.stamp.0 >= from {
-                changes.push(change.copy()?)?;
+                got(rt, changes.push(got(rt, change.copy())));
             }
         }
-        Ok(changes)
+        changes
     }
 
     // The nodes that an fsync flushes by what it has gathered.
-    fn members(&self, rt: &impl Abort, node: u32, all: bool) -> Result<Vec<u32>, Fail> {
-        let gathered = self.gathered(all)?;
-        assert!(rt; gathered.is_orderly());
-        let nodes = closure(self.alloc, NodeId(node), Stamp(self.stamp), &gathered)?;
+    fn members(&self, rt: &impl Abort, node: u32, all: bool) -> Vec<u32> {
+        let gathered = self.gathered(rt, all);
+        holds(rt, gathered.is_orderly());
+        let nodes = got(
+            rt,
+            closure(self.alloc, NodeId(node), Stamp(self.stamp), &gathered),
+        );
         let mut members = Vec::new(self.alloc);
         for node in nodes.as_slice() {
-            members.push(node.0)?;
+            got(rt, members.push(node.0));
         }
-        Ok(members)
+        members
     }
 
     // Fsyncs a live node, and gives the nodes whose cuts the machine raises by it.
-    fn flush(&mut self, rt: &impl Abort, node: u32) -> Result<Vec<u32>, Fail> {
+    fn flush(&mut self, rt: &impl Abort, node: u32) -> Vec<u32> {
         let stamp = self.stamp;
         let commit = self.commits;
         self.commits = commit.saturating_add(1);
@@ -335,30 +347,30 @@ impl Watched {
                 node: NodeId(node),
                 stamp: Stamp(stamp),
             },
-        )?;
-        self.tell(rt, &Event::Opened { commit })?;
-        self.tell(rt, &Event::Durable { commit })?;
+        );
+        self.tell(rt, &Event::Opened { commit });
+        self.tell(rt, &Event::Durable { commit });
         let fsync = Call::Fsync { node: NodeId(node) };
-        self.tell_call(rt, &fsync, Reply::Ok, Some(1))?;
+        self.tell_call(rt, &fsync, Reply::Ok, Some(1));
         let mut raised = Vec::new(self.alloc);
         for node in 0..NODES {
             if self.run.state.cut().get(node) == stamp {
-                raised.push(node)?;
+                got(rt, raised.push(node));
             }
         }
-        Ok(raised)
+        raised
     }
 
     // Compares the members of an fsync, from all logs and from what is not flushed, with those of the machine, and the nodes that have
     // an inode once its plan was committed.
-    fn compare(&mut self, rt: &impl Abort, node: u32) -> Result<Vec<u32>, Fail> {
-        let members = self.members(rt, node, true)?;
-        let unflushed = self.members(rt, node, false)?;
-        assert!(rt; unflushed.as_slice() == members.as_slice());
-        self.commit_plan(rt, node, members.as_slice())?;
-        let raised = self.flush(rt, node)?;
-        assert!(rt; raised.as_slice() == members.as_slice());
-        self.same_inodes(rt)?;
-        Ok(members)
+    fn compare(&mut self, rt: &impl Abort, node: u32) -> Vec<u32> {
+        let members = self.members(rt, node, true);
+        let unflushed = self.members(rt, node, false);
+        holds(rt, unflushed.as_slice() == members.as_slice());
+        self.commit_plan(rt, node, members.as_slice());
+        let raised = self.flush(rt, node);
+        holds(rt, raised.as_slice() == members.as_slice());
+        self.same_inodes(rt);
+        members
     }
 }

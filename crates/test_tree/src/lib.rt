@@ -1,4 +1,4 @@
-//! The tree of one thread, its history, net changes, cuts, and the script with its texts, with values worked out by hand.
+//! The calls of the tree of one thread, and what fsyncs flush of them, with values worked out by hand.
 #![tactic(auto)]
 
 #[cfg(test)]
@@ -6,30 +6,14 @@ mod calls;
 #[cfg(test)]
 mod closures;
 #[cfg(test)]
-mod copies;
-#[cfg(test)]
-mod cuts;
-#[cfg(test)]
 mod failures;
 #[cfg(test)]
-mod histories;
-#[cfg(test)]
-mod logs;
+mod helpers;
 #[cfg(test)]
 mod machine;
-#[cfg(test)]
-mod mounted;
-#[cfg(test)]
-mod nets;
-#[cfg(test)]
-mod scripts;
 #[cfg(test)]
 mod shapes;
 #[cfg(test)]
 mod sweep;
-#[cfg(test)]
-mod texts;
-#[cfg(test)]
-mod trees;
 #[cfg(test)]
 mod written;

@@ -1,15 +1,16 @@
 // The machine of calls and commits: a run of three commits, and each reason to refuse an event.
-ghost use Rattle.std.specs.Prelude.{◌≡◌, ◌≤◌, length, IfOk};
+ghost use Rattle.std.specs.Prelude.{◌≡◌, ◌≤◌, length};
 ghost use Rattle.cut_laws.specs.Machine.{MachineState, MayBeTold};
 
 use crate::calls::{Asked, call_of};
+use crate::helpers::{got, same};
 use flush_core::{CommitList, Event, Refused, State};
-use sfs_base::{CoreId, Kind, NodeId, SpaceKind, Stamp};
-use sfs_tree::{Code, Entry, Reply, Tree};
+use sfs_base::{CoreId, Kind, NoMemory, NodeId, SpaceKind, Stamp};
+use sfs_tree::Tree;
 use std::alloc::Global;
 use std::marker::Model;
 use std::process::Abort;
-use std::test::Fail;
+use tree_laws::{Code, Entry, Reply};
 
 mod flights;
 mod refusals;
@@ -71,12 +72,12 @@ impl Model for Run {
 }
 
 // A run whose first new node is 3; core 1 begins with 11.
-fn begun(alloc: Global) -> Result<Run, Fail> {
-    begun_at(alloc, 3, 8)
+fn begun(rt: &impl Abort, alloc: Global) -> Run {
+    got(rt, begun_at(alloc, 3, 8))
 }
 
 // A run whose first new node has this number, with this share for each core.
-pub(crate) fn begun_at(alloc: Global, first: u32, share: u32) -> Result<Run, Fail>
+pub(crate) fn begun_at(alloc: Global, first: u32, share: u32) -> Result<Run, NoMemory>
     requires first { 1 ≤ first }
     requires low { first ≤ 16384 }
     requires shares { share ≤ 32768 }
@@ -117,19 +118,20 @@ fn ack_of(given: &Given) -> Option<u64> {
 
 // A call's event. Its core is 0 or 1.
 fn call_event(
+    rt: &impl Abort,
     alloc: Global,
     stamp: u64,
     core: u8,
     asked: &Asked,
     given: &Given,
-) -> Result<Event, Fail>
-    ensures { IfOk result (λ event. (state : MachineState) → length state.first.made ≡ 2 → MayBeTold state event) }
+) -> Event
+    ensures { (state : MachineState) → length state.first.made ≡ 2 → MayBeTold state result }
 {
     if core >= 2 {
-        return Err(Fail::new("a third core"));
+        panic!(rt; "a third core");
     }
-    let call = call_of(alloc, asked)?;
-    Ok(Event::Call {
+    let call = call_of(rt, alloc, asked);
+    Event::Call {
         entry: Entry {
             stamp: Stamp(stamp),
             core: CoreId(core),
@@ -137,26 +139,26 @@ fn call_event(
             reply: reply_of(given),
             ack: ack_of(given),
         },
-    })
+    }
 }
 
 // The event that is told.
-fn event_of(alloc: Global, told: &Told) -> Result<Event, Fail>
-    ensures { IfOk result (λ event. (state : MachineState) → length state.first.made ≡ 2 → MayBeTold state event) }
+fn event_of(rt: &impl Abort, alloc: Global, told: &Told) -> Event
+    ensures { (state : MachineState) → length state.first.made ≡ 2 → MayBeTold state result }
 {
     match told {
-        Told::Call(stamp, core, asked, given) => call_event(alloc, *stamp, *core, asked, given),
-        Told::CutAt(commit, node, stamp) => Ok(Event::CutAt {
+        Told::Call(stamp, core, asked, given) => call_event(rt, alloc, *stamp, *core, asked, given),
+        Told::CutAt(commit, node, stamp) => Event::CutAt {
             commit: *commit,
             node: NodeId(*node),
             stamp: Stamp(*stamp),
-        }),
-        Told::Opened(commit) => Ok(Event::Opened { commit: *commit }),
-        Told::Durable(commit) => Ok(Event::Durable { commit: *commit }),
-        Told::Fail(commit) => Ok(Event::Fail { commit: *commit }),
-        Told::Crash(kept) => Ok(Event::Crash {
-            kept: CommitList::from_vec(kept.to_vec(alloc)?),
-        }),
+        },
+        Told::Opened(commit) => Event::Opened { commit: *commit },
+        Told::Durable(commit) => Event::Durable { commit: *commit },
+        Told::Fail(commit) => Event::Fail { commit: *commit },
+        Told::Crash(kept) => Event::Crash {
+            kept: CommitList::from_vec(got(rt, kept.to_vec(alloc))),
+        },
     }
 }
 
@@ -191,23 +193,24 @@ impl Run {
     }
 
     // Tells each of these events, and compares its answer.
-    fn tell(&mut self, rt: &impl Abort, events: &[(Told, Due)]) -> Result<(), Fail> {
-        for (told, due) in events {
-            let event = event_of(self.alloc, told)?;
+    fn tell(&mut self, rt: &impl Abort, events: &[(Told, Due)]) {
+        for (place, (told, due)) in events.iter().enumerate() {
+            let event = event_of(rt, self.alloc, told);
             let is_due = match self.step(&event) {
                 Ok(()) => matches!(due, Due::Taken),
                 Err(refused) => is_refused(&refused, due),
             };
-            assert!(rt; is_due, "{event:?}");
+            same(rt, &(place, is_due), &(place, true));
         }
-        Ok(())
     }
 
     // Compares the cut of each of these nodes, and whether it has an inode.
     fn assert_nodes(&self, rt: &impl Abort, nodes: &[(u32, u64, bool)]) {
         for (node, stamp, has_inode) in nodes {
-            assert_eq!(rt; self.state.cut().get(*node), *stamp, "{node}");
-            assert_eq!(rt; self.state.has_inode(NodeId(*node)), *has_inode, "{node}");
+            let cut = self.state.cut().get(*node);
+            same(rt, &(*node, cut), &(*node, *stamp));
+            let has = self.state.has_inode(NodeId(*node));
+            same(rt, &(*node, has), &(*node, *has_inode));
         }
     }
 }

@@ -4,12 +4,14 @@ ghost use Rattle.tree_laws.specs.Sound.{IsSound};
 ghost use Rattle.tree_laws.specs.Step.{IsReadable};
 
 use crate::calls::{Asked, call_of};
+use crate::helpers::got;
 use flush_core::{Cut, Rule, Story};
-use sfs_base::{CoreId, Kind, NodeId};
-use sfs_tree::{Call, Reply, Tree};
+use sfs_base::{CoreId, Kind, NoMemory, NodeId};
+use sfs_tree::Tree;
 use std::alloc::Global;
 use std::marker::Model;
-use std::test::Fail;
+use std::process::Abort;
+use tree_laws::{Call, Reply};
 
 // A node that there is.
 #[derive(Clone, Copy)]
@@ -64,31 +66,35 @@ impl Model for Plot {
 
 // The story without calls, from a tree that is the root alone with these calls made, whose first new node has
 // this number.
-pub(crate) fn begun(alloc: Global, first: u32, calls: &[Asked]) -> Result<Plot, Fail>
+pub(crate) fn begun(rt: &impl Abort, alloc: Global, first: u32, calls: &[Asked]) -> Plot
     requires first { 1 ≤ first }
     requires low { first ≤ 16384 }
 {
     let mut nodes = Vec::new(alloc);
-    nodes.push(Known {
-        node: 0,
-        is_directory: true,
-    })?;
-    let tree = first_tree(alloc, first, calls, &mut nodes)?;
+    got(
+        rt,
+        nodes.push(Known {
+            node: 0,
+            is_directory: true,
+        }),
+    );
+    let tree = got(rt, first_tree(rt, alloc, first, calls, &mut nodes));
     let story = Story::new(alloc, tree);
-    Ok(Plot {
+    Plot {
         alloc,
         story,
         nodes,
-    })
+    }
 }
 
 // The root alone with these calls made, whose nodes join the others.
 fn first_tree(
+    rt: &impl Abort,
     alloc: Global,
     first: u32,
     calls: &[Asked],
     nodes: &mut Vec<Known>,
-) -> Result<Tree, Fail>
+) -> Result<Tree, NoMemory>
     requires first { 1 ≤ first }
     requires low { first ≤ 16384 }
     ensures sound { IfOk result (λ tree. IsSound tree) }
@@ -96,40 +102,41 @@ fn first_tree(
 {
     let mut tree = Tree::empty(alloc, first, 8, 2)?;
     for asked in calls {
-        let call = call_of(alloc, asked)?;
+        let call = call_of(rt, alloc, asked);
         let reply = tree.step(CoreId(0), &call)?;
-        note(&reply, nodes)?;
+        note(rt, &reply, nodes);
     }
     Ok(tree)
 }
 
 // Adds the node that a call has made, where it has made one. No call is a look.
-fn note(reply: &Reply, nodes: &mut Vec<Known>) -> Result<(), Fail> {
+fn note(rt: &impl Abort, reply: &Reply, nodes: &mut Vec<Known>) {
     if let Reply::Node { node, kind } = reply {
-        nodes.push(Known {
-            node: node.0,
-            is_directory: *kind == Kind::Directory,
-        })?;
+        got(
+            rt,
+            nodes.push(Known {
+                node: node.0,
+                is_directory: *kind == Kind::Directory,
+            }),
+        );
     }
-    Ok(())
 }
 
 impl Plot {
     // Makes a call, whatever it is answered.
-    pub(crate) fn make(&mut self, call: &Call) -> Result<(), Fail>
+    pub(crate) fn make(&mut self, rt: &impl Abort, call: &Call)
         requires { IsReadable call.now }
     {
-        let reply = self.story.add(CoreId(0), call)?;
-        note(&reply, &mut self.nodes)
+        let reply = got(rt, self.story.add(CoreId(0), call));
+        note(rt, &reply, &mut self.nodes);
     }
 
     // Makes each of these calls.
-    pub(crate) fn make_all(&mut self, calls: &[Asked]) -> Result<(), Fail> {
+    pub(crate) fn make_all(&mut self, rt: &impl Abort, calls: &[Asked]) {
         for asked in calls {
-            let call = call_of(self.alloc, asked)?;
-            self.make(&call)?;
+            let call = call_of(rt, self.alloc, asked);
+            self.make(rt, &call);
         }
-        Ok(())
     }
 
     // The highest number of a node.
@@ -142,39 +149,41 @@ impl Plot {
     }
 
     // The first rule that a cut breaks.
-    pub(crate) fn broken_rule(&self, cut: &Cut) -> Result<Option<Rule>, Fail> {
-        Ok(self.story.broken_rule(cut)?)
+    pub(crate) fn broken_rule(&self, rt: &impl Abort, cut: &Cut) -> Option<Rule> {
+        got(rt, self.story.broken_rule(cut))
     }
 
     // The rows of all nodes at a cut, in the order in which the nodes were made.
-    pub(crate) fn rows_at(&self, cut: &Cut) -> Result<Vec<Row>, Fail> {
+    pub(crate) fn rows_at(&self, rt: &impl Abort, cut: &Cut) -> Vec<Row> {
         let mut rows = Vec::new(self.alloc);
         for known in &self.nodes {
-            self.add_rows(cut, known.node, &mut rows)?;
+            self.add_rows(rt, cut, known.node, &mut rows);
         }
-        Ok(rows)
+        rows
     }
 
     // The rows of all nodes behind all calls.
-    pub(crate) fn last_rows(&self) -> Result<Vec<Row>, Fail> {
+    pub(crate) fn last_rows(&self, rt: &impl Abort) -> Vec<Row> {
         let mut cut = Cut::new(self.alloc);
         for known in &self.nodes {
-            cut.raise(known.node, u64::MAX)?;
+            got(rt, cut.raise(known.node, u64::MAX));
         }
-        self.rows_at(&cut)
+        self.rows_at(rt, &cut)
     }
 
     // Adds the rows of a node at a cut.
-    fn add_rows(&self, cut: &Cut, node: u32, rows: &mut Vec<Row>) -> Result<(), Fail> {
-        let names = self.story.rows_at(cut, NodeId(node))?;
+    fn add_rows(&self, rt: &impl Abort, cut: &Cut, node: u32, rows: &mut Vec<Row>) {
+        let names = got(rt, self.story.rows_at(cut, NodeId(node)));
         for row in names.rows() {
-            rows.push(Row {
-                directory: node,
-                name: row.name.bytes().first().copied().unwrap_or(0),
-                child: row.child.0,
-            })?;
+            got(
+                rt,
+                rows.push(Row {
+                    directory: node,
+                    name: row.name.bytes().first().copied().unwrap_or(0),
+                    child: row.child.0,
+                }),
+            );
         }
-        Ok(())
     }
 
     // The first fault of rows over the story's nodes, or None where they are a sound tree.
@@ -274,10 +283,10 @@ fn is_lost(rows: &[Row], directory: u32) -> bool {
 }
 
 // The cut with these stamps.
-pub(crate) fn cut_at(alloc: Global, stamps: &[(u32, u64)]) -> Result<Cut, Fail> {
+pub(crate) fn cut_at(rt: &impl Abort, alloc: Global, stamps: &[(u32, u64)]) -> Cut {
     let mut cut = Cut::new(alloc);
     for (node, stamp) in stamps {
-        cut.raise(*node, *stamp)?;
+        got(rt, cut.raise(*node, *stamp));
     }
-    Ok(cut)
+    cut
 }

@@ -1,15 +1,14 @@
 // A sweep over many small histories and cuts: each cut that breaks no rule has rows that are a sound tree.
-ghost use Rattle.std.specs.Prelude.{IfOk};
 ghost use Rattle.tree_laws.specs.Step.{IsReadable};
 
 use crate::calls::Asked::{self, Mkdir};
+use crate::helpers::{got, holds, holds_at};
 use crate::shapes::{Plot, Row, begun};
 use flush_core::{Cut, Rule};
 use sfs_base::{Kind, Name, NodeId};
-use sfs_tree::Call;
 use std::alloc::Global;
 use std::process::Abort;
-use std::test::Fail;
+use tree_laws::Call;
 
 // How many histories there are, how many calls each has, of which most are refused, and how many cuts of it
 // are tried.
@@ -50,31 +49,31 @@ impl Draw {
     }
 
     // A call in a tree with these rows.
-    pub(crate) fn call(&mut self, alloc: Global, rows: &[Row]) -> Result<Call, Fail>
-        ensures { IfOk result (λ call. IsReadable call) }
+    pub(crate) fn call(&mut self, rt: &impl Abort, alloc: Global, rows: &[Row]) -> Call
+        ensures { IsReadable result }
     {
         let row = self.row(rows);
         let mut new = self.row(rows);
         new.directory = new.child;
         new.name = self.name();
         match self.up_to(15) {
-            0..=1 => made(alloc, new, Kind::Directory),
-            2 => made(alloc, new, Kind::File),
-            3 => linked(alloc, self.row(rows).child, new),
-            4 => unlinked(alloc, row),
-            5..=6 => removed(alloc, row),
-            _ => renamed(alloc, row, new),
+            0..=1 => made(rt, alloc, new, Kind::Directory),
+            2 => made(rt, alloc, new, Kind::File),
+            3 => linked(rt, alloc, self.row(rows).child, new),
+            4 => unlinked(rt, alloc, row),
+            5..=6 => removed(rt, alloc, row),
+            _ => renamed(rt, alloc, row, new),
         }
     }
 
     // A cut of nodes up to this one, with stamps up to the count of calls.
-    fn cut(&mut self, alloc: Global, last: u32) -> Result<Cut, Fail> {
+    fn cut(&mut self, rt: &impl Abort, alloc: Global, last: u32) -> Cut {
         let mut cut = Cut::new(alloc);
         for node in 0..last {
-            cut.raise(node, self.up_to(CALLS))?;
+            got(rt, cut.raise(node, self.up_to(CALLS)));
         }
-        cut.raise(last, self.up_to(CALLS))?;
-        Ok(cut)
+        got(rt, cut.raise(last, self.up_to(CALLS)));
+        cut
     }
 }
 
@@ -112,51 +111,51 @@ impl Met {
 }
 
 // The directory and the name of a row.
-fn place_of(alloc: Global, row: Row) -> Result<(NodeId, Name), Fail> {
-    let name = Name::new(alloc, [row.name].as_slice())?;
-    Ok((NodeId(row.directory), name))
+fn place_of(rt: &impl Abort, alloc: Global, row: Row) -> (NodeId, Name) {
+    let name = got(rt, Name::new(alloc, [row.name].as_slice()));
+    (NodeId(row.directory), name)
 }
 
-fn made(alloc: Global, row: Row, kind: Kind) -> Result<Call, Fail>
-    ensures { IfOk result (λ call. IsReadable call) }
+fn made(rt: &impl Abort, alloc: Global, row: Row, kind: Kind) -> Call
+    ensures { IsReadable result }
 {
-    let (dir, name) = place_of(alloc, row)?;
-    Ok(Call::Make { dir, name, kind })
+    let (dir, name) = place_of(rt, alloc, row);
+    Call::Make { dir, name, kind }
 }
 
-fn linked(alloc: Global, file: u32, row: Row) -> Result<Call, Fail>
-    ensures { IfOk result (λ call. IsReadable call) }
+fn linked(rt: &impl Abort, alloc: Global, file: u32, row: Row) -> Call
+    ensures { IsReadable result }
 {
-    let (dir, name) = place_of(alloc, row)?;
+    let (dir, name) = place_of(rt, alloc, row);
     let file = NodeId(file);
-    Ok(Call::Link { file, dir, name })
+    Call::Link { file, dir, name }
 }
 
-fn unlinked(alloc: Global, row: Row) -> Result<Call, Fail>
-    ensures { IfOk result (λ call. IsReadable call) }
+fn unlinked(rt: &impl Abort, alloc: Global, row: Row) -> Call
+    ensures { IsReadable result }
 {
-    let (dir, name) = place_of(alloc, row)?;
-    Ok(Call::Unlink { dir, name })
+    let (dir, name) = place_of(rt, alloc, row);
+    Call::Unlink { dir, name }
 }
 
-fn removed(alloc: Global, row: Row) -> Result<Call, Fail>
-    ensures { IfOk result (λ call. IsReadable call) }
+fn removed(rt: &impl Abort, alloc: Global, row: Row) -> Call
+    ensures { IsReadable result }
 {
-    let (dir, name) = place_of(alloc, row)?;
-    Ok(Call::Rmdir { dir, name })
+    let (dir, name) = place_of(rt, alloc, row);
+    Call::Rmdir { dir, name }
 }
 
-fn renamed(alloc: Global, row: Row, new: Row) -> Result<Call, Fail>
-    ensures { IfOk result (λ call. IsReadable call) }
+fn renamed(rt: &impl Abort, alloc: Global, row: Row, new: Row) -> Call
+    ensures { IsReadable result }
 {
-    let (dir, name) = place_of(alloc, row)?;
-    let (to_dir, to_name) = place_of(alloc, new)?;
-    Ok(Call::Rename {
+    let (dir, name) = place_of(rt, alloc, row);
+    let (to_dir, to_name) = place_of(rt, alloc, new);
+    Call::Rename {
         dir,
         name,
         to_dir,
         to_name,
-    })
+    }
 }
 
 // The calls that make the first trees: none, and directories in one another and beside.
@@ -165,63 +164,54 @@ static NONE: [Asked; 0] = [];
 static FOUR: [Asked; 4] = [Mkdir(0, "a"), Mkdir(0, "b"), Mkdir(1, "a"), Mkdir(2, "a")];
 
 // A history that is drawn, from one of the first trees.
-fn drawn(alloc: Global, draw: &mut Draw) -> Result<Plot, Fail> {
+fn drawn(rt: &impl Abort, alloc: Global, draw: &mut Draw) -> Plot {
     let mut plot = if draw.up_to(1) == 0 {
-        begun(alloc, 1, &NONE)?
+        begun(rt, alloc, 1, &NONE)
     } else {
-        begun(alloc, 1, &FOUR)?
+        begun(rt, alloc, 1, &FOUR)
     };
     for _ in 0..CALLS {
-        let rows = plot.last_rows()?;
-        let call = draw.call(alloc, &rows)?;
-        plot.make(&call)?;
+        let rows = plot.last_rows(rt);
+        let call = draw.call(rt, alloc, &rows);
+        plot.make(rt, &call);
     }
-    Ok(plot)
+    plot
 }
 
 // Tries cuts of a history. A closed one has a sound tree.
-fn try_cuts(
-    rt: &impl Abort,
-    alloc: Global,
-    draw: &mut Draw,
-    plot: &Plot,
-    met: &mut Met,
-) -> Result<(), Fail> {
+fn try_cuts(rt: &impl Abort, alloc: Global, draw: &mut Draw, plot: &Plot, met: &mut Met) {
     for _ in 0..CUTS {
-        let cut = draw.cut(alloc, plot.last_node())?;
-        let broken = plot.broken_rule(&cut)?;
-        let is_sound = plot.fault_of(&plot.rows_at(&cut)?).is_none();
-        assert!(rt;
+        let cut = draw.cut(rt, alloc, plot.last_node());
+        let broken = plot.broken_rule(rt, &cut);
+        let is_sound = plot.fault_of(&plot.rows_at(rt, &cut)).is_none();
+        holds_at(
+            rt,
             broken.is_some() || is_sound,
-            "a closed cut without a sound tree"
+            "a closed cut without a sound tree",
         );
         if broken.is_none() || !is_sound {
             met.count(broken);
         }
     }
-    Ok(())
 }
 
 // Tries cuts of histories that are drawn, and counts them.
-fn swept(rt: &impl Abort, alloc: Global, histories: u64) -> Result<Met, Fail> {
+fn swept(rt: &impl Abort, alloc: Global, histories: u64) -> Met {
     let mut draw = Draw { state: 1 };
     let mut met = Met::new();
     for _ in 0..histories {
-        let plot = drawn(alloc, &mut draw)?;
-        try_cuts(rt, alloc, &mut draw, &plot, &mut met)?;
+        let plot = drawn(rt, alloc, &mut draw);
+        try_cuts(rt, alloc, &mut draw, &plot, &mut met);
     }
-    Ok(met)
+    met
 }
 
 #[test]
-fn each_closed_cut_of_a_sweep_has_a_sound_tree_and_others_lack_it(
-    rt: HostRuntime,
-) -> Result<(), Fail> {
-    let met = swept(&rt, rt.alloc(), HISTORIES)?;
-    assert!(rt; met.closed > 0);
-    assert!(rt; met.renames > 0);
-    assert!(rt; met.removals > 0);
-    assert!(rt; met.births > 0);
-    assert!(rt; met.ancestors > 0);
-    Ok(())
+fn each_closed_cut_of_a_sweep_has_a_sound_tree_and_others_lack_it(rt: HostRuntime) {
+    let met = swept(&rt, rt.alloc(), HISTORIES);
+    holds(&rt, met.closed > 0);
+    holds(&rt, met.renames > 0);
+    holds(&rt, met.removals > 0);
+    holds(&rt, met.births > 0);
+    holds(&rt, met.ancestors > 0);
 }

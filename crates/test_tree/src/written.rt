@@ -1,8 +1,8 @@
 // The text of a tree.
 use crate::calls::{Asked, call_of, root_alone};
+use crate::helpers::{got, holds_at};
 use std::alloc::Global;
 use std::process::Abort;
-use std::test::Fail;
 
 // A worked tree: calls of core 0, which make nodes from 64 on, and the text of the tree after them.
 struct Worked {
@@ -68,21 +68,19 @@ const TREES: [Worked; 6] = [
     },
 ];
 
-fn assert_worked(rt: &impl Abort, alloc: Global, worked: &Worked) -> Result<(), Fail> {
-    let mut trial = root_alone(alloc, 64)?;
+fn assert_worked(rt: &impl Abort, alloc: Global, worked: &Worked) {
+    let mut trial = got(rt, root_alone(alloc, 64));
     for asked in worked.calls {
-        let call = call_of(alloc, asked)?;
-        trial.step(0, &call)?;
+        let call = call_of(rt, alloc, asked);
+        got(rt, trial.step(0, &call));
     }
-    let text = trial.tree_text()?;
-    assert!(rt; text.as_slice() == worked.due.as_bytes(), "{}", worked.due);
-    Ok(())
+    let text = trial.tree_text(rt);
+    holds_at(rt, text.as_slice() == worked.due.as_bytes(), worked.due);
 }
 
 #[test]
-fn a_tree_has_its_worked_text(rt: HostRuntime) -> Result<(), Fail> {
+fn a_tree_has_its_worked_text(rt: HostRuntime) {
     for worked in TREES.iter() {
-        assert_worked(&rt, rt.alloc(), worked)?;
+        assert_worked(&rt, rt.alloc(), worked);
     }
-    Ok(())
 }

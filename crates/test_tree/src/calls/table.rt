@@ -3,9 +3,9 @@ use super::Asked::{
     self, Create, Fsync, Link, List, Look, Mkdir, Read, Rename, Rmdir, Stat, Trunc, Unlink, Write,
 };
 use super::{assert_from_root, root_alone};
+use crate::helpers::got;
 use std::alloc::Global;
 use std::process::Abort;
-use std::test::Fail;
 
 // A root with a file `f` of number 64, a directory `d` of number 65 with a file `x` of number 66 in it, and an
 // empty directory `e` of number 67. No node has the number 99.
@@ -287,88 +287,88 @@ static LARGEST: [(Asked, &str); 9] = [
 ];
 
 // Asserts the text of each of these calls, in the small tree.
-fn assert_in_small(rt: &impl Abort, alloc: Global, cases: &[(Asked, &str)]) -> Result<(), Fail> {
-    let mut trial = root_alone(alloc, 8)?;
-    trial.assert_all(rt, &SMALL)?;
-    trial.assert_all(rt, cases)
+fn assert_in_small(rt: &impl Abort, alloc: Global, cases: &[(Asked, &str)]) {
+    let mut trial = got(rt, root_alone(alloc, 8));
+    trial.assert_all(rt, &SMALL);
+    trial.assert_all(rt, cases);
 }
 
 #[test]
-fn each_line_of_look(rt: HostRuntime) -> Result<(), Fail> {
-    assert_in_small(&rt, rt.alloc(), &LOOK)
+fn each_line_of_look(rt: HostRuntime) {
+    assert_in_small(&rt, rt.alloc(), &LOOK);
 }
 
 #[test]
-fn each_line_of_make(rt: HostRuntime) -> Result<(), Fail> {
-    assert_in_small(&rt, rt.alloc(), &MAKE)
+fn each_line_of_make(rt: HostRuntime) {
+    assert_in_small(&rt, rt.alloc(), &MAKE);
 }
 
 #[test]
-fn each_line_of_link(rt: HostRuntime) -> Result<(), Fail> {
-    assert_in_small(&rt, rt.alloc(), &LINK)
+fn each_line_of_link(rt: HostRuntime) {
+    assert_in_small(&rt, rt.alloc(), &LINK);
 }
 
 #[test]
-fn each_line_of_unlink(rt: HostRuntime) -> Result<(), Fail> {
-    assert_in_small(&rt, rt.alloc(), &UNLINK)
+fn each_line_of_unlink(rt: HostRuntime) {
+    assert_in_small(&rt, rt.alloc(), &UNLINK);
 }
 
 #[test]
-fn each_line_of_rmdir(rt: HostRuntime) -> Result<(), Fail> {
-    assert_in_small(&rt, rt.alloc(), &RMDIR)
+fn each_line_of_rmdir(rt: HostRuntime) {
+    assert_in_small(&rt, rt.alloc(), &RMDIR);
 }
 
 #[test]
-fn each_line_of_rename(rt: HostRuntime) -> Result<(), Fail> {
-    assert_in_small(&rt, rt.alloc(), &RENAME)
+fn each_line_of_rename(rt: HostRuntime) {
+    assert_in_small(&rt, rt.alloc(), &RENAME);
 }
 
 #[test]
-fn each_line_of_write_read_and_trunc(rt: HostRuntime) -> Result<(), Fail> {
-    assert_in_small(&rt, rt.alloc(), &BYTES)
+fn each_line_of_write_read_and_trunc(rt: HostRuntime) {
+    assert_in_small(&rt, rt.alloc(), &BYTES);
 }
 
 #[test]
-fn each_line_of_stat_list_and_fsync(rt: HostRuntime) -> Result<(), Fail> {
-    assert_in_small(&rt, rt.alloc(), &NODES)
+fn each_line_of_stat_list_and_fsync(rt: HostRuntime) {
+    assert_in_small(&rt, rt.alloc(), &NODES);
 }
 
 #[test]
-fn two_rows_name_one_file(rt: HostRuntime) -> Result<(), Fail> {
-    assert_from_root(&rt, rt.alloc(), 2048, &TWO_NAMES)
+fn two_rows_name_one_file(rt: HostRuntime) {
+    assert_from_root(&rt, rt.alloc(), 2048, &TWO_NAMES);
 }
 
 #[test]
-fn a_directory_does_not_move_below_itself(rt: HostRuntime) -> Result<(), Fail> {
-    assert_from_root(&rt, rt.alloc(), 2048, &BELOW)
+fn a_directory_does_not_move_below_itself(rt: HostRuntime) {
+    assert_from_root(&rt, rt.alloc(), 2048, &BELOW);
 }
 
 #[test]
-fn a_directory_takes_the_place_of_an_empty_one(rt: HostRuntime) -> Result<(), Fail> {
-    assert_from_root(&rt, rt.alloc(), 2048, &ONTO_EMPTY)
+fn a_directory_takes_the_place_of_an_empty_one(rt: HostRuntime) {
+    assert_from_root(&rt, rt.alloc(), 2048, &ONTO_EMPTY);
 }
 
 #[test]
-fn each_kind_refuses_the_other(rt: HostRuntime) -> Result<(), Fail> {
-    assert_from_root(&rt, rt.alloc(), 2048, &KINDS)
+fn each_kind_refuses_the_other(rt: HostRuntime) {
+    assert_from_root(&rt, rt.alloc(), 2048, &KINDS);
 }
 
 #[test]
-fn a_file_takes_the_place_of_another(rt: HostRuntime) -> Result<(), Fail> {
-    assert_from_root(&rt, rt.alloc(), 2048, &ONTO_FILE)
+fn a_file_takes_the_place_of_another(rt: HostRuntime) {
+    assert_from_root(&rt, rt.alloc(), 2048, &ONTO_FILE);
 }
 
 #[test]
-fn zeros_lie_in_a_gap_and_behind_a_cut(rt: HostRuntime) -> Result<(), Fail> {
-    assert_from_root(&rt, rt.alloc(), 2048, &GAPS)
+fn zeros_lie_in_a_gap_and_behind_a_cut(rt: HostRuntime) {
+    assert_from_root(&rt, rt.alloc(), 2048, &GAPS);
 }
 
 #[test]
-fn bytes_are_put_over_those_that_are_there(rt: HostRuntime) -> Result<(), Fail> {
-    assert_from_root(&rt, rt.alloc(), 2048, &OVER)
+fn bytes_are_put_over_those_that_are_there(rt: HostRuntime) {
+    assert_from_root(&rt, rt.alloc(), 2048, &OVER);
 }
 
 #[test]
-fn a_file_has_at_most_67551232_bytes(rt: HostRuntime) -> Result<(), Fail> {
-    assert_from_root(&rt, rt.alloc(), 2048, &LARGEST)
+fn a_file_has_at_most_67551232_bytes(rt: HostRuntime) {
+    assert_from_root(&rt, rt.alloc(), 2048, &LARGEST);
 }

@@ -2,16 +2,17 @@
 ghost use Rattle.space_map.specs.Space.{AllGranted};
 
 use super::{NODES, Watched};
-use disk_change::{Built, DiskChange, OldDisk, OldNode, build, need};
+use crate::helpers::{got, holds, same};
+use disk_change::{Built, DiskChange, build, need};
+use disk_nodes::{OldDisk, OldEntry, OldNode, take_old};
+use flush_plan::{concerned, plan};
 use fmt_inode::{Inode, Tables};
 use fmt_slots::SlotList;
-use flush_plan::{concerned, plan};
 use mem_files::FileBytes;
 use sfs_base::{Kind, NodeId, NodeList, Stamp};
 use space_map::{Grant, Need, SpaceMap};
 use std::alloc::Global;
 use std::process::Abort;
-use std::test::Fail;
 
 // What the disk has of each node, what is free on it, and what the last commit needed.
 #[derive(Drop)]
@@ -22,7 +23,7 @@ pub(super) struct OnDisk {
 }
 
 // A disk of 4,096 blocks and 512 inodes whose data begins at block 29, with the root alone.
-pub(super) fn made(alloc: Global) -> Result<OnDisk, Fail> {
+pub(super) fn made(rt: &impl Abort, alloc: Global) -> OnDisk {
     let mut nodes = OldDisk::new(alloc);
     let root = OldNode {
         inode: 0,
@@ -36,33 +37,31 @@ pub(super) fn made(alloc: Global) -> Result<OnDisk, Fail> {
         tables: Tables::new(alloc),
         slots: SlotList::new(alloc),
     };
-    put(&mut nodes, NodeId(0), root)?;
-    Ok(OnDisk {
+    put(rt, &mut nodes, NodeId(0), root);
+    OnDisk {
         nodes,
-        space: SpaceMap::new(alloc, 29, 4_096, 512, &[], &[0])?,
+        space: got(rt, SpaceMap::new(alloc, 29, 4_096, 512, &[], &[0])),
         needed: Need {
             inodes: 0,
             blocks: 0,
         },
-    })
+    }
 }
 
 // Puts what the disk has of a node among the others, where it is not there.
-fn put(nodes: &mut OldDisk, node: NodeId, one: OldNode) -> Result<(), Fail> {
-    if nodes.find(node).is_none() {
-        nodes.add(node, one.inode, one.meta, one.tables, one.slots)?;
+fn put(rt: &impl Abort, nodes: &mut OldDisk, node: NodeId, one: OldNode) {
+    if nodes.find(node.0).is_none() {
+        got(rt, nodes.add(OldEntry { node, old: one }));
     }
-    Ok(())
 }
 
 // Moves what the disk has of some nodes to others.
-fn move_nodes(from: &mut OldDisk, to: &mut OldDisk, nodes: &NodeList) -> Result<(), Fail> {
+fn move_nodes(rt: &impl Abort, from: &mut OldDisk, to: &mut OldDisk, nodes: &NodeList) {
     for node in nodes.as_slice() {
-        if let Some(one) = from.take(*node) {
-            put(to, *node, one)?;
+        if let Some(one) = take_old(from, *node) {
+            put(rt, to, *node, one);
         }
     }
-    Ok(())
 }
 
 // A need that is met.
@@ -77,23 +76,18 @@ fn reserved(rt: &impl Abort, space: &mut SpaceMap, due: Need) -> Grant
 }
 
 // Builds a change with a grant of what it needs, which is then no more free.
-fn granted(
-    rt: &impl Abort,
-    alloc: Global,
-    change: DiskChange,
-    space: &mut SpaceMap,
-) -> Result<Built, Fail> {
+fn granted(rt: &impl Abort, alloc: Global, change: DiskChange, space: &mut SpaceMap) -> Built {
     let grant = reserved(rt, space, need(&change));
     match build(alloc, change, &grant) {
         Ok(built) => {
             let blocks = built.tx.freed_blocks.as_slice();
             let inodes = built.tx.freed_inodes.as_slice();
             space.free_after(grant, blocks, inodes);
-            Ok(built)
+            built
         }
         Err(fault) => {
             space.give_back(grant);
-            Err(fault.into())
+            panic!(rt; "refused")
         }
     }
 }
@@ -101,44 +95,41 @@ fn granted(
 impl OnDisk {
     // Whether the disk has an inode of a node.
     pub(super) fn has(&self, node: NodeId) -> bool {
-        self.nodes.find(node).is_some()
+        self.nodes.find(node.0).is_some()
     }
 }
 
 impl Watched {
     // Commits the plan of an fsync by what is not flushed, and compares its members with others.
-    pub(super) fn commit_plan(
-        &mut self,
-        rt: &impl Abort,
-        node: u32,
-        members: &[u32],
-    ) -> Result<(), Fail> {
+    pub(super) fn commit_plan(&mut self, rt: &impl Abort, node: u32, members: &[u32]) {
         let start = NodeId(node);
         let below = Stamp(self.stamp);
-        let logs = self.gathered(false)?;
-        assert!(rt; logs.is_orderly());
-        let concern = concerned(self.alloc, start, below, &logs)?;
-        let nodes = concern.nodes.copy()?;
+        let logs = self.gathered(rt, false);
+        holds(rt, logs.is_orderly());
+        let concern = got(rt, concerned(self.alloc, start, below, &logs));
+        let nodes = got(rt, concern.nodes.copy());
         let mut old = OldDisk::new(self.alloc);
-        move_nodes(&mut self.disk.nodes, &mut old, &nodes)?;
+        move_nodes(rt, &mut self.disk.nodes, &mut old, &nodes);
         let bytes = FileBytes::new(self.alloc);
         let file = match self.kind(start) {
             Kind::File => Some(&bytes),
             Kind::Directory => None,
         };
-        let plan = plan(self.alloc, start, below, &logs, concern, old, file)?;
-        assert_eq!(rt; plan.members.len(), members.len() as u64);
+        let plan = got(
+            rt,
+            plan(self.alloc, start, below, &logs, concern, old, file),
+        );
+        same(rt, &plan.members.len(), &(members.len() as u64));
         self.disk.needed = need(&plan.change);
-        let mut built = granted(rt, self.alloc, plan.change, &mut self.disk.space)?;
-        move_nodes(&mut built.after, &mut self.disk.nodes, &nodes)
+        let mut built = granted(rt, self.alloc, plan.change, &mut self.disk.space);
+        move_nodes(rt, &mut built.after, &mut self.disk.nodes, &nodes);
     }
 
     // The disk has an inode of exactly the nodes that have one by the machine.
-    pub(super) fn same_inodes(&self, rt: &impl Abort) -> Result<(), Fail> {
+    pub(super) fn same_inodes(&self, rt: &impl Abort) {
         for node in 0..NODES {
             let node = NodeId(node);
-            assert_eq!(rt; self.disk.has(node), self.run.state.has_inode(node));
+            same(rt, &self.disk.has(node), &self.run.state.has_inode(node));
         }
-        Ok(())
     }
 }

@@ -2,9 +2,9 @@
 use super::{Watched, begun};
 use crate::calls::Asked::{self, Create, Link, Mkdir, Rename, Unlink, Write};
 use crate::calls::call_of;
+use crate::helpers::{holds, same};
 use std::alloc::Global;
 use std::process::Abort;
-use std::test::Fail;
 
 // A call, or an fsync of a node with its members and with how many inodes and blocks it needs.
 enum Step {
@@ -16,34 +16,32 @@ use Step::{Call, Fsync};
 
 impl Watched {
     // Makes a call, or an fsync whose members it compares.
-    fn take(&mut self, rt: &impl Abort, step: &Step) -> Result<(), Fail> {
+    fn take(&mut self, rt: &impl Abort, step: &Step) {
         match step {
             Step::Call(asked) => {
-                let call = call_of(self.alloc, asked)?;
+                let call = call_of(rt, self.alloc, asked);
                 self.make(rt, &call)
             }
             Step::Fsync(node, due, inodes, blocks) => {
-                let members = self.compare(rt, *node)?;
-                assert!(rt; members.as_slice() == *due);
-                assert_eq!(rt; self.disk.needed.inodes, *inodes);
-                assert_eq!(rt; self.disk.needed.blocks, *blocks);
-                Ok(())
+                let members = self.compare(rt, *node);
+                holds(rt, members.as_slice() == *due);
+                same(rt, &self.disk.needed.inodes, inodes);
+                same(rt, &self.disk.needed.blocks, blocks);
             }
         }
     }
 
     // Takes steps one after the other.
-    fn run(&mut self, rt: &impl Abort, steps: &[Step]) -> Result<(), Fail> {
+    fn run(&mut self, rt: &impl Abort, steps: &[Step]) {
         for step in steps {
-            self.take(rt, step)?;
+            self.take(rt, step);
         }
-        Ok(())
     }
 }
 
-fn run_anew(rt: &impl Abort, alloc: Global, steps: &[Step]) -> Result<(), Fail> {
-    let mut watched = begun(alloc)?;
-    watched.run(rt, steps)
+fn run_anew(rt: &impl Abort, alloc: Global, steps: &[Step]) {
+    let mut watched = begun(rt, alloc);
+    watched.run(rt, steps);
 }
 
 // What came and went between two fsyncs.
@@ -104,11 +102,11 @@ static MOVED: [Step; 13] = [
 ];
 
 #[test]
-fn the_members_of_worked_fsyncs_are_those_of_the_machine(rt: HostRuntime) -> Result<(), Fail> {
+fn the_members_of_worked_fsyncs_are_those_of_the_machine(rt: HostRuntime) {
     let alloc = rt.alloc();
-    run_anew(&rt, alloc, &ABSORBED)?;
-    run_anew(&rt, alloc, &NAMED_TWICE)?;
-    run_anew(&rt, alloc, &BIRTHS)?;
-    run_anew(&rt, alloc, &BOTH_SIDES)?;
-    run_anew(&rt, alloc, &MOVED)
+    run_anew(&rt, alloc, &ABSORBED);
+    run_anew(&rt, alloc, &NAMED_TWICE);
+    run_anew(&rt, alloc, &BIRTHS);
+    run_anew(&rt, alloc, &BOTH_SIDES);
+    run_anew(&rt, alloc, &MOVED);
 }

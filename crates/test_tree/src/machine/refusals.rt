@@ -2,7 +2,6 @@
 use super::{Due, Given, Run, Told, begun};
 use crate::calls::Asked::{Fsync, Mkdir, Rmdir};
 use std::process::Abort;
-use std::test::Fail;
 
 // Each reason to refuse a call, an opening or an end, and then the event as it is right.
 static CALLS: [(Told, Due); 15] = [
@@ -38,8 +37,8 @@ static CALLS: [(Told, Due); 15] = [
     (Told::Durable(1), Due::NotFlying(1)),
 ];
 
-fn tell_calls(rt: &impl Abort, run: &mut Run) -> Result<(), Fail> {
-    run.tell(rt, &CALLS)
+fn tell_calls(rt: &impl Abort, run: &mut Run) {
+    run.tell(rt, &CALLS);
 }
 
 // 3 has its inode now. A commit of it and of its new children 4 and 11 flies; one of a child would flush 3 too, where it was made.
@@ -64,8 +63,8 @@ static COMMITS: [(Told, Due); 12] = [
     (Told::Opened(2), Due::Taken),
 ];
 
-fn tell_commits(rt: &impl Abort, run: &mut Run) -> Result<(), Fail> {
-    run.tell(rt, &COMMITS)
+fn tell_commits(rt: &impl Abort, run: &mut Run) {
+    run.tell(rt, &COMMITS);
 }
 
 // A commit fails, and then the run ends.
@@ -86,8 +85,8 @@ static ENDS: [(Told, Due); 14] = [
     (Told::Crash(&[]), Due::Crashed),
 ];
 
-fn tell_ends(rt: &impl Abort, run: &mut Run) -> Result<(), Fail> {
-    run.tell(rt, &ENDS)
+fn tell_ends(rt: &impl Abort, run: &mut Run) {
+    run.tell(rt, &ENDS);
 }
 
 // The cut of 3 is that of the commit which the crash kept, and the row b of 11 stands at it.
@@ -104,18 +103,15 @@ fn assert_ends(rt: &impl Abort, run: &Run) {
 }
 
 // Tells all events, one after another.
-fn tell_all(rt: &impl Abort, run: &mut Run) -> Result<(), Fail> {
-    tell_calls(rt, run)?;
-    tell_commits(rt, run)?;
-    tell_ends(rt, run)
+fn tell_all(rt: &impl Abort, run: &mut Run) {
+    tell_calls(rt, run);
+    tell_commits(rt, run);
+    tell_ends(rt, run);
 }
 
 #[test]
-fn each_event_is_refused_for_its_first_reason_and_taken_when_it_is_right(
-    rt: HostRuntime,
-) -> Result<(), Fail> {
-    let mut run = begun(rt.alloc())?;
-    tell_all(&rt, &mut run)?;
+fn each_event_is_refused_for_its_first_reason_and_taken_when_it_is_right(rt: HostRuntime) {
+    let mut run = begun(&rt, rt.alloc());
+    tell_all(&rt, &mut run);
     assert_ends(&rt, &run);
-    Ok(())
 }

@@ -10,4 +10,4 @@ loop-asked-init c = subst (λ (t : TreeState). IsTrial t) (sym c.in_ok-tree.ensu
 pub loop-asked-preserved : goal.loop-asked-preserved
 loop-asked-preserved c =
     subst (λ (t : TreeState). IsTrial t) (sym c.in_ok-reply.ensures.tree)
-    (after_call c.loop-asked.tree 0 c.in_ok-call.call c.loop-asked.invariant (omega arith))
+    (after_call c.loop-asked.tree 0 c.call_of.result c.loop-asked.invariant (omega arith))

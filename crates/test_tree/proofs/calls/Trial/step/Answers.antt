@@ -4,8 +4,8 @@ use Rattle.tree_laws.specs.Verdict.{tree_after_call}
 use Rattle.test_tree.proofs.Trials.{IsTrial, after_call}
 use Rattle.test_tree.proofs.calls.Trial.step.Goals as goal
 
-pub invariant_of-self-2 : goal.invariant_of-self-2
-invariant_of-self-2 c =
+pub invariant_of-self : goal.invariant_of-self
+invariant_of-self c =
     let old = c.self.inside.tree in
     let new = c.step.new.self in
     elim c.step.result as (λ r. OnOk r (new ≡ tree_after_call old c.args.core c.args.call.now) → OnErr r (new ≡ old) → IsTrial new) [

@@ -1,0 +1,160 @@
+// How many device calls a run makes besides those of its mount. A commit that writes b blocks and r inode records makes b + r + 9:
+// besides these the numbers, the records and the head of its journal slot, a sync, the gate, a sync, and after the records in
+// the table a sync, the gate, a sync. An fsync with nothing to write makes none.
+use crate::bench::{SMALL, copy_of, image, run_script};
+use crate::helpers::{got, holds_at, same};
+use sfs_dev::{Act, Disk, Memory};
+use std::alloc::Global;
+use std::process::Abort;
+use std::sync::Wait;
+use std::thread::Threads;
+use tree_laws::History;
+
+// Scripts with the calls of each of their commits, on the image with few inodes.
+static FIRST_RUNS: [(&str, &[u64]); 11] = [
+    ("", &[]),
+    ("0 mkdir /a\n", &[]),
+    ("0 fsync /\n", &[]),
+    // The root's block; the records of the root and of the new node.
+    ("0 create /a\n0 fsync /\n", &[12]),
+    ("0 mkdir /a\n0 fsync /\n0 fsync /\n0 fsync /a\n", &[12]),
+    // Besides, a block of the file; then that block and its record alone.
+    ("0 create /f\n0 write /f 0 61\n0 fsync /f\n", &[13]),
+    (
+        "0 create /f\n0 write /f 0 61\n0 fsync /f\n0 fsync /\n0 write /f 0 62\n0 fsync /f\n",
+        &[13, 11],
+    ),
+    // A file that was made and removed in between.
+    (
+        "0 mkdir /d\n0 fsync /\n0 create /d/a\n0 unlink /d/a\n0 fsync /d\n",
+        &[12],
+    ),
+    // The bytes are there, and the name comes: two directories, and the file's links.
+    (
+        "0 mkdir /p\n0 create /p/f\n0 fsync /p\n0 link /p/f /g\n0 fsync /\n",
+        // both blocks; root, p and f
+        &[14, 12],
+    ),
+    // The last row goes: no block, and the records of the directory and of the file.
+    (
+        "0 mkdir /p\n0 create /p/f\n0 fsync /p\n0 unlink /p/f\n0 fsync /p\n",
+        &[14, 11],
+    ),
+    // A longer file of zeros: its record.
+    (
+        "0 create /f\n0 fsync /f\n0 trunc /f 100000\n0 fsync /f\n",
+        &[12, 10],
+    ),
+];
+
+// The number of device calls at each acknowledgement.
+fn acknowledged(rt: &impl Abort, alloc: Global, history: &History) -> Vec<u64> {
+    let mut moments = Vec::new(alloc);
+    let mut cursor = history.first();
+    for _ in 0..history.len() {
+        if let Some(entry) = history.next(&mut cursor)
+            && let Some(moment) = entry.ack
+        {
+            got(rt, moments.push(moment));
+        }
+    }
+    moments
+}
+
+// The device calls of each commit: those up to its fourth sync, from the end of the one before it on.
+fn calls_of_commits(rt: &impl Abort, alloc: Global, disk: &Memory, mount: u64) -> Vec<u64> {
+    let mut counts = Vec::new(alloc);
+    let mut before = mount;
+    let mut syncs = 0u32;
+    for call in disk.calls() {
+        if call.act == Act::Sync {
+            syncs = syncs.saturating_add(1);
+            if syncs % 4 == 0 {
+                got(rt, counts.push(call.moment.saturating_sub(before)));
+                before = call.moment;
+            }
+        }
+    }
+    // Nothing comes behind the last commit.
+    same(rt, &before, &disk.now());
+    counts
+}
+
+// How many device calls a mount of this disk makes.
+fn calls_of_mount<R: Threads + Wait + Sync + Abort>(rt: &R, alloc: Global, disk: &Memory) -> u64 {
+    let ran = run_script(rt, alloc, b"".as_slice(), copy_of(rt, alloc, disk));
+    ran.disk.now()
+}
+
+// Asserts the calls of each of these on a copy of this disk.
+fn assert_counts<R: Threads + Wait + Sync + Abort>(
+    rt: &R,
+    alloc: Global,
+    disk: &Memory,
+    cases: &[(&str, &[u64])],
+) {
+    let mount = calls_of_mount(rt, alloc, disk);
+    for (script, due) in cases {
+        let ran = run_script(rt, alloc, script.as_bytes(), copy_of(rt, alloc, disk));
+        let counts = calls_of_commits(rt, alloc, &ran.disk, mount);
+        holds_at(rt, counts.as_slice() == *due, script);
+    }
+}
+
+#[test]
+fn a_commit_makes_nine_calls_besides_its_blocks_and_records(rt: HostRuntime) {
+    let disk = image(&rt, rt.alloc(), SMALL);
+    assert_counts(&rt, rt.alloc(), &disk, &FIRST_RUNS);
+}
+
+// A directory `a` and a file `f` of one byte.
+static TWO_NODES: &str = "0 mkdir /a\n0 create /f\n0 write /f 0 61\n0 fsync /f\n";
+
+// Scripts on the disk that has these, with the calls of each of their commits.
+static SECOND_RUNS: [(&str, &[u64]); 5] = [
+    ("0 fsync /\n0 fsync /a\n0 fsync /f\n", &[]),
+    // What went and came back.
+    (
+        "0 rename /f /g\n0 rename /a /f\n0 rename /f /a\n0 rename /g /f\n0 fsync /\n",
+        &[],
+    ),
+    // Another name: the root's block and record.
+    ("0 rename /f /g\n0 fsync /\n", &[11]),
+    // Another directory of the same name: a block, the root, the new one, and the old one.
+    ("0 rmdir /a\n0 mkdir /a\n0 fsync /\n", &[13]),
+    // The same bytes once more: they were touched.
+    ("0 write /f 0 61\n0 fsync /f\n", &[11]),
+];
+
+#[test]
+fn a_second_run_writes_what_is_not_there_yet(rt: HostRuntime) {
+    let alloc = rt.alloc();
+    let ran = run_script(&rt, alloc, TWO_NODES.as_bytes(), image(&rt, alloc, SMALL));
+    let disk = copy_of(&rt, alloc, &ran.disk);
+    assert_counts(&rt, alloc, &disk, &SECOND_RUNS);
+}
+
+// An fsync with nothing to write, one that brings a directory, one with nothing again, one that brings another.
+static FOUR_FSYNCS: &str = "0 fsync /\n0 mkdir /a\n0 fsync /\n0 fsync /\n0 mkdir /b\n0 fsync /b\n";
+
+// Behind the mount: at once; after a block, three writes of the slot, a sync, the gate and a sync; at the end of that commit; and
+// the same again.
+static ACKNOWLEDGED: [u64; 4] = [0, 7, 12, 19];
+
+#[test]
+fn an_fsync_is_acknowledged_at_the_sync_behind_its_gate(rt: HostRuntime) {
+    let alloc = rt.alloc();
+    let image = image(&rt, alloc, SMALL);
+    let mount = calls_of_mount(&rt, alloc, &image);
+    let ran = run_script(&rt, alloc, FOUR_FSYNCS.as_bytes(), image);
+    let moments = acknowledged(&rt, alloc, &ran.history);
+    assert_behind(&rt, mount, &moments, &ACKNOWLEDGED);
+}
+
+// Asserts that the moments are these, counted from the end of the mount on.
+fn assert_behind(rt: &impl Abort, mount: u64, moments: &[u64], due: &[u64]) {
+    same(rt, &moments.len(), &due.len());
+    for (moment, due) in moments.iter().zip(due) {
+        same(rt, &moment.saturating_sub(mount), due);
+    }
+}

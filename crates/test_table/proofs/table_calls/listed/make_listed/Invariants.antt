@@ -1,0 +1,12 @@
+use Rattle.std.proofs.Common.{◌<◌, length}
+use Rattle.tree_laws.specs.Sound.{IsSound}
+use Rattle.stamp_table.specs.Table.{IsBetweenCalls, IsSameCore}
+use Rattle.test_table.proofs.table_calls.listed.make_listed.Given as goal
+
+abbrev pub invariant-loop-asked : goal.invariant-loop-asked
+invariant-loop-asked g l = record {
+  same : IsSameCore l.initial.core l.core;
+  between : IsBetweenCalls l.shared l.core;
+  sound : IsSound l.tree;
+  known : 0 < length l.tree.made;
+}

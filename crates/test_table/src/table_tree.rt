@@ -1,0 +1,296 @@
+// A small tree on a table: what the cells show is what the tree has.
+ghost use Rattle.std.specs.Prelude.{◌≡◌, ◌<◌, ℕ, All, length, slice_index_or};
+ghost use Rattle.stamp_table.specs.Table.{IsBetweenCalls, IsSameCore};
+ghost use Rattle.mem_values.specs.Places.{node_count};
+ghost use Rattle.mem_begin.specs.Beginning.{given_in};
+ghost use Rattle.begun_tables.specs.Begun.{IsBuiltTree};
+
+use crate::helpers::{got, holds};
+use begun_tables::{put_node, put_row, root_alone};
+use disk_nodes::{OldDisk, OldEntry, OldNode};
+use fmt_inode::{Inode, Tables};
+use fmt_slots::SlotList;
+use mem_begin::make;
+use mem_files::FileBytes;
+use mem_values::{Cell, CellId, FileCore, FileShared, Given, has_inode, hold_cells, value_of};
+use sfs_base::{Kind, Name, NoMemory, NodeId, bucket_of};
+use sfs_tree::Tree;
+use std::alloc::Global;
+use std::marker::Brand;
+use std::process::Abort;
+use std::sync::Wait;
+
+const ROOT: NodeId = NodeId(0);
+
+const BELOW: NodeId = NodeId(1);
+
+const FILE: NodeId = NodeId(2);
+
+// How many nodes there may be: those below the first new one, and two shares of 2.
+const NODES: u32 = 8;
+
+const CORES: u8 = 2;
+
+// How many places the table has.
+const PLACES: usize = 144;
+
+// What a cell shows: a row, with what it names and where its directory stands; or the file.
+#[derive(Drop)]
+enum Shown {
+    Row {
+        dir: NodeId,
+        name: Name,
+        child: NodeId,
+        kind: Kind,
+        stands: Option<NodeId>,
+    },
+    File {
+        links: u32,
+        bytes: Vec<u8>,
+    },
+}
+
+// A directory `d` in the root, and a file with the names `a` in the root and `b` in the directory.
+fn small_tree(rt: &impl Abort, alloc: Global) -> Tree
+    ensures built { IsBuiltTree result }
+    ensures nodes { node_count result ≡ NODES }
+    ensures cores { length result.made ≡ CORES }
+{
+    let mut tree = got(rt, root_alone(alloc, 4, 2, CORES));
+    holds(
+        rt,
+        got(
+            rt,
+            put_node(&mut tree, BELOW, Kind::Directory, Vec::new(alloc)),
+        ),
+    );
+    let bytes = got(rt, b"some bytes".as_slice().to_vec(alloc));
+    holds(rt, got(rt, put_node(&mut tree, FILE, Kind::File, bytes)));
+    let name = got(rt, Name::new(alloc, b"d".as_slice()));
+    holds(rt, got(rt, put_row(&mut tree, ROOT, name, BELOW)));
+    let name = got(rt, Name::new(alloc, b"a".as_slice()));
+    holds(rt, got(rt, put_row(&mut tree, ROOT, name, FILE)));
+    let name = got(rt, Name::new(alloc, b"b".as_slice()));
+    holds(rt, got(rt, put_row(&mut tree, BELOW, name, FILE)));
+    tree
+}
+
+// The file alone has an inode.
+fn file_alone(rt: &impl Abort, alloc: Global) -> OldDisk {
+    let mut disk = OldDisk::new(alloc);
+    holds(rt, disk.find(FILE.0).is_none());
+    let file = Inode {
+        kind: 1,
+        links: 2,
+        size: 10,
+        direct: [0; 108],
+        indirect: [0; 16],
+    };
+    let old = OldNode {
+        inode: 3,
+        meta: file,
+        tables: Tables::new(alloc),
+        slots: SlotList::new(alloc),
+    };
+    got(rt, disk.add(OldEntry { node: FILE, old }));
+    disk
+}
+
+// The cell that shows it.
+fn cell_of(shown: &Shown) -> CellId {
+    match shown {
+        Shown::Row { dir, name, .. } => CellId::Bucket {
+            node: *dir,
+            bucket: bucket_of(name),
+        },
+        Shown::File { .. } => CellId::File { node: FILE },
+    }
+}
+
+// Whether a value shows it.
+fn shows(cell: &Cell, shown: &Shown) -> bool {
+    match (cell, shown) {
+        (
+            Cell::Bucket { bucket },
+            Shown::Row {
+                dir: _,
+                name,
+                child,
+                kind,
+                stands,
+            },
+        ) => {
+            bucket.rows.get(name) == Some(*child)
+                && bucket.kind(name) == *kind
+                && bucket.stands == *stands
+        }
+        (Cell::File { file }, Shown::File { links, bytes }) => {
+            file.links == *links && has_bytes(&file.file, bytes)
+        }
+        _ => false,
+    }
+}
+
+// Whether a file has these bytes, which are at most 16, and no mark.
+fn has_bytes(file: &FileBytes, bytes: &[u8]) -> bool {
+    let mut read = [0u8; 16];
+    let count = file.read(0, read.as_mut_slice());
+    file.size() == bytes.len() as u64 && &read[..count] == bytes && file.last(0).is_none()
+}
+
+// Holds the cell that shows it, looks whether it does, and lets go.
+fn look<R: Wait, T: Given>(
+    rt: &R,
+    shared: &FileShared<T>,
+    core: &mut FileCore,
+    shown: &Shown,
+) -> bool
+    requires core { IsBetweenCalls shared.now core.old }
+    requires places { shared.now.table.slots ≡ PLACES }
+    ensures same { IsSameCore core.old core.new }
+    ensures between { IsBetweenCalls shared.now core.new }
+{
+    let cell = cell_of(shown);
+    if cell.place(NODES) >= PLACES || core.reserve(0, 1).is_err() {
+        return false;
+    }
+    hold_cells(rt, shared, core, NODES, &[cell]);
+    let found = shows(value_of(core, NODES, cell), shown);
+    core.let_go(shared, 0);
+    found
+}
+
+// Whether a core finds an inode of exactly the file.
+fn finds_inode<R: Wait, T: Given>(rt: &R, shared: &FileShared<T>, core: &mut FileCore) -> bool
+    requires core { IsBetweenCalls shared.now core.old }
+    requires places { shared.now.table.slots ≡ PLACES }
+    ensures same { IsSameCore core.old core.new }
+    ensures between { IsBetweenCalls shared.now core.new }
+{
+    for node in 0..NODES {
+        if core.reserve(0, 1).is_err() {
+            return false;
+        }
+        if has_inode(rt, shared, core, NODES, NodeId(node)) != (node == FILE.0) {
+            return false;
+        }
+    }
+    true
+}
+
+// Whether a core is shown all of it.
+fn is_shown<R: Wait, T: Given>(
+    rt: &R,
+    shared: &FileShared<T>,
+    core: &mut FileCore,
+    all: &[Shown],
+) -> bool
+    requires core { IsBetweenCalls shared.now core.old }
+    requires places { shared.now.table.slots ≡ PLACES }
+    ensures same { IsSameCore core.old core.new }
+    ensures between { IsBetweenCalls shared.now core.new }
+{
+    for shown in all {
+        if !look(rt, shared, core, shown) {
+            return false;
+        }
+    }
+    finds_inode(rt, shared, core)
+}
+
+// Whether each core is.
+fn are_all_shown<R: Wait, T: Given>(
+    rt: &R,
+    shared: &FileShared<T>,
+    cores: &mut [FileCore],
+    all: &[Shown],
+) -> bool
+    requires cores { All (IsBetweenCalls shared.now) cores.old }
+    requires places { shared.now.table.slots ≡ PLACES }
+    ensures count { length cores.new ≡ length cores.old }
+    ensures same { (place : ℕ) (d : _) → place < length cores.old → IsSameCore (slice_index_or cores.old place d) (slice_index_or cores.new place d)
+        × IsBetweenCalls shared.now (slice_index_or cores.new place d) }
+{
+    let mut found = true;
+    for core in cores.iter_mut() {
+        if !is_shown(rt, shared, core, all) {
+            found = false;
+        }
+    }
+    found
+}
+
+// Puts a tree on a table and ends it. Says whether each core was shown all of it, and the history is empty.
+fn begins_and_ends<T: Given, R: Wait>(
+    rt: &R,
+    alloc: Global,
+    tree: &Tree,
+    given: OldDisk,
+    all: &[Shown],
+) -> Result<bool, NoMemory>
+    requires built { IsBuiltTree tree.now }
+    requires nodes { node_count tree.now ≡ NODES }
+    requires cores { length tree.now.made ≡ CORES }
+    requires given { T.given ≡ given_in given.items }
+{
+    let (shared, mut cores) = make::<T>(alloc, tree, given, NODES, CORES)?;
+    let found = are_all_shown(rt, &shared, cores.as_mut_slice(), all);
+    let history = shared.close(cores);
+    Ok(found && history.is_empty())
+}
+
+// What the cells of the small tree show.
+fn small_cells(rt: &impl Abort, alloc: Global) -> Vec<Shown> {
+    let mut all = Vec::new(alloc);
+    got(
+        rt,
+        all.push(Shown::Row {
+            dir: ROOT,
+            name: got(rt, Name::new(alloc, b"d".as_slice())),
+            child: BELOW,
+            kind: Kind::Directory,
+            stands: None,
+        }),
+    );
+    got(
+        rt,
+        all.push(Shown::Row {
+            dir: ROOT,
+            name: got(rt, Name::new(alloc, b"a".as_slice())),
+            child: FILE,
+            kind: Kind::File,
+            stands: None,
+        }),
+    );
+    got(
+        rt,
+        all.push(Shown::Row {
+            dir: BELOW,
+            name: got(rt, Name::new(alloc, b"b".as_slice())),
+            child: FILE,
+            kind: Kind::File,
+            stands: Some(ROOT),
+        }),
+    );
+    got(
+        rt,
+        all.push(Shown::File {
+            links: 2,
+            bytes: got(rt, b"some bytes".as_slice().to_vec(alloc)),
+        }),
+    );
+    all
+}
+
+#[test]
+fn cells_show_what_the_tree_has(rt: HostRuntime) {
+    let alloc = rt.alloc();
+    let all = small_cells(&rt, alloc);
+    let tree = small_tree(&rt, alloc);
+    let given = file_alone(&rt, alloc);
+    let shown = got(
+        &rt,
+        begins_and_ends::<Brand, _>(&rt, alloc, &tree, given, &all),
+    );
+    holds(&rt, shown);
+}
