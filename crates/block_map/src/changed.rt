@@ -2,7 +2,7 @@
 ghost use Rattle.std.specs.Prelude.{◌≡◌, None, IfSome, IfNone};
 ghost use Rattle.block_map.specs.Changed.{changed_block, change_of, IsChangeAt, AscendByBlock};
 
-use keyed_list::{Keyed, KeyedList};
+use keyed_list::{Keyed, KeyedList, Numbered};
 
 /// A block that a commit rewrites, and whether it is then all zeros.
 #[derive(Clone, Copy)]
@@ -11,9 +11,11 @@ pub struct ChangedBlock {
     pub is_zero: bool,
 }
 
-impl Keyed for ChangedBlock {
+impl Numbered for ChangedBlock {
     ghost number = { changed_block };
+}
 
+impl Keyed for ChangedBlock {
     fn key(&self) -> u32 {
         self.block
     }

@@ -1,7 +1,7 @@
 // The nodes that get an inode in a commit.
 ghost use Rattle.disk_change.specs.Nodes.{enter_node};
 
-use keyed_list::{Keyed, KeyedList};
+use keyed_list::{Keyed, KeyedList, Numbered};
 use sfs_base::{Kind, NodeId};
 
 /// A node that gets an inode, and of which kind it is.
@@ -11,9 +11,11 @@ pub struct Enter {
     pub kind: Kind,
 }
 
-impl Keyed for Enter {
+impl Numbered for Enter {
     ghost number = { enter_node };
+}
 
+impl Keyed for Enter {
     fn key(&self) -> u32 {
         self.node.0
     }

@@ -2,7 +2,7 @@
 ghost use Rattle.disk_change.specs.Nodes.{file_node};
 
 use crate::pages::PageList;
-use keyed_list::{Keyed, KeyedList};
+use keyed_list::{Keyed, KeyedList, Numbered};
 use sfs_base::NodeId;
 
 /// What a commit changes in a file: its size in bytes afterwards, and the blocks that are touched.
@@ -13,9 +13,11 @@ pub struct FileChange {
     pub pages: PageList,
 }
 
-impl Keyed for FileChange {
+impl Numbered for FileChange {
     ghost number = { file_node };
+}
 
+impl Keyed for FileChange {
     fn key(&self) -> u32 {
         self.node.0
     }

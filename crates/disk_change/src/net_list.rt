@@ -2,11 +2,13 @@
 ghost use Rattle.disk_change.specs.Nodes.{net_node};
 
 use crate::directory_net::DirectoryNet;
-use keyed_list::{Keyed, KeyedList};
+use keyed_list::{Keyed, KeyedList, Numbered};
+
+impl Numbered for DirectoryNet {
+    ghost number = { net_node };
+}
 
 impl Keyed for DirectoryNet {
-    ghost number = { net_node };
-
     fn key(&self) -> u32 {
         self.node.0
     }

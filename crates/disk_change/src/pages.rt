@@ -1,7 +1,7 @@
 // The touched blocks of a file.
 ghost use Rattle.disk_change.specs.Pages.{page_block};
 
-use keyed_list::{Keyed, KeyedList};
+use keyed_list::{Keyed, KeyedList, Numbered};
 
 /// A block of a file that a change touched, as it is then.
 #[derive(Clone, Copy)]
@@ -10,9 +10,11 @@ pub struct Page {
     pub bytes: [u8; 4096],
 }
 
-impl Keyed for Page {
+impl Numbered for Page {
     ghost number = { page_block };
+}
 
+impl Keyed for Page {
     fn key(&self) -> u32 {
         self.block
     }

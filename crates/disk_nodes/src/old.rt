@@ -6,7 +6,7 @@ ghost use Rattle.disk_nodes.specs.Nodes.{entry_node, entry_old};
 
 use fmt_inode::{Inode, Tables};
 use fmt_slots::SlotList;
-use keyed_list::{Keyed, KeyedList};
+use keyed_list::{Keyed, KeyedList, Numbered};
 use sfs_base::NodeId;
 use std::marker::Model;
 
@@ -38,9 +38,11 @@ pub struct OldEntry {
     pub old: OldNode,
 }
 
-impl Keyed for OldEntry {
+impl Numbered for OldEntry {
     ghost number = { entry_node };
+}
 
+impl Keyed for OldEntry {
     fn key(&self) -> u32 {
         self.node.0
     }

@@ -4,5 +4,5 @@
 mod keyed;
 mod list;
 
-pub use keyed::Keyed;
+pub use keyed::{Keyed, Numbered};
 pub use list::KeyedList;

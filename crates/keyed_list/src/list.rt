@@ -3,7 +3,7 @@ ghost use Rattle.std.specs.List.Sorted.{IsPartitionPoint};
 ghost use Rattle.std.specs.Option.{option_copied};
 ghost use Rattle.keyed_list.specs.Ascending.{AscendBy, item_with, put_in, without};
 
-use crate::Keyed;
+use crate::{Keyed, Numbered};
 use sfs_base::NoMemory;
 use std::alloc::Global;
 use std::marker::Model;
@@ -11,11 +11,11 @@ use std::marker::Model;
 /// Items that ascend by their numbers, each number once. Contracts see the list, and the number
 /// `spare` of items for which room is reserved: what is reserved is put in without memory.
 #[derive(Drop)]
-pub struct KeyedList<T: Keyed> {
+pub struct KeyedList<T: Numbered> {
     items: Vec<T>,
 }
 
-impl<T: Keyed> Model for KeyedList<T> {
+impl<T: Numbered> Model for KeyedList<T> {
     ghost use Rattle.std.specs.Prelude.{◌-◌, vec_len, vec_capacity};
     ghost use Rattle.sfs_base.specs.Lists.{Roomy, roomy_code};
     ghost use Rattle.keyed_list.specs.Ascending.{AscendBy};
