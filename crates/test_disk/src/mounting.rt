@@ -3,7 +3,7 @@
 use crate::helpers::{got, same};
 use crate::recovering::with_open_slots;
 use mount::{Mounted, mount};
-use sfs_base::{NodeId, SpaceKind};
+use sfs_base::SpaceKind;
 use space_map::{Need, SpaceFault};
 use std::alloc::Global;
 use std::process::Abort;
@@ -56,7 +56,7 @@ fn what_no_node_has_is_free(rt: HostRuntime) {
 #[test]
 fn the_disk_has_the_root_and_its_child(rt: HostRuntime) {
     let mounted = mounted(&rt, rt.alloc());
-    let kinds = [0u32, 1, 2].map(|node| match mounted.old.find(NodeId(node)) {
+    let kinds = [0u32, 1, 2].map(|node| match mounted.old.find(node) {
         Some(entry) => entry.old.meta.kind,
         None => 0,
     });

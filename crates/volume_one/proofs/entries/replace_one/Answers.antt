@@ -6,4 +6,4 @@ use Rattle.volume_one.proofs.entries.replace_one.Goals as goal
 
 pub returns-clause-rest : goal.returns-clause-rest
 returns-clause-rest c =
-    λ other differ. ap (item_with entry_node other) c.take.ensures.items ∙ without_other entry_node c.args.after.now.items c.args.node.0 other differ
+    λ other differ. ap (item_with entry_node other) c.take_old.ensures.items ∙ without_other entry_node c.args.after.now.items c.args.node.0 other differ
