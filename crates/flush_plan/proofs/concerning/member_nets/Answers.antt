@@ -22,10 +22,10 @@ use Rattle.flush_plan.proofs.concerning.member_nets.Goals.{then-not-is_empty+in_
 
 pub loop-member-init : goal.loop-member-init
 loop-member-init c = record {
-  are = subst (AreNetsOf c.args.logs.now c.args.below []) (sym c.new-nets.ensures) (no_nets c.args.logs.now c.args.below);
-  under = λ b _. subst (All (λ one. net_node one < b)) (sym c.new-nets.ensures) (λ k d within. absurd (omega arith));
-  ascend = subst (AscendBy net_node) (sym c.new-nets.ensures) (λ i j d lt within. absurd (omega arith));
-  names = subst HaveGoodNames (sym c.new-nets.ensures) no_nets_named;
+  are = subst (AreNetsOf c.args.logs.now c.args.below []) (sym (ap (λ (l : Roomy DirectoryNet). l.items) c.new-nets.ensures)) (no_nets c.args.logs.now c.args.below);
+  under = λ b _. subst (All (λ one. net_node one < b)) (sym (ap (λ (l : Roomy DirectoryNet). l.items) c.new-nets.ensures)) (λ k d within. absurd (omega arith));
+  ascend = subst (AscendBy net_node) (sym (ap (λ (l : Roomy DirectoryNet). l.items) c.new-nets.ensures)) (λ i j d lt within. absurd (omega arith));
+  names = subst HaveGoodNames (sym (ap (λ (l : Roomy DirectoryNet). l.items) c.new-nets.ensures)) no_nets_named;
 }
 
 pub invariant_of-push : goal.invariant_of-push
