@@ -196,6 +196,14 @@ fn assert_first(rt: &impl Abort, settled: &Settled, inode: u64, due: u8) {
     }
 }
 
+// The byte at a place.
+fn byte_at(rt: &impl Abort, bytes: &[u8], place: usize) -> u8 {
+    match bytes.get(place) {
+        Some(byte) => *byte,
+        None => panic!(rt; "no byte"),
+    }
+}
+
 #[test]
 fn a_disk_that_is_made_has_its_bytes(rt: HostRuntime) {
     let disk = just_made(&rt, rt.alloc());
@@ -208,7 +216,8 @@ fn a_disk_that_is_made_has_its_bytes(rt: HostRuntime) {
     same(&rt, &first_nonzero(bytes, 86_017, 86_020), &None);
     same(&rt, &first_nonzero(bytes, 86_021, 118_784), &None);
     // What stands elsewhere is left.
-    same(&rt, &(bytes[4_097], bytes[118_784]), &(255, 255));
+    same(&rt, &byte_at(&rt, bytes, 4_097), &255);
+    same(&rt, &byte_at(&rt, bytes, 118_784), &255);
     same(&rt, &disk.calls().len(), &5);
 }
 
