@@ -1,6 +1,6 @@
 // Calls on a tree that holds as much as it may: a file with as many names as a file may have, buckets with as many rows, and a core that
 // has made all its nodes.
-ghost use Rattle.std.specs.Prelude.{◌+◌, ◌<◌, ◌≤◌, length};
+ghost use Rattle.std.specs.Prelude.{◌+◌, ◌<◌, ◌≤◌, IfOk, length};
 ghost use Rattle.tree_laws.specs.Sound.{IsSound};
 ghost use Rattle.stamp_table.specs.Table.{IsBetweenCalls};
 ghost use Rattle.begun_tables.specs.Begun.{BeginsTable, IsBuiltTree, IsCallTable, KeepsNumbers};
@@ -13,7 +13,7 @@ use crate::table_calls::judged::is_code;
 use crate::table_calls::listed::make_listed;
 use begun_tables::{Files, begun, put_node, put_row, root_alone};
 use mem_values::FileCore;
-use sfs_base::{Kind, Name, NodeId};
+use sfs_base::{Kind, Name, NoMemory, NodeId};
 use sfs_tree::Tree;
 use std::alloc::Global;
 use std::process::Abort;
@@ -119,13 +119,13 @@ fn add_all(rt: &impl Abort, alloc: Global, tree: &mut Tree)
 }
 
 // A tree with a file of 65,535 names and a directory in whose bucket 0 no further row comes.
-fn full_tree(rt: &impl Abort, alloc: Global) -> Tree
-    ensures { BeginsTable result FIRST SHARE 1 }
+fn full_tree(rt: &impl Abort, alloc: Global) -> Result<Tree, NoMemory>
+    ensures { IfOk result (λ tree. BeginsTable tree FIRST SHARE 1) }
 {
-    let mut tree = got(rt, root_alone(alloc, FIRST, SHARE, 1));
+    let mut tree = root_alone(alloc, FIRST, SHARE, 1)?;
     add_all(rt, alloc, &mut tree);
     tree.allow(SHARE);
-    tree
+    Ok(tree)
 }
 
 // Makes as many files as a core may, each of which goes at once, and then one more.
@@ -166,6 +166,6 @@ fn make_full<R: Wait + Abort>(rt: &R, alloc: Global, tree: &Tree)
 #[test]
 fn calls_on_a_full_tree_are_refused(rt: HostRuntime) {
     let alloc = rt.alloc();
-    let tree = full_tree(&rt, alloc);
+    let tree = got(&rt, full_tree(&rt, alloc));
     make_full(&rt, alloc, &tree);
 }
