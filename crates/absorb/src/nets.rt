@@ -10,7 +10,7 @@ use tree_laws::{Act, Change, Changes, NameMap};
 
 /// A name whose child differs: the child before and the one after, each `None` where no row has the
 /// name.
-#[derive(Debug, Drop)]
+#[derive(Drop)]
 pub struct NetRow {
     pub name: Name,
     pub before: Option<NodeId>,

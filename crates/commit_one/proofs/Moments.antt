@@ -1,8 +1,8 @@
 -- How what images have goes on over the moments of device calls.
-use Rattle.std.proofs.Common.{◌≡◌, ℕ, ◌^◌, ◌<◌, ◌≤◌, List, length, Option, Some, Result, Ok, Err, sym, ◌∙◌, ap, subst, arith, inl, inr, option_map}
+use Rattle.std.proofs.Common.{◌≡◌, ℕ, ◌<◌, ◌≤◌, List, length, Option, Some, Result, Ok, Err, sym, ◌∙◌, ap, subst, arith, inl, inr, option_map}
 use Rattle.std.proofs.lemmas.Bool.{cases_lt}
 use Rattle.sfs_dev.specs.Ranges.{put, SameOutside}
-use Rattle.sfs_dev.specs.Disk.{View, TornTold, Elapses, IsDeviceCall, images}
+use Rattle.sfs_dev.specs.Disk.{View, TornTold, Elapses, images}
 use Rattle.sfs_dev.specs.Run.{Advances, CountsOn}
 use Rattle.journal_one.specs.Calls.{IsWrite, IsSync}
 use Rattle.journal_one.specs.Job.{Piece}

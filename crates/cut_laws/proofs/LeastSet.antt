@@ -4,10 +4,10 @@ use Rattle.tree_laws.specs.declared.history.Entry.{Entry}
 use Rattle.tree_laws.specs.Tree.{TreeState}
 use Rattle.cut_laws.specs.Closure.{Counts, Flush, Closure, itself, other_side, ended, ancestor, birth_place}
 use Rattle.cut_laws.specs.Cut.{Cut}
-use Rattle.cut_laws.specs.LawsLeast.{KeepsRules}
+use Rattle.cut_laws.specs.LawsLeast.{KeepsFlushRules}
 
 pub closures_are_least : (first : TreeState) (history : List Entry) (counts : Counts) (cut : Cut) (inodes : ℕ → Bool) (flush : Flush) (has : ℕ → Bool)
-    → KeepsRules first history counts cut inodes flush has → (node : ℕ) → Closure first history counts cut inodes flush node → has node ≡ true
+    → KeepsFlushRules first history counts cut inodes flush has → (node : ℕ) → Closure first history counts cut inodes flush node → has node ≡ true
 closures_are_least first history counts cut inodes flush has keeps = every
   where
     every : (node : ℕ) → Closure first history counts cut inodes flush node → has node ≡ true

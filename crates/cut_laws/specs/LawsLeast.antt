@@ -12,7 +12,7 @@ use Rattle.cut_laws.specs.Rules.{IsOneOf, IsMove, Birth, births_of}
 -- A set of nodes keeps the five rules of an fsync: it has its node; and of each node that it has, the other side of a rename between two
 -- directories, the directories that end, the ancestors of what such a rename placed, and the birth place of one without an inode that has a
 -- naming which is not flushed.
-pub record KeepsRules (first : TreeState) (history : List Entry) (counts : Counts) (cut : Cut) (inodes : ℕ → Bool) (flush : Flush)
+pub record KeepsFlushRules (first : TreeState) (history : List Entry) (counts : Counts) (cut : Cut) (inodes : ℕ → Bool) (flush : Flush)
     (has : ℕ → Bool) : Type 0 where
   pub itself : has flush.node ≡ true
   pub other_side : (change : RowChange) (other : ℕ) → has change.directory ≡ true → InSpan first history counts cut flush.stamp change
@@ -28,4 +28,4 @@ pub record KeepsRules (first : TreeState) (history : List Entry) (counts : Count
 -- Each set that keeps the rules has each node of the closure.
 abbrev pub ClosuresAreLeast : Type 0
 ClosuresAreLeast = (first : TreeState) (history : List Entry) (counts : Counts) (cut : Cut) (inodes : ℕ → Bool) (flush : Flush) (has : ℕ → Bool)
-    → KeepsRules first history counts cut inodes flush has → (node : ℕ) → Closure first history counts cut inodes flush node → has node ≡ true
+    → KeepsFlushRules first history counts cut inodes flush has → (node : ℕ) → Closure first history counts cut inodes flush node → has node ≡ true

@@ -9,7 +9,7 @@ use tree_laws::{Entry, Reply};
 pub type CommitList = RoomyList<u64>;
 
 /// What the machine of calls and commits is told.
-#[derive(Debug, Drop)]
+#[derive(Drop)]
 pub enum Event {
     /// A call was answered.
     Call {
@@ -40,7 +40,7 @@ pub enum Event {
 }
 
 /// Why an event can't come, in the order in which the reasons are looked for.
-#[derive(Debug, Drop)]
+#[derive(Drop)]
 pub enum Refused {
     /// The run has ended.
     Crashed,

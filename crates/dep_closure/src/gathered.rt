@@ -2,7 +2,7 @@ use sfs_base::{NodeId, NodeList, RoomyList, Stamp};
 use tree_laws::Changes;
 
 /// A directory, and changes of its own by their stamps, within one stamp removals before additions.
-#[derive(Debug, Drop)]
+#[derive(Drop)]
 pub struct DirectoryChanges {
     pub dir: NodeId,
     pub changes: Changes,
@@ -12,7 +12,7 @@ pub struct DirectoryChanges {
 pub type LogList = RoomyList<DirectoryChanges>;
 
 /// A node, and the stamp from which on its own changes are not yet flushed.
-#[derive(Clone, Copy, Debug)]
+#[derive(Clone, Copy)]
 pub struct NodeCut {
     pub node: NodeId,
     pub cut: Stamp,
@@ -22,7 +22,7 @@ pub struct NodeCut {
 pub type CutList = RoomyList<NodeCut>;
 
 /// A node that was made in this mount, and the directory in which it was made.
-#[derive(Clone, Copy, Debug)]
+#[derive(Clone, Copy)]
 pub struct NodeBirth {
     pub node: NodeId,
     pub dir: NodeId,
@@ -32,7 +32,7 @@ pub struct NodeBirth {
 pub type BirthList = RoomyList<NodeBirth>;
 
 /// What an fsync has gathered.
-#[derive(Debug, Drop)]
+#[derive(Drop)]
 pub struct Gathered {
     pub logs: LogList,
     pub cuts: CutList,

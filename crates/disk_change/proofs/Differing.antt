@@ -3,6 +3,7 @@ use Rattle.std.proofs.Common.{◌≡◌, ℕ, Bool, true, false, ◌&&◌, eqb, 
 use Rattle.std.specs.Prelude.{◌↔◌, bytes_eq}
 use Rattle.std.proofs.lemmas.Bool.{cases_Bool, cond-true, cond-false, eqb-true, eq-eqb, and_parts, and_from}
 use Rattle.std.proofs.lemmas.Slice.Eq.{bytes_eq-Decides}
+use Rattle.sfs_base.proofs.BasicLists.{same_bytes}
 use Rattle.sfs_base.proofs.BasicOptions.{none_some}
 use Rattle.sfs_image.specs.Inode.{Inode}
 use Rattle.disk_change.specs.Records.{RecordChange, same_inode, record_written}
@@ -13,7 +14,8 @@ one_inode : {a b c d e f : ℕ} {g h i j : List ℕ} → a ≡ b → c ≡ d →
     ≡ record { kind = b; links = d; size = f; direct = h; indirect = j }
 one_inode p q r s t = λ k. record { kind = p k; links = q k; size = r k; direct = s k; indirect = t k }
 
-same_is_one : (inode other : Inode) → same_inode inode other ≡ true → inode ≡ other
+-- inodes that the test finds the same are one
+pub same_is_one : (inode other : Inode) → same_inode inode other ≡ true → inode ≡ other
 same_is_one inode other same =
     let kind = and_parts (eqb inode.kind other.kind) _ same in
     let links = and_parts (eqb inode.links other.links) _ kind.1 in
@@ -24,11 +26,8 @@ same_is_one inode other same =
 itself : (n : ℕ) → eqb n n ≡ true
 itself n = eq-eqb n n refl
 
-itself_listed : (xs : List ℕ) → bytes_eq xs xs ≡ true
-itself_listed xs = (bytes_eq-Decides xs xs).1 refl
-
 is_same : (inode : Inode) → same_inode inode inode ≡ true
-is_same inode = rw (itself inode.kind, itself inode.links, itself inode.size, itself_listed inode.direct, itself_listed inode.indirect) refl
+is_same inode = rw (itself inode.kind, itself inode.links, itself inode.size, same_bytes inode.direct, same_bytes inode.indirect) refl
 
 pub only_what_differs : (change : RecordChange) → (record_written change ≡ None) ↔ (change.before ≡ change.after)
 only_what_differs change = (one, none)

@@ -13,7 +13,7 @@ use std::marker::Model;
 
 /// The files of a mount in memory, by node. Contracts see the list of what there is of each node, by its
 /// number.
-#[derive(Debug, Drop)]
+#[derive(Drop)]
 pub struct FileTable {
     files: Vec<Option<FileBytes>>,
 }

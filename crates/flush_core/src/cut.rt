@@ -9,7 +9,7 @@ use std::alloc::Global;
 use std::marker::Model;
 
 /// The stamps of nodes from which on their own changes are not yet flushed.
-#[derive(Debug, Drop)]
+#[derive(Drop)]
 pub struct Cut {
     stamps: Vec<u64>,
 }

@@ -16,7 +16,7 @@ use sfs_base::{NoMemory, NodeId, Stamp};
 use std::alloc::Global;
 
 /// A commit in flight: its fsync, its members and the nodes that it concerns as it began.
-#[derive(Debug, Drop)]
+#[derive(Drop)]
 pub(crate) struct InFlight {
     pub(crate) commit: u64,
     pub(crate) node: NodeId,

@@ -14,7 +14,7 @@ use tree_laws::{Call, Entry, Reply};
 
 /// A row that a call took away or put, with the directories above the changed one where a directory was
 /// put by a rename between two directories.
-#[derive(Debug, Drop)]
+#[derive(Drop)]
 pub struct OwnChange {
     pub stamp: u64,
     pub directory: u32,
@@ -30,7 +30,7 @@ pub struct OwnChange {
 }
 
 /// A node that a call made, and where.
-#[derive(Debug, Drop)]
+#[derive(Drop)]
 pub struct BornNode {
     pub stamp: u64,
     pub directory: u32,
@@ -38,7 +38,7 @@ pub struct BornNode {
 }
 
 /// The past of a state, in the order of its calls.
-#[derive(Debug, Drop)]
+#[derive(Drop)]
 pub struct Past {
     pub tree: Tree,
     pub changes: Vec<OwnChange>,

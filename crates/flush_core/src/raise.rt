@@ -23,7 +23,7 @@ use sfs_tree::Tree;
 use std::alloc::Global;
 
 /// What an fsync leaves: the cut that it raises, and the nodes that have an inode after it.
-#[derive(Debug, Drop)]
+#[derive(Drop)]
 pub(crate) struct Raise {
     pub cut: Cut,
     pub inodes: NodeSet,

@@ -14,7 +14,7 @@ use crate::cut::Cut;
 use crate::past::{BornNode, OwnChange, Past};
 
 /// A rule that a cut has to keep, so that the tree at it is sound.
-#[derive(Clone, Copy, Debug, PartialEq, Eq)]
+#[derive(Clone, Copy, PartialEq, Eq)]
 pub enum Rule {
     /// A rename between two directories lies below the cuts of both or of neither.
     Renames,

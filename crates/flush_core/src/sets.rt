@@ -5,7 +5,7 @@ use sfs_base::NoMemory;
 use std::alloc::Global;
 
 /// Nodes by their numbers. It takes a byte for each number up to the highest that was put in.
-#[derive(Debug, Drop)]
+#[derive(Drop)]
 pub(crate) struct NodeSet {
     has: Vec<bool>,
     ghost small: { length has.items ≤ 2 ^ 32 },

@@ -17,7 +17,7 @@ mod commits;
 
 /// The calls of a run, and what its commits have flushed: the machine that says which runs there may
 /// be. It is a plain program to compare others with: each commit goes over all calls before it.
-#[derive(Debug, Drop)]
+#[derive(Drop)]
 pub struct State {
     alloc: Global,
     story: Story,

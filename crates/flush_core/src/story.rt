@@ -23,7 +23,7 @@ use tree_laws::{Call, Entry, NameMap, Reply};
 
 /// A first tree and a legal history from it, as the definitions of cuts speak of them. It is a plain
 /// program to compare others with: what it tells of a cut goes over all calls.
-#[derive(Debug, Drop)]
+#[derive(Drop)]
 pub struct Story {
     alloc: Global,
     first: Tree,

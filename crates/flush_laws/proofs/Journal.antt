@@ -38,12 +38,10 @@ use Rattle.commit_laws.specs.FilesMade.{ShowTheSame}
 use Rattle.commit_laws.proofs.PartsStand.{alike_images_stand}
 use Rattle.cut_laws.specs.Closure.{Flush}
 use Rattle.cut_laws.specs.Cut.{Cut, tree_at_cut}
-use Rattle.std.specs.Prelude.{◌++◌, bytes_eq}
+use Rattle.std.specs.Prelude.{◌++◌}
 use Rattle.std.proofs.lemmas.Bool.{cond-false}
 use Rattle.std.proofs.lemmas.List.Elements.{Contains-append_cases, Contains-get_or}
-use Rattle.sfs_base.proofs.BasicLists.{bytes_same}
 use Rattle.sfs_base.proofs.BasicNumbers.{same_number}
-use Rattle.sfs_base.proofs.BasicTruth.{and_first, and_second}
 use Rattle.sfs_base.specs.declared.numbers.Kind.{Kind}
 use Rattle.sfs_base.specs.declared.numbers.Kind.TheVariants.{File, Directory}
 use Rattle.sfs_image.specs.ImageOf.{StandIn}
@@ -59,6 +57,7 @@ use Rattle.disk_change.specs.Built.{Built}
 use Rattle.disk_change.specs.Directory.{is_among}
 use Rattle.disk_change.specs.GivenUp.{entry_number}
 use Rattle.disk_change.specs.Planned.{Planned, staying, leaves, seated_old, seated_entering}
+use Rattle.disk_change.proofs.Differing.{same_is_one}
 use Rattle.disk_change.specs.Records.{same_inode, record_of_built, record_of_gone, record_inode, records_written, written_of_built, written_of_gone}
 use Rattle.disk_change.specs.Seated.{Begun, Seated, seated_as, begun_old, begun_entering, free_inode}
 use Rattle.disk_change.specs.declared.enter.Enter.{Enter}
@@ -149,31 +148,13 @@ not_found_in : (owns : List InodePart) (i : ℕ) → find (λ (own : InodePart).
     → own.inode ≡ i → ⊥
 not_found_in owns i none own there same = none_some (sym none ∙ (found_some owns i own there same).1)
 
--- inodes that a test finds the same are one, and others differ
-inodes_same : (a b : Inode) → same_inode a b ≡ true → a ≡ b
-inodes_same a b t =
-    let kinds = and_first (nat_eq a.kind b.kind) _ t in
-    let rest = and_second (nat_eq a.kind b.kind) _ t in
-    let links = and_first (nat_eq a.links b.links) _ rest in
-    let further = and_second (nat_eq a.links b.links) _ rest in
-    let size = and_first (nat_eq a.size b.size) _ further in
-    let lists = and_second (nat_eq a.size b.size) _ further in
-    let direct = bytes_same a.direct b.direct (and_first (bytes_eq a.direct b.direct) _ lists) in
-    let indirect = bytes_same a.indirect b.indirect (and_second (bytes_eq a.direct b.direct) _ lists) in
-    λ j. record {
-      kind = eqb-true a.kind b.kind kinds j;
-      links = eqb-true a.links b.links links j;
-      size = eqb-true a.size b.size size j;
-      direct = direct j;
-      indirect = indirect j;
-    }
-
+-- inodes that differ are told apart
 differ : (a b : Inode) → (a ≡ b → ⊥) → same_inode a b ≡ false
 differ a b apart = by (same_inode a b) refl
   where
     by : (t : Bool) → same_inode a b ≡ t → t ≡ false
     by false e = refl
-    by true e = absurd (apart (inodes_same a b e))
+    by true e = absurd (apart (same_is_one a b e))
 
 module _ (first : TreeState) (history : List Entry) (flushes : List Flush) (cut : Cut) (inodes : ℕ → Bool) (flush : Flush) (raised : Cut) (after : ℕ → Bool)
     (num : Numbering) (store : ℕ → List ℕ) (parts : ℕ → Part)
@@ -317,7 +298,7 @@ module _ (first : TreeState) (history : List Entry) (flushes : List Flush) (cut 
   before_is : (one : Built) → (there : Contains (nodes_with_grant change grant) one) → same_inode one.before one.meta ≡ true
       → (part_made store plan grant one).raw ≡ (parts one.number).raw
   before_is one there same =
-      raw_of (store_planned store plan grant) (inode_bytes one.meta) ∙ ap inode_bytes (sym (inodes_same one.before one.meta same))
+      raw_of (store_planned store plan grant) (inode_bytes one.meta) ∙ ap inode_bytes (sym (same_is_one one.before one.meta same))
       ∙ elim (seat_comes num nodes old new image plan grant over.full.sound.whole node.seat (there_is_in change.seats node.m node.seat node.at)) [
         | inl (entry, stay, is_seat) ↦ of_old entry stay is_seat
         | inr (enters, enter, is_seat) ↦ absurd (of_entering enters is_seat)
@@ -343,7 +324,7 @@ module _ (first : TreeState) (history : List Entry) (flushes : List Flush) (cut 
       of_entering : (enters : Enter) → seated_entering change.changes enters ≡ node.seat → ⊥
       of_entering enters is_seat =
           kind_some
-          (ap (λ (m : Inode). m.kind) (sym (inodes_same one.before one.meta same))
+          (ap (λ (m : Inode). m.kind) (sym (same_is_one one.before one.meta same))
           ∙ ap (λ (m : Inode). m.kind)
           (before_seat ∙ ap (λ (s : Seated). s.before) (sym is_seat) ∙ seat_before (begun_entering enters) (begun_entering enters).kind))
 

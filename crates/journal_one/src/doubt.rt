@@ -7,7 +7,7 @@ use sfs_dev::Disk;
 
 /// A device call of a commit failed: each image is one that the state before that call allows, or
 /// the one that Ok would have given. Only recovery goes on from it.
-#[derive(Clone, Copy, Debug, PartialEq, Eq)]
+#[derive(Clone, Copy, PartialEq, Eq)]
 pub struct Doubt {
     /// The disk's count of faults after that call.
     pub faults: u64,

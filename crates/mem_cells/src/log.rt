@@ -10,7 +10,7 @@ use std::marker::Model;
 use tree_laws::Change;
 
 /// A directory's changes, the oldest first, and the mark below which they were trimmed.
-#[derive(Debug, Drop)]
+#[derive(Drop)]
 pub(crate) struct DirectoryLog {
     mark: Stamp,
     changes: VecDeque<Change>,

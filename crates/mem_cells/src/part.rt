@@ -14,7 +14,7 @@ use tree_laws::{Change, Changes};
 /// One core's changes of directories, those of each in the order of their stamps, with the mark below
 /// which they were trimmed, and how many entries the core has. Contracts see for each directory its
 /// changes, its mark, and for how many more changes there is room.
-#[derive(Debug, Drop)]
+#[derive(Drop)]
 pub struct LogPart {
     logs: Vec<DirectoryLog>,
     entries: u64,

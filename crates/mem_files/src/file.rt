@@ -17,7 +17,7 @@ pub const LONGEST_FILE: u64 = 1 << 43;
 /// each block of 4,096 bytes the stamp of the last change that touched it, its mark. Contracts see
 /// the list of the bytes, the mark of each block, and the number `room` of the blocks whose mark
 /// can be set without memory.
-#[derive(Debug, Drop)]
+#[derive(Drop)]
 pub struct FileBytes {
     size: u64,
     pages: Vec<Page>,

@@ -9,7 +9,7 @@ use std::marker::Model;
 pub(crate) const PAGE: usize = 4096;
 
 /// The bytes of a block as far as they are kept; those behind them are zeros.
-#[derive(Debug, Drop)]
+#[derive(Drop)]
 pub(crate) struct Page {
     bytes: Vec<u8>,
 }

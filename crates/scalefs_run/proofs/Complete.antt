@@ -2,6 +2,7 @@
 use Rattle.std.proofs.Common.{◌≡◌, ◌⊎◌, ℕ, ◌+◌, ◌-◌, ◌^◌, ◌<◌, ◌≤◌, Bool, true, false, List, [], ◌∷◌, ◌++◌, Option, Some, None, inl, inr, refl, sym, ap, subst, ◌∙◌, arith}
 use Rattle.std.specs.Prelude.{min}
 use Rattle.sfs_base.proofs.BasicOptions.{some_same}
+use Rattle.sfs_base.proofs.Causes.{Rose-earlier}
 use Rattle.sfs_base.proofs.BasicTruth.{false_not_true, true_not_false}
 use Rattle.sfs_base.specs.Ends.{HasRisen}
 use Rattle.sfs_base.specs.declared.numbers.NodeId.{NodeId}
@@ -23,7 +24,7 @@ use Rattle.turn_laws.specs.Books.{Books, CountsFaults, Does, AreTurns, no_turns,
 use Rattle.turn_laws.specs.Recorded.{IsLiveFsync, last_turn, EndsWith, EndsBy, IsRecorded}
 use Rattle.turn_laws.proofs.Causes.{last_among}
 use Rattle.turn_laws.specs.Need.{ImageState}
-use Rattle.scalefs_run.specs.Complete.{NothingFailed, IsDone, GoesWell, WasShortOf, IsWellAnswered, WentWell, RunsAreComplete, MakingsAreComplete, ShowingsAreComplete, FreshDisksAreAsked, FreshDisksCountOn}
+use Rattle.scalefs_run.specs.Complete.{NothingFailed, IsDone, GoesWell, WasShortOf, IsAnsweredInCalm, WentWell, RunsAreComplete, MakingsAreComplete, ShowingsAreComplete, FreshDisksAreAsked, FreshDisksCountOn}
 use Rattle.scalefs_run.specs.Image.{making_due, showing_due}
 use Rattle.scalefs_run.specs.Outcome.{HasStatus}
 use Rattle.scalefs_run.specs.Served.{Served, was_mounted}
@@ -53,9 +54,6 @@ due_done Source Sink Disk due status is has = is_done Source Sink Disk status (s
 -- a count that has risen to some has risen to more, and from less
 risen_more : (before faults most : ℕ) → HasRisen before faults → faults ≤ most → HasRisen before most
 risen_more before faults most risen within = omega (arith, risen, within)
-
-risen_from : (entry before most : ℕ) → entry ≤ before → HasRisen before most → HasRisen entry most
-risen_from entry before most since risen = omega (arith, since, risen)
 
 -- a turn of a calm disk goes well, and none has failed behind it
 well : (before most : ℕ) (books : Books) (turn : Turn) (next : Books) → (HasRisen before most → ⊥) → books.failed ≡ None → (a : TurnAct)
@@ -89,23 +87,23 @@ all_well before most start (one_turn turns last books next are is) none calm =
 
 -- an fsync whose last turn goes well is answered well
 answered_by : (turns : List Turn) (entry : Entry) (failed ack : Option ℕ) (turn : Turn) → IsOneOf turns turn → turn.stamp.0 ≡ entry.stamp.0 → (a : TurnAct)
-    → turn.act ≡ a → GoesWell a → (given : Reply) → EndsWith failed a turn given ack → IsWellAnswered turns entry given
+    → turn.act ≡ a → GoesWell a → (given : Reply) → EndsWith failed a turn given ack → IsAnsweredInCalm turns entry given
 answered_by turns entry failed ack turn among own act.Granted did good given ends = absurd ends
-answered_by turns entry failed ack turn among own act.GivenBack did good given ends = subst (IsWellAnswered turns entry) (sym ends) tt
+answered_by turns entry failed ack turn among own act.GivenBack did good given ends = subst (IsAnsweredInCalm turns entry) (sym ends) tt
 answered_by turns entry failed ack turn among own (act.Short kind need free) did good given ends =
-    subst (IsWellAnswered turns entry) (sym ends) (record { turn = turn; among = among; own = own; did = did })
+    subst (IsAnsweredInCalm turns entry) (sym ends) (record { turn = turn; among = among; own = own; did = did })
 answered_by turns entry failed ack turn among own act.Halted did good given ends = absurd good
 answered_by turns entry failed ack turn among own act.CutAt did good given ends = absurd ends
 answered_by turns entry failed ack turn among own act.Opened did good given ends = absurd ends
-answered_by turns entry failed ack turn among own act.Durable did good given ends = subst (IsWellAnswered turns entry) (sym ends.0) tt
+answered_by turns entry failed ack turn among own act.Durable did good given ends = subst (IsAnsweredInCalm turns entry) (sym ends.0) tt
 answered_by turns entry failed ack turn among own act.Fail did good given ends = absurd good
 
 answered : (turns : List Turn) (entry : Entry) (failed : Option ℕ) → ((turn : Turn) → IsOneOf turns turn → GoesWell turn.act)
-    → EndsBy failed (last_turn entry.stamp.0 turns) entry.reply entry.ack → IsWellAnswered turns entry entry.reply
+    → EndsBy failed (last_turn entry.stamp.0 turns) entry.reply entry.ack → IsAnsweredInCalm turns entry entry.reply
 answered turns entry failed good ends = by (last_turn entry.stamp.0 turns) refl ends
   where
-    by : (o : Option Turn) → last_turn entry.stamp.0 turns ≡ o → EndsBy failed o entry.reply entry.ack → IsWellAnswered turns entry entry.reply
-    by None none ends = subst (IsWellAnswered turns entry) (sym ends) tt
+    by : (o : Option Turn) → last_turn entry.stamp.0 turns ≡ o → EndsBy failed o entry.reply entry.ack → IsAnsweredInCalm turns entry entry.reply
+    by None none ends = subst (IsAnsweredInCalm turns entry) (sym ends) tt
     by (Some turn) is ends =
         let there = last_among entry.stamp.0 turns turn is in
         answered_by turns entry failed entry.ack turn there.0 there.1 turn.act refl (good turn there.0) entry.reply ends
@@ -129,7 +127,7 @@ runs_are_complete old new due_by nodes phases ends before after status history t
     mounted has =
         let recorded = has.recorded in
         let good =
-        all_well recorded.before new.faults _ recorded.kept refl (λ risen. nothing.disk (risen_from old.faults recorded.before new.faults recorded.since risen)) in
+        all_well recorded.before new.faults _ recorded.kept refl (λ risen. nothing.disk (Rose-earlier old.faults recorded.before new.faults recorded.since risen)) in
         record {
           done = done;
           turns_are = good.1;

@@ -39,7 +39,7 @@ use Rattle.volume_one.specs.declared.deed.Deed.TheVariants as deeds
 use Rattle.scalefs_run.specs.Turns.{TurnsSoFar, HaveTurns, HaveFailed, moment_of, turns_of, EachGoesByOne}
 use Rattle.scalefs_run.specs.declared.turns.Counts.{Counts}
 use Rattle.scalefs_run.proofs.Going.{AnswersBy, goes_by, own_stamps, turns_before, ways_go_on}
-use Rattle.scalefs_run.proofs.Turning.{no_error, alive_of, working_of, halted_of, no_live_error, nothing_told, halted, turns_commit, turns_doubt, turns_short, turns_back}
+use Rattle.scalefs_run.proofs.Turning.{node_asked, no_error, alive_of, working_of, halted_of, no_live_error, nothing_told, halted, turns_commit, turns_doubt, turns_short, turns_back}
 use Rattle.scalefs_run.specs.Replies.{is_failure, HasAnswersSoFar, IsReplyTo, is_failed_flush}
 use Rattle.scalefs_run.specs.RunInvariant.{RunStands, StandsNow, HasGoneOn}
 use Rattle.scalefs_run.specs.declared.engine.Engine.{Engine}
@@ -133,14 +133,6 @@ goes_on_still start image kept old new disk entry stands remembers failed entrie
           (now_on share from kept entry disk (sound_with kept old.volume stands.remembers)
           (legal_with (kept_with kept entry) new.volume remembers) no_ack old.volume.failed safe);
     }
-
--- the node that was asked for
-node_asked : (node other : NodeId) → Fsync node ≡ Fsync other → node.0 ≡ other.0
-node_asked node other is = ap asked_of is
-  where
-    asked_of : Call → ℕ
-    asked_of (Fsync n) = n.0
-    asked_of _ = 0
 
 -- an fsync comes
 module _ (start : ℕ) (image : ImageState) (kept : Volume) (old new : Engine) (before after : View) (stands : RunStands start image kept old before)

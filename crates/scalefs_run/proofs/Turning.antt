@@ -63,6 +63,10 @@ abbrev node_in : Call → ℕ
 node_in (Fsync node) = node.0
 node_in _ = 0
 
+-- the node that was asked for
+pub node_asked : (node other : NodeId) → Fsync node ≡ Fsync other → node.0 ≡ other.0
+node_asked node other is = ap node_in is
+
 -- an entry that takes no turn
 pub turns_none : (start : ℕ) (image : ImageState) (kept : Volume) (faults : ℕ) (turns : List Turn) (failed : Option ℕ) (entry : Entry)
     → ComesNext kept.first kept.history entry → TakesNoTurn kept.first kept.history entry
@@ -133,10 +137,7 @@ module _ (start : ℕ) (image : ImageState) (kept : Volume) (turns : List Turn) 
     nothing_told takes =
         subst (λ (l : List Turn). TurnsSoFar start image (kept_with kept entry) faults l failed) (sym (append-nil turns))
         (turns_none start image kept faults turns failed entry comes
-        (λ other is alive. takes (ap (λ n. is_alive (tree_after kept.first kept.history) n) (node_same other is) ∙ alive)) so_far)
-      where
-        node_same : (other : NodeId) → Fsync node ≡ Fsync other → node.0 ≡ other.0
-        node_same other is = ap node_in is
+        (λ other is alive. takes (ap (λ n. is_alive (tree_after kept.first kept.history) n) (node_asked node other is) ∙ alive)) so_far)
 
   module _ (alive : is_alive (tree_after kept.first kept.history) node.0 ≡ true) where
     next : IsNextFsync kept.first kept.history entry node

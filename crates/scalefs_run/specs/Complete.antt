@@ -57,17 +57,17 @@ pub record WasShortOf (turns : List Turn) (entry : Entry) (kind : SpaceKind) (ne
   pub did : turn.act ≡ act.Short kind need free
 
 -- the answer of an fsync of a live node: Ok, or want of memory, or too little space with its turn
-abbrev pub IsWellAnswered : List Turn → Entry → Reply → Type 0
-IsWellAnswered turns entry reply.Ok = Unit {0}
-IsWellAnswered turns entry reply.NoMemory = Unit {0}
-IsWellAnswered turns entry (reply.NoSpace kind need free) = WasShortOf turns entry kind need free
-IsWellAnswered turns entry _ = ⊥
+abbrev pub IsAnsweredInCalm : List Turn → Entry → Reply → Type 0
+IsAnsweredInCalm turns entry reply.Ok = Unit {0}
+IsAnsweredInCalm turns entry reply.NoMemory = Unit {0}
+IsAnsweredInCalm turns entry (reply.NoSpace kind need free) = WasShortOf turns entry kind need free
+IsAnsweredInCalm turns entry _ = ⊥
 
 -- A run went well: it was done, no commit failed or stopped, and each fsync of a live node was answered so.
 pub record WentWell (first : TreeState) (status : Status) (history : List Entry) (turns : List Turn) : Type 0 where
   pub done : IsDone status
   pub turns_are : (turn : Turn) → IsOneOf turns turn → GoesWell turn.act
-  pub answers : (entry : Entry) (node : NodeId) → IsLiveFsync first history entry node → IsWellAnswered turns entry entry.reply
+  pub answers : (entry : Entry) (node : NodeId) → IsLiveFsync first history entry node → IsAnsweredInCalm turns entry entry.reply
 
 -- Where nothing failed and no other status was due than Done, a run went well.
 abbrev pub RunsAreComplete : View → View → Type 0

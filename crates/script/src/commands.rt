@@ -6,7 +6,7 @@ use std::marker::Model;
 
 /// A path with at least one name: a place in the directory that the names before the last lead to.
 /// Contracts see the list of its names.
-#[derive(Debug, Drop)]
+#[derive(Drop)]
 pub struct NamePath {
     path: Path,
 }
@@ -50,7 +50,7 @@ impl NamePath {
 }
 
 /// What a worker is told to do, in paths.
-#[derive(Debug, Drop)]
+#[derive(Drop)]
 pub enum Command {
     /// Makes a file.
     Create { path: NamePath },
@@ -79,7 +79,7 @@ pub enum Command {
 }
 
 /// A command and the worker that runs it.
-#[derive(Debug, Drop)]
+#[derive(Drop)]
 pub struct Line {
     pub worker: u16,
     pub command: Command,

@@ -5,7 +5,7 @@ use crate::Line;
 use std::marker::Model;
 
 /// The lines of a script between two joins of the workers. Contracts see the list of them.
-#[derive(Debug, Drop)]
+#[derive(Drop)]
 pub struct Phase {
     lines: Vec<Line>,
 }
@@ -36,7 +36,7 @@ impl Phase {
 }
 
 /// A script: contracts see the list of its phases.
-#[derive(Debug, Drop)]
+#[derive(Drop)]
 pub struct Script {
     phases: Vec<Phase>,
 }

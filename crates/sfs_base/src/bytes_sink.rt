@@ -11,7 +11,7 @@ use std::marker::Model;
 /// A sink in memory whose listed calls fail. Another call fails only where the bytes do not fit in
 /// what was reserved, and no memory is found for them, which counts as a fault. Contracts see the
 /// bytes written, the number `spare` of bytes that are reserved, and the plan of the calls.
-#[derive(Debug, Drop)]
+#[derive(Drop)]
 pub struct BytesSink {
     written: Vec<u8>,
     spare: usize,

@@ -8,7 +8,7 @@ use crate::{Failed, Source};
 use std::marker::Model;
 
 /// A source over bytes in memory that never fails. Contracts see the list of the bytes left.
-#[derive(Debug, Drop)]
+#[derive(Drop)]
 pub struct SureSource {
     bytes: Vec<u8>,
     at: usize,
@@ -63,7 +63,7 @@ impl Source for SureSource {
 
 /// A source over bytes in memory whose listed calls fail, and no others. Contracts see the bytes
 /// left and the plan of the calls.
-#[derive(Debug, Drop)]
+#[derive(Drop)]
 pub struct BytesSource {
     inner: SureSource,
     plan: FaultPlan,

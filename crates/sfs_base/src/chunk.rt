@@ -7,14 +7,14 @@ use std::marker::Model;
 pub const LONGEST_CHUNK: u64 = 65_536;
 
 /// Why bytes are no chunk.
-#[derive(Debug, Drop)]
+#[derive(Drop)]
 pub enum ChunkFault {
     /// There are more than 65,536 bytes. They come back as they were.
     TooLong { bytes: Vec<u8> },
 }
 
 /// The bytes of one write or read: at most 65,536. Contracts see the list of them.
-#[derive(Debug, Drop)]
+#[derive(Drop)]
 pub struct Chunk {
     bytes: Vec<u8>,
 }

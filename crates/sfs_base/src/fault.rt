@@ -1,11 +1,11 @@
 use std::alloc::{AllocError, AllocFailed};
 
 /// A call of a source, a sink or a disk that failed.
-#[derive(Clone, Copy, Debug, PartialEq, Eq)]
+#[derive(Clone, Copy, PartialEq, Eq)]
 pub struct Failed;
 
 /// Want of memory. What answers it leaves everything as it was, unless it says otherwise.
-#[derive(Clone, Copy, Debug, PartialEq, Eq)]
+#[derive(Clone, Copy, PartialEq, Eq)]
 pub struct NoMemory;
 
 impl From<AllocError> for NoMemory {

@@ -2,7 +2,7 @@ use crate::CoreId;
 
 /// Where a core can be held: before its stamp with the cells held, with its own log part held, and
 /// between the writing of a journal's body and of its gate.
-#[derive(Clone, Copy, Debug, PartialEq, Eq)]
+#[derive(Clone, Copy, PartialEq, Eq)]
 pub enum Place {
     Held,
     Part,
@@ -15,7 +15,7 @@ pub trait Gate: Sync {
 }
 
 /// The hook that does nothing.
-#[derive(Clone, Copy, Debug)]
+#[derive(Clone, Copy)]
 pub struct NoGate;
 
 impl Gate for NoGate {

@@ -17,7 +17,7 @@ pub type BlockList = RoomyList<u32>;
 /// A list for steps that may not be refused memory: room is reserved while a step can still be
 /// called off, and what was reserved is pushed without memory. Contracts see the items and the
 /// number `spare` of pushes that are reserved.
-#[derive(Debug, Drop)]
+#[derive(Drop)]
 pub struct RoomyList<T> {
     items: Vec<T>,
 }

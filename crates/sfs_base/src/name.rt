@@ -31,7 +31,7 @@ impl From<AllocError> for NameFault {
 
 /// A name in a directory: 1 to 255 bytes, none of them 0 or `/`, and neither `.` nor `..`.
 /// Contracts see the list of its bytes.
-#[derive(Debug, Drop)]
+#[derive(Drop)]
 pub struct Name {
     bytes: Vec<u8>,
 }

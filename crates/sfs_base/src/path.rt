@@ -8,7 +8,7 @@ use std::marker::Model;
 pub const LONGEST_PATH: u64 = 4096;
 
 /// Why names make no path.
-#[derive(Debug, Drop)]
+#[derive(Drop)]
 pub enum PathFault {
     /// The path would have `len` bytes, more than 4,096. The names come back as they were.
     TooLong { len: u64, names: Vec<Name> },
@@ -16,7 +16,7 @@ pub enum PathFault {
 
 /// An absolute path of at most 4,096 bytes. It is one byte long for the root, which has no names,
 /// and otherwise each name counts with the `/` before it. Contracts see the list of its names.
-#[derive(Debug, Drop)]
+#[derive(Drop)]
 pub struct Path {
     names: Vec<Name>,
 }

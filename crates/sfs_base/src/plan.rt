@@ -6,7 +6,7 @@ use crate::Failed;
 use std::marker::Model;
 
 /// Which calls fail, by their numbers from 0 on, and a count of the calls and of the faults.
-#[derive(Debug, Drop)]
+#[derive(Drop)]
 pub(crate) struct FaultPlan {
     fails: Vec<u64>,
     calls: u64,

@@ -9,7 +9,7 @@ use std::io::{self, ErrorKind, Read, Write};
 const TRIES: u32 = 1024;
 
 /// How one call of a reader or a writer of std ended.
-#[derive(Debug, Drop)]
+#[derive(Drop)]
 enum Attempt {
     Moved(usize),
     Interrupted,
@@ -18,7 +18,7 @@ enum Attempt {
 
 /// A source over a reader of std. It tells the bytes that the reader tells. An error of the reader
 /// is a fault, but for an interruption, after which it reads again, 1,024 times in one call at most.
-#[derive(Debug, Drop)]
+#[derive(Drop)]
 pub struct StdSource<R> {
     inner: R,
     faults: u64,
@@ -59,7 +59,7 @@ impl<R: Read> Source for StdSource<R> {
 /// A sink over a writer of std. It tells the bytes that the writer tells. An error of the writer is
 /// a fault, and so is a write that takes nothing, but for an interruption, after which it writes
 /// again, 1,024 times in one call at most.
-#[derive(Debug, Drop)]
+#[derive(Drop)]
 pub struct StdSink<W> {
     inner: W,
     faults: u64,

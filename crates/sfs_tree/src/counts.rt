@@ -12,7 +12,7 @@ use sfs_base::NoMemory;
 use std::alloc::Global;
 
 /// What is counted of rows.
-#[derive(Debug, Drop)]
+#[derive(Drop)]
 pub struct Counts {
     pub named: Vec<u32>,
     pub inside: Vec<u32>,

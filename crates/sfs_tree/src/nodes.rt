@@ -12,7 +12,7 @@ use std::alloc::Global;
 use std::marker::Model;
 
 /// A node as it is stored.
-#[derive(Debug, Drop)]
+#[derive(Drop)]
 pub struct NodeData {
     pub kind: Kind,
     pub bytes: Vec<u8>,
@@ -65,7 +65,7 @@ impl NodeData {
 }
 
 /// The nodes of a tree.
-#[derive(Debug, Drop)]
+#[derive(Drop)]
 pub struct Nodes {
     places: Vec<Option<NodeData>>,
 }

@@ -14,7 +14,7 @@ use tree_laws::NameMap;
 const BUCKETS: usize = 8;
 
 /// The rows of a tree.
-#[derive(Debug, Drop)]
+#[derive(Drop)]
 pub struct Rows {
     buckets: Vec<NameMap>,
 }

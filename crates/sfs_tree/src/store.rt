@@ -14,7 +14,7 @@ use std::marker::Model;
 use tree_laws::NameMap;
 
 /// The rows and nodes of a tree.
-#[derive(Debug, Drop)]
+#[derive(Drop)]
 pub struct Store {
     nodes: Nodes,
     counts: Counts,

@@ -20,7 +20,7 @@ mod rename;
 /// The tree of one thread: rows from directory and name to child, nodes, and how many nodes each
 /// core has made. A look-up takes time in the logarithm of a bucket's rows, and no call goes over
 /// the whole tree.
-#[derive(Debug, Drop)]
+#[derive(Drop)]
 pub struct Tree {
     alloc: Global,
     store: Store,

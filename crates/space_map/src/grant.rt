@@ -13,7 +13,6 @@ pub struct Need {
 /// Inodes and blocks that a map has granted to one commit, each list ascending. It is a debt: it
 /// goes back to the map, by `give_back` or by `free_after`, and can't be dropped, made or taken apart
 /// by others. Contracts see its two lists of numbers.
-#[derive(Debug)]
 pub struct Grant {
     inodes: InodeList,
     blocks: BlockList,

@@ -12,7 +12,7 @@ use std::marker::Model;
 
 /// Which blocks and inodes of a disk are free, which are taken, and which are granted to commits.
 /// Contracts see the status of each number.
-#[derive(Debug, Drop)]
+#[derive(Drop)]
 pub struct SpaceMap {
     blocks: Pool,
     inodes: Pool,

@@ -15,7 +15,7 @@ const GROUP: usize = 64;
 
 /// A row of numbers, each free, taken or granted. The marks let a search pass over groups of
 /// numbers of which none is free.
-#[derive(Debug, Drop)]
+#[derive(Drop)]
 pub(crate) struct Pool {
     first: u32,
     statuses: Vec<Status>,

@@ -3,7 +3,7 @@ ghost use Rattle.space_map.specs.Pool.{is_free, released};
 ghost use Rattle.space_map.specs.Change.{changed};
 
 /// What a block or an inode is: free, taken by the disk, or granted to a commit.
-#[derive(Clone, Copy, Debug)]
+#[derive(Clone, Copy)]
 pub enum Status {
     Free,
     Taken,

@@ -3,7 +3,7 @@ ghost use Rattle.std.specs.Prelude.{◌≡◌, IfOk};
 use sfs_base::{Chunk, Kind, Name, NoMemory, NodeId};
 
 /// A call on the tree. A node that is not alive, or of the wrong kind, is a refusal and no fault of the caller.
-#[derive(Debug, Drop)]
+#[derive(Drop)]
 pub enum Call {
     /// Asks for the child of the row with this name.
     Look {

@@ -14,7 +14,7 @@ pub enum Act {
 
 /// The directories above one, from its holder up to the root. Contracts see the list of their
 /// numbers.
-#[derive(Debug, Drop)]
+#[derive(Drop)]
 pub struct Ancestors {
     nodes: NodeList,
 }
@@ -64,7 +64,7 @@ impl Ancestors {
 
 /// A change of a directory's rows, as a log keeps it. Within one stamp removals stand before
 /// additions.
-#[derive(Debug, Drop)]
+#[derive(Drop)]
 pub struct Change {
     pub stamp: Stamp,
     pub dir: NodeId,

@@ -8,7 +8,7 @@ use std::alloc::Global;
 use std::marker::Model;
 
 /// One call of the history: its place, who called, what was called and what was answered.
-#[derive(Debug, Drop)]
+#[derive(Drop)]
 pub struct Entry {
     pub stamp: Stamp,
     pub core: CoreId,
@@ -22,7 +22,7 @@ pub struct Entry {
 const MOST_PLACES: usize = 256;
 
 /// A place in a history: contracts see how many entries stand before it.
-#[derive(Debug, Drop)]
+#[derive(Drop)]
 pub struct Cursor {
     place: u64,
     // Of each list, how many entries were read.
@@ -38,7 +38,7 @@ impl Model for Cursor {
 }
 
 // How the entries are kept: in one list as they come, or in several that are read by stamps.
-#[derive(Debug, Drop)]
+#[derive(Drop)]
 enum Kept {
     One { entries: Vec<Entry> },
     Parts { parts: Vec<Vec<Entry>> },
@@ -46,7 +46,7 @@ enum Kept {
 
 /// The calls of a run: contracts see the list of their entries in stamp order. It may keep one list
 /// for each core, and a cursor reads the lists in the order of the stamps.
-#[derive(Debug, Drop)]
+#[derive(Drop)]
 pub struct History {
     kept: Kept,
 }

@@ -5,7 +5,7 @@ use sfs_base::{Kind, Name, NoMemory};
 use std::marker::Model;
 
 /// A name of a directory, and the kind of its node.
-#[derive(Debug, Drop)]
+#[derive(Drop)]
 pub struct NameKind {
     pub name: Name,
     pub kind: Kind,
@@ -13,7 +13,7 @@ pub struct NameKind {
 
 /// The names in a directory, ascending by their bytes, each with the kind of its node. Contracts see
 /// the list of them.
-#[derive(Debug, Drop)]
+#[derive(Drop)]
 pub struct NameRows {
     rows: Vec<NameKind>,
 }

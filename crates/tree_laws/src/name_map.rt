@@ -9,7 +9,7 @@ use std::cmp::Ordering;
 use std::marker::Model;
 
 /// A row of a directory: a name and its child.
-#[derive(Debug, Drop)]
+#[derive(Drop)]
 pub struct NameRow {
     pub name: Name,
     pub child: NodeId,
@@ -17,7 +17,7 @@ pub struct NameRow {
 
 /// Some rows of one directory, from name to child. A look-up takes time in the logarithm of their
 /// number, and an insertion moves the rows behind it.
-#[derive(Debug, Drop)]
+#[derive(Drop)]
 pub struct NameMap {
     rows: Vec<NameRow>,
 }

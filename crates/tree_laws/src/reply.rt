@@ -4,7 +4,7 @@ use crate::NameRows;
 use sfs_base::{Chunk, Kind, NoMemory, NodeId, SpaceKind};
 
 /// Why a call was refused.
-#[derive(Clone, Copy, Debug, PartialEq, Eq)]
+#[derive(Clone, Copy, PartialEq, Eq)]
 pub enum Code {
     NoEntry,
     Exists,
@@ -20,7 +20,7 @@ pub enum Code {
 }
 
 /// What a call answers. The last four are those of an fsync alone.
-#[derive(Debug, Drop)]
+#[derive(Drop)]
 pub enum Reply {
     Ok,
     Node {

@@ -5,7 +5,7 @@ use crate::preparing::Ready;
 use space_map::Grant;
 
 /// What an fsync did, beside its answer.
-#[derive(Clone, Copy, Debug, PartialEq, Eq)]
+#[derive(Clone, Copy, PartialEq, Eq)]
 pub enum Deed {
     /// No turn at the disk: its node is not alive, or memory was wanting before anything was granted.
     Nothing,

@@ -1,5 +1,5 @@
 -- What the three calls that close a slot leave, at each exit.
-use Rattle.std.proofs.Common.{◌≡◌, Ok, Err, Result, arith, subst, sym, ◌∙◌}
+use Rattle.std.proofs.Common.{◌≡◌, arith, subst, sym, ◌∙◌}
 use Rattle.std.specs.Prelude.{OnOk}
 use Rattle.std.proofs.lemmas.Result.{err_from_is_err_and, on_ok_weaker}
 use Rattle.sfs_base.proofs.BasicOptions.{on_ok}
