@@ -16,9 +16,9 @@ use Rattle.look_laws.specs.Fit.{KnowsEnough, FindsRight}
 use Rattle.look_laws.specs.Laws.{LooksAreMade}
 use Rattle.look_laws.proofs.Fitting.{fits}
 
-module _ (first : TreeState) (history : List Entry) (counts : Counts) (cut raised : Cut) (inodes : ℕ → Bool) (look : Look) (lifted : ℕ → ℕ) (found : Found)
-    (knows : KnowsEnough first history counts cut inodes look) (raise : IsRaised first history counts cut inodes look.flush raised) (lifts : Lifts look lifted)
-    (right : FindsRight first history counts raised look found) where
+module _ (first : TreeState) (history : List Entry) (counts : Counts) (cut raised : Cut) (inodes : ℕ → Bool) (look : Look) (lifted : ℕ → ℕ)
+    (knows : KnowsEnough first history counts cut inodes look) (raise : IsRaised first history counts cut inodes look.flush raised)
+    (lifts : Lifts look lifted) where
   -- the stamp of a touched node is that of the raised cut
   same_stamp : (node : ℕ) → Touches look node → lifted node ≡ cut_of raised node
   same_stamp node touched = elim (lifts.others node) [
@@ -44,7 +44,7 @@ module _ (first : TreeState) (history : List Entry) (counts : Counts) (cut raise
   ]
 
   -- a naming that is seen at the new stamps is one at the raised cut
-  naming_raised : (node : ℕ) → Touches look node → SeesNaming look lifted node → HasNaming first history counts raised node
+  pub naming_raised : (node : ℕ) → Touches look node → SeesNaming look lifted node → HasNaming first history counts raised node
   naming_raised node touched sees =
       let true_one = knows.truths sees.noted sees.is_noted in
       record {
@@ -58,7 +58,7 @@ module _ (first : TreeState) (history : List Entry) (counts : Counts) (cut raise
       }
 
   -- and one at the raised cut is seen
-  raised_seen : (node : ℕ) → Touches look node → HasNaming first history counts raised node → SeesNaming look lifted node
+  pub raised_seen : (node : ℕ) → Touches look node → HasNaming first history counts raised node → SeesNaming look lifted node
   raised_seen node touched naming =
       let change = naming.change in
       let lower : cut_of cut change.directory ≤ change.stamp =
@@ -74,54 +74,55 @@ module _ (first : TreeState) (history : List Entry) (counts : Counts) (cut raise
         ]);
       }
 
-  reached_there : (node : ℕ) → Touches look node → SeesReached look lifted found node → IsReached first history counts look.flush raised node
-  reached_there node touched (inl named) = inl ((right.named node touched).0 named)
-  reached_there node touched (inr (own, file, sees)) =
-      inr (own, ap (is_directory (tree_after first history)) own ∙ sym right.directory ∙ file, naming_raised node touched sees)
+  module _ (found : Found) (right : FindsRight first history counts raised look found) where
+    reached_there : (node : ℕ) → Touches look node → SeesReached look lifted found node → IsReached first history counts look.flush raised node
+    reached_there node touched (inl named) = inl ((right.named node touched).0 named)
+    reached_there node touched (inr (own, file, sees)) =
+        inr (own, ap (is_directory (tree_after first history)) own ∙ sym right.directory ∙ file, naming_raised node touched sees)
 
-  reached_here : (node : ℕ) → Touches look node → IsReached first history counts look.flush raised node → SeesReached look lifted found node
-  reached_here node touched (inl named) = inl ((right.named node touched).1 named)
-  reached_here node touched (inr (own, file, naming)) =
-      inr (own, right.directory ∙ sym (ap (is_directory (tree_after first history)) own) ∙ file, raised_seen node touched naming)
+    reached_here : (node : ℕ) → Touches look node → IsReached first history counts look.flush raised node → SeesReached look lifted found node
+    reached_here node touched (inl named) = inl ((right.named node touched).1 named)
+    reached_here node touched (inr (own, file, naming)) =
+        inr (own, right.directory ∙ sym (ap (is_directory (tree_after first history)) own) ∙ file, raised_seen node touched naming)
 
-  dead_there : (node : ℕ) → Touches look node → SeesDead look lifted found node → IsDead first history counts raised node
-  dead_there node touched dead = record {
-    no_root = dead.no_root;
-    unnamed = λ named. not_both ((right.named node touched).1 named) dead.unnamed;
-    flushed = λ change is counted child. elim (below_or change.stamp (cut_of raised change.directory)) [
-      | inl less ↦ less
-      | inr open_one ↦
-          absurd (dead.flushed (raised_seen node touched (record { change = change; is_change = is; counted = counted; child = child; unflushed = open_one })))
-    ];
-  }
+    dead_there : (node : ℕ) → Touches look node → SeesDead look lifted found node → IsDead first history counts raised node
+    dead_there node touched dead = record {
+      no_root = dead.no_root;
+      unnamed = λ named. not_both ((right.named node touched).1 named) dead.unnamed;
+      flushed = λ change is counted child. elim (below_or change.stamp (cut_of raised change.directory)) [
+        | inl less ↦ less
+        | inr open_one ↦
+            absurd (dead.flushed (raised_seen node touched (record { change = change; is_change = is; counted = counted; child = child; unflushed = open_one })))
+      ];
+    }
 
-  dead_here : (node : ℕ) → Touches look node → IsDead first history counts raised node → SeesDead look lifted found node
-  dead_here node touched dead = record {
-    no_root = dead.no_root;
-    unnamed = elim (true_or_false (found.named node)) [ inl named ↦ absurd (dead.unnamed ((right.named node touched).0 named)) | inr none ↦ none ];
-    flushed = λ sees. let naming = naming_raised node touched sees in
-        not_less (dead.flushed naming.change naming.is_change naming.counted naming.child) naming.unflushed;
-  }
+    dead_here : (node : ℕ) → Touches look node → IsDead first history counts raised node → SeesDead look lifted found node
+    dead_here node touched dead = record {
+      no_root = dead.no_root;
+      unnamed = elim (true_or_false (found.named node)) [ inl named ↦ absurd (dead.unnamed ((right.named node touched).0 named)) | inr none ↦ none ];
+      flushed = λ sees. let naming = naming_raised node touched sees in
+          not_less (dead.flushed naming.change naming.is_change naming.counted naming.child) naming.unflushed;
+    }
 
 pub looks_are_made : LooksAreMade
 looks_are_made first history counts cut raised inodes look lifted found gets loses knows raise lifts right moved = record {
-  stamps = same_stamp first history counts cut raised inodes look lifted found knows raise lifts right;
+  stamps = same_stamp first history counts cut raised inodes look lifted knows raise lifts;
   enters = λ node touched lacks. (
-    λ one. reached_there first history counts cut raised inodes look lifted found knows raise lifts right node touched ((moved.enters node).0 one).2,
+    λ one. reached_there first history counts cut raised inodes look lifted knows raise lifts found right node touched ((moved.enters node).0 one).2,
     λ reached. (moved.enters node).1 (
       knows.same_inodes node touched
           ∙ lacks,
       touched,
-      reached_here first history counts cut raised inodes look lifted found knows raise lifts right node touched reached,
+      reached_here first history counts cut raised inodes look lifted knows raise lifts found right node touched reached,
     ),
   );
   leaves = λ node touched has. (
-    λ one. dead_there first history counts cut raised inodes look lifted found knows raise lifts right node touched ((moved.leaves node).0 one).2,
+    λ one. dead_there first history counts cut raised inodes look lifted knows raise lifts found right node touched ((moved.leaves node).0 one).2,
     λ dead. (moved.leaves node).1 (
       knows.same_inodes node touched
           ∙ has,
       touched,
-      dead_here first history counts cut raised inodes look lifted found knows raise lifts right node touched dead,
+      dead_here first history counts cut raised inodes look lifted knows raise lifts found right node touched dead,
     ),
   );
 }

@@ -1,3 +1,4 @@
+pub mod Beside
 pub mod Fit
 pub mod Laws
 pub mod Look

@@ -48,7 +48,7 @@ use Rattle.turn_laws.specs.Need.{ImageState}
 use Rattle.turn_laws.specs.Recorded.{IsRecorded}
 use Rattle.scalefs_run.specs.Turns.{IsImageAtFirst, HasTurnsBy}
 use Rattle.scalefs_run.specs.RunInvariant.{EndsRun}
-use Rattle.scalefs_run.specs.Served.{Served, ServedScript, IsCaused, was_mounted}
+use Rattle.scalefs_run.specs.Served.{Served, ServedScript, IsCaused, run_ends, run_told, was_mounted}
 use Rattle.scalefs_run.specs.WithoutCore.{worker_without_core}
 use Rattle.scalefs_run.proofs.Ended.{survives}
 
@@ -125,9 +125,10 @@ none_told first image start now (turn ∷ turns) recorded = absurd (recorded.eac
 -- no call was made, on an image that was not mounted
 pub served_unmounted : (due_by : Judgement → Status) (nodes : ℕ) (phases : List (List Line)) (Source Sink : Type 0) (before after : Option (List ℕ))
     (old new : View) (status : Status)
-    → IsCaused due_by Source Sink old new status → HasHistory phases [] status → HasText (history_text []) before after status → was_mounted status [] ≡ false
+    → IsCaused due_by
+    (run_ends Source Sink before after old new) status → HasHistory phases [] status → HasText (history_text []) before after status → was_mounted status [] ≡ false
     → ShowsEntry old new → old.now ≤ new.now
-    → Served due_by nodes phases Source Sink before after old new status [] []
+    → Served due_by nodes phases (run_ends Source Sink before after old new) (run_told status [] [])
 served_unmounted due_by nodes phases Source Sink before after old new status caused calls text not_mounted shows later = record {
   caused = caused;
   first = no_tree;
@@ -160,9 +161,10 @@ module _ (nodes : ℕ) (phases : List (List Line)) (Sink : Type 0) (written : Op
       by (Some fault) = (tt, tt)
 
   ends_refused : (fault : Fault) (status : Status) → IfTold old.content (λ image. fault_of image ≡ Some fault) → Unwritten old new
-      → BadImage (Rattle.scalefs_run.specs.Image.fault_named fault) ≡ status → Served due_by nodes phases ⊥ Sink written written old new status [] []
+      → BadImage (Rattle.scalefs_run.specs.Image.fault_named fault) ≡ status → Served due_by nodes phases (run_ends ⊥ Sink written written old new)
+      (run_told status [] [])
   ends_refused fault status is unwritten same =
-      subst (λ (s : Status). Served due_by nodes phases ⊥ Sink written written old new s [] []) same
+      subst (λ (s : Status). Served due_by nodes phases (run_ends ⊥ Sink written written old new) (run_told s [] [])) same
       (served_unmounted due_by nodes phases ⊥ Sink written written old new (BadImage (Rattle.scalefs_run.specs.Image.fault_named fault))
       (record {
         judged = record { fault = Some fault; cores = (judged_of old.content).cores };
@@ -174,7 +176,7 @@ module _ (nodes : ℕ) (phases : List (List Line)) (Sink : Type 0) (written : Op
 
   pub served_refused : (fault : RecoverFault) → IfTold old.content (λ image. IsFaultOf image fault) → LeavesRefused old new fault
       → HasReadCause {V = Engine} is_recover_disk_fault old.faults new.faults (Err fault)
-      → Served due_by nodes phases ⊥ Sink written written old new (status_of_recovery fault) [] []
+      → Served due_by nodes phases (run_ends ⊥ Sink written written old new) (run_told (status_of_recovery fault) [] [])
   served_refused recover.DiskFailed is left cause =
       served_unmounted due_by nodes phases ⊥ Sink written written old new DiskFault
       (record {
@@ -214,7 +216,7 @@ module _ (nodes : ℕ) (phases : List (List Line)) (Sink : Type 0) (before after
   -- a worker has no core
   pub served_without_core : (asked have : ℕ) → have ≡ first.volume.layout.cores → worker_without_core first.volume.layout.cores phases ≡ Some asked
       → before ≡ after → ShowsEntry old new → old.now ≤ new.now
-      → Served (λ judged. judged_status judged phases) nodes phases ⊥ Sink before after old new (TooManyWorkers asked have) [] []
+      → Served (λ judged. judged_status judged phases) nodes phases (run_ends ⊥ Sink before after old new) (run_told (TooManyWorkers asked have) [] [])
   served_without_core asked have is none same shows later =
       served_unmounted (λ judged. judged_status judged phases) nodes phases ⊥ Sink before after old new (TooManyWorkers asked have)
       (record {
@@ -243,7 +245,7 @@ module _ (nodes : ℕ) (phases : List (List Line)) (Sink : Type 0) (before after
   pub served_run : (status : Status) → EndsRun first engine mid new → old.now ≤ mid.now → Advances mid new
       → worker_without_core first.volume.layout.cores phases ≡ None → (made ≡ [] → ShowsEntry old new)
       → IsWriteStatus Sink status → HasHistory phases made status → HasText (history_text made) before after status
-      → Served (λ judged. judged_status judged phases) nodes phases ⊥ Sink before after old new status made engine.turns.items
+      → Served (λ judged. judged_status judged phases) nodes phases (run_ends ⊥ Sink before after old new) (run_told status made engine.turns.items)
   served_run status ends begun goes none shows is calls text =
       let ended = ends old.faults begins.image begins.kept begins.stands in
       record {
@@ -383,7 +385,7 @@ module _ (judged : Judgement) (script : List ℕ) where
 -- the script could not be read
 pub served_unread : (nodes : ℕ) (left : Option (List ℕ)) (script : List ℕ) (Source Sink : Type 0) (written : Option (List ℕ)) (disk : View) (status : Status)
     → IsOf left script → HasReadFault script Source status
-    → ServedScript nodes left Source Sink written written disk disk status [] []
+    → ServedScript nodes left (run_ends Source Sink written written disk disk) (run_told status [] [])
 served_unread nodes left script Source Sink written disk status is fault = (script, is, by status fault)
   where
     phases : List (List Line)
@@ -395,14 +397,14 @@ served_unread nodes left script Source Sink written disk status is fault = (scri
     ends : (status : Status) → HasStatus (due judged script) Source Sink (HasRisen disk.faults disk.faults) status
         → (IsImageRefused status → Unwritten disk disk) → HasHistory phases [] status → HasText (history_text []) written written status
         → was_mounted status [] ≡ false
-        → Served (λ judged. due judged script) nodes phases Source Sink written written disk disk status [] []
+        → Served (λ judged. due judged script) nodes phases (run_ends Source Sink written written disk disk) (run_told status [] [])
     ends status status_is refused calls text not =
         served_unmounted (λ judged. due judged script) nodes phases Source Sink written written disk disk status
         (record { judged = judged; judged_told = judged_told disk.content; status_is = status_is; refused = refused }) calls text not (shows_untouched disk)
         (omega arith)
 
     by : (status : Status) → HasReadFault script Source status
-        → Served (λ judged. due judged script) nodes phases Source Sink written written disk disk status [] []
+        → Served (λ judged. due judged script) nodes phases (run_ends Source Sink written written disk disk) (run_told status [] [])
     by (BadScript line) fault =
         ends (BadScript line) (due_read judged script fault.0 ∙ ap (script_status judged) fault.1) (λ refused. absurd refused) refl refl refl
     by ReadFault fault = ends ReadFault (fault, due_command judged script) (λ refused. absurd refused) refl refl refl
@@ -415,8 +417,8 @@ served_unread nodes left script Source Sink written disk status is fault = (scri
 pub served_read : (nodes : ℕ) (left : Option (List ℕ)) (script : List ℕ) (phases : List (List Line)) (Source Sink : Type 0) (before after : Option (List ℕ))
     (old new : View) (status : Status) (history : List Entry) (turns : List Turn)
     → IsOf left script → IsShort script → phases_of script ≡ Ok phases
-    → Served (λ judged. judged_status judged phases) nodes phases ⊥ Sink before after old new status history turns
-    → ServedScript nodes left Source Sink before after old new status history turns
+    → Served (λ judged. judged_status judged phases) nodes phases (run_ends ⊥ Sink before after old new) (run_told status history turns)
+    → ServedScript nodes left (run_ends Source Sink before after old new) (run_told status history turns)
 served_read nodes left script phases Source Sink before after old new status history turns is short read served = (
   script,
   is,

@@ -24,7 +24,7 @@ use Rattle.scalefs_run.specs.declared.outcome.Status.TheVariants.{Done, NoMemory
 use Rattle.scalefs_run.specs.Due.{Judgement}
 use Rattle.scalefs_run.specs.Image.{making_due, MakesImage, ShowsImage}
 use Rattle.scalefs_run.specs.Images.{IfToldAndCalm}
-use Rattle.scalefs_run.specs.Served.{Served}
+use Rattle.scalefs_run.specs.Served.{Served, run_ends, run_told}
 
 -- the counts of faults of a source and a sink, before a call and after it
 pub record EndFaults : Type 0 where
@@ -73,8 +73,9 @@ pub record WentWell (first : TreeState) (status : Status) (history : List Entry)
 abbrev pub RunsAreComplete : View → View → Type 0
 RunsAreComplete old new = (due_by : Judgement → Status) (nodes : ℕ) (phases : List (List Line)) (ends : EndFaults) (before after : Option (List ℕ))
     (status : Status) (history : List Entry) (turns : List Turn)
-    → (served : Served due_by nodes phases (HasRisen ends.source_before ends.source_after) (HasRisen ends.sink_before ends.sink_after) before after old new
-    status history turns)
+    → (served : Served due_by nodes phases
+    (run_ends (HasRisen ends.source_before ends.source_after) (HasRisen ends.sink_before ends.sink_after) before after old new)
+    (run_told status history turns))
     → due_by served.caused.judged ≡ Done → NothingFailed ends old new → WentWell served.first status history turns
 
 -- So `mkfs` is done of a layout that fits, and `show` of an image without a fault.

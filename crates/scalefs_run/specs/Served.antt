@@ -33,12 +33,34 @@ was_mounted NoMemory [] = false
 was_mounted NoMemory (entry ∷ history) = true
 was_mounted _ history = false
 
+-- What was at the ends of a run: whether the count of faults of its source or of its sink rose, what was written to the sink before and after, and
+-- the disk at the begin and at the end.
+pub record RunEnds : Type 1 where
+  pub Source : Type 0
+  pub Sink : Type 0
+  pub before : Option (List ℕ)
+  pub after : Option (List ℕ)
+  pub old : View
+  pub new : View
+
+abbrev pub run_ends : Type 0 → Type 0 → Option (List ℕ) → Option (List ℕ) → View → View → RunEnds
+run_ends Source Sink before after old new = record { Source = Source; Sink = Sink; before = before; after = after; old = old; new = new }
+
+-- What a run told: its status, its history and its turns at the disk.
+pub record RunTold : Type 0 where
+  pub status : Status
+  pub history : List Entry
+  pub turns : List Turn
+
+abbrev pub run_told : Status → List Entry → List Turn → RunTold
+run_told status history turns = record { status = status; history = history; turns = turns }
+
 -- A status has its cause: it is the one due by what is to be said of the image, or tells what failed. A refused image was not written to.
-pub record IsCaused (due_by : Judgement → Status) (Source Sink : Type 0) (old new : View) (status : Status) : Type 0 where
+pub record IsCaused (due_by : Judgement → Status) (ends : RunEnds) (status : Status) : Type 0 where
   pub judged : Judgement
-  pub judged_told : IfTold old.content (IsJudged judged)
-  pub status_is : HasStatus (due_by judged) Source Sink (HasRisen old.faults new.faults) status
-  pub refused : IsImageRefused status → Unwritten old new
+  pub judged_told : IfTold ends.old.content (IsJudged judged)
+  pub status_is : HasStatus (due_by judged) ends.Source ends.Sink (HasRisen ends.old.faults ends.new.faults) status
+  pub refused : IsImageRefused status → Unwritten ends.old ends.new
 
 -- The tree with which a run begins: it is sound, and where the disk told its content, it is the image's, with a share of so many new nodes for
 -- each core.
@@ -46,33 +68,29 @@ pub record IsFirstTree (nodes : ℕ) (old : View) (first : TreeState) : Type 0 w
   pub sound : IsSoundTree first
   pub told : IfTold old.content (λ image. tree_of image (share_of_nodes nodes (layout_of image)) ≡ Some first)
 
--- A run over a script with these phases, in which so many nodes may be made, ended with this status, this history and these turns.
--- `Source` and `Sink` say that the count of faults of the source or of the sink rose; before and after are what was
--- written to the sink, old and new are the disk.
-pub record Served (due_by : Judgement → Status) (nodes : ℕ) (phases : List (List Line)) (Source Sink : Type 0) (before after : Option (List ℕ)) (old new : View)
-    (status : Status) (history : List Entry) (turns : List Turn) : Type 0 where
+-- A run over a script with these phases, in which so many nodes may be made, had these ends and told this.
+pub record Served (due_by : Judgement → Status) (nodes : ℕ) (phases : List (List Line)) (ends : RunEnds) (told : RunTold) : Type 0 where
   -- the status has its cause
-  pub caused : IsCaused due_by Source Sink old new status
+  pub caused : IsCaused due_by ends told.status
   -- the tree of the image that was mounted
   pub first : TreeState
-  pub first_is : was_mounted status history ≡ true → IsFirstTree nodes old first
+  pub first_is : was_mounted told.status told.history ≡ true → IsFirstTree nodes ends.old first
   -- the history is a legal run of a one-thread tree that begins with it
-  pub legal : IsLegal first history
+  pub legal : IsLegal first told.history
   -- it holds each worker's calls, each once, in their order, phase by phase
-  pub calls : HasHistory phases history status
+  pub calls : HasHistory phases told.history told.status
   -- its text was written
-  pub text : HasText (history_text history) before after status
+  pub text : HasText (history_text told.history) ends.before ends.after told.status
   -- each fsync is answered as it is for its cause
-  pub answers : HasAnswers old.faults new.faults first history
+  pub answers : HasAnswers ends.old.faults ends.new.faults first told.history
   -- while the count of device calls has not come to its last value, the moments of acknowledgement do not fall, and lie within the run
-  pub acks : CountsOn new → AcksRise old.now history new.now
+  pub acks : CountsOn ends.new → AcksRise ends.old.now told.history ends.new.now
   -- its turns at the disk tell what each fsync did
-  pub turns_are : HasTurnsBy (was_mounted status history) old new first history turns
+  pub turns_are : HasTurnsBy (was_mounted told.status told.history) ends.old ends.new first told.history told.turns
   -- what a crash leaves at each moment, and what a read gives at the end
-  pub images : IfToldAndCalm old new (HasImagesBy (was_mounted status history) nodes first old new history)
+  pub images : IfToldAndCalm ends.old ends.new (HasImagesBy (was_mounted told.status told.history) nodes first ends.old ends.new told.history)
 
 -- the same of the script that the source gave
-abbrev pub ServedScript : ℕ → Option (List ℕ) → Type 0 → Type 0 → Option (List ℕ) → Option (List ℕ) → View → View → Status → List Entry → List Turn → Type 0
-ServedScript nodes left Source Sink before after old new status history turns =
-    (script : List ℕ) × IsOf left script
-    × Served (λ judged. due judged script) nodes (phases_in (phases_of script)) Source Sink before after old new status history turns
+abbrev pub ServedScript : ℕ → Option (List ℕ) → RunEnds → RunTold → Type 0
+ServedScript nodes left ends told =
+    (script : List ℕ) × IsOf left script × Served (λ judged. due judged script) nodes (phases_in (phases_of script)) ends told

@@ -10,7 +10,7 @@ ghost use Rattle.scalefs_run.specs.Commands.{ServedWords, ServedCommand};
 ghost use Rattle.scalefs_run.specs.Due.{judged_status};
 ghost use Rattle.scalefs_run.specs.Outcome.{IsOf, HasText, IsWriteStatus, HasReadFault, status_of_source, status_of_script, reaches_disk};
 ghost use Rattle.scalefs_run.specs.Words.{MOST_NODES, IsInRange, command_asked};
-ghost use Rattle.scalefs_run.specs.Served.{Served, ServedScript};
+ghost use Rattle.scalefs_run.specs.Served.{Served, ServedScript, run_ends, run_told};
 
 use crate::engine::{Engine, core_count, mount, serve};
 use crate::image::{make_image, show_image, status_of_recovery, write_text};
@@ -40,8 +40,10 @@ pub fn run<R: Threads + Wait + Sync, S: Source, K: Sink, D: Disk, G: Gate>(
     mut disk: D,
     _gate: &G,
 ) -> Outcome<D>
-    ensures served { ServedWords (command_asked (map string_bytes words.now)) (S.left source.old) (HasRisen (S.faults source.old) (S.faults source.new)) (HasRisen (K.faults sink.old) (K.faults sink.new))
-        (K.written sink.old) (K.written sink.new) (D.view disk) (D.view result.disk) result.status result.history result.turns.items }
+    ensures served { ServedWords (command_asked (map string_bytes words.now)) (S.left source.old)
+        (run_ends (HasRisen (S.faults source.old) (S.faults source.new)) (HasRisen (K.faults sink.old) (K.faults sink.new))
+        (K.written sink.old) (K.written sink.new) (D.view disk) (D.view result.disk))
+        (run_told result.status result.history result.turns.items) }
     ensures untouched { reaches_disk result.status ≡ false → result.disk ≡ disk }
     ensures advances { Advances (D.view disk) (D.view result.disk) }
 {
@@ -62,8 +64,10 @@ fn serve_words<S: Source, K: Sink, D: Disk>(
     sink: &mut K,
     disk: &mut D,
 ) -> (Status, History, Turns)
-    ensures served { ServedWords (command_asked (map string_bytes words.now)) (S.left source.old) (HasRisen (S.faults source.old) (S.faults source.new)) (HasRisen (K.faults sink.old) (K.faults sink.new))
-        (K.written sink.old) (K.written sink.new) (D.view disk.old) (D.view disk.new) result.0 result.1 result.2.items }
+    ensures served { ServedWords (command_asked (map string_bytes words.now)) (S.left source.old)
+        (run_ends (HasRisen (S.faults source.old) (S.faults source.new)) (HasRisen (K.faults sink.old) (K.faults sink.new))
+        (K.written sink.old) (K.written sink.new) (D.view disk.old) (D.view disk.new))
+        (run_told result.0 result.1 result.2.items) }
     ensures untouched { reaches_disk result.0 ≡ false → disk.new ≡ disk.old }
     ensures advances { Advances (D.view disk.old) (D.view disk.new) }
 {
@@ -85,8 +89,10 @@ fn serve_command<S: Source, K: Sink, D: Disk>(
     disk: &mut D,
 ) -> (Status, History, Turns)
     requires ranges { IsInRange command }
-    ensures served { ServedCommand command (S.left source.old) (HasRisen (S.faults source.old) (S.faults source.new)) (HasRisen (K.faults sink.old) (K.faults sink.new))
-        (K.written sink.old) (K.written sink.new) (D.view disk.old) (D.view disk.new) result.0 result.1 result.2.items }
+    ensures served { ServedCommand command (S.left source.old)
+        (run_ends (HasRisen (S.faults source.old) (S.faults source.new)) (HasRisen (K.faults sink.old) (K.faults sink.new))
+        (K.written sink.old) (K.written sink.new) (D.view disk.old) (D.view disk.new))
+        (run_told result.0 result.1 result.2.items) }
     ensures untouched { reaches_disk result.0 ≡ false → disk.new ≡ disk.old }
     ensures advances { Advances (D.view disk.old) (D.view disk.new) }
 {
@@ -123,8 +129,10 @@ fn serve_source<S: Source, K: Sink, D: Disk>(
     disk: &mut D,
 ) -> (Status, History, Turns)
     requires most { nodes ≤ MOST_NODES }
-    ensures served { ServedScript nodes (S.left source.old) (HasRisen (S.faults source.old) (S.faults source.new)) (HasRisen (K.faults sink.old) (K.faults sink.new))
-        (K.written sink.old) (K.written sink.new) (D.view disk.old) (D.view disk.new) result.0 result.1 result.2.items }
+    ensures served { ServedScript nodes (S.left source.old)
+        (run_ends (HasRisen (S.faults source.old) (S.faults source.new)) (HasRisen (K.faults sink.old) (K.faults sink.new))
+        (K.written sink.old) (K.written sink.new) (D.view disk.old) (D.view disk.new))
+        (run_told result.0 result.1 result.2.items) }
     ensures untouched { reaches_disk result.0 ≡ false → disk.new ≡ disk.old }
     ensures advances { Advances (D.view disk.old) (D.view disk.new) }
 {
@@ -183,8 +191,10 @@ fn serve_script<K: Sink, D: Disk>(
 ) -> (Status, History, Turns)
     requires most { nodes ≤ MOST_NODES }
     requires ready { All LinesMayRun script.now }
-    ensures served { Served (λ judged. judged_status judged script.now) nodes script.now ⊥ (HasRisen (K.faults sink.old) (K.faults sink.new))
-        (K.written sink.old) (K.written sink.new) (D.view disk.old) (D.view disk.new) result.0 result.1 result.2.items }
+    ensures served { Served (λ judged. judged_status judged script.now) nodes script.now
+        (run_ends ⊥ (HasRisen (K.faults sink.old) (K.faults sink.new))
+        (K.written sink.old) (K.written sink.new) (D.view disk.old) (D.view disk.new))
+        (run_told result.0 result.1 result.2.items) }
     ensures reached { reaches_disk result.0 ≡ true }
     ensures advances { Advances (D.view disk.old) (D.view disk.new) }
 {

@@ -11,7 +11,7 @@ use Rattle.script.specs.Follows.{Follows, FollowsSoFar}
 use Rattle.script.specs.Texts.{history_text}
 use Rattle.scalefs_run.specs.Due.{judged_status}
 use Rattle.scalefs_run.specs.Outcome.{HasText}
-use Rattle.scalefs_run.specs.Served.{Served}
+use Rattle.scalefs_run.specs.Served.{Served, run_ends, run_told}
 use Rattle.scalefs_run.specs.WithoutCore.{worker_without_core, HaveCores}
 use Rattle.scalefs_run.specs.declared.outcome.Status.{Status}
 use Rattle.scalefs_run.specs.declared.outcome.Status.TheVariants.{NoMemory, TooManyWorkers}
@@ -34,14 +34,14 @@ returns-in-Err-clause-served g c =
     let Sink = HasRisen (g.K.Sink.faults sink) (g.K.Sink.faults sink) in
     let written = g.K.Sink.written sink in
     let ends = c.in-Err.ensures in
-    subst (λ (t : Roomy Turn). Served
-    (λ judged. judged_status judged phases) c.args.nodes phases ⊥ Sink written written old new c.status_of_recovery-status.result c.new.result t.items)
+    subst (λ (t : Roomy Turn). Served (λ judged. judged_status judged phases) c.args.nodes phases (run_ends ⊥ Sink written written old new)
+    (run_told c.status_of_recovery-status.result c.new.result t.items))
     (sym c.new-in-Err.ensures)
     (subst
-    (λ (h : List Entry). Served
-    (λ judged. judged_status judged phases) c.args.nodes phases ⊥ Sink written written old new c.status_of_recovery-status.result h [])
+    (λ (h : List Entry). Served (λ judged. judged_status judged phases) c.args.nodes phases (run_ends ⊥ Sink written written old new)
+    (run_told c.status_of_recovery-status.result h []))
     (sym c.new.ensures)
-    (subst (λ (s : Status). Served (λ judged. judged_status judged phases) c.args.nodes phases ⊥ Sink written written old new s [] [])
+    (subst (λ (s : Status). Served (λ judged. judged_status judged phases) c.args.nodes phases (run_ends ⊥ Sink written written old new) (run_told s [] []))
     (sym c.status_of_recovery-status.ensures)
     (served_refused c.args.nodes phases Sink written old new c.mount.ensures.moments ends.runs.advances.later c.in-Err.fault ends.bad ends.refused
     ends.runs.cause)))
@@ -60,16 +60,16 @@ returns-in-Some-clause-served g c =
     let found : worker_without_core engine.volume.layout.cores phases ≡ Some c.in-Some.asked =
     ap (λ n. worker_without_core n phases) (sym have_is) ∙ ap (worker_without_core c.core_count-have.result) (sym c.phases.ensures)
     ∙ sym c.first_worker_without_core.ensures ∙ c.in-Some.is in
-    subst (λ n. Served (λ judged. judged_status judged phases) c.args.nodes phases ⊥ Sink written written old new
-    (TooManyWorkers n c.from-in-Some.result) c.new-in-Some.result c.new-in-Some-2.result.items)
+    subst (λ n. Served (λ judged. judged_status judged phases) c.args.nodes phases (run_ends ⊥ Sink written written old new)
+    (run_told (TooManyWorkers n c.from-in-Some.result) c.new-in-Some.result c.new-in-Some-2.result.items))
     (sym c.from.ensures)
     (subst
-    (λ (t : Roomy Turn). Served (λ judged. judged_status judged phases) c.args.nodes phases ⊥ Sink written written old new
-    (TooManyWorkers c.in-Some.asked c.from-in-Some.result) c.new-in-Some.result t.items)
+    (λ (t : Roomy Turn). Served (λ judged. judged_status judged phases) c.args.nodes phases (run_ends ⊥ Sink written written old new)
+    (run_told (TooManyWorkers c.in-Some.asked c.from-in-Some.result) c.new-in-Some.result t.items))
     (sym c.new-in-Some-2.ensures)
     (subst
-    (λ (h : List Entry). Served (λ judged. judged_status judged phases) c.args.nodes phases ⊥ Sink written written old new
-    (TooManyWorkers c.in-Some.asked c.from-in-Some.result) h [])
+    (λ (h : List Entry). Served (λ judged. judged_status judged phases) c.args.nodes phases (run_ends ⊥ Sink written written old new)
+    (run_told (TooManyWorkers c.in-Some.asked c.from-in-Some.result) h []))
     (sym c.new-in-Some.ensures)
     (served_without_core c.args.nodes phases Sink written written engine engine old new new c.in-Ok.ensures.begins c.in-Some.asked c.from-in-Some.result
     (c.from-in-Some.ensures ∙ have_is) found refl c.mount.ensures.moments c.in-Ok.ensures.runs.advances.later)))
@@ -116,13 +116,13 @@ returns-clause-served g c =
     let was = c.args.sink.now in
     let is = c.match-served.sink in
     let status = c.match-served.status in
-    subst (λ (h : List Entry). Served (λ judged. judged_status judged phases) nodes phases ⊥ (HasRisen (faults was) (faults is)) (written was)
-    (written is) old new status h engine.turns.items)
+    subst (λ (h : List Entry). Served (λ judged. judged_status judged phases) nodes phases
+    (run_ends ⊥ (HasRisen (faults was) (faults is)) (written was) (written is) old new) (run_told status h engine.turns.items))
     (sym c.from_entries-history.ensures)
     (elim c.match-served.branch [
       | in-Err-served w ↦
-          subst (λ (s : Status). Served (λ judged. judged_status judged phases) nodes phases ⊥ (HasRisen (faults was) (faults is)) (written was)
-          (written is) old new s history engine.turns.items)
+          subst (λ (s : Status). Served (λ judged. judged_status judged phases) nodes phases
+          (run_ends ⊥ (HasRisen (faults was) (faults is)) (written was) (written is) old new) (run_told s history engine.turns.items))
           (sym w.status-is)
           (served_run nodes phases (HasRisen (faults was) (faults is)) (written was)
           (written is) first engine old mid new begins NoMemory w.in-Err-served.ensures.ends begun goes none shows tt
@@ -135,12 +135,12 @@ returns-clause-served g c =
           (keeps_end first engine mid new w.in-Ok-served.ensures.invariant) begun goes none shows ended.status
           (write_history _ phases history given ended.status (subst (λ (p : List (List Line)). Follows p history) c.phases-2.ensures w.in-Ok-served.ensures.ok))
           (subst (λ (h : List Entry). HasText (history_text h) (written was) (written last) given) c.from_entries-history.ensures ended.text) in
-          subst (λ (s : Status). Served (λ judged. judged_status judged phases) nodes phases ⊥ (HasRisen (faults was) (faults is)) (written was)
-          (written is) old new s history engine.turns.items)
+          subst (λ (s : Status). Served (λ judged. judged_status judged phases) nodes phases
+          (run_ends ⊥ (HasRisen (faults was) (faults is)) (written was) (written is) old new) (run_told s history engine.turns.items))
           (sym w.status-is)
           (subst
-          (λ k. Served (λ judged. judged_status judged phases) nodes phases ⊥ (HasRisen (faults was) (faults k)) (written was)
-          (written k) old new given history engine.turns.items)
+          (λ k. Served (λ judged. judged_status judged phases) nodes phases (run_ends ⊥ (HasRisen (faults was) (faults k)) (written was) (written k) old new)
+          (run_told given history engine.turns.items))
           (sym w.sink-is) served)
     ])
 

@@ -4,7 +4,7 @@ use Rattle.sfs_base.specs.Ends.{HasRisen}
 use Rattle.sfs_base.specs.Lists.{Roomy}
 use Rattle.tree_laws.specs.declared.history.Entry.{Entry}
 use Rattle.tree_laws.specs.declared.turns.Turn.{Turn}
-use Rattle.scalefs_run.specs.Served.{ServedScript}
+use Rattle.scalefs_run.specs.Served.{ServedScript, run_ends, run_told}
 use Rattle.scalefs_run.proofs.Serving.{served_unread, served_read}
 use Rattle.scalefs_run.proofs.top.serve_source.Goals as goal
 
@@ -16,9 +16,10 @@ returns-in-Err-clause-served g c =
     let written = g.K.Sink.written c.args.sink.now in
     let disk = g.D.Disk.view c.args.disk.now in
     let found = c.in-Err.ensures.err in
-    subst (λ (t : Roomy Turn). ServedScript c.args.nodes left Read Wrote written written disk disk c.in-Err.status c.new.result t.items)
+    subst (λ (t : Roomy Turn). ServedScript c.args.nodes left (run_ends Read Wrote written written disk disk) (run_told c.in-Err.status c.new.result t.items))
     (sym c.new-in-Err.ensures)
-    (subst (λ (h : List Entry). ServedScript c.args.nodes left Read Wrote written written disk disk c.in-Err.status h []) (sym c.new.ensures)
+    (subst (λ (h : List Entry). ServedScript c.args.nodes left (run_ends Read Wrote written written disk disk)
+    (run_told c.in-Err.status h [])) (sym c.new.ensures)
     (served_unread c.args.nodes left found.0 Read Wrote written disk c.in-Err.status found.1 found.2))
 
 pub returns-in-Ok-clause-served : goal.returns-in-Ok-clause-served
