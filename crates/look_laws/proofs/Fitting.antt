@@ -28,7 +28,7 @@ module _ (first : TreeState) (history : List Entry) (counts : Counts) (cut : Cut
       }
 
   -- and one in its span is in sight
-  sight_of : (change : RowChange) → Gathers look change.directory → InSpan first history counts cut look.flush.stamp change
+  pub sight_of : (change : RowChange) → Gathers look change.directory → InSpan first history counts cut look.flush.stamp change
       → (noted : Noted) × InSight look noted × (noted.change ≡ change)
   sight_of change own span =
       let found = knows.spans change own span in (

@@ -28,7 +28,7 @@ use Rattle.look_laws.specs.Look.{Look, Touches, member, SeesNaming}
 use Rattle.look_laws.specs.Made.{SeesReached, SeesDead}
 use Rattle.look_laws.specs.Fit.{FindsRight}
 use Rattle.look_laws.specs.Laws.{FitsHistory}
-use Rattle.look_laws.specs.Beside.{Observation, Knows, NamedHaveInodes, Outcome, IsMadeBy, AreInodesBehind, IsLiftedBy, LooksKnow}
+use Rattle.look_laws.specs.Beside.{Observation, Knows, NamedHaveInodes, Lifting, IsMadeBy, AreInodesBehind, IsLiftedBy, LooksKnow}
 use Rattle.look_laws.proofs.Fitting.{fits}
 use Rattle.look_laws.proofs.Making.{naming_raised, raised_seen}
 
@@ -211,11 +211,11 @@ module _ (seen : Observation) (is : IsSoundTree seen.first) (legal : IsLegal see
           | inr same ↦ omega arith
         ]
 
-    module _ (raised : Cut) (outcome : Outcome) (after : ℕ → Bool) (raise : IsRaised seen.first seen.history every_entry cut inodes look.flush raised)
-        (made : IsMadeBy look outcome) (right : FindsRight seen.first seen.history every_entry raised look outcome.found)
-        (behind_it : AreInodesBehind inodes outcome after) where
+    module _ (raised : Cut) (lifting : Lifting) (after : ℕ → Bool) (raise : IsRaised seen.first seen.history every_entry cut inodes look.flush raised)
+        (made : IsMadeBy look lifting) (right : FindsRight seen.first seen.history every_entry raised look lifting.found)
+        (behind_it : AreInodesBehind inodes lifting after) where
       abbrev lifted : ℕ → ℕ
-      lifted = outcome.lifted
+      lifted = lifting.lifted
 
       -- a naming that is seen at the new stamps is not flushed by the raised cut
       naming_there : (node : ℕ) → Touches look node → SeesNaming look lifted node → HasNaming seen.first seen.history seen.counts raised node
@@ -232,7 +232,7 @@ module _ (seen : Observation) (is : IsSoundTree seen.first) (legal : IsLegal see
                 inr (raised_seen seen.first seen.history seen.counts cut raised inodes look lifted knows.enough (raise_here raised raise) made.lifts node touched counted)
           ]
 
-      reached_there : (node : ℕ) → Touches look node → SeesReached look lifted outcome.found node
+      reached_there : (node : ℕ) → Touches look node → SeesReached look lifted lifting.found node
           → IsReached seen.first seen.history every_entry look.flush raised node
       reached_there node touched (inl row) = inl ((right.named node touched).0 row)
       reached_there node touched (inr (own, file, sees)) =
@@ -244,14 +244,14 @@ module _ (seen : Observation) (is : IsSoundTree seen.first) (legal : IsLegal see
           )
 
       reached_here : (node : ℕ) → Touches look node → IsReached seen.first seen.history every_entry look.flush raised node
-          → SeesReached look lifted outcome.found node
+          → SeesReached look lifted lifting.found node
       reached_here node touched (inl row) = inl ((right.named node touched).1 row)
       reached_here node touched (inr (own, file, naming)) = elim (naming_seen node touched naming) [
         | inl row ↦ inl ((right.named node touched).1 row)
         | inr sees ↦ inr (own, right.directory ∙ sym (ap (is_directory (tree_after seen.first seen.history)) own) ∙ file, sees)
       ]
 
-      dead_there : (node : ℕ) → Touches look node → SeesDead look lifted outcome.found node → IsDead seen.first seen.history every_entry raised node
+      dead_there : (node : ℕ) → Touches look node → SeesDead look lifted lifting.found node → IsDead seen.first seen.history every_entry raised node
       dead_there node touched dead = record {
         no_root = dead.no_root;
         unnamed = unnamed;
@@ -269,10 +269,10 @@ module _ (seen : Observation) (is : IsSoundTree seen.first) (legal : IsLegal see
           unnamed : IsNamedIn (rows_at_cut seen.first seen.history raised) node → ⊥
           unnamed row = not_both ((right.named node touched).1 row) dead.unnamed
 
-      dead_here : (node : ℕ) → Touches look node → IsDead seen.first seen.history every_entry raised node → SeesDead look lifted outcome.found node
+      dead_here : (node : ℕ) → Touches look node → IsDead seen.first seen.history every_entry raised node → SeesDead look lifted lifting.found node
       dead_here node touched dead = record {
         no_root = dead.no_root;
-        unnamed = elim (true_or_false (outcome.found.named node)) [
+        unnamed = elim (true_or_false (lifting.found.named node)) [
           | inl row ↦ absurd (dead.unnamed ((right.named node touched).0 row))
           | inr none ↦ none
         ];
@@ -284,28 +284,28 @@ module _ (seen : Observation) (is : IsSoundTree seen.first) (legal : IsLegal see
       concerns = whole.concerned
 
       -- a node without an inode loses none, and one with an inode gets none
-      loses_none : (node : ℕ) → inodes node ≡ false → outcome.loses node ≡ false
-      loses_none node lacks = elim (true_or_false (outcome.loses node)) [
+      loses_none : (node : ℕ) → inodes node ≡ false → lifting.loses node ≡ false
+      loses_none node lacks = elim (true_or_false (lifting.loses node)) [
         | inr none ↦ none
         | inl loses ↦
             let left = (made.moved.leaves node).0 loses in absurd (not_both (sym (knows.enough.same_inodes node left.1) ∙ left.0) lacks)
       ]
 
-      gets_none : (node : ℕ) → inodes node ≡ true → outcome.gets node ≡ false
-      gets_none node has = elim (true_or_false (outcome.gets node)) [
+      gets_none : (node : ℕ) → inodes node ≡ true → lifting.gets node ≡ false
+      gets_none node has = elim (true_or_false (lifting.gets node)) [
         | inr none ↦ none
         | inl gets ↦
             let entered = (made.moved.enters node).0 gets in absurd (not_both has (sym (knows.enough.same_inodes node entered.1) ∙ entered.0))
       ]
 
-      entered : (node : ℕ) → inodes node ≡ false → after node ≡ true → outcome.gets node ≡ true
-      entered node lacks has = elim (true_or_false (outcome.gets node)) [
+      entered : (node : ℕ) → inodes node ≡ false → after node ≡ true → lifting.gets node ≡ true
+      entered node lacks has = elim (true_or_false (lifting.gets node)) [
         | inl gets ↦ gets
         | inr none ↦ absurd (not_both has (behind_it.same node none (loses_none node lacks) ∙ lacks))
       ]
 
-      left : (node : ℕ) → inodes node ≡ true → after node ≡ false → outcome.loses node ≡ true
-      left node has lacks = elim (true_or_false (outcome.loses node)) [
+      left : (node : ℕ) → inodes node ≡ true → after node ≡ false → lifting.loses node ≡ true
+      left node has lacks = elim (true_or_false (lifting.loses node)) [
         | inl loses ↦ loses
         | inr none ↦ absurd (not_both (behind_it.same node (gets_none node has) none ∙ has) lacks)
       ]

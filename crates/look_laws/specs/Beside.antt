@@ -39,22 +39,22 @@ NamedHaveInodes seen cut inodes =
     (node : ℕ) → Touches seen.look node → IsNamedIn (rows_at_cut seen.first seen.history cut) node → inodes node ≡ true
 
 -- What an fsync makes of the nodes that it touches: the stamps that it leaves, what it found of them, which get an inode and which lose it.
-pub record Outcome : Type 0 where
+pub record Lifting : Type 0 where
   pub lifted : ℕ → ℕ
   pub found : Found
   pub gets : ℕ → Bool
   pub loses : ℕ → Bool
 
 -- It is made by a look.
-pub record IsMadeBy (look : Look) (outcome : Outcome) : Type 0 where
-  pub lifts : Lifts look outcome.lifted
-  pub moved : AreMoved look outcome.lifted outcome.found outcome.gets outcome.loses
+pub record IsMadeBy (look : Look) (lifting : Lifting) : Type 0 where
+  pub lifts : Lifts look lifting.lifted
+  pub moved : AreMoved look lifting.lifted lifting.found lifting.gets lifting.loses
 
--- The nodes with an inode behind an outcome: those that get one have it, those that lose it have none, and all others are as before.
-pub record AreInodesBehind (inodes : ℕ → Bool) (outcome : Outcome) (after : ℕ → Bool) : Type 0 where
-  pub got : (node : ℕ) → outcome.gets node ≡ true → after node ≡ true
-  pub lost : (node : ℕ) → outcome.loses node ≡ true → after node ≡ false
-  pub same : (node : ℕ) → outcome.gets node ≡ false → outcome.loses node ≡ false → after node ≡ inodes node
+-- The nodes with an inode behind an lifting: those that get one have it, those that lose it have none, and all others are as before.
+pub record AreInodesBehind (inodes : ℕ → Bool) (lifting : Lifting) (after : ℕ → Bool) : Type 0 where
+  pub got : (node : ℕ) → lifting.gets node ≡ true → after node ≡ true
+  pub lost : (node : ℕ) → lifting.loses node ≡ true → after node ≡ false
+  pub same : (node : ℕ) → lifting.gets node ≡ false → lifting.loses node ≡ false → after node ≡ inodes node
 
 -- A cut raised by a look: the stamp of what it gathers is the fsync's at least, and no other moves.
 pub record IsLiftedBy (look : Look) (cut raised : Cut) : Type 0 where
@@ -66,9 +66,9 @@ pub record IsLiftedBy (look : Look) (cut raised : Cut) : Type 0 where
 pub record IsOfTheWhole (seen : Observation) (cut : Cut) (inodes : ℕ → Bool) : Type 0 where
   pub fits : FitsHistory seen.first seen.history every_entry cut inodes seen.look
   pub raises : (raised : Cut) → IsLiftedBy seen.look cut raised → IsRaised seen.first seen.history every_entry cut inodes seen.look.flush raised
-  pub moves : (raised : Cut) (outcome : Outcome) (after : ℕ → Bool) → IsRaised seen.first seen.history every_entry cut inodes seen.look.flush raised
-      → IsMadeBy seen.look outcome → FindsRight seen.first seen.history every_entry raised seen.look outcome.found
-      → AreInodesBehind inodes outcome after
+  pub moves : (raised : Cut) (lifting : Lifting) (after : ℕ → Bool) → IsRaised seen.first seen.history every_entry cut inodes seen.look.flush raised
+      → IsMadeBy seen.look lifting → FindsRight seen.first seen.history every_entry raised seen.look lifting.found
+      → AreInodesBehind inodes lifting after
       → AreInodesAfter seen.first seen.history every_entry cut inodes seen.look.flush raised after
   pub stays : (raised : Cut) (after : ℕ → Bool) → ((node : ℕ) → cut_of cut node ≤ cut_of raised node)
       → ((node : ℕ) → Touches seen.look node → StaysAsItWas seen.first seen.history cut raised inodes after node)

@@ -1,0 +1,73 @@
+-- Commits that are ready raise the cut, one after another.
+use Rattle.std.proofs.Common.{◌≡◌, List, [], ◌∷◌, ◌++◌, inl, inr, refl, sym, subst}
+use Rattle.std.proofs.lemmas.List.{append-nil, append_assoc}
+use Rattle.tree_laws.specs.History.{IsLegal}
+use Rattle.tree_laws.specs.Laws.{IsSoundTree}
+use Rattle.cut_laws.specs.Rules.{IsOneOf}
+use Rattle.beside_laws.specs.Commits.{CoreCommit, Share}
+use Rattle.beside_laws.specs.Progress.{Progress, Standing, IsLater}
+use Rattle.beside_laws.specs.Laws.{IsReady, Raises, with_done, AreReady, RaiseAll, ReadyRaise}
+use Rattle.beside_laws.proofs.Boxes.{last_or}
+use Rattle.beside_laws.proofs.Raising.{knowing_raise}
+
+-- a node that two share the other shares with the one
+turned : {commit other : CoreCommit} → Share commit other → Share other commit
+turned share = record { node = share.node; one = share.two; two = share.one }
+
+module _ (run : Progress) (commit : CoreCommit) (rest : List CoreCommit) (ready : AreReady run (commit ∷ rest)) where
+  first_ready : Standing run → IsReady run commit
+  first_ready stands = record {
+    made = ready.made commit (inl refl);
+    knows = ready.knows commit (inl refl);
+    finds = ready.finds commit (inl refl) run.done run.cut run.inodes stands (ready.knows commit (inl refl));
+    later = ready.later commit (inl refl);
+  }
+
+  -- the others are apart from it
+  others_apart : (other : CoreCommit) → IsOneOf rest other → Share commit other → ⊥
+  others_apart other one = ready.apart commit other (inl refl) (inr one) (λ same. ready.once.0 other one (sym same))
+
+  rest_later : (other : CoreCommit) → IsOneOf rest other → IsLater (run.done ++ commit ∷ []) other
+  rest_later other one = record {
+    other_number = λ third among same. elim (last_or run.done commit third among) [
+      | inl before ↦ (ready.later other (inr one)).other_number third before same
+      | inr own ↦ ready.once.0 other one (sym (subst (λ (c : CoreCommit). c.number ≡ other.number) own same))
+    ];
+    greater = λ third among share. elim (last_or run.done commit third among) [
+      | inl before ↦ (ready.later other (inr one)).greater third before share
+      | inr own ↦ absurd (others_apart other one (turned (subst (Share other) own share)))
+    ];
+  }
+
+  rest_ready : (raises : Raises run commit) → AreReady (with_done run commit raises.raised raises.after) rest
+  rest_ready raises = record {
+    made = λ other one. ready.made other (inr one);
+    knows = λ other one. raises.others other (ready.made other (inr one)) (others_apart other one) (ready.knows other (inr one));
+    finds = λ other one. ready.finds other (inr one);
+    later = rest_later;
+    apart = λ one two first second. ready.apart one two (inr first) (inr second);
+    once = ready.once.1;
+  }
+
+raise_all : (kept : List CoreCommit) (run : Progress) → IsSoundTree run.first → IsLegal run.first run.history → Standing run → AreReady run kept
+    → RaiseAll run kept
+raise_all [] run is legal stands ready = record {
+  cut = run.cut;
+  inodes = run.inodes;
+  stands = subst (λ l. Standing (record { first = run.first; history = run.history; done = l; cut = run.cut; inodes = run.inodes })) (sym (append-nil run.done))
+      stands;
+}
+raise_all (commit ∷ rest) run is legal stands ready =
+    let raises = knowing_raise run commit is legal stands (first_ready run commit rest ready stands) in
+    let all =
+    raise_all rest (with_done run commit raises.raised raises.after) is legal raises.stands (rest_ready run commit rest ready raises) in
+    record {
+      cut = all.cut;
+      inodes = all.inodes;
+      stands =
+          subst (λ l. Standing (record { first = run.first; history = run.history; done = l; cut = all.cut; inodes = all.inodes }))
+          (append_assoc run.done (commit ∷ []) rest) all.stands;
+    }
+
+pub ready_raise : ReadyRaise
+ready_raise run kept is legal stands ready = raise_all kept run is legal stands ready

@@ -1,0 +1,104 @@
+-- The laws of commits beside commits, each of which a function of the module laws proves.
+use Rattle.std.specs.Prelude.{◌≢◌, ℕ, ◌<◌, Bool, List, [], ◌∷◌, ◌++◌}
+use Rattle.tree_laws.specs.declared.history.Entry.{Entry}
+use Rattle.tree_laws.specs.Tree.{TreeState}
+use Rattle.tree_laws.specs.History.{IsLegal}
+use Rattle.tree_laws.specs.Laws.{IsSoundTree}
+use Rattle.cut_laws.specs.Cut.{Cut}
+use Rattle.cut_laws.specs.Rules.{IsOneOf}
+use Rattle.cut_laws.specs.Closure.{every_entry, IsRaised, AreInodesAfter}
+use Rattle.look_laws.specs.Fit.{FindsRight}
+use Rattle.look_laws.specs.Beside.{Knows}
+use Rattle.beside_laws.specs.Box.{BoxState, NO_COMMIT, IsUnmoved, with_open, BoxGoesOn, BoxGives}
+use Rattle.beside_laws.specs.Commits.{CoreCommit, fsync_of, observed_by, IsByItsLook, Share}
+use Rattle.beside_laws.specs.Progress.{Progress, Standing, Reserves, IsLater}
+
+-- A commit knows enough of a run.
+abbrev pub KnowsRun : Progress → CoreCommit → Type 0
+KnowsRun run commit = Knows (observed_by run.first run.history commit) run.cut run.inodes
+
+-- A commit that reserves so knows enough, whatever became durable before it.
+abbrev pub RuledKnow : Type 0
+RuledKnow = (run : Progress) (commit : CoreCommit) → Standing run → Reserves run commit → KnowsRun run commit
+
+-- What a commit found is so at each cut that its fsync raises.
+abbrev pub FindsItsOwn : Progress → CoreCommit → Type 0
+FindsItsOwn run commit = (raised : Cut) → IsRaised run.first run.history every_entry run.cut run.inodes (fsync_of commit) raised
+    → FindsRight run.first run.history every_entry raised commit.look commit.makes.found
+
+-- A commit is ready to become durable: it is made by its look, knows enough, found what is so, and is later than those that are done.
+pub record IsReady (run : Progress) (commit : CoreCommit) : Type 0 where
+  pub made : IsByItsLook commit
+  pub knows : KnowsRun run commit
+  pub finds : FindsItsOwn run commit
+  pub later : IsLater run.done commit
+
+-- the run once a commit more is done, with this cut and these inodes
+abbrev pub with_done : Progress → CoreCommit → Cut → (ℕ → Bool) → Progress
+with_done run commit raised after =
+    record { first = run.first; history = run.history; done = run.done ++ commit ∷ []; cut = raised; inodes = after }
+
+-- A commit becomes durable: its fsync raises the cut, and leaves inodes, and all stands with it done; and each that knew enough and shares no
+-- node with it knows enough as before.
+pub record Raises (run : Progress) (commit : CoreCommit) : Type 0 where
+  pub raised : Cut
+  pub after : ℕ → Bool
+  pub raises : IsRaised run.first run.history every_entry run.cut run.inodes (fsync_of commit) raised
+  pub inodes_after : AreInodesAfter run.first run.history every_entry run.cut run.inodes (fsync_of commit) raised after
+  pub stands : Standing (with_done run commit raised after)
+  pub others : (other : CoreCommit) → IsByItsLook other → (Share commit other → ⊥) → KnowsRun run other
+      → KnowsRun (with_done run commit raised after) other
+
+-- So does each that is ready, in a legal history from a sound tree.
+abbrev pub KnowingRaise : Type 0
+KnowingRaise = (run : Progress) (commit : CoreCommit) → IsSoundTree run.first → IsLegal run.first run.history → Standing run → IsReady run commit
+    → Raises run commit
+
+-- The box says so of each commit that reserves and is not moved, however its record goes on.
+abbrev pub BoxesGive : Type 0
+BoxesGive = (box after : BoxState) (commit : CoreCommit) → BoxGoesOn NO_COMMIT box → box.number < commit.number → IsUnmoved box commit
+    → BoxGoesOn (with_open box commit) after → BoxGives box after.done commit
+
+-- What a commit found is so wherever it knows enough.
+abbrev pub FindsAlways : TreeState → List Entry → CoreCommit → Type 0
+FindsAlways first history commit = (done : List CoreCommit) (cut : Cut) (inodes : ℕ → Bool)
+    → Standing (record { first = first; history = history; done = done; cut = cut; inodes = inodes })
+    → KnowsRun (record { first = first; history = history; done = done; cut = cut; inodes = inodes }) commit
+    → FindsItsOwn (record { first = first; history = history; done = done; cut = cut; inodes = inodes }) commit
+
+-- A commit found what is so at a cut that its fsync raises.
+pub record HasFound (run : Progress) (commit : CoreCommit) : Type 0 where
+  pub raised : Cut
+  pub raises : IsRaised run.first run.history every_entry run.cut run.inodes (fsync_of commit) raised
+  pub finds : FindsRight run.first run.history every_entry raised commit.look commit.makes.found
+
+-- What it found once is so wherever it knows enough.
+abbrev pub FoundOnce : Type 0
+FoundOnce = (run : Progress) (commit : CoreCommit) → IsSoundTree run.first → IsLegal run.first run.history → Standing run → KnowsRun run commit
+    → HasFound run commit → FindsAlways run.first run.history commit
+
+-- no two of a list have one number
+abbrev pub HaveOtherNumbers : List CoreCommit → Type 0
+HaveOtherNumbers [] = Unit {0}
+HaveOtherNumbers (commit ∷ commits) = ((other : CoreCommit) → IsOneOf commits other → other.number ≢ commit.number) × HaveOtherNumbers commits
+
+-- Some commits are ready beside one another: each is made by its look, knows enough, finds what is so wherever it does, and is later than those
+-- that are done; none shares a node with another; and they have different numbers.
+pub record AreReady (run : Progress) (kept : List CoreCommit) : Type 0 where
+  pub made : (commit : CoreCommit) → IsOneOf kept commit → IsByItsLook commit
+  pub knows : (commit : CoreCommit) → IsOneOf kept commit → KnowsRun run commit
+  pub finds : (commit : CoreCommit) → IsOneOf kept commit → FindsAlways run.first run.history commit
+  pub later : (commit : CoreCommit) → IsOneOf kept commit → IsLater run.done commit
+  pub apart : (commit other : CoreCommit) → IsOneOf kept commit → IsOneOf kept other → commit.number ≢ other.number → Share commit other → ⊥
+  pub once : HaveOtherNumbers kept
+
+-- Commits raise the cut, one after another, and all stands with them done.
+pub record RaiseAll (run : Progress) (kept : List CoreCommit) : Type 0 where
+  pub cut : Cut
+  pub inodes : ℕ → Bool
+  pub stands : Standing (record { first = run.first; history = run.history; done = run.done ++ kept; cut = cut; inodes = inodes })
+
+-- So do those that are ready, in any order: what a crash keeps of the open ones.
+abbrev pub ReadyRaise : Type 0
+ReadyRaise = (run : Progress) (kept : List CoreCommit) → IsSoundTree run.first → IsLegal run.first run.history → Standing run → AreReady run kept
+    → RaiseAll run kept

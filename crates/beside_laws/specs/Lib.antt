@@ -1,0 +1,4 @@
+pub mod Box
+pub mod Commits
+pub mod Laws
+pub mod Progress

@@ -1,0 +1,28 @@
+// What is proved of the definitions: each function's contract is a law.
+ghost use Rattle.beside_laws.specs.Laws.{RuledKnow, KnowingRaise, BoxesGive, FoundOnce, ReadyRaise};
+
+/// A commit that was not moved as it reserved knows enough, whatever became durable before it.
+pub fn ruled_know()
+    ensures { RuledKnow }
+{}
+
+/// One that knows enough raises the cut as its look says, and those that share no node with it go on knowing enough.
+pub fn knowing_raise()
+    ensures { KnowingRaise }
+{}
+
+/// What the box keeps tells that a commit that reserves is later than those that are done, apart from those that are
+/// open, and has seen all that will ever be done before it.
+pub fn boxes_give()
+    ensures { BoxesGive }
+{}
+
+/// What a commit found once is so wherever it knows enough.
+pub fn found_once()
+    ensures { FoundOnce }
+{}
+
+/// Commits that are ready raise the cut in any order.
+pub fn ready_raise()
+    ensures { ReadyRaise }
+{}
