@@ -1,12 +1,13 @@
 -- Commits that are ready raise the cut, one after another.
-use Rattle.std.proofs.Common.{◌≡◌, List, [], ◌∷◌, ◌++◌, inl, inr, refl, sym, subst}
+use Rattle.std.proofs.Common.{◌≡◌, ℕ, Bool, List, [], ◌∷◌, ◌++◌, inl, inr, refl, sym, subst}
 use Rattle.std.proofs.lemmas.List.{append-nil, append_assoc}
 use Rattle.tree_laws.specs.History.{IsLegal}
 use Rattle.tree_laws.specs.Laws.{IsSoundTree}
+use Rattle.cut_laws.specs.Cut.{Cut}
 use Rattle.cut_laws.specs.Rules.{IsOneOf}
 use Rattle.beside_laws.specs.Commits.{CoreCommit, Share}
 use Rattle.beside_laws.specs.Progress.{Progress, Standing, IsLater}
-use Rattle.beside_laws.specs.Laws.{IsReady, Raises, with_done, AreReady, RaiseAll, ReadyRaise}
+use Rattle.beside_laws.specs.Laws.{IsReady, IsDoneWith, with_done, AreReady, RaiseAll, ReadyRaise}
 use Rattle.beside_laws.proofs.Boxes.{last_or}
 use Rattle.beside_laws.proofs.Raising.{knowing_raise}
 
@@ -39,10 +40,10 @@ module _ (run : Progress) (commit : CoreCommit) (rest : List CoreCommit) (ready 
     ];
   }
 
-  rest_ready : (raises : Raises run commit) → AreReady (with_done run commit raises.raised raises.after) rest
-  rest_ready raises = record {
+  pub rest_ready : (raised : Cut) (after : ℕ → Bool) → IsDoneWith run commit raised after → AreReady (with_done run commit raised after) rest
+  rest_ready raised after done = record {
     made = λ other one. ready.made other (inr one);
-    knows = λ other one. raises.others other (ready.made other (inr one)) (others_apart other one) (ready.knows other (inr one));
+    knows = λ other one. done.others other (ready.made other (inr one)) (others_apart other one) (ready.knows other (inr one));
     finds = λ other one. ready.finds other (inr one);
     later = rest_later;
     apart = λ one two first second. ready.apart one two (inr first) (inr second);
@@ -59,8 +60,9 @@ raise_all [] run is legal stands ready = record {
 }
 raise_all (commit ∷ rest) run is legal stands ready =
     let raises = knowing_raise run commit is legal stands (first_ready run commit rest ready stands) in
+    let done = raises.done raises.raised raises.after raises.raises in
     let all =
-    raise_all rest (with_done run commit raises.raised raises.after) is legal raises.stands (rest_ready run commit rest ready raises) in
+    raise_all rest (with_done run commit raises.raised raises.after) is legal done.stands (rest_ready run commit rest ready raises.raised raises.after done) in
     record {
       cut = all.cut;
       inodes = all.inodes;

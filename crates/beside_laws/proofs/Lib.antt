@@ -1,5 +1,6 @@
 pub mod Boxes
 pub mod Finding
 pub mod Kept
+pub mod OneCut
 pub mod Raising
 pub mod Ruled

@@ -22,7 +22,8 @@ use Rattle.look_laws.proofs.Fitting.{sight_of}
 use Rattle.look_laws.proofs.Knowing.{looks_know}
 use Rattle.beside_laws.specs.Commits.{CoreCommit, fsync_of, observed_by, has_inode_behind, IsByItsLook, Share}
 use Rattle.beside_laws.specs.Progress.{Progress, IsLastOf, Left, HasLeft, nobody, somebody, HasPassed, Standing}
-use Rattle.beside_laws.specs.Laws.{KnowsRun, IsReady, Raises, KnowingRaise, with_done}
+use Rattle.beside_laws.specs.Laws.{KnowsRun, IsReady, IsRaisedTo, Raises, KnowingRaise, AreTheSame, with_done}
+use Rattle.beside_laws.proofs.OneCut.{fsyncs_raise_one_cut}
 
 -- a cut with the stamps of some nodes lifted
 abbrev lifted_cut : Cut → List ℕ → ℕ → Cut
@@ -154,9 +155,6 @@ module _ (run : Progress) (is : IsSoundTree run.first) (legal : IsLegal run.firs
     inodes_after : AreInodesAfter run.first run.history every_entry run.cut run.inodes flush raised after
     inodes_after = whole.moves raised commit.makes after raise ready.made.makes (ready.finds raised raise) behind
 
-    rise : (node : ℕ) → cut_of run.cut node ≤ cut_of raised node
-    rise = cuts_rise run.first run.history every_entry run.cut run.inodes flush raised raise
-
     -- a node that it holds, and one that it doesn't
     made_stamp : (node : ℕ) → Touches look node → cut_of raised node ≡ commit.makes.lifted node
     made_stamp node touched = elim (lifted_node node) [
@@ -173,126 +171,142 @@ module _ (run : Progress) (is : IsSoundTree run.first) (legal : IsLegal run.firs
     made_inode node touched =
         ap (λ b. cond (commit.makes.gets node) true (cond (commit.makes.loses node) false b)) (sym (ready.knows.enough.same_inodes node touched))
 
-    untouched : (node : ℕ) → commit.holds node ≡ false → Touches look node → ⊥
-    untouched node free touched = not_both ((ready.made.holds node).1 touched) free
+    module _ (any : Cut) (left_inodes : ℕ → Bool) (to : IsRaisedTo run commit any left_inodes) where
+      same : AreTheSame any raised left_inodes after
+      same = fsyncs_raise_one_cut run commit any raised left_inodes after to (record { raises = raise; inodes_after = inodes_after })
 
-    same_stamp : (node : ℕ) → commit.holds node ≡ false → cut_of raised node ≡ cut_of run.cut node
-    same_stamp node free = elim (lifted_node node) [ inl one ↦ absurd (untouched node free (member node one.0)) | inr none ↦ none.1 ]
+      rise : (node : ℕ) → cut_of run.cut node ≤ cut_of any node
+      rise = cuts_rise run.first run.history every_entry run.cut run.inodes flush any to.raises
 
-    same_inode : (node : ℕ) → commit.holds node ≡ false → after node ≡ run.inodes node
-    same_inode node free = behind.same node
-        (elim (true_or_false (commit.makes.gets node)) [
-          | inr none ↦ none
-          | inl gets ↦ absurd (untouched node free ((ready.made.makes.moved.enters node).0 gets).1)
-        ])
-        (elim (true_or_false (commit.makes.loses node)) [
-          | inr none ↦ none
-          | inl loses ↦ absurd (untouched node free ((ready.made.makes.moved.leaves node).0 loses).1)
-        ])
-
-    abbrev grown : List CoreCommit
-    grown = run.done ++ commit ∷ []
-
-    own : IsOneOf grown commit
-    own = in_right run.done (commit ∷ []) commit (inl refl)
-
-    -- each of the commits is one that was done, or this one
-    new_or : (other : CoreCommit) → IsOneOf grown other → IsOneOf run.done other ⊎ (other ≡ commit)
-    new_or other one = elim (in_either run.done (commit ∷ []) other one) [
-      | inl before ↦ inl before
-      | inr last ↦ elim last [ inl same ↦ inr (sym same) | inr never ↦ absurd never ]
-    ]
-
-    last_now : (node : ℕ) → commit.holds node ≡ true → IsLastOf grown node commit
-    last_now node holds = record {
-      among = own;
-      held = holds;
-      latest = λ other one also. elim (new_or other one) [
-        | inl before ↦ let less = ready.later.greater other before (record { node = node; one = holds; two = also }) in omega arith
-        | inr same ↦ let number = ap (λ (c : CoreCommit). c.number) same in omega arith
-      ];
-    }
-
-    passed_now : (change : RowChange) → IsChange run.first run.history change → IsWithin raised change
-        → (other : CoreCommit) × IsOneOf grown other × HasPassed change other
-    passed_now change is_change within = elim (below_or change.stamp (cut_of run.cut change.directory)) [
-      | inl before ↦
-          let found = stands.passed change is_change before in (found.0, in_left run.done (commit ∷ []) found.0 found.1, found.2)
-      | inr open_one ↦ elim (lifted_node change.directory) [
-        | inr none ↦ let same = none.1 in absurd (omega arith)
-        | inl one ↦ (commit, own, by one.0 one.1 open_one)
+      -- a node that it gathers, and one that it doesn't
+      lifted_to : (node : ℕ) → (Gathers look node × (cut_of any node ≡ max (cut_of run.cut node) flush.stamp))
+          ⊎ ((Gathers look node → ⊥) × (cut_of any node ≡ cut_of run.cut node))
+      lifted_to node = elim (lifted_node node) [
+        | inl one ↦ inl (one.0, same.stamps node ∙ one.1)
+        | inr none ↦ inr (none.0, same.stamps node ∙ none.1)
       ]
-    ]
-      where
-        by : Gathers look change.directory → cut_of raised change.directory ≡ max (cut_of run.cut change.directory) flush.stamp
-            → cut_of run.cut change.directory ≤ change.stamp → HasPassed change commit
-        by gathered lifted open_one =
-            let below : change.stamp < flush.stamp = omega arith in
-            let stamp = ready.knows.stamp in
-            let sight = sight_of run.first run.history commit.counts run.cut run.inodes look ready.knows.enough change gathered (record {
-              is_change = is_change;
-              counted = ready.knows.early change.stamp (omega arith);
-              from = open_one;
-              below = below;
-            }) in
-            let there = subst (λ (c : RowChange). Gathers look c.directory) (sym sight.2) gathered in
-            record {
-              member = (ready.made.members change.directory).1 gathered;
-              child = (ready.made.holds change.child).1 (subst (λ (c : RowChange). Touches look c.child) sight.2 (named sight.0 there sight.1));
-              stamp = below;
-            }
 
-    stands_now : Standing (with_done run commit raised after)
-    stands_now = record {
-      flushed =
-          subst (λ l. AreFlushed run.first run.history every_entry l raised after) (sym (map-append fsync_of run.done (commit ∷ [])))
-          (one_more (map fsync_of run.done) flush run.cut raised run.inodes after stands.flushed raise inodes_after);
-      left = λ node. elim (true_or_false (commit.holds node)) [
-        | inl holds ↦
-            let touched = (ready.made.holds node).0 holds in
-            somebody commit (last_now node holds) (made_stamp node touched) (made_inode node touched)
-        | inr free ↦
-            left_more run.done commit node _ _ _ free (same_stamp node free) (same_inode node free) (stands.left node)
-      ];
-      passed = passed_now;
-      members = λ other node one among. elim (new_or other one) [
-        | inl before ↦ let low = stands.members other node before among in let up = rise node in omega arith
-        | inr same ↦
-            let gathered = (ready.made.members node).0 (subst (λ (c : CoreCommit). IsOneOf c.members node) same among) in
-            let lifted = lifted_by.gathered node gathered in
-            let stamp = ap (λ (c : CoreCommit). (fsync_of c).stamp) same in omega arith
-      ];
-      numbered = λ one two first second number. elim (new_or one first) [
-        | inl before ↦ elim (new_or two second) [
-          | inl also ↦ stands.numbered one two before also number
-          | inr same ↦ absurd (ready.later.other_number one before (number ∙ ap (λ (c : CoreCommit). c.number) same))
-        ]
-        | inr same ↦ elim (new_or two second) [
-          | inl also ↦ absurd (ready.later.other_number two also (sym number ∙ ap (λ (c : CoreCommit). c.number) same))
-          | inr again ↦ same ∙ sym again
-        ]
-      ];
-    }
+      gathered_to : (node : ℕ) → Gathers look node → cut_of any node ≡ max (cut_of run.cut node) flush.stamp
+      gathered_to node own = elim (lifted_to node) [ inl one ↦ one.1 | inr none ↦ absurd (none.0 own) ]
 
-    others_know : (other : CoreCommit) → IsByItsLook other → (Share commit other → ⊥) → KnowsRun run other
-        → KnowsRun (with_done run commit raised after) other
-    others_know other made apart knows =
-        (of_the_whole other knows).stays raised after rise (λ node touched.
-        others_stay run.first run.history run.cut raised run.inodes after flush node is legal raise inodes_after (λ concerned.
-        apart (record {
-          node = node;
-          one = (ready.made.holds node).1 ((whole.fits.concerned node).1 concerned);
-          two = (made.holds node).1 touched;
-        })))
+      untouched : (node : ℕ) → commit.holds node ≡ false → Touches look node → ⊥
+      untouched node free touched = not_both ((ready.made.holds node).1 touched) free
+
+      same_stamp : (node : ℕ) → commit.holds node ≡ false → cut_of any node ≡ cut_of run.cut node
+      same_stamp node free = elim (lifted_to node) [ inl one ↦ absurd (untouched node free (member node one.0)) | inr none ↦ none.1 ]
+
+      same_inode : (node : ℕ) → commit.holds node ≡ false → left_inodes node ≡ run.inodes node
+      same_inode node free = same.same_inodes node ∙ behind.same node
+          (elim (true_or_false (commit.makes.gets node)) [
+            | inr none ↦ none
+            | inl gets ↦ absurd (untouched node free ((ready.made.makes.moved.enters node).0 gets).1)
+          ])
+          (elim (true_or_false (commit.makes.loses node)) [
+            | inr none ↦ none
+            | inl loses ↦ absurd (untouched node free ((ready.made.makes.moved.leaves node).0 loses).1)
+          ])
+
+      abbrev grown : List CoreCommit
+      grown = run.done ++ commit ∷ []
+
+      own : IsOneOf grown commit
+      own = in_right run.done (commit ∷ []) commit (inl refl)
+
+      -- each of the commits is one that was done, or this one
+      new_or : (other : CoreCommit) → IsOneOf grown other → IsOneOf run.done other ⊎ (other ≡ commit)
+      new_or other one = elim (in_either run.done (commit ∷ []) other one) [
+        | inl before ↦ inl before
+        | inr last ↦ elim last [ inl same ↦ inr (sym same) | inr never ↦ absurd never ]
+      ]
+
+      last_now : (node : ℕ) → commit.holds node ≡ true → IsLastOf grown node commit
+      last_now node holds = record {
+        among = own;
+        held = holds;
+        latest = λ other one also. elim (new_or other one) [
+          | inl before ↦ let less = ready.later.greater other before (record { node = node; one = holds; two = also }) in omega arith
+          | inr same ↦ let number = ap (λ (c : CoreCommit). c.number) same in omega arith
+        ];
+      }
+
+      passed_now : (change : RowChange) → IsChange run.first run.history change → IsWithin any change
+          → (other : CoreCommit) × IsOneOf grown other × HasPassed change other
+      passed_now change is_change within = elim (below_or change.stamp (cut_of run.cut change.directory)) [
+        | inl before ↦
+            let found = stands.passed change is_change before in (found.0, in_left run.done (commit ∷ []) found.0 found.1, found.2)
+        | inr open_one ↦ elim (lifted_to change.directory) [
+          | inr none ↦ let same = none.1 in absurd (omega arith)
+          | inl one ↦ (commit, own, by one.0 one.1 open_one)
+        ]
+      ]
+        where
+          by : Gathers look change.directory → cut_of any change.directory ≡ max (cut_of run.cut change.directory) flush.stamp
+              → cut_of run.cut change.directory ≤ change.stamp → HasPassed change commit
+          by gathered lifted open_one =
+              let below : change.stamp < flush.stamp = omega arith in
+              let stamp = ready.knows.stamp in
+              let sight = sight_of run.first run.history commit.counts run.cut run.inodes look ready.knows.enough change gathered (record {
+                is_change = is_change;
+                counted = ready.knows.early change.stamp (omega arith);
+                from = open_one;
+                below = below;
+              }) in
+              let there = subst (λ (c : RowChange). Gathers look c.directory) (sym sight.2) gathered in
+              record {
+                member = (ready.made.members change.directory).1 gathered;
+                child = (ready.made.holds change.child).1 (subst (λ (c : RowChange). Touches look c.child) sight.2 (named sight.0 there sight.1));
+                stamp = below;
+              }
+
+      stands_now : Standing (with_done run commit any left_inodes)
+      stands_now = record {
+        flushed =
+            subst (λ l. AreFlushed run.first run.history every_entry l any left_inodes) (sym (map-append fsync_of run.done (commit ∷ [])))
+            (one_more (map fsync_of run.done) flush run.cut any run.inodes left_inodes stands.flushed to.raises to.inodes_after);
+        left = λ node. elim (true_or_false (commit.holds node)) [
+          | inl holds ↦
+              let touched = (ready.made.holds node).0 holds in
+              somebody commit (last_now node holds) (same.stamps node ∙ made_stamp node touched) (same.same_inodes node ∙ made_inode node touched)
+          | inr free ↦
+              left_more run.done commit node _ _ _ free (same_stamp node free) (same_inode node free) (stands.left node)
+        ];
+        passed = passed_now;
+        members = λ other node one among. elim (new_or other one) [
+          | inl before ↦ let low = stands.members other node before among in let up = rise node in omega arith
+          | inr same ↦
+              let gathered = (ready.made.members node).0 (subst (λ (c : CoreCommit). IsOneOf c.members node) same among) in
+              let lifted = gathered_to node gathered in
+              let stamp = ap (λ (c : CoreCommit). (fsync_of c).stamp) same in omega arith
+        ];
+        numbered = λ one two first second number. elim (new_or one first) [
+          | inl before ↦ elim (new_or two second) [
+            | inl also ↦ stands.numbered one two before also number
+            | inr same ↦ absurd (ready.later.other_number one before (number ∙ ap (λ (c : CoreCommit). c.number) same))
+          ]
+          | inr same ↦ elim (new_or two second) [
+            | inl also ↦ absurd (ready.later.other_number two also (sym number ∙ ap (λ (c : CoreCommit). c.number) same))
+            | inr again ↦ same ∙ sym again
+          ]
+        ];
+      }
+
+      others_know : (other : CoreCommit) → IsByItsLook other → (Share commit other → ⊥) → KnowsRun run other
+          → KnowsRun (with_done run commit any left_inodes) other
+      others_know other made apart knows =
+          (of_the_whole other knows).stays any left_inodes rise (λ node touched.
+          others_stay run.first run.history run.cut any run.inodes left_inodes flush node is legal to.raises to.inodes_after (λ concerned.
+          apart (record {
+            node = node;
+            one = (ready.made.holds node).1 ((whole.fits.concerned node).1 concerned);
+            two = (made.holds node).1 touched;
+          })))
 
     pub raises_now : Raises run commit
     raises_now = record {
       raised = raised;
       after = after;
-      raises = raise;
-      inodes_after = inodes_after;
-      stands = stands_now;
-      others = others_know;
+      raises = record { raises = raise; inodes_after = inodes_after };
+      done = λ any left_inodes to. record { stands = stands_now any left_inodes to; others = others_know any left_inodes to };
     }
 
 pub knowing_raise : KnowingRaise

@@ -1,10 +1,10 @@
 -- The laws of commits beside commits, each of which a function of the module laws proves.
-use Rattle.std.specs.Prelude.{◌≢◌, ℕ, ◌<◌, Bool, List, [], ◌∷◌, ◌++◌}
+use Rattle.std.specs.Prelude.{◌≡◌, ◌≢◌, ℕ, ◌<◌, Bool, List, [], ◌∷◌, ◌++◌}
 use Rattle.tree_laws.specs.declared.history.Entry.{Entry}
 use Rattle.tree_laws.specs.Tree.{TreeState}
 use Rattle.tree_laws.specs.History.{IsLegal}
 use Rattle.tree_laws.specs.Laws.{IsSoundTree}
-use Rattle.cut_laws.specs.Cut.{Cut}
+use Rattle.cut_laws.specs.Cut.{Cut, cut_of}
 use Rattle.cut_laws.specs.Rules.{IsOneOf}
 use Rattle.cut_laws.specs.Closure.{every_entry, IsRaised, AreInodesAfter}
 use Rattle.look_laws.specs.Fit.{FindsRight}
@@ -38,16 +38,23 @@ abbrev pub with_done : Progress → CoreCommit → Cut → (ℕ → Bool) → Pr
 with_done run commit raised after =
     record { first = run.first; history = run.history; done = run.done ++ commit ∷ []; cut = raised; inodes = after }
 
--- A commit becomes durable: its fsync raises the cut, and leaves inodes, and all stands with it done; and each that knew enough and shares no
--- node with it knows enough as before.
-pub record Raises (run : Progress) (commit : CoreCommit) : Type 0 where
-  pub raised : Cut
-  pub after : ℕ → Bool
+-- The fsync of a commit raises this cut and leaves these nodes with an inode.
+pub record IsRaisedTo (run : Progress) (commit : CoreCommit) (raised : Cut) (after : ℕ → Bool) : Type 0 where
   pub raises : IsRaised run.first run.history every_entry run.cut run.inodes (fsync_of commit) raised
   pub inodes_after : AreInodesAfter run.first run.history every_entry run.cut run.inodes (fsync_of commit) raised after
+
+-- A commit is done: all stands with it, and each that knew enough and shares no node with it knows enough as before.
+pub record IsDoneWith (run : Progress) (commit : CoreCommit) (raised : Cut) (after : ℕ → Bool) : Type 0 where
   pub stands : Standing (with_done run commit raised after)
   pub others : (other : CoreCommit) → IsByItsLook other → (Share commit other → ⊥) → KnowsRun run other
       → KnowsRun (with_done run commit raised after) other
+
+-- A commit becomes durable: its fsync raises a cut, and whichever cut and inodes it leaves, it is done with them.
+pub record Raises (run : Progress) (commit : CoreCommit) : Type 0 where
+  pub raised : Cut
+  pub after : ℕ → Bool
+  pub raises : IsRaisedTo run commit raised after
+  pub done : (any : Cut) (behind : ℕ → Bool) → IsRaisedTo run commit any behind → IsDoneWith run commit any behind
 
 -- So does each that is ready, in a legal history from a sound tree.
 abbrev pub KnowingRaise : Type 0
@@ -102,3 +109,13 @@ pub record RaiseAll (run : Progress) (kept : List CoreCommit) : Type 0 where
 abbrev pub ReadyRaise : Type 0
 ReadyRaise = (run : Progress) (kept : List CoreCommit) → IsSoundTree run.first → IsLegal run.first run.history → Standing run → AreReady run kept
     → RaiseAll run kept
+
+-- Two cuts, with the nodes that then have an inode, are the same, node by node.
+pub record AreTheSame (cut other : Cut) (inodes other_inodes : ℕ → Bool) : Type 0 where
+  pub stamps : (node : ℕ) → cut_of cut node ≡ cut_of other node
+  pub same_inodes : (node : ℕ) → inodes node ≡ other_inodes node
+
+-- So are those that one fsync raises and leaves.
+abbrev pub FsyncsRaiseOneCut : Type 0
+FsyncsRaiseOneCut = (run : Progress) (commit : CoreCommit) (raised other : Cut) (after other_after : ℕ → Bool) → IsRaisedTo run commit raised after
+    → IsRaisedTo run commit other other_after → AreTheSame raised other after other_after

@@ -1,5 +1,5 @@
 // What is proved of the definitions: each function's contract is a law.
-ghost use Rattle.beside_laws.specs.Laws.{RuledKnow, KnowingRaise, BoxesGive, FoundOnce, ReadyRaise};
+ghost use Rattle.beside_laws.specs.Laws.{RuledKnow, KnowingRaise, BoxesGive, FoundOnce, ReadyRaise, FsyncsRaiseOneCut};
 
 /// A commit that was not moved as it reserved knows enough, whatever became durable before it.
 pub fn ruled_know()
@@ -25,4 +25,9 @@ pub fn found_once()
 /// Commits that are ready raise the cut in any order.
 pub fn ready_raise()
     ensures { ReadyRaise }
+{}
+
+/// An fsync raises one cut, and leaves one set of nodes with an inode.
+pub fn fsyncs_raise_one_cut()
+    ensures { FsyncsRaiseOneCut }
 {}
