@@ -8,13 +8,13 @@ use Rattle.beside_laws.specs.Commits.{CoreCommit}
 use Rattle.beside_laws.specs.Laws.{BoxesGive}
 
 -- one of a list from which another was taken is one of the list
-put_back : (before behind : List CoreCommit) (commit other : CoreCommit) → IsOneOf (before ++ behind) other → IsOneOf (before ++ commit ∷ behind) other
+pub put_back : (before behind : List CoreCommit) (commit other : CoreCommit) → IsOneOf (before ++ behind) other → IsOneOf (before ++ commit ∷ behind) other
 put_back before behind commit other one = elim (in_either before behind other one) [
   | inl left ↦ in_left before (commit ∷ behind) other left
   | inr right ↦ in_right before (commit ∷ behind) other (inr right)
 ]
 
-taken : (before behind : List CoreCommit) (commit : CoreCommit) → IsOneOf (before ++ commit ∷ behind) commit
+pub taken : (before behind : List CoreCommit) (commit : CoreCommit) → IsOneOf (before ++ commit ∷ behind) commit
 taken before behind commit = in_right before (commit ∷ behind) commit (inl Rattle.std.proofs.Common.refl)
 
 -- one more at the end of a list

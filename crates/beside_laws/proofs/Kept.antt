@@ -16,7 +16,7 @@ turned : {commit other : CoreCommit} → Share commit other → Share other comm
 turned share = record { node = share.node; one = share.two; two = share.one }
 
 module _ (run : Progress) (commit : CoreCommit) (rest : List CoreCommit) (ready : AreReady run (commit ∷ rest)) where
-  first_ready : Standing run → IsReady run commit
+  pub first_ready : Standing run → IsReady run commit
   first_ready stands = record {
     made = ready.made commit (inl refl);
     knows = ready.knows commit (inl refl);

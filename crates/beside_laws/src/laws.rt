@@ -1,4 +1,5 @@
 // What is proved of the definitions: each function's contract is a law.
+ghost use Rattle.beside_laws.specs.Steps.{CommitsBegin, CommitsOpen, CommitsEnd};
 ghost use Rattle.beside_laws.specs.Laws.{RuledKnow, KnowingRaise, BoxesGive, FoundOnce, ReadyRaise, FsyncsRaiseOneCut};
 
 /// A commit that was not moved as it reserved knows enough, whatever became durable before it.
@@ -30,4 +31,20 @@ pub fn ready_raise()
 /// An fsync raises one cut, and leaves one set of nodes with an inode.
 pub fn fsyncs_raise_one_cut()
     ensures { FsyncsRaiseOneCut }
+{}
+
+/// In the midst of a record with several open commits the machine takes the begin of one that waits.
+pub fn commits_begin()
+    ensures { CommitsBegin }
+{}
+
+/// It takes that one is opened.
+pub fn commits_open()
+    ensures { CommitsOpen }
+{}
+
+/// It takes that an opened one becomes durable, with whichever cut and inodes its fsync leaves, and it is the midst of
+/// the record again.
+pub fn commits_end()
+    ensures { CommitsEnd }
 {}
