@@ -18,7 +18,7 @@ use Rattle.cut_laws.proofs.Raises.{cuts_rise}
 use Rattle.cut_laws.proofs.Views.{below}
 use Rattle.look_laws.specs.Look.{Look, Gathers, Touches}
 use Rattle.look_laws.specs.Fit.{IsNoted}
-use Rattle.beside_laws.specs.Commits.{CoreCommit, fsync_of}
+use Rattle.beside_laws.specs.Commits.{CoreCommit, commit_fsync}
 use Rattle.beside_laws.specs.Progress.{Progress, Standing}
 use Rattle.beside_laws.specs.Laws.{KnowsRun, FoundOnce}
 use Rattle.beside_laws.proofs.Raising.{of_the_whole}
@@ -51,12 +51,12 @@ module _ (run : Progress) (commit : CoreCommit) (is : IsSoundTree run.first) (le
       (knows.enough.unflushed noted.0 noted.1 (subst (λ (c : RowChange). Touches look c.child) (sym noted.2) touched)
       (subst (λ (c : RowChange). look.cut c.directory ≤ c.stamp) (sym noted.2) low))
 
-  module _ (raised : Cut) (raise : IsRaised run.first run.history every_entry run.cut run.inodes (fsync_of commit) raised) where
+  module _ (raised : Cut) (raise : IsRaised run.first run.history every_entry run.cut run.inodes (commit_fsync commit) raised) where
     -- and so at a cut that it raises, of a change that is not in the span of what it gathers
     pub raised_sees : (change : RowChange) → IsChange run.first run.history change → Touches look change.child
-        → cut_of raised change.directory ≤ change.stamp → SeesOpen commit change × (Gathers look change.directory → (fsync_of commit).stamp ≤ change.stamp)
+        → cut_of raised change.directory ≤ change.stamp → SeesOpen commit change × (Gathers look change.directory → (commit_fsync commit).stamp ≤ change.stamp)
     raised_sees change is_change touched open_one =
-        let low = cuts_rise run.first run.history every_entry run.cut run.inodes (fsync_of commit) raised raise change.directory in (
+        let low = cuts_rise run.first run.history every_entry run.cut run.inodes (commit_fsync commit) raised raise change.directory in (
           sees change is_change touched (omega arith),
           λ own.
               let lifted = raise.member change.directory (((of_the_whole run is legal stands commit knows).fits.members change.directory).0 own) in
@@ -64,7 +64,7 @@ module _ (run : Progress) (commit : CoreCommit) (is : IsSoundTree run.first) (le
         )
 
     pub raised_open : (change : RowChange) → IsChange run.first run.history change → Touches look change.child
-        → SeesOpen commit change × (Gathers look change.directory → (fsync_of commit).stamp ≤ change.stamp)
+        → SeesOpen commit change × (Gathers look change.directory → (commit_fsync commit).stamp ≤ change.stamp)
         → cut_of raised change.directory ≤ change.stamp
     raised_open change is_change touched both =
         let open_one = open_if change is_change touched both.0 in

@@ -7,7 +7,7 @@ use Rattle.cut_laws.specs.Cut.{Cut}
 use Rattle.cut_laws.specs.Rules.{IsOneOf}
 use Rattle.beside_laws.specs.Commits.{CoreCommit, Share}
 use Rattle.beside_laws.specs.Progress.{Progress, Standing, IsLater}
-use Rattle.beside_laws.specs.Laws.{IsReady, IsDoneWith, with_done, AreReady, RaiseAll, ReadyRaise}
+use Rattle.beside_laws.specs.Laws.{IsReadyToEnd, IsDoneWith, with_done, AreReady, RaiseAll, ReadyRaise}
 use Rattle.beside_laws.proofs.Boxes.{last_or}
 use Rattle.beside_laws.proofs.Raising.{knowing_raise}
 
@@ -16,7 +16,7 @@ turned : {commit other : CoreCommit} → Share commit other → Share other comm
 turned share = record { node = share.node; one = share.two; two = share.one }
 
 module _ (run : Progress) (commit : CoreCommit) (rest : List CoreCommit) (ready : AreReady run (commit ∷ rest)) where
-  pub first_ready : Standing run → IsReady run commit
+  pub first_ready : Standing run → IsReadyToEnd run commit
   first_ready stands = record {
     made = ready.made commit (inl refl);
     knows = ready.knows commit (inl refl);

@@ -10,7 +10,7 @@ use Rattle.tree_laws.specs.Changes.{changes_of}
 use Rattle.cut_laws.specs.Cut.{Cut, cut_of, is_within, with_own, rows_at_cut}
 use Rattle.cut_laws.specs.Closure.{every_entry, Flush, HasNaming, IsNamedIn, IsRaised, IsReached, IsDead, AreInodesAfter}
 use Rattle.cut_laws.proofs.Basics.{filter_same}
-use Rattle.beside_laws.specs.Commits.{fsync_of}
+use Rattle.beside_laws.specs.Commits.{commit_fsync}
 use Rattle.beside_laws.specs.Laws.{AreTheSame, FsyncsRaiseOneCut}
 
 -- cuts with the same stamps have the same rows
@@ -97,4 +97,4 @@ module _ (first : TreeState) (history : List Entry) (cut raised other : Cut) (in
 
 pub fsyncs_raise_one_cut : FsyncsRaiseOneCut
 fsyncs_raise_one_cut run commit raised other after other_after one two =
-    one_cut run.first run.history run.cut raised other run.inodes after other_after (fsync_of commit) one.raises one.inodes_after two.raises two.inodes_after
+    one_cut run.first run.history run.cut raised other run.inodes after other_after (commit_fsync commit) one.raises one.inodes_after two.raises two.inodes_after

@@ -20,9 +20,9 @@ use Rattle.look_laws.specs.Look.{Look, Gathers, Touches, member, named}
 use Rattle.look_laws.specs.Beside.{NamedHaveInodes, AreInodesBehind, IsLiftedBy, IsOfTheWhole}
 use Rattle.look_laws.proofs.Fitting.{sight_of}
 use Rattle.look_laws.proofs.Knowing.{looks_know}
-use Rattle.beside_laws.specs.Commits.{CoreCommit, fsync_of, observed_by, has_inode_behind, IsByItsLook, Share}
+use Rattle.beside_laws.specs.Commits.{CoreCommit, commit_fsync, observed_by, has_inode_behind, IsByItsLook, Share}
 use Rattle.beside_laws.specs.Progress.{Progress, IsLastOf, Left, HasLeft, nobody, somebody, HasPassed, Standing}
-use Rattle.beside_laws.specs.Laws.{KnowsRun, IsReady, IsRaisedTo, Raises, KnowingRaise, AreTheSame, with_done}
+use Rattle.beside_laws.specs.Laws.{KnowsRun, IsReadyToEnd, RaisesTo, BecomesDurable, KnowingRaise, AreTheSame, with_done}
 use Rattle.beside_laws.proofs.OneCut.{fsyncs_raise_one_cut}
 
 -- a cut with the stamps of some nodes lifted
@@ -95,17 +95,17 @@ module _ (run : Progress) (is : IsSoundTree run.first) (legal : IsLegal run.firs
   -- each node that a row at the cut names has an inode
   named_have : (commit : CoreCommit) → NamedHaveInodes (observed_by run.first run.history commit) run.cut run.inodes
   named_have commit node touched row =
-      (lists_keep run.first run.history (map fsync_of run.done) run.cut run.inodes is legal stands.flushed).named node row
+      (lists_keep run.first run.history (map commit_fsync run.done) run.cut run.inodes is legal stands.flushed).named node row
 
   pub of_the_whole : (commit : CoreCommit) → KnowsRun run commit → IsOfTheWhole (observed_by run.first run.history commit) run.cut run.inodes
   of_the_whole commit knows = looks_know (observed_by run.first run.history commit) run.cut run.inodes is legal (named_have commit) knows
 
-  module _ (commit : CoreCommit) (ready : IsReady run commit) where
+  module _ (commit : CoreCommit) (ready : IsReadyToEnd run commit) where
     abbrev look : Look
     look = commit.look
 
     abbrev flush : Flush
-    flush = fsync_of commit
+    flush = commit_fsync commit
 
     whole : IsOfTheWhole (observed_by run.first run.history commit) run.cut run.inodes
     whole = of_the_whole commit ready.knows
@@ -171,7 +171,7 @@ module _ (run : Progress) (is : IsSoundTree run.first) (legal : IsLegal run.firs
     made_inode node touched =
         ap (λ b. cond (commit.makes.gets node) true (cond (commit.makes.loses node) false b)) (sym (ready.knows.enough.same_inodes node touched))
 
-    module _ (any : Cut) (left_inodes : ℕ → Bool) (to : IsRaisedTo run commit any left_inodes) where
+    module _ (any : Cut) (left_inodes : ℕ → Bool) (to : RaisesTo run commit any left_inodes) where
       same : AreTheSame any raised left_inodes after
       same = fsyncs_raise_one_cut run commit any raised left_inodes after to (record { raises = raise; inodes_after = inodes_after })
 
@@ -261,8 +261,8 @@ module _ (run : Progress) (is : IsSoundTree run.first) (legal : IsLegal run.firs
       stands_now : Standing (with_done run commit any left_inodes)
       stands_now = record {
         flushed =
-            subst (λ l. AreFlushed run.first run.history every_entry l any left_inodes) (sym (map-append fsync_of run.done (commit ∷ [])))
-            (one_more (map fsync_of run.done) flush run.cut any run.inodes left_inodes stands.flushed to.raises to.inodes_after);
+            subst (λ l. AreFlushed run.first run.history every_entry l any left_inodes) (sym (map-append commit_fsync run.done (commit ∷ [])))
+            (one_more (map commit_fsync run.done) flush run.cut any run.inodes left_inodes stands.flushed to.raises to.inodes_after);
         left = λ node. elim (true_or_false (commit.holds node)) [
           | inl holds ↦
               let touched = (ready.made.holds node).0 holds in
@@ -276,7 +276,7 @@ module _ (run : Progress) (is : IsSoundTree run.first) (legal : IsLegal run.firs
           | inr same ↦
               let gathered = (ready.made.members node).0 (subst (λ (c : CoreCommit). IsOneOf c.members node) same among) in
               let lifted = gathered_to node gathered in
-              let stamp = ap (λ (c : CoreCommit). (fsync_of c).stamp) same in omega arith
+              let stamp = ap (λ (c : CoreCommit). (commit_fsync c).stamp) same in omega arith
         ];
         numbered = λ one two first second number. elim (new_or one first) [
           | inl before ↦ elim (new_or two second) [
@@ -301,7 +301,7 @@ module _ (run : Progress) (is : IsSoundTree run.first) (legal : IsLegal run.firs
             two = (made.holds node).1 touched;
           })))
 
-    pub raises_now : Raises run commit
+    pub raises_now : BecomesDurable run commit
     raises_now = record {
       raised = raised;
       after = after;

@@ -7,8 +7,8 @@ use Rattle.cut_laws.specs.Rules.{IsOneOf, IsChange}
 use Rattle.cut_laws.proofs.Basics.{below_or}
 use Rattle.look_laws.specs.Look.{Look, InSight, Gathers, Touches, member, named}
 use Rattle.look_laws.specs.Fit.{IsNoted}
-use Rattle.beside_laws.specs.Commits.{CoreCommit, fsync_of, has_inode_behind, Share, RaisedOver}
-use Rattle.beside_laws.specs.Progress.{Progress, IsLastOf, Left, HasLeft, nobody, somebody, HasPassed, Standing, Reserves}
+use Rattle.beside_laws.specs.Commits.{CoreCommit, commit_fsync, has_inode_behind, Share, RaisedOver}
+use Rattle.beside_laws.specs.Progress.{Progress, IsLastOf, Left, HasLeft, nobody, somebody, HasPassed, Standing, KnownAtReserving}
 use Rattle.beside_laws.specs.Laws.{KnowsRun, RuledKnow}
 
 -- two that are the last of one list to hold a node are one
@@ -45,11 +45,11 @@ raised_over run commit change is_change over = elim (over.made.makes.lifts.other
 ]
   where
     by : Gathers commit.look change.directory
-        → commit.makes.lifted change.directory ≡ max (commit.look.cut change.directory) (fsync_of commit).stamp → HasPassed change commit
+        → commit.makes.lifted change.directory ≡ max (commit.look.cut change.directory) (commit_fsync commit).stamp → HasPassed change commit
     by own lifted =
         let from = over.from in
         let past = over.over in
-        let below : change.stamp < (fsync_of commit).stamp = omega arith in
+        let below : change.stamp < (commit_fsync commit).stamp = omega arith in
         let at_most = over.notes.stamp in
         let mark = over.notes.own_marks change.stamp change.directory over.held in
         let noted : IsNoted commit.look change = over.notes.noted change is_change (over.notes.early change.stamp (omega arith)) (omega arith) in
@@ -57,7 +57,7 @@ raised_over run commit change is_change over = elim (over.made.makes.lifts.other
         let sight : InSight commit.look noted.0 = record {
           is_noted = noted.1;
           from = subst (λ (c : RowChange). commit.look.cut c.directory ≤ c.stamp) (sym noted.2) from;
-          below = subst (λ (c : RowChange). c.stamp < (fsync_of commit).stamp) (sym noted.2) below;
+          below = subst (λ (c : RowChange). c.stamp < (commit_fsync commit).stamp) (sym noted.2) below;
         } in
         record {
           member = (over.made.members change.directory).1 own;
@@ -65,7 +65,7 @@ raised_over run commit change is_change over = elim (over.made.makes.lifts.other
           stamp = below;
         }
 
-module _ (run : Progress) (commit : CoreCommit) (stands : Standing run) (reserves : Reserves run commit) where
+module _ (run : Progress) (commit : CoreCommit) (stands : Standing run) (reserves : KnownAtReserving run commit) where
   abbrev look : Look
   look = commit.look
 
@@ -98,8 +98,8 @@ module _ (run : Progress) (commit : CoreCommit) (stands : Standing run) (reserve
 
   -- what is flushed of a node that it holds was flushed by one whose parts were trimmed
   flushed_by : (change : RowChange) → Touches look change.child → IsChange run.first run.history change → change.stamp < cut_of run.cut change.directory
-      → (other : CoreCommit) × HasPassed change other × ((fsync_of other).stamp ≤ commit.late)
-      × ((stamp : ℕ) → (fsync_of other).stamp ≤ commit.mark stamp change.directory)
+      → (other : CoreCommit) × HasPassed change other × ((commit_fsync other).stamp ≤ commit.late)
+      × ((stamp : ℕ) → (commit_fsync other).stamp ≤ commit.mark stamp change.directory)
   flushed_by change touched is_change within =
       let passed = stands.passed change is_change within in
       let share : Share commit passed.0 = record { node = change.child; one = held change.child touched; two = passed.2.child } in (

@@ -6,7 +6,7 @@ use Rattle.std.proofs.lemmas.List.{append_assoc, map-append}
 use Rattle.sfs_base.specs.Listed.{is_listed}
 use borrow.Author.Tests.{eqb-true}
 use Rattle.sfs_base.proofs.BasicNumbers.{same_number}
-use Rattle.sfs_base.proofs.BasicTruth.{not_both}
+use Rattle.sfs_base.proofs.BasicTruth.{not_both, false_not_true}
 use Rattle.cut_laws.specs.declared.event.Event.TheVariants as event
 use Rattle.cut_laws.specs.declared.event.Refused.{Refused}
 use Rattle.cut_laws.specs.declared.event.Refused.TheVariants as refused
@@ -17,10 +17,10 @@ use Rattle.cut_laws.specs.Rules.{IsOneOf}
 use Rattle.cut_laws.proofs.Basics.{in_left, in_right, in_either}
 use Rattle.cut_laws.proofs.Listed.{from_map, to_map}
 use Rattle.look_laws.specs.Beside.{IsOfTheWhole}
-use Rattle.beside_laws.specs.Commits.{CoreCommit, fsync_of, observed_by}
-use Rattle.beside_laws.specs.Laws.{AreReady, IsDoneWith, IsRaisedTo, HaveOtherNumbers, with_done}
+use Rattle.beside_laws.specs.Commits.{CoreCommit, commit_fsync, observed_by}
+use Rattle.beside_laws.specs.Laws.{AreReady, IsDoneWith, RaisesTo, HaveOtherNumbers, with_done}
 use Rattle.beside_laws.specs.Progress.{Progress}
-use Rattle.beside_laws.specs.Steps.{Flown, flight_of_flown, commits_of, RecordPlace, open_at, machine_at, IsMidst, IsLegalRun, TakesEvent, begins, CommitsBegin, CommitsOpen, CommitsEnd}
+use Rattle.beside_laws.specs.Steps.{Flown, flight_of_flown, commits_of, RecordPlace, open_at, machine_amid, IsMidst, IsLegalRun, TakesEvent, begins, CommitsBegin, CommitsOpen, CommitsEnd}
 use Rattle.beside_laws.proofs.Boxes.{put_back, taken, last_or}
 use Rattle.beside_laws.proofs.Kept.{first_ready, rest_ready}
 use Rattle.beside_laws.proofs.Numbered.{NoneHas, taken_out, put_last, found_flight, opened_flights, left_flights}
@@ -105,7 +105,7 @@ module _ (place : RecordPlace) (before behind : List CoreCommit) (commit : CoreC
     | inr same ↦ subst (IsOneOf all) (sym same) own
   ]
 
-  free : (why : Refused) → Refuses (machine_at place) (begins commit) why → ⊥
+  free : (why : Refused) → Refuses (machine_amid place) (begins commit) why → ⊥
   free refused.Crashed h = cc
   free (refused.NotNext want) h = h
   free (refused.NotLegal reply) h = h
@@ -135,13 +135,10 @@ module _ (place : RecordPlace) (before behind : List CoreCommit) (commit : CoreC
       let above = h.0 in omega arith
   free (refused.NotFlying other) h = cc
   free (refused.NotOpened other) h = false_not_true h.0
-    where
-      false_not_true : false ≡ true → ⊥
-      false_not_true e = cc
   free (refused.AlreadyOpened other) h = h
   free refused.NoMemory h = h
 
-  taken_now : Accepts (machine_at place) (begins commit) (machine_at next)
+  taken_now : Accepts (machine_amid place) (begins commit) (machine_amid next)
   taken_now = record {
     free = free;
     moves = (
@@ -159,7 +156,7 @@ module _ (place : RecordPlace) (before behind : List CoreCommit) (commit : CoreC
         );
         closed = refl;
       },
-      ap (λ (l : List Flight). record (machine_at next) { flights = l })
+      ap (λ (l : List Flight). record (machine_amid next) { flights = l })
           (map-append flight_of_flown place.flying (record { commit = commit; opened = false } ∷ [])),
     );
   }
@@ -225,14 +222,14 @@ module _ (run : Progress) (waiting : List CoreCommit) (before behind : List Flow
     later : NoneHas (commits_of behind) commit.number
     later other one = others_apart.0 other (in_right (waiting ++ commits_of before) (commits_of behind) other one)
 
-    found : find (λ (flight : Flight). nat_eq flight.commit commit.number) (machine_at flying).flights
+    found : find (λ (flight : Flight). nat_eq flight.commit commit.number) (machine_amid flying).flights
         ≡ Some (flight_of_flown (record { commit = commit; opened = opened }))
     found = found_flight before behind (record { commit = commit; opened = opened }) earlier
 
-    flies : is_flying (machine_at flying) commit.number ≡ true
+    flies : is_flying (machine_amid flying) commit.number ≡ true
     flies = ap (λ (o : Option Flight). is_some o) found
 
-    is_open : is_opened (machine_at flying) commit.number ≡ opened
+    is_open : is_opened (machine_amid flying) commit.number ≡ opened
     is_open = ap (λ (o : Option Flight). option_map_or (λ flight. flight.opened) o false) found
 
 -- a commit that flies is none that an event misses
@@ -249,7 +246,7 @@ module _ (run : Progress) (waiting : List CoreCommit) (before behind : List Flow
   abbrev open_one : RecordPlace
   open_one = flying run waiting before behind used commit true
 
-  free_to_open : (why : Refused) → Refuses (machine_at shut) (event.Opened commit.number) why → ⊥
+  free_to_open : (why : Refused) → Refuses (machine_amid shut) (event.Opened commit.number) why → ⊥
   free_to_open refused.Crashed h = cc
   free_to_open (refused.NotNext want) h = h
   free_to_open (refused.NotLegal reply) h = h
@@ -258,7 +255,7 @@ module _ (run : Progress) (waiting : List CoreCommit) (before behind : List Flow
   free_to_open (refused.Meets met) h = h
   free_to_open (refused.Late late) h = h
   free_to_open (refused.NotFlying other) h =
-      none_missing (is_flying (machine_at shut) commit.number) commit.number other (flies run waiting before behind used commit false midst) h
+      none_missing (is_flying (machine_amid shut) commit.number) commit.number other (flies run waiting before behind used commit false midst) h
   free_to_open (refused.NotOpened other) h = let never = h.0 in cc
   free_to_open (refused.AlreadyOpened other) h = not_both h.0 (is_open run waiting before behind used commit false midst)
   free_to_open refused.NoMemory h = h
@@ -272,7 +269,7 @@ module _ (run : Progress) (waiting : List CoreCommit) (before behind : List Flow
   opens_now = record {
     taken = record {
       free = free_to_open;
-      moves = ap (λ (l : List Flight). record (machine_at open_one) { flights = l })
+      moves = ap (λ (l : List Flight). record (machine_amid open_one) { flights = l })
           (sym (opened_flights before behind commit (earlier run waiting before behind used commit false midst)
           (later run waiting before behind used commit false midst)));
     };
@@ -294,7 +291,7 @@ commits_open place before behind commit flies midst =
 
 -- It becomes durable.
 module _ (run : Progress) (waiting : List CoreCommit) (before behind : List Flown) (used : List ℕ) (commit : CoreCommit) (run_is : IsLegalRun run)
-    (raised : Cut) (after : ℕ → Bool) (to : IsRaisedTo run commit raised after)
+    (raised : Cut) (after : ℕ → Bool) (to : RaisesTo run commit raised after)
     (midst : IsMidst (flying run waiting before behind used commit true)) where
   abbrev aloft : RecordPlace
   aloft = flying run waiting before behind used commit true
@@ -322,7 +319,7 @@ module _ (run : Progress) (waiting : List CoreCommit) (before behind : List Flow
   done : IsDoneWith run commit raised after
   done = (knowing_raise run commit run_is.sound run_is.legal midst.standing (first_ready run commit rest fronted midst.standing)).done raised after to
 
-  free_to_end : (why : Refused) → Refuses (machine_at aloft) (event.Durable commit.number) why → ⊥
+  free_to_end : (why : Refused) → Refuses (machine_amid aloft) (event.Durable commit.number) why → ⊥
   free_to_end refused.Crashed h = cc
   free_to_end (refused.NotNext want) h = h
   free_to_end (refused.NotLegal reply) h = h
@@ -331,9 +328,9 @@ module _ (run : Progress) (waiting : List CoreCommit) (before behind : List Flow
   free_to_end (refused.Meets met) h = h
   free_to_end (refused.Late late) h = h
   free_to_end (refused.NotFlying other) h =
-      none_missing (is_flying (machine_at aloft) commit.number) commit.number other (flies run waiting before behind used commit true midst) h
+      none_missing (is_flying (machine_amid aloft) commit.number) commit.number other (flies run waiting before behind used commit true midst) h
   free_to_end (refused.NotOpened other) h =
-      none_missing (is_opened (machine_at aloft) commit.number) commit.number other (is_open run waiting before behind used commit true midst) h.1
+      none_missing (is_opened (machine_amid aloft) commit.number) commit.number other (is_open run waiting before behind used commit true midst) h.1
   free_to_end (refused.AlreadyOpened other) h = h
   free_to_end refused.NoMemory h = h
 
@@ -343,10 +340,10 @@ module _ (run : Progress) (waiting : List CoreCommit) (before behind : List Flow
       free = free_to_end;
       moves = (
         flight_of_flown (record { commit = commit; opened = true }),
-        record (machine_at aloft) { cut = raised; inodes = after },
+        record (machine_amid aloft) { cut = raised; inodes = after },
         found run waiting before behind used commit true midst,
-        record { raised = one_more [] (fsync_of commit) run.cut raised run.inodes after none to.raises to.inodes_after; others = refl },
-        ap (λ (l : List Flight). record (machine_at landed) { flights = l })
+        record { raised = one_more [] (commit_fsync commit) run.cut raised run.inodes after none to.raises to.inodes_after; others = refl },
+        ap (λ (l : List Flight). record (machine_amid landed) { flights = l })
             (sym (left_flights before behind (record { commit = commit; opened = true }) (earlier run waiting before behind used commit true midst)
             (later run waiting before behind used commit true midst))),
       );

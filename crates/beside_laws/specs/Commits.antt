@@ -7,7 +7,7 @@ use Rattle.cut_laws.specs.Rules.{IsOneOf, IsChange, births_of}
 use Rattle.cut_laws.specs.Closure.{Counts, Flush, HasLiveNode}
 use Rattle.look_laws.specs.Look.{Look, Noted, Gathers, Touches}
 use Rattle.look_laws.specs.Fit.{IsNoted, IsTrue}
-use Rattle.look_laws.specs.Beside.{Observation, Lifting, IsMadeBy}
+use Rattle.look_laws.specs.Beside.{Observation, Lifting, IsLiftingOf}
 
 -- A commit as its core made it: its number; what it went by, and of which entries, all of those below a stamp; the marks of the log parts that it
 -- noted, by the stamp of an entry, which tells its core's part, and by directory; its members; the nodes that it holds, and of each the number of
@@ -24,8 +24,8 @@ pub record CoreCommit : Type 0 where
   pub makes : Lifting
 
 -- the fsync that it is of
-abbrev pub fsync_of : CoreCommit → Flush
-fsync_of commit = commit.look.flush
+abbrev pub commit_fsync : CoreCommit → Flush
+commit_fsync commit = commit.look.flush
 
 -- its observation of a history
 abbrev pub observed_by : TreeState → List Entry → CoreCommit → Observation
@@ -42,7 +42,7 @@ has_inode_behind commit node =
 pub record IsByItsLook (commit : CoreCommit) : Type 0 where
   pub members : (node : ℕ) → IsOneOf commit.members node ↔ Gathers commit.look node
   pub holds : (node : ℕ) → (commit.holds node ≡ true) ↔ Touches commit.look node
-  pub makes : IsMadeBy commit.look commit.makes
+  pub makes : IsLiftingOf commit.look commit.makes
   pub blank : (node : ℕ) → commit.holds node ≡ false → commit.look.cut node ≡ 0
 
 -- What a commit noted is what the log parts had as it held its nodes: of the entries that count the changes that the parts' marks had not cut
@@ -50,8 +50,8 @@ pub record IsByItsLook (commit : CoreCommit) : Type 0 where
 -- made; and no part was marked past the cut of a directory that it holds.
 pub record HasNotes (first : TreeState) (history : List Entry) (commit : CoreCommit) : Type 0 where
   pub early : (stamp : ℕ) → stamp < commit.late → commit.counts stamp ≡ true
-  pub stamp : (fsync_of commit).stamp ≤ commit.late
-  pub live : HasLiveNode first history (fsync_of commit)
+  pub stamp : (commit_fsync commit).stamp ≤ commit.late
+  pub live : HasLiveNode first history (commit_fsync commit)
   pub truths : (noted : Noted) → IsOneOf commit.look.noted noted → IsTrue first history commit.counts noted
   pub unmarked : (noted : Noted) → IsOneOf commit.look.noted noted → commit.mark noted.change.stamp noted.change.directory ≤ noted.change.stamp
   pub noted : (change : RowChange) → IsChange first history change → commit.counts change.stamp ≡ true

@@ -10,8 +10,8 @@ use Rattle.cut_laws.specs.Closure.{every_entry, IsRaised, AreInodesAfter}
 use Rattle.look_laws.specs.Fit.{FindsRight}
 use Rattle.look_laws.specs.Beside.{Knows}
 use Rattle.beside_laws.specs.Box.{BoxState, NO_COMMIT, IsUnmoved, with_open, BoxGoesOn, BoxGives}
-use Rattle.beside_laws.specs.Commits.{CoreCommit, fsync_of, observed_by, IsByItsLook, Share}
-use Rattle.beside_laws.specs.Progress.{Progress, Standing, Reserves, IsLater}
+use Rattle.beside_laws.specs.Commits.{CoreCommit, commit_fsync, observed_by, IsByItsLook, Share}
+use Rattle.beside_laws.specs.Progress.{Progress, Standing, KnownAtReserving, IsLater}
 
 -- A commit knows enough of a run.
 abbrev pub KnowsRun : Progress → CoreCommit → Type 0
@@ -19,15 +19,15 @@ KnowsRun run commit = Knows (observed_by run.first run.history commit) run.cut r
 
 -- A commit that reserves so knows enough, whatever became durable before it.
 abbrev pub RuledKnow : Type 0
-RuledKnow = (run : Progress) (commit : CoreCommit) → Standing run → Reserves run commit → KnowsRun run commit
+RuledKnow = (run : Progress) (commit : CoreCommit) → Standing run → KnownAtReserving run commit → KnowsRun run commit
 
 -- What a commit found is so at each cut that its fsync raises.
 abbrev pub FindsItsOwn : Progress → CoreCommit → Type 0
-FindsItsOwn run commit = (raised : Cut) → IsRaised run.first run.history every_entry run.cut run.inodes (fsync_of commit) raised
+FindsItsOwn run commit = (raised : Cut) → IsRaised run.first run.history every_entry run.cut run.inodes (commit_fsync commit) raised
     → FindsRight run.first run.history every_entry raised commit.look commit.makes.found
 
 -- A commit is ready to become durable: it is made by its look, knows enough, found what is so, and is later than those that are done.
-pub record IsReady (run : Progress) (commit : CoreCommit) : Type 0 where
+pub record IsReadyToEnd (run : Progress) (commit : CoreCommit) : Type 0 where
   pub made : IsByItsLook commit
   pub knows : KnowsRun run commit
   pub finds : FindsItsOwn run commit
@@ -39,9 +39,9 @@ with_done run commit raised after =
     record { first = run.first; history = run.history; done = run.done ++ commit ∷ []; cut = raised; inodes = after }
 
 -- The fsync of a commit raises this cut and leaves these nodes with an inode.
-pub record IsRaisedTo (run : Progress) (commit : CoreCommit) (raised : Cut) (after : ℕ → Bool) : Type 0 where
-  pub raises : IsRaised run.first run.history every_entry run.cut run.inodes (fsync_of commit) raised
-  pub inodes_after : AreInodesAfter run.first run.history every_entry run.cut run.inodes (fsync_of commit) raised after
+pub record RaisesTo (run : Progress) (commit : CoreCommit) (raised : Cut) (after : ℕ → Bool) : Type 0 where
+  pub raises : IsRaised run.first run.history every_entry run.cut run.inodes (commit_fsync commit) raised
+  pub inodes_after : AreInodesAfter run.first run.history every_entry run.cut run.inodes (commit_fsync commit) raised after
 
 -- A commit is done: all stands with it, and each that knew enough and shares no node with it knows enough as before.
 pub record IsDoneWith (run : Progress) (commit : CoreCommit) (raised : Cut) (after : ℕ → Bool) : Type 0 where
@@ -50,16 +50,16 @@ pub record IsDoneWith (run : Progress) (commit : CoreCommit) (raised : Cut) (aft
       → KnowsRun (with_done run commit raised after) other
 
 -- A commit becomes durable: its fsync raises a cut, and whichever cut and inodes it leaves, it is done with them.
-pub record Raises (run : Progress) (commit : CoreCommit) : Type 0 where
+pub record BecomesDurable (run : Progress) (commit : CoreCommit) : Type 0 where
   pub raised : Cut
   pub after : ℕ → Bool
-  pub raises : IsRaisedTo run commit raised after
-  pub done : (any : Cut) (behind : ℕ → Bool) → IsRaisedTo run commit any behind → IsDoneWith run commit any behind
+  pub raises : RaisesTo run commit raised after
+  pub done : (any : Cut) (behind : ℕ → Bool) → RaisesTo run commit any behind → IsDoneWith run commit any behind
 
 -- So does each that is ready, in a legal history from a sound tree.
 abbrev pub KnowingRaise : Type 0
-KnowingRaise = (run : Progress) (commit : CoreCommit) → IsSoundTree run.first → IsLegal run.first run.history → Standing run → IsReady run commit
-    → Raises run commit
+KnowingRaise = (run : Progress) (commit : CoreCommit) → IsSoundTree run.first → IsLegal run.first run.history → Standing run → IsReadyToEnd run commit
+    → BecomesDurable run commit
 
 -- The box says so of each commit that reserves and is not moved, however its record goes on.
 abbrev pub BoxesGive : Type 0
@@ -76,7 +76,7 @@ FindsAlways first history commit = (done : List CoreCommit) (cut : Cut) (inodes 
 -- A commit found what is so at a cut that its fsync raises.
 pub record HasFound (run : Progress) (commit : CoreCommit) : Type 0 where
   pub raised : Cut
-  pub raises : IsRaised run.first run.history every_entry run.cut run.inodes (fsync_of commit) raised
+  pub raises : IsRaised run.first run.history every_entry run.cut run.inodes (commit_fsync commit) raised
   pub finds : FindsRight run.first run.history every_entry raised commit.look commit.makes.found
 
 -- What it found once is so wherever it knows enough.
@@ -117,5 +117,5 @@ pub record AreTheSame (cut other : Cut) (inodes other_inodes : ℕ → Bool) : T
 
 -- So are those that one fsync raises and leaves.
 abbrev pub FsyncsRaiseOneCut : Type 0
-FsyncsRaiseOneCut = (run : Progress) (commit : CoreCommit) (raised other : Cut) (after other_after : ℕ → Bool) → IsRaisedTo run commit raised after
-    → IsRaisedTo run commit other other_after → AreTheSame raised other after other_after
+FsyncsRaiseOneCut = (run : Progress) (commit : CoreCommit) (raised other : Cut) (after other_after : ℕ → Bool) → RaisesTo run commit raised after
+    → RaisesTo run commit other other_after → AreTheSame raised other after other_after

@@ -7,7 +7,7 @@ use Rattle.tree_laws.specs.Changes.{RowChange}
 use Rattle.cut_laws.specs.Cut.{Cut, cut_of, IsWithin}
 use Rattle.cut_laws.specs.Rules.{IsOneOf, IsChange}
 use Rattle.cut_laws.specs.Closure.{every_entry, AreFlushed}
-use Rattle.beside_laws.specs.Commits.{CoreCommit, fsync_of, has_inode_behind, IsByItsLook, HasNotes, Share, RaisedOver}
+use Rattle.beside_laws.specs.Commits.{CoreCommit, commit_fsync, has_inode_behind, IsByItsLook, HasNotes, Share, RaisedOver}
 
 -- A run so far: the first tree and the history, the commits that are done, in the order in which they became durable, and the cut and the nodes
 -- with an inode that they left.
@@ -40,27 +40,27 @@ pub data HasLeft (done : List CoreCommit) (node : ℕ) (at_first : Bool) (left :
 pub record HasPassed (change : RowChange) (commit : CoreCommit) : Type 0 where
   pub member : IsOneOf commit.members change.directory
   pub child : commit.holds change.child ≡ true
-  pub stamp : change.stamp < (fsync_of commit).stamp
+  pub stamp : change.stamp < (commit_fsync commit).stamp
 
 -- What stands once some commits are done: they have raised the cut, one after another; each node has what they left of it; each change below the
 -- cut was passed by one of them; no member's cut is below its commit's stamp; and no two have one number.
 pub record Standing (run : Progress) : Type 0 where
-  pub flushed : AreFlushed run.first run.history every_entry (map fsync_of run.done) run.cut run.inodes
+  pub flushed : AreFlushed run.first run.history every_entry (map commit_fsync run.done) run.cut run.inodes
   pub left : (node : ℕ)
       → HasLeft run.done node (is_some (get run.first.nodes node)) (record { stamp = cut_of run.cut node; inode = run.inodes node })
   pub passed : (change : RowChange) → IsChange run.first run.history change → IsWithin run.cut change
       → (commit : CoreCommit) × IsOneOf run.done commit × HasPassed change commit
   pub members : (commit : CoreCommit) (node : ℕ) → IsOneOf run.done commit → IsOneOf commit.members node
-      → (fsync_of commit).stamp ≤ cut_of run.cut node
+      → (commit_fsync commit).stamp ≤ cut_of run.cut node
   pub numbered : (one two : CoreCommit) → IsOneOf run.done one → IsOneOf run.done two → one.number ≡ two.number → one ≡ two
 
 -- A commit is ruled by those that are done: each that shares a node with it was stamped before its parts were noted, and all parts were trimmed
 -- for it by then; and a mark that a part had over a change was reached by the cut of a commit that raised the change's directory over it, which
 -- is done where it shares a node with this one.
 pub record IsRuled (run : Progress) (commit : CoreCommit) : Type 0 where
-  pub earlier : (other : CoreCommit) → IsOneOf run.done other → Share commit other → (fsync_of other).stamp ≤ commit.late
+  pub earlier : (other : CoreCommit) → IsOneOf run.done other → Share commit other → (commit_fsync other).stamp ≤ commit.late
   pub trimmed : (other : CoreCommit) → IsOneOf run.done other → Share commit other → (stamp directory : ℕ) → IsOneOf other.members directory
-      → (fsync_of other).stamp ≤ commit.mark stamp directory
+      → (commit_fsync other).stamp ≤ commit.mark stamp directory
   pub reached : (change : RowChange) → IsChange run.first run.history change → change.stamp < commit.mark change.stamp change.directory
       → (other : CoreCommit) × RaisedOver run.first run.history other change.directory change.stamp
       × (Share commit other → IsOneOf run.done other)
@@ -72,7 +72,7 @@ SawWhatIsLeft run commit =
     → HasLeft run.done node (is_some (get run.first.nodes node)) (record { stamp = commit.look.cut node; inode = commit.look.inodes node })
 
 -- What is known of a commit as it reserves: it is made by its look, has its notes, is ruled, and saw what is left.
-pub record Reserves (run : Progress) (commit : CoreCommit) : Type 0 where
+pub record KnownAtReserving (run : Progress) (commit : CoreCommit) : Type 0 where
   pub made : IsByItsLook commit
   pub notes : HasNotes run.first run.history commit
   pub ruled : IsRuled run commit

@@ -8,8 +8,8 @@ use Rattle.cut_laws.specs.declared.event.Event.TheVariants as event
 use Rattle.cut_laws.specs.Cut.{Cut}
 use Rattle.cut_laws.specs.Machine.{Flight, MachineState, Accepts}
 use Rattle.cut_laws.specs.Rules.{IsOneOf}
-use Rattle.beside_laws.specs.Commits.{CoreCommit, fsync_of}
-use Rattle.beside_laws.specs.Laws.{AreReady, IsRaisedTo, with_done}
+use Rattle.beside_laws.specs.Commits.{CoreCommit, commit_fsync}
+use Rattle.beside_laws.specs.Laws.{AreReady, RaisesTo, with_done}
 use Rattle.beside_laws.specs.Progress.{Progress, Standing}
 
 -- A commit that has begun, opened or not.
@@ -21,7 +21,7 @@ pub record Flown : Type 0 where
 abbrev pub flight_of_flown : Flown → Flight
 flight_of_flown flown = record {
   commit = flown.commit.number;
-  flush = fsync_of flown.commit;
+  flush = commit_fsync flown.commit;
   members = is_listed flown.commit.members;
   concerned = flown.commit.holds;
   opened = flown.opened;
@@ -43,8 +43,8 @@ abbrev pub open_at : RecordPlace → List CoreCommit
 open_at place = place.waiting ++ commits_of place.flying
 
 -- the machine there, while no commit has failed
-abbrev pub machine_at : RecordPlace → MachineState
-machine_at place = record {
+abbrev pub machine_amid : RecordPlace → MachineState
+machine_amid place = record {
   first = place.run.first;
   history = place.run.history;
   cut = place.run.cut;
@@ -60,7 +60,7 @@ machine_at place = record {
 pub record IsMidst (place : RecordPlace) : Type 0 where
   pub standing : Standing place.run
   pub ready : AreReady place.run (open_at place)
-  pub low : (commit : CoreCommit) → IsOneOf (open_at place) commit → (fsync_of commit).stamp ≤ length place.run.history
+  pub low : (commit : CoreCommit) → IsOneOf (open_at place) commit → (commit_fsync commit).stamp ≤ length place.run.history
   pub used_by : (number : ℕ) → IsOneOf place.used number
       → (commit : CoreCommit) × IsOneOf (place.run.done ++ commits_of place.flying) commit × (commit.number ≡ number)
 
@@ -71,12 +71,12 @@ pub record IsLegalRun (run : Progress) : Type 0 where
 
 -- A step from one place to another: the machine takes the event, and it is the midst of the record again.
 pub record TakesEvent (from : RecordPlace) (e : Event) (to : RecordPlace) : Type 0 where
-  pub taken : Accepts (machine_at from) e (machine_at to)
+  pub taken : Accepts (machine_amid from) e (machine_amid to)
   pub midst : IsMidst to
 
 -- the event by which a commit begins
 abbrev pub begins : CoreCommit → Event
-begins commit = event.CutAt commit.number (record { 0 = (fsync_of commit).node }) (record { 0 = (fsync_of commit).stamp })
+begins commit = event.CutAt commit.number (record { 0 = (commit_fsync commit).node }) (record { 0 = (commit_fsync commit).stamp })
 
 -- A commit that waits begins.
 abbrev pub CommitsBegin : Type 0
@@ -97,7 +97,7 @@ CommitsOpen = (place : RecordPlace) (before behind : List Flown) (commit : CoreC
 pub record MayEnd (place : RecordPlace) (before behind : List Flown) (commit : CoreCommit) (raised : Cut) (after : ℕ → Bool) : Type 0 where
   pub legal : IsLegalRun place.run
   pub flies : place.flying ≡ before ++ record { commit = commit; opened = true } ∷ behind
-  pub raises : IsRaisedTo place.run commit raised after
+  pub raises : RaisesTo place.run commit raised after
 
 -- One that was opened becomes durable, with whichever cut and inodes its fsync leaves.
 abbrev pub CommitsEnd : Type 0

@@ -28,7 +28,7 @@ use Rattle.look_laws.specs.Look.{Look, Touches, member, SeesNaming}
 use Rattle.look_laws.specs.Made.{SeesReached, SeesDead}
 use Rattle.look_laws.specs.Fit.{FindsRight}
 use Rattle.look_laws.specs.Laws.{FitsHistory}
-use Rattle.look_laws.specs.Beside.{Observation, Knows, NamedHaveInodes, Lifting, IsMadeBy, AreInodesBehind, IsLiftedBy, LooksKnow}
+use Rattle.look_laws.specs.Beside.{Observation, Knows, NamedHaveInodes, Lifting, IsLiftingOf, AreInodesBehind, IsLiftedBy, LooksKnow}
 use Rattle.look_laws.proofs.Fitting.{fits}
 use Rattle.look_laws.proofs.Making.{naming_raised, raised_seen}
 
@@ -212,27 +212,24 @@ module _ (seen : Observation) (is : IsSoundTree seen.first) (legal : IsLegal see
         ]
 
     module _ (raised : Cut) (lifting : Lifting) (after : ℕ → Bool) (raise : IsRaised seen.first seen.history every_entry cut inodes look.flush raised)
-        (made : IsMadeBy look lifting) (right : FindsRight seen.first seen.history every_entry raised look lifting.found)
+        (made : IsLiftingOf look lifting) (right : FindsRight seen.first seen.history every_entry raised look lifting.found)
         (behind_it : AreInodesBehind inodes lifting after) where
-      abbrev lifted : ℕ → ℕ
-      lifted = lifting.lifted
-
       -- a naming that is seen at the new stamps is not flushed by the raised cut
-      naming_there : (node : ℕ) → Touches look node → SeesNaming look lifted node → HasNaming seen.first seen.history seen.counts raised node
-      naming_there = naming_raised seen.first seen.history seen.counts cut raised inodes look lifted knows.enough (raise_here raised raise) made.lifts
+      naming_there : (node : ℕ) → Touches look node → SeesNaming look lifting.lifted node → HasNaming seen.first seen.history seen.counts raised node
+      naming_there = naming_raised seen.first seen.history seen.counts cut raised inodes look lifting.lifted knows.enough (raise_here raised raise) made.lifts
 
       -- and one that is not flushed is seen, or a row at the raised cut names the node
       naming_seen : (node : ℕ) → Touches look node → HasNaming seen.first seen.history every_entry raised node
-          → IsNamedIn (rows_at_cut seen.first seen.history raised) node ⊎ SeesNaming look lifted node
+          → IsNamedIn (rows_at_cut seen.first seen.history raised) node ⊎ SeesNaming look lifting.lifted node
       naming_seen node touched naming =
           let late = there_late node ((here.concerned node).0 touched) in
           elim (counted_naming raised node (none_raised raised raise node touched) late naming) [
             | inl row ↦ inl row
             | inr counted ↦
-                inr (raised_seen seen.first seen.history seen.counts cut raised inodes look lifted knows.enough (raise_here raised raise) made.lifts node touched counted)
+                inr (raised_seen seen.first seen.history seen.counts cut raised inodes look lifting.lifted knows.enough (raise_here raised raise) made.lifts node touched counted)
           ]
 
-      reached_there : (node : ℕ) → Touches look node → SeesReached look lifted lifting.found node
+      reached_there : (node : ℕ) → Touches look node → SeesReached look lifting.lifted lifting.found node
           → IsReached seen.first seen.history every_entry look.flush raised node
       reached_there node touched (inl row) = inl ((right.named node touched).0 row)
       reached_there node touched (inr (own, file, sees)) =
@@ -244,14 +241,14 @@ module _ (seen : Observation) (is : IsSoundTree seen.first) (legal : IsLegal see
           )
 
       reached_here : (node : ℕ) → Touches look node → IsReached seen.first seen.history every_entry look.flush raised node
-          → SeesReached look lifted lifting.found node
+          → SeesReached look lifting.lifted lifting.found node
       reached_here node touched (inl row) = inl ((right.named node touched).1 row)
       reached_here node touched (inr (own, file, naming)) = elim (naming_seen node touched naming) [
         | inl row ↦ inl ((right.named node touched).1 row)
         | inr sees ↦ inr (own, right.directory ∙ sym (ap (is_directory (tree_after seen.first seen.history)) own) ∙ file, sees)
       ]
 
-      dead_there : (node : ℕ) → Touches look node → SeesDead look lifted lifting.found node → IsDead seen.first seen.history every_entry raised node
+      dead_there : (node : ℕ) → Touches look node → SeesDead look lifting.lifted lifting.found node → IsDead seen.first seen.history every_entry raised node
       dead_there node touched dead = record {
         no_root = dead.no_root;
         unnamed = unnamed;
@@ -269,7 +266,7 @@ module _ (seen : Observation) (is : IsSoundTree seen.first) (legal : IsLegal see
           unnamed : IsNamedIn (rows_at_cut seen.first seen.history raised) node → ⊥
           unnamed row = not_both ((right.named node touched).1 row) dead.unnamed
 
-      dead_here : (node : ℕ) → Touches look node → IsDead seen.first seen.history every_entry raised node → SeesDead look lifted lifting.found node
+      dead_here : (node : ℕ) → Touches look node → IsDead seen.first seen.history every_entry raised node → SeesDead look lifting.lifted lifting.found node
       dead_here node touched dead = record {
         no_root = dead.no_root;
         unnamed = elim (true_or_false (lifting.found.named node)) [

@@ -46,7 +46,7 @@ pub record Lifting : Type 0 where
   pub loses : ℕ → Bool
 
 -- It is made by a look.
-pub record IsMadeBy (look : Look) (lifting : Lifting) : Type 0 where
+pub record IsLiftingOf (look : Look) (lifting : Lifting) : Type 0 where
   pub lifts : Lifts look lifting.lifted
   pub moved : AreMoved look lifting.lifted lifting.found lifting.gets lifting.loses
 
@@ -67,7 +67,7 @@ pub record IsOfTheWhole (seen : Observation) (cut : Cut) (inodes : ℕ → Bool)
   pub fits : FitsHistory seen.first seen.history every_entry cut inodes seen.look
   pub raises : (raised : Cut) → IsLiftedBy seen.look cut raised → IsRaised seen.first seen.history every_entry cut inodes seen.look.flush raised
   pub moves : (raised : Cut) (lifting : Lifting) (after : ℕ → Bool) → IsRaised seen.first seen.history every_entry cut inodes seen.look.flush raised
-      → IsMadeBy seen.look lifting → FindsRight seen.first seen.history every_entry raised seen.look lifting.found
+      → IsLiftingOf seen.look lifting → FindsRight seen.first seen.history every_entry raised seen.look lifting.found
       → AreInodesBehind inodes lifting after
       → AreInodesAfter seen.first seen.history every_entry cut inodes seen.look.flush raised after
   pub stays : (raised : Cut) (after : ℕ → Bool) → ((node : ℕ) → cut_of cut node ≤ cut_of raised node)
