@@ -1,4 +1,5 @@
 pub mod Boxes
+pub mod Files
 pub mod Finding
 pub mod Kept
 pub mod Numbered

@@ -26,7 +26,7 @@ use Rattle.beside_laws.specs.Laws.{KnowsRun, IsReadyToEnd, RaisesTo, BecomesDura
 use Rattle.beside_laws.proofs.OneCut.{fsyncs_raise_one_cut}
 
 -- a cut with the stamps of some nodes lifted
-abbrev lifted_cut : Cut → List ℕ → ℕ → Cut
+abbrev pub lifted_cut : Cut → List ℕ → ℕ → Cut
 lifted_cut cut [] stamp = cut
 lifted_cut cut (node ∷ nodes) stamp = insert (lifted_cut cut nodes stamp) node (max (cut_of cut node) stamp)
 
@@ -40,7 +40,7 @@ cut_inserted cut node stamp x =
     by false = refl
 
 -- a node is one of them, and lifted, or it is none, and its stamp is as it was
-lifted_or : (cut : Cut) (nodes : List ℕ) (stamp x : ℕ)
+pub lifted_or : (cut : Cut) (nodes : List ℕ) (stamp x : ℕ)
     → (IsOneOf nodes x × (cut_of (lifted_cut cut nodes stamp) x ≡ max (cut_of cut x) stamp))
     ⊎ ((IsOneOf nodes x → ⊥) × (cut_of (lifted_cut cut nodes stamp) x ≡ cut_of cut x))
 lifted_or cut [] stamp x = inr ((λ none. none), refl)

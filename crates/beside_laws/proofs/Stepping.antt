@@ -1,11 +1,8 @@
 -- The machine takes the steps of commits that are open beside one another.
-use Rattle.std.proofs.Common.{◌≡◌, ℕ, Bool, true, false, cond, not, ◌||◌, nat_eq, List, [], ◌∷◌, ◌++◌, Option, Some, None, is_some, inl, inr, refl, sym, ap, subst, ◌∙◌, arith}
+use Rattle.std.proofs.Common.{◌≡◌, ℕ, Bool, true, false, cond, not, nat_eq, List, [], ◌∷◌, ◌++◌, Option, Some, None, is_some, inl, inr, refl, sym, ap, subst, ◌∙◌, arith}
 use Rattle.std.specs.List.{find}
 use Rattle.std.specs.Option.{option_map_or}
 use Rattle.std.proofs.lemmas.List.{append_assoc, map-append}
-use Rattle.sfs_base.specs.Listed.{is_listed}
-use borrow.Author.Tests.{eqb-true}
-use Rattle.sfs_base.proofs.BasicNumbers.{same_number}
 use Rattle.sfs_base.proofs.BasicTruth.{not_both, false_not_true}
 use Rattle.cut_laws.specs.declared.event.Event.TheVariants as event
 use Rattle.cut_laws.specs.declared.event.Refused.{Refused}
@@ -15,7 +12,7 @@ use Rattle.cut_laws.specs.Cut.{Cut}
 use Rattle.cut_laws.specs.Machine.{Flight, Refuses, Accepts, is_flying, is_opened}
 use Rattle.cut_laws.specs.Rules.{IsOneOf}
 use Rattle.cut_laws.proofs.Basics.{in_left, in_right, in_either}
-use Rattle.cut_laws.proofs.Listed.{from_map, to_map}
+use Rattle.cut_laws.proofs.Listed.{from_map, to_map, listed_one}
 use Rattle.look_laws.specs.Beside.{IsOfTheWhole}
 use Rattle.beside_laws.specs.Commits.{CoreCommit, commit_fsync, observed_by}
 use Rattle.beside_laws.specs.Laws.{AreReady, IsDoneWith, RaisesTo, HaveOtherNumbers, with_done}
@@ -37,24 +34,6 @@ ready_among run from to within once ready = record {
   apart = λ commit other one two. ready.apart commit other (within commit one) (within other two);
   once = once;
 }
-
--- one of a list is listed
-one_listed : (nodes : List ℕ) (node : ℕ) → IsOneOf nodes node → is_listed nodes node ≡ true
-one_listed [] node one = absurd one
-one_listed (first ∷ nodes) node (inl same) =
-    ap (λ b. b || is_listed nodes node) (ap (λ n. nat_eq first n) (sym same) ∙ same_number first)
-one_listed (first ∷ nodes) node (inr more) = elim (nat_eq first node) as (λ b. (b || is_listed nodes node) ≡ true) [
-  | true ↦ refl
-  | false ↦ one_listed nodes node more
-]
-
-listed_among : (nodes : List ℕ) (node : ℕ) → is_listed nodes node ≡ true → IsOneOf nodes node
-listed_among [] node listed = cc
-listed_among (first ∷ nodes) node listed =
-    elim (nat_eq first node) as (λ b. nat_eq first node ≡ b → (b || is_listed nodes node) ≡ true → IsOneOf (first ∷ nodes) node) [
-      | true ↦ λ same _. inl (eqb-true _ _ same)
-      | false ↦ λ _ more. inr (listed_among nodes node more)
-    ] refl listed
 
 -- A commit that waits begins.
 module _ (place : RecordPlace) (before behind : List CoreCommit) (commit : CoreCommit) (run_is : IsLegalRun place.run)
@@ -147,8 +126,8 @@ module _ (place : RecordPlace) (before behind : List CoreCommit) (commit : CoreC
         number = refl;
         own = refl;
         members = λ node. (
-          λ listed. (whole.fits.members node).0 (((ready.made commit own).members node).0 (listed_among commit.members node listed)),
-          λ one. one_listed commit.members node (((ready.made commit own).members node).1 ((whole.fits.members node).1 one)),
+          λ listed. (whole.fits.members node).0 (((ready.made commit own).members node).0 ((listed_one commit.members node).0 listed)),
+          λ one. (listed_one commit.members node).1 (((ready.made commit own).members node).1 ((whole.fits.members node).1 one)),
         );
         concerned = λ node. (
           λ held. (whole.fits.concerned node).0 (((ready.made commit own).holds node).0 held),

@@ -1,5 +1,6 @@
 pub mod Box
 pub mod Commits
 pub mod Laws
+pub mod OwnFile
 pub mod Progress
 pub mod Steps

@@ -1,5 +1,6 @@
 // What is proved of the definitions: each function's contract is a law.
 ghost use Rattle.beside_laws.specs.Steps.{CommitsBegin, CommitsOpen, CommitsEnd};
+ghost use Rattle.beside_laws.specs.OwnFile.{OwnFilesMayBeOpen};
 ghost use Rattle.beside_laws.specs.Laws.{RuledKnow, KnowingRaise, BoxesGive, FoundOnce, ReadyRaise, FsyncsRaiseOneCut};
 
 /// A commit that was not moved as it reserved knows enough, whatever became durable before it.
@@ -47,4 +48,10 @@ pub fn commits_open()
 /// the record again.
 pub fn commits_end()
     ensures { CommitsEnd }
+{}
+
+/// The commit of a live file that has an inode may be open beside others though it noted nothing: it is made by the look
+/// that it would have had.
+pub fn own_files_may_be_open()
+    ensures { OwnFilesMayBeOpen }
 {}

@@ -1,6 +1,11 @@
 -- Elements of lists, and of the first of them.
-use Rattle.std.proofs.Common.{◌≡◌, ℕ, zero, suc, ◌+◌, ◌<◌, ◌≤◌, List, [], ◌∷◌, length, take, map, get_or, ◌⊎◌, inl, inr, refl, sym, ap, ◌∙◌, arith}
+use Rattle.std.proofs.Common.{◌≡◌, ◌↔◌, ℕ, Bool, true, false, cond, ◌||◌, nat_eq, filter, subst, zero, suc, ◌+◌, ◌<◌, ◌≤◌, List, [], ◌∷◌, length, take, map, get_or, ◌⊎◌, inl, inr, refl, sym, ap, ◌∙◌, arith}
 use Rattle.std.proofs.lemmas.List.{take_more, take_all}
+use Rattle.std.proofs.lemmas.Bool.{cond-true}
+use borrow.Author.Tests.{eqb-true}
+use Rattle.sfs_base.specs.Listed.{is_listed}
+use Rattle.sfs_base.proofs.BasicNumbers.{same_number}
+use Rattle.sfs_base.proofs.BasicTruth.{or_true}
 use Rattle.cut_laws.specs.Rules.{IsOneOf}
 use Rattle.cut_laws.proofs.Basics.{in_either, in_left, in_right}
 
@@ -53,3 +58,28 @@ from_map f (x ∷ xs) y one = elim one [
 pub to_map : {X Y : Type 0} (f : X → Y) (xs : List X) (x : X) → IsOneOf xs x → IsOneOf (map f xs) (f x)
 to_map f [] x one = absurd one
 to_map f (y ∷ xs) x one = elim one [ inl e ↦ inl (ap f e) | inr rest ↦ inr (to_map f xs x rest) ]
+
+-- one that passes a test is kept
+pub to_filter : {X : Type 0} (test : X → Bool) (xs : List X) (x : X) → IsOneOf xs x → test x ≡ true → IsOneOf (filter test xs) x
+to_filter test [] x one passes = absurd one
+to_filter test (first ∷ xs) x one passes = elim one [
+  | inl same ↦ subst (λ l. IsOneOf l x) (sym (cond-true (test first) (first ∷ filter test xs) (filter test xs) (ap test same ∙ passes))) (inl same)
+  | inr later ↦
+      let rest = to_filter test xs x later passes in
+      elim (test first) as (λ b. IsOneOf (cond b (first ∷ filter test xs) (filter test xs)) x) [ true ↦ inr rest | false ↦ rest ]
+]
+
+-- a number is listed where it is one of a list
+pub listed_one : (numbers : List ℕ) (number : ℕ) → (is_listed numbers number ≡ true) ↔ IsOneOf numbers number
+listed_one [] number = (λ e. cc, λ one. absurd one)
+listed_one (first ∷ rest) number =
+    let behind = listed_one rest number in (
+      λ listed. elim (nat_eq first number) as (λ b. nat_eq first number ≡ b → (b || is_listed rest number) ≡ true → IsOneOf (first ∷ rest) number) [
+        | true ↦ λ same _. inl (eqb-true first number same)
+        | false ↦ λ other later. inr (behind.0 later)
+      ] refl listed,
+      λ one. elim one [
+        | inl same ↦ ap (λ b. b || is_listed rest number) (subst (λ n. nat_eq first n ≡ true) same (same_number first))
+        | inr later ↦ ap (λ b. nat_eq first number || b) (behind.1 later) ∙ or_true (nat_eq first number)
+      ],
+    )

@@ -20,7 +20,7 @@ use Rattle.cut_laws.proofs.KeptInodes.{dead_unnamed}
 
 module _ (first : TreeState) (history : List Entry) (is : IsSoundTree first) (legal : IsLegal first history) where
   -- what is alive at a stamp is the root, or something names it
-  live_named : (t node : ℕ) → is_directory (tree_after first history) node ≡ false → is_alive (tree_at first history t) node ≡ true
+  pub live_named : (t node : ℕ) → is_directory (tree_after first history) node ≡ false → is_alive (tree_at first history t) node ≡ true
       → is_directory (tree_after first history) 0 ≡ true → IsNeverNamed first history node → ⊥
   live_named t node file alive root never = elim (alive_named (tree_at first history t) node alive) [
     | inl same ↦ not_both root (rw same at file)

@@ -127,18 +127,3 @@ closes_last look found closes none node = (
     | inr done ↦ done other brings
   ]) node,
 )
-
--- a number is listed where it is one of a list
-pub listed_one : (numbers : List ℕ) (number : ℕ) → (is_listed numbers number ≡ true) ↔ IsOneOf numbers number
-listed_one [] number = (λ e. cc, λ one. absurd one)
-listed_one (first ∷ rest) number =
-    let behind = listed_one rest number in (
-      λ listed. elim (nat_eq first number) as (λ b. nat_eq first number ≡ b → (b || is_listed rest number) ≡ true → IsOneOf (first ∷ rest) number) [
-        | true ↦ λ same _. inl (eqb-true first number same)
-        | false ↦ λ other later. inr (behind.0 later)
-      ] refl listed,
-      λ one. elim one [
-        | inl same ↦ ap (λ b. b || is_listed rest number) (subst (λ n. nat_eq first n ≡ true) same (same_number first))
-        | inr later ↦ ap (λ b. nat_eq first number || b) (behind.1 later) ∙ or_true (nat_eq first number)
-      ],
-    )

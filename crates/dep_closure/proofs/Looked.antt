@@ -25,16 +25,6 @@ to_flat f (first ∷ xs) x y one own = elim one [
   | inr later ↦ in_right (f first) (flat_map f xs) y (to_flat f xs x y later own)
 ]
 
--- one that passes a test is kept
-pub to_filter : {X : Type 0} (test : X → Bool) (xs : List X) (x : X) → IsOneOf xs x → test x ≡ true → IsOneOf (filter test xs) x
-to_filter test [] x one passes = absurd one
-to_filter test (first ∷ xs) x one passes = elim one [
-  | inl same ↦ subst (λ l. IsOneOf l x) (sym (cond-true (test first) (first ∷ filter test xs) (filter test xs) (ap test same ∙ passes))) (inl same)
-  | inr later ↦
-      let rest = to_filter test xs x later passes in
-      elim (test first) as (λ b. IsOneOf (cond b (first ∷ filter test xs) (filter test xs)) x) [ true ↦ inr rest | false ↦ rest ]
-]
-
 -- what holds of all items holds of one
 pub one_of_all : {X : Type 0} (P : X → Type 0) (xs : List X) (x : X) → All P xs → IsOneOf xs x → P x
 one_of_all P [] x all one = absurd one

@@ -41,7 +41,8 @@ use Rattle.dep_closure.specs.Gathered.{noted_as, noted_in}
 use Rattle.dep_closure.specs.History.{logged_of, IsLogOf}
 use Rattle.dep_closure.specs.Laws.{LogsAreTrue, ListsAreClosures}
 use Rattle.dep_closure.specs.Spans.{is_of_stamp}
-use Rattle.dep_closure.proofs.Looked.{from_flat, to_filter}
+use Rattle.cut_laws.proofs.Listed.{to_filter}
+use Rattle.dep_closure.proofs.Looked.{from_flat}
 use Rattle.dep_closure.proofs.Parts.{pass_both}
 
 -- what the entry at a place of a history logs, where its stamp is this

@@ -29,7 +29,8 @@ use Rattle.dep_closure.specs.declared.gathered.Gathered.{Gathered}
 use Rattle.dep_closure.specs.Brought.{ChangeBrings, SpanBrings, BirthBrings, AreOfOneDirectory, birthplace_due}
 use Rattle.dep_closure.specs.Gathered.{look_of, noted_as, noted_in, born_as, cut_in, log_directory, birth_node, span_in, IsOwnLog, IsOrderly, IsNamedByLog}
 use Rattle.dep_closure.specs.Spans.{is_in_span, is_of_stamp}
-use Rattle.dep_closure.proofs.Looked.{from_flat, to_flat, to_filter, one_of_all, only_one}
+use Rattle.cut_laws.proofs.Listed.{to_filter}
+use Rattle.dep_closure.proofs.Looked.{from_flat, to_flat, one_of_all, only_one}
 use Rattle.dep_closure.proofs.Parts.{pass_both}
 
 -- a change of a span is noted as it is by the whole log

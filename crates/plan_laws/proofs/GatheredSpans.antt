@@ -28,7 +28,8 @@ use Rattle.dep_closure.specs.declared.gathered.Gathered.{Gathered}
 use Rattle.dep_closure.specs.Gathered.{look_of, cut_in, log_directory, noted_as, noted_in, span_in, IsOwnLog, IsOrderly}
 use Rattle.dep_closure.specs.History.{logged_of, IsLogOf}
 use Rattle.dep_closure.specs.Spans.{is_in_span}
-use Rattle.dep_closure.proofs.Looked.{from_flat, to_filter, one_of_all, only_one}
+use Rattle.cut_laws.proofs.Listed.{to_filter}
+use Rattle.dep_closure.proofs.Looked.{from_flat, one_of_all, only_one}
 use Rattle.dep_closure.proofs.Parts.{pass_both}
 use Rattle.dep_closure.proofs.True.{logged_at, logged_once, row as logged_row_is}
 

@@ -4,7 +4,8 @@ use Rattle.sfs_base.specs.Listed.{is_listed}
 use Rattle.look_laws.specs.Look.{Gathers}
 use Rattle.tree_laws.specs.NameRow.{node_number}
 use Rattle.dep_closure.specs.Gathered.{look_of}
-use Rattle.dep_closure.proofs.Closed.{closes_first, closes_next, closes_sooner, closes_last, listed_one}
+use Rattle.cut_laws.proofs.Listed.{listed_one}
+use Rattle.dep_closure.proofs.Closed.{closes_first, closes_next, closes_sooner, closes_last}
 use Rattle.dep_closure.proofs.closing.closure.Goals as goal
 
 pub loop-node-init : goal.loop-node-init
