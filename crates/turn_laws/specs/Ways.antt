@@ -38,18 +38,18 @@ pub data Way : Type 0 where
   opened_halted : ℕ → Way
 
 -- the acts of its turns, in their order
-abbrev pub acts_of : Way → List TurnAct
-acts_of no_turn = []
-acts_of (lacked kind need free) = act.Short kind need free ∷ []
-acts_of returned = act.Granted ∷ act.GivenBack ∷ []
-acts_of committed = act.Granted ∷ act.CutAt ∷ act.Opened ∷ act.Durable ∷ []
-acts_of at_once = act.CutAt ∷ act.Opened ∷ act.Durable ∷ []
-acts_of doubted = act.Granted ∷ act.CutAt ∷ act.Fail ∷ []
-acts_of opened_doubted = act.Granted ∷ act.CutAt ∷ act.Opened ∷ act.Fail ∷ []
-acts_of (halted faults) = act.Halted ∷ []
-acts_of (granted_halted faults) = act.Granted ∷ act.Halted ∷ []
-acts_of (begun_halted faults) = act.Granted ∷ act.CutAt ∷ act.Halted ∷ []
-acts_of (opened_halted faults) = act.Granted ∷ act.CutAt ∷ act.Opened ∷ act.Halted ∷ []
+abbrev pub acts_of_way : Way → List TurnAct
+acts_of_way no_turn = []
+acts_of_way (lacked kind need free) = act.Short kind need free ∷ []
+acts_of_way returned = act.Granted ∷ act.GivenBack ∷ []
+acts_of_way committed = act.Granted ∷ act.CutAt ∷ act.Opened ∷ act.Durable ∷ []
+acts_of_way at_once = act.CutAt ∷ act.Opened ∷ act.Durable ∷ []
+acts_of_way doubted = act.Granted ∷ act.CutAt ∷ act.Fail ∷ []
+acts_of_way opened_doubted = act.Granted ∷ act.CutAt ∷ act.Opened ∷ act.Fail ∷ []
+acts_of_way (halted faults) = act.Halted ∷ []
+acts_of_way (granted_halted faults) = act.Granted ∷ act.Halted ∷ []
+acts_of_way (begun_halted faults) = act.Granted ∷ act.CutAt ∷ act.Halted ∷ []
+acts_of_way (opened_halted faults) = act.Granted ∷ act.CutAt ∷ act.Opened ∷ act.Halted ∷ []
 
 -- and its answer
 abbrev pub answer_of : Way → Reply
@@ -81,7 +81,7 @@ HasCommit number _ commit = (commit ≡ number) ⊎ (commit ≡ 0)
 -- The turns of an fsync with this answer go one of the ways, and those of its commit have one number.
 pub record GoesWay (turns : List Turn) (given : Reply) : Type 0 where
   pub way : Way
-  pub acts : map (λ turn. turn.act) turns ≡ acts_of way
+  pub acts : map (λ turn. turn.act) turns ≡ acts_of_way way
   pub answered : given ≡ answer_of way
   pub number : ℕ
   pub numbered : 0 < number

@@ -1,0 +1,5 @@
+pub mod Phases
+pub mod Pens
+pub mod Plays
+pub mod Tell
+pub mod Laws
