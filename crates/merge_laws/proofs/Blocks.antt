@@ -1,5 +1,6 @@
 -- The turns of a pen: those of one fsync stand together.
-use Rattle.std.proofs.Common.{◌≡◌, ◌≢◌, ℕ, Bool, true, false, List, [], ◌∷◌, ◌++◌, ◌⊎◌, inl, inr, refl, sym, ap, subst, ◌∙◌, nat_eq}
+use Rattle.cut_laws.proofs.Basics.{in_left}
+use Rattle.std.proofs.Common.{◌≡◌, ◌≢◌, ℕ, true, List, [], ◌∷◌, ◌++◌, ◌⊎◌, inl, inr, refl, sym, ap, subst, ◌∙◌, nat_eq}
 use borrow.Author.Tests.{eqb-true}
 use Rattle.std.specs.Prelude.{flat_map}
 use Rattle.std.proofs.lemmas.List.{append-nil, append_assoc}
@@ -10,7 +11,7 @@ use Rattle.cut_laws.specs.Rules.{IsOneOf}
 use Rattle.turn_laws.specs.Ways.{own_turns}
 use Rattle.turn_laws.proofs.Going.{none_own, all_own, own_both}
 use Rattle.merge_laws.specs.Pens.{FsyncTurns, AreApart, HasTurnsFor}
-use Rattle.merge_laws.proofs.Lists.{CutInFirst, CutInSecond, joined_at}
+use Rattle.merge_laws.proofs.Lists.{joined_at}
 
 -- the turns of a pen's fsyncs, one after the other
 abbrev pub pen_turns : List FsyncTurns → List Turn
@@ -116,4 +117,4 @@ in_block (one ∷ fsyncs) front turn back e = elim (joined_at one.turns (pen_tur
 pub first_apart : (done more : List FsyncTurns) → AreApart (done ++ more) → AreApart done
 first_apart [] more apart = tt
 first_apart (one ∷ done) more apart =
-    (λ other among. apart.0 other (Rattle.cut_laws.proofs.Basics.in_left done more other among), first_apart done more apart.1)
+    (λ other among. apart.0 other (in_left done more other among), first_apart done more apart.1)

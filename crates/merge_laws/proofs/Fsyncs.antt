@@ -1,7 +1,9 @@
 -- From what each pen has to what each turn of the record is of, and to the turns of each fsync.
-use Rattle.std.proofs.Common.{◌≡◌, ◌≢◌, ℕ, ◌<◌, Bool, true, List, [], ◌∷◌, ◌++◌, length, take, Option, Some, None, ◌⊎◌, inl, inr, refl, sym, ap, subst, ◌∙◌, nat_eq}
+use Rattle.tree_laws.specs.declared.reply.Reply.{Reply}
+use Rattle.std.proofs.lemmas.List.{append-nil}
+use Rattle.std.proofs.Common.{◌≡◌, ◌≢◌, ℕ, ◌<◌, true, List, [], ◌++◌, take, Some, inl, inr, refl, sym, ap, subst, ◌∙◌, nat_eq, arith}
 use borrow.Author.Tests.{eqb-true}
-use Rattle.std.specs.Prelude.{slice_get, filter}
+use Rattle.std.specs.Prelude.{slice_get}
 use Rattle.sfs_base.proofs.BasicNumbers.{same_number}
 use Rattle.sfs_base.specs.declared.numbers.NodeId.{NodeId}
 use Rattle.sfs_base.specs.declared.numbers.CoreId.{CoreId}
@@ -10,17 +12,16 @@ use Rattle.tree_laws.specs.declared.history.Entry.{Entry}
 use Rattle.tree_laws.specs.declared.reply.Reply.TheVariants as reply
 use Rattle.tree_laws.specs.declared.turns.Turn.{Turn}
 use Rattle.tree_laws.specs.declared.turns.TurnAct.TheVariants as act
-use Rattle.tree_laws.specs.History.{tree_after, IsLegal}
+use Rattle.tree_laws.specs.History.{IsLegal}
 use Rattle.tree_laws.specs.Tree.{TreeState}
 use Rattle.tree_laws.proofs.Cores.{cores_stay}
 use Rattle.cut_laws.specs.Rules.{IsOneOf}
-use Rattle.cut_laws.proofs.Basics.{in_left, in_right}
+use Rattle.cut_laws.proofs.Basics.{in_left}
 use Rattle.cut_laws.proofs.Entries.{entries_may_come, stamps_are_once}
-use Rattle.cut_laws.proofs.RunFacts.{in_filter}
 use Rattle.turn_laws.specs.Recorded.{IsLiveFsync, IsOfFsync}
-use Rattle.turn_laws.specs.Ways.{own_turns, no_turn, acts_of_way, answer_of, GoesWay, EachGoes}
+use Rattle.turn_laws.specs.Ways.{own_turns, no_turn, GoesWay}
 use Rattle.turn_laws.proofs.Behind.{stays_in}
-use Rattle.merge_laws.specs.Pens.{failed_in, turns_of_core, FsyncTurns, IsPenFsync, HasTurnsFor, PenAgrees, MergesPens, AgreesAll}
+use Rattle.merge_laws.specs.Pens.{failed_in, turns_of_core, FsyncTurns, HasTurnsFor, AgreesAll}
 use Rattle.merge_laws.proofs.Lists.{filter_again, in_part, something_at}
 use Rattle.merge_laws.proofs.Blocks.{pen_turns, AreStamped, has_or_lacks, none_of_pen, own_of_pen}
 
@@ -31,8 +32,8 @@ pub record FsyncAgrees (turns : List Turn) (entry : Entry) : Type 0 where
   pub stopped : (faults : ℕ) → entry.reply ≡ reply.Stopped faults → failed_in turns ≡ Some faults
 
 -- the turns that go no way but that without turns
-pub goes_without : (given : Rattle.tree_laws.specs.declared.reply.Reply.Reply) → given ≡ reply.NoMemory → GoesWay [] given
-goes_without given e = record { way = no_turn; acts = refl; answered = e; number = 1; numbered = omega Rattle.std.proofs.Common.arith; commits = λ turn one. absurd one }
+pub goes_without : (given : Reply) → given ≡ reply.NoMemory → GoesWay [] given
+goes_without given e = record { way = no_turn; acts = refl; answered = e; number = 1; numbered = omega arith; commits = λ turn one. absurd one }
 
 module _ (first : TreeState) (history : List Entry) (before most : ℕ) (turns : List Turn) (pens : List (List FsyncTurns)) (legal : IsLegal first history)
     (agrees : AgreesAll first history before most turns pens) where
@@ -48,7 +49,7 @@ module _ (first : TreeState) (history : List Entry) (before most : ℕ) (turns :
   penned turn among =
       let pen = something_at pens turn.core.0 (agrees.merges.cores turn among) in
       let own = subst (λ (l : List Turn). IsOneOf l turn) (agrees.merges.own turn.core.0 pen.0 pen.1)
-          (stays_in (λ (t : Turn). nat_eq t.core.0 turn.core.0) turns turn among (same_number turn.core.0)) in
+      (stays_in (λ (t : Turn). nat_eq t.core.0 turn.core.0) turns turn among (same_number turn.core.0)) in
       let part = in_part (λ (one : FsyncTurns). one.turns) pen.0 turn own in
       record { fsyncs = pen.0; pen = pen.1; one = part.x; among = part.among; has = part.has }
 
@@ -115,7 +116,7 @@ module _ (first : TreeState) (history : List Entry) (before most : ℕ) (turns :
 
       own_are : own_turns entry.stamp.0 turns ≡ own_turns entry.stamp.0 (pen_turns pen.0)
       own_are =
-          sym (own_in_core turns [] (sym (Rattle.std.proofs.lemmas.List.append-nil turns)) entry.core.0 entry.stamp.0 cores)
+          sym (own_in_core turns [] (sym (append-nil turns)) entry.core.0 entry.stamp.0 cores)
           ∙ ap (own_turns entry.stamp.0) (agrees.merges.own entry.core.0 pen.0 pen.1)
 
       found : HasTurnsFor pen.0 entry.stamp.0 → FsyncAgrees turns entry

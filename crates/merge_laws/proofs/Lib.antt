@@ -2,3 +2,8 @@ pub mod Lists
 pub mod Phases
 pub mod Blocks
 pub mod Fsyncs
+pub mod Playing
+pub mod Follows
+pub mod PlaySteps
+pub mod Merged
+pub mod Told

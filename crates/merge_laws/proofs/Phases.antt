@@ -1,5 +1,5 @@
 -- Where an fsync is behind its turns, and that each of them may come where it stands.
-use Rattle.std.proofs.Common.{◌≡◌, ◌≢◌, ℕ, Bool, true, false, cond, List, [], ◌∷◌, ◌++◌, map, refl, sym, ap, subst, ◌∙◌, nat_eq}
+use Rattle.std.proofs.Common.{◌≡◌, ◌≢◌, ℕ, Bool, true, false, cond, List, [], ◌∷◌, ◌++◌, map, refl, sym, ap, ◌∙◌}
 use Rattle.std.proofs.lemmas.List.{append-nil, map-append}
 use Rattle.sfs_base.proofs.BasicNumbers.{same_number, not_same}
 use Rattle.sfs_base.proofs.BasicTruth.{and_first, and_second}
@@ -8,7 +8,7 @@ use Rattle.tree_laws.specs.declared.turns.TurnAct.{TurnAct}
 use Rattle.tree_laws.specs.declared.turns.TurnAct.TheVariants as act
 use Rattle.turn_laws.specs.Ways.{Way, no_turn, lacked, returned, committed, at_once, doubted, opened_doubted, halted, granted_halted, begun_halted, opened_halted, acts_of_way, own_turns}
 use Rattle.turn_laws.proofs.Going.{own_both}
-use Rattle.merge_laws.specs.Phases.{Phase, no_turn_yet, has_reserved, has_begun, has_opened, is_durable, has_ended, is_stuck, flies_in, after_halt, next_phase, may_follow, phase_after, goes_from, phase_of}
+use Rattle.merge_laws.specs.Phases.{Phase, no_turn_yet, has_reserved, is_durable, flies_in, after_halt, next_phase, may_follow, phase_after, goes_from, phase_of}
 
 pub ways_go : (way : Way) → goes_from no_turn_yet (acts_of_way way) ≡ true
 ways_go no_turn = refl
