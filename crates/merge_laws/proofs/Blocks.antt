@@ -1,13 +1,13 @@
 -- The turns of a pen: those of one fsync stand together.
-use Rattle.cut_laws.proofs.Basics.{in_left}
-use Rattle.std.proofs.Common.{◌≡◌, ◌≢◌, ℕ, true, List, [], ◌∷◌, ◌++◌, ◌⊎◌, inl, inr, refl, sym, ap, subst, ◌∙◌, nat_eq}
 use borrow.Author.Tests.{eqb-true}
 use Rattle.std.specs.Prelude.{flat_map}
+use Rattle.std.proofs.Common.{◌≡◌, ◌≢◌, ◌∷◌, ◌++◌, ◌⊎◌, ◌∙◌, ℕ, true, List, [], inl, inr, refl, sym, ap, subst, nat_eq}
 use Rattle.std.proofs.lemmas.List.{append-nil, append_assoc}
 use Rattle.sfs_base.proofs.BasicNumbers.{same_number}
 use Rattle.sfs_base.proofs.BasicTruth.{not_both, true_or_false}
 use Rattle.tree_laws.specs.declared.turns.Turn.{Turn}
 use Rattle.cut_laws.specs.Rules.{IsOneOf}
+use Rattle.cut_laws.proofs.Basics.{in_left}
 use Rattle.turn_laws.specs.Ways.{own_turns}
 use Rattle.turn_laws.proofs.Going.{none_own, all_own, own_both}
 use Rattle.merge_laws.specs.Pens.{FsyncTurns, AreApart, HasTurnsFor}

@@ -1,13 +1,13 @@
 -- From what each pen has to what each turn of the record is of, and to the turns of each fsync.
-use Rattle.tree_laws.specs.declared.reply.Reply.{Reply}
-use Rattle.std.proofs.lemmas.List.{append-nil}
-use Rattle.std.proofs.Common.{◌≡◌, ◌≢◌, ℕ, ◌<◌, true, List, [], ◌++◌, take, Some, inl, inr, refl, sym, ap, subst, ◌∙◌, nat_eq, arith}
 use borrow.Author.Tests.{eqb-true}
 use Rattle.std.specs.Prelude.{slice_get}
-use Rattle.sfs_base.proofs.BasicNumbers.{same_number}
+use Rattle.std.proofs.lemmas.List.{append-nil}
+use Rattle.std.proofs.Common.{◌≡◌, ◌≢◌, ◌<◌, ◌++◌, ◌∙◌, ℕ, true, List, [], take, Some, inl, inr, refl, sym, ap, subst, nat_eq, arith}
 use Rattle.sfs_base.specs.declared.numbers.NodeId.{NodeId}
 use Rattle.sfs_base.specs.declared.numbers.CoreId.{CoreId}
 use Rattle.sfs_base.specs.declared.numbers.Stamp.{Stamp}
+use Rattle.sfs_base.proofs.BasicNumbers.{same_number}
+use Rattle.tree_laws.specs.declared.reply.Reply.{Reply}
 use Rattle.tree_laws.specs.declared.history.Entry.{Entry}
 use Rattle.tree_laws.specs.declared.reply.Reply.TheVariants as reply
 use Rattle.tree_laws.specs.declared.turns.Turn.{Turn}

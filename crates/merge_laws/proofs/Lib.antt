@@ -7,3 +7,4 @@ pub mod Follows
 pub mod PlaySteps
 pub mod Merged
 pub mod Told
+pub mod ByTurns

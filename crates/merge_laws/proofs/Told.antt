@@ -1,14 +1,13 @@
 -- What turns tell of answers and acknowledgements, where they are what fsyncs do.
-use Rattle.cut_laws.proofs.Basics.{in_right}
-use Rattle.std.proofs.Common.{◌≡◌, ℕ, Bool, true, false, cond, List, [], ◌∷◌, ◌++◌, map, Option, Some, None, inl, inr, refl, sym, ap, subst, ◌∙◌, ◌||◌, nat_eq}
 use Rattle.std.specs.List.{list_any}
 use Rattle.std.specs.Option.{option_or}
+use Rattle.std.proofs.Common.{◌≡◌, ◌∷◌, ◌++◌, ◌∙◌, ◌||◌, ℕ, Bool, true, false, cond, List, [], map, Option, Some, None, inl, inr, refl, sym, ap, subst, nat_eq}
 use Rattle.std.proofs.lemmas.List.{append_assoc, map-append}
+use Rattle.sfs_base.specs.declared.numbers.NodeId.{NodeId}
+use Rattle.sfs_base.specs.declared.numbers.Stamp.{Stamp}
 use Rattle.sfs_base.proofs.BasicOptions.{some_same}
 use Rattle.sfs_base.proofs.BasicTruth.{false_not_true, or_true}
 use Rattle.sfs_base.proofs.BasicNumbers.{same_number}
-use Rattle.sfs_base.specs.declared.numbers.NodeId.{NodeId}
-use Rattle.sfs_base.specs.declared.numbers.Stamp.{Stamp}
 use Rattle.tree_laws.specs.declared.call.Call.TheVariants as call
 use Rattle.tree_laws.specs.declared.history.Entry.{Entry}
 use Rattle.tree_laws.specs.declared.reply.Reply.{Reply}
@@ -21,6 +20,7 @@ use Rattle.tree_laws.specs.Tree.{TreeState}
 use Rattle.cut_laws.specs.Closure.{Flush, HasLiveNode}
 use Rattle.cut_laws.specs.Covers.{IsAcknowledged}
 use Rattle.cut_laws.specs.Rules.{IsOneOf}
+use Rattle.cut_laws.proofs.Basics.{in_right}
 use Rattle.cut_laws.proofs.Entries.{stamps_are_once}
 use Rattle.crash_laws.specs.Listed.{MayBeWritten, IsListedFsync}
 use Rattle.crash_laws.specs.Survives.{IsFailure, HasFailure}
@@ -35,7 +35,7 @@ use Rattle.merge_laws.specs.Phases.{no_turn_yet, goes_from}
 use Rattle.merge_laws.specs.Pens.{failed_in}
 use Rattle.merge_laws.specs.Plays.{PensMerge}
 use Rattle.merge_laws.specs.Tell.{WasDurable, Lands}
-use Rattle.merge_laws.proofs.Lists.{StandsAt, stands_at}
+use Rattle.merge_laws.proofs.Lists.{StandsAt, stands_at, among_at}
 use Rattle.merge_laws.proofs.Phases.{ways_go, durable_is_last, own_at}
 use Rattle.merge_laws.proofs.Merged.{last_of, last_own, last_behind}
 
@@ -137,41 +137,41 @@ module _ (first : TreeState) (history : List Entry) (turns : List Turn) (legal :
   stamp_of : (turn : Turn) (is : IsOfFsync first history turn) → turn.stamp.0 ≡ is.entry.stamp.0
   stamp_of turn is = ap (λ (s : Stamp). s.0) is.stamp
 
-  -- a Durable is the last turn of its fsync
-  durable_last : (turn : Turn) → IsOneOf turns turn → turn.act ≡ act.Durable → last_turn turn.stamp.0 turns ≡ Some turn
-  durable_last turn one did =
-      ap (last_turn turn.stamp.0) there.whole ∙ last_own turn.stamp.0 (there.front ++ turn ∷ there.back)
-      ∙ ap last_of own ∙ none_behind (own_turns turn.stamp.0 there.back) refl
+  -- behind a Durable its fsync has no turn
+  pub none_behind : (front : List Turn) (turn : Turn) (back : List Turn) → turns ≡ front ++ turn ∷ back → turn.act ≡ act.Durable
+      → own_turns turn.stamp.0 back ≡ []
+  none_behind front turn back whole did = by (own_turns turn.stamp.0 back) refl
     where
-      there : StandsAt turns turn
-      there = stands_at turns turn one
-
       its : IsOfFsync first history turn
-      its = merge.each turn one
+      its = merge.each turn (subst (λ (l : List Turn). IsOneOf l turn) (sym whole) (among_at front turn back))
 
       way : GoesWay (own_turns its.entry.stamp.0 turns) its.entry.reply
       way = merge.goes its.entry turn.node its.fsync
 
-      own : own_turns turn.stamp.0 (there.front ++ turn ∷ there.back) ≡ own_turns turn.stamp.0 there.front ++ turn ∷ own_turns turn.stamp.0 there.back
-      own = own_at turn there.front there.back
-
-      acts : acts_of_way way.way ≡ map (λ (t : Turn). t.act) (own_turns turn.stamp.0 there.front) ++ act.Durable ∷ map (λ (t : Turn). t.act) (own_turns turn.stamp.0 there.back)
+      acts : acts_of_way way.way ≡ map (λ (t : Turn). t.act) (own_turns turn.stamp.0 front) ++ act.Durable ∷ map (λ (t : Turn). t.act) (own_turns turn.stamp.0 back)
       acts =
           sym way.acts
-          ∙ ap (map (λ (t : Turn). t.act)) (ap (λ (n : ℕ). own_turns n turns) (sym (stamp_of turn its)) ∙ ap (own_turns turn.stamp.0) there.whole ∙ own)
-          ∙ map-append (λ (t : Turn). t.act) (own_turns turn.stamp.0 there.front) (turn ∷ own_turns turn.stamp.0 there.back)
-          ∙ ap (λ (a : TurnAct). map (λ (t : Turn). t.act) (own_turns turn.stamp.0 there.front) ++ a ∷ map (λ (t : Turn). t.act) (own_turns turn.stamp.0 there.back)) did
+          ∙ ap (map (λ (t : Turn). t.act)) (ap (λ (n : ℕ). own_turns n turns) (sym (stamp_of turn its)) ∙ ap (own_turns turn.stamp.0) whole ∙ own_at turn front back)
+          ∙ map-append (λ (t : Turn). t.act) (own_turns turn.stamp.0 front) (turn ∷ own_turns turn.stamp.0 back)
+          ∙ ap (λ (a : TurnAct). map (λ (t : Turn). t.act) (own_turns turn.stamp.0 front) ++ a ∷ map (λ (t : Turn). t.act) (own_turns turn.stamp.0 back)) did
 
-      none_behind : (back : List Turn) → own_turns turn.stamp.0 there.back ≡ back
-          → last_of (own_turns turn.stamp.0 there.front ++ turn ∷ own_turns turn.stamp.0 there.back) ≡ Some turn
-      none_behind [] e =
-          ap (λ (l : List Turn). last_of (own_turns turn.stamp.0 there.front ++ turn ∷ l)) e ∙ last_behind (own_turns turn.stamp.0 there.front) turn
-      none_behind (next ∷ back) e =
+      by : (rest : List Turn) → own_turns turn.stamp.0 back ≡ rest → own_turns turn.stamp.0 back ≡ []
+      by [] e = e
+      by (next ∷ rest) e =
           absurd
-          (durable_is_last no_turn_yet (map (λ (t : Turn). t.act) (own_turns turn.stamp.0 there.front)) next.act (map (λ (t : Turn). t.act) back)
+          (durable_is_last no_turn_yet (map (λ (t : Turn). t.act) (own_turns turn.stamp.0 front)) next.act (map (λ (t : Turn). t.act) rest)
           (ap (goes_from no_turn_yet)
-          (ap (λ (l : List Turn). map (λ (t : Turn). t.act) (own_turns turn.stamp.0 there.front) ++ act.Durable ∷ map (λ (t : Turn). t.act) l) (sym e)
+          (ap (λ (l : List Turn). map (λ (t : Turn). t.act) (own_turns turn.stamp.0 front) ++ act.Durable ∷ map (λ (t : Turn). t.act) l) (sym e)
           ∙ sym acts) ∙ ways_go way.way))
+
+  -- so it is the last turn of its fsync
+  durable_last : (turn : Turn) → IsOneOf turns turn → turn.act ≡ act.Durable → last_turn turn.stamp.0 turns ≡ Some turn
+  durable_last turn one did =
+      let there = stands_at turns turn one in
+      ap (last_turn turn.stamp.0) there.whole ∙ last_own turn.stamp.0 (there.front ++ turn ∷ there.back)
+      ∙ ap last_of (own_at turn there.front there.back)
+      ∙ ap (λ (l : List Turn). last_of (own_turns turn.stamp.0 there.front ++ turn ∷ l)) (none_behind there.front turn there.back there.whole did)
+      ∙ last_behind (own_turns turn.stamp.0 there.front) turn
 
   durable : (turn : Turn) → IsOneOf turns turn → turn.act ≡ act.Durable → IsAcknowledged history (flush_at turn) turn.now
   durable turn one did =

@@ -3,3 +3,4 @@ pub mod Pens
 pub mod Plays
 pub mod Tell
 pub mod Laws
+pub mod LeftByTurns

@@ -1,5 +1,5 @@
 -- What each core and its pen agree on of the core's fsyncs and their turns, and how the record of turns has them.
-use Rattle.std.specs.Prelude.{◌≡◌, ◌≢◌, ◌⊎◌, ℕ, ◌<◌, ◌==◌, List, [], ◌∷◌, ◌++◌, length, filter, flat_map, slice_get, Option, Some, None}
+use Rattle.std.specs.Prelude.{◌≡◌, ◌≢◌, ◌⊎◌, ◌<◌, ◌==◌, ◌∷◌, ◌++◌, ℕ, List, [], length, filter, flat_map, slice_get, Option, Some, None}
 use Rattle.std.specs.Option.{option_or}
 use Rattle.sfs_base.specs.declared.numbers.NodeId.{NodeId}
 use Rattle.tree_laws.specs.declared.history.Entry.{Entry}

@@ -1,5 +1,5 @@
 -- How far an fsync is by the acts of its turns so far, and which act may come next.
-use Rattle.std.specs.Prelude.{ℕ, Bool, true, false, ◌&&◌, List, [], ◌∷◌, map}
+use Rattle.std.specs.Prelude.{◌&&◌, ◌∷◌, ℕ, Bool, true, false, List, [], map}
 use Rattle.tree_laws.specs.declared.turns.Turn.{Turn}
 use Rattle.tree_laws.specs.declared.turns.TurnAct.{TurnAct}
 use Rattle.tree_laws.specs.declared.turns.TurnAct.TheVariants as act

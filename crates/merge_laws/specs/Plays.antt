@@ -1,5 +1,5 @@
 -- The record of turns as what fsyncs do: which wait, which commits are aloft, which are done, and whether one has failed.
-use Rattle.std.specs.Prelude.{◌≡◌, ◌≢◌, ◌⊎◌, ℕ, Bool, true, false, List, [], ◌∷◌, ◌++◌, Option, Some, None}
+use Rattle.std.specs.Prelude.{◌≡◌, ◌≢◌, ◌⊎◌, ◌∷◌, ◌++◌, ℕ, Bool, true, false, List, [], Option, Some, None}
 use Rattle.tree_laws.specs.declared.history.Entry.{Entry}
 use Rattle.tree_laws.specs.declared.turns.Turn.{Turn}
 use Rattle.tree_laws.specs.declared.turns.TurnAct.{TurnAct}

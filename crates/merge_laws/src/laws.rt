@@ -1,5 +1,7 @@
 //! What is proved of pens and of their turns: each function's contract is a law.
-ghost use Rattle.merge_laws.specs.Laws.{MergedTell, MergedTurns};
+ghost use Rattle.merge_laws.specs.Laws.{DurablesAreAcknowledged, DurablesReadBack, DurablesSurvive, MergedTell, MergedTurns, MomentsCutTurns};
+
+use sfs_dev::Disk;
 
 /// Where all cores agree with their pens, the record of turns is what fsyncs do.
 pub fn merged_turns()
@@ -9,4 +11,24 @@ pub fn merged_turns()
 /// Such a record tells of the answers of fsyncs and of their acknowledgements.
 pub fn merged_tell()
     ensures { MergedTell }
+{}
+
+/// The turns up to a moment are a front of the record.
+pub fn moments_cut_turns()
+    ensures { MomentsCutTurns }
+{}
+
+/// The fsyncs durable up to a moment are those acknowledged by it, in their order.
+pub fn durables_are_acknowledged()
+    ensures { DurablesAreAcknowledged }
+{}
+
+/// What survives a crash in the order of turns survives it in that of acknowledgements.
+pub fn durables_survive<D: Disk>(disk: &D)
+    ensures { DurablesSurvive (D.view disk.now) }
+{}
+
+/// And so does what is read back at the end.
+pub fn durables_read_back<D: Disk>(disk: &D)
+    ensures { DurablesReadBack (D.view disk.now) }
 {}
