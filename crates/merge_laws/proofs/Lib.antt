@@ -8,3 +8,5 @@ pub mod PlaySteps
 pub mod Merged
 pub mod Told
 pub mod ByTurns
+pub mod Worked
+pub mod WorkedWays

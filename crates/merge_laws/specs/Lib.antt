@@ -4,3 +4,4 @@ pub mod Plays
 pub mod Tell
 pub mod Laws
 pub mod LeftByTurns
+pub mod Worked

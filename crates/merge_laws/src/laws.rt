@@ -1,5 +1,6 @@
 //! What is proved of pens and of their turns: each function's contract is a law.
 ghost use Rattle.merge_laws.specs.Laws.{DurablesAreAcknowledged, DurablesReadBack, DurablesSurvive, MergedTell, MergedTurns, MomentsCutTurns};
+ghost use Rattle.merge_laws.specs.Worked.{EachWayIsMet, TwoPensAgree};
 
 use sfs_dev::Disk;
 
@@ -31,4 +32,14 @@ pub fn durables_survive<D: Disk>(disk: &D)
 /// And so does what is read back at the end.
 pub fn durables_read_back<D: Disk>(disk: &D)
     ensures { DurablesReadBack (D.view disk.now) }
+{}
+
+/// Two pens agree whose commits are aloft at a time, the second of which ends first.
+pub fn two_pens_agree()
+    ensures { TwoPensAgree }
+{}
+
+/// Each way is met by two cores that agree with their pens.
+pub fn each_way_is_met()
+    ensures { EachWayIsMet }
 {}
