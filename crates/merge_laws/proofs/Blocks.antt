@@ -10,7 +10,7 @@ use Rattle.cut_laws.specs.Rules.{IsOneOf}
 use Rattle.cut_laws.proofs.Basics.{in_left}
 use Rattle.turn_laws.specs.Ways.{own_turns}
 use Rattle.turn_laws.proofs.Going.{none_own, all_own, own_both}
-use Rattle.merge_laws.specs.Pens.{FsyncTurns, AreApart, HasTurnsFor}
+use Rattle.merge_laws.specs.Pens.{FsyncTurns, FsyncsDiffer, HasTurnsFor}
 use Rattle.merge_laws.proofs.Lists.{joined_at}
 
 -- the turns of a pen's fsyncs, one after the other
@@ -55,7 +55,7 @@ none_of_pen (one ∷ fsyncs) stamp stamped lacks =
     ∙ none_of_pen fsyncs stamp (λ other among. stamped other (inr among)) (λ other among. lacks other (inr among))
 
 -- where one has it, those with the stamp are its turns
-pub own_of_pen : (fsyncs : List FsyncTurns) (one : FsyncTurns) → AreStamped fsyncs → AreApart fsyncs → IsOneOf fsyncs one
+pub own_of_pen : (fsyncs : List FsyncTurns) (one : FsyncTurns) → AreStamped fsyncs → FsyncsDiffer fsyncs → IsOneOf fsyncs one
     → own_turns one.stamp (pen_turns fsyncs) ≡ one.turns
 own_of_pen [] one stamped apart among = absurd among
 own_of_pen (first ∷ fsyncs) one stamped apart (inl same) =
@@ -114,7 +114,7 @@ in_block (one ∷ fsyncs) front turn back e = elim (joined_at one.turns (pen_tur
 ]
 
 -- the first of some that are apart are apart
-pub first_apart : (done more : List FsyncTurns) → AreApart (done ++ more) → AreApart done
+pub first_apart : (done more : List FsyncTurns) → FsyncsDiffer (done ++ more) → FsyncsDiffer done
 first_apart [] more apart = tt
 first_apart (one ∷ done) more apart =
     (λ other among. apart.0 other (in_left done more other among), first_apart done more apart.1)

@@ -24,16 +24,13 @@ use Rattle.turn_laws.specs.Books.{flush_at}
 use Rattle.turn_laws.specs.LawsTurns.{durable_by_act}
 use Rattle.turn_laws.proofs.Behind.{stays_in}
 use Rattle.merge_laws.specs.Laws.{IsFrontUntil, MomentsCutTurns, DurablesAreAcknowledged, DurablesSurvive, DurablesReadBack}
-use Rattle.merge_laws.specs.LeftByTurns.{durables, turns_until, TimesRise, BeginsWithDurables}
-use Rattle.merge_laws.specs.Plays.{PensMerge}
+use Rattle.merge_laws.specs.LeftByTurns.{turns_until, TimesRise, BeginsWithDurables}
+use Rattle.merge_laws.specs.Plays.{durables, PensMerge}
 use Rattle.merge_laws.specs.Tell.{TurnsTell}
 use Rattle.merge_laws.proofs.Told.{merged_tell, none_behind}
 
 at_most : (a b : ℕ) → a ≤ b → nat_le a b ≡ true
 at_most a b le = grind (arith, nat_tests)
-
-above : (a b : ℕ) → b < a → nat_le a b ≡ false
-above a b lt = grind (arith, nat_tests)
 
 -- A Durable of an fsync is among turns.
 abbrev pub IsDurableAmong : List Turn → Flush → Type 0
@@ -218,7 +215,9 @@ durables_read_back disk share first history turns legal merge rises reads none =
 none_until : (turns : List Turn) (moment : ℕ) → ((turn : Turn) → IsOneOf turns turn → moment < turn.now) → turns_until moment turns ≡ []
 none_until [] moment later = refl
 none_until (turn ∷ turns) moment later =
-    ap (λ (b : Bool). cond b (turn ∷ turns_until moment turns) (turns_until moment turns)) (above turn.now moment (later turn (inl refl)))
+    let lt : moment < turn.now = later turn (inl refl) in
+    let not_yet : nat_le turn.now moment ≡ false = grind (arith, nat_tests) in
+    ap (λ (b : Bool). cond b (turn ∷ turns_until moment turns) (turns_until moment turns)) not_yet
     ∙ none_until turns moment (λ other one. later other (inr one))
 
 pub moments_cut_turns : MomentsCutTurns

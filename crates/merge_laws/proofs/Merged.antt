@@ -1,10 +1,14 @@
 -- The record of turns that all cores agree on with their pens is what fsyncs do.
+use Rattle.turn_laws.specs.LawsTurns.{durable_by_act, durable_flush}
+use Rattle.turn_laws.specs.Books.{flush_at}
+use Rattle.cut_laws.specs.Closure.{Flush}
+use Rattle.std.specs.List.{cons_option, filter_map}
 use borrow.Author.Tests.{eqb-true}
-use Rattle.std.specs.Prelude.{slice_get}
+use Rattle.std.specs.Prelude.{slice_get, ◌↔◌}
 use Rattle.std.specs.Option.{option_or, option_map}
 use Rattle.std.proofs.Common.{◌≡◌, ◌≢◌, ◌∷◌, ◌++◌, ◌∙◌, ℕ, Bool, true, false, cond, List, [], map, Option, Some, None, inl, inr, refl, sym, ap, subst, nat_eq}
 use Rattle.std.proofs.lemmas.List.{append-nil, append_assoc, map-append}
-use Rattle.std.proofs.lemmas.List.Elements.{filter-append}
+use Rattle.std.proofs.lemmas.List.Elements.{filter-append, filter_map-append}
 use Rattle.sfs_base.specs.declared.numbers.NodeId.{NodeId}
 use Rattle.sfs_base.specs.declared.numbers.Stamp.{Stamp}
 use Rattle.sfs_base.proofs.BasicNumbers.{same_number}
@@ -26,14 +30,14 @@ use Rattle.turn_laws.proofs.Behind.{stays_in}
 use Rattle.turn_laws.proofs.Causes.{last_among}
 use Rattle.turn_laws.proofs.Going.{own_both, none_own}
 use Rattle.merge_laws.specs.Laws.{MergedTurns}
-use Rattle.merge_laws.specs.Phases.{no_turn_yet, has_reserved, may_follow, phase_after, phase_of, goes_from}
-use Rattle.merge_laws.specs.Pens.{failed_in, turns_of_core, FsyncTurns, AgreesAll, AreApart, PenAgrees}
-use Rattle.merge_laws.specs.Plays.{PlayState, nothing_played, Plays, no_play, one_play}
+use Rattle.merge_laws.specs.Phases.{no_turn_yet, has_reserved, may_follow, phase_after, phase_of, goes_from, Phase, flies_in}
+use Rattle.merge_laws.specs.Pens.{failed_in, turns_of_core, FsyncTurns, AgreesAll, FsyncsDiffer, PenAgrees}
+use Rattle.merge_laws.specs.Plays.{PlayState, nothing_played, Plays, no_play, one_play, Aloft, PlaysAct, durables}
 use Rattle.merge_laws.proofs.Lists.{among_at}
 use Rattle.merge_laws.proofs.Phases.{ways_go, ways_take_up, may_come, own_at}
 use Rattle.merge_laws.proofs.Blocks.{pen_turns, AreStamped, has_or_lacks, none_of_pen, own_of_pen, first_apart, in_block, same_or_not, IsInBlock}
 use Rattle.merge_laws.proofs.Fsyncs.{of_fsync, one_core, own_in_core, stamped_pen, penned, fsync_agrees, IsPenned}
-use Rattle.merge_laws.proofs.Playing.{FitsPhases, fits_nothing}
+use Rattle.merge_laws.proofs.Playing.{FitsPhases, fits_nothing, FitsPhase, fits_flies}
 use Rattle.merge_laws.proofs.Follows.{failed_more}
 use Rattle.merge_laws.proofs.PlaySteps.{goes_by_turn}
 
@@ -203,8 +207,8 @@ module _ (first : TreeState) (history : List Entry) (before most : ℕ) (turns :
       stamped : AreStamped done
       stamped one there = stamped_pen first history before most turns pens legal agrees core fsyncs pen one (among one there)
 
-      apart : AreApart done
-      apart = first_apart done rest (subst AreApart whole agrees_core.once)
+      apart : FsyncsDiffer done
+      apart = first_apart done rest (subst FsyncsDiffer whole agrees_core.once)
 
       first_reserved : no_turn_yet ≡ has_reserved → ⊥
       first_reserved f = cc
@@ -260,13 +264,65 @@ module _ (first : TreeState) (history : List Entry) (before most : ℕ) (turns :
           ∙ sym block_own)))
           ∙ append-nil (own_turns other.stamp.0 (pen_turns block.done))
 
+-- done are those of durable turns
+done_are : {turns : List Turn} {at : PlayState} → Plays turns at → at.done ≡ map (λ flush. flush.stamp) (durables turns)
+done_are no_play = refl
+done_are (one_play turns turn at later plays did) =
+    by turn.act did (done_are plays) ∙ sym (joined turn.act)
+    ∙ ap (map (λ (flush : Flush). flush.stamp)) (sym (filter_map-append durable_flush turns (turn ∷ [])))
+  where
+    joined : (a : TurnAct) → map (λ (flush : Flush). flush.stamp) (filter_map durable_flush turns ++ cons_option (durable_by_act a (flush_at turn)) [])
+        ≡ map (λ (flush : Flush). flush.stamp) (filter_map durable_flush turns) ++ map (λ (flush : Flush). flush.stamp) (cons_option (durable_by_act a (flush_at turn)) [])
+    joined a = map-append (λ (flush : Flush). flush.stamp) (filter_map durable_flush turns) (cons_option (durable_by_act a (flush_at turn)) [])
+
+    by : (a : TurnAct) → PlaysAct a turns at turn later → at.done ≡ map (λ (flush : Flush). flush.stamp) (durables turns)
+        → later.done ≡ map (λ (flush : Flush). flush.stamp) (durables turns) ++ map (λ (flush : Flush). flush.stamp) (cons_option (durable_by_act a (flush_at turn)) [])
+    by act.Granted is was = ap (λ (s : PlayState). s.done) is.later_is ∙ was ∙ sym (append-nil _)
+    by act.GivenBack is was = ap (λ (s : PlayState). s.done) is.later_is ∙ was ∙ sym (append-nil _)
+    by (act.Short kind need free) is was = ap (λ (s : PlayState). s.done) is.later_is ∙ was ∙ sym (append-nil _)
+    by act.Halted is was = ap (λ (s : PlayState). s.done) is.later_is ∙ was ∙ sym (append-nil _)
+    by act.CutAt is was = ap (λ (s : PlayState). s.done) is.later_is ∙ was ∙ sym (append-nil _)
+    by act.Opened is was = ap (λ (s : PlayState). s.done) is.later_is ∙ was ∙ sym (append-nil _)
+    by act.Fail is was = ap (λ (s : PlayState). s.done) is.later_is ∙ was ∙ sym (append-nil _)
+    by act.Durable is was = ap (λ (s : PlayState). s.done) is.later_is ∙ ap (λ (l : List ℕ). l ++ turn.stamp.0 ∷ []) was
+
+-- the stamps of what is aloft
+aloft_are : (aloft : List Aloft) (phase : ℕ → Phase) → ((flight : Aloft) → IsOneOf aloft flight → FitsPhase flight.opened (phase flight.stamp))
+    → ((stamp : ℕ) → flies_in (phase stamp) ≡ true → (flight : Aloft) × IsOneOf aloft flight × (flight.stamp ≡ stamp)) → (stamp : ℕ)
+    → IsOneOf (map (λ flight. flight.stamp) aloft) stamp ↔ (flies_in (phase stamp) ≡ true)
+aloft_are aloft phase flies flying stamp = (
+  there aloft flies,
+  λ e.
+      let its = flying stamp e in
+      subst (IsOneOf (map (λ (flight : Aloft). flight.stamp) aloft)) its.2 (here aloft its.0 its.1),
+)
+  where
+    there : (l : List Aloft) → ((flight : Aloft) → IsOneOf l flight → FitsPhase flight.opened (phase flight.stamp))
+        → IsOneOf (map (λ (flight : Aloft). flight.stamp) l) stamp → flies_in (phase stamp) ≡ true
+    there [] all one = absurd one
+    there (flight ∷ l) all (inl e) =
+        ap (λ (n : ℕ). flies_in (phase n)) (sym e) ∙ fits_flies flight.opened (phase flight.stamp) (all flight (inl refl))
+    there (flight ∷ l) all (inr one) = there l (λ other among. all other (inr among)) one
+
+    here : (l : List Aloft) (flight : Aloft) → IsOneOf l flight → IsOneOf (map (λ (f : Aloft). f.stamp) l) flight.stamp
+    here [] flight one = absurd one
+    here (f ∷ l) flight (inl e) = inl (ap (λ (x : Aloft). x.stamp) e)
+    here (f ∷ l) flight (inr one) = inr (here l flight one)
+
 pub merged_turns : MergedTurns
 merged_turns first history before most turns pens legal agrees =
     let so = played first history before most turns pens legal agrees in
     record {
       goes = λ entry node live. (fsync_agrees first history before most turns pens legal agrees entry node live).goes;
       each = of_fsync first history before most turns pens legal agrees;
-      plays = record { at = so.at; plays = so.plays; failed = so.failed; waits = so.fits.waits };
+      plays = record {
+        at = so.at;
+        plays = so.plays;
+        done = done_are so.plays;
+        failed = so.failed;
+        waits = λ stamp. (so.fits.waits stamp, so.fits.reserved stamp);
+        flies = aloft_are so.at.aloft (λ stamp. phase_of stamp turns) so.fits.flies so.fits.flying;
+      };
       settled = nothing_left first history before most turns pens legal agrees so.at.waiting so.fits.waits;
       own = own_waits first history before most turns pens legal agrees;
       ends = ends first history before most turns pens legal agrees;

@@ -57,6 +57,15 @@ FitsPhase opened has_reserved = ⊥
 FitsPhase opened is_durable = ⊥
 FitsPhase opened has_ended = ⊥
 
+pub fits_flies : (opened : Bool) (phase : Phase) → FitsPhase opened phase → flies_in phase ≡ true
+fits_flies opened has_begun fits = refl
+fits_flies opened has_opened fits = refl
+fits_flies opened is_stuck fits = refl
+fits_flies opened no_turn_yet fits = absurd fits
+fits_flies opened has_reserved fits = absurd fits
+fits_flies opened is_durable fits = absurd fits
+fits_flies opened has_ended fits = absurd fits
+
 -- What waits and what is aloft fits the phases of fsyncs.
 pub record FitsPhases (phase : ℕ → Phase) (waiting : List ℕ) (aloft : List Aloft) : Type 0 where
   pub waits : (stamp : ℕ) → IsOneOf waiting stamp → phase stamp ≡ has_reserved

@@ -27,7 +27,7 @@ use Rattle.crash_laws.specs.Survives.{IsFailure, HasFailure}
 use Rattle.crash_laws.proofs.Fsyncs.{listed_live, acknowledged_listed}
 use Rattle.turn_laws.specs.Books.{flush_at}
 use Rattle.turn_laws.specs.Recorded.{IsLiveFsync, IsOfFsync, last_turn, EndsWith, EndsBy}
-use Rattle.turn_laws.specs.Ways.{Way, committed, at_once, doubted, opened_doubted, halted, granted_halted, begun_halted, opened_halted, acts_of_way, answer_of, own_turns, GoesWay}
+use Rattle.turn_laws.specs.Ways.{Way, committed, at_once, doubted, opened_doubted, halted, granted_halted, begun_halted, opened_halted, acts_of_way, answer_of, own_turns, GoesWay, HasCommit}
 use Rattle.turn_laws.proofs.Behind.{stays_in}
 use Rattle.turn_laws.proofs.Causes.{last_among}
 use Rattle.merge_laws.specs.Laws.{MergedTell}
@@ -253,6 +253,17 @@ module _ (first : TreeState) (history : List Entry) (turns : List Turn) (legal :
       its : IsOfFsync first history turn
       its = merge.each turn one
 
+      way : GoesWay (own_turns its.entry.stamp.0 turns) its.entry.reply
+      way = merge.goes its.entry turn.node its.fsync
+
+      in_turns : (landing : Turn) → IsOneOf there.back landing → IsOneOf turns landing
+      in_turns landing among = subst (λ (l : List Turn). IsOneOf l landing) (sym there.whole) (in_right there.front (turn ∷ there.back) landing (inr among))
+
+      landing_own : (landing : Turn) → landing.stamp.0 ≡ turn.stamp.0 → IsOneOf turns landing → IsOneOf (own_turns its.entry.stamp.0 turns) landing
+      landing_own landing same among =
+          stays_in (λ (t : Turn). nat_eq t.stamp.0 its.entry.stamp.0) turns landing among
+          (subst (λ (n : ℕ). nat_eq n its.entry.stamp.0 ≡ true) (sym (same ∙ stamp_of turn its)) (same_number its.entry.stamp.0))
+
       ok : its.entry.reply ≡ reply.Ok
       ok = not_failed its.entry.reply (written turn one did its) (λ f. none (record { entry = its.entry; among = its.fsync.among; failed = f }))
 
@@ -272,9 +283,7 @@ module _ (first : TreeState) (history : List Entry) (turns : List Turn) (legal :
           let same : landing ≡ last.turn = some_same (ap (λ (o : Option Turn). option_or o (Some turn)) (sym e) ∙ found) in
           let among = last_among turn.stamp.0 there.back landing e in
           let at = stands_at there.back landing among.0 in
-          let theirs = merge.each landing
-          (subst (λ (l : List Turn). IsOneOf l landing) (sym there.whole)
-          (in_right there.front (turn ∷ there.back) landing (inr among.0))) in
+          let theirs = merge.each landing (in_turns landing among.0) in
           let entry = stamps_are_once first history theirs.entry its.entry legal theirs.fsync.among its.fsync.among
           (sym (stamp_of landing theirs) ∙ among.1 ∙ stamp_of turn its) in
           let node = node_of_call (sym theirs.fsync.asked ∙ ap (λ (x : Entry). x.call) entry ∙ its.fsync.asked) in
@@ -287,6 +296,10 @@ module _ (first : TreeState) (history : List Entry) (turns : List Turn) (legal :
                 ∙ sym (append_assoc there.front (turn ∷ at.front) (landing ∷ at.back));
             did = ap (λ (t : Turn). t.act) same ∙ last.did;
             own = λ i. record { node = (node i).0; stamp = among.1 i };
+            commit =
+                subst (λ (a : TurnAct). HasCommit way.number a landing.commit) (ap (λ (t : Turn). t.act) same ∙ last.did)
+                (way.commits landing (landing_own landing among.1 (in_turns landing among.0)))
+                ∙ sym (subst (λ (a : TurnAct). HasCommit way.number a turn.commit) did (way.commits turn (opened_is_own turn one its)));
           }
 
 pub merged_tell : MergedTell

@@ -1,6 +1,5 @@
 -- What a crash leaves of a run, and what a read gives at its end, in the order of the turns at the disk.
 use Rattle.std.specs.Prelude.{◌≡◌, ◌≤◌, ◌∷◌, ◌++◌, ℕ, nat_le, Bool, List, [], filter}
-use Rattle.std.specs.List.{filter_map}
 use Rattle.sfs_dev.specs.Disk.{View, LeftSince}
 use Rattle.sfs_dev.specs.Steps.{IfTold}
 use Rattle.tree_laws.specs.declared.history.Entry.{Entry}
@@ -13,11 +12,7 @@ use Rattle.cut_laws.specs.Covers.{Covers}
 use Rattle.cut_laws.specs.Cut.{Cut, tree_at_cut}
 use Rattle.crash_laws.specs.Listed.{IsListedFsync, StampsDiffer}
 use Rattle.crash_laws.specs.Survives.{HasFailure}
-use Rattle.turn_laws.specs.LawsTurns.{durable_flush}
-
--- the fsyncs whose commits became durable, in the order of their turns
-abbrev pub durables : List Turn → List Flush
-durables turns = filter_map durable_flush turns
+use Rattle.merge_laws.specs.Plays.{durables}
 
 -- the turns up to a moment
 abbrev pub turns_until : ℕ → List Turn → List Turn

@@ -53,9 +53,9 @@ pub record IsPenFsync (first : TreeState) (history : List Entry) (turns : List T
   pub stopped : (faults : ℕ) → entry.reply ≡ reply.Stopped faults → failed_in turns ≡ Some faults
 
 -- No two fsyncs of a pen have one stamp.
-abbrev pub AreApart : List FsyncTurns → Type 0
-AreApart [] = Unit {0}
-AreApart (one ∷ fsyncs) = ((other : FsyncTurns) → IsOneOf fsyncs other → other.stamp ≢ one.stamp) × AreApart fsyncs
+abbrev pub FsyncsDiffer : List FsyncTurns → Type 0
+FsyncsDiffer [] = Unit {0}
+FsyncsDiffer (one ∷ fsyncs) = ((other : FsyncTurns) → IsOneOf fsyncs other → other.stamp ≢ one.stamp) × FsyncsDiffer fsyncs
 
 -- A pen has this of the fsync with a stamp.
 pub record HasTurnsFor (fsyncs : List FsyncTurns) (stamp : ℕ) : Type 0 where
@@ -67,7 +67,7 @@ pub record HasTurnsFor (fsyncs : List FsyncTurns) (stamp : ℕ) : Type 0 where
 -- NoMemory, before its first turn.
 pub record PenAgrees (first : TreeState) (history : List Entry) (turns : List Turn) (core : ℕ) (fsyncs : List FsyncTurns) : Type 0 where
   pub each : (one : FsyncTurns) → IsOneOf fsyncs one → IsPenFsync first history turns core one
-  pub once : AreApart fsyncs
+  pub once : FsyncsDiffer fsyncs
   pub others : (entry : Entry) (node : NodeId) → IsLiveFsync first history entry node → entry.core.0 ≡ core
       → (entry.reply ≡ reply.NoMemory) ⊎ HasTurnsFor fsyncs entry.stamp.0
 

@@ -1,5 +1,8 @@
 -- The record of turns as what fsyncs do: which wait, which commits are aloft, which are done, and whether one has failed.
-use Rattle.std.specs.Prelude.{◌≡◌, ◌≢◌, ◌⊎◌, ◌∷◌, ◌++◌, ℕ, Bool, true, false, List, [], Option, Some, None}
+use Rattle.turn_laws.specs.LawsTurns.{durable_flush}
+use Rattle.cut_laws.specs.Closure.{Flush}
+use Rattle.std.specs.List.{filter_map}
+use Rattle.std.specs.Prelude.{◌≡◌, ◌≢◌, ◌⊎◌, ◌∷◌, ◌++◌, ℕ, Bool, true, false, List, [], Option, Some, None, ◌↔◌, map}
 use Rattle.tree_laws.specs.declared.history.Entry.{Entry}
 use Rattle.tree_laws.specs.declared.turns.Turn.{Turn}
 use Rattle.tree_laws.specs.declared.turns.TurnAct.{TurnAct}
@@ -8,7 +11,7 @@ use Rattle.tree_laws.specs.Tree.{TreeState}
 use Rattle.cut_laws.specs.Rules.{IsOneOf}
 use Rattle.turn_laws.specs.Recorded.{IsOfFsync, EachEnds}
 use Rattle.turn_laws.specs.Ways.{own_turns, EachGoes}
-use Rattle.merge_laws.specs.Phases.{has_reserved, phase_of}
+use Rattle.merge_laws.specs.Phases.{has_reserved, phase_of, flies_in}
 use Rattle.merge_laws.specs.Pens.{failed_in}
 
 -- The commit of the fsync with a stamp, begun and not yet done, and whether it was opened.
@@ -122,12 +125,19 @@ pub data Plays : List Turn → PlayState → Type 0 where
   one_play : (turns : List Turn) (turn : Turn) (at later : PlayState) → Plays turns at → PlaysAct turn.act turns at turn later
       → Plays (turns ++ turn ∷ []) later
 
--- Turns are such a play: it has the count of faults of the first failure, and those wait that have reserved and no more.
+-- the fsyncs whose commits became durable, in the order of their turns
+abbrev pub durables : List Turn → List Flush
+durables turns = filter_map durable_flush turns
+
+-- Turns are such a play: done are the durable ones in their order, it has the count of faults of the first failure, those wait that have reserved
+-- and no more, and those are aloft whose commits are begun and not done.
 pub record PlaysTo (turns : List Turn) : Type 0 where
   pub at : PlayState
   pub plays : Plays turns at
+  pub done : at.done ≡ map (λ flush. flush.stamp) (durables turns)
   pub failed : at.failed ≡ failed_in turns
-  pub waits : (stamp : ℕ) → IsOneOf at.waiting stamp → phase_of stamp turns ≡ has_reserved
+  pub waits : (stamp : ℕ) → IsOneOf at.waiting stamp ↔ (phase_of stamp turns ≡ has_reserved)
+  pub flies : (stamp : ℕ) → IsOneOf (map (λ flight. flight.stamp) at.aloft) stamp ↔ (flies_in (phase_of stamp turns) ≡ true)
 
 -- While an fsync waits, no turn of its core is of another one.
 abbrev pub OwnWaits : List Turn → Type 0

@@ -18,7 +18,7 @@ pub record WasDurable (turns : List Turn) (flush : Flush) (moment : ℕ) : Type 
   pub own : flush_at turn ≡ flush
   pub now : turn.now ≡ moment
 
--- A Durable stands behind a turn, of the same fsync.
+-- A Durable stands behind a turn, of the same fsync and the same commit.
 pub record Lands (turns : List Turn) (turn : Turn) : Type 0 where
   pub front : List Turn
   pub between : List Turn
@@ -27,6 +27,7 @@ pub record Lands (turns : List Turn) (turn : Turn) : Type 0 where
   pub whole : turns ≡ (front ++ turn ∷ between) ++ landing ∷ back
   pub did : landing.act ≡ act.Durable
   pub own : flush_at landing ≡ flush_at turn
+  pub commit : landing.commit ≡ turn.commit
 
 -- What turns tell: a Durable is the acknowledgement of its fsync, at its moment, and each acknowledgement is a Durable. An Opened is of an fsync
 -- answered Ok, DiskFailed or Stopped, and where none was answered DiskFailed or Stopped, its Durable stands behind it.

@@ -12,9 +12,9 @@ use Rattle.tree_laws.specs.declared.turns.TurnAct.{TurnAct}
 use Rattle.tree_laws.specs.declared.turns.TurnAct.TheVariants as act
 use Rattle.tree_laws.specs.History.{IsLegal}
 use Rattle.turn_laws.specs.Ways.{Way, no_turn, lacked, returned, committed, at_once, doubted, opened_doubted, halted, granted_halted, begun_halted, opened_halted, acts_of_way, answer_of, own_turns}
-use Rattle.merge_laws.specs.LeftByTurns.{durables, TimesRise}
+use Rattle.merge_laws.specs.LeftByTurns.{TimesRise}
 use Rattle.merge_laws.specs.Pens.{FsyncTurns, AgreesAll}
-use Rattle.merge_laws.specs.Plays.{Plays}
+use Rattle.merge_laws.specs.Plays.{durables, Plays}
 
 -- a tree of two cores: a root in which "a" names a directory
 abbrev pub TWO_CORES : TreeState
