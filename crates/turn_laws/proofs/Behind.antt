@@ -107,7 +107,7 @@ reserved_is_not_free before most books turn later is did =
     }
 
 -- what passes a test stays
-stays_in : {X : Type 0} (test : X → Bool) (xs : List X) (x : X) → IsOneOf xs x → test x ≡ true → IsOneOf (filter test xs) x
+pub stays_in : {X : Type 0} (test : X → Bool) (xs : List X) (x : X) → IsOneOf xs x → test x ≡ true → IsOneOf (filter test xs) x
 stays_in test [] x one passes = absurd one
 stays_in test (y ∷ xs) x (inl same) passes =
     subst (λ (b : Bool). IsOneOf (cond b (y ∷ filter test xs) (filter test xs)) x) (sym (ap test same ∙ passes)) (inl same)

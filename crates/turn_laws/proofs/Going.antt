@@ -21,20 +21,20 @@ pub no_call_goes : NoCallGoes
 no_call_goes first entry node is = absurd is.among
 
 -- turns of which none has a stamp, and of which each has it
-none_own : (stamp : ℕ) (turns : List Turn) → ((turn : Turn) → IsOneOf turns turn → turn.stamp.0 ≢ stamp) → own_turns stamp turns ≡ []
+pub none_own : (stamp : ℕ) (turns : List Turn) → ((turn : Turn) → IsOneOf turns turn → turn.stamp.0 ≢ stamp) → own_turns stamp turns ≡ []
 none_own stamp [] apart = refl
 none_own stamp (turn ∷ turns) apart =
     ap (λ (b : Bool). cond b (turn ∷ own_turns stamp turns) (own_turns stamp turns)) (not_same turn.stamp.0 stamp (apart turn (inl refl)))
     ∙ none_own stamp turns (λ other one. apart other (inr one))
 
-all_own : (stamp : ℕ) (turns : List Turn) → ((turn : Turn) → IsOneOf turns turn → turn.stamp.0 ≡ stamp) → own_turns stamp turns ≡ turns
+pub all_own : (stamp : ℕ) (turns : List Turn) → ((turn : Turn) → IsOneOf turns turn → turn.stamp.0 ≡ stamp) → own_turns stamp turns ≡ turns
 all_own stamp [] same = refl
 all_own stamp (turn ∷ turns) same =
     ap (λ (b : Bool). cond b (turn ∷ own_turns stamp turns) (own_turns stamp turns))
     (ap (λ (n : ℕ). nat_eq n stamp) (same turn (inl refl)) ∙ same_number stamp)
     ∙ ap (λ (l : List Turn). turn ∷ l) (all_own stamp turns (λ other one. same other (inr one)))
 
-own_both : (stamp : ℕ) (turns more : List Turn) → own_turns stamp (turns ++ more) ≡ own_turns stamp turns ++ own_turns stamp more
+pub own_both : (stamp : ℕ) (turns more : List Turn) → own_turns stamp (turns ++ more) ≡ own_turns stamp turns ++ own_turns stamp more
 own_both stamp [] more = refl
 own_both stamp (turn ∷ turns) more = elim (nat_eq turn.stamp.0 stamp) as
     (λ b. cond b (turn ∷ own_turns stamp (turns ++ more)) (own_turns stamp (turns ++ more))

@@ -1,0 +1,12 @@
+pub mod Lists
+pub mod Phases
+pub mod Blocks
+pub mod Fsyncs
+pub mod Playing
+pub mod Follows
+pub mod PlaySteps
+pub mod Merged
+pub mod Told
+pub mod ByTurns
+pub mod Worked
+pub mod WorkedWays
