@@ -20,7 +20,7 @@ rows_alike first history cut other same =
     ap (fold with_own first.rows)
     (filter_same (is_within cut) (is_within other) (changes_of first history) (λ change one. ap (nat_lt change.stamp) (same change.directory)))
 
-module _ (first : TreeState) (history : List Entry) (flush : Flush) (cut other : Cut) (same : (node : ℕ) → cut_of cut node ≡ cut_of other node) where
+module _ (first : TreeState) (history : List Entry) (cut other : Cut) (same : (node : ℕ) → cut_of cut node ≡ cut_of other node) where
   named_there : (node : ℕ) → IsNamedIn (rows_at_cut first history cut) node → IsNamedIn (rows_at_cut first history other) node
   named_there node row = subst (λ (rows : FinMap key_cmp ℕ). IsNamedIn rows node) (rows_alike first history cut other same) row
 
@@ -33,15 +33,15 @@ module _ (first : TreeState) (history : List Entry) (flush : Flush) (cut other :
     unflushed = subst (λ n. n ≤ naming.change.stamp) (same naming.change.directory) naming.unflushed;
   }
 
-  reached_there : (node : ℕ) → IsReached first history every_entry flush cut node → IsReached first history every_entry flush other node
-  reached_there node (inl row) = inl (named_there node row)
-  reached_there node (inr (own, file, naming)) = inr (own, file, naming_there node naming)
+  pub reached_there : (flush : Flush) (node : ℕ) → IsReached first history every_entry flush cut node → IsReached first history every_entry flush other node
+  reached_there flush node (inl row) = inl (named_there node row)
+  reached_there flush node (inr (own, file, naming)) = inr (own, file, naming_there node naming)
 
-dead_there : (first : TreeState) (history : List Entry) (cut other : Cut) → ((node : ℕ) → cut_of cut node ≡ cut_of other node) → (node : ℕ)
+pub dead_there : (first : TreeState) (history : List Entry) (cut other : Cut) → ((node : ℕ) → cut_of cut node ≡ cut_of other node) → (node : ℕ)
     → IsDead first history every_entry cut node → IsDead first history every_entry other node
 dead_there first history cut other same node dead = record {
   no_root = dead.no_root;
-  unnamed = λ row. dead.unnamed (named_there first history (record { node = node; stamp = 0 }) other cut (λ n. sym (same n)) node row);
+  unnamed = λ row. dead.unnamed (named_there first history other cut (λ n. sym (same n)) node row);
   flushed = λ change is_change counted child.
       subst (λ n. change.stamp < n) (same change.directory) (dead.flushed change is_change counted child);
 }
@@ -67,12 +67,12 @@ module _ (first : TreeState) (history : List Entry) (cut raised other : Cut) (in
   comes node lacks = elim (true_or_false (after node)) [
     | inl has ↦
         let entered = (sets.enters node lacks).0 has in
-        has ∙ sym ((sets_again.enters node lacks).1 (entered.0, reached_there first history flush raised other stamps node entered.1))
+        has ∙ sym ((sets_again.enters node lacks).1 (entered.0, reached_there first history raised other stamps flush node entered.1))
     | inr none ↦ elim (true_or_false (other_after node)) [
       | inr also ↦ none ∙ sym also
       | inl has ↦
           let entered = (sets_again.enters node lacks).0 has in
-          absurd (not_both ((sets.enters node lacks).1 (entered.0, reached_there first history flush other raised back node entered.1)) none)
+          absurd (not_both ((sets.enters node lacks).1 (entered.0, reached_there first history other raised back flush node entered.1)) none)
     ]
   ]
 

@@ -30,7 +30,8 @@ use Rattle.cut_laws.proofs.RunFacts.{in_filter}
 use Rattle.dep_closure.specs.declared.gathered.DirectoryChanges.{DirectoryChanges}
 use Rattle.dep_closure.specs.Gathered.{log_directory, IsOwnLog}
 use Rattle.dep_closure.specs.History.{logged_of, IsLogOf}
-use Rattle.dep_closure.proofs.Looked.{one_of_all, to_filter}
+use Rattle.cut_laws.proofs.Listed.{to_filter}
+use Rattle.dep_closure.proofs.Looked.{one_of_all}
 use Rattle.dep_closure.proofs.Growing.{has_one}
 use Rattle.dep_closure.proofs.Parts.{pass_both}
 use Rattle.core_logs.specs.Logs.{Logs, part_of, blank_part, AreGathered}

@@ -5,7 +5,7 @@ use Rattle.std.proofs.lemmas.Bool.{cond-true}
 use borrow.Author.Tests.{eqb-true}
 use Rattle.sfs_base.specs.Listed.{is_listed}
 use Rattle.sfs_base.proofs.BasicNumbers.{same_number}
-use Rattle.sfs_base.proofs.BasicTruth.{or_true}
+use Rattle.sfs_base.proofs.BasicTruth.{or_true, true_not_false}
 use Rattle.cut_laws.specs.Rules.{IsOneOf}
 use Rattle.cut_laws.proofs.Basics.{in_either, in_left, in_right}
 
@@ -83,3 +83,19 @@ listed_one (first ∷ rest) number =
         | inr later ↦ ap (λ b. nat_eq first number || b) (behind.1 later) ∙ or_true (nat_eq first number)
       ],
     )
+
+-- a test behind a weaker one
+pub filter_again : {X : Type 0} (test weak : X → Bool) (xs : List X) → ((x : X) → IsOneOf xs x → test x ≡ true → weak x ≡ true)
+    → filter test (filter weak xs) ≡ filter test xs
+filter_again test weak [] all = refl
+filter_again {X} test weak (x ∷ xs) all = by (weak x) refl (filter_again test weak xs (λ y one. all y (inr one)))
+  where
+    out : (b : Bool) → test x ≡ b → (test x ≡ true → false ≡ true) → filter test (filter weak xs) ≡ filter test xs
+        → filter test (filter weak xs) ≡ cond b (x ∷ filter test xs) (filter test xs)
+    out true e never rest = absurd (true_not_false (sym (never e)))
+    out false e never rest = rest
+
+    by : (b : Bool) → weak x ≡ b → filter test (filter weak xs) ≡ filter test xs
+        → filter test (cond b (x ∷ filter weak xs) (filter weak xs)) ≡ cond (test x) (x ∷ filter test xs) (filter test xs)
+    by true e rest = ap (λ (l : List X). cond (test x) (x ∷ l) l) rest
+    by false e rest = out (test x) refl (λ t. sym e ∙ all x (inl refl) t) rest

@@ -10,7 +10,7 @@ use Rattle.cut_laws.proofs.Listed.{from_map, to_map}
 use Rattle.look_laws.specs.Look.{Look, Gathers, Touches}
 use Rattle.dep_closure.specs.declared.gathered.Gathered.{Gathered}
 use Rattle.dep_closure.specs.Gathered.{look_of, IsOrderly}
-use Rattle.dep_closure.proofs.Closed.{listed_one}
+use Rattle.cut_laws.proofs.Listed.{listed_one}
 use Rattle.dep_closure.proofs.Tying.{sight_there, sight_back}
 use Rattle.flush_plan.specs.Concerned.{IsTouchedBy}
 

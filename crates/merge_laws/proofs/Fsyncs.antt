@@ -21,8 +21,10 @@ use Rattle.cut_laws.proofs.Entries.{entries_may_come, stamps_are_once}
 use Rattle.turn_laws.specs.Recorded.{IsLiveFsync, IsOfFsync}
 use Rattle.turn_laws.specs.Ways.{own_turns, no_turn, GoesWay}
 use Rattle.turn_laws.proofs.Behind.{stays_in}
+use Rattle.cut_laws.proofs.RunFacts.{event_there}
 use Rattle.merge_laws.specs.Pens.{failed_in, turns_of_core, FsyncTurns, HasTurnsFor, AgreesAll}
-use Rattle.merge_laws.proofs.Lists.{filter_again, in_part, something_at}
+use Rattle.cut_laws.proofs.Listed.{filter_again}
+use Rattle.merge_laws.proofs.Lists.{in_part}
 use Rattle.merge_laws.proofs.Blocks.{pen_turns, AreStamped, has_or_lacks, none_of_pen, own_of_pen}
 
 -- What is had of one fsync: its turns go one of the ways with its answer, its Durable tells its acknowledgement, and its stop the first failure.
@@ -47,7 +49,7 @@ module _ (first : TreeState) (history : List Entry) (before most : ℕ) (turns :
 
   pub penned : (turn : Turn) → IsOneOf turns turn → IsPenned turn
   penned turn among =
-      let pen = something_at pens turn.core.0 (agrees.merges.cores turn among) in
+      let pen = event_there pens turn.core.0 (agrees.merges.cores turn among) in
       let own = subst (λ (l : List Turn). IsOneOf l turn) (agrees.merges.own turn.core.0 pen.0 pen.1)
       (stays_in (λ (t : Turn). nat_eq t.core.0 turn.core.0) turns turn among (same_number turn.core.0)) in
       let part = in_part (λ (one : FsyncTurns). one.turns) pen.0 turn own in
@@ -96,7 +98,7 @@ module _ (first : TreeState) (history : List Entry) (before most : ℕ) (turns :
   pub pen_of : (entry : Entry) → IsOneOf history entry → (fsyncs : List FsyncTurns) × (slice_get pens entry.core.0 ≡ Some fsyncs)
   pen_of entry among =
       let may = (entries_may_come first history entry legal among).may in
-      something_at pens entry.core.0
+      event_there pens entry.core.0
       (subst (λ (n : ℕ). entry.core.0 < n) (cores_stay first (take entry.stamp.0 history) ∙ sym agrees.cores) may.core)
 
   pub fsync_agrees : (entry : Entry) (node : NodeId) → IsLiveFsync first history entry node → FsyncAgrees turns entry

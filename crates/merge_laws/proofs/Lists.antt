@@ -1,25 +1,9 @@
 -- Lists taken apart: what stands at a place, what passes a test, and what was joined of parts.
-use Rattle.std.specs.Prelude.{filter, flat_map, slice_get}
-use Rattle.std.proofs.Common.{◌≡◌, ◌<◌, ◌∷◌, ◌++◌, ◌⊎◌, ◌∙◌, ℕ, zero, suc, Bool, true, false, cond, List, [], length, Some, inl, inr, refl, sym, ap, arith}
+use Rattle.std.specs.Prelude.{filter, flat_map}
+use Rattle.std.proofs.Common.{◌≡◌, ◌∷◌, ◌++◌, ◌⊎◌, ◌∙◌, Bool, true, false, cond, List, [], inl, inr, refl, sym, ap}
 use Rattle.sfs_base.proofs.BasicTruth.{true_not_false}
 use Rattle.cut_laws.specs.Rules.{IsOneOf}
 use Rattle.cut_laws.proofs.Basics.{in_left, in_right, in_either}
-
--- a test behind a weaker one
-pub filter_again : {X : Type 0} (test weak : X → Bool) (xs : List X) → ((x : X) → IsOneOf xs x → test x ≡ true → weak x ≡ true)
-    → filter test (filter weak xs) ≡ filter test xs
-filter_again test weak [] all = refl
-filter_again {X} test weak (x ∷ xs) all = by (weak x) refl (filter_again test weak xs (λ y one. all y (inr one)))
-  where
-    out : (b : Bool) → test x ≡ b → (test x ≡ true → false ≡ true) → filter test (filter weak xs) ≡ filter test xs
-        → filter test (filter weak xs) ≡ cond b (x ∷ filter test xs) (filter test xs)
-    out true e never rest = absurd (true_not_false (sym (never e)))
-    out false e never rest = rest
-
-    by : (b : Bool) → weak x ≡ b → filter test (filter weak xs) ≡ filter test xs
-        → filter test (cond b (x ∷ filter weak xs) (filter weak xs)) ≡ cond (test x) (x ∷ filter test xs) (filter test xs)
-    by true e rest = ap (λ (l : List X). cond (test x) (x ∷ l) l) rest
-    by false e rest = out (test x) refl (λ t. sym e ∙ all x (inl refl) t) rest
 
 pub filter_both : {X : Type 0} (test : X → Bool) (xs ys : List X) → filter test (xs ++ ys) ≡ filter test xs ++ filter test ys
 filter_both test [] ys = refl
@@ -105,11 +89,7 @@ joined_at (y ∷ xs) ys (z ∷ front) x back e =
       })
     ]
 
--- there is something at each place of a list
-pub something_at : {X : Type 0} (xs : List X) (place : ℕ) → place < length xs → (x : X) × (slice_get xs place ≡ Some x)
-something_at [] place within = absurd (none within)
-  where
-    none : place < 0 → ⊥
-    none lt = omega arith
-something_at (x ∷ xs) zero within = (x, refl)
-something_at (x ∷ xs) (suc place) within = something_at xs place (omega arith)
+-- nothing stands in an empty list
+pub nothing_there : {X : Type 0} (before : List X) (x : X) (behind : List X) → ◌≡◌ {A = List X} [] (before ++ x ∷ behind) → ⊥
+nothing_there [] x behind e = cc
+nothing_there (first ∷ before) x behind e = cc

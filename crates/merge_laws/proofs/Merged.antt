@@ -34,7 +34,7 @@ use Rattle.merge_laws.specs.Phases.{no_turn_yet, has_reserved, may_follow, phase
 use Rattle.merge_laws.specs.Pens.{failed_in, turns_of_core, FsyncTurns, AgreesAll, FsyncsDiffer, PenAgrees}
 use Rattle.merge_laws.specs.Plays.{PlayState, nothing_played, Plays, no_play, one_play, Aloft, PlaysAct, durables}
 use Rattle.merge_laws.proofs.Lists.{among_at}
-use Rattle.merge_laws.proofs.Phases.{ways_go, ways_take_up, may_come, own_at}
+use Rattle.merge_laws.proofs.Phases.{first_waits, ways_go, ways_take_up, may_come, own_at}
 use Rattle.merge_laws.proofs.Blocks.{pen_turns, AreStamped, has_or_lacks, none_of_pen, own_of_pen, first_apart, in_block, same_or_not, IsInBlock}
 use Rattle.merge_laws.proofs.Fsyncs.{of_fsync, one_core, own_in_core, stamped_pen, penned, fsync_agrees, IsPenned}
 use Rattle.merge_laws.proofs.Playing.{FitsPhases, fits_nothing, FitsPhase, fits_flies}
@@ -155,10 +155,7 @@ module _ (first : TreeState) (history : List Entry) (before most : ℕ) (turns :
   no_wait stamp e = by (own_turns stamp turns) refl
     where
       by : (own : List Turn) → own_turns stamp turns ≡ own → ⊥
-      by [] none = absurd (first_reserved (sym (ap (λ (l : List Turn). phase_after no_turn_yet (map (λ (t : Turn). t.act) l)) none) ∙ e))
-        where
-          first_reserved : no_turn_yet ≡ has_reserved → ⊥
-          first_reserved f = cc
+      by [] none = absurd (first_waits (sym (ap (λ (l : List Turn). phase_after no_turn_yet (map (λ (t : Turn). t.act) l)) none) ∙ e))
       by (turn ∷ own) some =
           let among = in_filter (λ (t : Turn). nat_eq t.stamp.0 stamp) turns turn
           (subst (λ (l : List Turn). IsOneOf l turn) (sym some) (inl refl)) in
@@ -194,7 +191,7 @@ module _ (first : TreeState) (history : List Entry) (before most : ℕ) (turns :
         (sym (own_of_pen done has.one stamped apart has.among) ∙ ap (λ (s : ℕ). own_turns s (pen_turns done)) has.own)
         ∙ e)
     | inr lacks ↦
-        first_reserved
+        first_waits
         (sym (ap (λ (l : List Turn). phase_after no_turn_yet (map (λ (t : Turn). t.act) l)) (none_of_pen done stamp stamped lacks)) ∙ e)
   ]
     where
@@ -209,9 +206,6 @@ module _ (first : TreeState) (history : List Entry) (before most : ℕ) (turns :
 
       apart : FsyncsDiffer done
       apart = first_apart done rest (subst FsyncsDiffer whole agrees_core.once)
-
-      first_reserved : no_turn_yet ≡ has_reserved → ⊥
-      first_reserved f = cc
 
   own_waits : (front back : List Turn) (turn other : Turn) → turns ≡ front ++ turn ∷ back → IsOneOf front other → other.core.0 ≡ turn.core.0
       → phase_of other.stamp.0 front ≡ has_reserved → other.stamp.0 ≡ turn.stamp.0

@@ -121,3 +121,7 @@ phase_stays turns turn stamp apart =
     (own_both stamp turns (turn ∷ [])
     ∙ ap (λ (b : Bool). own_turns stamp turns ++ cond b (turn ∷ []) []) (not_same turn.stamp.0 stamp (λ e. apart (sym e)))
     ∙ append-nil (own_turns stamp turns))
+
+-- an fsync without turns does not wait
+pub first_waits : no_turn_yet ≡ has_reserved → ⊥
+first_waits e = cc

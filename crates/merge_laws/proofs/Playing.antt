@@ -6,6 +6,7 @@ use Rattle.cut_laws.specs.Rules.{IsOneOf}
 use Rattle.cut_laws.proofs.Basics.{in_left, in_right, in_either}
 use Rattle.merge_laws.specs.Phases.{Phase, no_turn_yet, has_reserved, has_begun, has_opened, is_durable, has_ended, is_stuck, flies_in}
 use Rattle.merge_laws.specs.Plays.{Aloft}
+use Rattle.merge_laws.proofs.Phases.{first_waits}
 use Rattle.merge_laws.proofs.Lists.{among_at, with_one, but_one}
 use Rattle.merge_laws.proofs.Blocks.{same_or_not}
 
@@ -78,15 +79,12 @@ pub record FitsPhases (phase : ℕ → Phase) (waiting : List ℕ) (aloft : List
 pub fits_nothing : FitsPhases (λ stamp. no_turn_yet) [] []
 fits_nothing = record {
   waits = λ stamp one. absurd one;
-  reserved = λ stamp e. absurd (never e);
+  reserved = λ stamp e. absurd (first_waits e);
   flies = λ flight one. absurd one;
   flying = λ stamp e. absurd (false_not_true e);
   waits_once = differ_nothing (λ stamp. stamp);
   flies_once = differ_nothing (λ (flight : Aloft). flight.stamp);
 }
-  where
-    never : no_turn_yet ≡ has_reserved → ⊥
-    never e = cc
 
 -- The phases before and behind a turn of the fsync with a stamp.
 pub record MovesOn (phase later : ℕ → Phase) (stamp : ℕ) : Type 0 where

@@ -8,7 +8,6 @@ use Rattle.sfs_base.specs.declared.numbers.Stamp.{Stamp}
 use Rattle.sfs_base.proofs.BasicOptions.{some_same}
 use Rattle.sfs_base.proofs.BasicTruth.{false_not_true, or_true}
 use Rattle.sfs_base.proofs.BasicNumbers.{same_number}
-use Rattle.tree_laws.specs.declared.call.Call.TheVariants as call
 use Rattle.tree_laws.specs.declared.history.Entry.{Entry}
 use Rattle.tree_laws.specs.declared.reply.Reply.{Reply}
 use Rattle.tree_laws.specs.declared.reply.Reply.TheVariants as reply
@@ -29,7 +28,7 @@ use Rattle.turn_laws.specs.Books.{flush_at}
 use Rattle.turn_laws.specs.Recorded.{IsLiveFsync, IsOfFsync, last_turn, EndsWith, EndsBy}
 use Rattle.turn_laws.specs.Ways.{Way, committed, at_once, doubted, opened_doubted, halted, granted_halted, begun_halted, opened_halted, acts_of_way, answer_of, own_turns, GoesWay, HasCommit}
 use Rattle.turn_laws.proofs.Behind.{stays_in}
-use Rattle.turn_laws.proofs.Causes.{last_among}
+use Rattle.turn_laws.proofs.Causes.{fsync_same, last_among}
 use Rattle.merge_laws.specs.Laws.{MergedTell}
 use Rattle.merge_laws.specs.Phases.{no_turn_yet, goes_from}
 use Rattle.merge_laws.specs.Pens.{failed_in}
@@ -124,16 +123,10 @@ last_behind_own (first ∷ front) turn back =
     by None = refl
     by (Some later) = refl
 
-node_of_call : {node other : NodeId} → call.Fsync node ≡ call.Fsync other → node ≡ other
-node_of_call e = cc
-
 opened_or_durable : act.Opened ≡ act.Durable → ⊥
 opened_or_durable e = cc
 
 module _ (first : TreeState) (history : List Entry) (turns : List Turn) (legal : IsLegal first history) (merge : PensMerge first history turns) where
-  entry_of : (turn : Turn) → IsOneOf turns turn → IsOfFsync first history turn
-  entry_of = merge.each
-
   stamp_of : (turn : Turn) (is : IsOfFsync first history turn) → turn.stamp.0 ≡ is.entry.stamp.0
   stamp_of turn is = ap (λ (s : Stamp). s.0) is.stamp
 
@@ -206,7 +199,7 @@ module _ (first : TreeState) (history : List Entry) (turns : List Turn) (legal :
       let there = last_among is.entry.stamp.0 turns last.turn last.last in
       let its = merge.each last.turn there.0 in
       let same = stamps_are_once first history its.entry is.entry legal its.fsync.among is.among (sym (stamp_of last.turn its) ∙ there.1) in
-      let node = node_of_call (sym its.fsync.asked ∙ ap (λ (e : Entry). e.call) same ∙ is.asked) in
+      let node = fsync_same (sym its.fsync.asked ∙ ap (λ (e : Entry). e.call) same ∙ is.asked) in
       record {
         turn = last.turn;
         among = there.0;
@@ -286,7 +279,7 @@ module _ (first : TreeState) (history : List Entry) (turns : List Turn) (legal :
           let theirs = merge.each landing (in_turns landing among.0) in
           let entry = stamps_are_once first history theirs.entry its.entry legal theirs.fsync.among its.fsync.among
           (sym (stamp_of landing theirs) ∙ among.1 ∙ stamp_of turn its) in
-          let node = node_of_call (sym theirs.fsync.asked ∙ ap (λ (x : Entry). x.call) entry ∙ its.fsync.asked) in
+          let node = fsync_same (sym theirs.fsync.asked ∙ ap (λ (x : Entry). x.call) entry ∙ its.fsync.asked) in
           record {
             front = there.front;
             between = at.front;

@@ -26,7 +26,7 @@ use Rattle.merge_laws.specs.Pens.{failure_by, failed_in, FsyncTurns, IsTurnOf, I
 use Rattle.merge_laws.specs.Worked.{TWO_CORES, own_fsync, other_fsync, own_turn, other_turn, BOTH_HISTORY, BOTH_TURNS, BOTH_PENS, BOTH_OWN, BOTH_OTHER, TwoPensAgree}
 use Rattle.merge_laws.specs.Plays.{Aloft, Plays, nothing_played, one_play, no_play}
 use Rattle.merge_laws.specs.LeftByTurns.{TimesRise}
-use Rattle.merge_laws.proofs.Lists.{heads_are}
+use Rattle.merge_laws.proofs.Lists.{nothing_there, heads_are}
 use Rattle.merge_laws.proofs.Follows.{failed_more}
 use Rattle.merge_laws.proofs.Blocks.{pen_turns}
 
@@ -84,11 +84,7 @@ CountsFrom before most failed (turn ∷ turns) =
 
 counts_from : (before most : ℕ) (turns front : List Turn) → CountsFrom before most (failed_in front) turns → (more back : List Turn) (turn : Turn)
     → turns ≡ more ++ turn ∷ back → CountsFaults before most (failed_in (front ++ more)) turn.act turn.faults
-counts_from before most [] front right more back turn e = absurd (nothing_there more e)
-  where
-    nothing_there : (l : List Turn) → ◌≡◌ {A = List Turn} [] (l ++ turn ∷ back) → ⊥
-    nothing_there [] f = cc
-    nothing_there (x ∷ l) f = cc
+counts_from before most [] front right more back turn e = absurd (nothing_there more turn back e)
 counts_from before most (first ∷ turns) front right [] back turn e =
     subst (λ (t : Turn). CountsFaults before most (failed_in (front ++ [])) t.act t.faults) (heads_are first turn turns back e).0
     (subst (λ (l : List Turn). CountsFaults before most (failed_in l) first.act first.faults) (sym (append-nil front)) right.0)

@@ -34,7 +34,7 @@ use Rattle.dep_closure.specs.declared.gathered.Gathered.{Gathered}
 use Rattle.dep_closure.specs.Gathered.{look_of, span_in, IsOrderly}
 use Rattle.dep_closure.specs.History.{logged_of}
 use Rattle.dep_closure.specs.Spans.{is_in_span}
-use Rattle.dep_closure.proofs.Closed.{listed_one}
+use Rattle.cut_laws.proofs.Listed.{listed_one}
 use Rattle.dep_closure.proofs.Looked.{from_flat, to_flat}
 use Rattle.flush_plan.specs.Kinds.{kind_told, spans_in}
 use Rattle.flush_plan.specs.Moved.{kind_of_own_node, kind_entering}

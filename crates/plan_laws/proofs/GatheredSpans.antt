@@ -28,7 +28,7 @@ use Rattle.dep_closure.specs.declared.gathered.Gathered.{Gathered}
 use Rattle.dep_closure.specs.Gathered.{look_of, cut_in, log_directory, noted_as, noted_in, span_in, IsOwnLog, IsOrderly}
 use Rattle.dep_closure.specs.History.{logged_of, IsLogOf}
 use Rattle.dep_closure.specs.Spans.{is_in_span}
-use Rattle.cut_laws.proofs.Listed.{to_filter}
+use Rattle.cut_laws.proofs.Listed.{filter_again, to_filter}
 use Rattle.dep_closure.proofs.Looked.{from_flat, one_of_all, only_one}
 use Rattle.dep_closure.proofs.Parts.{pass_both}
 use Rattle.dep_closure.proofs.True.{logged_at, logged_once, row as logged_row_is}
@@ -36,15 +36,6 @@ use Rattle.dep_closure.proofs.True.{logged_at, logged_once, row as logged_row_is
 -- what a history logs of a node in its span, from its cut to below a stamp
 abbrev pub logged_span : TreeState → List Entry → Cut → Stamp → ℕ → List Change
 logged_span first history cut below node = filter (is_in_span (cut_of cut node) below.0) (filter (is_logged_in node) (logged_of first history))
-
--- what passes one test passes where it passed another one too, if each that passes the one passes the other
-filter_kept : {X : Type 0} (p q : X → Bool) (xs : List X) → ((x : X) → IsOneOf xs x → p x ≡ true → q x ≡ true) → filter p (filter q xs) ≡ filter p xs
-filter_kept p q xs all = pass_both q p (λ x. q x && p x) (λ x. refl) xs ∙ filter_same (λ x. q x && p x) p xs (λ x one. by (p x) (q x) (all x one))
-  where
-    by : (a b : Bool) → (a ≡ true → b ≡ true) → (b && a) ≡ a
-    by true b also = and_true b ∙ also refl
-    by false true also = refl
-    by false false also = refl
 
 module _ (first : TreeState) (history : List Entry) (counts : Counts) (cut : Cut) (inodes : ℕ → Bool) (gathered : Gathered) (start : NodeId) (below : Stamp)
     (sound : IsSoundTree first) (legal : IsLegal first history) (orderly : IsOrderly gathered)
@@ -123,7 +114,7 @@ module _ (first : TreeState) (history : List Entry) (counts : Counts) (cut : Cut
       let changes : log.changes.items ≡ filter (λ (c : Change). is.keeps c.stamp.0) own = is.changes
       ∙ ap (λ n. filter (λ (c : Change). is.keeps c.stamp.0) (filter (is_logged_in n) (logged_of first history))) (eqb-true log.dir.0 d among.1) in
       ap (filter (is_in_span from below.0)) changes
-      ∙ filter_kept (is_in_span from below.0) (λ (c : Change). is.keeps c.stamp.0) own (λ change one inside.
+      ∙ filter_again (is_in_span from below.0) (λ (c : Change). is.keeps c.stamp.0) own (λ change one inside.
       let its = in_log change one inside in
       let same : its.0 ≡ log = some_same (sym its.1.0 ∙ found) in
       (in_filter (λ (c : Change). is.keeps c.stamp.0) own change

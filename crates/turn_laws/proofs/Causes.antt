@@ -191,7 +191,7 @@ module _ (turns : List Turn) (entry : Entry) (failed : Option ℕ) where
 stopped_same : {a b : ℕ} → reply.Stopped a ≡ reply.Stopped b → a ≡ b
 stopped_same e = cc
 
-fsync_same : {a b : NodeId} → call.Fsync a ≡ call.Fsync b → a ≡ b
+pub fsync_same : {a b : NodeId} → call.Fsync a ≡ call.Fsync b → a ≡ b
 fsync_same e = cc
 
 module _ (first : TreeState) (history : List Entry) (image : ImageState) (from most : ℕ) (turns : List Turn) (entry : Entry) (node : NodeId)

@@ -16,6 +16,7 @@ use Rattle.image_laws.specs.Need.{Rewrite, directory_rewrite, file_rewrite, take
 use Rattle.cut_laws.specs.Closure.{every_entry, Flush, Closure, HasNaming, IsNamedIn, IsConcerned, IsRaised, IsReached, IsDead, AreInodesAfter}
 use Rattle.cut_laws.specs.Cut.{Cut, cut_of, with_own, counted_rows_at_cut, tree_at_cut}
 use Rattle.cut_laws.specs.Machine.{MachineState}
+use Rattle.beside_laws.proofs.OneCut.{reached_there, dead_there}
 use Rattle.turn_laws.specs.LawsNeed.{NeedsOnce}
 use Rattle.turn_laws.specs.Need.{ImageState, Amount, Made, IsMadeBy, tree_before, tree_made, seen_under, stand_in, rewrite_needed, node_bound, enters_by_made, needs_place, need_of, IsNeed}
 use Rattle.turn_laws.specs.Touched.{is_touched_between}
@@ -42,40 +43,6 @@ tree_by first history stamps = record {
   first = first.first;
   share = first.share;
   made = (tree_after first history).made;
-}
-
--- cuts with the same stamps
-module _ (first : TreeState) (history : List Entry) (cut other : Cut) (same : (node : ℕ) → cut_of cut node ≡ cut_of other node) where
-  named_there : (node : ℕ) → IsNamedIn (counted_rows_at_cut first history every_entry cut) node
-      → IsNamedIn (counted_rows_at_cut first history every_entry other) node
-  named_there node =
-      subst (λ (stamps : ℕ → ℕ). IsNamedIn
-      (fold with_own first.rows (filter (λ (change : RowChange). nat_lt change.stamp (stamps change.directory)) (changes_of first history))) node)
-      (fun_ext same)
-
-  reached_there : (flush : Flush) (node : ℕ) → IsReached first history every_entry flush cut node → IsReached first history every_entry flush other node
-  reached_there flush node reached = elim reached [
-    | inl named ↦ inl (named_there node named)
-    | inr file ↦ inr (
-      file.0,
-      file.1,
-      record {
-        change = file.2.change;
-        is_change = file.2.is_change;
-        counted = file.2.counted;
-        child = file.2.child;
-        unflushed = subst (λ (n : ℕ). n ≤ file.2.change.stamp) (same file.2.change.directory) file.2.unflushed;
-      },
-    )
-  ]
-
--- so are nodes that are dead
-dead_there : (first : TreeState) (history : List Entry) (cut other : Cut) → ((node : ℕ) → cut_of cut node ≡ cut_of other node) → (node : ℕ)
-    → IsDead first history every_entry cut node → IsDead first history every_entry other node
-dead_there first history cut other same node dead = record {
-  no_root = dead.no_root;
-  unnamed = λ named. dead.unnamed (named_there first history other cut (λ x. sym (same x)) node named);
-  flushed = λ change one counted child. subst (λ (n : ℕ). change.stamp < n) (same change.directory) (dead.flushed change one counted child);
 }
 
 -- two that an fsync makes of one state

@@ -7,7 +7,7 @@ use Rattle.tree_laws.specs.NameRow.{node_number}
 use Rattle.cut_laws.specs.Elements.{OfSome}
 use Rattle.cut_laws.specs.Rules.{IsOneOf}
 use Rattle.dep_closure.specs.Brought.{AddsTo}
-use Rattle.dep_closure.proofs.Closed.{listed_one}
+use Rattle.cut_laws.proofs.Listed.{listed_one}
 use Rattle.dep_closure.proofs.Growing.{set_more}
 use Rattle.flush_plan.specs.Concerned.{IsTouchedBy, AreNodes}
 use Rattle.flush_plan.proofs.Picked.{if_both}
