@@ -40,7 +40,7 @@ use Rattle.disk_change.specs.declared.files.FileChange.{FileChange}
 use Rattle.disk_nodes.specs.declared.old.OldEntry.{OldEntry}
 use Rattle.disk_change.proofs.NumbersGiven.{planned_node, unnumbered}
 use Rattle.commit_laws.specs.CommitMade.{rewrites_of_change}
-use Rattle.commit_laws.specs.CommitOfPlan.{CommitPlan, change_planned, commit_of, image_planned, IsCommitPlan, CommitsPlan}
+use Rattle.commit_laws.specs.CommitOfPlan.{CommitPlan, change_planned, has_inode_then, commit_of, image_planned, IsCommitPlan, CommitsPlan}
 use Rattle.commit_laws.specs.KnownKinds.{NumbersChildren}
 use Rattle.commit_laws.specs.KeptShown.{KeepsSeen}
 use Rattle.commit_laws.specs.NumbersGiven.{node_leaves, NumbersAreThose}
@@ -52,7 +52,7 @@ use Rattle.commit_laws.proofs.CommitMade.{made_from, changes_make_commits}
 use Rattle.commit_laws.proofs.CommitOfPlan.{no_pointers, plans_make_commits}
 use Rattle.commit_laws.proofs.KnownDirectories.{child_known}
 use Rattle.commit_laws.proofs.NumbersGiven.{kept_in, given_numbers_are_those}
-use Rattle.commit_laws.proofs.SeatsOfPlan.{there_is_in, in_kept, after_had, seat_comes, number_at}
+use Rattle.commit_laws.proofs.SeatsOfPlan.{there_is_in, in_kept, after_had, seat_comes, number_at, stays_held, enters_held}
 use Rattle.commit_laws.proofs.Shown.{found_is_in, length_in_blocks}
 
 module _ (num : Numbering) (concerned : List ℕ) (old new : TreeState) (image : SeenInodes) (plan : CommitPlan) (grant : GrantedNumbers)
@@ -205,12 +205,12 @@ module _ (num : Numbering) (concerned : List ℕ) (old new : TreeState) (image :
           ∙ ap is_directory_kind (is.to.between.kinds begun.node ∙ sym kind ∙ file)))
 
   -- the size that a file gets
-  size_is : (begun : Begun) → IsPlain begun → begun.kind ≡ File → size_given change.changes begun ≡ length (bytes_of new begun.node)
-  size_is begun plain file = by (item_with file_node begun.node plan.files) refl
+  size_is : (begun : Begun) → IsPlain begun → has_inode_then plan begun.node ≡ true → begun.kind ≡ File → size_given change.changes begun ≡ length (bytes_of new begun.node)
+  size_is begun plain held file = by (item_with file_node begun.node plan.files) refl
     where
       by : (o : Option FileChange) → item_with file_node begun.node plan.files ≡ o
           → option_map_or (λ (one : FileChange). one.size) o begun.base.size ≡ length (bytes_of new begun.node)
-      by None e = plain.size file ∙ ap length (sym (full.sizes.others begun.node e))
+      by None e = plain.size file ∙ ap length (sym (full.sizes.others begun.node held e))
       by (Some one) e =
           let here = eqb-true (file_node one) begun.node (found_passes (λ item. nat_eq (file_node item) begun.node) plan.files one e) in
           full.sizes.changed one (found_is_in (λ item. nat_eq (file_node item) begun.node) plan.files one e) ∙ ap (λ n. length (bytes_of new n)) here
@@ -251,13 +251,13 @@ module _ (num : Numbering) (concerned : List ℕ) (old new : TreeState) (image :
 
   -- so the plan leads a node to the new tree
   leads_to : (begun : Begun) (i : ℕ) → commit.after begun.node ≡ Some i → is_among concerned begun.node ≡ true → begun.kind ≡ kind_of old begun.node
-      → IsPlain begun
+      → IsPlain begun → has_inode_then plan begun.node ≡ true
       → LeadNode old new commit.after (seen_before commit image begun.node) change.changes begun
-  leads_to begun i has among kind plain = record {
+  leads_to begun i has among kind plain held = record {
     nets = made.leads;
     links = full.room.links begun.node;
     blocks = blocks_fit begun i has among kind plain begun.kind refl;
-    size = size_is begun plain;
+    size = size_is begun plain held;
     no_net = no_net begun kind;
     no_slots = plain.slots;
   }
@@ -269,19 +269,20 @@ module _ (num : Numbering) (concerned : List ℕ) (old new : TreeState) (image :
     pub begins : seated change.changes begun ≡ seat
     pub number : commit.after begun.node ≡ Some inode
     pub among : is_among concerned begun.node ≡ true
+    pub held : has_inode_then plan begun.node ≡ true
     pub built : IsBuiltAt commit change grant old new image inode m begun
 
   pub seat_is : (m : ℕ) (seat : Seated) → slice_get change.seats m ≡ Some seat → IsSeatOf m seat
   seat_is m seat at = elim (seat_comes num concerned old new image plan grant is seat (there_is_in change.seats m seat at)) [
     | inl (entry, stay, same) ↦
-        let there = (kept_in (λ e. not (leaves plan.leave e)) plan.old entry stay).0 in
-        whole (begun_old entry) same (is.from.own entry there) (old_begins entry there) (old_plain entry there)
-    | inr (one, enter, same) ↦ whole (begun_entering one) same (is.from.entering one enter) (entering_begins one enter) (entering_plain one enter)
+        let kept = kept_in (λ e. not (leaves plan.leave e)) plan.old entry stay in
+        whole (begun_old entry) same (is.from.own entry kept.0) (stays_held plan entry kept.0 kept.1) (old_begins entry kept.0) (old_plain entry kept.0)
+    | inr (one, enter, same) ↦ whole (begun_entering one) same (is.from.entering one enter) (enters_held plan one enter) (entering_begins one enter) (entering_plain one enter)
   ]
     where
-      whole : (begun : Begun) → seated change.changes begun ≡ seat → is_among concerned begun.node ≡ true
+      whole : (begun : Begun) → seated change.changes begun ≡ seat → is_among concerned begun.node ≡ true → has_inode_then plan begun.node ≡ true
           → BeginsWith old (seen_before commit image begun.node) begun → IsPlain begun → IsSeatOf m seat
-      whole begun same among begins plain =
+      whole begun same among held begins plain =
           let number = number_at num concerned old new image plan grant is m seat at in
           let node : seat.node ≡ begun.node = ap (λ (s : Seated). s.node) (sym same) ∙ planned_node change.changes begun begun.kind in
           let has : commit.after begun.node ≡ Some number.0 = ap commit.after (sym node) ∙ number.2 in
@@ -291,11 +292,12 @@ module _ (num : Numbering) (concerned : List ℕ) (old new : TreeState) (image :
             begins = same;
             number = has;
             among = among;
+            held = held;
             built = record {
               seat = at ∙ ap Some (sym same);
               inode = number.1;
               begins = begins;
-              leads = leads_to begun number.0 has among begins.kind plain;
+              leads = leads_to begun number.0 has among begins.kind plain held;
               numbers = children_numbered begun.node;
             };
           }

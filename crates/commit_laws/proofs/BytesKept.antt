@@ -219,7 +219,7 @@ module _ (num : Numbering) (concerned : List ℕ) (old new : TreeState) (image :
                     (λ none. some (ap (λ (s : Seen). s.blocks n) seen_j ∙ none)) in
                     let covered = well.covers in
                     let first = blocks_cover n low in
-                    true_not_false (sym (clean.ends own n node.of.among (omega (arith, covered, first, size_j)) behind) ∙ none)
+                    true_not_false (sym (clean.ends own n node.of.among node.of.held (omega (arith, covered, first, size_j)) behind) ∙ none)
 
         of_file : kind_of old own ≡ File → LeavesNone (file_rewrite (has_page plan.files own) seen (bytes_of new own)) (blocks_filled (bytes_of new own))
         of_file file = record {

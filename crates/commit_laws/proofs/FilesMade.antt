@@ -157,7 +157,7 @@ module _ (num : Numbering) (concerned : List ℕ) (old new : TreeState) (image :
       → slice_index_or after.blocks n [] ≡ bytes_in_block n (bytes_of new begun.node)
   untouched_block n low none =
       content_is num concerned old new image plan grant store parts is one there_one node n low ∙ ap (read_block (store_planned store plan grant)) stays
-      ∙ by (num begun.node) refl ∙ sym (blocks.untouched begun.node n node.of.among (ap is_some none))
+      ∙ by (num begun.node) refl ∙ sym (blocks.untouched begun.node n node.of.among node.of.held (ap is_some none))
     where
       stays : (next.seen i).blocks n ≡ (seen_before commit image begun.node).blocks n
       stays =

@@ -1,5 +1,5 @@
 -- The nodes that a plan builds: each stands once, and is built with its number.
-use Rattle.std.proofs.Common.{◌≡◌, ℕ, zero, suc, ◌+◌, ◌<◌, Bool, true, false, cond, not, ◌||◌, List, [], ◌∷◌, ◌++◌, length, get_or, map, filter, Option, Some, None, option_map, is_some, inl, inr, refl, sym, ap, subst, ◌∙◌, arith, nat_eq, Contains}
+use Rattle.std.proofs.Common.{◌≡◌, ℕ, zero, suc, ◌+◌, ◌<◌, Bool, true, false, cond, not, ◌&&◌, ◌||◌, List, [], ◌∷◌, ◌++◌, length, get_or, map, filter, Option, Some, None, option_map, is_some, inl, inr, refl, sym, ap, subst, ◌∙◌, arith, nat_eq, Contains}
 use Rattle.std.specs.Prelude.{slice_get, ◌⊎◌}
 use Rattle.std.specs.Option.{unwrap_or}
 use borrow.Author.Tests.{eqb-true}
@@ -31,7 +31,7 @@ use Rattle.disk_change.specs.declared.enter.Enter.{Enter}
 use Rattle.disk_nodes.specs.declared.old.OldEntry.{OldEntry}
 use Rattle.disk_change.proofs.NumbersGiven.{first_in, further_in, planned_node}
 use Rattle.commit_laws.specs.CommitMade.{StandOnce, inodes_built, seated_nodes}
-use Rattle.commit_laws.specs.CommitOfPlan.{CommitPlan, change_planned, numbers_planned, commit_of, IsCommitPlan}
+use Rattle.commit_laws.specs.CommitOfPlan.{CommitPlan, change_planned, has_inode_then, numbers_planned, commit_of, IsCommitPlan}
 use Rattle.commit_laws.specs.NumbersGiven.{node_leaves, NumbersAreThose}
 use Rattle.commit_laws.proofs.CommitMade.{map_there, some_there, length_built}
 use Rattle.commit_laws.proofs.NumbersGiven.{kept_in, given_numbers_are_those}
@@ -77,6 +77,18 @@ among_is_in (m ∷ numbers) n t = by (nat_eq m n) refl t (among_is_in numbers n)
     by : (b : Bool) → nat_eq m n ≡ b → (b || is_among numbers n) ≡ true → (is_among numbers n ≡ true → Contains numbers n) → Contains (m ∷ numbers) n
     by true e t later = subst (λ k. Contains (m ∷ numbers) k) (eqb-true m n e) (first_in m numbers)
     by false e t later = further_in m n numbers (later t)
+
+-- a node that stays has an inode after the commit of a plan, and so has one that enters
+pub stays_held : (plan : CommitPlan) (entry : OldEntry) → Contains plan.old entry → not (leaves plan.leave entry) ≡ true
+    → has_inode_then plan entry.node.0 ≡ true
+stays_held plan entry there stays =
+    let among = in_is_among (map entry_node plan.old) entry.node.0 (in_mapped entry_node plan.old entry there) in
+    λ j. (among j && stays j) || is_among (map enter_node plan.enter) entry.node.0
+
+pub enters_held : (plan : CommitPlan) (one : Enter) → Contains plan.enter one → has_inode_then plan one.node.0 ≡ true
+enters_held plan one there =
+    let stays = is_among (map entry_node plan.old) one.node.0 && not (node_leaves plan.leave one.node.0) in
+    ap (λ b. stays || b) (in_is_among (map enter_node plan.enter) one.node.0 (in_mapped enter_node plan.enter one there)) ∙ or_true stays
 
 -- the numbers of items that ascend stand once
 pub ascending_once : {X : Type 0} (key : X → ℕ) (xs : List X) → AscendBy key xs → StandOnce (map key xs)

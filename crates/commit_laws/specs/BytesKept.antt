@@ -13,16 +13,16 @@ use Rattle.space_map.specs.Space.{GrantedNumbers}
 use Rattle.disk_change.specs.AllBuilt.{after_commit}
 use Rattle.disk_change.specs.Directory.{is_among}
 use Rattle.disk_nodes.specs.declared.old.OldEntry.{OldEntry}
-use Rattle.commit_laws.specs.CommitOfPlan.{CommitPlan, change_planned}
+use Rattle.commit_laws.specs.CommitOfPlan.{CommitPlan, change_planned, has_inode_then}
 use Rattle.commit_laws.specs.PartsMade.{StandInStore, IsPlanOverParts}
 use Rattle.commit_laws.specs.PartsStand.{HasContents, part_next}
 use Rattle.commit_laws.specs.PartsTurned.{LieInData}
 use Rattle.commit_laws.specs.Rewritten.{HasNoneBehind, has_page}
 
--- A plan cuts files off at their ends: where a block had bytes of a file and lies behind its new end, a change touches it.
+-- A plan cuts files off at their ends: where a block had bytes of a file that then has an inode, and lies behind its new end, a change touches it.
 abbrev pub CutsOffEnds : List ℕ → TreeState → TreeState → CommitPlan → Type 0
-CutsOffEnds concerned old new plan = (node n : ℕ) → is_among concerned node ≡ true → BLOCK_BYTES * n < length (bytes_of old node)
-    → length (bytes_of new node) ≤ BLOCK_BYTES * n → has_page plan.files node n ≡ true
+CutsOffEnds concerned old new plan = (node n : ℕ) → is_among concerned node ≡ true → has_inode_then plan node ≡ true
+    → BLOCK_BYTES * n < length (bytes_of old node) → length (bytes_of new node) ≤ BLOCK_BYTES * n → has_page plan.files node n ≡ true
 
 -- The parts that an image of a layout shows break no rule on the bytes of one inode.
 pub record AreGoodParts (layout : Layout) (image : SeenInodes) (parts : ℕ → Part) : Type 0 where

@@ -1,5 +1,5 @@
 -- The commit that a plan makes with a grant, and that it is a commit.
-use Rattle.std.specs.Prelude.{◌≡◌, ℕ, true, false, List, map, Some, Contains}
+use Rattle.std.specs.Prelude.{◌≡◌, ℕ, ◌&&◌, ◌||◌, not, Bool, true, false, List, map, Some, Contains}
 use Rattle.sfs_base.specs.declared.numbers.NodeId.{NodeId}
 use Rattle.sfs_image.specs.Seen.{SeenInodes}
 use Rattle.tree_laws.specs.Sound.{IsSound}
@@ -17,6 +17,7 @@ use Rattle.space_map.specs.Space.{GrantedNumbers}
 use Rattle.disk_change.specs.Directory.{is_among}
 use Rattle.keyed_list.specs.Ascending.{AscendBy}
 use Rattle.disk_change.specs.Nodes.{net_node, enter_node}
+use Rattle.disk_nodes.specs.Nodes.{entry_node}
 use Rattle.disk_change.specs.Planned.{Planned, planned}
 use Rattle.disk_change.specs.Seated.{net_of_node}
 use Rattle.disk_change.specs.declared.directory_net.DirectoryNet.{DirectoryNet}
@@ -40,6 +41,10 @@ pub record CommitPlan : Type 0 where
 -- what a plan changes
 abbrev pub change_planned : CommitPlan → Planned
 change_planned plan = planned plan.old plan.nets plan.files plan.enter plan.leave
+
+-- whether a node of a plan has an inode after its commit: it has one before and does not leave, or it enters
+abbrev pub has_inode_then : CommitPlan → ℕ → Bool
+has_inode_then plan node = (is_among (map entry_node plan.old) node && not (node_leaves plan.leave node)) || is_among (map enter_node plan.enter) node
 
 -- the numbers after the commit of a plan, where a grant has these inodes
 abbrev pub numbers_planned : Numbering → CommitPlan → List ℕ → Numbering

@@ -11,7 +11,7 @@ use Rattle.space_map.specs.Space.{GrantedNumbers}
 use Rattle.disk_change.specs.AllBuilt.{nodes_with_grant, entry_after}
 use Rattle.disk_change.specs.Built.{Built}
 use Rattle.disk_change.specs.Directory.{is_among}
-use Rattle.commit_laws.specs.CommitOfPlan.{CommitPlan, change_planned, image_planned}
+use Rattle.commit_laws.specs.CommitOfPlan.{CommitPlan, change_planned, has_inode_then, image_planned}
 use Rattle.commit_laws.specs.PartsMade.{part_made, IsPlanOverParts}
 use Rattle.commit_laws.specs.Rewritten.{has_page, bytes_in_block, HasPages}
 
@@ -28,12 +28,12 @@ pub record ShowTheSame (seen other : Seen) : Type 0 where
 abbrev pub HasBytesInBlocks : Part → List ℕ → Type 0
 HasBytesInBlocks part bytes = (n : ℕ) → n < FILE_BLOCKS → slice_index_or part.blocks n [] ≡ bytes_in_block n bytes
 
--- A plan says what the blocks of files have: the parts before have the old bytes, each page has the new ones, a block without a page keeps its
--- bytes, and no file is longer than one may be.
+-- A plan says what the blocks of files have: the parts before have the old bytes, each page has the new ones, a block without a page
+-- keeps its bytes where the file then has an inode, and no file is longer than one may be.
 pub record HasFileBlocks (num : Numbering) (concerned : List ℕ) (old new : TreeState) (plan : CommitPlan) (parts : ℕ → Part) : Type 0 where
   pub before : (node i : ℕ) → is_among concerned node ≡ true → num node ≡ Some i → kind_of old node ≡ File → HasBytesInBlocks (parts i) (bytes_of old node)
   pub pages : HasPages new plan
-  pub untouched : (node n : ℕ) → is_among concerned node ≡ true → has_page plan.files node n ≡ false
+  pub untouched : (node n : ℕ) → is_among concerned node ≡ true → has_inode_then plan node ≡ true → has_page plan.files node n ≡ false
       → bytes_in_block n (bytes_of new node) ≡ bytes_in_block n (bytes_of old node)
   pub short : (node : ℕ) → length (bytes_of new node) ≤ BLOCK_BYTES * FILE_BLOCKS
 

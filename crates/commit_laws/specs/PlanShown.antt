@@ -1,5 +1,5 @@
 -- That what a plan builds is what the image that its commit makes shows, so that the next plan can begin with it.
-use Rattle.std.specs.Prelude.{◌≡◌, ℕ, ◌<◌, ◌^◌, List, [], length, None, Some, Contains}
+use Rattle.std.specs.Prelude.{◌≡◌, ℕ, ◌<◌, ◌^◌, true, List, [], length, None, Some, Contains}
 use Rattle.sfs_image.specs.Seen.{SeenInodes}
 use Rattle.tree_laws.specs.Tree.{TreeState, bytes_of, links_of}
 use Rattle.image_laws.specs.Renamed.{Numbering}
@@ -12,15 +12,15 @@ use Rattle.disk_change.specs.Nodes.{file_node}
 use Rattle.disk_change.specs.declared.enter.Enter.{Enter}
 use Rattle.disk_change.specs.declared.files.FileChange.{FileChange}
 use Rattle.disk_nodes.specs.declared.old.OldEntry.{OldEntry}
-use Rattle.commit_laws.specs.CommitOfPlan.{CommitPlan, change_planned, numbers_planned, image_planned, IsSoundPlan}
+use Rattle.commit_laws.specs.CommitOfPlan.{CommitPlan, change_planned, has_inode_then, numbers_planned, image_planned, IsSoundPlan}
 use Rattle.commit_laws.specs.KeptShown.{KeepsSeen}
 use Rattle.commit_laws.specs.Whole.{ShowsInode}
 
--- A plan has the sizes of files: a file that it changes has as many bytes as the change says, any other keeps its bytes, and one that
--- enters had none.
+-- A plan has the sizes of files: a file that it changes has as many bytes as the change says, any other that then has an inode keeps its
+-- bytes, and one that enters had none.
 pub record HasFileSizes (old new : TreeState) (plan : CommitPlan) : Type 0 where
   pub changed : (one : FileChange) → Contains plan.files one → one.size ≡ length (bytes_of new one.node.0)
-  pub others : (node : ℕ) → item_with file_node node plan.files ≡ None → bytes_of new node ≡ bytes_of old node
+  pub others : (node : ℕ) → has_inode_then plan node ≡ true → item_with file_node node plan.files ≡ None → bytes_of new node ≡ bytes_of old node
   pub entering : (one : Enter) → Contains plan.enter one → bytes_of old one.node.0 ≡ []
 
 -- Records have room for the link counts of a tree, and no directory of an image has more blocks than one may have.

@@ -7,7 +7,7 @@ ghost use Rattle.sfs_image.specs.Inode.{pointers_bytes};
 ghost use Rattle.sfs_image.specs.SlotBlock.{slots_bytes};
 ghost use Rattle.keyed_list.specs.Ascending.{item_with};
 ghost use Rattle.disk_change.specs.Pages.{page_block};
-ghost use Rattle.disk_change.specs.Fresh.{zero_bytes, content_of, data_written, indirect_block_written as written_by_fate, table_at, table_of_place, fresh_written};
+ghost use Rattle.disk_change.specs.Fresh.{zero_bytes, content_of, data_written, table_at, table_of_place, fresh_written};
 
 use crate::kinds::DIRECTORY;
 use crate::node_built::NodeBuilt;
@@ -45,7 +45,33 @@ fn push_tables(fresh: &mut Vec<TxBlock>, built: &NodeBuilt) -> Result<(), NoMemo
     ensures { OnOk result (fresh.new.items ≡ fresh.old.items ++ filter_map (table_of_place built.now) (range_with_len 0 16)) }
 {
     for k in 0..TABLES {
-        push_block(fresh, table_block(built, k))?;
+        push_table(fresh, built, k)?;
+    }
+    Ok(())
+}
+
+// Puts the indirect block of a place behind others, where it is written. Its fate is asked first, so that no
+// array of a block is made where none is written.
+fn push_table(fresh: &mut Vec<TxBlock>, built: &NodeBuilt, k: usize) -> Result<(), NoMemory>
+    requires { k < 16 }
+    ensures { OnOk result (fresh.new.items ≡ fresh.old.items ++ option_to_list (table_of_place built.now k)) }
+{
+    match fate_at(built, k) {
+        TableFate::Stays => Ok(()),
+        TableFate::Goes => Ok(()),
+        TableFate::IsWritten => {
+            push_written(fresh, indirect_at(&built.meta, k), table_at_place(built, k))
+        }
+    }
+}
+
+// Puts an indirect block that is written behind others, where its own pointer is this.
+fn push_written(fresh: &mut Vec<TxBlock>, block: u32, table: Option<&Table>) -> Result<(), NoMemory>
+    ensures { OnOk result (fresh.new.items ≡ fresh.old.items ++ option_to_list (table_at block (option_copied table.entry))) }
+{
+    if block != 0 {
+        let bytes = table_content(table);
+        fresh.push(TxBlock { block, bytes })?;
     }
     Ok(())
 }
@@ -115,18 +141,6 @@ fn page_content(pages: &PageList, n: u32) -> [u8; 4096]
     }
 }
 
-// The fresh block of an indirect one, where it is written.
-fn table_block(built: &NodeBuilt, k: usize) -> Option<TxBlock>
-    requires { k < 16 }
-    ensures { result ≡ table_of_place built.now k }
-{
-    written(
-        fate_at(built, k),
-        indirect_at(&built.meta, k),
-        table_at_place(built, k),
-    )
-}
-
 // The pointer of an inode's indirect block.
 fn indirect_at(inode: &Inode, k: usize) -> u32
     requires { k < 16 }
@@ -149,28 +163,6 @@ fn table_at_place(built: &NodeBuilt, k: usize) -> Option<&Table>
     ensures { option_copied result ≡ find (λ t. t.place == k) built.now.tables }
 {
     built.tables.find(k as u32)
-}
-
-// An indirect block by its fate, where its own pointer is this.
-fn written(fate: TableFate, block: u32, table: Option<&Table>) -> Option<TxBlock>
-    ensures { result ≡ written_by_fate fate block (option_copied table.entry) }
-{
-    match fate {
-        TableFate::Stays => None,
-        TableFate::Goes => None,
-        TableFate::IsWritten => written_at(block, table),
-    }
-}
-
-// An indirect block that is written, where its own pointer is this.
-fn written_at(block: u32, table: Option<&Table>) -> Option<TxBlock>
-    ensures { result ≡ table_at block (option_copied table.entry) }
-{
-    if block == 0 {
-        return None;
-    }
-    let bytes = table_content(table);
-    Some(TxBlock { block, bytes })
 }
 
 // The bytes of an indirect block.

@@ -27,7 +27,7 @@ use Rattle.disk_change.specs.declared.enter.Enter.{Enter}
 use Rattle.disk_change.specs.declared.files.FileChange.{FileChange}
 use Rattle.disk_nodes.specs.declared.old.OldEntry.{OldEntry}
 use Rattle.commit_laws.specs.BytesKept.{CutsOffEnds, IsCleanPlan}
-use Rattle.commit_laws.specs.CommitOfPlan.{CommitPlan, change_planned, numbers_planned, ServesPlan}
+use Rattle.commit_laws.specs.CommitOfPlan.{CommitPlan, change_planned, has_inode_then, numbers_planned, ServesPlan}
 use Rattle.commit_laws.specs.NumbersGiven.{node_leaves}
 use Rattle.commit_laws.specs.PartsMade.{IsPlanOverParts}
 use Rattle.commit_laws.specs.Rewritten.{has_page, bytes_in_block, HasPages}
@@ -56,13 +56,14 @@ pub record HasMoves (new : TreeState) (inodes after : ℕ → Bool) (plan : Comm
   pub all_entering : (node : ℕ) → inodes node ≡ false → after node ≡ true → (one : Enter) × Contains plan.enter one × (one.node.0 ≡ node)
   pub leaving : (node : ℕ) → (node_leaves plan.leave node ≡ true) ↔ ((inodes node ≡ true) × (after node ≡ false))
 
--- A plan has what becomes of files: the sizes and the blocks that changes touch, of which those behind an end are all that had bytes.
+-- A plan has what becomes of files: the sizes and the blocks that changes touch, of which those behind an end are all that had bytes. Of a file
+-- that has no inode afterwards it says nothing.
 pub record HasFiles (nodes : List ℕ) (old new : TreeState) (plan : CommitPlan) : Type 0 where
   pub sizes : (one : FileChange) → Contains plan.files one → one.size ≡ length (bytes_of new one.node.0)
-  pub others : (node : ℕ) → item_with file_node node plan.files ≡ None → bytes_of new node ≡ bytes_of old node
+  pub others : (node : ℕ) → has_inode_then plan node ≡ true → item_with file_node node plan.files ≡ None → bytes_of new node ≡ bytes_of old node
   pub ascend : (one : FileChange) → Contains plan.files one → AscendBy page_block one.pages.items
   pub pages : HasPages new plan
-  pub untouched : (node n : ℕ) → is_among nodes node ≡ true → has_page plan.files node n ≡ false
+  pub untouched : (node n : ℕ) → is_among nodes node ≡ true → has_inode_then plan node ≡ true → has_page plan.files node n ≡ false
       → bytes_in_block n (bytes_of new node) ≡ bytes_in_block n (bytes_of old node)
   pub ends : CutsOffEnds nodes old new plan
   pub short : (node : ℕ) → length (bytes_of new node) ≤ BLOCK_BYTES * FILE_BLOCKS

@@ -1,6 +1,6 @@
 -- The nodes that are picked by the facts are those that the rule of an fsync moves.
-use Rattle.std.proofs.Common.{◌≡◌, ℕ, ◌+◌, ◌<◌, Bool, true, false, cond, List, [], ◌∷◌, length, map, filter, get_or, inl, inr, ◌⊎◌, max, refl, sym, ap, subst, ◌∙◌, arith, nat_eq, Option, Some, None}
-use Rattle.std.specs.Prelude.{All, AllPairs, not, ◌&&◌, ◌||◌, is_some, is_none}
+use Rattle.std.proofs.Common.{◌≡◌, ℕ, ◌+◌, ◌<◌, Bool, true, false, cond, List, [], ◌∷◌, length, map, filter, get_or, inl, inr, ◌⊎◌, max, refl, sym, ap, subst, ◌∙◌, arith, nat_eq}
+use Rattle.std.specs.Prelude.{All, AllPairs, not, ◌&&◌, ◌||◌}
 use Rattle.std.specs.Option.{unwrap_or}
 use Rattle.std.specs.List.Sorted.{IsStrictlyIncreasing}
 use Rattle.std.specs.Ordering.{nat_cmp}
@@ -11,12 +11,12 @@ use Rattle.std.proofs.lemmas.List.Kept.{AllPairs-filter}
 use Rattle.std.proofs.lemmas.List.Elements.{All-map}
 use borrow.Author.Tests.{eqb-true}
 use Rattle.sfs_base.proofs.BasicNumbers.{same_number}
+use Rattle.sfs_base.proofs.BasicTruth.{not_false}
 use Rattle.sfs_base.specs.declared.numbers.Kind.TheVariants.{Directory}
 use Rattle.sfs_base.specs.declared.numbers.NodeId.{NodeId}
 use Rattle.sfs_base.specs.declared.numbers.Stamp.{Stamp}
 use Rattle.sfs_base.specs.Listed.{is_listed}
 use Rattle.tree_laws.specs.NameRow.{node_number}
-use Rattle.mem_files.specs.File.{File}
 use Rattle.look_laws.specs.Look.{Look, Gathers, Touches}
 use Rattle.look_laws.specs.Made.{Found, Lifts, SeesReached, SeesDead, AreMoved}
 use Rattle.dep_closure.specs.declared.gathered.Gathered.{Gathered}
@@ -91,14 +91,6 @@ entered_numbers : (start : NodeId) (is_file : Bool) (facts : Facts) (nodes : Lis
 entered_numbers start is_file facts [] = refl
 entered_numbers start is_file facts (node ∷ nodes) = ap (λ l. node.0 ∷ l) (entered_numbers start is_file facts nodes)
 
-is_there : (file : Option File) → is_some file ≡ true → is_none file ≡ false
-is_there (Some file) e = refl
-is_there None e = absurd (cc)
-
-is_there_back : (file : Option File) → is_none file ≡ false → is_some file ≡ true
-is_there_back (Some file) e = refl
-is_there_back None e = absurd (cc)
-
 module _ (nodes : List NodeId) (up : IsStrictlyIncreasing (map node_number nodes)) (test : NodeId → Bool) where
   pairs_rise : AllPairs (λ first later. first.0 < later.0) (filter test nodes)
   pairs_rise = AllPairs-filter (λ first later. first.0 < later.0) test nodes (λ i j d less within. numbers_rise node_number nodes up i j d less within)
@@ -123,7 +115,7 @@ module _ (nodes : List NodeId) (up : IsStrictlyIncreasing (map node_number nodes
       let later = ap enter_node (get_or-map make (filter test nodes) j no_node d inside) ∙ own (get_or (filter test nodes) j no_node) in
       omega arith
 
-module _ (start : NodeId) (below : Stamp) (gathered : Gathered) (concern : Concern) (old : List OldEntry) (file : Option File) (facts : Facts)
+module _ (start : NodeId) (below : Stamp) (gathered : Gathered) (concern : Concern) (old : List OldEntry) (is_file : Bool) (facts : Facts)
     (are : IsConcernOf start below gathered concern) (known : AreFacts below gathered concern old facts) where
   abbrev look : Look
   look = look_of start below gathered
@@ -132,7 +124,7 @@ module _ (start : NodeId) (below : Stamp) (gathered : Gathered) (concern : Conce
   lifted = cuts_after below gathered concern
 
   abbrev found : Found
-  found = found_by old concern.nets.items file
+  found = found_by old concern.nets.items is_file
 
   -- the members' cuts are lifted, and no others
   lifts : Lifts look lifted
@@ -149,30 +141,30 @@ module _ (start : NodeId) (below : Stamp) (gathered : Gathered) (concern : Conce
       by node false listed = inr refl
 
   -- a node gets an inode
-  gets_there : (node : ℕ) → is_listed (map node_number concern.nodes.items) node ≡ true → gets_inode start (is_some file) gathered facts node ≡ true
+  gets_there : (node : ℕ) → is_listed (map node_number concern.nodes.items) node ≡ true → gets_inode start is_file gathered facts node ≡ true
       → (look.inodes node ≡ false) × Touches look node × SeesReached look lifted found node
   gets_there node listed gets =
       let both =
       two (not (look.inodes node))
-      (contains nat_cmp facts.named node || (nat_eq node start.0 && is_some file && contains nat_cmp facts.unflushed node)) gets in (
+      (contains nat_cmp facts.named node || (nat_eq node start.0 && is_file && contains nat_cmp facts.unflushed node)) gets in (
         was_false (look.inodes node) both.0,
         (are.nodes.each node).0 listed,
-        elim (either (contains nat_cmp facts.named node) (nat_eq node start.0 && is_some file && contains nat_cmp facts.unflushed node) both.1) [
+        elim (either (contains nat_cmp facts.named node) (nat_eq node start.0 && is_file && contains nat_cmp facts.unflushed node) both.1) [
           | inl named ↦ inl (sym (known.named node listed) ∙ named)
           | inr own ↦
-              let all = three (nat_eq node start.0) (is_some file) (contains nat_cmp facts.unflushed node) own in
-              inr (eqb-true node start.0 all.0, is_there file all.1, (known.unflushed start below node).0 all.2)
+              let all = three (nat_eq node start.0) is_file (contains nat_cmp facts.unflushed node) own in
+              inr (eqb-true node start.0 all.0, ap not all.1, (known.unflushed start below node).0 all.2)
         ],
       )
 
   gets_back : (node : ℕ) → is_listed (map node_number concern.nodes.items) node ≡ true → look.inodes node ≡ false → SeesReached look lifted found node
-      → gets_inode start (is_some file) gathered facts node ≡ true
+      → gets_inode start is_file gathered facts node ≡ true
   gets_back node listed none reached =
-      ap (λ b. not b && (contains nat_cmp facts.named node || (nat_eq node start.0 && is_some file && contains nat_cmp facts.unflushed node))) none
+      ap (λ b. not b && (contains nat_cmp facts.named node || (nat_eq node start.0 && is_file && contains nat_cmp facts.unflushed node))) none
       ∙ elim reached [
-        | inl named ↦ ap (λ b. b || (nat_eq node start.0 && is_some file && contains nat_cmp facts.unflushed node)) (known.named node listed ∙ named)
-        | inr own ↦ or_late (contains nat_cmp facts.named node) (nat_eq node start.0 && is_some file && contains nat_cmp facts.unflushed node)
-            ((λ i. same own.0 i && is_there_back file own.1 i && (known.unflushed start below node).1 own.2 i))
+        | inl named ↦ ap (λ b. b || (nat_eq node start.0 && is_file && contains nat_cmp facts.unflushed node)) (known.named node listed ∙ named)
+        | inr own ↦ or_late (contains nat_cmp facts.named node) (nat_eq node start.0 && is_file && contains nat_cmp facts.unflushed node)
+            ((λ i. same own.0 i && not_false is_file own.1 i && (known.unflushed start below node).1 own.2 i))
       ]
     where
       same : node ≡ start.0 → nat_eq node start.0 ≡ true
@@ -216,15 +208,15 @@ module _ (start : NodeId) (below : Stamp) (gathered : Gathered) (concern : Conce
   -- what is picked by the facts moves
   module _ (enter : List Enter) (leave : List NodeId)
       (enter_is : enter
-      ≡ map (enter_by start (is_some file) facts) (filter (λ node. gets_inode start (is_some file) gathered facts node.0) concern.nodes.items))
+      ≡ map (enter_by start is_file facts) (filter (λ node. gets_inode start is_file gathered facts node.0) concern.nodes.items))
       (leave_is : leave ≡ filter (λ node. loses_inode gathered facts node.0) concern.nodes.items) where
     entering_is : (node : ℕ)
-        → is_listed (map enter_node enter) node ≡ (is_listed (map node_number concern.nodes.items) node && gets_inode start (is_some file) gathered facts node)
+        → is_listed (map enter_node enter) node ≡ (is_listed (map node_number concern.nodes.items) node && gets_inode start is_file gathered facts node)
     entering_is node =
         ap (λ l. is_listed (map enter_node l) node) enter_is
         ∙ ap (λ l. is_listed l node)
-        (entered_numbers start (is_some file) facts (filter (λ one. gets_inode start (is_some file) gathered facts one.0) concern.nodes.items))
-        ∙ listed_picked (gets_inode start (is_some file) gathered facts) concern.nodes.items node
+        (entered_numbers start is_file facts (filter (λ one. gets_inode start is_file gathered facts one.0) concern.nodes.items))
+        ∙ listed_picked (gets_inode start is_file gathered facts) concern.nodes.items node
 
     leaving_is : (node : ℕ) → is_listed (map node_number leave) node ≡ (is_listed (map node_number concern.nodes.items) node && loses_inode gathered facts node)
     leaving_is node = ap (λ l. is_listed (map node_number l) node) leave_is ∙ listed_picked (loses_inode gathered facts) concern.nodes.items node
@@ -233,7 +225,7 @@ module _ (start : NodeId) (below : Stamp) (gathered : Gathered) (concern : Conce
     moved = record {
       enters = λ node. (
         λ has. let both =
-            two (is_listed (map node_number concern.nodes.items) node) (gets_inode start (is_some file) gathered facts node) (sym (entering_is node) ∙ has) in
+            two (is_listed (map node_number concern.nodes.items) node) (gets_inode start is_file gathered facts node) (sym (entering_is node) ∙ has) in
             gets_there node both.0 both.1,
         λ (none, touches, reached). let listed = (are.nodes.each node).1 touches in entering_is node ∙ (λ i. listed i && gets_back node listed none reached i),
       );
@@ -244,19 +236,19 @@ module _ (start : NodeId) (below : Stamp) (gathered : Gathered) (concern : Conce
       );
     }
 
-    kinds : All (λ one. one.kind ≡ kind_entering start (is_some file) (spans_in gathered below concern.members.items) one.node.0) enter
-    kinds = subst (All (λ one. one.kind ≡ kind_entering start (is_some file) (spans_in gathered below concern.members.items) one.node.0)) (sym enter_is)
-        (All-map (λ one. one.kind ≡ kind_entering start (is_some file) (spans_in gathered below concern.members.items) one.node.0)
-        (enter_by start (is_some file) facts) (filter (λ node. gets_inode start (is_some file) gathered facts node.0) concern.nodes.items)
-        (λ k d within. let node = get_or (filter (λ one. gets_inode start (is_some file) gathered facts one.0) concern.nodes.items) k d in
-        ap (λ told. cond (nat_eq node.0 start.0) (kind_of_own_node (is_some file)) (unwrap_or told Directory)) (known.kinds node.0)))
+    kinds : All (λ one. one.kind ≡ kind_entering start is_file (spans_in gathered below concern.members.items) one.node.0) enter
+    kinds = subst (All (λ one. one.kind ≡ kind_entering start is_file (spans_in gathered below concern.members.items) one.node.0)) (sym enter_is)
+        (All-map (λ one. one.kind ≡ kind_entering start is_file (spans_in gathered below concern.members.items) one.node.0)
+        (enter_by start is_file facts) (filter (λ node. gets_inode start is_file gathered facts node.0) concern.nodes.items)
+        (λ k d within. let node = get_or (filter (λ one. gets_inode start is_file gathered facts one.0) concern.nodes.items) k d in
+        ap (λ told. cond (nat_eq node.0 start.0) (kind_of_own_node is_file) (unwrap_or told Directory)) (known.kinds node.0)))
 
-    pub moves : MovesInodes start below gathered concern old file enter leave
+    pub moves : MovesInodes start below gathered concern old is_file enter leave
     moves = record {
       enter_ascends =
           subst (AscendBy enter_node) (sym enter_is)
-          (picked_ascend concern.nodes.items are.nodes.ascending (λ node. gets_inode start (is_some file) gathered facts node.0)
-          (enter_by start (is_some file) facts) (λ node. refl));
+          (picked_ascend concern.nodes.items are.nodes.ascending (λ node. gets_inode start is_file gathered facts node.0)
+          (enter_by start is_file facts) (λ node. refl));
       leave_ascends =
           subst (λ (l : List NodeId). IsStrictlyIncreasing (map node_number l)) (sym leave_is)
           (picked_increase concern.nodes.items are.nodes.ascending (λ node. loses_inode gathered facts node.0));

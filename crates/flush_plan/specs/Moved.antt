@@ -1,5 +1,5 @@
 -- Which of the touched nodes get an inode, and which lose theirs.
-use Rattle.std.specs.Prelude.{◌≡◌, ◌↔◌, ℕ, ◌==◌, ◌&&◌, ◌||◌, not, Bool, true, List, Option, is_none, map, if◌then◌else◌}
+use Rattle.std.specs.Prelude.{◌≡◌, ◌↔◌, ℕ, ◌==◌, ◌&&◌, ◌||◌, not, Bool, true, List, map, if◌then◌else◌}
 use Rattle.std.specs.BTreeMap.{get}
 use Rattle.std.specs.BTreeSet.{contains}
 use Rattle.std.specs.Option.{unwrap_or}
@@ -13,7 +13,6 @@ use Rattle.tree_laws.specs.NameRow.{node_number}
 use Rattle.tree_laws.specs.declared.changes.Change.{Change}
 use Rattle.look_laws.specs.Look.{SeesNaming}
 use Rattle.look_laws.specs.Made.{Found}
-use Rattle.mem_files.specs.File as mem
 use Rattle.dep_closure.specs.declared.gathered.Gathered.{Gathered}
 use Rattle.dep_closure.specs.Gathered.{look_of, lifted_cut}
 use Rattle.disk_change.specs.declared.directory_net.DirectoryNet.{DirectoryNet}
@@ -29,10 +28,10 @@ abbrev pub cuts_after : Stamp → Gathered → Concern → ℕ → ℕ
 cuts_after below gathered concern = lifted_cut gathered.cuts.items (map node_number concern.members.items) below.0
 
 -- what is found of nodes: whether they are named at the new cuts, and whether the fsync's own node is a directory
-abbrev pub found_by : List OldEntry → List DirectoryNet → Option mem.File → Found
-found_by old nets file = record { named = is_named_after old nets; directory = is_none file }
+abbrev pub found_by : List OldEntry → List DirectoryNet → Bool → Found
+found_by old nets is_file = record { named = is_named_after old nets; directory = not is_file }
 
--- the kind of the fsync's own node, which is a file where it has bytes
+-- the kind of the fsync's own node, by whether it is a file
 abbrev pub kind_of_own_node : Bool → Kind
 kind_of_own_node is_file = if is_file then File else Directory
 

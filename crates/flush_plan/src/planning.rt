@@ -1,24 +1,25 @@
 // The plan of an fsync of any node.
-ghost use Rattle.std.specs.Prelude.{◌≡◌, IfOk};
-ghost use Rattle.std.specs.Option.{option_copied};
-ghost use Rattle.dep_closure.specs.Gathered.{IsOrderly, cut_in};
+ghost use Rattle.std.specs.Prelude.{◌≡◌, ◌||◌, map, IfOk};
+ghost use Rattle.sfs_base.specs.Listed.{is_listed};
+ghost use Rattle.tree_laws.specs.NameRow.{node_number};
+ghost use Rattle.dep_closure.specs.Gathered.{IsOrderly};
+ghost use Rattle.disk_change.specs.Nodes.{enter_node};
 ghost use Rattle.flush_plan.specs.Concerned.{IsConcernOf};
-ghost use Rattle.flush_plan.specs.Plan.{AreFileChanges, IsPlanOf, is_held};
+ghost use Rattle.flush_plan.specs.Plan.{IsPlanOf, files_written, is_written};
 
 use crate::concern::Concern;
 use crate::moved::{entering, facts_of, leaving};
 use crate::plans::FsyncPlan;
-use crate::touched::file_change;
 use dep_closure::Gathered;
-use disk_change::{DiskChange, EnterList, FileChangeList};
+use disk_change::{DiskChange, EnterList, FileChange, FileChangeList};
 use disk_nodes::OldDisk;
-use mem_files::FileBytes;
 use sfs_base::{NoMemory, NodeId, Stamp};
 use std::alloc::Global;
 
 /// What an fsync of `start` at the stamp `below` comes to: what it concerns by what was gathered, what the
-/// disk has of the concerned nodes, and the file's bytes and marks, where the node is a file, tell which
-/// nodes get and lose an inode and what the disk's change is. Only want of memory refuses it.
+/// disk has of the concerned nodes, whether the node is a file, and the change of its bytes from its cut on
+/// tell which nodes get and lose an inode and what the disk's change is. A file of which something later was
+/// flushed has no change, or one that is left out. Only want of memory refuses it.
 pub fn plan(
     alloc: Global,
     start: NodeId,
@@ -26,16 +27,18 @@ pub fn plan(
     logs: &Gathered,
     concern: Concern,
     old: OldDisk,
-    file: Option<&FileBytes>,
+    is_file: bool,
+    change: Option<FileChange>,
 ) -> Result<FsyncPlan, NoMemory>
     requires logs { IsOrderly logs.now }
     requires concern { IsConcernOf start below logs.now concern }
-    ensures { IfOk result (λ plan. IsPlanOf start below logs.now concern old.items (option_copied file.entry) plan) }
+    ensures { IfOk result (λ plan. IsPlanOf start below logs.now concern old.items is_file change plan) }
 {
     let facts = facts_of(alloc, below, logs, &concern, &old)?;
-    let enter = entering(alloc, start, file.is_some(), logs, &facts, &concern.nodes)?;
+    let enter = entering(alloc, start, is_file, logs, &facts, &concern.nodes)?;
     let leave = leaving(alloc, logs, &facts, &concern.nodes)?;
-    let files = file_changes(alloc, start, logs, &enter, file)?;
+    let written = writes_own_file(logs, &enter, start, below);
+    let files = file_changes(alloc, written, change)?;
     let change = DiskChange::new(alloc, old, concern.nets, files, &enter, &leave)?;
     Ok(FsyncPlan {
         members: concern.members,
@@ -45,31 +48,37 @@ pub fn plan(
     })
 }
 
-// The change of the fsync's own file, where it is one and has or gets an inode.
+// The change of the fsync's own file, where there is one and it is written.
 fn file_changes(
     alloc: Global,
-    start: NodeId,
-    logs: &Gathered,
-    enter: &EnterList,
-    file: Option<&FileBytes>,
+    written: bool,
+    change: Option<FileChange>,
 ) -> Result<FileChangeList, NoMemory>
-    requires { IsOrderly logs.now }
-    ensures { IfOk result (λ files. AreFileChanges start (cut_in logs.now.cuts.items start.0) (option_copied file.entry) (is_held logs.now enter.now.items start.0) files.items) }
+    ensures { IfOk result (λ files. files.items ≡ files_written written change) }
 {
     let mut files = FileChangeList::new(alloc);
-    if let Some(bytes) = file {
-        if has_or_gets_inode(logs, enter, start) {
+    if written {
+        if let Some(change) = change {
             files.reserve(1)?;
-            files.push(file_change(alloc, start, logs.cut(start), bytes)?);
+            files.push(change);
         }
     }
     Ok(files)
 }
 
+// Whether an fsync at a stamp writes of its own file.
+fn writes_own_file(logs: &Gathered, enter: &EnterList, node: NodeId, below: Stamp) -> bool
+    requires { IsOrderly logs.now }
+    ensures { result ≡ is_written logs.now enter.now.items node.0 below.0 }
+{
+    has_or_gets_inode(logs, enter, node) && logs.cut(node).0 <= below.0
+}
+
 // Whether a node has an inode or gets one.
 fn has_or_gets_inode(logs: &Gathered, enter: &EnterList, node: NodeId) -> bool
     requires { IsOrderly logs.now }
-    ensures { result ≡ is_held logs.now enter.now.items node.0 }
+    ensures { result
+        ≡ (is_listed (map node_number logs.now.inodes.items) node.0 || is_listed (map enter_node enter.now.items) node.0) }
 {
     logs.has_inode(node) || enter.find(node.0).is_some()
 }

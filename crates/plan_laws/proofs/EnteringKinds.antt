@@ -1,6 +1,6 @@
 -- The kind with which a node gets an inode is the one that it has in the tree at each cut.
 use Rattle.std.proofs.Common.{◌≡◌, ℕ, Bool, true, false, cond, List, [], ◌∷◌, map, reverse, filter, Option, Some, None, inl, inr, refl, sym, ap, subst, ◌∙◌, nat_eq}
-use Rattle.std.specs.Prelude.{◌⊎◌, ◌↔◌, option_map}
+use Rattle.std.specs.Prelude.{◌⊎◌, ◌↔◌, not, option_map}
 use Rattle.std.specs.List.{find}
 use Rattle.std.specs.Option.{unwrap_or}
 use Rattle.std.proofs.lemmas.List.{reverse-append, reverse-reverse}
@@ -75,7 +75,7 @@ module _ (first : TreeState) (history : List Entry) (cut : Cut) (inodes : ℕ �
     (are : (node : ℕ) → (is_listed (map node_number members) node ≡ true) ↔ Gathers (look_of start below gathered) node)
     (closed : (node : ℕ) → Gathers (look_of start below gathered) node
     → Closure first history every_entry cut inodes (record { node = start.0; stamp = below.0 }) node)
-    (own_kind : is_directory (tree_after first history) start.0 ≡ (cond is_file false true)) where
+    (own_kind : is_directory (tree_after first history) start.0 ≡ not is_file) where
   abbrev last : TreeState
   last = tree_after first history
 
@@ -123,7 +123,7 @@ module _ (first : TreeState) (history : List Entry) (cut : Cut) (inodes : ℕ �
       own : kind_of_own_node is_file ≡ kind_of last start.0
       own = of is_file own_kind
         where
-          of : (b : Bool) → is_directory last start.0 ≡ cond b false true → cond b File Directory ≡ kind_of last start.0
+          of : (b : Bool) → is_directory last start.0 ≡ not b → cond b File Directory ≡ kind_of last start.0
           of true e = sym (kind_of_file last start.0 e)
           of false e = sym (directory_kind last start.0 e)
 

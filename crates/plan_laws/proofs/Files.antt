@@ -14,7 +14,7 @@ use Rattle.tree_laws.specs.Laws.{IsSoundTree}
 use Rattle.tree_laws.specs.Tree.{TreeState, Node, bytes_of}
 use Rattle.tree_laws.proofs.FileHistories.{bytes_at-tree_after}
 use Rattle.image_laws.specs.Stands.{BLOCK_BYTES}
-use Rattle.commit_laws.specs.CommitOfPlan.{CommitPlan}
+use Rattle.commit_laws.specs.CommitOfPlan.{CommitPlan, has_inode_then}
 use Rattle.commit_laws.specs.Rewritten.{has_page, bytes_in_block}
 use Rattle.keyed_list.specs.Ascending.{AscendBy, item_with}
 use Rattle.disk_change.specs.Nodes.{file_node}
@@ -54,15 +54,15 @@ bytes_are_cut first history cut node is legal = by (get (tree_after first histor
         lacks some = some_is_no_none some e
 
 module _ (old new : TreeState) (nodes : List ℕ) (plan : CommitPlan) (short : HasShortFiles new) where
-  -- a plan without changes of files, where all bytes stay
-  pub no_file_leads : plan.files ≡ [] → ((node : ℕ) → bytes_of new node ≡ bytes_of old node) → HasFiles nodes old new plan
+  -- a plan without changes of files, where all bytes of files stay that then have an inode
+  pub no_file_leads : plan.files ≡ [] → ((node : ℕ) → has_inode_then plan node ≡ true → bytes_of new node ≡ bytes_of old node) → HasFiles nodes old new plan
   no_file_leads none same = record {
     sizes = λ one there. nothing one there;
-    others = λ node _. same node;
+    others = λ node held _. same node held;
     ascend = λ one there. nothing one there;
     pages = λ one there. nothing one there;
-    untouched = λ node n _ _. ap (bytes_in_block n) (same node);
-    ends = λ node n among had gone. absurd (not_less had (subst (λ l. length l ≤ BLOCK_BYTES * n) (same node) gone));
+    untouched = λ node n _ held _. ap (bytes_in_block n) (same node held);
+    ends = λ node n among held had gone. absurd (not_less had (subst (λ l. length l ≤ BLOCK_BYTES * n) (same node held) gone));
     short = short;
   }
     where
@@ -129,12 +129,12 @@ module _ (old new : TreeState) (nodes : List ℕ) (plan : CommitPlan) (short : H
       sizes =
           λ x there. subst (λ (c : FileChange). c.size ≡ length (bytes_of new c.node.0)) (only x there)
           (changes.size ∙ ap (λ n. length (bytes_of new n)) (sym own));
-      others = other_bytes;
+      others = λ node _ none. other_bytes node none;
       ascend = λ x there. subst (λ (c : FileChange). AscendBy page_block c.pages.items) (only x there) changes.ascend;
       pages =
           λ x there page on. subst (λ n. page.bytes ≡ bytes_in_block page.block (bytes_of new n)) (sym own ∙ ap (λ (c : FileChange). c.node.0) (only x there))
           (changes.pages page (subst (λ (c : FileChange). Contains c.pages.items page) (sym (only x there)) on));
-      untouched = λ node n _ none. still node n none;
-      ends = λ node n _ had gone. cut_off node n had gone;
+      untouched = λ node n _ _ none. still node n none;
+      ends = λ node n _ _ had gone. cut_off node n had gone;
       short = short;
     }

@@ -1,13 +1,13 @@
 -- What an fsync plans of what it has gathered leads from the tree at the cut to the tree at the cut that it raises.
-use Rattle.std.proofs.Common.{◌≡◌, ◌≢◌, ℕ, ◌*◌, ◌≤◌, Bool, true, false, cond, List, [], ◌∷◌, ◌++◌, length, map, take, Option, Some, None, inl, inr, refl, sym, ap, subst, ◌∙◌, arith, nat_eq, Contains}
-use Rattle.std.specs.Prelude.{◌⊎◌, ◌↔◌, ◌&&◌, ◌||◌, not, is_some, is_none}
+use Rattle.std.proofs.Common.{◌≡◌, ◌≢◌, ℕ, ◌*◌, ◌<◌, ◌≤◌, Bool, true, false, cond, List, [], ◌∷◌, ◌++◌, length, map, take, Option, Some, None, inl, inr, refl, sym, ap, subst, ◌∙◌, arith, nat_eq, Contains}
+use Rattle.std.specs.Prelude.{◌⊎◌, ◌↔◌, ◌&&◌, ◌||◌, not, max, nat_le}
 use Rattle.std.specs.FinMap.{FinMap, get}
-use Rattle.std.proofs.Math.Nat.{max-eq_right}
-use borrow.Author.Tests.{eqb-true}
+use Rattle.std.proofs.Math.Nat.{max-eq_left, max-eq_right}
+use borrow.Author.Tests.{eqb-true, leb-true, leb-false, le-leb}
 use Rattle.std.proofs.lemmas.Bool.{eqb-false}
 use Rattle.sfs_base.proofs.BasicNumbers.{le_itself}
 use Rattle.sfs_base.proofs.BasicOptions.{none_some}
-use Rattle.sfs_base.proofs.BasicTruth.{true_not_false, true_or_false}
+use Rattle.sfs_base.proofs.BasicTruth.{and_second, not_both, or_first, or_second, then_false, true_not_false, true_or_false}
 use Rattle.sfs_base.specs.declared.numbers.NodeId.{NodeId}
 use Rattle.sfs_base.specs.declared.numbers.Stamp.{Stamp}
 use Rattle.sfs_base.specs.Listed.{is_listed}
@@ -28,7 +28,6 @@ use Rattle.tree_laws.proofs.Readings.{directory_by_kind}
 use Rattle.tree_laws.proofs.RowFacts.{alive_named}
 use Rattle.image_laws.specs.Renamed.{Numbering}
 use Rattle.image_laws.specs.Stands.{BLOCK_BYTES}
-use Rattle.mem_files.specs.File.{File}
 use Rattle.cut_laws.specs.Closure.{every_entry, Flush, HasLiveNode, Closure, IsNamedIn, IsRaised, IsDead, AreInodesAfter, one_more, AreFlushed}
 use Rattle.cut_laws.specs.Cut.{Cut, cut_of, rows_at_cut, tree_at_cut}
 use Rattle.cut_laws.proofs.Along.{tree_at, tree_at-after, effect_at, change_in}
@@ -51,25 +50,29 @@ use Rattle.dep_closure.specs.Gathered.{look_of, cut_in, span_in}
 use Rattle.disk_change.specs.Nodes.{enter_node}
 use Rattle.disk_change.specs.declared.enter.Enter.{Enter}
 use Rattle.disk_nodes.specs.declared.old.OldEntry.{OldEntry}
-use Rattle.commit_laws.specs.CommitOfPlan.{CommitPlan}
-use Rattle.commit_laws.proofs.SeatsOfPlan.{in_mapped, in_is_among}
+use Rattle.disk_nodes.specs.Nodes.{entry_node}
+use Rattle.disk_change.specs.Directory.{is_among}
+use Rattle.disk_change.specs.declared.files.FileChange.{FileChange}
+use Rattle.commit_laws.specs.CommitOfPlan.{CommitPlan, has_inode_then}
+use Rattle.commit_laws.specs.NumbersGiven.{node_leaves}
+use Rattle.commit_laws.proofs.OwnInodes.{mapped_is_in}
+use Rattle.commit_laws.proofs.SeatsOfPlan.{in_mapped, in_is_among, among_is_in}
 use Rattle.flush_laws.specs.Planned.{HasNets, HasMoves, HasFiles, IsPlanAt}
 use Rattle.flush_plan.specs.declared.concern.Concern.{Concern}
 use Rattle.flush_plan.specs.declared.plans.FsyncPlan.{FsyncPlan}
 use Rattle.flush_plan.specs.Kinds.{spans_in}
 use Rattle.flush_plan.specs.Moved.{cuts_after, found_by, kind_entering}
 use Rattle.flush_plan.specs.Names.{is_named_after}
-use Rattle.flush_plan.specs.Plan.{is_held, AreFileChanges}
-use Rattle.flush_plan.specs.Touched.{IsFileChange}
+use Rattle.flush_plan.specs.Plan.{files_written, is_written}
 use Rattle.mark_laws.specs.Changed.{HasShortFiles, ChangesFile}
 use Rattle.mark_laws.proofs.Made.{marks_make_files}
 use Rattle.mark_laws.proofs.Short.{files_stay_short}
-use Rattle.plan_laws.specs.Laws.{PlansLeadToCuts, LiveFilesAreHeld}
-use Rattle.plan_laws.specs.Leads.{LeadsToCut}
-use Rattle.plan_laws.specs.Plans.{planned_flush, HasFileOf, PlansFsync, IsInTime}
+use Rattle.plan_laws.specs.Laws.{PlansLeadToCuts, LiveFilesAreWritten}
+use Rattle.plan_laws.specs.Leads.{but_root, commit_made_of, LeadsWith}
+use Rattle.plan_laws.specs.Plans.{planned_flush, ChangesByFile, HasFileOf, Sources, PlansFsync}
 use Rattle.plan_laws.proofs.EnteringKinds.{entering_kind}
 use Rattle.plan_laws.proofs.Files.{bytes_are_cut, no_file_leads, own_file_leads}
-use Rattle.plan_laws.proofs.Moves.{but_root, named_but_root, moved_but_root, inodes_then, then_none, gets_then, lost_then, sets, of_all, moves_are}
+use Rattle.plan_laws.proofs.Moves.{named_but_root, moved_but_root, inodes_then, then_none, gets_then, lost_then, sets, of_all, moves_are}
 use Rattle.plan_laws.proofs.GatheredSpans.{logged_span}
 use Rattle.plan_laws.proofs.Names.{named_by_nets}
 use Rattle.plan_laws.proofs.Nets.{each_net, nets_lead}
@@ -77,15 +80,47 @@ use Rattle.plan_laws.proofs.Raised.{raised_cut, is_raised}
 use Rattle.plan_laws.proofs.Sees.{SeesCommit, sees_enough}
 
 -- whether an fsync's own node is a directory is known by its file
-own_kind : (first : TreeState) (history : List Entry) (start : NodeId) (below : Stamp) (file : Option File) → HasFileOf first history start below file
-    → is_directory (tree_after first history) start.0 ≡ is_none file
-own_kind first history start below None directory = directory
-own_kind first history start below (Some file) is = is.0
+own_kind : (first : TreeState) (history : List Entry) (cut : Cut) (start : NodeId) (below : Stamp) (is_file : Bool) (change : Option FileChange)
+    → HasFileOf first history cut start below is_file change → is_directory (tree_after first history) start.0 ≡ not is_file
+own_kind first history cut start below false change is = is.0
+own_kind first history cut start below true None is = is.0
+own_kind first history cut start below true (Some change) is = is.0
+
+-- without a change of the own file none is written
+pub none_written : (written : Bool) → files_written written None ≡ []
+none_written true = refl
+none_written false = refl
+
+-- the own file is not written where it neither has nor gets an inode, or where its stamp is later
+not_written : (has gets : Bool) (own stamp : ℕ) → ((has || gets) && nat_le own stamp) ≡ false → ((has ≡ false) × (gets ≡ false)) ⊎ (stamp < own)
+not_written has gets own stamp none = elim (true_or_false (has || gets)) [
+  | inl one ↦ inr (leb-false own stamp (then_false (has || gets) (nat_le own stamp) none one))
+  | inr neither ↦ inl (or_first has gets neither, or_second has gets neither)
+]
 
 module _ (first : TreeState) (history : List Entry) (flushes : List Flush) (cut : Cut) (inodes : ℕ → Bool) (num : Numbering) (layout : Layout)
-    (store : ℕ → List ℕ) (parts : ℕ → Part) (entries : List OldEntry)
-    (start : NodeId) (below : Stamp) (gathered : Gathered) (concern : Concern) (old : List OldEntry) (file : Option File) (plan : FsyncPlan)
-    (is : PlansFsync first history flushes cut inodes num layout store parts entries start below gathered concern old file plan) where
+    (store : ℕ → List ℕ) (parts : ℕ → Part) (from : Sources) (is : PlansFsync first history flushes cut inodes num layout store parts from) where
+  abbrev entries : List OldEntry
+  entries = from.entries
+
+  abbrev start : NodeId
+  start = from.start
+
+  abbrev below : Stamp
+  below = from.below
+
+  abbrev gathered : Gathered
+  gathered = from.gathered
+
+  abbrev concern : Concern
+  concern = from.concern
+
+  abbrev old : List OldEntry
+  old = from.old
+
+  abbrev plan : FsyncPlan
+  plan = from.plan
+
   abbrev flush : Flush
   flush = planned_flush start below
 
@@ -111,7 +146,7 @@ module _ (first : TreeState) (history : List Entry) (flushes : List Flush) (cut 
   look = look_of start below gathered
 
   abbrev found : Found
-  found = found_by old concern.nets.items file
+  found = found_by old concern.nets.items from.is_file
 
   abbrev gets : ℕ → Bool
   gets = is_listed (map enter_node is.plans.enter)
@@ -185,7 +220,7 @@ module _ (first : TreeState) (history : List Entry) (flushes : List Flush) (cut 
       λ there. let apart : node ≢ 0 = λ same. root_unnamed (subst (IsNamedIn (rows_at_cut first history raised)) same there) in
           (named_but_root found node).1 (apart, (named_there node apart touches).1 there),
     );
-    directory = sym (own_kind first history start below file is.file_is);
+    directory = sym (own_kind first history cut start below from.is_file from.change is.file_is);
   }
 
   own_touches : Touches look start.0
@@ -233,7 +268,7 @@ module _ (first : TreeState) (history : List Entry) (flushes : List Flush) (cut 
       stored_before.sound stored_later.sound same_kinds
 
   abbrev commit : CommitPlan
-  commit = record { old = old; nets = concern.nets.items; files = is.plans.files; enter = is.plans.enter; leave = plan.leave.items }
+  commit = commit_made_of from is.plans
 
   -- the kinds of those that get an inode
   kinds : (one : Enter) → Contains is.plans.enter one → one.kind ≡ kind_of later one.node.0
@@ -241,16 +276,12 @@ module _ (first : TreeState) (history : List Entry) (flushes : List Flush) (cut 
       let listed = in_is_among (map enter_node is.plans.enter) one.node.0 (in_mapped enter_node is.plans.enter one there) in
       let touches = ((moved.enters one.node.0).0 listed).1 in
       of_all
-      (λ (one : Enter). one.kind ≡ kind_entering start (is_some file) (spans_in gathered below concern.members.items) one.node.0) is.plans.enter
+      (λ (one : Enter). one.kind ≡ kind_entering start from.is_file (spans_in gathered below concern.members.items) one.node.0) is.plans.enter
       is.plans.moves.kinds one there
       ∙ entering_kind first history cut inodes gathered start below concern.members.items
-      (is_some file) sound legal is.orderly sees.spans is.concern_is.members.each (λ node gathers. (sees.fits.members node).0 gathers)
-      (own_kind first history start below file is.file_is ∙ not_some file) one.node.0 touches
+      from.is_file sound legal is.orderly sees.spans is.concern_is.members.each (λ node gathers. (sees.fits.members node).0 gathers)
+      (own_kind first history cut start below from.is_file from.change is.file_is) one.node.0 touches
       ∙ sym ((cuts_keep_kinds first history raised).kinds one.node.0)
-    where
-      not_some : (o : Option File) → is_none o ≡ cond (is_some o) false true
-      not_some None = refl
-      not_some (Some f) = refl
 
   moves : HasMoves later inodes after commit
   moves = moves_are later inodes after commit is.plans.moves.enter_ascends
@@ -278,42 +309,95 @@ module _ (first : TreeState) (history : List Entry) (flushes : List Flush) (cut 
       subst (λ l. length l ≤ BLOCK_BYTES * FILE_BLOCKS) (sym (bytes_are_cut first history raised node sound legal))
       (files_stay_short first history is.ready.history_is is.short node (cut_of raised node))
 
-  files : (is_some file ≡ true → IsInTime cut start below (is_held gathered is.plans.enter start.0)) → HasFiles nodes before later commit
-  files in_time = by file refl is.file_is is.plans.are_files
-    where
-      own_stamp : cut_of cut start.0 ≤ below.0 → cut_of raised start.0 ≡ below.0
-      own_stamp low = raises.member start.0 Closure.itself ∙ max-eq_right {n = cut_of cut start.0} {m = below.0} low
+  which : (node : ℕ) → (node ≡ start.0) ⊎ (node ≢ start.0)
+  which node = elim (true_or_false (nat_eq node start.0)) [ inl same ↦ inl (eqb-true node start.0 same) | inr other ↦ inr (eqb-false node start.0 other) ]
 
-      by : (o : Option File) → file ≡ o → HasFileOf first history start below o
-          → AreFileChanges start (cut_in gathered.cuts.items start.0) o (is_held gathered is.plans.enter start.0) is.plans.files
-          → HasFiles nodes before later commit
-      by None e directory none =
-          no_file_leads before later nodes commit short none
-          (λ node. elim (which node) [ inl same ↦ directory_bytes node (ap (is_directory last) same ∙ directory) | inr apart ↦ other_bytes node apart ])
-        where
-          which : (node : ℕ) → (node ≡ start.0) ⊎ (node ≢ start.0)
-          which node =
-              elim (true_or_false (nat_eq node start.0)) [ inl same ↦ inl (eqb-true node start.0 same) | inr other ↦ inr (eqb-false node start.0 other) ]
-      by (Some f) e own made =
-          let timely = in_time (ap is_some e) in
-          held timely.not_later (is_held gathered is.plans.enter start.0) timely.holds made
-        where
-          held : cut_of cut start.0 ≤ below.0 → (b : Bool) → b ≡ true → AreFileChanges start (cut_in gathered.cuts.items start.0) (Some f) b is.plans.files
-              → HasFiles nodes before later commit
-          held low false not made = absurd (true_not_false (sym not))
-          held low true _ (one, files_are, changed) =
-              own_file_leads before later nodes commit short start.0 one files_are (ap (λ (n : NodeId). n.0) changed.own)
-              (subst (λ l. ChangesFile l (bytes_of later start.0) one) (sym (bytes_are_cut first history cut start.0 sound legal))
-              (subst (λ l. ChangesFile (bytes_at first history start.0 (cut_of cut start.0)) l one)
-              (sym (bytes_are_cut first history raised start.0 sound legal ∙ ap (bytes_at first history start.0) (own_stamp low)))
-              (marks_make_files first history start (cut_of cut start.0) below.0 f one is.ready.history_is is.short low own.1
-              (subst (λ n. IsFileChange start n f one) (sees.cuts start.0 own_touches) changed))))
-              other_bytes
+  own_cut : cut_in gathered.cuts.items start.0 ≡ cut_of cut start.0
+  own_cut = sees.cuts start.0 own_touches
+
+  own_stamp : cut_of raised start.0 ≡ max (cut_of cut start.0) below.0
+  own_stamp = raises.member start.0 Closure.itself
+
+  -- the bytes of a late file stay, and so do all others
+  late_bytes : below.0 < cut_of cut start.0 → (node : ℕ) → bytes_of later node ≡ bytes_of before node
+  late_bytes late node = elim (which node) [
+    | inr apart ↦ other_bytes node apart
+    | inl same ↦
+        let stays : cut_of raised start.0 ≡ cut_of cut start.0 = own_stamp ∙ max-eq_left {n = cut_of cut start.0} {m = below.0} (omega arith) in
+        subst (λ n. bytes_of later n ≡ bytes_of before n) (sym same) (same_stamps_keep first history cut raised start.0 stays).bytes
+  ]
+
+  -- a node that neither has nor gets an inode has none afterwards
+  no_inode_then : is_listed (map node_number gathered.inodes.items) start.0 ≡ false → gets start.0 ≡ false → has_inode_then commit start.0 ≡ true → ⊥
+  no_inode_then has_none gets_none held =
+      let among = by (is_among (map entry_node old) start.0) (not (node_leaves plan.leave.items start.0)) (gets start.0) gets_none held in
+      let one = mapped_is_in entry_node old start.0 (among_is_in (map entry_node old) start.0 among) in
+      let number = (is.keeps.each one.0 (is.old_is.own one.0 one.1).0).0 in
+      let has = (is.ready.numbers.each start.0).1 (one.0.old.number, ap num (sym one.2) ∙ number) in
+      not_both (sees.same_inodes start.0 own_touches ∙ has) has_none
+    where
+      by : (among stays gets : Bool) → gets ≡ false → ((among && stays) || gets) ≡ true → among ≡ true
+      by true stays gets none has = refl
+      by false stays gets none has = absurd (not_both has none)
+
+  abbrev written : Bool
+  written = is_written gathered is.plans.enter start.0 below.0
+
+  -- an own file that is not written and then has an inode is late
+  pub unwritten_is_late : written ≡ false → has_inode_then commit start.0 ≡ true → below.0 < cut_of cut start.0
+  unwritten_is_late none held =
+      elim (not_written (is_listed (map node_number gathered.inodes.items) start.0) (gets start.0) (cut_in gathered.cuts.items start.0) below.0 none) [
+        | inl (has_none, gets_none) ↦ absurd (no_inode_then has_none gets_none held)
+        | inr late ↦ subst (λ n. below.0 < n) own_cut late
+      ]
+
+  -- without a change of files, where the own file is not written
+  unwritten : commit.files ≡ [] → written ≡ false → HasFiles nodes before later commit
+  unwritten none unwritten_one = no_file_leads before later nodes commit short none (λ node held. elim (which node) [
+    | inr apart ↦ other_bytes node apart
+    | inl same ↦ late_bytes (unwritten_is_late unwritten_one (subst (λ n. has_inode_then commit n ≡ true) same held)) node
+  ])
+
+  -- an own file that is written is not late
+  pub written_in_time : written ≡ true → cut_of cut start.0 ≤ below.0
+  written_in_time is_one =
+      subst (λ n. n ≤ below.0) own_cut
+      (leb-true (cut_in gathered.cuts.items start.0) below.0
+      (and_second (is_listed (map node_number gathered.inodes.items) start.0 || gets start.0) (nat_le (cut_in gathered.cuts.items start.0) below.0) is_one))
+
+  -- with the change of the own file, where it is written
+  own_file : (one : FileChange) → commit.files ≡ one ∷ [] → written ≡ true → ChangesByFile first history cut start below one
+      → HasFiles nodes before later commit
+  own_file one files_are is_one (f, at, changed) =
+      let low = written_in_time is_one in
+      own_file_leads before later nodes commit short start.0 one files_are (ap (λ (n : NodeId). n.0) changed.own)
+      (subst (λ l. ChangesFile l (bytes_of later start.0) one) (sym (bytes_are_cut first history cut start.0 sound legal))
+      (subst (λ l. ChangesFile (bytes_at first history start.0 (cut_of cut start.0)) l one)
+      (sym
+      (bytes_are_cut first history raised start.0 sound legal
+      ∙ ap (bytes_at first history start.0) (own_stamp ∙ max-eq_right {n = cut_of cut start.0} {m = below.0} low)))
+      (marks_make_files first history start (cut_of cut start.0) below.0 f one is.ready.history_is is.short low at changed)))
+      other_bytes
+
+  files : HasFiles nodes before later commit
+  files = by from.is_file from.change refl is.file_is
+    where
+      by : (is_one : Bool) (o : Option FileChange) → from.change ≡ o → HasFileOf first history cut start below is_one o → HasFiles nodes before later commit
+      by false o e (directory, none) =
+          no_file_leads before later nodes commit short (ap (files_written written) (e ∙ none) ∙ none_written written) (λ node _. elim (which node) [
+            | inl same ↦ directory_bytes node (ap (is_directory last) same ∙ directory)
+            | inr apart ↦ other_bytes node apart
+          ])
+      by true None e (_, late) =
+          no_file_leads before later nodes commit short (ap (files_written written) e ∙ none_written written) (λ node _. late_bytes late node)
+      by true (Some one) e (_, changes) = elim (true_or_false written) [
+        | inl is_one ↦ own_file one (λ j. files_written (is_one j) (e j)) is_one changes
+        | inr none ↦ unwritten (ap (λ b. files_written b from.change) none) none
+      ]
 
   -- all of it
-  leads : (is_some file ≡ true → IsInTime cut start below (is_held gathered is.plans.enter start.0))
-      → IsPlanAt first history cut inodes flush raised after nodes entries commit
-  leads in_time = record {
+  leads : IsPlanAt first history cut inodes flush raised after nodes entries commit
+  leads = record {
     concerns =
         λ node. (
           λ among. (sees.fits.concerned node).0 ((is.concern_is.nodes.each node).0 among),
@@ -322,32 +406,31 @@ module _ (first : TreeState) (history : List Entry) (flushes : List Flush) (cut 
     old = is.old_is;
     nets = nets;
     moves = moves;
-    files = files in_time;
+    files = files;
   }
 
-  pub plan_leads : (is_some file ≡ true → IsInTime cut start below (is_held gathered is.plans.enter start.0))
-      → LeadsToCut first history cut inodes flush entries plan
-  plan_leads in_time = record {
-    raised = raised;
-    after = after;
-    commit = commit;
-    raises = raises;
-    inodes_after = inodes_after;
-    made = is.plans.made;
-    leads =
-        subst (λ (l : List NodeId). IsPlanAt first history cut inodes flush raised after (map node_number l) entries commit) (sym is.plans.nodes)
-        (leads in_time);
-    names = is.concern_is.names;
+  pub plan_leads : LeadsWith first history cut inodes from is.plans
+  plan_leads = record {
+    leads = record {
+      raised = raised;
+      after = after;
+      commit = commit;
+      raises = raises;
+      inodes_after = inodes_after;
+      made = is.plans.made;
+      leads =
+          subst (λ (l : List NodeId). IsPlanAt first history cut inodes flush raised after (map node_number l) entries commit) (sym is.plans.nodes) leads;
+      names = is.concern_is.names;
+    };
+    commit_is = refl;
+    finds = right;
+    moved = moved;
   }
 
   -- Where the node is alive at the fsync's stamp and no cut is above that, it is not dead at the raised cut: a row there names it, or a naming is not flushed.
-  module _ (live : HasLiveNode first history flush) (low : (node : ℕ) → cut_of cut node ≤ below.0) (is_file : is_some file ≡ true) where
+  module _ (live : HasLiveNode first history flush) (low : (node : ℕ) → cut_of cut node ≤ below.0) (is_file : from.is_file ≡ true) where
     no_directory : is_directory last start.0 ≡ false
-    no_directory = own_kind first history start below file is.file_is ∙ by file is_file
-      where
-        by : (o : Option File) → is_some o ≡ true → is_none o ≡ false
-        by (Some f) e = refl
-        by None e = absurd (true_not_false (sym e))
+    no_directory = own_kind first history cut start below from.is_file from.change is.file_is ∙ ap not is_file
 
     not_dead : IsDead first history every_entry raised start.0 → ⊥
     not_dead dead =
@@ -366,32 +449,27 @@ module _ (first : TreeState) (history : List Entry) (flushes : List Flush) (cut 
               ]
         ]
 
-    pub live_held : IsInTime cut start below (is_held gathered is.plans.enter start.0)
-    live_held =
-        record {
-          not_later = low start.0;
-          holds =
-              elim (files_settle first history cut raised inodes after flush sound legal raises inodes_after no_directory) [
-                | inl has ↦ by has
-                | inr dead ↦
-                    absurd (not_dead dead)
-              ];
-        }
+    has_or_gets : (is_listed (map node_number gathered.inodes.items) start.0 || gets start.0) ≡ true
+    has_or_gets = elim (files_settle first history cut raised inodes after flush sound legal raises inodes_after no_directory) [
+      | inl has ↦
+          held_by (is_listed (map node_number gathered.inodes.items) start.0) (inodes start.0) (gets start.0) (loses start.0)
+          (sees.same_inodes start.0 own_touches) has
+      | inr dead ↦ absurd (not_dead dead)
+    ]
       where
-        by : after start.0 ≡ true → is_held gathered is.plans.enter start.0 ≡ true
-        by has =
-            held_by (is_listed (map node_number gathered.inodes.items) start.0) (inodes start.0) (gets start.0) (loses start.0)
-            (sees.same_inodes start.0 own_touches) has
-          where
-            held_by : (l i g o : Bool) → l ≡ i → ((i && not o) || g) ≡ true → (l || g) ≡ true
-            held_by true i g o same has = refl
-            held_by false false g o same has = has
-            held_by false true g o same has = absurd (true_not_false (sym same))
+        held_by : (l i g o : Bool) → l ≡ i → ((i && not o) || g) ≡ true → (l || g) ≡ true
+        held_by true i g o same has = refl
+        held_by false false g o same has = has
+        held_by false true g o same has = absurd (true_not_false (sym same))
+
+    pub live_written : written ≡ true
+    live_written =
+        let timely : nat_le (cut_in gathered.cuts.items start.0) below.0 ≡ true =
+        le-leb (cut_in gathered.cuts.items start.0) below.0 (subst (λ n. n ≤ below.0) (sym own_cut) (low start.0)) in
+        λ j. has_or_gets j && timely j
 
 pub plans_lead_to_cuts : PlansLeadToCuts
-plans_lead_to_cuts first history flushes cut inodes num layout store parts entries start below gathered concern old file plan is in_time =
-    plan_leads first history flushes cut inodes num layout store parts entries start below gathered concern old file plan is in_time
+plans_lead_to_cuts = plan_leads
 
-pub live_files_are_held : LiveFilesAreHeld
-live_files_are_held first history flushes cut inodes num layout store parts entries start below gathered concern old file plan is live low is_file =
-    live_held first history flushes cut inodes num layout store parts entries start below gathered concern old file plan is live low is_file
+pub live_files_are_written : LiveFilesAreWritten
+live_files_are_written = live_written

@@ -23,10 +23,7 @@ use Rattle.commit_laws.specs.CommitOfPlan.{CommitPlan}
 use Rattle.commit_laws.proofs.OwnInodes.{mapped_is_in}
 use Rattle.commit_laws.proofs.SeatsOfPlan.{in_mapped, in_is_among, among_is_in}
 use Rattle.flush_laws.specs.Planned.{HasMoves}
-
--- what is found, but that the root is not named
-abbrev pub but_root : Found → Found
-but_root found = record { named = λ node. not (nat_eq node 0) && found.named node; directory = found.directory }
+use Rattle.plan_laws.specs.Leads.{but_root}
 
 pub named_but_root : (found : Found) (node : ℕ) → ((but_root found).named node ≡ true) ↔ ((node ≢ 0) × (found.named node ≡ true))
 named_but_root found node = (

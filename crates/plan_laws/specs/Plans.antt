@@ -19,12 +19,14 @@ use Rattle.dep_closure.specs.declared.gathered.Gathered.{Gathered}
 use Rattle.dep_closure.specs.Gathered.{look_of, IsOrderly}
 use Rattle.dep_closure.specs.History.{IsLogOf, HasUnflushed}
 use Rattle.disk_nodes.specs.declared.old.OldEntry.{OldEntry}
+use Rattle.disk_change.specs.declared.files.FileChange.{FileChange}
 use Rattle.flush_laws.specs.Planned.{HasOldEntries}
 use Rattle.flush_laws.specs.Ready.{IsBetweenCommits, KeepsEntries}
 use Rattle.flush_plan.specs.declared.concern.Concern.{Concern}
 use Rattle.flush_plan.specs.declared.plans.FsyncPlan.{FsyncPlan}
 use Rattle.flush_plan.specs.Concerned.{IsConcernOf}
 use Rattle.flush_plan.specs.Plan.{IsPlanOf}
+use Rattle.flush_plan.specs.Touched.{IsFileChange}
 use Rattle.mark_laws.specs.Changed.{HasShortFiles}
 use Rattle.mark_laws.specs.FileAt.{IsFileAt}
 
@@ -32,10 +34,18 @@ use Rattle.mark_laws.specs.FileAt.{IsFileAt}
 abbrev pub planned_flush : NodeId → Stamp → Flush
 planned_flush start below = record { node = start.0; stamp = below.0 }
 
--- What an fsync has of its own node's bytes: of a directory nothing, and of a file the file that it is at the fsync's stamp.
-abbrev pub HasFileOf : TreeState → List Entry → NodeId → Stamp → Option File → Type 0
-HasFileOf first history start below None = is_directory (tree_after first history) start.0 ≡ true
-HasFileOf first history start below (Some file) = (is_directory (tree_after first history) start.0 ≡ false) × IsFileAt first history start.0 below.0 file
+-- A file changes by what it is at the fsync's stamp, from its cut on.
+abbrev pub ChangesByFile : TreeState → List Entry → Cut → NodeId → Stamp → FileChange → Type 0
+ChangesByFile first history cut start below change =
+    (file : File) × IsFileAt first history start.0 below.0 file × IsFileChange start (cut_of cut start.0) file change
+
+-- What an fsync has of its own node's bytes: of a directory nothing; of a file of which something later than the fsync's stamp was flushed it may
+-- have nothing; and of any file it may have the change by what the file is at the stamp.
+abbrev pub HasFileOf : TreeState → List Entry → Cut → NodeId → Stamp → Bool → Option FileChange → Type 0
+HasFileOf first history cut start below false change = (is_directory (tree_after first history) start.0 ≡ true) × (change ≡ None)
+HasFileOf first history cut start below true None = (is_directory (tree_after first history) start.0 ≡ false) × (below.0 < cut_of cut start.0)
+HasFileOf first history cut start below true (Some change) =
+    (is_directory (tree_after first history) start.0 ≡ false) × ChangesByFile first history cut start below change
 
 -- What was gathered is enough of the entries below a stamp: all of these count, and no cut nor the fsync's stamp is above it; each log has what
 -- the history logs at stamps that count; the look knows enough of what counts; and the fsync's node is alive.
@@ -57,22 +67,33 @@ pub data GathersEnough (first : TreeState) (history : List Entry) (cut : Cut) (i
   whole : HasUnflushed first history every_entry cut inodes gathered → GathersEnough first history cut inodes start below gathered
   early : HasEarly first history cut inodes start below gathered → GathersEnough first history cut inodes start below gathered
 
+-- What an fsync is planned from, with its plan: what memory keeps of the disk, the node and the stamp, what was gathered, the nodes that it
+-- concerns and what the disk has of them, whether the node is a file, and the change of its bytes.
+pub record Sources : Type 0 where
+  pub entries : List OldEntry
+  pub start : NodeId
+  pub below : Stamp
+  pub gathered : Gathered
+  pub concern : Concern
+  pub old : List OldEntry
+  pub is_file : Bool
+  pub change : Option FileChange
+  pub plan : FsyncPlan
+
+-- the plan is that of these
+abbrev pub IsPlanFrom : Sources → Type 0
+IsPlanFrom from = IsPlanOf from.start from.below from.gathered from.concern from.old from.is_file from.change from.plan
+
 -- What an fsync was planned from: two commits have left disk and memory as they are between them; what was gathered is enough of the
 -- history; the disk's entries are those of the nodes that it concerns; and the file is the node's, where it is one.
 pub record PlansFsync (first : TreeState) (history : List Entry) (flushes : List Flush) (cut : Cut) (inodes : ℕ → Bool) (num : Numbering) (layout : Layout)
-    (store : ℕ → List ℕ) (parts : ℕ → Part) (entries : List OldEntry)
-    (start : NodeId) (below : Stamp) (gathered : Gathered) (concern : Concern) (old : List OldEntry) (file : Option File) (plan : FsyncPlan) : Type 0 where
+    (store : ℕ → List ℕ) (parts : ℕ → Part) (from : Sources) : Type 0 where
   pub ready : IsBetweenCommits first history flushes cut inodes num layout store parts
-  pub keeps : KeepsEntries num parts entries
+  pub keeps : KeepsEntries num parts from.entries
   pub short : HasShortFiles first
-  pub orderly : IsOrderly gathered
-  pub gathers : GathersEnough first history cut inodes start below gathered
-  pub concern_is : IsConcernOf start below gathered concern
-  pub old_is : HasOldEntries (map node_number concern.nodes.items) entries old
-  pub file_is : HasFileOf first history start below file
-  pub plans : IsPlanOf start below gathered concern old file plan
-
--- An fsync comes in time for its own file: nothing later of the file was flushed, and the file has an inode or gets one.
-pub record IsInTime (cut : Cut) (start : NodeId) (below : Stamp) (held : Bool) : Type 0 where
-  pub not_later : cut_of cut start.0 ≤ below.0
-  pub holds : held ≡ true
+  pub orderly : IsOrderly from.gathered
+  pub gathers : GathersEnough first history cut inodes from.start from.below from.gathered
+  pub concern_is : IsConcernOf from.start from.below from.gathered from.concern
+  pub old_is : HasOldEntries (map node_number from.concern.nodes.items) from.entries from.old
+  pub file_is : HasFileOf first history cut from.start from.below from.is_file from.change
+  pub plans : IsPlanFrom from

@@ -1,6 +1,7 @@
-ghost use Rattle.std.specs.Prelude.{◌≡◌};
+ghost use Rattle.std.specs.Prelude.{◌≡◌, []};
 
-use sfs_base::{BlockList, InodeList};
+use sfs_base::{BlockList, InodeList, RoomyList};
+use std::alloc::Global;
 use std::marker::Model;
 
 /// How much a commit needs.
@@ -12,7 +13,7 @@ pub struct Need {
 
 /// Inodes and blocks that a map has granted to one commit, each list ascending. It is a debt: it
 /// goes back to the map, by `give_back` or by `free_after`, and can't be dropped, made or taken apart
-/// by others. Contracts see its two lists of numbers.
+/// by others, but for the grant of nothing. Contracts see its two lists of numbers.
 pub struct Grant {
     inodes: InodeList,
     blocks: BlockList,
@@ -30,6 +31,15 @@ impl Model for Grant {
 }
 
 impl Grant {
+    /// The grant of nothing, for a commit that needs nothing: no map is asked for it, and its end changes
+    /// none. It takes no memory.
+    pub fn none(alloc: Global) -> Grant
+        ensures inodes { result.inodes ≡ [] }
+        ensures blocks { result.blocks ≡ [] }
+    {
+        Grant::new(RoomyList::new(alloc), RoomyList::new(alloc))
+    }
+
     // The grant of these.
     pub(crate) fn new(inodes: InodeList, blocks: BlockList) -> Grant
         ensures inodes { result.inodes ≡ inodes.items }

@@ -10,6 +10,8 @@ mod failures;
 #[cfg(test)]
 mod helpers;
 #[cfg(test)]
+mod late_files;
+#[cfg(test)]
 mod machine;
 #[cfg(test)]
 mod shapes;

@@ -1,61 +1,60 @@
 -- A plan that leads to the cut which an fsync raises has the pages of touched blocks.
-use Rattle.std.proofs.Common.{◌≡◌, Bool, true, false, Option, Some, None, is_some, refl, sym, ap, subst, ◌∙◌}
-use Rattle.sfs_base.proofs.BasicTruth.{true_not_false}
-use Rattle.mem_files.specs.File.{File}
-use Rattle.disk_change.specs.Planned.{Planned}
+use Rattle.std.proofs.Common.{◌≡◌, ◌<◌, Bool, true, false, [], Option, Some, None, inl, inr, refl, sym, ap, subst, ◌∙◌, arith}
+use Rattle.std.proofs.Math.Nat.{max-eq_left}
+use borrow.Author.Tests.{leb-true}
+use Rattle.sfs_base.proofs.BasicTruth.{and_second, true_or_false}
+use Rattle.disk_change.specs.declared.files.FileChange.{FileChange}
+use Rattle.commit_laws.specs.CommitOfPlan.{CommitPlan, has_inode_then}
+use Rattle.cut_laws.specs.Closure as closures
 use Rattle.cut_laws.specs.Cut.{cut_of}
-use Rattle.cut_laws.proofs.Lists.{lists_keep}
-use Rattle.look_laws.specs.Look.{itself, member}
-use Rattle.dep_closure.specs.Gathered.{cut_in}
-use Rattle.flush_plan.specs.Plan.{is_held, AreFileChanges}
-use Rattle.flush_plan.specs.Touched.{IsFileChange}
-use Rattle.plan_laws.specs.Plans.{HasFileOf, IsInTime}
-use Rattle.plan_laws.proofs.Sees.{SeesCommit, sees_enough}
+use Rattle.flush_plan.specs.Plan.{files_written, is_written}
+use Rattle.plan_laws.specs.Leads.{commit_made_of, LeadsWith}
+use Rattle.plan_laws.specs.Plans.{ChangesByFile, HasFileOf, Sources}
+use Rattle.plan_laws.proofs.Leads.{none_written, unwritten_is_late, written_in_time}
 use Rattle.volume_laws.specs.Volume.{Volume, IsVolumeStanding}
-use Rattle.turn_ties.specs.Led.{Sources, IsPlannedFrom, LeadsVolume, planning_led, LedPlansAreTied}
+use Rattle.turn_ties.specs.Led.{IsPlannedFrom, LeadsVolume, planning_led, LedPlansAreTied}
 use Rattle.turn_ties.specs.Plans.{HasPlan, ChangesOwnFile}
 use Rattle.turn_ties.proofs.OwnFiles.{own_files_are_touched}
 
-module _ (volume : Volume) (from : Sources) (leads : LeadsVolume volume from) (stands : IsVolumeStanding volume) (planned : IsPlannedFrom volume from)
-    (in_time : is_some from.file ≡ true → IsInTime volume.cut from.start from.below (is_held from.gathered planned.plans.enter from.start.0)) where
+module _ (volume : Volume) (from : Sources) (stands : IsVolumeStanding volume) (planned : IsPlannedFrom volume from)
+    (led : LeadsWith volume.first volume.history volume.cut volume.inodes from planned.plans) where
+  abbrev leads : LeadsVolume volume from
+  leads = led.leads
+
   has : HasPlan volume (planning_led volume from leads)
   has = record { stands = stands; keeps = planned.keeps; raises = leads.raises; inodes_after = leads.inodes_after; plans = leads.leads }
 
-  files_are : leads.commit.files ≡ planned.plans.files
-  files_are = ap (λ (change : Planned). change.changes.files) (sym leads.made ∙ planned.plans.made)
+  abbrev written : Bool
+  written = is_written from.gathered planned.plans.enter from.start.0 from.below.0
 
-  sees : SeesCommit volume.first volume.history volume.cut volume.inodes from.start from.below from.gathered
-  sees = sees_enough volume.first volume.history volume.cut volume.inodes from.start from.below from.gathered planned.ready.history_is.sound
-      planned.ready.history_is.legal planned.orderly
-      (lists_keep volume.first volume.history volume.flushes volume.cut volume.inodes planned.ready.history_is.sound planned.ready.history_is.legal
-      planned.ready.flushed) planned.gathers
+  files_are : leads.commit.files ≡ files_written written from.change
+  files_are = ap (λ (commit : CommitPlan). commit.files) led.commit_is
 
-  -- the cut of its own node was gathered
-  own_cut : cut_in from.gathered.cuts.items from.start.0 ≡ cut_of volume.cut from.start.0
-  own_cut = sees.cuts from.start.0 (member from.start.0 itself)
+  -- the stamp of a late file stays
+  stays : from.below.0 < cut_of volume.cut from.start.0 → cut_of leads.raised from.start.0 ≡ cut_of volume.cut from.start.0
+  stays late = leads.raises.member from.start.0 closures.itself ∙ max-eq_left {n = cut_of volume.cut from.start.0} {m = from.below.0} (omega arith)
 
   own : ChangesOwnFile volume (planning_led volume from leads)
-  own = by from.file refl planned.file_is planned.plans.are_files
+  own = by from.is_file from.change refl planned.file_is
     where
-      by : (o : Option File) → from.file ≡ o → HasFileOf volume.first volume.history from.start from.below o
-          → AreFileChanges from.start (cut_in from.gathered.cuts.items from.start.0) o (is_held from.gathered planned.plans.enter from.start.0)
-          planned.plans.files
+      by : (is_one : Bool) (o : Option FileChange) → from.change ≡ o → HasFileOf volume.first volume.history volume.cut from.start from.below is_one o
           → ChangesOwnFile volume (planning_led volume from leads)
-      by None e directory none = ChangesOwnFile.no_file directory (files_are ∙ none)
-      by (Some file) e is made =
-          let timely = in_time (ap is_some e) in
-          held (is_held from.gathered planned.plans.enter from.start.0) timely.holds made
-        where
-          held : (b : Bool) → b ≡ true → AreFileChanges from.start (cut_in from.gathered.cuts.items from.start.0) (Some file) b planned.plans.files
-              → ChangesOwnFile volume (planning_led volume from leads)
-          held false not made = absurd (true_not_false (sym not))
-          held true _ (one, only, changed) =
-              ChangesOwnFile.own_file file one (files_are ∙ only) is.1 (subst (λ n. IsFileChange from.start n file one) own_cut changed)
-              (in_time (ap is_some e)).not_later
+      by false o e (directory, none) = ChangesOwnFile.no_file directory (files_are ∙ ap (files_written written) (e ∙ none) ∙ none_written written)
+      by true None e (file, late) = ChangesOwnFile.unwritten file (files_are ∙ ap (files_written written) e ∙ none_written written) (λ _. stays late)
+      by true (Some one) e (file, (held, at, changed)) = elim (true_or_false written) [
+        | inl is_one ↦
+            ChangesOwnFile.own_file held one (files_are ∙ (λ j. files_written (is_one j) (e j))) at changed
+            (written_in_time volume.first volume.history volume.flushes volume.cut volume.inodes volume.num volume.layout volume.store volume.parts from planned
+            is_one)
+        | inr none ↦
+            ChangesOwnFile.unwritten file (files_are ∙ ap (λ b. files_written b from.change) none)
+            (λ then. stays
+            (unwritten_is_late volume.first volume.history volume.flushes volume.cut volume.inodes volume.num volume.layout volume.store volume.parts from planned
+            none (subst (λ (commit : CommitPlan). has_inode_then commit from.start.0 ≡ true) led.commit_is then)))
+      ]
 
 pub led_plans_are_tied : LedPlansAreTied
-led_plans_are_tied volume from leads stands planned in_time = record {
-  has = has volume from leads stands planned in_time;
-  touched = own_files_are_touched volume (planning_led volume from leads) (has volume from leads stands planned in_time)
-      (own volume from leads stands planned in_time);
+led_plans_are_tied volume from stands planned led = record {
+  has = has volume from stands planned led;
+  touched = own_files_are_touched volume (planning_led volume from led.leads) (has volume from stands planned led) (own volume from stands planned led);
 }

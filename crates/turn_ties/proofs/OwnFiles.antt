@@ -1,11 +1,11 @@
 -- A plan that changes its own file by its marks has the pages of touched blocks.
-use Rattle.std.proofs.Common.{◌≡◌, ◌≢◌, ℕ, Bool, true, false, cond, ◌&&◌, [], ◌∷◌, Some, None, is_some, inl, inr, refl, sym, ap, ◌∙◌, arith, nat_eq, nat_lt, nat_le}
+use Rattle.std.proofs.Common.{◌≡◌, ◌≢◌, ℕ, Bool, true, false, cond, ◌&&◌, [], ◌∷◌, Some, None, is_some, inl, inr, refl, sym, ap, ◌∙◌, arith, nat_eq, nat_lt, nat_le, subst}
 use Rattle.std.specs.Option.{option_map_or}
 use Rattle.std.proofs.Math.Nat.{max-eq_right}
 use Rattle.std.proofs.lemmas.Bool.{cases_lt, eqb-true, eqb-false}
 use Rattle.std.proofs.lemmas.Bool.Decides.{nat_tests}
 use Rattle.sfs_base.proofs.BasicNumbers.{not_below, not_same, same_number}
-use Rattle.sfs_base.proofs.BasicTruth.{and_false, true_not_false}
+use Rattle.sfs_base.proofs.BasicTruth.{and_false, true_not_false, true_or_false}
 use Rattle.tree_laws.specs.Changes.{FileChange as Edited, edits_of, bytes_at}
 use Rattle.tree_laws.specs.History.{tree_after}
 use Rattle.tree_laws.specs.Tree.{TreeState, is_directory, is_directory_kind}
@@ -14,6 +14,7 @@ use Rattle.sfs_base.specs.declared.numbers.NodeId.{NodeId}
 use Rattle.keyed_list.specs.Ascending.{item_with}
 use Rattle.disk_change.specs.Pages.{page_block}
 use Rattle.disk_change.specs.declared.files.FileChange.{FileChange}
+use Rattle.commit_laws.specs.CommitOfPlan.{has_inode_then}
 use Rattle.commit_laws.specs.Rewritten.{has_page}
 use Rattle.cut_laws.specs.Closure.{every_entry, itself}
 use Rattle.cut_laws.specs.Cut.{cut_of, tree_at_cut}
@@ -76,10 +77,20 @@ module _ (volume : Volume) (planning : Planning)
 
   -- by what the plan changes of files
   touched : ChangesOwnFile volume planning → HasTouchedPages volume planning
-  touched (ChangesOwnFile.no_file directory none) node n among file low =
+  touched (ChangesOwnFile.no_file directory none) node n among held_then file low =
       let apart : node ≢ planning.flush.node = λ own. true_not_false (sym directory ∙ ap (is_directory last) (sym own) ∙ still_file node file) in
       ap (λ files. has_page files node n) none ∙ sym (other_file node n apart (still_file node file))
-  touched (ChangesOwnFile.own_file held change only at changed timely) node n among file low =
+  touched (ChangesOwnFile.unwritten is_file none stays) node n among held_then file low =
+      ap (λ files. has_page files node n) none ∙ sym (elim (true_or_false (nat_eq node planning.flush.node)) [
+        | inr other ↦ other_file node n (eqb-false node planning.flush.node other) (still_file node file)
+        | inl same ↦
+            let own : node ≡ planning.flush.node = eqb-true node planning.flush.node same in
+            ap (λ c. is_touched_between volume.first volume.history node (cut_of volume.cut node) c n)
+            (subst (λ k. cut_of planning.raised k ≡ cut_of volume.cut k) (sym own)
+            (stays (subst (λ k. has_inode_then planning.plan k ≡ true) own held_then)))
+            ∙ no_span node (cut_of volume.cut node) n
+      ])
+  touched (ChangesOwnFile.own_file held change only at changed timely) node n among held_then file low =
       ap (λ files. has_page files node n) only ∙ by (nat_eq node planning.flush.node) refl
     where
       own_node : change.node.0 ≡ planning.flush.node

@@ -32,7 +32,7 @@ use Rattle.disk_change.specs.declared.enter.Enter.{Enter}
 use Rattle.disk_change.specs.declared.files.FileChange.{FileChange}
 use Rattle.disk_nodes.specs.declared.old.OldEntry.{OldEntry}
 use Rattle.disk_change.specs.declared.pages.Page.{Page}
-use Rattle.commit_laws.specs.CommitOfPlan.{CommitPlan, change_planned}
+use Rattle.commit_laws.specs.CommitOfPlan.{CommitPlan, change_planned, has_inode_then}
 use Rattle.commit_laws.specs.KeptShown.{KeepsSeen}
 use Rattle.commit_laws.specs.Rewritten.{SayTheSame, has_page}
 use Rattle.commit_laws.specs.Shown.{size_given}
@@ -40,14 +40,15 @@ use Rattle.commit_laws.proofs.CommitOfPlan.{begun_pointers, no_pointers}
 use Rattle.commit_laws.proofs.NumbersGiven.{kept_in}
 use Rattle.commit_laws.proofs.OwnInodes.{mapped_is_in}
 use Rattle.commit_laws.proofs.RewrittenBlocks.{change_said, page_bytes, block_zeros}
+use Rattle.commit_laws.proofs.SeatsOfPlan.{stays_held, enters_held}
 use Rattle.commit_laws.proofs.Shown.{found_is_in}
 use Rattle.turn_laws.specs.Need.{stand_in}
 use Rattle.turn_ties.proofs.Between.{IsPlanBetween, seen}
 use Rattle.turn_ties.proofs.Directories.{Begins, directory_says}
 
--- the changes that have pages of the blocks that a test says, of the files that a plan concerns
+-- the changes that have pages of the blocks that a test says, of the files that a plan concerns and that then have an inode
 abbrev pub HasPagesOf : List ℕ → TreeState → CommitPlan → (ℕ → ℕ → Bool) → Type 0
-HasPagesOf concerned new plan touched = (node n : ℕ) → is_among concerned node ≡ true → is_directory new node ≡ false → n < FILE_BLOCKS
+HasPagesOf concerned new plan touched = (node n : ℕ) → is_among concerned node ≡ true → has_inode_then plan node ≡ true → is_directory new node ≡ false → n < FILE_BLOCKS
     → has_page plan.files node n ≡ touched node n
 
 module _ (num : Numbering) (concerned : List ℕ) (old new : TreeState) (image : SeenInodes) (plan : CommitPlan)
@@ -117,6 +118,7 @@ module _ (num : Numbering) (concerned : List ℕ) (old new : TreeState) (image :
     begun : Begun
     begins : seated change.changes begun ≡ seat
     among : is_among concerned begun.node ≡ true
+    held : has_inode_then plan begun.node ≡ true
     shows : Begins old (seen_of_node begun.node) begun
     size : HasOldSize begun
 
@@ -126,11 +128,13 @@ module _ (num : Numbering) (concerned : List ℕ) (old new : TreeState) (image :
       elim (Contains-append_cases stays (map (seated_entering change.changes) plan.enter) seat there) [
         | inl old_one ↦
             let entry = mapped_is_in (seated_old change.changes) (staying plan.old plan.leave) seat old_one in
-            let in_old = (kept_in (λ e. not (leaves plan.leave e)) plan.old entry.0 entry.1).0 in
+            let kept = kept_in (λ e. not (leaves plan.leave e)) plan.old entry.0 entry.1 in
+            let in_old = kept.0 in
             record {
               begun = begun_old entry.0;
               begins = entry.2;
               among = is.from.own entry.0 in_old;
+              held = stays_held plan entry.0 in_old kept.1;
               shows = old_begins entry.0 in_old;
               size = old_size entry.0 in_old;
             }
@@ -140,18 +144,19 @@ module _ (num : Numbering) (concerned : List ℕ) (old new : TreeState) (image :
               begun = begun_entering one.0;
               begins = one.2;
               among = is.from.entering one.0 one.1;
+              held = enters_held plan one.0 one.1;
               shows = entering_begins one.0 one.1;
               size = λ _. sym (ap length (is.sizes.entering one.0 one.1));
             }
       ]
 
   -- the size that a file gets
-  size_is : (begun : Begun) → HasOldSize begun → begun.kind ≡ File → size_given change.changes begun ≡ length (bytes_of new begun.node)
-  size_is begun size file = by (item_with file_node begun.node plan.files) refl
+  size_is : (begun : Begun) → HasOldSize begun → has_inode_then plan begun.node ≡ true → begun.kind ≡ File → size_given change.changes begun ≡ length (bytes_of new begun.node)
+  size_is begun size held file = by (item_with file_node begun.node plan.files) refl
     where
       by : (o : Option FileChange) → item_with file_node begun.node plan.files ≡ o
           → option_map_or (λ (one : FileChange). one.size) o begun.base.size ≡ length (bytes_of new begun.node)
-      by None e = size file ∙ ap length (sym (is.sizes.others begun.node e))
+      by None e = size file ∙ ap length (sym (is.sizes.others begun.node held e))
       by (Some one) e =
           let here = eqb-true (file_node one) begun.node (found_passes (λ item. nat_eq (file_node item) begun.node) plan.files one e) in
           is.sizes.changed one (found_is_in (λ item. nat_eq (file_node item) begun.node) plan.files one e) ∙ ap (λ n. length (bytes_of new n)) here
@@ -179,15 +184,15 @@ module _ (num : Numbering) (concerned : List ℕ) (old new : TreeState) (image :
     file_says : begun.kind ≡ File
         → SayTheSame (rewrite_in (seated_as File change.changes of.begun)) (file_rewrite (touched of.begun.node) own (bytes_of new of.begun.node))
     file_says kind = record {
-      blocks = ap (λ n. (n + 4095) / 4096) (size_is of.begun of.size kind);
+      blocks = ap (λ n. (n + 4095) / 4096) (size_is of.begun of.size of.held kind);
       rewritten = λ n low.
           ap is_some (change_said (item_with file_node of.begun.node plan.files) n)
           ∙ some_mapped (item_with page_block n (pages_of_node plan.files of.begun.node))
-          ∙ tells of.begun.node n of.among (is_kind File kind) low;
+          ∙ tells of.begun.node n of.among of.held (is_kind File kind) low;
       zero = λ n low rewritten.
           ap (λ (o : Option ChangedBlock). option_map_or (λ one. one.is_zero) o false) (change_said (item_with file_node of.begun.node plan.files) n)
           ∙ page_zero n (item_with page_block n (pages_of_node plan.files of.begun.node)) refl
-          (tells of.begun.node n of.among (is_kind File kind) low ∙ rewritten);
+          (tells of.begun.node n of.among of.held (is_kind File kind) low ∙ rewritten);
       pointers = λ place within. begun_pointers change.changes of.begun File place ∙ of.shows.pointers place within;
     }
 

@@ -11,7 +11,7 @@ use Rattle.disk_change.specs.Planned.{as_u32, blocks_taken, enters}
 use Rattle.disk_change.specs.Seated.{net_of_node}
 use Rattle.disk_change.specs.declared.files.FileChange.{FileChange}
 use Rattle.disk_nodes.specs.declared.old.OldEntry.{OldEntry}
-use Rattle.commit_laws.specs.CommitOfPlan.{CommitPlan, change_planned, numbers_planned}
+use Rattle.commit_laws.specs.CommitOfPlan.{CommitPlan, change_planned, has_inode_then, numbers_planned}
 use Rattle.commit_laws.specs.Rewritten.{has_page}
 use Rattle.cut_laws.specs.Closure.{every_entry, Flush, IsRaised, AreInodesAfter}
 use Rattle.cut_laws.specs.Cut.{Cut, cut_of, tree_at_cut}
@@ -95,21 +95,24 @@ pub record HasPlan (volume : Volume) (planning : Planning) : Type 0 where
   pub plans : IsPlanAt volume.first volume.history volume.cut volume.inodes planning.flush planning.raised planning.after planning.nodes planning.entries
       planning.plan
 
--- its plan has a page of each block of a file that a change touches between the two cuts, and of no other
+-- of each file that then has an inode its plan has a page of each block that a change touches between the two cuts, and of no other
 abbrev pub HasTouchedPages : Volume → Planning → Type 0
-HasTouchedPages volume planning = (node n : ℕ) → is_among planning.nodes node ≡ true
+HasTouchedPages volume planning = (node n : ℕ) → is_among planning.nodes node ≡ true → has_inode_then planning.plan node ≡ true
     → is_directory (tree_at_cut volume.first volume.history planning.raised) node ≡ false → n < FILE_BLOCKS
     → has_page planning.plan.files node n
     ≡ is_touched_between volume.first volume.history node (cut_of volume.cut node) (cut_of planning.raised node) n
 
 -- Of files a plan changes none where the fsync's node is a directory, and of a file that alone: what is written of it is by the marks that it
--- has in memory at the fsync's stamp, from its cut on.
+-- has in memory at the fsync's stamp, from its cut on; or nothing is, and its stamp stays where it then has an inode.
 pub data ChangesOwnFile (volume : Volume) (planning : Planning) : Type 0 where
   no_file : is_directory (tree_after volume.first volume.history) planning.flush.node ≡ true → planning.plan.files ≡ [] → ChangesOwnFile volume planning
   own_file : (file : File) (change : FileChange) → planning.plan.files ≡ change ∷ []
       → IsFileAt volume.first volume.history planning.flush.node planning.flush.stamp file
       → IsFileChange (record { 0 = planning.flush.node }) (cut_of volume.cut planning.flush.node) file change
       → cut_of volume.cut planning.flush.node ≤ planning.flush.stamp → ChangesOwnFile volume planning
+  unwritten : is_directory (tree_after volume.first volume.history) planning.flush.node ≡ false → planning.plan.files ≡ []
+      → (has_inode_then planning.plan planning.flush.node ≡ true → cut_of planning.raised planning.flush.node ≡ cut_of volume.cut planning.flush.node)
+      → ChangesOwnFile volume planning
 
 -- how much a plan needs
 abbrev pub amount_planned : CommitPlan → Amount

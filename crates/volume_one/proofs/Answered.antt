@@ -1,5 +1,5 @@
 -- However an fsync ends, what it makes of an open volume and of its disk.
-use Rattle.std.proofs.Common.{◌≡◌, ℕ, ◌+◌, ◌≤◌, Bool, true, false, List, length, map, Option, Some, None, refl, sym, ap, subst, ◌∙◌, nat_lt, if◌then◌else◌, arith}
+use Rattle.std.proofs.Common.{◌≡◌, ℕ, ◌+◌, ◌≤◌, Bool, true, false, List, length, map, Option, Some, None, refl, sym, ap, subst, ◌∙◌, nat_lt, cond, if◌then◌else◌, arith}
 use Rattle.std.proofs.lemmas.List.{length-map}
 use Rattle.std.specs.Prelude.{Result, Ok, Err}
 use Rattle.std.specs.Prelude.{◌↔◌}
@@ -29,9 +29,9 @@ use Rattle.volume_laws.proofs.Stores.{stores_go_on}
 use Rattle.commit_one.specs.Carried.{sealed_at}
 use Rattle.commit_one.specs.Change.{job_for}
 use Rattle.volume_one.specs.Carry.{CarriesPacked, first_slot}
-use Rattle.volume_one.specs.Deeds.{BeginsByBooks, DidFail, gate_moment}
+use Rattle.volume_one.specs.Deeds.{BeginsByBooks, DidFail, WantedMemory, gate_moment}
 use Rattle.volume_one.specs.declared.deed.Deed.TheVariants as deeds
-use Rattle.volume_one.specs.Ends.{FlushEnds, PlanEnds, GrantEnds, ReadyEnds, dead, stopped, unplanned, planned, short, unreserved, reserved, unready, readied, carried, doubted, doubtful_deed, with_space}
+use Rattle.volume_one.specs.Ends.{FlushEnds, PlanEnds, GrantEnds, ReadyEnds, dead, stopped, unplanned, planned, short, unreserved, reserved, unready, readied, carried, doubted, doubtful_deed, grants_nothing, with_space}
 use Rattle.sfs_base.specs.Memory.{raised}
 use Rattle.volume_one.specs.Fsync.{FsyncMakes, FsyncStays, HoldsVolume, IsOnDisk, fsync_at}
 use Rattle.volume_one.specs.Planned.{WasPlanned}
@@ -212,8 +212,12 @@ module _ (Same : Type 0) (before after : View) (same_view : Same → after ≡ b
       failed = ap (λ (v : OpenVolume). v.failed) back.others ∙ ap (λ (v : OpenVolume). v.failed) same.others;
       numbered = ap (λ (v : OpenVolume). v.commits) back.others ∙ ap (λ (v : OpenVolume). v.commits) same.others;
       refused = refl;
-      did = given_back kept volume node stamp plan grant space is;
+      did = returned_did (grants_nothing grant);
     }
+      where
+        returned_did : (none : Bool) → WantedMemory kept (fsync_at node stamp) (cond none deeds.Nothing deeds.GivenBack)
+        returned_did true = tt
+        returned_did false = given_back kept volume node stamp plan grant space is
     grant_makes working new flushed (readied _ ready room built same ends) = ready_makes working ready built room same new flushed ends
 
   -- from the plan on

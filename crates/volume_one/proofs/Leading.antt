@@ -31,17 +31,17 @@ use Rattle.dep_closure.proofs.True.{lists_are_closures}
 use Rattle.dep_closure.proofs.Enough.{unflushed_is_enough}
 use Rattle.mark_laws.specs.FileAt.{IsFileAt}
 use Rattle.file_table.specs.Table.{file_at}
-use Rattle.plan_laws.specs.Leads.{LeadsToCut}
-use Rattle.plan_laws.specs.Plans.{PlansFsync, HasFileOf, IsInTime, planned_flush, whole}
-use Rattle.plan_laws.proofs.Leads.{plans_lead_to_cuts, live_files_are_held}
+use Rattle.plan_laws.specs.Leads.{LeadsToCut, LeadsWith}
+use Rattle.plan_laws.specs.Plans.{PlansFsync, HasFileOf, Sources, planned_flush, whole}
+use Rattle.plan_laws.proofs.Leads.{plans_lead_to_cuts}
 use Rattle.flush_plan.specs.declared.plans.FsyncPlan.{FsyncPlan}
-use Rattle.flush_plan.specs.Plan.{is_held}
+use Rattle.flush_plan.specs.Touched.{IsFileChange}
 use Rattle.node_lists.specs.Known.{OrderlyLogs}
-use Rattle.turn_ties.specs.Led.{Sources, IsTied, planning_led}
+use Rattle.turn_ties.specs.Led.{IsTied, planning_led}
 use Rattle.turn_ties.proofs.Led.{led_plans_are_tied}
 use Rattle.volume_laws.specs.Volume.{Volume}
 use Rattle.volume_one.specs.Entries.{disk_entries_in, disk_entries_at}
-use Rattle.volume_one.specs.Planned.{WasPlanned}
+use Rattle.volume_one.specs.Planned.{IsOwnChange, WasPlanned}
 use Rattle.volume_one.specs.Stands.{Remembers}
 use Rattle.volume_one.specs.declared.volume.OpenVolume.{OpenVolume}
 use Rattle.volume_one.proofs.EntriesKept.{old_entries}
@@ -124,24 +124,44 @@ module _ (kept : Volume) (volume : OpenVolume) (remembers : Remembers kept volum
           subst (λ (l : List Entry). IsSoundTree (tree_after first l)) whole_history
           (histories_keep_sound first history (length history) remembers.stands.between.history_is.sound legal)
 
-      -- the node's file is that of the history, where it is one
-      file_is : HasFileOf first history node stamp own_file
-      file_is = by own_file refl
+      own_cut : cut_in own_gathered.cuts.items node.0 ≡ cut_of kept.cut node.0
+      own_cut = unflushed.cuts node.0
+
+      -- the change of the node's file is that of the history's, where it is one
+      file_is : HasFileOf first history kept.cut node stamp (is_some own_file) was.planned.change
+      file_is = by own_file refl was.planned.change_is
         where
-          by : (file : Option File) → file_at volume.files node.0 ≡ file → HasFileOf first history node stamp file
-          by None e = elim (cases_Bool (is_directory (tree_after first history) node.0)) [
-            | inl there ↦ there
+          by : (file : Option File) → file_at volume.files node.0 ≡ file → IsOwnChange node own_gathered file was.planned.change
+              → HasFileOf first history kept.cut node stamp (is_some file) was.planned.change
+          by None e no_change = elim (cases_Bool (is_directory (tree_after first history) node.0)) [
+            | inl there ↦ (there, no_change)
             | inr never ↦
                 let there = remembers.calls.files.there node.0 (alive_node (tree_after first history) node.0 sound.sound alive_then) never in
                 absurd (none_some (sym e ∙ there.1))
           ]
-          by (Some file) e = (
+          by (Some file) e (one, change_is, changed) = subst (HasFileOf first history kept.cut node stamp true) (sym change_is) (
             remembers.calls.files.no_directory node.0 file e,
-            subst (λ (n : ℕ). IsFileAt first history node.0 n file) counted (remembers.calls.files.right node.0 file e),
+            (
+              file,
+              subst (λ (n : ℕ). IsFileAt first history node.0 n file) counted (remembers.calls.files.right node.0 file e),
+              subst (λ (n : ℕ). IsFileChange node n file one) own_cut changed,
+            ),
           )
 
-      pub plans_fsync : PlansFsync first history kept.flushes kept.cut kept.inodes kept.num kept.layout kept.store kept.parts (disk_entries_in volume.stored)
-          node stamp own_gathered was.planned.concern (disk_entries_at volume.stored (map node_number was.planned.concern.nodes.items)) own_file plan
+      abbrev pub sources : Sources
+      sources = record {
+        entries = disk_entries_in volume.stored;
+        start = node;
+        below = stamp;
+        gathered = own_gathered;
+        concern = was.planned.concern;
+        old = disk_entries_at volume.stored (map node_number was.planned.concern.nodes.items);
+        is_file = is_some own_file;
+        change = was.planned.change;
+        plan = plan;
+      }
+
+      pub plans_fsync : PlansFsync first history kept.flushes kept.cut kept.inodes kept.num kept.layout kept.store kept.parts sources
       plans_fsync = record {
         ready = remembers.stands.between;
         keeps = remembers.disk.entries;
@@ -154,39 +174,16 @@ module _ (kept : Volume) (volume : OpenVolume) (remembers : Remembers kept volum
         plans = was.planned.plan_is;
       }
 
-      no_later : (one : ℕ) → cut_of kept.cut one ≤ stamp.0
-      no_later one = let l = low one in omega (arith, l, counted)
-
-      -- the fsync comes in time for its own file
-      in_time : is_some own_file ≡ true → IsInTime kept.cut node stamp (is_held own_gathered plans_fsync.plans.enter node.0)
-      in_time is_file =
-          live_files_are_held first history kept.flushes kept.cut kept.inodes kept.num kept.layout kept.store kept.parts
-          (disk_entries_in volume.stored) node stamp
-          own_gathered was.planned.concern
-          (disk_entries_at volume.stored (map node_number was.planned.concern.nodes.items)) own_file plan plans_fsync live no_later is_file
+      led : LeadsWith first history kept.cut kept.inodes sources plans_fsync.plans
+      led = plans_lead_to_cuts first history kept.flushes kept.cut kept.inodes kept.num kept.layout kept.store kept.parts sources plans_fsync
 
       pub leads : LeadsToCut first history kept.cut kept.inodes (planned_flush node stamp) (disk_entries_in volume.stored) plan
-      leads =
-          plans_lead_to_cuts first history kept.flushes kept.cut kept.inodes kept.num kept.layout kept.store kept.parts
-          (disk_entries_in volume.stored) node stamp
-          own_gathered was.planned.concern (disk_entries_at volume.stored (map node_number was.planned.concern.nodes.items)) own_file plan plans_fsync
-          in_time
-
-      abbrev pub sources : Sources
-      sources = record {
-        entries = disk_entries_in volume.stored;
-        start = node;
-        below = stamp;
-        gathered = own_gathered;
-        concern = was.planned.concern;
-        old = disk_entries_at volume.stored (map node_number was.planned.concern.nodes.items);
-        file = own_file;
-        plan = plan;
-      }
+      leads = led.leads
 
       -- and its pages are those of the blocks that changes touch
       pub tied : IsTied kept (planning_led kept sources leads)
-      tied = led_plans_are_tied kept sources leads remembers.stands plans_fsync in_time
+      unfolding leads
+      tied = led_plans_are_tied kept sources remembers.stands plans_fsync led
 
       -- the members are what the fsync flushes
       pub members_flushed : (one : ℕ)

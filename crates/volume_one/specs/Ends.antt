@@ -46,6 +46,10 @@ abbrev pub durable_deed : Option Contents → GrantedNumbers → Deed
 durable_deed (Some contents) grant = deeds.Committed
 durable_deed None grant = if grants_nothing grant then deeds.Empty else deeds.Committed
 
+-- what an fsync did for which memory was wanting once it had a grant: nothing, where nothing was granted
+abbrev pub returned_deed : GrantedNumbers → Deed
+returned_deed grant = if grants_nothing grant then deeds.Nothing else deeds.GivenBack
+
 -- what a commit with so many fresh blocks did that the disk failed, by the counts of device calls when it began and when it failed: its gate is
 -- the call behind a write for each of them, three for the body of its slot, and a sync
 abbrev pub doubtful_deed : ℕ → ℕ → ℕ → Deed
@@ -86,11 +90,11 @@ pub data ReadyEnds (Same : Type 0) (stamp : Stamp) (ready : Ready) (grant : Gran
 pub data GrantEnds (Same : Type 0) (stamp : Stamp) (plan : FsyncPlan) (grant : GrantedNumbers) (before after : View) (old new : OpenVolume) : Flushed
     → Type 0 where
   unready : Same → (room : OpenVolume) → IsSameButRoom old room → ReturnsGrant grant room new
-      → GrantEnds Same stamp plan grant before after old new (refused_with reply.NoMemory deeds.GivenBack)
+      → GrantEnds Same stamp plan grant before after old new (refused_with reply.NoMemory (returned_deed grant))
   readied : (flushed : Flushed) (ready : Ready) (room : OpenVolume) → IsReadyFor plan grant ready → IsSameButRoom old room
       → ReadyEnds Same stamp ready grant before after room new flushed → GrantEnds Same stamp plan grant before after old new flushed
 
--- What a plan needs is reserved, where enough is free.
+-- What a plan needs is reserved, where enough is free; where it needs nothing the map of free space is left alone.
 pub data PlanEnds (Same : Type 0) (stamp : Stamp) (plan : FsyncPlan) (before after : View) (old new : OpenVolume) : Flushed → Type 0 where
   short : Same → new ≡ old → (kind : SpaceKind) (need free : ℕ) → shortage old.space (need_of_change plan.change) ≡ Some (NoSpace kind need free)
       → PlanEnds Same stamp plan before after old new (refused_with (reply.NoSpace kind need free) deeds.Short)

@@ -1,5 +1,5 @@
 ghost use Rattle.std.specs.Prelude.{◌≡◌, ◌≤◌};
-ghost use Rattle.volume_one.specs.Ends.{durable_deed, doubtful_deed};
+ghost use Rattle.volume_one.specs.Ends.{durable_deed, doubtful_deed, returned_deed};
 
 use crate::preparing::Ready;
 use space_map::Grant;
@@ -7,7 +7,8 @@ use space_map::Grant;
 /// What an fsync did, beside its answer.
 #[derive(Clone, Copy, PartialEq, Eq)]
 pub enum Deed {
-    /// No turn at the disk: its node is not alive, or memory was wanting before anything was granted.
+    /// No turn at the disk: its node is not alive, or memory was wanting before anything was granted, or where
+    /// nothing had to be.
     Nothing,
     /// A commit had failed before.
     Halted,
@@ -35,6 +36,17 @@ impl Deed {
             Deed::Empty
         } else {
             Deed::Committed
+        }
+    }
+
+    // What an fsync did for which memory was wanting once it had a grant.
+    pub(crate) fn once_returned(grant: &Grant) -> Deed
+        ensures { result ≡ returned_deed grant.now }
+    {
+        if grant.inodes().is_empty() && grant.blocks().is_empty() {
+            Deed::Nothing
+        } else {
+            Deed::GivenBack
         }
     }
 

@@ -1,13 +1,14 @@
 // An fsync: what it comes to is planned and reserved, all that the commit needs of memory is made ready, and
 // then the commit is carried to the disk. Only once it is durable does memory take note of it; before that
 // every refusal leaves all as it was.
-ghost use Rattle.std.specs.Prelude.{◌≡◌, ◌≤◌, ◌<◌, ◌-◌, ◌^◌, length, map};
+ghost use Rattle.std.specs.Prelude.{◌≡◌, ◌≤◌, ◌<◌, ◌-◌, ◌^◌, length, map, take, None, IfErr, IfOk, IsOk, MatchOption, OnErr};
 ghost use Rattle.std.specs.List.Sorted.{IsStrictlyIncreasing};
 ghost use Rattle.sfs_image.specs.Super.{IsLayout};
 ghost use Rattle.sfs_dev.specs.Run.{Advances};
 ghost use Rattle.tree_laws.specs.NameRow.{node_number};
 ghost use Rattle.tree_laws.specs.Tree.{is_alive};
-ghost use Rattle.space_map.specs.Space.{AllGranted};
+ghost use Rattle.space_map.specs.Pool.{Grants, free_numbers};
+ghost use Rattle.space_map.specs.Space.{AllGranted, shortage};
 ghost use Rattle.volume_one.specs.Carry.{CarriesPacked, MayCarry};
 ghost use Rattle.volume_one.specs.Ends.{FlushEnds, GrantEnds, PlanEnds, ReadyEnds};
 ghost use Rattle.volume_one.specs.Fsync.{FsyncGoesOn, IsFsyncAnswer};
@@ -25,7 +26,8 @@ use flush_plan::FsyncPlan;
 use journal_one::{Doubt, Idle, Packed};
 use sfs_base::{CoreId, NodeId, Stamp};
 use sfs_dev::Disk;
-use space_map::{Grant, SpaceFault};
+use space_map::{Grant, Need, SpaceFault, SpaceMap};
+use std::alloc::Global;
 use tree_laws::{Changes, Code, Reply};
 
 impl OpenVolume {
@@ -83,7 +85,7 @@ impl OpenVolume {
         ensures ends { PlanEnds (disk.new ≡ disk.old) stamp plan (D.view disk.old) (D.view disk.new) self.old self.new result }
         ensures advances { Advances (D.view disk.old) (D.view disk.new) }
     {
-        match self.space.reserve(need(&plan.change)) {
+        match granted(self.alloc, &mut self.space, need(&plan.change)) {
             Ok(grant) => self.commit_granted(disk, stamp, plan, grant),
             Err(SpaceFault::NoSpace { kind, need, free }) => {
                 Flushed::refused(Reply::NoSpace { kind, need, free }, Deed::Short)
@@ -112,8 +114,9 @@ impl OpenVolume {
         match self.ready(plan, &grant) {
             Ok(ready) => self.commit_ready(disk, stamp, ready, grant),
             Err(_) => {
+                let deed = Deed::once_returned(&grant);
                 self.space.give_back(grant);
-                Flushed::refused(Reply::NoMemory, Deed::GivenBack)
+                Flushed::refused(Reply::NoMemory, deed)
             }
         }
     }
@@ -176,4 +179,21 @@ impl OpenVolume {
             Err(doubt) => Err(doubt),
         }
     }
+}
+
+// A grant of what a commit needs, from a map of free space. Where it needs nothing the map is not asked, and no memory
+// is taken.
+fn granted(alloc: Global, space: &mut SpaceMap, need: Need) -> Result<Grant, SpaceFault>
+    ensures inodes { IfOk result (λ grant. Grants space.old.inodes need.inodes grant.inodes space.new.inodes) }
+    ensures blocks { IfOk result (λ grant. Grants space.old.blocks need.blocks grant.blocks space.new.blocks) }
+    ensures least { IfOk result (λ grant. grant.inodes ≡ take need.inodes (free_numbers space.old.inodes)) }
+    ensures enough { IfOk result (λ _. shortage space.old need ≡ None) }
+    ensures cause { IfErr result (λ fault. MatchOption (shortage space.old need) (fault ≡ SpaceFault.NoMemory) (λ due. fault ≡ due)) }
+    ensures err { OnErr result (space.new ≡ space.old) }
+    ensures unasked { need.inodes ≡ 0 → need.blocks ≡ 0 → IsOk result × (space.new ≡ space.old) }
+{
+    if need.inodes == 0 && need.blocks == 0 {
+        return Ok(Grant::none(alloc));
+    }
+    space.reserve(need)
 }

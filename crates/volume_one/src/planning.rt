@@ -2,13 +2,14 @@
 ghost use Rattle.std.specs.Prelude.{◌≡◌, IfOk};
 ghost use Rattle.std.specs.Option.{option_copied};
 ghost use Rattle.dep_closure.specs.Gathered.{IsOrderly};
-ghost use Rattle.volume_one.specs.Planned.{IsPlannedByGathered, WasPlanned, IsSameKnown};
+ghost use Rattle.volume_one.specs.Planned.{IsOwnChange, IsPlannedByGathered, WasPlanned, IsSameKnown};
 ghost use Rattle.volume_one.specs.Stands.{IsStandingAt};
 
 use crate::OpenVolume;
 use crate::entries::{DiskNodes, entries_of};
 use dep_closure::Gathered;
-use flush_plan::{FsyncPlan, concerned, plan};
+use disk_change::FileChange;
+use flush_plan::{FsyncPlan, concerned, file_change, plan};
 use mem_files::FileBytes;
 use sfs_base::{NoMemory, NodeId, Stamp};
 use std::alloc::Global;
@@ -43,5 +44,34 @@ fn plan_of(
 {
     let concern = concerned(alloc, node, stamp, gathered)?;
     let entries = entries_of(alloc, old, concern.nodes.as_slice())?;
-    plan(alloc, node, stamp, gathered, concern, entries, file)
+    let change = own_change(alloc, node, gathered, file)?;
+    plan(
+        alloc,
+        node,
+        stamp,
+        gathered,
+        concern,
+        entries,
+        file.is_some(),
+        change,
+    )
+}
+
+// The change of a node's file from the node's cut on, where it is one.
+fn own_change(
+    alloc: Global,
+    node: NodeId,
+    gathered: &Gathered,
+    file: Option<&FileBytes>,
+) -> Result<Option<FileChange>, NoMemory>
+    requires { IsOrderly gathered.now }
+    ensures { IfOk result (IsOwnChange node gathered.now (option_copied file.entry)) }
+{
+    match file {
+        Some(bytes) => {
+            let change = file_change(alloc, node, gathered.cut(node), bytes)?;
+            Ok(Some(change))
+        }
+        None => Ok(None),
+    }
 }

@@ -5,7 +5,7 @@ use super::{NODES, Watched};
 use crate::helpers::{got, holds, same};
 use disk_change::{Built, DiskChange, build, need};
 use disk_nodes::{OldDisk, OldEntry, OldNode, take_old};
-use flush_plan::{concerned, plan};
+use flush_plan::{concerned, file_change, plan};
 use fmt_inode::{Inode, Tables};
 use fmt_slots::SlotList;
 use mem_files::FileBytes;
@@ -111,13 +111,17 @@ impl Watched {
         let mut old = OldDisk::new(self.alloc);
         move_nodes(rt, &mut self.disk.nodes, &mut old, &nodes);
         let bytes = FileBytes::new(self.alloc);
-        let file = match self.kind(start) {
-            Kind::File => Some(&bytes),
-            Kind::Directory => None,
+        let is_file = self.kind(start) == Kind::File;
+        let change = if is_file {
+            Some(got(rt, file_change(self.alloc, start, logs.cut(start), &bytes)))
+        } else {
+            None
         };
         let plan = got(
             rt,
-            plan(self.alloc, start, below, &logs, concern, old, file),
+            plan(
+                self.alloc, start, below, &logs, concern, old, is_file, change,
+            ),
         );
         same(rt, &plan.members.len(), &(members.len() as u64));
         self.disk.needed = need(&plan.change);

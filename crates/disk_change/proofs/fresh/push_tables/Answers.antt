@@ -17,5 +17,5 @@ pub loop-k-preserved : goal.loop-k-preserved
 loop-k-preserved c =
     let f = table_of_place c.args.built.now in
     let front = c.args.fresh.now.items in
-    c.in_ok-push_block.ensures ∙ (λ j. c.loop-k.invariant j ++ option_to_list (c.table_block.ensures j))
+    c.in_ok-push_table.ensures ∙ ap (λ those. those ++ option_to_list (f c.loop-k.k)) c.loop-k.invariant
     ∙ append_assoc front (filter_map f (range_with_len 0 c.loop-k.k)) (option_to_list (f c.loop-k.k)) ∙ ap (λ rest. front ++ rest) (sym (one_more f c.loop-k.k))

@@ -1,7 +1,6 @@
 use Rattle.std.proofs.Common.{◌≡◌, ℕ, ◌*◌, ◌++◌, ◌∙◌, List, length, min, take, drop, ap, length-drop, arith}
 use Rattle.std.specs.Prelude.{replicate}
 use Rattle.std.proofs.lemmas.List.{length-replicate}
-use Rattle.disk_change.specs.declared.pages.Page.{Page}
 use Rattle.sfs_image.specs.Bytes.{zeros}
 use Rattle.flush_plan.proofs.Pages.{filled}
 use Rattle.flush_plan.proofs.touched.page_at.Goals as goal

@@ -1,5 +1,6 @@
-use Rattle.std.proofs.Common.{◌≡◌, refl, sym, subst}
-use Rattle.volume_one.specs.Ends.{GrantEnds, unready, readied}
+use Rattle.std.proofs.Common.{◌≡◌, refl, sym, ap, subst, ◌∙◌}
+use Rattle.tree_laws.specs.declared.reply.Reply.TheVariants as reply
+use Rattle.volume_one.specs.Ends.{GrantEnds, refused_with, unready, readied}
 use Rattle.volume_one.specs.declared.flushed.Flushed.{Flushed}
 use Rattle.volume_one.specs.declared.volume.OpenVolume.{OpenVolume}
 use Rattle.volume_one.proofs.volume.OpenVolume.commit_granted.Goals as goal
@@ -13,5 +14,5 @@ returns-in-Err-clause-ends g c =
     let before = g.D.Disk.view c.args.disk.now in
     let back : OpenVolume = record c.ready.new.self { space = c.give_back.new.self } in
     subst (λ (f : Flushed). GrantEnds (c.args.disk.now ≡ c.args.disk.now) c.args.stamp c.args.plan c.args.grant before before c.args.self.now back f)
-    (sym c.refused.ensures)
+    (sym (c.refused.ensures ∙ ap (refused_with reply.NoMemory) c.once_returned-deed.ensures))
     (unready refl c.ready.new.self c.in-Err.ensures.same (record { inodes = c.give_back.ensures.inodes; blocks = c.give_back.ensures.blocks; others = refl }))

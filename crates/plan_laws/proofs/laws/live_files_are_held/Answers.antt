@@ -1,5 +1,0 @@
-use Rattle.plan_laws.proofs.Leads.{live_files_are_held as law}
-use Rattle.plan_laws.proofs.laws.live_files_are_held.Goals as goal
-
-pub returns : goal.returns
-returns c = law
