@@ -7,3 +7,4 @@ pub mod OneCut
 pub mod Raising
 pub mod Ruled
 pub mod Stepping
+pub mod Worked

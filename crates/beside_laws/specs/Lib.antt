@@ -4,3 +4,4 @@ pub mod Laws
 pub mod OwnFile
 pub mod Progress
 pub mod Steps
+pub mod Worked

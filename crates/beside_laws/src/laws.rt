@@ -1,5 +1,6 @@
 // What is proved of the definitions: each function's contract is a law.
 ghost use Rattle.beside_laws.specs.Steps.{CommitsBegin, CommitsOpen, CommitsEnd};
+ghost use Rattle.beside_laws.specs.Worked.{TwoMayBeOpen};
 ghost use Rattle.beside_laws.specs.OwnFile.{OwnFilesMayBeOpen};
 ghost use Rattle.beside_laws.specs.Laws.{RuledKnow, KnowingRaise, BoxesGive, FoundOnce, ReadyRaise, FsyncsRaiseOneCut};
 
@@ -54,4 +55,10 @@ pub fn commits_end()
 /// that it would have had.
 pub fn own_files_may_be_open()
     ensures { OwnFilesMayBeOpen }
+{}
+
+/// All that is asked of commits beside commits can be met: two fsyncs of two directories side by side, in each of which
+/// a file was made, by commits that are known as they reserve, are not moved, and with which a record begins.
+pub fn two_may_be_open()
+    ensures { TwoMayBeOpen }
 {}
