@@ -1,3 +1,4 @@
+pub mod Answers
 pub mod Box
 pub mod Commits
 pub mod Laws

@@ -1,5 +1,6 @@
 // What is proved of the definitions: each function's contract is a law.
 ghost use Rattle.beside_laws.specs.Steps.{CommitsBegin, CommitsOpen, CommitsEnd};
+ghost use Rattle.beside_laws.specs.Answers.{AnswersTellNothing};
 ghost use Rattle.beside_laws.specs.Worked.{TwoMayBeOpen};
 ghost use Rattle.beside_laws.specs.OwnFile.{OwnFilesMayBeOpen};
 ghost use Rattle.beside_laws.specs.Laws.{RuledKnow, KnowingRaise, BoxesGive, FoundOnce, ReadyRaise, FsyncsRaiseOneCut};
@@ -61,4 +62,9 @@ pub fn own_files_may_be_open()
 /// a file was made, by commits that are known as they reserve, are not moved, and with which a record begins.
 pub fn two_may_be_open()
     ensures { TwoMayBeOpen }
+{}
+
+/// Histories that ask the same come to the same trees and changes, whatever was answered.
+pub fn answers_tell_nothing()
+    ensures { AnswersTellNothing }
 {}
