@@ -30,7 +30,8 @@ use Rattle.beside_laws.specs.OwnFile.{born_at, noted_alone, is_open_naming, own_
 use Rattle.beside_laws.specs.Progress.{Progress, Standing}
 use Rattle.beside_laws.specs.Steps.{IsLegalRun}
 use Rattle.beside_laws.proofs.Finding.{found_once}
-use Rattle.beside_laws.proofs.Raising.{lifted_cut, lifted_or, of_the_whole}
+use Rattle.cut_laws.proofs.RaisedCut.{raised_cut}
+use Rattle.beside_laws.proofs.Raising.{raised_or, of_the_whole}
 
 module _ (run : Progress) (flush : Flush) (own : OwnNumbers) (run_is : IsLegalRun run) (stands : Standing run) (is : IsOwnFsync run flush own) where
   abbrev look : Look
@@ -223,16 +224,16 @@ module _ (run : Progress) (flush : Flush) (own : OwnNumbers) (run_is : IsLegalRu
       past change one since = let less = stamp_below run.first run.history change run_is.legal one in omega arith
 
   raised : Cut
-  raised = lifted_cut run.cut (flush.node ∷ []) flush.stamp
+  raised = raised_cut run.cut (flush.node ∷ []) flush.stamp
 
   lifted_by : IsLiftedBy look run.cut raised
   unfolding raised
   lifted_by = record {
-    gathered = λ node gathered. elim (lifted_or run.cut (flush.node ∷ []) flush.stamp node) [
+    gathered = λ node gathered. elim (raised_or run.cut (flush.node ∷ []) flush.stamp node) [
       | inl one ↦ one.1
       | inr none ↦ absurd (none.0 (inl (sym (gathers_own gathered))))
     ];
-    others = λ node. elim (lifted_or run.cut (flush.node ∷ []) flush.stamp node) [
+    others = λ node. elim (raised_or run.cut (flush.node ∷ []) flush.stamp node) [
       | inr none ↦ inr none.1
       | inl one ↦ elim one.0 [ inl same ↦ inl (own_gathered node (sym same)) | inr never ↦ absurd never ]
     ];

@@ -1,10 +1,6 @@
 -- A commit that knows enough raises the cut as its look says.
-use Rattle.std.proofs.Common.{◌≡◌, ◌⊎◌, ℕ, ◌<◌, ◌≤◌, Bool, true, false, cond, max, nat_eq, List, [], ◌∷◌, ◌++◌, map, Some, inl, inr, refl, sym, ap, subst, ◌∙◌, arith}
-use Rattle.std.specs.Cmp.{nat_cmp_total, unsigned_ties}
-use Rattle.std.specs.FinMap.{get, insert, get-insert}
-use Rattle.std.specs.Option.{unwrap_or}
+use Rattle.std.proofs.Common.{◌≡◌, ◌⊎◌, ℕ, ◌<◌, ◌≤◌, Bool, true, false, cond, max, List, [], ◌∷◌, ◌++◌, map, inl, inr, refl, sym, ap, subst, ◌∙◌, arith}
 use Rattle.std.proofs.lemmas.List.{map-append}
-use borrow.Author.Tests.{eqb-true, eqb-false}
 use Rattle.sfs_base.proofs.BasicTruth.{not_both, true_or_false}
 use Rattle.tree_laws.specs.Changes.{RowChange}
 use Rattle.tree_laws.specs.History.{IsLegal}
@@ -16,6 +12,10 @@ use Rattle.cut_laws.proofs.Basics.{below_or, in_left, in_right, in_either}
 use Rattle.cut_laws.proofs.KeptInodes.{others_stay}
 use Rattle.cut_laws.proofs.Lists.{lists_keep}
 use Rattle.cut_laws.proofs.Raises.{cuts_rise}
+use Rattle.cut_laws.proofs.RaisedCut.{raised_cut, stamp_raised}
+use Rattle.cut_laws.proofs.Listed.{listed_one}
+use Rattle.sfs_base.specs.Listed.{is_listed}
+use Rattle.sfs_base.proofs.BasicTruth.{true_not_false}
 use Rattle.look_laws.specs.Look.{Look, Gathers, Touches, member, named}
 use Rattle.look_laws.specs.Beside.{NamedHaveInodes, AreInodesBehind, IsLiftedBy, IsOfTheWhole}
 use Rattle.look_laws.proofs.Fitting.{sight_of}
@@ -25,46 +25,23 @@ use Rattle.beside_laws.specs.Progress.{Progress, IsLastOf, Left, HasLeft, nobody
 use Rattle.beside_laws.specs.Laws.{KnowsRun, IsReadyToEnd, RaisesTo, BecomesDurable, KnowingRaise, AreTheSame, with_done}
 use Rattle.beside_laws.proofs.OneCut.{fsyncs_raise_one_cut}
 
--- a cut with the stamps of some nodes lifted
-abbrev pub lifted_cut : Cut → List ℕ → ℕ → Cut
-lifted_cut cut [] stamp = cut
-lifted_cut cut (node ∷ nodes) stamp = insert (lifted_cut cut nodes stamp) node (max (cut_of cut node) stamp)
-
-cut_inserted : (cut : Cut) (node stamp x : ℕ) → cut_of (insert cut node stamp) x ≡ cond (nat_eq x node) stamp (cut_of cut x)
-cut_inserted cut node stamp x =
-    ap (λ o. unwrap_or o 0) (get-insert nat_cmp_total cut node stamp x ∙ ap (λ b. cond b (Some stamp) (get cut x)) (sym (unsigned_ties x node)))
-    ∙ by (nat_eq x node)
-  where
-    by : (b : Bool) → unwrap_or (cond b (Some stamp) (get cut x)) 0 ≡ cond b stamp (cut_of cut x)
-    by true = refl
-    by false = refl
-
--- a node is one of them, and lifted, or it is none, and its stamp is as it was
-pub lifted_or : (cut : Cut) (nodes : List ℕ) (stamp x : ℕ)
-    → (IsOneOf nodes x × (cut_of (lifted_cut cut nodes stamp) x ≡ max (cut_of cut x) stamp))
-    ⊎ ((IsOneOf nodes x → ⊥) × (cut_of (lifted_cut cut nodes stamp) x ≡ cut_of cut x))
-lifted_or cut [] stamp x = inr ((λ none. none), refl)
-lifted_or cut (node ∷ nodes) stamp x =
-    elim (nat_eq x node) as (λ b. nat_eq x node ≡ b → (IsOneOf (node ∷ nodes) x × (cut_of (lifted_cut cut (node ∷ nodes) stamp) x ≡ max (cut_of cut x) stamp))
-    ⊎ ((IsOneOf (node ∷ nodes) x → ⊥) × (cut_of (lifted_cut cut (node ∷ nodes) stamp) x ≡ cut_of cut x))) [
-      | true ↦ λ e.
-          let same = eqb-true _ _ e in
-          inl (
-            inl (sym same),
-            here ∙ ap (λ b. cond b (max (cut_of cut node) stamp) (cut_of (lifted_cut cut nodes stamp) x)) e
-                ∙ ap (λ n. max (cut_of cut n) stamp) (sym same),
+-- a node is one of them, and raised, or it is none, and its stamp is as it was
+pub raised_or : (cut : Cut) (nodes : List ℕ) (stamp x : ℕ)
+    → (IsOneOf nodes x × (cut_of (raised_cut cut nodes stamp) x ≡ max (cut_of cut x) stamp))
+    ⊎ ((IsOneOf nodes x → ⊥) × (cut_of (raised_cut cut nodes stamp) x ≡ cut_of cut x))
+raised_or cut nodes stamp x =
+    elim (is_listed nodes x) as (λ b. is_listed nodes x ≡ b → (IsOneOf nodes x × (cut_of (raised_cut cut nodes stamp) x ≡ max (cut_of cut x) stamp))
+    ⊎ ((IsOneOf nodes x → ⊥) × (cut_of (raised_cut cut nodes stamp) x ≡ cut_of cut x))) [
+      | true ↦ λ listed. inl ((listed_one nodes x).0 listed, here ∙ ap (λ b. cond b (max (cut_of cut x) stamp) (cut_of cut x)) listed)
+      | false ↦ λ other.
+          inr (
+            (λ one. true_not_false (sym ((listed_one nodes x).1 one) ∙ other)),
+            here ∙ ap (λ b. cond b (max (cut_of cut x) stamp) (cut_of cut x)) other,
           )
-      | false ↦ λ e.
-          let rest = here ∙ ap (λ b. cond b (max (cut_of cut node) stamp) (cut_of (lifted_cut cut nodes stamp) x)) e in
-          elim (lifted_or cut nodes stamp x) [
-            | inl one ↦ inl (inr one.0, rest ∙ one.1)
-            | inr none ↦ inr ((λ one. elim one [ inl same ↦ eqb-false _ _ e (sym same) | inr more ↦ none.0 more ]), rest ∙ none.1)
-          ]
     ] refl
   where
-    here : cut_of (lifted_cut cut (node ∷ nodes) stamp) x
-        ≡ cond (nat_eq x node) (max (cut_of cut node) stamp) (cut_of (lifted_cut cut nodes stamp) x)
-    here = cut_inserted (lifted_cut cut nodes stamp) node (max (cut_of cut node) stamp) x
+    here : cut_of (raised_cut cut nodes stamp) x ≡ cond (is_listed nodes x) (max (cut_of cut x) stamp) (cut_of cut x)
+    here = stamp_raised cut nodes stamp x
 
 -- what was left of a node that one more commit does not hold is left of it
 left_more : (done : List CoreCommit) (commit : CoreCommit) (node : ℕ) (at_first : Bool) (left next : Left) → commit.holds node ≡ false
@@ -111,7 +88,7 @@ module _ (run : Progress) (is : IsSoundTree run.first) (legal : IsLegal run.firs
     whole = of_the_whole commit ready.knows
 
     raised : Cut
-    raised = lifted_cut run.cut commit.members flush.stamp
+    raised = raised_cut run.cut commit.members flush.stamp
 
     after : ℕ → Bool
     after node = cond (commit.makes.gets node) true (cond (commit.makes.loses node) false (run.inodes node))
@@ -119,7 +96,7 @@ module _ (run : Progress) (is : IsSoundTree run.first) (legal : IsLegal run.firs
     lifted_node : (node : ℕ) → (Gathers look node × (cut_of raised node ≡ max (cut_of run.cut node) flush.stamp))
         ⊎ ((Gathers look node → ⊥) × (cut_of raised node ≡ cut_of run.cut node))
     unfolding raised
-    lifted_node node = elim (lifted_or run.cut commit.members flush.stamp node) [
+    lifted_node node = elim (raised_or run.cut commit.members flush.stamp node) [
       | inl one ↦ inl ((ready.made.members node).0 one.0, one.1)
       | inr none ↦ inr ((λ own. none.0 ((ready.made.members node).1 own)), none.1)
     ]

@@ -21,7 +21,8 @@ use Rattle.beside_laws.specs.Laws.{KnowsRun, FindsAlways, HasFound, AreReady}
 use Rattle.beside_laws.specs.Progress.{Progress, Standing, KnownAtReserving, nobody}
 use Rattle.beside_laws.specs.Worked.{MadeIn, ONE, TWO, making, run_begun, HasMade, TwoMakes, commit_of_making, first_of_two, second_of_two, TwoAreOpen, TwoMayBeOpen}
 use Rattle.beside_laws.proofs.Finding.{found_once}
-use Rattle.beside_laws.proofs.Raising.{lifted_cut, lifted_or, of_the_whole}
+use Rattle.cut_laws.proofs.RaisedCut.{raised_cut}
+use Rattle.beside_laws.proofs.Raising.{raised_or, of_the_whole}
 use Rattle.beside_laws.proofs.Ruled.{ruled_know}
 
 abbrev birth_as : ℕ → ℕ → ℕ → Birth
@@ -224,16 +225,16 @@ module _ (first : TreeState) (history : List Entry) (name other_name : List ℕ)
     knows = ruled_know run commit begun known
 
     raised : Cut
-    raised = lifted_cut empty (made.directory ∷ []) made.fsync
+    raised = raised_cut empty (made.directory ∷ []) made.fsync
 
     lifted_by : IsLiftedBy look empty raised
     unfolding raised
     lifted_by = record {
-      gathered = λ node gathered. elim (lifted_or empty (made.directory ∷ []) made.fsync node) [
+      gathered = λ node gathered. elim (raised_or empty (made.directory ∷ []) made.fsync node) [
         | inl one ↦ one.1
         | inr not ↦ absurd (not.0 (inl (sym (gathers_own gathered))))
       ];
-      others = λ node. elim (lifted_or empty (made.directory ∷ []) made.fsync node) [
+      others = λ node. elim (raised_or empty (made.directory ∷ []) made.fsync node) [
         | inr not ↦ inr not.1
         | inl one ↦ elim one.0 [ inl same ↦ inl (subst (Gathers look) same itself) | inr never ↦ absurd never ]
       ];

@@ -53,3 +53,4 @@ pub mod RaisedRuns
 pub mod CoveredRuns
 pub mod LongerRuns
 pub mod OwnFiles
+pub mod RaisedCut

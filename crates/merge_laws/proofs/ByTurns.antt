@@ -22,15 +22,13 @@ use Rattle.crash_laws.specs.Survives.{Ascend, RaisesInOrder}
 use Rattle.crash_laws.proofs.Fsyncs.{acknowledged_once}
 use Rattle.turn_laws.specs.Books.{flush_at}
 use Rattle.turn_laws.specs.LawsTurns.{durable_by_act}
+use Rattle.image_laws.proofs.Places.{le_true}
 use Rattle.turn_laws.proofs.Behind.{stays_in}
 use Rattle.merge_laws.specs.Laws.{IsFrontUntil, MomentsCutTurns, DurablesAreAcknowledged, DurablesSurvive, DurablesReadBack}
 use Rattle.merge_laws.specs.LeftByTurns.{turns_until, TimesRise, BeginsWithDurables}
 use Rattle.merge_laws.specs.Plays.{durables, PensMerge}
 use Rattle.merge_laws.specs.Tell.{TurnsTell}
 use Rattle.merge_laws.proofs.Told.{merged_tell, none_behind}
-
-at_most : (a b : ℕ) → a ≤ b → nat_le a b ≡ true
-at_most a b le = grind (arith, nat_tests)
 
 -- A Durable of an fsync is among turns.
 abbrev pub IsDurableAmong : List Turn → Flush → Type 0
@@ -121,7 +119,7 @@ module _ (first : TreeState) (history : List Entry) (legal : IsLegal first histo
       subst (IsOneOf (durables (turns_until moment turns))) was.own
       (to_durables (turns_until moment turns) was.turn
       (stays_in (λ (t : Turn). nat_le t.now moment) turns was.turn was.among
-      (at_most was.turn.now moment (subst (λ (n : ℕ). n ≤ moment) (sym was.now) acked.2))) was.did)
+      (le_true was.turn.now moment (subst (λ (n : ℕ). n ≤ moment) (sym was.now) acked.2))) was.did)
 
   -- the durable fsyncs up to a moment are those acknowledged by it, in their order
   pub acknowledged_first : (turns : List Turn) (moment : ℕ) (flushes : List Flush) → TurnsTell history turns → TimesRise turns

@@ -1,7 +1,6 @@
 -- Lists taken apart: what stands at a place, what passes a test, and what was joined of parts.
 use Rattle.std.specs.Prelude.{filter, flat_map}
 use Rattle.std.proofs.Common.{◌≡◌, ◌∷◌, ◌++◌, ◌⊎◌, ◌∙◌, Bool, true, false, cond, List, [], inl, inr, refl, sym, ap}
-use Rattle.sfs_base.proofs.BasicTruth.{true_not_false}
 use Rattle.cut_laws.specs.Rules.{IsOneOf}
 use Rattle.cut_laws.proofs.Basics.{in_left, in_right, in_either}
 

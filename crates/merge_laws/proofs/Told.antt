@@ -73,25 +73,13 @@ not_failed _ may never = absurd may
 ends_ok : (failed : Option ℕ) (a : TurnAct) (turn : Turn) (given : Reply) (ack : Option ℕ) → EndsWith failed a turn given ack → given ≡ reply.Ok
     → (a ≡ act.Durable) × (ack ≡ Some turn.now)
 ends_ok failed act.Granted turn given ack ends ok = absurd ends
-ends_ok failed act.GivenBack turn given ack ends ok = absurd (other (sym ends ∙ ok))
-  where
-    other : reply.NoMemory ≡ reply.Ok → ⊥
-    other e = cc
-ends_ok failed (act.Short kind need free) turn given ack ends ok = absurd (other (sym ends ∙ ok))
-  where
-    other : reply.NoSpace kind need free ≡ reply.Ok → ⊥
-    other e = cc
-ends_ok failed act.Halted turn given ack ends ok = absurd (other (sym ends.2 ∙ ok))
-  where
-    other : reply.Stopped ends.0 ≡ reply.Ok → ⊥
-    other e = cc
+ends_ok failed act.GivenBack turn given ack ends ok = absurd (cc (sym ends ∙ ok))
+ends_ok failed (act.Short kind need free) turn given ack ends ok = absurd (cc (sym ends ∙ ok))
+ends_ok failed act.Halted turn given ack ends ok = absurd (cc (sym ends.2 ∙ ok))
 ends_ok failed act.CutAt turn given ack ends ok = absurd ends
 ends_ok failed act.Opened turn given ack ends ok = absurd ends
 ends_ok failed act.Durable turn given ack ends ok = (refl, ends.1)
-ends_ok failed act.Fail turn given ack ends ok = absurd (other (sym ends ∙ ok))
-  where
-    other : reply.DiskFailed ≡ reply.Ok → ⊥
-    other e = cc
+ends_ok failed act.Fail turn given ack ends ok = absurd (cc (sym ends ∙ ok))
 
 -- The last turn of an fsync that was answered Ok.
 record EndsDurable (turns : List Turn) (entry : Entry) : Type 0 where
@@ -102,10 +90,7 @@ record EndsDurable (turns : List Turn) (entry : Entry) : Type 0 where
 
 ends_durable : (failed : Option ℕ) (turns : List Turn) (entry : Entry) (last : Option Turn) → last_turn entry.stamp.0 turns ≡ last
     → EndsBy failed last entry.reply entry.ack → entry.reply ≡ reply.Ok → EndsDurable turns entry
-ends_durable failed turns entry None e ends ok = absurd (other (sym ends ∙ ok))
-  where
-    other : reply.NoMemory ≡ reply.Ok → ⊥
-    other f = cc
+ends_durable failed turns entry None e ends ok = absurd (cc (sym ends ∙ ok))
 ends_durable failed turns entry (Some turn) e ends ok =
     let its = ends_ok failed turn.act turn entry.reply entry.ack ends ok in
     record { turn = turn; last = e; did = its.0; told = its.1 }

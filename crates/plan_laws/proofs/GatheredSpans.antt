@@ -1,11 +1,11 @@
 -- What was gathered in a member's span is all that the history logs there, where what was gathered is enough.
 use Rattle.std.proofs.Common.{◌≡◌, ℕ, ◌<◌, ◌≤◌, Bool, true, false, List, [], filter, Option, Some, None, refl, sym, ap, subst, ◌∙◌, nat_eq, nat_lt}
-use Rattle.std.specs.Prelude.{◌&&◌, nat_le}
+use Rattle.std.specs.Prelude.{nat_le}
 use Rattle.std.specs.List.{find}
 use Rattle.std.specs.Option.{option_map_or}
 use borrow.Author.Tests.{eqb-true, leb-true, ltb-true}
 use Rattle.sfs_base.proofs.BasicOptions.{none_some, some_same}
-use Rattle.sfs_base.proofs.BasicTruth.{and_first, and_second, and_true}
+use Rattle.sfs_base.proofs.BasicTruth.{and_first, and_second}
 use Rattle.sfs_base.specs.declared.numbers.NodeId.{NodeId}
 use Rattle.sfs_base.specs.declared.numbers.Stamp.{Stamp}
 use Rattle.tree_laws.specs.declared.changes.Change.{Change}
@@ -18,7 +18,7 @@ use Rattle.tree_laws.specs.Tree.{TreeState}
 use Rattle.cut_laws.specs.Closure.{Counts}
 use Rattle.cut_laws.specs.Cut.{Cut, cut_of}
 use Rattle.cut_laws.specs.Rules.{IsOneOf}
-use Rattle.cut_laws.proofs.Basics.{filter_none, filter_same}
+use Rattle.cut_laws.proofs.Basics.{filter_none}
 use Rattle.cut_laws.proofs.Listed.{from_map}
 use Rattle.cut_laws.proofs.RunFacts.{found_in, in_filter}
 use Rattle.look_laws.specs.Fit.{KnowsEnough}
@@ -30,7 +30,6 @@ use Rattle.dep_closure.specs.History.{logged_of, IsLogOf}
 use Rattle.dep_closure.specs.Spans.{is_in_span}
 use Rattle.cut_laws.proofs.Listed.{filter_again, to_filter}
 use Rattle.dep_closure.proofs.Looked.{from_flat, one_of_all, only_one}
-use Rattle.dep_closure.proofs.Parts.{pass_both}
 use Rattle.dep_closure.proofs.True.{logged_at, logged_once, row as logged_row_is}
 
 -- what a history logs of a node in its span, from its cut to below a stamp

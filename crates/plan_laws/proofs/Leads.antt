@@ -76,7 +76,8 @@ use Rattle.plan_laws.proofs.Moves.{named_but_root, moved_but_root, inodes_then, 
 use Rattle.plan_laws.proofs.GatheredSpans.{logged_span}
 use Rattle.plan_laws.proofs.Names.{named_by_nets}
 use Rattle.plan_laws.proofs.Nets.{each_net, nets_lead}
-use Rattle.plan_laws.proofs.Raised.{raised_cut, is_raised}
+use Rattle.cut_laws.proofs.RaisedCut.{raised_cut}
+use Rattle.plan_laws.proofs.Raised.{is_raised}
 use Rattle.plan_laws.proofs.Sees.{SeesCommit, sees_enough}
 
 -- whether an fsync's own node is a directory is known by its file

@@ -32,17 +32,17 @@ use Rattle.dep_closure.specs.declared.gathered.Gathered.{Gathered}
 use Rattle.dep_closure.specs.Gathered.{span_in}
 use Rattle.dep_closure.specs.History.{logged_of}
 use Rattle.dep_closure.specs.Spans.{is_in_span}
-use Rattle.keyed_list.specs.Ascending.{AscendBy, item_with}
+use Rattle.keyed_list.specs.Ascending.{AscendBy}
 use Rattle.disk_change.specs.Nodes.{net_node}
 use Rattle.disk_change.specs.Seated.{net_of_node}
 use Rattle.disk_change.specs.declared.directory_net.DirectoryNet.{DirectoryNet}
-use Rattle.keyed_list.proofs.Searched.{item_at}
 use Rattle.flush_laws.specs.Planned.{HasNets}
 use Rattle.flush_plan.specs.Concerned.{AreNetsOf}
 use Rattle.flush_plan.proofs.Stood.{nets_need_no_rows}
 use Rattle.plan_laws.proofs.EntryRows.{LeadRows}
 use Rattle.plan_laws.proofs.GatheredSpans.{logged_span}
-use Rattle.plan_laws.proofs.Raised.{raised_cut, stamp_raised, span_raised}
+use Rattle.cut_laws.proofs.RaisedCut.{raised_cut, stamp_raised}
+use Rattle.plan_laws.proofs.Raised.{span_raised}
 use Rattle.plan_laws.proofs.SpanRows.{lead_cuts}
 
 -- numbers of items that ascend are sorted

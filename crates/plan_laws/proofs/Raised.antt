@@ -1,47 +1,17 @@
 -- The cut that an fsync raises, made of the list of its members.
-use Rattle.std.proofs.Common.{◌≡◌, ℕ, ◌<◌, Bool, true, false, cond, max, List, [], ◌∷◌, Option, Some, ◌⊎◌, inl, inr, refl, sym, ap, ◌∙◌, arith, nat_eq, nat_lt}
-use Rattle.std.specs.Prelude.{◌||◌, ◌&&◌, ◌↔◌, nat_le}
-use Rattle.std.specs.Cmp.{nat_cmp_total, unsigned_ties}
-use Rattle.std.specs.FinMap.{get, insert, get-insert}
-use Rattle.std.specs.Option.{unwrap_or}
+use Rattle.std.proofs.Common.{◌≡◌, ℕ, ◌<◌, Bool, true, false, cond, max, List, ◌⊎◌, inl, inr, refl, sym, ap, ◌∙◌, arith, nat_lt}
+use Rattle.std.specs.Prelude.{◌&&◌, ◌↔◌, nat_le}
 use Rattle.std.proofs.Math.Nat.{max-eq_left, max-eq_right}
-use Rattle.std.proofs.lemmas.Bool.{cases_lt, eqb-false}
+use Rattle.std.proofs.lemmas.Bool.{cases_lt}
 use Rattle.std.proofs.lemmas.Bool.Decides.{nat_tests}
-use borrow.Author.Tests.{eqb-true}
 use Rattle.sfs_base.specs.Listed.{is_listed}
-use Rattle.sfs_base.proofs.BasicNumbers.{same_number, not_same}
 use Rattle.tree_laws.specs.declared.changes.Change.{Change}
 use Rattle.tree_laws.specs.declared.history.Entry.{Entry}
 use Rattle.tree_laws.specs.Tree.{TreeState}
 use Rattle.cut_laws.specs.Closure.{every_entry, Flush, Closure, IsRaised}
 use Rattle.cut_laws.specs.Cut.{Cut, cut_of}
+use Rattle.cut_laws.proofs.RaisedCut.{raised_cut, stamp_raised}
 use Rattle.dep_closure.specs.Spans.{is_in_span}
-
--- a cut with the stamps of some nodes raised to this one at least
-pub raised_cut : Cut → List ℕ → ℕ → Cut
-raised_cut cut [] to = cut
-raised_cut cut (node ∷ nodes) to = insert (raised_cut cut nodes to) node (max (cut_of cut node) to)
-
--- each of them has it, and any other its own
-pub stamp_raised : (cut : Cut) (nodes : List ℕ) (to x : ℕ)
-    → cut_of (raised_cut cut nodes to) x ≡ cond (is_listed nodes x) (max (cut_of cut x) to) (cut_of cut x)
-unfolding raised_cut
-stamp_raised cut [] to x = refl
-stamp_raised cut (node ∷ nodes) to x =
-    let found = get-insert nat_cmp_total (raised_cut cut nodes to) node (max (cut_of cut node) to) x
-    ∙ ap (λ b. cond b (Some (max (cut_of cut node) to)) (get (raised_cut cut nodes to) x)) (sym (unsigned_ties x node)) in
-    ap (λ (o : Option ℕ). unwrap_or o 0) found
-    ∙ elim (nat_eq x node) as (λ b. nat_eq x node ≡ b
-    → unwrap_or (cond b (Some (max (cut_of cut node) to)) (get (raised_cut cut nodes to) x)) 0
-    ≡ cond (nat_eq node x || is_listed nodes x) (max (cut_of cut x) to) (cut_of cut x)) [
-      | true ↦ λ t.
-          let same : x ≡ node = eqb-true x node t in
-          ap (λ n. max (cut_of cut n) to) (sym same)
-          ∙ sym (ap (λ b. cond (b || is_listed nodes x) (max (cut_of cut x) to) (cut_of cut x)) (ap (λ n. nat_eq n x) (sym same) ∙ same_number x))
-      | false ↦ λ f.
-          stamp_raised cut nodes to x
-          ∙ sym (ap (λ b. cond (b || is_listed nodes x) (max (cut_of cut x) to) (cut_of cut x)) (not_same node x (λ same. eqb-false x node f (sym same))))
-    ] refl
 
 -- where the listed nodes are the members, it is the cut that the fsync raises
 pub is_raised : (first : TreeState) (history : List Entry) (cut : Cut) (inodes : ℕ → Bool) (flush : Flush) (nodes : List ℕ)
