@@ -17,7 +17,7 @@ use Rattle.cut_laws.proofs.Listed.{listed_one}
 use Rattle.sfs_base.specs.Listed.{is_listed}
 use Rattle.sfs_base.proofs.BasicTruth.{true_not_false}
 use Rattle.look_laws.specs.Look.{Look, Gathers, Touches, member, named}
-use Rattle.look_laws.specs.Beside.{NamedHaveInodes, AreInodesBehind, IsLiftedBy, IsOfTheWhole}
+use Rattle.look_laws.specs.Beside.{Lifting, NamedHaveInodes, AreInodesBehind, IsLiftedBy, IsOfTheWhole}
 use Rattle.look_laws.proofs.Fitting.{sight_of}
 use Rattle.look_laws.proofs.Knowing.{looks_know}
 use Rattle.beside_laws.specs.Commits.{CoreCommit, commit_fsync, observed_by, has_inode_behind, IsByItsLook, Share}
@@ -68,6 +68,10 @@ left_more done commit node at_first left next free stamp inode (somebody other l
     })
     (stamp ∙ lifted) (inode ∙ made)
 
+-- the nodes with an inode behind a commit that makes this
+abbrev pub inodes_made : Lifting → (ℕ → Bool) → ℕ → Bool
+inodes_made makes inodes node = cond (makes.gets node) true (cond (makes.loses node) false (inodes node))
+
 module _ (run : Progress) (is : IsSoundTree run.first) (legal : IsLegal run.first run.history) (stands : Standing run) where
   -- each node that a row at the cut names has an inode
   named_have : (commit : CoreCommit) → NamedHaveInodes (observed_by run.first run.history commit) run.cut run.inodes
@@ -89,9 +93,6 @@ module _ (run : Progress) (is : IsSoundTree run.first) (legal : IsLegal run.firs
 
     raised : Cut
     raised = raised_cut run.cut commit.members flush.stamp
-
-    after : ℕ → Bool
-    after node = cond (commit.makes.gets node) true (cond (commit.makes.loses node) false (run.inodes node))
 
     lifted_node : (node : ℕ) → (Gathers look node × (cut_of raised node ≡ max (cut_of run.cut node) flush.stamp))
         ⊎ ((Gathers look node → ⊥) × (cut_of raised node ≡ cut_of run.cut node))
@@ -118,8 +119,7 @@ module _ (run : Progress) (is : IsSoundTree run.first) (legal : IsLegal run.firs
           absurd (not_both ((ready.made.makes.moved.leaves node).0 loses).0 ((ready.made.makes.moved.enters node).0 gets).0)
     ]
 
-    behind : AreInodesBehind run.inodes commit.makes after
-    unfolding after
+    behind : AreInodesBehind run.inodes commit.makes (inodes_made commit.makes run.inodes)
     behind = record {
       got = λ node gets. ap (λ b. cond b true (cond (commit.makes.loses node) false (run.inodes node))) gets;
       lost = λ node loses.
@@ -129,8 +129,8 @@ module _ (run : Progress) (is : IsSoundTree run.first) (legal : IsLegal run.firs
           ap (λ b. cond b true (cond (commit.makes.loses node) false (run.inodes node))) none ∙ ap (λ b. cond b false (run.inodes node)) keeps;
     }
 
-    inodes_after : AreInodesAfter run.first run.history every_entry run.cut run.inodes flush raised after
-    inodes_after = whole.moves raised commit.makes after raise ready.made.makes (ready.finds raised raise) behind
+    inodes_after : AreInodesAfter run.first run.history every_entry run.cut run.inodes flush raised (inodes_made commit.makes run.inodes)
+    inodes_after = whole.moves raised commit.makes (inodes_made commit.makes run.inodes) raise ready.made.makes (ready.finds raised raise) behind
 
     -- a node that it holds, and one that it doesn't
     made_stamp : (node : ℕ) → Touches look node → cut_of raised node ≡ commit.makes.lifted node
@@ -143,14 +143,13 @@ module _ (run : Progress) (is : IsSoundTree run.first) (legal : IsLegal run.firs
       ]
     ]
 
-    made_inode : (node : ℕ) → Touches look node → after node ≡ has_inode_behind commit node
-    unfolding after
+    made_inode : (node : ℕ) → Touches look node → inodes_made commit.makes run.inodes node ≡ has_inode_behind commit node
     made_inode node touched =
         ap (λ b. cond (commit.makes.gets node) true (cond (commit.makes.loses node) false b)) (sym (ready.knows.enough.same_inodes node touched))
 
     module _ (any : Cut) (left_inodes : ℕ → Bool) (to : RaisesTo run commit any left_inodes) where
-      same : AreTheSame any raised left_inodes after
-      same = fsyncs_raise_one_cut run commit any raised left_inodes after to (record { raises = raise; inodes_after = inodes_after })
+      same : AreTheSame any raised left_inodes (inodes_made commit.makes run.inodes)
+      same = fsyncs_raise_one_cut run commit any raised left_inodes (inodes_made commit.makes run.inodes) to (record { raises = raise; inodes_after = inodes_after })
 
       rise : (node : ℕ) → cut_of run.cut node ≤ cut_of any node
       rise = cuts_rise run.first run.history every_entry run.cut run.inodes flush any to.raises
@@ -281,7 +280,7 @@ module _ (run : Progress) (is : IsSoundTree run.first) (legal : IsLegal run.firs
     pub raises_now : BecomesDurable run commit
     raises_now = record {
       raised = raised;
-      after = after;
+      after = inodes_made commit.makes run.inodes;
       raises = record { raises = raise; inodes_after = inodes_after };
       done = λ any left_inodes to. record { stands = stands_now any left_inodes to; others = others_know any left_inodes to };
     }
