@@ -1,15 +1,13 @@
 -- What a crash leaves of the device calls of a commit.
-use Rattle.std.proofs.Common.{◌≡◌, ℕ, ◌+◌, ◌<◌, ◌≤◌, List, length, Some, None, inl, inr, refl, sym, ap, subst, ◌∙◌, arith}
+use Rattle.std.proofs.Common.{◌≡◌, ℕ, ◌<◌, ◌≤◌, List, Some, None, inl, inr, subst, arith}
 use Rattle.std.specs.Prelude.{◌⊎◌, Result, Ok, Err}
 use Rattle.std.proofs.lemmas.Bool.{cases_lt}
 use Rattle.sfs_dev.specs.Disk.{View, images}
-use Rattle.sfs_dev.specs.Run.{CountsOn, Advances}
 use Rattle.sfs_image.specs.ImageOf.{InodePart}
 use Rattle.sfs_image.specs.Part.{Part}
 use Rattle.tree_laws.specs.Tree.{TreeState}
 use Rattle.journal_one.specs.Job.{Job}
-use Rattle.commit_one.specs.Carried.{Carries, IsMomentOf, durable_at, sealed_at, device_calls}
-use Rattle.commit_one.specs.Change.{IsBefore, IsByItsSlot, IsAfter}
+use Rattle.commit_one.specs.Carried.{durable_at}
 use Rattle.image_laws.specs.Image.{IsReadAsTree}
 use Rattle.crash_laws.specs.Wrote.{Wrote}
 use Rattle.crash_laws.proofs.Untouched.{past_is_kept}

@@ -1,21 +1,20 @@
 -- A tree whose directories have numbers of inodes has few rows, so a link count fits a record.
-use Rattle.std.proofs.Common.{◌≡◌, ◌≢◌, ℕ, zero, suc, ◌+◌, ◌*◌, ◌<◌, ◌≤◌, ◌^◌, Bool, true, false, cond, List, [], ◌∷◌, length, Option, Some, None, inl, inr, refl, sym, ap, subst, ◌∙◌, arith, nat_eq, nat_lt}
+use Rattle.std.proofs.Common.{◌≡◌, ℕ, zero, suc, ◌+◌, ◌*◌, ◌<◌, ◌≤◌, ◌^◌, Bool, true, false, cond, List, [], ◌∷◌, length, Option, Some, inl, inr, refl, sym, ap, subst, ◌∙◌, arith, nat_eq, nat_lt}
 use Rattle.std.specs.Prelude.{◌⊎◌, count_by}
-use Rattle.std.specs.FinMap.{FinMap, get, len, entries, len-entries}
+use Rattle.std.specs.FinMap.{get, len, entries, len-entries}
 use Rattle.std.specs.Option.{option_map_or}
 use borrow.Author.Tests.{eqb-true, eq-eqb, lt-ltb}
 use Rattle.std.proofs.lemmas.Bool.{cases_Bool, cases_lt, eqb-false, le-ltb}
-use Rattle.std.proofs.lemmas.Bool.Decides.{nat_tests}
 use Rattle.sfs_base.proofs.BasicNumbers.{not_same}
 use Rattle.sfs_base.proofs.BasicTruth.{true_not_false}
 use Rattle.tree_laws.specs.Buckets.{stands_in}
-use Rattle.tree_laws.specs.Order.{Key, key_cmp}
-use Rattle.tree_laws.specs.Sound.{IsSound, IsWithinLimits}
+use Rattle.tree_laws.specs.Order.{Key}
+use Rattle.tree_laws.specs.Sound.{IsWithinLimits}
 use Rattle.tree_laws.specs.Tree.{TreeState, BUCKET_ROWS, names_it, holds_directory, count_of, links_of, is_directory, row_of}
-use Rattle.tree_laws.proofs.Counting.{count-le-len, count_agree, count_none, found, Found}
+use Rattle.tree_laws.proofs.Counting.{count-le-len, count_agree, found, Found}
 use Rattle.tree_laws.proofs.Joined.{count-cons}
 use Rattle.tree_laws.proofs.Names.{len-names_of}
-use Rattle.image_laws.specs.Renamed.{Numbering, HasNumber}
+use Rattle.image_laws.specs.Renamed.{Numbering}
 use Rattle.image_laws.proofs.Sizes.{rows-le}
 
 -- what is below a number or is it

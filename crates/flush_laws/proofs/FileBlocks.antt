@@ -1,6 +1,6 @@
 -- The blocks of a sound part of a file have its bytes.
-use Rattle.std.proofs.Common.{◌≡◌, ◌≢◌, ℕ, ◌+◌, ◌*◌, ◌/◌, ◌%◌, ◌<◌, ◌≤◌, Bool, true, false, cond, List, [], ◌++◌, length, take, drop, get_or, inl, inr, refl, sym, ap, subst, ◌∙◌, arith, nat_eq, nat_lt}
-use Rattle.std.specs.Prelude.{◌⊎◌, slice_index, slice_index_or}
+use Rattle.std.proofs.Common.{◌≡◌, ℕ, ◌+◌, ◌*◌, ◌/◌, ◌%◌, ◌<◌, ◌≤◌, true, false, List, [], ◌++◌, length, take, get_or, inl, inr, sym, ap, subst, ◌∙◌, arith, nat_eq, nat_lt}
+use Rattle.std.specs.Prelude.{slice_index, slice_index_or}
 use borrow.Author.Tests.{eqb-true, eq-eqb}
 use Rattle.std.proofs.Math.ListN.{drop_of_length-le}
 use Rattle.std.proofs.lemmas.Bool.{cond-true, cases_Bool, cases_lt, eqb-false, lt-ltb}
@@ -8,11 +8,10 @@ use Rattle.std.proofs.lemmas.List.{ext_get_or, get_or_past, take_all}
 use Rattle.sfs_base.specs.declared.numbers.Kind.TheVariants.{File}
 use Rattle.sfs_image.specs.Bytes.{zeros}
 use Rattle.sfs_image.specs.Part.{Part, inode_in, is_file_part, is_free_part, pointer_at, read_block, file_byte, seen_of}
-use Rattle.sfs_image.specs.Rules.{first_covered}
-use Rattle.sfs_image.specs.Seen.{Seen, FILE_BLOCKS}
+use Rattle.sfs_image.specs.Seen.{FILE_BLOCKS}
 use Rattle.sfs_image.specs.Slot.{kind_byte}
-use Rattle.sfs_image.specs.Super.{Layout, data_start}
-use Rattle.sfs_image.proofs.Basics.{get_or-tabulate, length-tabulate}
+use Rattle.sfs_image.specs.Super.{Layout}
+use Rattle.sfs_image.proofs.Basics.{get_or-tabulate}
 use Rattle.sfs_image.proofs.BytesLaws.{length-zeros}
 use Rattle.sfs_image.proofs.MadeLaws.{gathered_is_read}
 use Rattle.sfs_image.proofs.PartLaws.{hole_is_read, block_behind}

@@ -1,20 +1,18 @@
 -- The numbers after a plan are those of the nodes that then have an inode.
 use Rattle.std.proofs.Common.{◌≡◌, ℕ, Bool, true, false, cond, List, [], ◌∷◌, map, Option, Some, None, is_some, inl, inr, refl, sym, ap, subst, ◌∙◌, nat_eq, Contains}
-use Rattle.std.specs.Prelude.{◌⊎◌, ◌↔◌}
+use Rattle.std.specs.Prelude.{◌↔◌}
 use borrow.Author.Tests.{eqb-true}
 use Rattle.std.proofs.lemmas.Bool.{cases_Bool}
 use Rattle.sfs_base.proofs.BasicTruth.{true_not_false}
 use Rattle.sfs_base.proofs.BasicOptions.{none_some}
-use Rattle.sfs_base.proofs.BasicNumbers.{same_number}
 use Rattle.sfs_image.specs.Seen.{SeenInodes}
 use Rattle.tree_laws.specs.Tree.{TreeState}
-use Rattle.image_laws.specs.Numbers.{grant_for, numbers_after, InodeGrantServes, NumbersAreGiven}
+use Rattle.image_laws.specs.Numbers.{grant_for, InodeGrantServes, NumbersAreGiven}
 use Rattle.image_laws.specs.Renamed.{Numbering, HasNumber}
 use Rattle.image_laws.proofs.Numbers.{grants_give_numbers}
 use Rattle.space_map.specs.Space.{GrantedNumbers}
 use Rattle.disk_change.specs.Directory.{is_among}
 use Rattle.disk_change.specs.Nodes.{enter_node}
-use Rattle.disk_change.specs.declared.enter.Enter.{Enter}
 use Rattle.disk_change.proofs.NumbersGiven.{first_in, further_in}
 use Rattle.commit_laws.specs.CommitOfPlan.{CommitPlan, numbers_planned, commit_of}
 use Rattle.commit_laws.specs.NumbersGiven.{node_leaves}

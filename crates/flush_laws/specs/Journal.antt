@@ -1,5 +1,5 @@
 -- The commit of an fsync through a journal slot, and what a crash leaves of it.
-use Rattle.std.specs.Prelude.{◌≡◌, ℕ, ◌<◌, Bool, List, map, Some, None, Result, Ok, Err}
+use Rattle.std.specs.Prelude.{◌≡◌, ℕ, ◌<◌, List, map, Some, None, Result, Ok, Err}
 use Rattle.sfs_dev.specs.Disk.{View, images}
 use Rattle.sfs_dev.specs.Run.{CountsOn, Advances}
 use Rattle.sfs_dev.specs.Steps.{IfTold}
@@ -7,7 +7,6 @@ use Rattle.sfs_image.specs.ImageOf.{InodePart}
 use Rattle.sfs_image.specs.Inode.{inode_bytes}
 use Rattle.sfs_image.specs.Part.{Part, inode_in}
 use Rattle.sfs_image.specs.Settled.{slot_count}
-use Rattle.tree_laws.specs.declared.history.Entry.{Entry}
 use Rattle.tree_laws.specs.Tree.{TreeState}
 use Rattle.fmt_journal.specs.declared.tx.TxRecord.{TxRecord}
 use Rattle.journal_one.specs.Job.{Job}
@@ -15,17 +14,14 @@ use Rattle.journal_one.specs.Packed.{record_entry}
 use Rattle.commit_one.specs.Carried.{Carries, TakesCalls, durable_at, device_calls}
 use Rattle.commit_one.specs.Change.{IsChangeOf, parts_after, IsBefore, IsByItsSlot, IsAfter}
 use Rattle.image_laws.specs.Image.{IsReadAsTree}
-use Rattle.image_laws.specs.Renamed.{Numbering}
 use Rattle.space_map.specs.Space.{GrantedNumbers}
 use Rattle.disk_change.specs.Records.{records_written}
-use Rattle.disk_nodes.specs.declared.old.OldEntry.{OldEntry}
 use Rattle.commit_laws.specs.CommitOfPlan.{CommitPlan, change_planned}
 use Rattle.commit_laws.specs.PartsMade.{blocks_planned}
 use Rattle.commit_laws.specs.PartsStand.{part_next}
 use Rattle.crash_laws.specs.Wrote.{Wrote}
-use Rattle.cut_laws.specs.Closure.{Flush}
-use Rattle.cut_laws.specs.Cut.{Cut, tree_at_cut}
 use Rattle.flush_laws.specs.Planned.{IsPlannedFsync}
+use Rattle.flush_laws.specs.Volume.{Volume, OneFsync, tree_held, tree_raised, parts_left}
 
 -- A job writes what a plan's commit writes: its records and its fresh blocks.
 pub record WritesPlan (plan : CommitPlan) (grant : GrantedNumbers) (job : Job) : Type 0 where
@@ -37,10 +33,21 @@ pub record WritesPlan (plan : CommitPlan) (grant : GrantedNumbers) (job : Job) :
 abbrev pub AreSpelled : ℕ → (ℕ → Part) → Type 0
 AreSpelled count parts = (i : ℕ) → i < count → inode_bytes (inode_in (parts i)) ≡ (parts i).raw
 
--- the parts that a commit gives: those of its records
-abbrev pub parts_given : (ℕ → List ℕ) → (ℕ → Part) → CommitPlan → GrantedNumbers → List InodePart
-parts_given store parts plan grant =
-    map (λ (one : TxRecord). record { inode = one.inode; part = part_next store parts plan grant one.inode }) (records_written (change_planned plan) grant)
+-- the parts that an fsync's commit gives: those of its records
+abbrev pub parts_brought : Volume → OneFsync → List InodePart
+parts_brought volume one =
+    map (λ (written : TxRecord). record { inode = written.inode; part = parts_left volume one written.inode }) (records_written (change_planned one.plan) one.grant)
+
+-- the records of a volume's disk are spelled as their inodes are
+abbrev pub IsSpelled : Volume → Type 0
+IsSpelled volume = AreSpelled volume.layout.inodes volume.parts
+
+-- A planned fsync has a job that writes its plan, through a slot of the volume's disk.
+pub record HasJob (volume : Volume) (one : OneFsync) (job : Job) : Type 0 where
+  pub planned : IsPlannedFsync volume one
+  pub spelled : IsSpelled volume
+  pub layout : job.place.layout ≡ volume.layout
+  pub writes : WritesPlan one.plan one.grant job
 
 -- What a job's commit is: it changes the parts to those after it, and an image is read as the tree at the cut before it, and by its slot or behind it as
 -- the tree at the raised cut.
@@ -53,14 +60,8 @@ pub record ShowsCommit (share : ℕ) (old new : TreeState) (job : Job) (parts ne
   pub spelled : AreSpelled job.place.layout.inodes next
 
 abbrev pub JobsShowCommits : Type 0
-JobsShowCommits =
-    (first : TreeState) (history : List Entry) (flushes : List Flush) (cut : Cut) (inodes : ℕ → Bool) (flush : Flush) (raised : Cut) (after : ℕ → Bool)
-    (num : Numbering) (store : ℕ → List ℕ) (parts : ℕ → Part)
-    (nodes : List ℕ) (entries : List OldEntry) (plan : CommitPlan) (grant : GrantedNumbers) (job : Job) (share : ℕ)
-    → IsPlannedFsync first history flushes cut inodes flush raised after num job.place.layout store parts nodes entries plan grant
-    → AreSpelled job.place.layout.inodes parts → WritesPlan plan grant job
-    → ShowsCommit share (tree_at_cut first history cut) (tree_at_cut first history raised) job parts (part_next store parts plan grant)
-    (parts_given store parts plan grant)
+JobsShowCommits = (volume : Volume) (one : OneFsync) (job : Job) (share : ℕ) → HasJob volume one job
+    → ShowsCommit share (tree_held volume) (tree_raised volume one) job volume.parts (parts_left volume one) (parts_brought volume one)
 
 -- What the device calls of a job's commit owe, where nobody else writes the disk meanwhile: at first each image is as before; time goes on, as long as
 -- the count of calls has not come to its last value; what a read gives is always left by a crash; and the commit is carried.

@@ -1,5 +1,5 @@
 -- The plan of one fsync, and that it leads from the tree at the cut to the tree at the raised cut.
-use Rattle.std.specs.Prelude.{◌≡◌, ◌↔◌, ℕ, ◌*◌, ◌<◌, ◌≤◌, Bool, true, false, List, length, map, None, Some, Contains, Option}
+use Rattle.std.specs.Prelude.{◌≡◌, ◌↔◌, ℕ, ◌*◌, ◌<◌, ◌≤◌, Bool, true, false, List, length, map, None, Contains, Option}
 use Rattle.std.specs.List.Sorted.{IsStrictlySortedBy}
 use Rattle.std.specs.Ordering.{nat_cmp}
 use Rattle.sfs_image.specs.Part.{Part}
@@ -11,7 +11,6 @@ use Rattle.tree_laws.specs.declared.history.Entry.{Entry}
 use Rattle.tree_laws.specs.Tree.{TreeState, names_of, bytes_of, kind_of, is_directory}
 use Rattle.absorb.specs.Net.{IsNet}
 use Rattle.image_laws.specs.Image.{inodes_shown}
-use Rattle.image_laws.specs.Renamed.{Numbering}
 use Rattle.image_laws.specs.Stands.{BLOCK_BYTES}
 use Rattle.space_map.specs.Space.{GrantedNumbers}
 use Rattle.disk_change.specs.AllBuilt.{nodes_with_grant}
@@ -26,15 +25,14 @@ use Rattle.disk_change.specs.declared.directory_net.DirectoryNet.{DirectoryNet}
 use Rattle.disk_change.specs.declared.enter.Enter.{Enter}
 use Rattle.disk_change.specs.declared.files.FileChange.{FileChange}
 use Rattle.disk_nodes.specs.declared.old.OldEntry.{OldEntry}
-use Rattle.commit_laws.specs.BytesKept.{CutsOffEnds, IsCleanPlan}
-use Rattle.commit_laws.specs.CommitOfPlan.{CommitPlan, change_planned, has_inode_then, numbers_planned, ServesPlan}
+use Rattle.commit_laws.specs.BytesKept.{CutsOffEnds}
+use Rattle.commit_laws.specs.CommitOfPlan.{CommitPlan, change_planned, has_inode_then, ServesPlan}
 use Rattle.commit_laws.specs.NumbersGiven.{node_leaves}
-use Rattle.commit_laws.specs.PartsMade.{IsPlanOverParts}
 use Rattle.commit_laws.specs.Rewritten.{has_page, bytes_in_block, HasPages}
 use Rattle.cut_laws.specs.Closure.{every_entry, Flush, IsConcerned, IsRaised, AreInodesAfter}
 use Rattle.cut_laws.specs.Cut.{Cut, tree_at_cut}
-use Rattle.raise_laws.specs.Next.{IsOneMore}
 use Rattle.flush_laws.specs.Ready.{IsBetweenCommits, KeepsEntries}
+use Rattle.flush_laws.specs.Volume.{Volume, OneFsync}
 
 -- Of the entries that memory keeps a plan has those of the nodes that it concerns.
 pub record HasOldEntries (nodes : List ℕ) (entries old : List OldEntry) : Type 0 where
@@ -85,13 +83,11 @@ pub record GrantsPlan (layout : Layout) (parts : ℕ → Part) (plan : CommitPla
   pub slots : (one : Built) → Contains (nodes_with_grant (change_planned plan) grant) one → (block : List (Option Row)) → Contains one.slots block
       → AreSlots block
 
--- What is known where one fsync more has a plan and a grant.
-pub record IsPlannedFsync (first : TreeState) (history : List Entry) (flushes : List Flush) (cut : Cut) (inodes : ℕ → Bool) (flush : Flush) (raised : Cut)
-    (after : ℕ → Bool) (num : Numbering) (layout : Layout) (store : ℕ → List ℕ) (parts : ℕ → Part)
-    (nodes : List ℕ) (entries : List OldEntry) (plan : CommitPlan) (grant : GrantedNumbers) : Type 0 where
-  pub ready : IsBetweenCommits first history flushes cut inodes num layout store parts
-  pub keeps : KeepsEntries num parts entries
-  pub raises : IsRaised first history every_entry cut inodes flush raised
-  pub inodes_after : AreInodesAfter first history every_entry cut inodes flush raised after
-  pub plans : IsPlanAt first history cut inodes flush raised after nodes entries plan
-  pub grants : GrantsPlan layout parts plan grant
+-- What is known where one fsync more of a volume has a plan and a grant.
+pub record IsPlannedFsync (volume : Volume) (one : OneFsync) : Type 0 where
+  pub ready : IsBetweenCommits volume
+  pub keeps : KeepsEntries volume.num volume.parts one.entries
+  pub raises : IsRaised volume.first volume.history every_entry volume.cut volume.inodes one.flush one.raised
+  pub inodes_after : AreInodesAfter volume.first volume.history every_entry volume.cut volume.inodes one.flush one.raised one.after
+  pub plans : IsPlanAt volume.first volume.history volume.cut volume.inodes one.flush one.raised one.after one.nodes one.entries one.plan
+  pub grants : GrantsPlan volume.layout volume.parts one.plan one.grant

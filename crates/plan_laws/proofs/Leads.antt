@@ -11,9 +11,7 @@ use Rattle.sfs_base.proofs.BasicTruth.{and_second, not_both, or_first, or_second
 use Rattle.sfs_base.specs.declared.numbers.NodeId.{NodeId}
 use Rattle.sfs_base.specs.declared.numbers.Stamp.{Stamp}
 use Rattle.sfs_base.specs.Listed.{is_listed}
-use Rattle.sfs_image.specs.Part.{Part}
 use Rattle.sfs_image.specs.Seen.{FILE_BLOCKS}
-use Rattle.sfs_image.specs.Super.{Layout}
 use Rattle.tree_laws.specs.declared.history.Entry.{Entry}
 use Rattle.tree_laws.specs.Changes.{bytes_at}
 use Rattle.tree_laws.specs.History.{tree_after, IsLegal}
@@ -57,6 +55,7 @@ use Rattle.commit_laws.specs.CommitOfPlan.{CommitPlan, has_inode_then}
 use Rattle.commit_laws.specs.NumbersGiven.{node_leaves}
 use Rattle.commit_laws.proofs.OwnInodes.{mapped_is_in}
 use Rattle.commit_laws.proofs.SeatsOfPlan.{in_mapped, in_is_among, among_is_in}
+use Rattle.flush_laws.specs.Volume.{Volume, tree_held}
 use Rattle.flush_laws.specs.Planned.{HasNets, HasMoves, HasFiles, IsPlanAt}
 use Rattle.flush_plan.specs.declared.concern.Concern.{Concern}
 use Rattle.flush_plan.specs.declared.plans.FsyncPlan.{FsyncPlan}
@@ -99,8 +98,7 @@ not_written has gets own stamp none = elim (true_or_false (has || gets)) [
   | inr neither ↦ inl (or_first has gets neither, or_second has gets neither)
 ]
 
-module _ (first : TreeState) (history : List Entry) (flushes : List Flush) (cut : Cut) (inodes : ℕ → Bool) (num : Numbering) (layout : Layout)
-    (store : ℕ → List ℕ) (parts : ℕ → Part) (from : Sources) (is : PlansFsync first history flushes cut inodes num layout store parts from) where
+module _ (volume : Volume) (from : Sources) (is : PlansFsync volume from) where
   abbrev entries : List OldEntry
   entries = from.entries
 
@@ -132,16 +130,16 @@ module _ (first : TreeState) (history : List Entry) (flushes : List Flush) (cut 
   nodes = map node_number concern.nodes.items
 
   abbrev raised : Cut
-  raised = raised_cut cut members below.0
+  raised = raised_cut volume.cut members below.0
 
   abbrev last : TreeState
-  last = tree_after first history
+  last = tree_after volume.first volume.history
 
   abbrev before : TreeState
-  before = tree_at_cut first history cut
+  before = tree_held volume
 
   abbrev later : TreeState
-  later = tree_at_cut first history raised
+  later = tree_at_cut volume.first volume.history raised
 
   abbrev look : Look
   look = look_of start below gathered
@@ -156,93 +154,96 @@ module _ (first : TreeState) (history : List Entry) (flushes : List Flush) (cut 
   loses = is_listed (map node_number plan.leave.items)
 
   abbrev after : ℕ → Bool
-  after = inodes_then inodes gets loses
+  after = inodes_then volume.inodes gets loses
 
-  sound : IsSoundTree first
+  sound : IsSoundTree volume.first
   sound = is.ready.history_is.sound
 
-  legal : IsLegal first history
+  legal : IsLegal volume.first volume.history
   legal = is.ready.history_is.legal
 
-  sees : SeesCommit first history cut inodes start below gathered
+  sees : SeesCommit volume.first volume.history volume.cut volume.inodes start below gathered
   sees =
-      sees_enough first history cut inodes start below gathered sound legal is.orderly
-      (lists_keep first history flushes cut inodes sound legal is.ready.flushed) is.gathers
+      sees_enough volume.first volume.history volume.cut volume.inodes start below gathered sound legal is.orderly
+      (lists_keep volume.first volume.history volume.flushes volume.cut volume.inodes sound legal is.ready.flushed) is.gathers
 
-  closed : (node : ℕ) → (is_listed members node ≡ true) ↔ Closure first history every_entry cut inodes flush node
+  closed : (node : ℕ) → (is_listed members node ≡ true) ↔ Closure volume.first volume.history every_entry volume.cut volume.inodes flush node
   closed node =
       let listed = is.concern_is.members.each node in
       let member = sees.fits.members node in
       ((λ one. member.0 (listed.0 one)), (λ own. listed.1 (member.1 own)))
 
-  raises : IsRaised first history every_entry cut inodes flush raised
-  raises = is_raised first history cut inodes flush members closed
+  raises : IsRaised volume.first volume.history every_entry volume.cut volume.inodes flush raised
+  raises = is_raised volume.first volume.history volume.cut volume.inodes flush members closed
 
   same_kinds : (node : ℕ) → kind_of later node ≡ kind_of before node
-  same_kinds node = (cuts_keep_kinds first history raised).kinds node ∙ sym ((cuts_keep_kinds first history cut).kinds node)
+  same_kinds node = (cuts_keep_kinds volume.first volume.history raised).kinds node ∙ sym
+      ((cuts_keep_kinds volume.first volume.history volume.cut).kinds node)
 
   directory_later : (node : ℕ) → is_directory later node ≡ is_directory last node
-  directory_later node = directory_by_kind later node ∙ ap is_directory_kind ((cuts_keep_kinds first history raised).kinds node)
+  directory_later node = directory_by_kind later node ∙ ap is_directory_kind ((cuts_keep_kinds volume.first volume.history raised).kinds node)
       ∙ sym (directory_by_kind last node)
 
   directory_before : (node : ℕ) → is_directory before node ≡ is_directory last node
-  directory_before node = directory_by_kind before node ∙ ap is_directory_kind ((cuts_keep_kinds first history cut).kinds node)
+  directory_before node = directory_by_kind before node ∙ ap is_directory_kind ((cuts_keep_kinds volume.first volume.history volume.cut).kinds node)
       ∙ sym (directory_by_kind last node)
 
   -- no row at the raised cut names the root
-  root_unnamed : IsNamedIn (rows_at_cut first history raised) 0 → ⊥
+  root_unnamed : IsNamedIn (rows_at_cut volume.first volume.history raised) 0 → ⊥
   root_unnamed there =
       let stamp = cut_of raised there.directory in
-      let same : names_of there.directory later.rows ≡ names_of there.directory (tree_after first (take stamp history)).rows =
-      directories_are_cut first history raised there.directory ∙ rows_at-tree_after first history there.directory stamp legal in
-      let row : row_of (tree_after first (take stamp history)) there.directory there.name ≡ Some 0 =
-      sym (get-names_where there.directory (λ _. true) (tree_after first (take stamp history)).rows there.name)
+      let same : names_of there.directory later.rows ≡ names_of there.directory (tree_after volume.first (take stamp volume.history)).rows =
+      directories_are_cut volume.first volume.history raised there.directory ∙ rows_at-tree_after volume.first volume.history there.directory stamp legal in
+      let row : row_of (tree_after volume.first (take stamp volume.history)) there.directory there.name ≡ Some 0 =
+      sym (get-names_where there.directory (λ _. true) (tree_after volume.first (take stamp volume.history)).rows there.name)
       ∙ ap (λ (m : FinMap name_cmp ℕ). get m there.name) (sym same)
       ∙ get-names_where there.directory (λ _. true) later.rows there.name ∙ there.row in
-      (histories_keep_sound first history stamp sound legal).sound.unnamed there.directory there.name row
+      (histories_keep_sound volume.first volume.history stamp sound legal).sound.unnamed there.directory there.name row
 
-  member_spans : (node : ℕ) → is_listed members node ≡ true → span_in gathered below node ≡ logged_span first history cut below node
+  member_spans : (node : ℕ) → is_listed members node ≡ true → span_in gathered below node ≡ logged_span volume.first volume.history volume.cut below node
   member_spans node listed = sees.spans node ((is.concern_is.members.each node).0 listed)
 
   -- another concerned node than the root is named there exactly where more names come than go
   named_there : (node : ℕ) → node ≢ 0 → Touches look node
-      → (is_named_after old concern.nets.items node ≡ true) ↔ IsNamedIn (rows_at_cut first history raised) node
+      → (is_named_after old concern.nets.items node ≡ true) ↔ IsNamedIn (rows_at_cut volume.first volume.history raised) node
   named_there node apart touches =
-      named_by_nets first history flushes cut inodes num layout store parts entries is.ready is.keeps nodes old is.old_is later concern.nets.items same_kinds
+      named_by_nets volume entries is.ready is.keeps nodes old is.old_is later concern.nets.items same_kinds
       is.concern_is.ascend
-      (each_net first history cut gathered below concern.members.items concern.nets.items sound legal member_spans is.concern_is.nets) node apart
+      (each_net volume.first volume.history volume.cut gathered below concern.members.items concern.nets.items sound legal member_spans is.concern_is.nets)
+      node apart
       ((is.concern_is.nodes.each node).1 touches)
 
   -- so what is found is right, with the root apart
-  right : FindsRight first history every_entry raised look (but_root found)
+  right : FindsRight volume.first volume.history every_entry raised look (but_root found)
   right = record {
     named = λ node touches. (
       λ named. let one = (named_but_root found node).0 named in (named_there node one.0 touches).0 one.1,
-      λ there. let apart : node ≢ 0 = λ same. root_unnamed (subst (IsNamedIn (rows_at_cut first history raised)) same there) in
+      λ there. let apart : node ≢ 0 = λ same. root_unnamed (subst (IsNamedIn (rows_at_cut volume.first volume.history raised)) same there) in
           (named_but_root found node).1 (apart, (named_there node apart touches).1 there),
     );
-    directory = sym (own_kind first history cut start below from.is_file from.change is.file_is);
+    directory = sym (own_kind volume.first volume.history volume.cut start below from.is_file from.change is.file_is);
   }
 
   own_touches : Touches look start.0
   own_touches = member start.0 itself
 
-  root_inode : inodes 0 ≡ true
+  root_inode : volume.inodes 0 ≡ true
   root_inode = (is.ready.numbers.each 0).1 (0, is.ready.numbers.root)
 
   moved : AreMoved look (cuts_after below gathered concern) (but_root found) gets loses
   moved = moved_but_root look (cuts_after below gathered concern) found gets loses (λ touches. sees.same_inodes 0 touches ∙ root_inode) is.plans.moves.moved
 
-  makes : MakesCommit first history every_entry inodes look raised (cuts_after below gathered concern) gets loses
+  makes : MakesCommit volume.first volume.history every_entry volume.inodes look raised (cuts_after below gathered concern) gets loses
   makes = sees.makes raised (cuts_after below gathered concern) (but_root found) gets loses raises is.plans.moves.lifts right moved
 
-  inodes_after : AreInodesAfter first history every_entry cut inodes flush raised after
+  inodes_after : AreInodesAfter volume.first volume.history every_entry volume.cut volume.inodes flush raised after
   inodes_after =
-      sets first history cut raised inodes look (cuts_after below gathered concern) (but_root found) gets loses sees.same_inodes sees.fits moved makes
+      sets volume.first volume.history volume.cut raised volume.inodes look (cuts_after below gathered concern) (but_root found) gets loses sees.same_inodes
+      sees.fits moved makes
 
   -- the tree at the raised cut is sound, and an image may stand for it
-  more : AreFlushed first history every_entry (flushes ++ flush ∷ []) raised after
-  more = one_more flushes flush cut raised inodes after is.ready.flushed raises inodes_after
+  more : AreFlushed volume.first volume.history every_entry (volume.flushes ++ flush ∷ []) raised after
+  more = one_more volume.flushes flush volume.cut raised volume.inodes after is.ready.flushed raises inodes_after
 
   abbrev own_numbers : Numbering
   own_numbers node = cond (after node) (Some node) None
@@ -257,15 +258,17 @@ module _ (first : TreeState) (history : List Entry) (flushes : List Flush) (cut 
       by node true = ((λ _. (node, refl)), (λ _. refl))
       by node false = ((λ e. absurd (true_not_false (sym e))), (λ (i, has). absurd (none_some has)))
 
-  stored_later : IsStorableAtCut own_numbers first history raised
-  stored_later = cut_trees_are_storable first history (flushes ++ flush ∷ []) raised after own_numbers is.ready.history_is more numbered
+  stored_later : IsStorableAtCut own_numbers volume.first volume.history raised
+  stored_later = cut_trees_are_storable volume.first volume.history (volume.flushes ++ flush ∷ []) raised after own_numbers is.ready.history_is more numbered
 
-  stored_before : IsStorableAtCut num first history cut
-  stored_before = cut_trees_are_storable first history flushes cut inodes num is.ready.history_is is.ready.flushed is.ready.numbers
+  stored_before : IsStorableAtCut volume.num volume.first volume.history volume.cut
+  stored_before = cut_trees_are_storable volume.first volume.history volume.flushes volume.cut volume.inodes volume.num is.ready.history_is is.ready.flushed
+      is.ready.numbers
 
   nets : HasNets before later concern.nets.items
   nets =
-      nets_lead first history cut gathered below concern.members.items concern.nets.items sound legal member_spans is.concern_is.nets is.concern_is.ascend
+      nets_lead volume.first volume.history volume.cut gathered below concern.members.items concern.nets.items sound legal member_spans is.concern_is.nets
+      is.concern_is.ascend
       stored_before.sound stored_later.sound same_kinds
 
   abbrev commit : CommitPlan
@@ -279,16 +282,17 @@ module _ (first : TreeState) (history : List Entry) (flushes : List Flush) (cut 
       of_all
       (λ (one : Enter). one.kind ≡ kind_entering start from.is_file (spans_in gathered below concern.members.items) one.node.0) is.plans.enter
       is.plans.moves.kinds one there
-      ∙ entering_kind first history cut inodes gathered start below concern.members.items
+      ∙ entering_kind volume.first volume.history volume.cut volume.inodes gathered start below concern.members.items
       from.is_file sound legal is.orderly sees.spans is.concern_is.members.each (λ node gathers. (sees.fits.members node).0 gathers)
-      (own_kind first history cut start below from.is_file from.change is.file_is) one.node.0 touches
-      ∙ sym ((cuts_keep_kinds first history raised).kinds one.node.0)
+      (own_kind volume.first volume.history volume.cut start below from.is_file from.change is.file_is) one.node.0 touches
+      ∙ sym ((cuts_keep_kinds volume.first volume.history raised).kinds one.node.0)
 
-  moves : HasMoves later inodes after commit
-  moves = moves_are later inodes after commit is.plans.moves.enter_ascends
-      (λ node one. let enters = (moved.enters node).0 one in (sym (sees.same_inodes node enters.1) ∙ enters.0, gets_then inodes gets loses node one))
-      (λ node none has. sym (then_none inodes gets loses node none) ∙ has)
-      (lost_then first history cut raised inodes look (cuts_after below gathered concern) (but_root found) gets loses sees.same_inodes sees.fits moved makes)
+  moves : HasMoves later volume.inodes after commit
+  moves = moves_are later volume.inodes after commit is.plans.moves.enter_ascends
+      (λ node one. let enters = (moved.enters node).0 one in (sym (sees.same_inodes node enters.1) ∙ enters.0, gets_then volume.inodes gets loses node one))
+      (λ node none has. sym (then_none volume.inodes gets loses node none) ∙ has)
+      (lost_then volume.first volume.history volume.cut raised volume.inodes look (cuts_after below gathered concern) (but_root found) gets loses
+      sees.same_inodes sees.fits moved makes)
       kinds
 
   -- a node whose stamp moves is the fsync's own or a directory, and a directory has no bytes
@@ -298,8 +302,8 @@ module _ (first : TreeState) (history : List Entry) (flushes : List Flush) (cut 
 
   other_bytes : (node : ℕ) → node ≢ start.0 → bytes_of later node ≡ bytes_of before node
   other_bytes node apart = elim (raises.other node) [
-    | inr same ↦ (same_stamps_keep first history cut raised node same).bytes
-    | inl own ↦ elim (members_are_directories first history every_entry cut inodes flush node sound legal own) [
+    | inr same ↦ (same_stamps_keep volume.first volume.history volume.cut raised node same).bytes
+    | inl own ↦ elim (members_are_directories volume.first volume.history every_entry volume.cut volume.inodes flush node sound legal own) [
       | inl same ↦ absurd (apart same)
       | inr directory ↦ directory_bytes node directory
     ]
@@ -307,25 +311,25 @@ module _ (first : TreeState) (history : List Entry) (flushes : List Flush) (cut 
 
   short : HasShortFiles later
   short node =
-      subst (λ l. length l ≤ BLOCK_BYTES * FILE_BLOCKS) (sym (bytes_are_cut first history raised node sound legal))
-      (files_stay_short first history is.ready.history_is is.short node (cut_of raised node))
+      subst (λ l. length l ≤ BLOCK_BYTES * FILE_BLOCKS) (sym (bytes_are_cut volume.first volume.history raised node sound legal))
+      (files_stay_short volume.first volume.history is.ready.history_is is.short node (cut_of raised node))
 
   which : (node : ℕ) → (node ≡ start.0) ⊎ (node ≢ start.0)
   which node = elim (true_or_false (nat_eq node start.0)) [ inl same ↦ inl (eqb-true node start.0 same) | inr other ↦ inr (eqb-false node start.0 other) ]
 
-  own_cut : cut_in gathered.cuts.items start.0 ≡ cut_of cut start.0
+  own_cut : cut_in gathered.cuts.items start.0 ≡ cut_of volume.cut start.0
   own_cut = sees.cuts start.0 own_touches
 
-  own_stamp : cut_of raised start.0 ≡ max (cut_of cut start.0) below.0
+  own_stamp : cut_of raised start.0 ≡ max (cut_of volume.cut start.0) below.0
   own_stamp = raises.member start.0 Closure.itself
 
   -- the bytes of a late file stay, and so do all others
-  late_bytes : below.0 < cut_of cut start.0 → (node : ℕ) → bytes_of later node ≡ bytes_of before node
+  late_bytes : below.0 < cut_of volume.cut start.0 → (node : ℕ) → bytes_of later node ≡ bytes_of before node
   late_bytes late node = elim (which node) [
     | inr apart ↦ other_bytes node apart
     | inl same ↦
-        let stays : cut_of raised start.0 ≡ cut_of cut start.0 = own_stamp ∙ max-eq_left {n = cut_of cut start.0} {m = below.0} (omega arith) in
-        subst (λ n. bytes_of later n ≡ bytes_of before n) (sym same) (same_stamps_keep first history cut raised start.0 stays).bytes
+        let stays : cut_of raised start.0 ≡ cut_of volume.cut start.0 = own_stamp ∙ max-eq_left {n = cut_of volume.cut start.0} {m = below.0} (omega arith) in
+        subst (λ n. bytes_of later n ≡ bytes_of before n) (sym same) (same_stamps_keep volume.first volume.history volume.cut raised start.0 stays).bytes
   ]
 
   -- a node that neither has nor gets an inode has none afterwards
@@ -334,7 +338,7 @@ module _ (first : TreeState) (history : List Entry) (flushes : List Flush) (cut 
       let among = by (is_among (map entry_node old) start.0) (not (node_leaves plan.leave.items start.0)) (gets start.0) gets_none held in
       let one = mapped_is_in entry_node old start.0 (among_is_in (map entry_node old) start.0 among) in
       let number = (is.keeps.each one.0 (is.old_is.own one.0 one.1).0).0 in
-      let has = (is.ready.numbers.each start.0).1 (one.0.old.number, ap num (sym one.2) ∙ number) in
+      let has = (is.ready.numbers.each start.0).1 (one.0.old.number, ap volume.num (sym one.2) ∙ number) in
       not_both (sees.same_inodes start.0 own_touches ∙ has) has_none
     where
       by : (among stays gets : Bool) → gets ≡ false → ((among && stays) || gets) ≡ true → among ≡ true
@@ -345,7 +349,7 @@ module _ (first : TreeState) (history : List Entry) (flushes : List Flush) (cut 
   written = is_written gathered is.plans.enter start.0 below.0
 
   -- an own file that is not written and then has an inode is late
-  pub unwritten_is_late : written ≡ false → has_inode_then commit start.0 ≡ true → below.0 < cut_of cut start.0
+  pub unwritten_is_late : written ≡ false → has_inode_then commit start.0 ≡ true → below.0 < cut_of volume.cut start.0
   unwritten_is_late none held =
       elim (not_written (is_listed (map node_number gathered.inodes.items) start.0) (gets start.0) (cut_in gathered.cuts.items start.0) below.0 none) [
         | inl (has_none, gets_none) ↦ absurd (no_inode_then has_none gets_none held)
@@ -360,30 +364,31 @@ module _ (first : TreeState) (history : List Entry) (flushes : List Flush) (cut 
   ])
 
   -- an own file that is written is not late
-  pub written_in_time : written ≡ true → cut_of cut start.0 ≤ below.0
+  pub written_in_time : written ≡ true → cut_of volume.cut start.0 ≤ below.0
   written_in_time is_one =
       subst (λ n. n ≤ below.0) own_cut
       (leb-true (cut_in gathered.cuts.items start.0) below.0
       (and_second (is_listed (map node_number gathered.inodes.items) start.0 || gets start.0) (nat_le (cut_in gathered.cuts.items start.0) below.0) is_one))
 
   -- with the change of the own file, where it is written
-  own_file : (one : FileChange) → commit.files ≡ one ∷ [] → written ≡ true → ChangesByFile first history cut start below one
+  own_file : (one : FileChange) → commit.files ≡ one ∷ [] → written ≡ true → ChangesByFile volume.first volume.history volume.cut start below one
       → HasFiles nodes before later commit
   own_file one files_are is_one (f, at, changed) =
       let low = written_in_time is_one in
       own_file_leads before later nodes commit short start.0 one files_are (ap (λ (n : NodeId). n.0) changed.own)
-      (subst (λ l. ChangesFile l (bytes_of later start.0) one) (sym (bytes_are_cut first history cut start.0 sound legal))
-      (subst (λ l. ChangesFile (bytes_at first history start.0 (cut_of cut start.0)) l one)
+      (subst (λ l. ChangesFile l (bytes_of later start.0) one) (sym (bytes_are_cut volume.first volume.history volume.cut start.0 sound legal))
+      (subst (λ l. ChangesFile (bytes_at volume.first volume.history start.0 (cut_of volume.cut start.0)) l one)
       (sym
-      (bytes_are_cut first history raised start.0 sound legal
-      ∙ ap (bytes_at first history start.0) (own_stamp ∙ max-eq_right {n = cut_of cut start.0} {m = below.0} low)))
-      (marks_make_files first history start (cut_of cut start.0) below.0 f one is.ready.history_is is.short low at changed)))
+      (bytes_are_cut volume.first volume.history raised start.0 sound legal
+      ∙ ap (bytes_at volume.first volume.history start.0) (own_stamp ∙ max-eq_right {n = cut_of volume.cut start.0} {m = below.0} low)))
+      (marks_make_files volume.first volume.history start (cut_of volume.cut start.0) below.0 f one is.ready.history_is is.short low at changed)))
       other_bytes
 
   files : HasFiles nodes before later commit
   files = by from.is_file from.change refl is.file_is
     where
-      by : (is_one : Bool) (o : Option FileChange) → from.change ≡ o → HasFileOf first history cut start below is_one o → HasFiles nodes before later commit
+      by : (is_one : Bool) (o : Option FileChange) → from.change ≡ o → HasFileOf volume.first volume.history volume.cut start below is_one o → HasFiles nodes
+          before later commit
       by false o e (directory, none) =
           no_file_leads before later nodes commit short (ap (files_written written) (e ∙ none) ∙ none_written written) (λ node _. elim (which node) [
             | inl same ↦ directory_bytes node (ap (is_directory last) same ∙ directory)
@@ -397,7 +402,7 @@ module _ (first : TreeState) (history : List Entry) (flushes : List Flush) (cut 
       ]
 
   -- all of it
-  leads : IsPlanAt first history cut inodes flush raised after nodes entries commit
+  leads : IsPlanAt volume.first volume.history volume.cut volume.inodes flush raised after nodes entries commit
   leads = record {
     concerns =
         λ node. (
@@ -410,7 +415,7 @@ module _ (first : TreeState) (history : List Entry) (flushes : List Flush) (cut 
     files = files;
   }
 
-  pub plan_leads : LeadsWith first history cut inodes from is.plans
+  pub plan_leads : LeadsWith volume.first volume.history volume.cut volume.inodes from is.plans
   plan_leads = record {
     leads = record {
       raised = raised;
@@ -420,7 +425,8 @@ module _ (first : TreeState) (history : List Entry) (flushes : List Flush) (cut 
       inodes_after = inodes_after;
       made = is.plans.made;
       leads =
-          subst (λ (l : List NodeId). IsPlanAt first history cut inodes flush raised after (map node_number l) entries commit) (sym is.plans.nodes) leads;
+          subst (λ (l : List NodeId). IsPlanAt volume.first volume.history volume.cut volume.inodes flush raised after (map node_number l) entries commit)
+          (sym is.plans.nodes) leads;
       names = is.concern_is.names;
     };
     commit_is = refl;
@@ -429,31 +435,33 @@ module _ (first : TreeState) (history : List Entry) (flushes : List Flush) (cut 
   }
 
   -- Where the node is alive at the fsync's stamp and no cut is above that, it is not dead at the raised cut: a row there names it, or a naming is not flushed.
-  module _ (live : HasLiveNode first history flush) (low : (node : ℕ) → cut_of cut node ≤ below.0) (is_file : from.is_file ≡ true) where
+  module _ (live : HasLiveNode volume.first volume.history flush) (low : (node : ℕ) → cut_of volume.cut node ≤ below.0) (is_file : from.is_file ≡ true) where
     no_directory : is_directory last start.0 ≡ false
-    no_directory = own_kind first history cut start below from.is_file from.change is.file_is ∙ ap not is_file
+    no_directory = own_kind volume.first volume.history volume.cut start below from.is_file from.change is.file_is ∙ ap not is_file
 
-    not_dead : IsDead first history every_entry raised start.0 → ⊥
+    not_dead : IsDead volume.first volume.history every_entry raised start.0 → ⊥
     not_dead dead =
-        elim (alive_named (tree_at first history below.0) start.0
-        (subst (λ (t : TreeState). is_alive t start.0 ≡ true) (sym (tree_at-after first history below.0)) live)) [
+        elim (alive_named (tree_at volume.first volume.history below.0) start.0
+        (subst (λ (t : TreeState). is_alive t start.0 ≡ true) (sym (tree_at-after volume.first volume.history below.0)) live)) [
           | inl root ↦ dead.no_root root
           | inr named ↦
-              elim (named_or_open first history sound legal below.0 raised
-              (raised_low first history every_entry cut inodes flush raised below.0 raises low (le_itself below.0)) start.0 named) [
+              elim (named_or_open volume.first volume.history sound legal below.0 raised
+              (raised_low volume.first volume.history every_entry volume.cut volume.inodes flush raised below.0 raises low (le_itself below.0)) start.0
+              named) [
                 | inl there ↦ dead.unnamed there
                 | inr o ↦
-                    let same : o.change.stamp ≡ o.stamp = stamp_of (tree_at first history o.stamp) o.stamp (effect_at first history o.stamp) o.change o.made in
-                    let flushed = dead.flushed o.change (change_in first history o.stamp o.change legal o.made) refl o.child in
+                    let same : o.change.stamp ≡ o.stamp = stamp_of (tree_at volume.first volume.history o.stamp) o.stamp
+                    (effect_at volume.first volume.history o.stamp) o.change o.made in
+                    let flushed = dead.flushed o.change (change_in volume.first volume.history o.stamp o.change legal o.made) refl o.child in
                     let open_one = o.unflushed in
                     omega arith
               ]
         ]
 
     has_or_gets : (is_listed (map node_number gathered.inodes.items) start.0 || gets start.0) ≡ true
-    has_or_gets = elim (files_settle first history cut raised inodes after flush sound legal raises inodes_after no_directory) [
+    has_or_gets = elim (files_settle volume.first volume.history volume.cut raised volume.inodes after flush sound legal raises inodes_after no_directory) [
       | inl has ↦
-          held_by (is_listed (map node_number gathered.inodes.items) start.0) (inodes start.0) (gets start.0) (loses start.0)
+          held_by (is_listed (map node_number gathered.inodes.items) start.0) (volume.inodes start.0) (gets start.0) (loses start.0)
           (sees.same_inodes start.0 own_touches) has
       | inr dead ↦ absurd (not_dead dead)
     ]

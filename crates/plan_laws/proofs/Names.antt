@@ -12,11 +12,9 @@ use Rattle.sfs_base.proofs.BasicTruth.{true_not_false}
 use Rattle.sfs_base.specs.declared.numbers.Kind.{Kind}
 use Rattle.sfs_base.specs.declared.numbers.Kind.TheVariants.{File, Directory}
 use Rattle.sfs_base.specs.declared.numbers.NodeId.{NodeId}
-use Rattle.sfs_image.specs.Part.{Part, seen_of}
+use Rattle.sfs_image.specs.Part.{seen_of}
 use Rattle.sfs_image.specs.Slot.{kind_byte}
-use Rattle.sfs_image.specs.Super.{Layout}
 use Rattle.sfs_image.proofs.Basics.{found_passes}
-use Rattle.tree_laws.specs.declared.history.Entry.{Entry}
 use Rattle.tree_laws.specs.NameRow.{number_of}
 use Rattle.tree_laws.specs.Tree.{TreeState, is_directory, is_directory_kind, kind_of, links_of, count_of, names_it, names_of, holds_directory}
 use Rattle.tree_laws.proofs.Counting.{count_some}
@@ -27,15 +25,14 @@ use Rattle.tree_laws.proofs.SoundTree.{sound_once}
 use Rattle.absorb.specs.declared.nets.NetRow.{NetRow}
 use Rattle.absorb.specs.Net.{IsNet}
 use Rattle.image_laws.specs.LinkChanges.{NetChange, net_changes, counted_row, AreAllNets}
-use Rattle.image_laws.specs.Renamed.{Numbering, IsMet}
+use Rattle.image_laws.specs.Renamed.{IsMet}
 use Rattle.image_laws.specs.Renamed.IsMet.{root, named}
 use Rattle.image_laws.proofs.LinkChanges.{counted_by_nets}
 use Rattle.commit_laws.specs.KeptShown.{KeepsSeen}
 use Rattle.commit_laws.proofs.KeptShown.{kept_parts_show}
 use Rattle.commit_laws.proofs.Shown.{found_is_in}
 use Rattle.commit_laws.proofs.KnownDirectories.{own_item}
-use Rattle.cut_laws.specs.Closure.{Flush, IsNamedIn}
-use Rattle.cut_laws.specs.Cut.{Cut, tree_at_cut}
+use Rattle.cut_laws.specs.Closure.{IsNamedIn}
 use Rattle.cut_laws.specs.Laws.{KeepsAll}
 use Rattle.cut_laws.proofs.Lists.{lists_keep}
 use Rattle.raise_laws.specs.Next.{IsStorableAtCut}
@@ -49,6 +46,7 @@ use Rattle.disk_change.specs.Seated.{net_of_node}
 use Rattle.disk_change.specs.declared.directory_net.DirectoryNet.{DirectoryNet}
 use Rattle.disk_nodes.specs.declared.old.OldEntry.{OldEntry}
 use Rattle.disk_change.proofs.NumbersGiven.{first_in, further_in}
+use Rattle.flush_laws.specs.Volume.{Volume, tree_held}
 use Rattle.flush_laws.specs.Planned.{HasOldEntries}
 use Rattle.flush_laws.specs.Ready.{IsBetweenCommits, KeepsEntries}
 use Rattle.flush_laws.proofs.Clean.{no_net}
@@ -104,18 +102,16 @@ named_count tree node = (forth, λ there. count_some (names_it node) tree.rows (
       | inr none ↦ absurd (omega arith)
     ]
 
-module _ (first : TreeState) (history : List Entry) (flushes : List Flush) (cut : Cut) (inodes : ℕ → Bool) (num : Numbering) (layout : Layout)
-    (store : ℕ → List ℕ) (parts : ℕ → Part) (entries : List OldEntry)
-    (ready : IsBetweenCommits first history flushes cut inodes num layout store parts) (keeps : KeepsEntries num parts entries) (nodes : List ℕ)
+module _ (volume : Volume) (entries : List OldEntry) (ready : IsBetweenCommits volume) (keeps : KeepsEntries volume.num volume.parts entries) (nodes : List ℕ)
     (old : List OldEntry) (has : HasOldEntries nodes entries old) where
   abbrev tree : TreeState
-  tree = tree_at_cut first history cut
+  tree = tree_held volume
 
-  kept_all : KeepsAll first history cut inodes
-  kept_all = lists_keep first history flushes cut inodes ready.history_is.sound ready.history_is.legal ready.flushed
+  kept_all : KeepsAll volume.first volume.history volume.cut volume.inodes
+  kept_all = lists_keep volume.first volume.history volume.flushes volume.cut volume.inodes ready.history_is.sound ready.history_is.legal ready.flushed
 
-  stored : IsStorableAtCut num first history cut
-  stored = cut_trees_are_storable first history flushes cut inodes num ready.history_is ready.flushed ready.numbers
+  stored : IsStorableAtCut volume.num volume.first volume.history volume.cut
+  stored = cut_trees_are_storable volume.first volume.history volume.flushes volume.cut volume.inodes volume.num ready.history_is ready.flushed ready.numbers
 
   -- what is kept of an entry's node is what the tree at the cut has of it
   entry_shows : (entry : OldEntry) → Contains entries entry
@@ -124,13 +120,13 @@ module _ (first : TreeState) (history : List Entry) (flushes : List Flush) (cut 
       let own = keeps.each entry there in
       let low = ready.stands.within entry.node.0 entry.old.number own.0 in
       let kept =
-      subst (λ k. KeepsSeen k (seen_of (parts entry.old.number))) (sym own.1)
-      (kept_parts_show store (parts entry.old.number) (ready.sound.gathered entry.old.number low)) in
+      subst (λ k. KeepsSeen k (seen_of (volume.parts entry.old.number))) (sym own.1)
+      (kept_parts_show volume.store (volume.parts entry.old.number) (ready.sound.gathered entry.old.number low)) in
       let shows = ready.stands.each entry.node.0 entry.old.number own.0 in
       (kept.kind ∙ shows.kind, kept.links ∙ shows.links)
 
   -- a node without an inode has no entry, and no row names it
-  none_on_disk : (node : ℕ) → inodes node ≡ false → names_on_disk old node ≡ count_of tree.rows node
+  none_on_disk : (node : ℕ) → volume.inodes node ≡ false → names_on_disk old node ≡ count_of tree.rows node
   none_on_disk node none = by (item_with entry_node node old) refl ∙ sym no_count
     where
       by : (o : Option OldEntry) → item_with entry_node node old ≡ o → option_map_or names_by_record o 0 ≡ 0
@@ -139,7 +135,7 @@ module _ (first : TreeState) (history : List Entry) (flushes : List Flush) (cut 
           let there = found_is_in (λ (item : OldEntry). nat_eq (entry_node item) node) old entry e in
           let same : entry.node.0 ≡ node = eqb-true entry.node.0 node (found_passes (λ (item : OldEntry). nat_eq (entry_node item) node) old entry e) in
           let number = (keeps.each entry (has.own entry there).0).0 in
-          absurd (true_not_false (sym ((ready.numbers.each entry.node.0).1 (entry.old.number, number)) ∙ ap inodes same ∙ none))
+          absurd (true_not_false (sym ((ready.numbers.each entry.node.0).1 (entry.old.number, number)) ∙ ap volume.inodes same ∙ none))
 
       no_count : count_of tree.rows node ≡ 0
       no_count = elim (named_or_none tree.rows node) [
@@ -148,7 +144,7 @@ module _ (first : TreeState) (history : List Entry) (flushes : List Flush) (cut 
       ]
 
   -- a directory with an inode that is not the root is named once
-  named_once : (node i : ℕ) → num node ≡ Some i → node ≢ 0 → is_directory tree node ≡ true → count_of tree.rows node ≡ 1
+  named_once : (node i : ℕ) → volume.num node ≡ Some i → node ≢ 0 → is_directory tree node ≡ true → count_of tree.rows node ≡ 1
   named_once node i number other directory = met node (stored.storable.placed node i number directory) other directory
     where
       met : (node : ℕ) → IsMet tree node → node ≢ 0 → is_directory tree node ≡ true → count_of tree.rows node ≡ 1
@@ -156,7 +152,7 @@ module _ (first : TreeState) (history : List Entry) (flushes : List Flush) (cut 
       met node (named holder name _ row) other directory = sound_once tree stored.sound holder name node row directory
 
   -- one with an inode that the fsync concerns has an entry, by which it has as many names as rows name it
-  some_on_disk : (node : ℕ) → inodes node ≡ true → node ≢ 0 → is_among nodes node ≡ true → names_on_disk old node ≡ count_of tree.rows node
+  some_on_disk : (node : ℕ) → volume.inodes node ≡ true → node ≢ 0 → is_among nodes node ≡ true → names_on_disk old node ≡ count_of tree.rows node
   some_on_disk node inode other among =
       let number = (ready.numbers.each node).0 inode in
       let entry = keeps.all node number.0 number.1 in
@@ -168,7 +164,7 @@ module _ (first : TreeState) (history : List Entry) (flushes : List Flush) (cut 
       ∙ by (kind_of tree node) refl (shows.0 ∙ ap (λ n. kind_byte (kind_of tree n)) entry.2) (shows.1 ∙ ap (links_of tree) entry.2) number.0 number.1
     where
       by : {kind links : ℕ} (k : Kind) → kind_of tree node ≡ k → kind ≡ kind_byte (kind_of tree node) → links ≡ links_of tree node → (i : ℕ)
-          → num node ≡ Some i → cond (nat_eq kind 2) 1 links ≡ count_of tree.rows node
+          → volume.num node ≡ Some i → cond (nat_eq kind 2) 1 links ≡ count_of tree.rows node
       by {kind} {links} Directory e is_kind is_links i number =
           ap (λ n. cond (nat_eq n 2) 1 links) (is_kind ∙ ap kind_byte e)
           ∙ sym (named_once node i number other (directory_by_kind tree node ∙ ap is_directory_kind e))
@@ -178,9 +174,9 @@ module _ (first : TreeState) (history : List Entry) (flushes : List Flush) (cut 
           (directory_by_kind tree node ∙ ap is_directory_kind e)
 
   on_disk : (node : ℕ) → node ≢ 0 → is_among nodes node ≡ true → names_on_disk old node ≡ count_of tree.rows node
-  on_disk node other among = by (inodes node) refl
+  on_disk node other among = by (volume.inodes node) refl
     where
-      by : (b : Bool) → inodes node ≡ b → names_on_disk old node ≡ count_of tree.rows node
+      by : (b : Bool) → volume.inodes node ≡ b → names_on_disk old node ≡ count_of tree.rows node
       by true e = some_on_disk node e other among
       by false e = none_on_disk node e
 

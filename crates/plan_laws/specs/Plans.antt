@@ -2,13 +2,10 @@
 use Rattle.std.specs.Prelude.{◌≡◌, ℕ, ◌<◌, ◌≤◌, Bool, true, false, List, map, Option, Some, None}
 use Rattle.sfs_base.specs.declared.numbers.NodeId.{NodeId}
 use Rattle.sfs_base.specs.declared.numbers.Stamp.{Stamp}
-use Rattle.sfs_image.specs.Part.{Part}
-use Rattle.sfs_image.specs.Super.{Layout}
 use Rattle.tree_laws.specs.declared.history.Entry.{Entry}
 use Rattle.tree_laws.specs.History.{tree_after}
 use Rattle.tree_laws.specs.NameRow.{node_number}
 use Rattle.tree_laws.specs.Tree.{TreeState, is_directory}
-use Rattle.image_laws.specs.Renamed.{Numbering}
 use Rattle.mem_files.specs.File.{File}
 use Rattle.cut_laws.specs.Closure.{Counts, every_entry, Flush, HasLiveNode}
 use Rattle.cut_laws.specs.Cut.{Cut, cut_of}
@@ -21,6 +18,7 @@ use Rattle.dep_closure.specs.History.{IsLogOf, HasUnflushed}
 use Rattle.disk_nodes.specs.declared.old.OldEntry.{OldEntry}
 use Rattle.disk_change.specs.declared.files.FileChange.{FileChange}
 use Rattle.flush_laws.specs.Planned.{HasOldEntries}
+use Rattle.flush_laws.specs.Volume.{Volume}
 use Rattle.flush_laws.specs.Ready.{IsBetweenCommits, KeepsEntries}
 use Rattle.flush_plan.specs.declared.concern.Concern.{Concern}
 use Rattle.flush_plan.specs.declared.plans.FsyncPlan.{FsyncPlan}
@@ -86,14 +84,13 @@ IsPlanFrom from = IsPlanOf from.start from.below from.gathered from.concern from
 
 -- What an fsync was planned from: two commits have left disk and memory as they are between them; what was gathered is enough of the
 -- history; the disk's entries are those of the nodes that it concerns; and the file is the node's, where it is one.
-pub record PlansFsync (first : TreeState) (history : List Entry) (flushes : List Flush) (cut : Cut) (inodes : ℕ → Bool) (num : Numbering) (layout : Layout)
-    (store : ℕ → List ℕ) (parts : ℕ → Part) (from : Sources) : Type 0 where
-  pub ready : IsBetweenCommits first history flushes cut inodes num layout store parts
-  pub keeps : KeepsEntries num parts from.entries
-  pub short : HasShortFiles first
+pub record PlansFsync (volume : Volume) (from : Sources) : Type 0 where
+  pub ready : IsBetweenCommits volume
+  pub keeps : KeepsEntries volume.num volume.parts from.entries
+  pub short : HasShortFiles volume.first
   pub orderly : IsOrderly from.gathered
-  pub gathers : GathersEnough first history cut inodes from.start from.below from.gathered
+  pub gathers : GathersEnough volume.first volume.history volume.cut volume.inodes from.start from.below from.gathered
   pub concern_is : IsConcernOf from.start from.below from.gathered from.concern
   pub old_is : HasOldEntries (map node_number from.concern.nodes.items) from.entries from.old
-  pub file_is : HasFileOf first history cut from.start from.below from.is_file from.change
+  pub file_is : HasFileOf volume.first volume.history volume.cut from.start from.below from.is_file from.change
   pub plans : IsPlanFrom from

@@ -1,33 +1,25 @@
 -- What is due is done where nothing fails.
-use Rattle.std.proofs.Common.{◌≡◌, ◌⊎◌, ℕ, ◌+◌, ◌-◌, ◌^◌, ◌<◌, ◌≤◌, Bool, true, false, List, [], ◌∷◌, ◌++◌, Option, Some, None, inl, inr, refl, sym, ap, subst, ◌∙◌, arith}
-use Rattle.std.specs.Prelude.{min}
+use Rattle.std.proofs.Common.{◌≡◌, ℕ, ◌≤◌, Bool, true, false, List, [], ◌∷◌, Option, Some, None, inl, inr, refl, sym, ap, subst, ◌∙◌, arith}
 use Rattle.sfs_base.proofs.BasicOptions.{some_same}
 use Rattle.sfs_base.proofs.Causes.{Rose-earlier}
-use Rattle.sfs_base.proofs.BasicTruth.{false_not_true, true_not_false}
+use Rattle.sfs_base.proofs.BasicTruth.{true_not_false}
 use Rattle.sfs_base.specs.Ends.{HasRisen}
-use Rattle.sfs_base.specs.declared.numbers.NodeId.{NodeId}
 use Rattle.sfs_dev.specs.Disk.{View, OnlyTold, images}
-use Rattle.sfs_dev.specs.Memory.{memory_view, IsFresh}
-use Rattle.sfs_dev.specs.Run.{CountsOn}
-use Rattle.sfs_dev.specs.declared.memory.Memory.{Memory}
-use Rattle.image_laws.specs.Image.{ImageFault as Fault, fault_of}
+use Rattle.sfs_dev.specs.Memory.{memory_view}
 use Rattle.tree_laws.specs.declared.history.Entry.{Entry}
 use Rattle.tree_laws.specs.declared.reply.Reply.{Reply}
-use Rattle.tree_laws.specs.declared.reply.Reply.TheVariants as reply
 use Rattle.tree_laws.specs.declared.turns.Turn.{Turn}
 use Rattle.tree_laws.specs.declared.turns.TurnAct.{TurnAct}
 use Rattle.tree_laws.specs.declared.turns.TurnAct.TheVariants as act
-use Rattle.tree_laws.specs.Tree.{TreeState}
 use Rattle.cut_laws.specs.Rules.{IsOneOf}
 use Rattle.cut_laws.proofs.Basics.{in_either}
 use Rattle.turn_laws.specs.Books.{Books, CountsFaults, Does, AreTurns, no_turns, one_turn}
-use Rattle.turn_laws.specs.Recorded.{IsLiveFsync, last_turn, EndsWith, EndsBy, IsRecorded}
+use Rattle.turn_laws.specs.Recorded.{last_turn, EndsWith, EndsBy}
 use Rattle.turn_laws.proofs.Causes.{last_among}
-use Rattle.turn_laws.specs.Need.{ImageState}
-use Rattle.scalefs_run.specs.Complete.{NothingFailed, IsDone, GoesWell, WasShortOf, IsAnsweredInCalm, WentWell, RunsAreComplete, MakingsAreComplete, ShowingsAreComplete, FreshDisksAreAsked, FreshDisksCountOn}
+use Rattle.scalefs_run.specs.Complete.{IsDone, GoesWell, IsAnsweredInCalm, WentWell, RunsAreComplete, MakingsAreComplete, ShowingsAreComplete, FreshDisksAreAsked, FreshDisksCountOn}
 use Rattle.scalefs_run.specs.Image.{making_due, showing_due}
 use Rattle.scalefs_run.specs.Outcome.{HasStatus}
-use Rattle.scalefs_run.specs.Served.{Served, was_mounted}
+use Rattle.scalefs_run.specs.Served.{was_mounted}
 use Rattle.scalefs_run.specs.Turns.{HasTurns, HasTurnsBy}
 use Rattle.scalefs_run.specs.declared.outcome.Status.{Status}
 use Rattle.scalefs_run.specs.declared.outcome.Status.TheVariants.{Done, BadWords, BadScript, ReadFault, WriteFault, DiskFault, BadImage, NoMemory, TooManyWorkers, TooLong, TooSmall}

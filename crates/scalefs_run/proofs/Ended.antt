@@ -8,7 +8,7 @@ use Rattle.tree_laws.specs.Tree.{TreeState}
 use Rattle.sfs_dev.specs.Disk.{View}
 use Rattle.sfs_dev.specs.Run.{Advances}
 use Rattle.crash_laws.proofs.Ends.{images_survive, runs_read_back}
-use Rattle.volume_laws.specs.Volume.{Volume}
+use Rattle.flush_laws.specs.Volume.{Volume}
 use Rattle.scalefs_run.specs.Acks.{AcksRise}
 use Rattle.scalefs_run.specs.Images.{SurvivesRun}
 use Rattle.scalefs_run.specs.Replies.{HasAnswers, HasAnswersSoFar}

@@ -1,5 +1,5 @@
 -- The turns of a run go the ways of its fsyncs.
-use Rattle.std.proofs.Common.{◌≡◌, ℕ, ◌+◌, ◌-◌, ◌<◌, max, Bool, true, List, [], ◌∷◌, ◌++◌, length, Option, Some, None, inl, inr, refl, sym, ap, subst, ◌∙◌, arith}
+use Rattle.std.proofs.Common.{◌≡◌, ℕ, ◌<◌, true, List, [], ◌∷◌, ◌++◌, Option, Some, None, inl, inr, refl, sym, ap, subst, arith}
 use Rattle.std.specs.List.{AllByRecursion}
 use Rattle.sfs_base.specs.declared.numbers.NodeId.{NodeId}
 use Rattle.sfs_base.specs.declared.numbers.SpaceKind.{SpaceKind}
@@ -18,7 +18,7 @@ use Rattle.turn_laws.specs.Recorded.{IsOfFsync}
 use Rattle.turn_laws.specs.Ways.{HasCommit, GoesWay}
 use Rattle.turn_laws.specs.Ways as way
 use Rattle.turn_laws.proofs.Going.{each_own_on}
-use Rattle.volume_laws.specs.Volume.{Volume}
+use Rattle.flush_laws.specs.Volume.{Volume}
 use Rattle.volume_one.specs.declared.deed.Deed.{Deed}
 use Rattle.volume_one.specs.declared.deed.Deed.TheVariants as deeds
 use Rattle.scalefs_run.specs.Turns.{TurnsSoFar, OpensByTheGate, GoesByOne, EachGoesByOne, turns_of, short_turns, commit_number}

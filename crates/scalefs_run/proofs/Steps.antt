@@ -5,7 +5,6 @@ use Rattle.sfs_base.specs.declared.numbers.CoreId.{CoreId}
 use Rattle.sfs_base.specs.declared.numbers.NodeId.{NodeId}
 use Rattle.sfs_base.specs.declared.numbers.Stamp.{Stamp}
 use Rattle.sfs_image.specs.Super.{Layout}
-use Rattle.tree_laws.specs.declared.call.Call.{Call}
 use Rattle.tree_laws.specs.declared.call.Call.TheVariants.{Fsync}
 use Rattle.tree_laws.specs.declared.history.Entry.{Entry}
 use Rattle.tree_laws.specs.declared.reply.Reply.{Reply}
@@ -21,8 +20,8 @@ use Rattle.crash_laws.specs.Wrote.{RaisesNext}
 use Rattle.crash_laws.proofs.Commits.{commits_keep, failures_keep}
 use Rattle.crash_laws.proofs.Steps.{calls_keep, stopped_keep}
 use Rattle.crash_laws.proofs.Untouched.{disks_stay}
-use Rattle.volume_laws.specs.Stores.{volume_left}
-use Rattle.volume_laws.specs.Volume.{Volume, OneFsync}
+use Rattle.flush_laws.specs.Volume.{volume_left}
+use Rattle.flush_laws.specs.Volume.{Volume, OneFsync}
 use Rattle.volume_one.specs.Calls.{call_entry, kept_with}
 use Rattle.volume_one.specs.Fsync as made
 use Rattle.volume_one.specs.Fsync.{FsyncCommits, FsyncDoubts, FsyncStays, FsyncMakes, HoldsVolume, IsFsyncAnswer, fsync_at, with_fsync}

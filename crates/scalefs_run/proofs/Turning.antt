@@ -31,8 +31,8 @@ use Rattle.turn_laws.proofs.WholeFsyncs.{commits_stand, empty_commits_stand, sho
 use Rattle.turn_ties.specs.Plans.{Planning, planning_of, image_once_left, rest_of, machine_of_rest, made_of, HasPlan}
 use Rattle.turn_ties.proofs.Leaves.{commits_leave_images, empty_commits_leave_images}
 use Rattle.turn_ties.proofs.Made.{plans_are_made, rests_go_on}
-use Rattle.volume_laws.specs.Stores.{volume_left}
-use Rattle.volume_laws.specs.Volume.{Volume, OneFsync}
+use Rattle.flush_laws.specs.Volume.{volume_left}
+use Rattle.flush_laws.specs.Volume.{Volume, OneFsync}
 use Rattle.volume_one.specs.Calls.{call_entry, kept_with}
 use Rattle.volume_one.specs.Deeds.{BeginsByBooks, IsDurableDeed, DidStay, gate_moment}
 use Rattle.volume_one.specs.Fsync.{FsyncCommits, FsyncDoubts, IsFsyncAnswer, IsLiveAnswer, fsync_at}

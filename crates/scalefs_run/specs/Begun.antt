@@ -8,7 +8,7 @@ use Rattle.tree_laws.specs.Laws.{IsSoundTree}
 use Rattle.image_laws.specs.Image.{tree_of}
 use Rattle.journal_one.specs.Calls.{IsCalm}
 use Rattle.mount.specs.Mounted.{share_of_nodes}
-use Rattle.volume_laws.specs.Volume.{Volume}
+use Rattle.flush_laws.specs.Volume.{Volume}
 use Rattle.turn_laws.specs.Need.{ImageState}
 use Rattle.scalefs_run.specs.RunInvariant.{RunStands, StandsNow}
 use Rattle.scalefs_run.specs.Turns.{IsImageAtFirst}

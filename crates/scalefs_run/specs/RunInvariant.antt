@@ -12,7 +12,7 @@ use Rattle.cut_laws.specs.Closure.{Flush}
 use Rattle.cut_laws.specs.Cut.{Cut}
 use Rattle.crash_laws.specs.SoFar.{SoFar, Stands, StandsSoFar}
 use Rattle.crash_laws.specs.Survives.{HasFailure}
-use Rattle.volume_laws.specs.Volume.{Volume}
+use Rattle.flush_laws.specs.Volume.{Volume}
 use Rattle.volume_one.specs.Fsync.{HoldsVolume}
 use Rattle.volume_one.specs.Stands.{Remembers}
 use Rattle.scalefs_run.specs.Acks.{GoOnRising}

@@ -30,7 +30,7 @@ use Rattle.sfs_dev.specs.Steps.{IfTold}
 use Rattle.recovery.specs.Freed.{AreUnlinkedFree}
 use Rattle.space_laws.specs.Laws.{state_of_parts}
 use Rattle.turn_ties.specs.Plans.{rest_of}
-use Rattle.volume_laws.specs.Volume.{Volume}
+use Rattle.flush_laws.specs.Volume.{Volume}
 use Rattle.volume_one.specs.declared.deed.Deed.{Deed}
 use Rattle.volume_one.specs.declared.deed.Deed.TheVariants as deed
 use Rattle.scalefs_run.specs.Acks.{MomentsRise}

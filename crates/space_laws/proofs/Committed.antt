@@ -1,5 +1,5 @@
 -- A map of free space is right once a commit is durable and its grant has ended.
-use Rattle.std.proofs.Common.{◌≡◌, ◌≢◌, ℕ, ◌<◌, Bool, true, false, cond, not, List, map, Option, Some, None, inl, inr, refl, sym, ap, subst, ◌∙◌, take, sum_by, Contains}
+use Rattle.std.proofs.Common.{◌≡◌, ◌≢◌, ℕ, ◌<◌, true, false, cond, not, List, map, Option, Some, None, inl, inr, refl, sym, ap, subst, ◌∙◌, take, sum_by, Contains}
 use Rattle.std.specs.Prelude.{◌⊎◌, slice_get}
 use Rattle.std.proofs.lemmas.Option.{slice_get_within}
 use Rattle.std.proofs.lemmas.Bool.{cases_Bool}
@@ -7,10 +7,8 @@ use Rattle.std.proofs.lemmas.List.Elements.{Contains-append_left, Contains-get_o
 use Rattle.sfs_base.specs.Listed.{is_listed}
 use Rattle.sfs_base.proofs.BasicOptions.{none_some, some_same}
 use Rattle.sfs_base.proofs.BasicTruth.{true_not_false, not_true}
-use Rattle.sfs_image.specs.Part.{Part}
 use Rattle.sfs_image.specs.Seen.{SeenInodes, PLACES}
-use Rattle.sfs_image.specs.Super.{Layout, data_start}
-use Rattle.tree_laws.specs.declared.history.Entry.{Entry}
+use Rattle.sfs_image.specs.Super.{data_start}
 use Rattle.tree_laws.specs.Tree.{TreeState}
 use Rattle.fmt_journal.specs.declared.tx.Tx.{Tx}
 use Rattle.image_laws.specs.Image.{inodes_shown}
@@ -19,7 +17,7 @@ use Rattle.image_laws.proofs.Numbers.{granted}
 use Rattle.block_map.specs.Kept.{pointer_kept}
 use Rattle.block_map.specs.Remap.{gives_up, fresh_for, pointer_remapped}
 use Rattle.block_map.proofs.Left.{remapped_pointers_stand}
-use Rattle.space_map.specs.Space.{Space, GrantedNumbers}
+use Rattle.space_map.specs.Space.{Space}
 use Rattle.disk_change.specs.AllBuilt.{numbers_with, built_by, nodes_with_grant, entry_after}
 use Rattle.disk_change.specs.Built.{Built, rewrite_in}
 use Rattle.disk_change.specs.Directory.{is_among}
@@ -29,7 +27,7 @@ use Rattle.disk_nodes.specs.Nodes.{entry_node}
 use Rattle.disk_change.specs.Planned.{Planned, leaves, staying, seated_old, seated_entering, blocks_taken}
 use Rattle.disk_change.specs.Seated.{Seated, begun_old, begun_entering}
 use Rattle.disk_nodes.specs.declared.old.OldEntry.{OldEntry}
-use Rattle.commit_laws.specs.CommitOfPlan.{CommitPlan, change_planned, numbers_planned, IsCommitPlan}
+use Rattle.commit_laws.specs.CommitOfPlan.{change_planned, numbers_planned, IsCommitPlan}
 use Rattle.commit_laws.specs.NumbersGiven.{node_leaves}
 use Rattle.commit_laws.specs.PartsMade.{IsPlanOverParts}
 use Rattle.commit_laws.specs.PartsStand.{part_next}
@@ -41,8 +39,7 @@ use Rattle.commit_laws.proofs.OwnInodes.{mapped_is_in, ascending_is_in}
 use Rattle.commit_laws.proofs.PlanShown.{IsBuiltNode, node_built}
 use Rattle.commit_laws.proofs.Ranked.{nodes_are_built_by_rank}
 use Rattle.commit_laws.proofs.SeatsOfPlan.{there_is_in, in_is_there, in_mapped, in_kept, in_is_among, among_is_in, ascending_once, after_had, after_none, seat_comes}
-use Rattle.cut_laws.specs.Closure.{Flush}
-use Rattle.cut_laws.specs.Cut.{Cut, tree_at_cut}
+use Rattle.flush_laws.specs.Volume.{Volume, OneFsync, tree_held, tree_raised}
 use Rattle.flush_laws.specs.Laws.{AreEntriesAfter}
 use Rattle.flush_laws.specs.Planned.{IsPlannedFsync}
 use Rattle.flush_laws.specs.Ready.{KeepsEntries}
@@ -54,47 +51,44 @@ use Rattle.space_laws.proofs.Ended.{HoldsLater, ends_right}
 use Rattle.space_laws.proofs.Holders.{pointer_in, after_place, place_stays, fresh_is_granted, same_number, stands_apart}
 use Rattle.space_laws.proofs.Used.{block_is_used, grant_at}
 
-module _ (first : TreeState) (history : List Entry) (flushes : List Flush) (cut : Cut) (inodes : ℕ → Bool) (flush : Flush) (raised : Cut) (after : ℕ → Bool)
-    (num : Numbering) (layout : Layout)
-    (store : ℕ → List ℕ) (parts : ℕ → Part) (nodes : List ℕ) (entries : List OldEntry) (plan : CommitPlan) (grant : GrantedNumbers) (later : List OldEntry)
-    (tx : Tx) (old new : Space)
-    (is : IsPlannedFsync first history flushes cut inodes flush raised after num layout store parts nodes entries plan grant)
-    (those : AreEntriesAfter nodes entries plan grant later)
-    (used : WasUsed plan tx old grant new) where
+module _ (volume : Volume) (fsync : OneFsync) (later : List OldEntry) (tx : Tx) (old new : Space) (is : IsPlannedFsync volume fsync)
+    (those : AreEntriesAfter fsync later) (used : WasUsed fsync.plan tx old fsync.grant new) where
   abbrev old_tree : TreeState
-  old_tree = tree_at_cut first history cut
+  old_tree = tree_held volume
 
   abbrev new_tree : TreeState
-  new_tree = tree_at_cut first history raised
+  new_tree = tree_raised volume fsync
 
   abbrev image : SeenInodes
-  image = inodes_shown layout parts
+  image = inodes_shown volume.layout volume.parts
 
   abbrev change : Planned
-  change = change_planned plan
+  change = change_planned fsync.plan
 
   abbrev next_num : Numbering
-  next_num = numbers_planned num plan grant.inodes
+  next_num = numbers_planned volume.num fsync.plan fsync.grant.inodes
 
-  over : IsPlanOverParts num nodes old_tree new_tree image plan grant store parts
-  over = over_parts first history flushes cut inodes flush raised after num layout store parts nodes entries plan grant is
+  over : IsPlanOverParts volume.num fsync.nodes old_tree new_tree image fsync.plan fsync.grant volume.store volume.parts
+  over = over_parts volume fsync is
 
-  abbrev whole : IsCommitPlan num nodes old_tree new_tree image plan grant
+  abbrev whole : IsCommitPlan volume.num fsync.nodes old_tree new_tree image fsync.plan fsync.grant
   whole = over.full.sound.whole
 
-  apart : (a b : OldEntry) (place other block : ℕ) → Contains entries a → Contains entries b → place < PLACES → other < PLACES → block ≢ 0
+  apart : (a b : OldEntry) (place other block : ℕ) → Contains fsync.entries a → Contains fsync.entries b → place < PLACES → other < PLACES → block ≢ 0
       → pointer_in a place ≡ block → pointer_in b other ≡ block → (a ≡ b) × (place ≡ other)
-  apart = stands_apart first history flushes cut inodes num layout store parts entries is.ready is.keeps
+  apart = stands_apart volume fsync.entries is.ready is.keeps
 
   -- an entry of the plan is one that memory keeps, of a node that the commit concerns
-  planned_entry : (entry : OldEntry) → Contains plan.old entry → Contains entries entry × (is_among nodes entry.node.0 ≡ true)
+  planned_entry : (entry : OldEntry) → Contains fsync.plan.old entry → Contains fsync.entries entry × (is_among fsync.nodes entry.node.0 ≡ true)
   planned_entry = is.plans.old.own
 
-  gone_entry : (entry : OldEntry) → Contains change.gone entry → Contains plan.old entry × (leaves plan.leave entry ≡ true)
-  gone_entry entry there = kept_in (leaves plan.leave) plan.old entry there
+  gone_entry : (entry : OldEntry) → Contains change.gone entry → Contains fsync.plan.old entry × (leaves fsync.plan.leave entry ≡ true)
+  gone_entry entry there = kept_in (leaves fsync.plan.leave) fsync.plan.old entry there
 
-  staying_entry : (entry : OldEntry) → Contains (staying plan.old plan.leave) entry → Contains plan.old entry × (leaves plan.leave entry ≡ false)
-  staying_entry entry there = let kept = kept_in (λ e. not (leaves plan.leave e)) plan.old entry there in (kept.0, not_true (leaves plan.leave entry) kept.1)
+  staying_entry : (entry : OldEntry) → Contains (staying fsync.plan.old fsync.plan.leave) entry → Contains fsync.plan.old entry ×
+      (leaves fsync.plan.leave entry ≡ false)
+  staying_entry entry there = let kept = kept_in (λ e. not (leaves fsync.plan.leave e)) fsync.plan.old entry there in
+      (kept.0, not_true (leaves fsync.plan.leave entry) kept.1)
 
   -- a block that a seat has at a place is that of the entry from which it comes
   seat_pointer : (entry : OldEntry) (place : ℕ) → (rewrite_in (seated_old change.changes entry)).pointers place ≡ pointer_in entry place
@@ -103,13 +97,13 @@ module _ (first : TreeState) (history : List Entry) (flushes : List Flush) (cut 
   -- An entry that stays, whose seat has a block at a place.
   record ComesFrom (seat : Seated) (block place : ℕ) : Type 0 where
     entry : OldEntry
-    stays : Contains (staying plan.old plan.leave) entry
+    stays : Contains (staying fsync.plan.old fsync.plan.leave) entry
     same : seated_old change.changes entry ≡ seat
     stands : pointer_in entry place ≡ block
 
   comes_from : (seat : Seated) → Contains change.seats seat → (block place : ℕ) → block ≢ 0 → (rewrite_in seat).pointers place ≡ block
       → ComesFrom seat block place
-  comes_from seat there block place some stands = elim (seat_comes num nodes old_tree new_tree image plan grant whole seat there) [
+  comes_from seat there block place some stands = elim (seat_comes volume.num fsync.nodes old_tree new_tree image fsync.plan fsync.grant whole seat there) [
     | inl (entry, stay, same) ↦
         record {
           entry = entry;
@@ -122,13 +116,14 @@ module _ (first : TreeState) (history : List Entry) (flushes : List Flush) (cut 
   ]
 
   abbrev held : ℕ → Type 0
-  held = IsLeftByGone entries
+  held = IsLeftByGone fsync.entries
 
   abbrev freed : List ℕ
   freed = tx.freed_blocks.items
 
   -- a block of an entry is not freed, where its node is not concerned, or it stays and does not give the block up there
-  aside_not_freed : (entry : OldEntry) (place block : ℕ) → Contains entries entry → is_among nodes entry.node.0 ≡ false → place < PLACES → block ≢ 0
+  aside_not_freed : (entry : OldEntry) (place block : ℕ) → Contains fsync.entries entry → is_among fsync.nodes entry.node.0 ≡ false → place < PLACES → block
+      ≢ 0
       → pointer_in entry place ≡ block → Contains freed block → ⊥
   aside_not_freed entry place block there aside low some stands has = elim ((used.gives_up.freed_blocks.each block).0 has) [
     | inl seat ↦
@@ -137,11 +132,11 @@ module _ (first : TreeState) (history : List Entry) (flushes : List Flush) (cut 
     | inr gone ↦ other gone.entry (gone_entry gone.entry gone.one).0 gone.held.place gone.held.within gone.held.stands
   ]
     where
-      other : (twin : OldEntry) → Contains plan.old twin → (at : ℕ) → at < PLACES → pointer_in twin at ≡ block → ⊥
+      other : (twin : OldEntry) → Contains fsync.plan.old twin → (at : ℕ) → at < PLACES → pointer_in twin at ≡ block → ⊥
       other twin planned at low_at stands_at =
           let own = planned_entry twin planned in
           let same = apart entry twin place at block there own.0 low low_at some stands stands_at in
-          true_not_false (sym own.1 ∙ ap (λ (e : OldEntry). is_among nodes e.node.0) (sym same.0) ∙ aside)
+          true_not_false (sym own.1 ∙ ap (λ (e : OldEntry). is_among fsync.nodes e.node.0) (sym same.0) ∙ aside)
 
   stays_not_freed : (seat : Seated) (place block : ℕ) (from : ComesFrom seat block place) → place < PLACES → block ≢ 0
       → gives_up (rewrite_in seat) place ≡ false → Contains freed block → ⊥
@@ -157,22 +152,22 @@ module _ (first : TreeState) (history : List Entry) (flushes : List Flush) (cut 
         let same =
         apart from.entry gone.entry place gone.held.place block own.0
         (planned_entry gone.entry leaver.0).0 low gone.held.within some from.stands gone.held.stands in
-        true_not_false (sym leaver.1 ∙ ap (leaves plan.leave) (sym same.0) ∙ (staying_entry from.entry from.stays).1)
+        true_not_false (sym leaver.1 ∙ ap (leaves fsync.plan.leave) (sym same.0) ∙ (staying_entry from.entry from.stays).1)
   ]
     where
-      own : Contains entries from.entry × (is_among nodes from.entry.node.0 ≡ true)
+      own : Contains fsync.entries from.entry × (is_among fsync.nodes from.entry.node.0 ≡ true)
       own = planned_entry from.entry (staying_entry from.entry from.stays).0
 
   -- what is built at a place of the commit's nodes has there what its seat leaves there
   built_pointer : (one : Built) (m : ℕ) (seat : Seated) (place : ℕ)
-      → one ≡ built_by change.changes (numbers_with change grant.inodes) (fresh_cut change.seats grant.blocks m seat) seat → place < PLACES
-      → pointer_kept one.meta one.tables place ≡ pointer_remapped (rewrite_in seat) (fresh_cut change.seats grant.blocks m seat) place
+      → one ≡ built_by change.changes (numbers_with change fsync.grant.inodes) (fresh_cut change.seats fsync.grant.blocks m seat) seat → place < PLACES
+      → pointer_kept one.meta one.tables place ≡ pointer_remapped (rewrite_in seat) (fresh_cut change.seats fsync.grant.blocks m seat) place
   built_pointer one m seat place built_is low =
       ap (λ (b : Built). pointer_kept b.meta b.tables place) built_is
-      ∙ remapped_pointers_stand seat.meta seat.tables seat.changed (fresh_cut change.seats grant.blocks m seat) place low
+      ∙ remapped_pointers_stand seat.meta seat.tables seat.changed (fresh_cut change.seats fsync.grant.blocks m seat) place low
 
   -- what is held later was held and is not freed, or is of the grant
-  block_kept_of : (block : ℕ) → IsLeftByGone later block → Contains grant.blocks block ⊎ (held block × (Contains freed block → ⊥))
+  block_kept_of : (block : ℕ) → IsLeftByGone later block → Contains fsync.grant.blocks block ⊎ (held block × (Contains freed block → ⊥))
   block_kept_of block holder = elim ((those.each holder.entry).0 holder.one) [
     | inr (there, aside) ↦ inr (
       record { entry = holder.entry; one = there; held = holder.held },
@@ -180,22 +175,22 @@ module _ (first : TreeState) (history : List Entry) (flushes : List Flush) (cut 
     )
     | inl made_of ↦
         let one =
-        mapped_is_in entry_after (nodes_with_grant change grant) holder.entry
-        (ascending_is_in entry_node (map entry_after (nodes_with_grant change grant)) holder.entry made_of) in
-        by_node one.0 (node_built num nodes old_tree new_tree image plan grant over.full one.0 one.1)
+        mapped_is_in entry_after (nodes_with_grant change fsync.grant) holder.entry
+        (ascending_is_in entry_node (map entry_after (nodes_with_grant change fsync.grant)) holder.entry made_of) in
+        by_node one.0 (node_built volume.num fsync.nodes old_tree new_tree image fsync.plan fsync.grant over.full one.0 one.1)
         (ap (λ (e : OldEntry). pointer_in e holder.held.place) one.2 ∙ holder.held.stands)
   ]
     where
-      by_node : (one : Built) → IsBuiltNode num nodes old_tree new_tree image plan grant over.full one
-          → pointer_kept one.meta one.tables holder.held.place ≡ block → Contains grant.blocks block ⊎ (held block × (Contains freed block → ⊥))
+      by_node : (one : Built) → IsBuiltNode volume.num fsync.nodes old_tree new_tree image fsync.plan fsync.grant over.full one
+          → pointer_kept one.meta one.tables holder.held.place ≡ block → Contains fsync.grant.blocks block ⊎ (held block × (Contains freed block → ⊥))
       by_node one node stands =
           elim (after_place (rewrite_in node.seat)
-          (fresh_for (rewrite_in node.seat) (fresh_cut change.seats grant.blocks node.m node.seat)) holder.held.place block holder.held.some
+          (fresh_for (rewrite_in node.seat) (fresh_cut change.seats fsync.grant.blocks node.m node.seat)) holder.held.place block holder.held.some
           (sym (built_pointer one node.m node.seat holder.held.place node.is holder.held.within) ∙ stands)) [
             | inl fresh ↦
                 inl
                 (fresh_is_granted (rewrite_in node.seat) (blocks_taken node.seat)
-                (sum_by blocks_taken (take node.m change.seats)) grant.blocks holder.held.place block holder.held.some fresh)
+                (sum_by blocks_taken (take node.m change.seats)) fsync.grant.blocks holder.held.place block holder.held.some fresh)
             | inr (stood, keeps) ↦
                 let from = comes_from node.seat (there_is_in change.seats node.m node.seat node.at) block holder.held.place holder.held.some stood in
                 inr (
@@ -210,24 +205,25 @@ module _ (first : TreeState) (history : List Entry) (flushes : List Flush) (cut 
 
   -- what was held and is not freed is held later
   block_still : (block : ℕ) → held block → (Contains freed block → ⊥) → IsLeftByGone later block
-  block_still block holder free = elim (cases_Bool (is_among nodes holder.entry.node.0)) [
+  block_still block holder free = elim (cases_Bool (is_among fsync.nodes holder.entry.node.0)) [
     | inr aside ↦ record { entry = holder.entry; one = (those.each holder.entry).1 (inr (holder.one, aside)); held = holder.held }
     | inl among ↦ planned (is.plans.old.all holder.entry holder.one among)
   ]
     where
-      planned : Contains plan.old holder.entry → IsLeftByGone later block
-      planned there = elim (cases_Bool (leaves plan.leave holder.entry)) [
+      planned : Contains fsync.plan.old holder.entry → IsLeftByGone later block
+      planned there = elim (cases_Bool (leaves fsync.plan.leave holder.entry)) [
         | inl goes ↦
             absurd
             (free
             ((used.gives_up.freed_blocks.each block).1
-            (inr (record { entry = holder.entry; one = in_kept (leaves plan.leave) plan.old holder.entry there goes; held = holder.held }))))
+            (inr (record { entry = holder.entry; one = in_kept (leaves fsync.plan.leave) fsync.plan.old holder.entry there goes; held = holder.held }))))
         | inr stays ↦
             seated_in
-            (Contains-append_left (map (seated_old change.changes) (staying plan.old plan.leave)) (map (seated_entering change.changes) plan.enter)
+            (Contains-append_left (map (seated_old change.changes) (staying fsync.plan.old fsync.plan.leave))
+            (map (seated_entering change.changes) fsync.plan.enter)
             (seated_old change.changes holder.entry)
-            (in_mapped (seated_old change.changes) (staying plan.old plan.leave) holder.entry
-            (in_kept (λ e. not (leaves plan.leave e)) plan.old holder.entry there (ap not stays))))
+            (in_mapped (seated_old change.changes) (staying fsync.plan.old fsync.plan.leave) holder.entry
+            (in_kept (λ e. not (leaves fsync.plan.leave e)) fsync.plan.old holder.entry there (ap not stays))))
       ]
         where
           seat : Seated
@@ -238,14 +234,14 @@ module _ (first : TreeState) (history : List Entry) (flushes : List Flush) (cut 
 
           built_there : (m : ℕ) → slice_get change.seats m ≡ Some seat → gives_up (rewrite_in seat) holder.held.place ≡ false → IsLeftByGone later block
           built_there m at keeps =
-              let one : Built = built_by change.changes (numbers_with change grant.inodes) (fresh_cut change.seats grant.blocks m seat) seat in
-              let built_in = there_is_in (nodes_with_grant change grant) m one (nodes_are_built_by_rank change grant m seat at).built in
+              let one : Built = built_by change.changes (numbers_with change fsync.grant.inodes) (fresh_cut change.seats fsync.grant.blocks m seat) seat in
+              let built_in = there_is_in (nodes_with_grant change fsync.grant) m one (nodes_are_built_by_rank change fsync.grant m seat at).built in
               record {
                 entry = entry_after one;
                 one =
                     (those.each (entry_after one)).1
                     (inl
-                    (built_is_kept first history flushes cut inodes flush raised after num layout store parts nodes entries plan grant is one
+                    (built_is_kept volume fsync is one
                     built_in));
                 held = record {
                   some = holder.held.some;
@@ -253,7 +249,7 @@ module _ (first : TreeState) (history : List Entry) (flushes : List Flush) (cut 
                   within = holder.held.within;
                   stands = built_pointer one m seat holder.held.place refl holder.held.within
                       ∙ place_stays (rewrite_in seat)
-                      (fresh_for (rewrite_in seat) (fresh_cut change.seats grant.blocks m seat)) holder.held.place block holder.held.some stands keeps;
+                      (fresh_for (rewrite_in seat) (fresh_cut change.seats fsync.grant.blocks m seat)) holder.held.place block holder.held.some stands keeps;
                 };
               }
 
@@ -274,14 +270,14 @@ module _ (first : TreeState) (history : List Entry) (flushes : List Flush) (cut 
           ]
 
   -- each block of the grant is held later
-  block_used : (block : ℕ) → Contains grant.blocks block → IsLeftByGone later block
+  block_used : (block : ℕ) → Contains fsync.grant.blocks block → IsLeftByGone later block
   block_used block there =
-      let one = block_is_used num nodes old_tree new_tree image plan grant store parts over block there in
+      let one = block_is_used volume.num fsync.nodes old_tree new_tree image fsync.plan fsync.grant volume.store volume.parts over block there in
       record {
         entry = entry_after one.0;
         one =
             (those.each (entry_after one.0)).1
-            (inl (built_is_kept first history flushes cut inodes flush raised after num layout store parts nodes entries plan grant is one.0 one.1));
+            (inl (built_is_kept volume fsync is one.0 one.1));
         held = one.2;
       }
 
@@ -294,14 +290,14 @@ module _ (first : TreeState) (history : List Entry) (flushes : List Flush) (cut 
     | inr f ↦ f
   ]
 
-  pub blocks_hold : HoldsLater held (IsLeftByGone later) grant.blocks freed
+  pub blocks_hold : HoldsLater held (IsLeftByGone later) fsync.grant.blocks freed
   blocks_hold = record {
     kept = λ block holder none. elim (block_kept_of block holder) [
-      | inl in_grant ↦ absurd (unlisted grant.blocks block none in_grant)
+      | inl in_grant ↦ absurd (unlisted fsync.grant.blocks block none in_grant)
       | inr (was, free) ↦ (was, listed_false freed block free)
     ];
     still = λ block was free. block_still block was (unlisted freed block free);
-    used = λ block t. block_used block (among_is_in grant.blocks block t);
+    used = λ block t. block_used block (among_is_in fsync.grant.blocks block t);
   }
 
   abbrev left : List ℕ
@@ -310,8 +306,8 @@ module _ (first : TreeState) (history : List Entry) (flushes : List Flush) (cut 
   abbrev inodes_of : List OldEntry → ℕ → Type 0
   inodes_of those_entries = Contains (map entry_number those_entries)
 
-  later_keeps : KeepsEntries next_num (part_next store parts plan grant) later
-  later_keeps = entries_after first history flushes cut inodes flush raised after num layout store parts nodes entries plan grant is later those
+  later_keeps : KeepsEntries next_num (part_next volume.store volume.parts fsync.plan fsync.grant) later
+  later_keeps = entries_after volume fsync is later those
 
   -- a node that has a number then has an entry with it
   inode_later : (node i : ℕ) → next_num node ≡ Some i → inodes_of later i
@@ -320,55 +316,57 @@ module _ (first : TreeState) (history : List Entry) (flushes : List Flush) (cut 
       let number : entry.0.old.number ≡ i = some_same (sym (later_keeps.each entry.0 entry.1).0 ∙ ap next_num entry.2 ∙ has) in
       subst (λ n. inodes_of later n) number (in_mapped entry_number later entry.0 entry.1)
 
-  had_later : (node i : ℕ) → num node ≡ Some i → next_num node ≡ cond (node_leaves plan.leave node) None (Some i)
-  had_later = after_had num nodes old_tree new_tree image plan grant whole
+  had_later : (node i : ℕ) → volume.num node ≡ Some i → next_num node ≡ cond (node_leaves fsync.plan.leave node) None (Some i)
+  had_later = after_had volume.num fsync.nodes old_tree new_tree image fsync.plan fsync.grant whole
 
   -- an inode that a node has then it had and keeps, or it is of the grant
-  inode_kept_of : (i : ℕ) → inodes_of later i → Contains grant.inodes i ⊎ (inodes_of entries i × (Contains left i → ⊥))
+  inode_kept_of : (i : ℕ) → inodes_of later i → Contains fsync.grant.inodes i ⊎ (inodes_of fsync.entries i × (Contains left i → ⊥))
   inode_kept_of i there =
       let entry = mapped_is_in entry_number later i there in
       by entry.0.node.0 ((later_keeps.each entry.0 entry.1).0 ∙ ap Some entry.2)
     where
-      by : (node : ℕ) → next_num node ≡ Some i → Contains grant.inodes i ⊎ (inodes_of entries i × (Contains left i → ⊥))
-      by node has = by_number (num node) refl
+      by : (node : ℕ) → next_num node ≡ Some i → Contains fsync.grant.inodes i ⊎ (inodes_of fsync.entries i × (Contains left i → ⊥))
+      by node has = by_number (volume.num node) refl
         where
-          by_number : (o : Option ℕ) → num node ≡ o → Contains grant.inodes i ⊎ (inodes_of entries i × (Contains left i → ⊥))
+          by_number : (o : Option ℕ) → volume.num node ≡ o → Contains fsync.grant.inodes i ⊎ (inodes_of fsync.entries i × (Contains left i → ⊥))
           by_number None e =
               let at =
-              granted (map enter_node plan.enter) grant.inodes node i (sym (after_none num nodes old_tree new_tree image plan grant whole node e) ∙ has) in
-              inl (subst (λ n. Contains grant.inodes n) at.number (Contains-get_or grant.inodes at.place 0 at.within))
-          by_number (Some j) e = elim (cases_Bool (node_leaves plan.leave node)) [
+              granted (map enter_node fsync.plan.enter) fsync.grant.inodes node i
+              (sym (after_none volume.num fsync.nodes old_tree new_tree image fsync.plan fsync.grant whole node e) ∙ has) in
+              inl (subst (λ n. Contains fsync.grant.inodes n) at.number (Contains-get_or fsync.grant.inodes at.place 0 at.within))
+          by_number (Some j) e = elim (cases_Bool (node_leaves fsync.plan.leave node)) [
             | inl goes ↦ absurd (none_some (sym (ap (λ b. cond b None (Some j)) goes) ∙ sym (had_later node j e) ∙ has))
             | inr stays ↦
                 let same : j ≡ i = some_same (sym (ap (λ b. cond b None (Some j)) stays) ∙ sym (had_later node j e) ∙ has) in
                 let own = is.keeps.all node j e in
-                let number : own.0.old.number ≡ i = some_same (sym (is.keeps.each own.0 own.1).0 ∙ ap num own.2 ∙ e) ∙ same in
+                let number : own.0.old.number ≡ i = some_same (sym (is.keeps.each own.0 own.1).0 ∙ ap volume.num own.2 ∙ e) ∙ same in
                 inr (
-                  subst (λ n. inodes_of entries n) number (in_mapped entry_number entries own.0 own.1),
-                  not_left own.0 own.1 number (ap (node_leaves plan.leave) own.2 ∙ stays),
+                  subst (λ n. inodes_of fsync.entries n) number (in_mapped entry_number fsync.entries own.0 own.1),
+                  not_left own.0 own.1 number (ap (node_leaves fsync.plan.leave) own.2 ∙ stays),
                 )
           ]
             where
-              not_left : (entry : OldEntry) → Contains entries entry → entry.old.number ≡ i → leaves plan.leave entry ≡ false → Contains left i → ⊥
+              not_left : (entry : OldEntry) → Contains fsync.entries entry → entry.old.number ≡ i → leaves fsync.plan.leave entry ≡ false → Contains left i
+                  → ⊥
               not_left entry there number stays has_left =
                   let gone = mapped_is_in entry_number change.gone i ((used.gives_up.freed_inodes.each i).0 has_left) in
                   let leaver = gone_entry gone.0 gone.1 in
                   let same =
-                  same_number first history flushes cut inodes num layout store parts entries is.ready is.keeps entry gone.0 there
+                  same_number volume fsync.entries is.ready is.keeps entry gone.0 there
                   (planned_entry gone.0 leaver.0).0 (number ∙ sym gone.2) in
-                  true_not_false (sym leaver.1 ∙ ap (leaves plan.leave) (sym same) ∙ stays)
+                  true_not_false (sym leaver.1 ∙ ap (leaves fsync.plan.leave) (sym same) ∙ stays)
 
-  inode_still : (i : ℕ) → inodes_of entries i → (Contains left i → ⊥) → inodes_of later i
+  inode_still : (i : ℕ) → inodes_of fsync.entries i → (Contains left i → ⊥) → inodes_of later i
   inode_still i there free =
-      let entry = mapped_is_in entry_number entries i there in
+      let entry = mapped_is_in entry_number fsync.entries i there in
       by entry.0 entry.1 entry.2
     where
-      by : (entry : OldEntry) → Contains entries entry → entry.old.number ≡ i → inodes_of later i
-      by entry in_entries number = elim (cases_Bool (is_among nodes entry.node.0)) [
+      by : (entry : OldEntry) → Contains fsync.entries entry → entry.old.number ≡ i → inodes_of later i
+      by entry in_entries number = elim (cases_Bool (is_among fsync.nodes entry.node.0)) [
         | inr aside ↦ subst (λ n. inodes_of later n) number (in_mapped entry_number later entry ((those.each entry).1 (inr (in_entries, aside))))
-        | inl among ↦ elim (cases_Bool (leaves plan.leave entry)) [
+        | inl among ↦ elim (cases_Bool (leaves fsync.plan.leave entry)) [
           | inl goes ↦
-              let in_gone = in_kept (leaves plan.leave) plan.old entry (is.plans.old.all entry in_entries among) goes in
+              let in_gone = in_kept (leaves fsync.plan.leave) fsync.plan.old entry (is.plans.old.all entry in_entries among) goes in
               absurd
               (free
               ((used.gives_up.freed_inodes.each i).1 (subst (λ n. inodes_of change.gone n) number (in_mapped entry_number change.gone entry in_gone))))
@@ -380,35 +378,36 @@ module _ (first : TreeState) (history : List Entry) (flushes : List Flush) (cut 
       ]
 
   -- each inode of the grant is that of a node that enters
-  inode_used : (i : ℕ) → Contains grant.inodes i → inodes_of later i
+  inode_used : (i : ℕ) → Contains fsync.grant.inodes i → inodes_of later i
   inode_used i there =
-      let at = in_is_there grant.inodes i there in
-      let within = slice_get_within grant.inodes at.0 i at.1 in
-      let node = some_there (map enter_node plan.enter) at.0 (subst (λ n. at.0 < n) whole.serves.inodes.enough within) in
-      let one = mapped_is_in enter_node plan.enter node.0 (there_is_in (map enter_node plan.enter) at.0 node.0 node.1) in
-      let none : num node.0 ≡ None = ap num (sym one.2) ∙ whole.from.numbered.enter_none one.0 one.1 in
-      inode_later node.0 i (after_none num nodes old_tree new_tree image plan grant whole node.0 none
-      ∙ grant_at (map enter_node plan.enter) grant.inodes at.0 node.0 i (ascending_once enter_node plan.enter whole.from.numbered.enter_ascend) node.1 at.1)
+      let at = in_is_there fsync.grant.inodes i there in
+      let within = slice_get_within fsync.grant.inodes at.0 i at.1 in
+      let node = some_there (map enter_node fsync.plan.enter) at.0 (subst (λ n. at.0 < n) whole.serves.inodes.enough within) in
+      let one = mapped_is_in enter_node fsync.plan.enter node.0 (there_is_in (map enter_node fsync.plan.enter) at.0 node.0 node.1) in
+      let none : volume.num node.0 ≡ None = ap volume.num (sym one.2) ∙ whole.from.numbered.enter_none one.0 one.1 in
+      inode_later node.0 i (after_none volume.num fsync.nodes old_tree new_tree image fsync.plan fsync.grant whole node.0 none
+      ∙ grant_at (map enter_node fsync.plan.enter) fsync.grant.inodes at.0 node.0 i
+      (ascending_once enter_node fsync.plan.enter whole.from.numbered.enter_ascend) node.1 at.1)
 
-  pub inodes_hold : HoldsLater (inodes_of entries) (inodes_of later) grant.inodes left
+  pub inodes_hold : HoldsLater (inodes_of fsync.entries) (inodes_of later) fsync.grant.inodes left
   inodes_hold = record {
     kept = λ i has none. elim (inode_kept_of i has) [
-      | inl in_grant ↦ absurd (unlisted grant.inodes i none in_grant)
+      | inl in_grant ↦ absurd (unlisted fsync.grant.inodes i none in_grant)
       | inr (was, free) ↦ (was, listed_false left i free)
     ];
     still = λ i was free. inode_still i was (unlisted left i free);
-    used = λ i t. inode_used i (among_is_in grant.inodes i t);
+    used = λ i t. inode_used i (among_is_in fsync.grant.inodes i t);
   }
 
 pub commits_keep_maps : CommitsKeepMaps
-commits_keep_maps first history flushes cut inodes flush raised after num layout store parts nodes entries plan grant later tx old new is those mapped used =
+commits_keep_maps volume fsync later tx old new is those mapped used =
     record {
       blocks =
-          ends_right (data_start layout) layout.blocks (IsLeftByGone entries)
-          (IsLeftByGone later) old.blocks new.blocks grant.blocks tx.freed_blocks.items mapped.blocks used.blocks
-          (blocks_hold first history flushes cut inodes flush raised after num layout store parts nodes entries plan grant later tx old new is those used);
+          ends_right (data_start volume.layout) volume.layout.blocks (IsLeftByGone fsync.entries)
+          (IsLeftByGone later) old.blocks new.blocks fsync.grant.blocks tx.freed_blocks.items mapped.blocks used.blocks
+          (blocks_hold volume fsync later tx old new is those used);
       inodes =
-          ends_right 0 layout.inodes (Contains (map entry_number entries))
-          (Contains (map entry_number later)) old.inodes new.inodes grant.inodes tx.freed_inodes.items mapped.inodes used.inodes
-          (inodes_hold first history flushes cut inodes flush raised after num layout store parts nodes entries plan grant later tx old new is those used);
+          ends_right 0 volume.layout.inodes (Contains (map entry_number fsync.entries))
+          (Contains (map entry_number later)) old.inodes new.inodes fsync.grant.inodes tx.freed_inodes.items mapped.inodes used.inodes
+          (inodes_hold volume fsync later tx old new is those used);
     }

@@ -9,14 +9,11 @@ use Rattle.sfs_base.proofs.BasicLists.{take_none}
 use Rattle.sfs_base.proofs.BasicNumbers.{suc_is_one_more, zero_plus, not_same}
 use Rattle.sfs_base.proofs.BasicOptions.{none_some, some_same}
 use Rattle.sfs_base.proofs.BasicTruth.{not_false}
-use Rattle.sfs_image.specs.Part.{Part}
 use Rattle.sfs_image.specs.Seen.{SeenInodes}
-use Rattle.sfs_image.specs.Super.{Layout, data_start}
-use Rattle.tree_laws.specs.declared.history.Entry.{Entry}
-use Rattle.tree_laws.specs.Tree.{TreeState, kind_of}
+use Rattle.sfs_image.specs.Super.{data_start}
+use Rattle.tree_laws.specs.Tree.{kind_of}
 use Rattle.image_laws.specs.Image.{inodes_shown}
 use Rattle.image_laws.specs.Need.{rank}
-use Rattle.image_laws.specs.Renamed.{Numbering}
 use Rattle.image_laws.proofs.Ranks.{rank_more}
 use Rattle.image_laws.proofs.Standing.{not_used}
 use Rattle.space_map.specs.Pool.{Pool, status_of, is_free, free_count}
@@ -27,8 +24,7 @@ use Rattle.disk_change.specs.GivenUp.{IsLeftByGone, entry_number}
 use Rattle.disk_nodes.specs.declared.old.OldEntry.{OldEntry}
 use Rattle.commit_laws.proofs.OwnInodes.{mapped_is_in}
 use Rattle.commit_laws.proofs.SeatsOfPlan.{in_mapped}
-use Rattle.cut_laws.specs.Closure.{Flush}
-use Rattle.cut_laws.specs.Cut.{Cut, tree_at_cut}
+use Rattle.flush_laws.specs.Volume.{Volume, tree_held}
 use Rattle.flush_laws.specs.Ready.{IsBetweenCommits, KeepsEntries}
 use Rattle.turn_laws.specs.Need.{is_unused, is_held_in}
 use Rattle.turn_laws.proofs.ListedNeeds.{none_counted, rank_agrees, held_are_found}
@@ -116,28 +112,27 @@ module _ (first end : ℕ) (held : ℕ → Type 0) (pool : Pool) (row : IsRowOf 
             | inr f ↦ absurd (let never : Free ≡ Taken = row.held_is_taken (first + k) Free has ((tells (first + k) spans.0 spans.1).0 f) in cc)
           ]
 
-module _ (first : TreeState) (history : List Entry) (flushes : List Flush) (cut : Cut) (inodes : ℕ → Bool) (num : Numbering) (layout : Layout)
-    (store : ℕ → List ℕ) (parts : ℕ → Part) (entries : List OldEntry)
-    (ready : IsBetweenCommits first history flushes cut inodes num layout store parts) (keeps : KeepsEntries num parts entries) where
+module _ (volume : Volume) (entries : List OldEntry)
+    (ready : IsBetweenCommits volume) (keeps : KeepsEntries volume.num volume.parts entries) where
   abbrev image : SeenInodes
-  image = inodes_shown layout parts
+  image = inodes_shown volume.layout volume.parts
 
   -- the inode of an entry is in use
   in_use : (entry : OldEntry) → Contains entries entry → (image.seen entry.old.number).kind ≢ 0
   in_use entry in_entries none =
-      not_used (kind_of (tree_at_cut first history cut) entry.node.0)
+      not_used (kind_of (tree_held volume) entry.node.0)
       (sym (ready.stands.each entry.node.0 entry.old.number (keeps.each entry in_entries).0).kind ∙ none)
 
   -- An inode that is in use is that of an entry.
-  used_entry : (i : ℕ) → i < layout.inodes → (image.seen i).kind ≢ 0 → (entry : OldEntry) × Contains entries entry × (entry.old.number ≡ i)
+  used_entry : (i : ℕ) → i < volume.layout.inodes → (image.seen i).kind ≢ 0 → (entry : OldEntry) × Contains entries entry × (entry.old.number ≡ i)
   used_entry i low used = elim (ready.stands.rest i low) [
     | inr unused ↦ absurd (used unused.kind)
     | inl (node, has) ↦
         let entry = keeps.all node i has in
-        (entry.0, entry.1, some_same (sym (keeps.each entry.0 entry.1).0 ∙ ap num entry.2 ∙ has))
+        (entry.0, entry.1, some_same (sym (keeps.each entry.0 entry.1).0 ∙ ap volume.num entry.2 ∙ has))
   ]
 
-  inodes_tell : (i : ℕ) → i < layout.inodes → (is_unused image i ≡ false) ↔ Contains (map entry_number entries) i
+  inodes_tell : (i : ℕ) → i < volume.layout.inodes → (is_unused image i ≡ false) ↔ Contains (map entry_number entries) i
   inodes_tell i low = (found, back)
     where
       found : is_unused image i ≡ false → Contains (map entry_number entries) i
@@ -150,7 +145,7 @@ module _ (first : TreeState) (history : List Entry) (flushes : List Flush) (cut 
           let entry = mapped_is_in entry_number entries i in_numbers in
           not_same (image.seen i).kind 0 (λ none. in_use entry.0 entry.1 (ap (λ n. (image.seen n).kind) entry.2 ∙ none))
 
-  blocks_tell : (block : ℕ) → data_start layout ≤ block → (not (is_held_in image block) ≡ false) ↔ IsLeftByGone entries block
+  blocks_tell : (block : ℕ) → data_start volume.layout ≤ block → (not (is_held_in image block) ≡ false) ↔ IsLeftByGone entries block
   blocks_tell block lies = (found, back)
     where
       found : not (is_held_in image block) ≡ false → IsLeftByGone entries block
@@ -161,11 +156,11 @@ module _ (first : TreeState) (history : List Entry) (flushes : List Flush) (cut 
             entry = entry.0;
             one = entry.1;
             held = record {
-              some = λ none. let behind = data_behind_super layout in omega (arith, lies, behind, none);
+              some = λ none. let behind = data_behind_super volume.layout in omega (arith, lies, behind, none);
               place = by.place;
               within = by.low;
               stands =
-                  shown_at first history flushes cut inodes num layout store parts entries ready keeps entry.0 entry.1 by.place by.low
+                  shown_at volume entries ready keeps entry.0 entry.1 by.place by.low
                   ∙ ap (λ n. (image.seen n).blocks by.place) entry.2 ∙ by.has;
             };
           }
@@ -174,26 +169,28 @@ module _ (first : TreeState) (history : List Entry) (flushes : List Flush) (cut 
       back left = ap not ((held_are_found image block).1 (record {
         inode = left.entry.old.number;
         place = left.held.place;
-        within = low_number first history flushes cut inodes num layout store parts entries ready keeps left.entry left.one;
+        within = low_number volume entries ready keeps left.entry left.one;
         low = left.held.within;
         used = in_use left.entry left.one;
         has =
-            sym (shown_at first history flushes cut inodes num layout store parts entries ready keeps left.entry left.one left.held.place left.held.within)
+            sym (shown_at volume entries ready keeps left.entry left.one left.held.place left.held.within)
             ∙ left.held.stands;
       }))
 
 pub maps_count_free : MapsCountFree
-maps_count_free first history flushes cut inodes num layout store parts entries space ready keeps mapped none = record {
+maps_count_free volume entries space ready keeps mapped none = record {
   inodes =
-      counts_free 0 layout.inodes (Contains (map entry_number entries)) space.inodes mapped.inodes (is_unused (inodes_shown layout parts)) none.inodes
-      (λ i low high. inodes_tell first history flushes cut inodes num layout store parts entries ready keeps i high)
-      ∙ rank_agrees (λ n. is_unused (inodes_shown layout parts) (0 + n)) (is_unused (inodes_shown layout parts)) (layout.inodes - 0)
-      (λ k low. ap (is_unused (inodes_shown layout parts)) (zero_plus k))
-      ∙ ap (rank (is_unused (inodes_shown layout parts))) (whole layout.inodes);
+      counts_free 0 volume.layout.inodes (Contains (map entry_number entries)) space.inodes mapped.inodes
+      (is_unused (inodes_shown volume.layout volume.parts)) none.inodes
+      (λ i low high. inodes_tell volume entries ready keeps i high)
+      ∙ rank_agrees (λ n. is_unused (inodes_shown volume.layout volume.parts) (0 + n)) (is_unused (inodes_shown volume.layout volume.parts))
+      (volume.layout.inodes - 0)
+      (λ k low. ap (is_unused (inodes_shown volume.layout volume.parts)) (zero_plus k))
+      ∙ ap (rank (is_unused (inodes_shown volume.layout volume.parts))) (whole volume.layout.inodes);
   blocks =
-      counts_free (data_start layout) layout.blocks (IsLeftByGone entries) space.blocks mapped.blocks
-      (λ block. not (is_held_in (inodes_shown layout parts) block)) none.blocks
-      (λ block low high. blocks_tell first history flushes cut inodes num layout store parts entries ready keeps block low);
+      counts_free (data_start volume.layout) volume.layout.blocks (IsLeftByGone entries) space.blocks mapped.blocks
+      (λ block. not (is_held_in (inodes_shown volume.layout volume.parts) block)) none.blocks
+      (λ block low high. blocks_tell volume entries ready keeps block low);
 }
   where
     whole : (n : ℕ) → n - 0 ≡ n

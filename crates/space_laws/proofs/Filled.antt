@@ -16,20 +16,16 @@ use Rattle.sfs_base.specs.declared.numbers.Kind.TheVariants.{File, Directory}
 use Rattle.sfs_base.proofs.BasicOptions.{none_some, some_same}
 use Rattle.sfs_base.proofs.BasicTruth.{true_not_false}
 use Rattle.sfs_image.specs.Bytes.{part, nonzero_in, is_nonzero, fault_at}
-use Rattle.sfs_image.specs.Part.{Part, inode_in, is_directory_part, directory_blocks, seen_of}
+use Rattle.sfs_image.specs.Part.{inode_in, is_directory_part, directory_blocks, seen_of}
 use Rattle.sfs_image.specs.Seen.{SeenInodes}
 use Rattle.sfs_image.specs.Slot.{Row, slot_of, slot_fault, row_fault, name_place, is_kind, kind_byte}
 use Rattle.sfs_image.specs.SlotBlock.{AreSlots, slot_in, slots_of, slots_fault}
-use Rattle.sfs_image.specs.Super.{Layout}
 use Rattle.sfs_image.proofs.BytesLaws.{zeros_from_none, none_from_map, zeros-byte, option_or-None}
 use Rattle.sfs_image.proofs.RuleFacts.{slots_say}
 use Rattle.sfs_image.proofs.SlotBlockLaws.{slot_in-sound}
-use Rattle.tree_laws.specs.declared.history.Entry.{Entry}
-use Rattle.tree_laws.specs.Tree.{TreeState}
 use Rattle.absorb.specs.declared.nets.NetRow.{NetRow}
 use Rattle.image_laws.specs.Image.{inodes_shown}
 use Rattle.image_laws.specs.Keeps.{MayStand, KeepsRules}
-use Rattle.image_laws.specs.Renamed.{Numbering}
 use Rattle.image_laws.proofs.Standing.{keeps as standing_keeps}
 use Rattle.block_map.specs.Kept.{kept_of, kept_slots}
 use Rattle.disk_nodes.specs.OldKept.{Kept}
@@ -59,10 +55,9 @@ use Rattle.commit_laws.proofs.PartsMade.{in_flat}
 use Rattle.commit_laws.proofs.Ranked.{nodes_are_built_by_rank}
 use Rattle.commit_laws.proofs.SeatsOfPlan.{in_is_there, there_is_in, in_mapped, in_is_among, among_is_in}
 use Rattle.commit_laws.proofs.Shown.{found_is_in}
-use Rattle.cut_laws.specs.Closure.{Flush}
-use Rattle.cut_laws.specs.Cut.{Cut, tree_at_cut}
 use Rattle.raise_laws.specs.Next.{IsStorableAtCut}
 use Rattle.raise_laws.proofs.Next.{cut_trees_are_storable}
+use Rattle.flush_laws.specs.Volume.{Volume, tree_held}
 use Rattle.flush_laws.specs.Ready.{IsBetweenCommits, KeepsEntries}
 use Rattle.space_laws.specs.Laws.{BringsNames, PlansFillSlots, GrantsServePlans}
 use Rattle.space_laws.proofs.Asked.{enters_counted}
@@ -137,63 +132,64 @@ number_of_old : (changes : CommitChanges) (begun : Begun) (kind : Kind) → (sea
 number_of_old changes begun File = refl
 number_of_old changes begun Directory = refl
 
-module _ (first : TreeState) (history : List Entry) (flushes : List Flush) (cut : Cut) (inodes : ℕ → Bool) (num : Numbering) (layout : Layout)
-    (store : ℕ → List ℕ) (parts : ℕ → Part) (entries : List OldEntry) (plan : CommitPlan) (grant : GrantedNumbers)
-    (ready : IsBetweenCommits first history flushes cut inodes num layout store parts) (keeps : KeepsEntries num parts entries)
+module _ (volume : Volume) (entries : List OldEntry) (plan : CommitPlan) (grant : GrantedNumbers)
+    (ready : IsBetweenCommits volume) (keeps : KeepsEntries volume.num volume.parts entries)
     (owned : (entry : OldEntry) → Contains plan.old entry → Contains entries entry)
-    (names : BringsNames plan.nets) (serves : ServesPlan (inodes_shown layout parts) plan grant) where
+    (names : BringsNames plan.nets) (serves : ServesPlan (inodes_shown volume.layout volume.parts) plan grant) where
   abbrev image : SeenInodes
-  image = inodes_shown layout parts
+  image = inodes_shown volume.layout volume.parts
 
   abbrev change : Planned
   change = change_planned plan
 
-  stored : IsStorableAtCut num first history cut
-  stored = cut_trees_are_storable first history flushes cut inodes num ready.history_is ready.flushed ready.numbers
+  stored : IsStorableAtCut volume.num volume.first volume.history volume.cut
+  stored = cut_trees_are_storable volume.first volume.history volume.flushes volume.cut volume.inodes volume.num ready.history_is ready.flushed ready.numbers
 
   rules : KeepsRules image
-  rules = standing_keeps num (tree_at_cut first history cut) image stored.sound ready.stands stored.storable
+  rules = standing_keeps volume.num (tree_held volume) image stored.sound ready.stands stored.storable
 
-  number_low : (entry : OldEntry) → Contains entries entry → entry.old.number < layout.inodes
+  number_low : (entry : OldEntry) → Contains entries entry → entry.old.number < volume.layout.inodes
   number_low entry there = ready.stands.within entry.node.0 entry.old.number (keeps.each entry there).0
 
   -- the blocks that an entry has fit any net
   old_fits : (net : List NetRow) (entry : OldEntry) → Contains entries entry → (block : List (Option Row)) → Contains entry.old.kept.slots block
       → BlockFits net block
   old_fits net entry there block in_slots =
-      by (is_directory_part (parts entry.old.number)) refl (subst (λ (k : Kept). Contains k.slots block) kept_is in_slots)
+      by (is_directory_part (volume.parts entry.old.number)) refl (subst (λ (k : Kept). Contains k.slots block) kept_is in_slots)
     where
-      kept_is : entry.old.kept ≡ kept_of (parts entry.old.number)
+      kept_is : entry.old.kept ≡ kept_of (volume.parts entry.old.number)
       kept_is = (keeps.each entry there).1
 
-      by : (b : Bool) → is_directory_part (parts entry.old.number) ≡ b → Contains (cond b (map slots_of (directory_blocks (parts entry.old.number))) []) block
+      by : (b : Bool) → is_directory_part (volume.parts entry.old.number) ≡ b → Contains
+          (cond b (map slots_of (directory_blocks (volume.parts entry.old.number))) []) block
           → BlockFits net block
       by false e (k, within, is) = absurd (omega arith)
       by true e has = record { count = shows.blocks block has_kept; slots = slots_fit net block each }
         where
-          shows : KeepsSeen (kept_of (parts entry.old.number)) (seen_of (parts entry.old.number))
-          shows = kept_parts_show store (parts entry.old.number) (ready.sound.gathered entry.old.number (number_low entry there))
+          shows : KeepsSeen (kept_of (volume.parts entry.old.number)) (seen_of (volume.parts entry.old.number))
+          shows = kept_parts_show volume.store (volume.parts entry.old.number) (ready.sound.gathered entry.old.number (number_low entry there))
 
-          has_kept : Contains (kept_slots (parts entry.old.number)) block
+          has_kept : Contains (kept_slots (volume.parts entry.old.number)) block
           has_kept = subst (λ (k : Kept). Contains k.slots block) kept_is in_slots
 
-          raw : (raw : List ℕ) × Contains (directory_blocks (parts entry.old.number)) raw × (slots_of raw ≡ block)
-          raw = mapped_is_in slots_of (directory_blocks (parts entry.old.number)) block has
+          raw : (raw : List ℕ) × Contains (directory_blocks (volume.parts entry.old.number)) raw × (slots_of raw ≡ block)
+          raw = mapped_is_in slots_of (directory_blocks (volume.parts entry.old.number)) block has
 
           sound : slots_fault raw.0 ≡ None
           sound =
-              All-contains (λ b. slots_fault b ≡ None) (directory_blocks (parts entry.old.number)) raw.0
-              ((slots_say (parts entry.old.number)).0 (good_part layout parts ready.sound.good entry.old.number (number_low entry there)).slots e) raw.1
+              All-contains (λ b. slots_fault b ≡ None) (directory_blocks (volume.parts entry.old.number)) raw.0
+              ((slots_say (volume.parts entry.old.number)).0 (good_part volume.layout volume.parts ready.sound.good entry.old.number
+              (number_low entry there)).slots e) raw.1
 
           each : (slot : Option Row) → Contains block slot → SlotFits net slot
           each None in_block = tt
           each (Some row) in_block =
-              let in_seen : Contains (seen_of (parts entry.old.number)).slots (Some row) =
+              let in_seen : Contains (seen_of (volume.parts entry.old.number)).slots (Some row) =
               subst (λ those. Contains those (Some row)) shows.slots
-              (in_flat (λ (b : List (Option Row)). b) (kept_slots (parts entry.old.number)) block (Some row) has_kept in_block) in
+              (in_flat (λ (b : List (Option Row)). b) (kept_slots (volume.parts entry.old.number)) block (Some row) has_kept in_block) in
               let may =
               each_of image (image.seen entry.old.number).slots
-              (rules.children entry.old.number (number_low entry there, eqb-true (inode_in (parts entry.old.number)).kind (kind_byte Directory) e))
+              (rules.children entry.old.number (number_low entry there, eqb-true (inode_in (volume.parts entry.old.number)).kind (kind_byte Directory) e))
               (Some row) in_seen in
               record {
                 name = rows_named raw.0 row sound (subst (λ those. Contains those (Some row)) (sym raw.2) in_block);
@@ -210,7 +206,8 @@ module _ (first : TreeState) (history : List Entry) (flushes : List Flush) (cut 
       by (Some one) e has = names one (found_is_in (λ item. nat_eq (net_node item) node) plan.nets one e) row has
 
   -- the blocks of a node that is seated, before its children have numbers
-  seated_fits : (begun : Begun) (kind : Kind) → ((block : List (Option Row)) → Contains begun.slots block → BlockFits (net_of_node plan.nets begun.node) block)
+  seated_fits : (begun : Begun) (kind : Kind) → ((block : List (Option Row)) → Contains begun.slots block → BlockFits (net_of_node plan.nets begun.node)
+      block)
       → (block : List (Option Row)) → Contains (seated_as kind change.changes begun).slots block → BlockFits (net_of_node plan.nets begun.node) block
   seated_fits begun File each block (k, within, is) = absurd (omega arith)
   seated_fits begun Directory each block there =
@@ -316,17 +313,16 @@ module _ (first : TreeState) (history : List Entry) (flushes : List Flush) (cut 
           (subst (λ n. BlockFits (net_of_node plan.nets n) before.0) (sym node) fits))
 
 pub plans_fill_slots : PlansFillSlots
-plans_fill_slots first history flushes cut inodes flush raised after num layout store parts nodes entries plan grant ready keeps plans names serves =
-    filled first history flushes cut inodes num layout store parts entries plan grant ready keeps (λ entry there. (plans.old.own entry there).0) names serves
+plans_fill_slots volume fsync ready keeps plans names serves =
+    filled volume fsync.entries fsync.plan fsync.grant ready keeps (λ entry there. (plans.old.own entry there).0) names serves
 
 pub grants_serve_plans : GrantsServePlans
-grants_serve_plans first history flushes cut inodes flush raised after num layout store parts nodes entries plan old new grant ready keeps plans names mapped
-    granted =
-    let serves = grants_serve first history flushes cut inodes num layout store parts entries plan old new grant ready keeps mapped granted in
+grants_serve_plans volume fsync old new ready keeps plans names mapped granted =
+    let serves = grants_serve volume fsync.entries fsync.plan old new fsync.grant ready keeps mapped granted in
     record {
       serves = serves.serves;
       lies = serves.lies;
       slots =
-          plans_fill_slots first history flushes cut inodes flush raised after num layout store parts nodes entries plan grant ready keeps plans names
+          plans_fill_slots volume fsync ready keeps plans names
           serves.serves;
     }

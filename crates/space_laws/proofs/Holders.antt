@@ -4,13 +4,9 @@ use Rattle.std.specs.Prelude.{◌⊎◌}
 use Rattle.std.proofs.lemmas.Bool.Decides.{nat_tests}
 use Rattle.std.proofs.lemmas.List.{get_or-take}
 use Rattle.sfs_base.proofs.BasicOptions.{some_same}
-use Rattle.sfs_image.specs.Part.{Part, seen_of}
+use Rattle.sfs_image.specs.Part.{seen_of}
 use Rattle.sfs_image.specs.Seen.{PLACES, FILE_BLOCKS}
-use Rattle.sfs_image.specs.Super.{Layout}
-use Rattle.tree_laws.specs.declared.history.Entry.{Entry}
-use Rattle.tree_laws.specs.Tree.{TreeState}
 use Rattle.image_laws.specs.Need.{Rewrite, pointer_after, rewrites_table, table_has_pointer}
-use Rattle.image_laws.specs.Renamed.{Numbering}
 use Rattle.block_map.specs.Kept.{pointer_kept}
 use Rattle.disk_nodes.specs.OldKept.{Kept}
 use Rattle.block_map.specs.Remap.{gives_up, fresh_for}
@@ -20,8 +16,7 @@ use Rattle.disk_nodes.specs.declared.old.OldEntry.{OldEntry}
 use Rattle.commit_laws.proofs.Granted.{is_in, in_dropped}
 use Rattle.commit_laws.proofs.KeptShown.{kept_parts_show}
 use Rattle.commit_laws.proofs.KnownDirectories.{own_item}
-use Rattle.cut_laws.specs.Closure.{Flush}
-use Rattle.cut_laws.specs.Cut.{Cut}
+use Rattle.flush_laws.specs.Volume.{Volume}
 use Rattle.flush_laws.specs.Ready.{IsBetweenCommits, KeepsEntries}
 
 -- the block that an entry has at a place
@@ -79,7 +74,8 @@ module _ (rewrite : Rewrite) (fresh : ℕ → ℕ) (place block : ℕ) (some : b
       there : rewrite.pointers place ≢ 0
       there none = some (sym is ∙ none)
 
-      by : (b : Bool) → (cond b (rewrite.is_rewritten place) (rewrites_table rewrite (place - FILE_BLOCKS)) && not (nat_eq (rewrite.pointers place) 0)) ≡ false
+      by : (b : Bool) → (cond b (rewrite.is_rewritten place) (rewrites_table rewrite (place - FILE_BLOCKS)) && not (nat_eq (rewrite.pointers place) 0))
+          ≡ false
           → cond b (cond (rewrite.is_rewritten place) (cond (rewrite.is_zero place) 0 (fresh place)) (rewrite.pointers place))
           (cond (rewrites_table rewrite (place - FILE_BLOCKS)) (cond (table_has_pointer rewrite (place - FILE_BLOCKS)) (fresh place) 0)
           (rewrite.pointers place))
@@ -97,18 +93,17 @@ fresh_is_granted rewrite n m grant place block some is =
     (in_dropped m grant (fresh_for rewrite (take n (drop m grant)) place)
     (in_front n (drop m grant) (fresh_for rewrite (take n (drop m grant)) place) (is_in (take n (drop m grant)) _ (λ none. some (sym is ∙ none)))))
 
-module _ (first : TreeState) (history : List Entry) (flushes : List Flush) (cut : Cut) (inodes : ℕ → Bool) (num : Numbering) (layout : Layout)
-    (store : ℕ → List ℕ) (parts : ℕ → Part) (entries : List OldEntry)
-    (ready : IsBetweenCommits first history flushes cut inodes num layout store parts) (keeps : KeepsEntries num parts entries) where
-  pub low_number : (entry : OldEntry) → Contains entries entry → entry.old.number < layout.inodes
+module _ (volume : Volume) (entries : List OldEntry)
+    (ready : IsBetweenCommits volume) (keeps : KeepsEntries volume.num volume.parts entries) where
+  pub low_number : (entry : OldEntry) → Contains entries entry → entry.old.number < volume.layout.inodes
   low_number entry there = ready.stands.within entry.node.0 entry.old.number (keeps.each entry there).0
 
   -- what an entry has at a place is what its part points to there
   pub shown_at : (entry : OldEntry) → Contains entries entry → (place : ℕ) → place < PLACES
-      → pointer_in entry place ≡ (seen_of (parts entry.old.number)).blocks place
+      → pointer_in entry place ≡ (seen_of (volume.parts entry.old.number)).blocks place
   shown_at entry there place low =
       ap (λ (k : Kept). pointer_kept k.inode k.tables place) (keeps.each entry there).1
-      ∙ (kept_parts_show store (parts entry.old.number) (ready.sound.gathered entry.old.number (low_number entry there))).pointers place low
+      ∙ (kept_parts_show volume.store (volume.parts entry.old.number) (ready.sound.gathered entry.old.number (low_number entry there))).pointers place low
 
   -- entries of one node are one
   pub same_entry : (a b : OldEntry) → Contains entries a → Contains entries b → a.node.0 ≡ b.node.0 → a ≡ b

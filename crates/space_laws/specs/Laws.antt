@@ -1,12 +1,10 @@
 -- The laws of free space, each of which a function of the module laws proves.
-use Rattle.std.specs.Prelude.{◌≡◌, ◌≢◌, ◌↔◌, ℕ, ◌<◌, ◌≤◌, Bool, List, map, Option, None, Some, Contains}
+use Rattle.std.specs.Prelude.{◌≡◌, ◌≢◌, ◌↔◌, ℕ, ◌<◌, ◌≤◌, List, map, Option, None, Some, Contains}
 use Rattle.sfs_base.specs.Name.{name_fault}
 use Rattle.sfs_image.specs.Part.{Part}
 use Rattle.sfs_image.specs.Slot.{Row}
 use Rattle.sfs_image.specs.SlotBlock.{AreSlots}
 use Rattle.sfs_image.specs.Super.{Layout, data_start}
-use Rattle.tree_laws.specs.declared.history.Entry.{Entry}
-use Rattle.tree_laws.specs.Tree.{TreeState}
 use Rattle.fmt_journal.specs.declared.tx.Tx.{Tx}
 use Rattle.absorb.specs.declared.nets.NetRow.{NetRow}
 use Rattle.image_laws.specs.Image.{inodes_shown}
@@ -20,11 +18,10 @@ use Rattle.disk_change.specs.GivenUp.{IsLeftByGone, entry_number}
 use Rattle.disk_change.specs.declared.directory_net.DirectoryNet.{DirectoryNet}
 use Rattle.disk_nodes.specs.declared.old.OldEntry.{OldEntry}
 use Rattle.commit_laws.specs.CommitOfPlan.{CommitPlan, change_planned, ServesPlan}
-use Rattle.cut_laws.specs.Closure.{Flush}
-use Rattle.cut_laws.specs.Cut.{Cut}
 use Rattle.flush_laws.specs.Laws.{AreEntriesAfter}
 use Rattle.flush_laws.specs.Planned.{IsPlanAt, GrantsPlan, IsPlannedFsync}
 use Rattle.flush_laws.specs.Ready.{IsBetweenCommits, KeepsEntries}
+use Rattle.flush_laws.specs.Volume.{Volume, OneFsync}
 use Rattle.turn_laws.specs.Need.{ImageState, free_inodes, free_blocks}
 use Rattle.space_laws.specs.Map.{IsMapOf, WasGranted, WasReturned, WasUsed}
 
@@ -43,11 +40,9 @@ pub record ServesAt (layout : Layout) (parts : ℕ → Part) (plan : CommitPlan)
 
 -- Between two commits a grant that was taken from a right map serves the plan that it was taken for.
 abbrev pub GrantsServe : Type 0
-GrantsServe = (first : TreeState) (history : List Entry) (flushes : List Flush) (cut : Cut) (inodes : ℕ → Bool) (num : Numbering) (layout : Layout)
-    (store : ℕ → List ℕ) (parts : ℕ → Part) (entries : List OldEntry) (plan : CommitPlan) (old new : Space) (grant : GrantedNumbers)
-    → IsBetweenCommits first history flushes cut inodes num layout store parts → KeepsEntries num parts entries
-    → IsMapOf layout entries old → WasGranted plan old grant new
-    → ServesAt layout parts plan grant
+GrantsServe = (volume : Volume) (entries : List OldEntry) (plan : CommitPlan) (old new : Space) (grant : GrantedNumbers)
+    → IsBetweenCommits volume → KeepsEntries volume.num volume.parts entries → IsMapOf volume.layout entries old → WasGranted plan old grant new
+    → ServesAt volume.layout volume.parts plan grant
 
 -- A grant that is taken leaves a map right.
 abbrev pub GrantsKeepMaps : Type 0
@@ -61,13 +56,8 @@ ReturnsKeepMaps = (layout : Layout) (entries : List OldEntry) (old new : Space) 
 
 -- And one that ends with its commit leaves the map right beside what memory then keeps.
 abbrev pub CommitsKeepMaps : Type 0
-CommitsKeepMaps = (first : TreeState) (history : List Entry) (flushes : List Flush) (cut : Cut) (inodes : ℕ → Bool) (flush : Flush) (raised : Cut)
-    (after : ℕ → Bool) (num : Numbering) (layout : Layout)
-    (store : ℕ → List ℕ) (parts : ℕ → Part) (nodes : List ℕ) (entries : List OldEntry) (plan : CommitPlan) (grant : GrantedNumbers) (later : List OldEntry)
-    (tx : Tx) (old new : Space)
-    → IsPlannedFsync first history flushes cut inodes flush raised after num layout store parts nodes entries plan grant
-    → AreEntriesAfter nodes entries plan grant later
-    → IsMapOf layout entries old → WasUsed plan tx old grant new → IsMapOf layout later new
+CommitsKeepMaps = (volume : Volume) (one : OneFsync) (later : List OldEntry) (tx : Tx) (old new : Space) → IsPlannedFsync volume one
+    → AreEntriesAfter one later → IsMapOf volume.layout one.entries old → WasUsed one.plan tx old one.grant new → IsMapOf volume.layout later new
 
 -- the rows of nets have names
 abbrev pub BringsNames : List DirectoryNet → Type 0
@@ -80,21 +70,16 @@ FillsSlots plan grant = (one : Built) → Contains (nodes_with_grant (change_pla
 
 -- So it is of each plan whose nets have names, with a grant that serves it.
 abbrev pub PlansFillSlots : Type 0
-PlansFillSlots = (first : TreeState) (history : List Entry) (flushes : List Flush) (cut : Cut) (inodes : ℕ → Bool) (flush : Flush) (raised : Cut)
-    (after : ℕ → Bool) (num : Numbering) (layout : Layout)
-    (store : ℕ → List ℕ) (parts : ℕ → Part) (nodes : List ℕ) (entries : List OldEntry) (plan : CommitPlan) (grant : GrantedNumbers)
-    → IsBetweenCommits first history flushes cut inodes num layout store parts → KeepsEntries num parts entries
-    → IsPlanAt first history cut inodes flush raised after nodes entries plan → BringsNames plan.nets → ServesPlan (inodes_shown layout parts) plan grant
-    → FillsSlots plan grant
+PlansFillSlots = (volume : Volume) (one : OneFsync) → IsBetweenCommits volume → KeepsEntries volume.num volume.parts one.entries
+    → IsPlanAt volume.first volume.history volume.cut volume.inodes one.flush one.raised one.after one.nodes one.entries one.plan
+    → BringsNames one.plan.nets → ServesPlan (inodes_shown volume.layout volume.parts) one.plan one.grant → FillsSlots one.plan one.grant
 
 -- And so a grant from a right map is one for the plan that it was taken for.
 abbrev pub GrantsServePlans : Type 0
-GrantsServePlans = (first : TreeState) (history : List Entry) (flushes : List Flush) (cut : Cut) (inodes : ℕ → Bool) (flush : Flush) (raised : Cut)
-    (after : ℕ → Bool) (num : Numbering) (layout : Layout)
-    (store : ℕ → List ℕ) (parts : ℕ → Part) (nodes : List ℕ) (entries : List OldEntry) (plan : CommitPlan) (old new : Space) (grant : GrantedNumbers)
-    → IsBetweenCommits first history flushes cut inodes num layout store parts → KeepsEntries num parts entries
-    → IsPlanAt first history cut inodes flush raised after nodes entries plan → BringsNames plan.nets
-    → IsMapOf layout entries old → WasGranted plan old grant new → GrantsPlan layout parts plan grant
+GrantsServePlans = (volume : Volume) (one : OneFsync) (old new : Space) → IsBetweenCommits volume → KeepsEntries volume.num volume.parts one.entries
+    → IsPlanAt volume.first volume.history volume.cut volume.inodes one.flush one.raised one.after one.nodes one.entries one.plan
+    → BringsNames one.plan.nets → IsMapOf volume.layout one.entries old → WasGranted one.plan old one.grant new
+    → GrantsPlan volume.layout volume.parts one.plan one.grant
 
 -- no number of a map is granted
 pub record HasNoneGranted (space : Space) : Type 0 where
@@ -117,7 +102,5 @@ pub record CountsFree (space : Space) (state : ImageState) : Type 0 where
 
 -- So a right map does between two commits, where no grant is out.
 abbrev pub MapsCountFree : Type 0
-MapsCountFree = (first : TreeState) (history : List Entry) (flushes : List Flush) (cut : Cut) (inodes : ℕ → Bool) (num : Numbering) (layout : Layout)
-    (store : ℕ → List ℕ) (parts : ℕ → Part) (entries : List OldEntry) (space : Space)
-    → IsBetweenCommits first history flushes cut inodes num layout store parts → KeepsEntries num parts entries
-    → IsMapOf layout entries space → HasNoneGranted space → CountsFree space (state_of_parts num layout parts)
+MapsCountFree = (volume : Volume) (entries : List OldEntry) (space : Space) → IsBetweenCommits volume → KeepsEntries volume.num volume.parts entries
+    → IsMapOf volume.layout entries space → HasNoneGranted space → CountsFree space (state_of_parts volume.num volume.layout volume.parts)

@@ -39,7 +39,7 @@ use Rattle.turn_laws.proofs.ListedNeeds.{inodes_are_listed, none_counted}
 use Rattle.space_laws.specs.Laws.{CountsFree}
 use Rattle.space_laws.proofs.Asked.{enters_counted}
 use Rattle.space_laws.proofs.Counted.{maps_count_free}
-use Rattle.volume_laws.specs.Volume.{Volume}
+use Rattle.flush_laws.specs.Volume.{Volume}
 use Rattle.turn_ties.specs.Laws.{FitsAreTheBooks, ShortsAreTheBooks, CountedNodesFit}
 use Rattle.turn_ties.specs.Plans.{image_held, rest_of, HasPlan, HasTouchedPages, amount_planned, need_planned, EntersFit, IsRestingMap, Planning, made_of, machine_of_rest, books_of_rest, need_of_planning}
 use Rattle.turn_ties.proofs.Needs.{inodes_needed, needs_are_the_books}
@@ -178,8 +178,7 @@ module _ (need free : Amount) (few_inodes : free.inodes < 2 ^ 32 - 1) (few_block
 module _ (volume : Volume) (used : List ℕ) (planning : Planning) (space : Space) (is : HasPlan volume planning)
     (resting : IsRestingMap volume planning.entries space) where
   counts : CountsFree space (image_held volume)
-  counts = maps_count_free volume.first volume.history volume.flushes volume.cut volume.inodes volume.num volume.layout volume.store volume.parts
-      planning.entries space is.stands.between is.keeps resting.right resting.none
+  counts = maps_count_free volume planning.entries space is.stands.between is.keeps resting.right resting.none
 
   minus_none : (n : ℕ) → n ≡ n - 0
   minus_none n = omega arith

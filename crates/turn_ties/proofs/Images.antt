@@ -39,8 +39,9 @@ use Rattle.commit_laws.proofs.Shown.{found_is_in}
 use Rattle.cut_laws.specs.Cut.{tree_at_cut}
 use Rattle.flush_laws.proofs.Clean.{next_stands, over_parts, clean_plan}
 use Rattle.flush_laws.proofs.Later.{kept_number}
-use Rattle.volume_laws.specs.Commits.{parts_left}
-use Rattle.volume_laws.specs.Volume.{Volume, OneFsync, IsPlannedFor}
+use Rattle.flush_laws.specs.Volume.{parts_left}
+use Rattle.flush_laws.specs.Volume.{Volume, OneFsync}
+use Rattle.flush_laws.specs.Planned.{IsPlannedFsync}
 
 -- of two inodes that show the same one is built anew as the other one is, and has the same blocks
 module _ (commit : Commit) (new : TreeState) (node i : ℕ) (before seen twin : Seen) (same : ShowTheSame seen twin) where
@@ -71,7 +72,7 @@ found_there (first ∷ ones) one i (suc k, low, e) same none = further (nat_eq f
     further true e later = none_some (sym e)
     further false e later = later e
 
-module _ (volume : Volume) (one : OneFsync) (planned : IsPlannedFor volume one) where
+module _ (volume : Volume) (one : OneFsync) (planned : IsPlannedFsync volume one) where
   abbrev old : TreeState
   old = tree_at_cut volume.first volume.history volume.cut
 
@@ -97,12 +98,10 @@ module _ (volume : Volume) (one : OneFsync) (planned : IsPlannedFor volume one) 
   next = inodes_shown volume.layout (parts_left volume one)
 
   pub over : IsPlanOverParts volume.num one.nodes old new image one.plan one.grant volume.store volume.parts
-  over = over_parts volume.first volume.history volume.flushes volume.cut volume.inodes one.flush one.raised one.after volume.num volume.layout volume.store
-      volume.parts one.nodes one.entries one.plan one.grant planned
+  over = over_parts volume one planned
 
   clean : IsCleanPlan volume.num one.nodes old new image one.plan one.grant volume.layout volume.parts
-  clean = clean_plan volume.first volume.history volume.flushes volume.cut volume.inodes one.flush one.raised one.after volume.num volume.layout volume.store
-      volume.parts one.nodes one.entries one.plan one.grant planned
+  clean = clean_plan volume one planned
 
   built_shows : (built : Built) → Contains nodes built → ShowTheSame (seen_of (part_made volume.store one.plan one.grant built)) (shown.seen built.number)
   built_shows built there = by (kind_of new built.node) refl
@@ -170,10 +169,8 @@ module _ (volume : Volume) (one : OneFsync) (planned : IsPlannedFor volume one) 
           let number = eqb-true built.number i (found_passes (λ (b : Built). nat_eq b.number i) nodes built e) in
           let is : IsBuiltNode volume.num one.nodes old new image one.plan one.grant over.full built =
           node_built volume.num one.nodes old new image one.plan one.grant over.full built there in
-          let next_is = next_stands volume.first volume.history volume.flushes volume.cut volume.inodes one.flush one.raised one.after volume.num volume.layout
-          volume.store volume.parts one.nodes one.entries one.plan one.grant planned in
-          let still = kept_number volume.first volume.history volume.flushes volume.cut volume.inodes one.flush one.raised one.after volume.num volume.layout
-          volume.store volume.parts one.nodes one.entries one.plan one.grant planned node aside in
+          let next_is = next_stands volume one planned in
+          let still = kept_number volume one planned node aside in
           absurd (other is.of.begun.node is.of.among (next_is.once is.of.begun.node node i (is.of.number ∙ ap Some (sym is.inode ∙ number)) (still ∙ has)))
 
   -- so it is a commit that leaves them

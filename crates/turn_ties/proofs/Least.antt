@@ -28,7 +28,7 @@ use Rattle.flush_laws.specs.Ready.{IsBetweenCommits, KeepsEntries}
 use Rattle.turn_laws.specs.Books.{least_open}
 use Rattle.turn_laws.specs.Need.{is_unused}
 use Rattle.space_laws.specs.Map.{IsRowOf}
-use Rattle.volume_laws.specs.Volume.{Volume}
+use Rattle.flush_laws.specs.Volume.{Volume}
 use Rattle.turn_ties.specs.Laws.{GrantsAreTheLeast}
 use Rattle.turn_ties.specs.Plans.{IsRestingMap, books_of_rest}
 use Rattle.turn_ties.proofs.Needs.{inodes_needed}
@@ -120,8 +120,7 @@ take_as_u32 n numbers few = elim (cases_lt n (2 ^ 32 - 1)) [
 ]
 
 module _ (volume : Volume) (entries : List OldEntry) (space : Space)
-    (ready : IsBetweenCommits volume.first volume.history volume.flushes volume.cut volume.inodes volume.num volume.layout volume.store volume.parts)
-    (keeps : KeepsEntries volume.num volume.parts entries) (resting : IsRestingMap volume entries space) where
+    (ready : IsBetweenCommits volume) (keeps : KeepsEntries volume.num volume.parts entries) (resting : IsRestingMap volume entries space) where
   abbrev image : SeenInodes
   image = inodes_shown volume.layout volume.parts
 

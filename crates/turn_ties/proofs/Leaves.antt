@@ -35,7 +35,9 @@ use Rattle.cut_laws.specs.Machine.{MachineState}
 use Rattle.turn_laws.specs.Books.{GivesGranted, IsRewritten, Leaves}
 use Rattle.turn_laws.specs.Need.{Amount, Made, rewrite_needed}
 use Rattle.space_laws.proofs.Asked.{enters_counted}
-use Rattle.volume_laws.specs.Volume.{Volume, OneFsync, IsVolumeStanding, IsPlannedFor}
+use Rattle.volume_laws.specs.Volume.{IsVolumeStanding}
+use Rattle.flush_laws.specs.Volume.{Volume, OneFsync}
+use Rattle.flush_laws.specs.Planned.{IsPlannedFsync}
 use Rattle.turn_ties.specs.Laws.{CommitsLeaveImages, EmptyCommitsLeaveImages}
 use Rattle.turn_ties.specs.Plans.{image_held, HasPlan, HasTouchedPages, image_once_left, planning_of, made_of, machine_of_rest}
 use Rattle.turn_ties.proofs.Images.{over, node_shows, commits}
@@ -58,7 +60,7 @@ empty_list : (numbers : List ℕ) → length numbers ≡ 0 → numbers ≡ []
 empty_list [] none = refl
 empty_list (number ∷ numbers) none = absurd (omega (arith, none))
 
-module _ (volume : Volume) (used : List ℕ) (one : OneFsync) (stands : IsVolumeStanding volume) (planned : IsPlannedFor volume one)
+module _ (volume : Volume) (used : List ℕ) (one : OneFsync) (stands : IsVolumeStanding volume) (planned : IsPlannedFsync volume one)
     (tells : HasTouchedPages volume (planning_of one)) where
   abbrev state : MachineState
   state = machine_of_rest volume used

@@ -1,22 +1,22 @@
 -- A plan that leads to the cut which an fsync raises has the pages of touched blocks.
-use Rattle.std.proofs.Common.{◌≡◌, ◌<◌, Bool, true, false, [], Option, Some, None, inl, inr, refl, sym, ap, subst, ◌∙◌, arith}
+use Rattle.std.proofs.Common.{◌≡◌, ◌<◌, Bool, true, false, Option, Some, None, inl, inr, refl, ap, subst, ◌∙◌, arith}
 use Rattle.std.proofs.Math.Nat.{max-eq_left}
-use borrow.Author.Tests.{leb-true}
-use Rattle.sfs_base.proofs.BasicTruth.{and_second, true_or_false}
+use Rattle.sfs_base.proofs.BasicTruth.{true_or_false}
 use Rattle.disk_change.specs.declared.files.FileChange.{FileChange}
 use Rattle.commit_laws.specs.CommitOfPlan.{CommitPlan, has_inode_then}
 use Rattle.cut_laws.specs.Closure as closures
 use Rattle.cut_laws.specs.Cut.{cut_of}
 use Rattle.flush_plan.specs.Plan.{files_written, is_written}
-use Rattle.plan_laws.specs.Leads.{commit_made_of, LeadsWith}
-use Rattle.plan_laws.specs.Plans.{ChangesByFile, HasFileOf, Sources}
+use Rattle.plan_laws.specs.Leads.{LeadsWith}
+use Rattle.plan_laws.specs.Plans.{HasFileOf, Sources, PlansFsync}
 use Rattle.plan_laws.proofs.Leads.{none_written, unwritten_is_late, written_in_time}
-use Rattle.volume_laws.specs.Volume.{Volume, IsVolumeStanding}
-use Rattle.turn_ties.specs.Led.{IsPlannedFrom, LeadsVolume, planning_led, LedPlansAreTied}
+use Rattle.volume_laws.specs.Volume.{IsVolumeStanding}
+use Rattle.flush_laws.specs.Volume.{Volume}
+use Rattle.turn_ties.specs.Led.{LeadsVolume, planning_led, LedPlansAreTied}
 use Rattle.turn_ties.specs.Plans.{HasPlan, ChangesOwnFile}
 use Rattle.turn_ties.proofs.OwnFiles.{own_files_are_touched}
 
-module _ (volume : Volume) (from : Sources) (stands : IsVolumeStanding volume) (planned : IsPlannedFrom volume from)
+module _ (volume : Volume) (from : Sources) (stands : IsVolumeStanding volume) (planned : PlansFsync volume from)
     (led : LeadsWith volume.first volume.history volume.cut volume.inodes from planned.plans) where
   abbrev leads : LeadsVolume volume from
   leads = led.leads
@@ -44,13 +44,11 @@ module _ (volume : Volume) (from : Sources) (stands : IsVolumeStanding volume) (
       by true (Some one) e (file, (held, at, changed)) = elim (true_or_false written) [
         | inl is_one ↦
             ChangesOwnFile.own_file held one (files_are ∙ (λ j. files_written (is_one j) (e j))) at changed
-            (written_in_time volume.first volume.history volume.flushes volume.cut volume.inodes volume.num volume.layout volume.store volume.parts from planned
-            is_one)
+            (written_in_time volume from planned is_one)
         | inr none ↦
             ChangesOwnFile.unwritten file (files_are ∙ ap (λ b. files_written b from.change) none)
             (λ then. stays
-            (unwritten_is_late volume.first volume.history volume.flushes volume.cut volume.inodes volume.num volume.layout volume.store volume.parts from planned
-            none (subst (λ (commit : CommitPlan). has_inode_then commit from.start.0 ≡ true) led.commit_is then)))
+            (unwritten_is_late volume from planned none (subst (λ (commit : CommitPlan). has_inode_then commit from.start.0 ≡ true) led.commit_is then)))
       ]
 
 pub led_plans_are_tied : LedPlansAreTied

@@ -27,7 +27,7 @@ use Rattle.flush_laws.specs.Ready.{IsBetweenCommits}
 use Rattle.commit_laws.specs.Rewritten.{SayTheSame}
 use Rattle.turn_ties.specs.Laws.{NeedsAreTheBooks}
 use Rattle.turn_ties.specs.Plans.{image_held, HasPlan, HasTouchedPages, Planning, made_of, machine_of_rest}
-use Rattle.volume_laws.specs.Volume.{Volume}
+use Rattle.flush_laws.specs.Volume.{Volume}
 use Rattle.turn_ties.proofs.Planned.{old, new, image, ready, from, between}
 use Rattle.turn_ties.proofs.Rewrites.{seats_say}
 use Rattle.turn_ties.proofs.Seats.{nodes_once, nodes_listed, enters_once, enters_listed}
@@ -48,8 +48,7 @@ module _ (volume : Volume) (used : List ℕ) (planning : Planning) (is : HasPlan
   abbrev held : SeenInodes
   held = image volume planning is
 
-  abbrev between_commits : IsBetweenCommits volume.first volume.history volume.flushes volume.cut volume.inodes volume.num volume.layout volume.store
-      volume.parts
+  abbrev between_commits : IsBetweenCommits volume
   between_commits = ready volume planning is
 
   -- a node with an inode afterwards is counted

@@ -23,7 +23,7 @@ use Rattle.cut_laws.proofs.MemberKinds.{members_are_directories}
 use Rattle.raise_laws.specs.Next.{IsMountedHistory}
 use Rattle.raise_laws.specs.Spans.{is_edit_between}
 use Rattle.turn_laws.specs.Touched.{is_touched_by, is_touched_between}
-use Rattle.volume_laws.specs.Volume.{Volume}
+use Rattle.flush_laws.specs.Volume.{Volume}
 use Rattle.turn_ties.specs.Laws.{OwnFilesAreTouched}
 use Rattle.turn_ties.specs.Plans.{HasPlan, HasTouchedPages, ChangesOwnFile, Planning}
 use Rattle.turn_ties.proofs.Planned.{ready}

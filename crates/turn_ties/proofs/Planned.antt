@@ -26,7 +26,7 @@ use Rattle.raise_laws.proofs.Next.{cut_trees_are_storable, raised_trees_follow, 
 use Rattle.flush_laws.specs.Ready.{IsBetweenCommits}
 use Rattle.flush_laws.proofs.Clean.{no_net, standing, good_parts}
 use Rattle.turn_ties.specs.Plans.{HasPlan, Planning}
-use Rattle.volume_laws.specs.Volume.{Volume}
+use Rattle.flush_laws.specs.Volume.{Volume}
 use Rattle.turn_ties.proofs.Between.{IsPlanBetween}
 
 module _ (volume : Volume) (planning : Planning)
@@ -40,7 +40,7 @@ module _ (volume : Volume) (planning : Planning)
   abbrev pub image : SeenInodes
   image = inodes_shown volume.layout volume.parts
 
-  pub ready : IsBetweenCommits volume.first volume.history volume.flushes volume.cut volume.inodes volume.num volume.layout volume.store volume.parts
+  pub ready : IsBetweenCommits volume
   ready = is.stands.between
 
   pub more : IsOneMore volume.first volume.history volume.flushes volume.cut volume.inodes planning.flush planning.raised planning.after

@@ -19,8 +19,10 @@ use Rattle.turn_laws.specs.Touched.{is_touched_between}
 use Rattle.flush_plan.specs.Touched.{IsFileChange}
 use Rattle.mark_laws.specs.FileAt.{IsFileAt}
 use Rattle.turn_ties.specs.Plans.{image_held, image_once_left, rest_of, machine_of_rest, books_of_rest, Planning, planning_of, made_of, need_of_planning, granted_of_planning, HasPlan, HasTouchedPages, ChangesOwnFile, amount_planned, need_planned, EntersFit, IsRestingMap}
-use Rattle.volume_laws.specs.Stores.{volume_left}
-use Rattle.volume_laws.specs.Volume.{Volume, OneFsync, IsVolumeStanding, IsPlannedFor}
+use Rattle.flush_laws.specs.Volume.{volume_left}
+use Rattle.volume_laws.specs.Volume.{IsVolumeStanding}
+use Rattle.flush_laws.specs.Volume.{Volume, OneFsync}
+use Rattle.flush_laws.specs.Planned.{IsPlannedFsync}
 
 -- What an fsync makes that has a plan is what the turns say that it makes.
 abbrev pub PlansAreMade : Type 0
@@ -58,7 +60,7 @@ CountedNodesFit = (volume : Volume) (planning : Planning) → HasPlan volume pla
 -- The commit of an fsync that has the least free inodes leaves of the image of a volume what the turns say.
 abbrev pub CommitsLeaveImages : Type 0
 CommitsLeaveImages = (volume : Volume) (used : List ℕ) (one : OneFsync)
-    → IsVolumeStanding volume → IsPlannedFor volume one → HasTouchedPages volume (planning_of one)
+    → IsVolumeStanding volume → IsPlannedFsync volume one → HasTouchedPages volume (planning_of one)
     → one.grant.inodes ≡ granted_of_planning volume used (planning_of one)
     → Leaves (machine_of_rest volume used) (made_of (planning_of one)) (granted_of_planning volume used (planning_of one)) (image_held volume)
     (image_once_left volume one)
@@ -66,7 +68,7 @@ CommitsLeaveImages = (volume : Volume) (used : List ℕ) (one : OneFsync)
 -- So does that of one that needs nothing, where nothing is reserved.
 abbrev pub EmptyCommitsLeaveImages : Type 0
 EmptyCommitsLeaveImages = (volume : Volume) (used : List ℕ) (one : OneFsync)
-    → IsVolumeStanding volume → IsPlannedFor volume one → HasTouchedPages volume (planning_of one)
+    → IsVolumeStanding volume → IsPlannedFsync volume one → HasTouchedPages volume (planning_of one)
     → need_of_planning volume used (planning_of one) ≡ nothing
     → Leaves (machine_of_rest volume used) (made_of (planning_of one)) [] (image_held volume) (image_once_left volume one)
 

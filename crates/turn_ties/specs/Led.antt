@@ -3,13 +3,9 @@ use Rattle.std.specs.Prelude.{map}
 use Rattle.tree_laws.specs.NameRow.{node_number}
 use Rattle.plan_laws.specs.Leads.{LeadsToCut, LeadsWith}
 use Rattle.plan_laws.specs.Plans.{planned_flush, Sources, PlansFsync}
-use Rattle.volume_laws.specs.Volume.{Volume, IsVolumeStanding}
+use Rattle.volume_laws.specs.Volume.{IsVolumeStanding}
+use Rattle.flush_laws.specs.Volume.{Volume}
 use Rattle.turn_ties.specs.Plans.{Planning, HasPlan, HasTouchedPages}
-
--- an fsync of a volume was planned from these
-abbrev pub IsPlannedFrom : Volume → Sources → Type 0
-IsPlannedFrom volume from =
-    PlansFsync volume.first volume.history volume.flushes volume.cut volume.inodes volume.num volume.layout volume.store volume.parts from
 
 -- its plan leads to the cut that it raises
 abbrev pub LeadsVolume : Volume → Sources → Type 0
@@ -33,5 +29,5 @@ pub record IsTied (volume : Volume) (planning : Planning) : Type 0 where
 
 -- So it is of each plan that leads to the cut by the commit that is made of what it was planned from.
 abbrev pub LedPlansAreTied : Type 0
-LedPlansAreTied = (volume : Volume) (from : Sources) → IsVolumeStanding volume → (planned : IsPlannedFrom volume from)
+LedPlansAreTied = (volume : Volume) (from : Sources) → IsVolumeStanding volume → (planned : PlansFsync volume from)
     → (led : LeadsWith volume.first volume.history volume.cut volume.inodes from planned.plans) → IsTied volume (planning_led volume from led.leads)

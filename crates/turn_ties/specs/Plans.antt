@@ -26,8 +26,9 @@ use Rattle.flush_plan.specs.Touched.{IsFileChange}
 use Rattle.mark_laws.specs.FileAt.{IsFileAt}
 use Rattle.space_laws.specs.Laws.{HasNoneGranted, state_of_parts}
 use Rattle.space_laws.specs.Map.{IsMapOf}
-use Rattle.volume_laws.specs.Commits.{parts_left}
-use Rattle.volume_laws.specs.Volume.{Volume, OneFsync, IsVolumeStanding}
+use Rattle.flush_laws.specs.Volume.{parts_left}
+use Rattle.volume_laws.specs.Volume.{IsVolumeStanding}
+use Rattle.flush_laws.specs.Volume.{Volume, OneFsync}
 
 -- what the image of a volume's disk has to tell
 abbrev pub image_held : Volume → ImageState

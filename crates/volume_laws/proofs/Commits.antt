@@ -22,12 +22,11 @@ use Rattle.commit_laws.proofs.GrantWritten.{fresh_numbers}
 use Rattle.commit_laws.proofs.OwnInodes.{mapped_is_in}
 use Rattle.commit_laws.proofs.SeatsOfPlan.{in_mapped}
 use Rattle.crash_laws.specs.Wrote.{Wrote}
-use Rattle.flush_laws.specs.Journal.{AreSpelled, ShowsCommit}
-use Rattle.flush_laws.specs.Planned.{IsPlannedFsync}
+use Rattle.flush_laws.specs.Journal.{AreSpelled, ShowsCommit, parts_brought, HasJob}
 use Rattle.flush_laws.proofs.Clean.{over_parts}
-use Rattle.flush_laws.proofs.Journal.{others_stay, low_record, shows_commit}
-use Rattle.volume_laws.specs.Commits.{parts_left, parts_brought, HasJob, OkCommitsGoOn, HasNothingToWrite, IsWrittenAlready, EmptyCommitsWrite, WasBuilt, CanCommit, BuiltJobsWritePlans}
-use Rattle.volume_laws.specs.Volume.{Volume, OneFsync, tree_held, tree_raised}
+use Rattle.flush_laws.proofs.Journal.{others_stay, record_is_low, job_shows}
+use Rattle.volume_laws.specs.Commits.{OkCommitsGoOn, HasNothingToWrite, IsWrittenAlready, EmptyCommitsWrite, WasBuilt, CanCommit, BuiltJobsWritePlans}
+use Rattle.flush_laws.specs.Volume.{Volume, OneFsync, tree_held, tree_raised, parts_left}
 
 -- a disk has a journal slot
 first_slot : (layout : Layout) → InRange layout → 0 < slot_count layout
@@ -39,21 +38,9 @@ first_slot layout is = let cores = is.cores_low in let slots = is.slots_low in b
     by (suc a) (suc b) low some = omega arith
 
 module _ (volume : Volume) (one : OneFsync) (job : Job) (has : HasJob volume one job) where
-  planned_there : IsPlannedFsync volume.first volume.history volume.flushes volume.cut volume.inodes one.flush one.raised one.after volume.num
-      job.place.layout volume.store volume.parts one.nodes one.entries one.plan one.grant
-  planned_there =
-      subst (λ (layout : Layout). IsPlannedFsync volume.first volume.history volume.flushes volume.cut volume.inodes one.flush one.raised one.after volume.num
-      layout volume.store volume.parts one.nodes one.entries one.plan one.grant)
-      (sym has.layout) has.planned
-
-  spelled_there : AreSpelled job.place.layout.inodes volume.parts
-  spelled_there = subst (λ (layout : Layout). AreSpelled layout.inodes volume.parts) (sym has.layout) has.spelled
-
   pub shows : (share : ℕ) → ShowsCommit share (tree_held volume) (tree_raised volume one) job volume.parts (parts_left volume one)
       (parts_brought volume one)
-  shows share =
-      shows_commit volume.first volume.history volume.flushes volume.cut volume.inodes one.flush one.raised one.after volume.num volume.store volume.parts
-      one.nodes one.entries one.plan one.grant job planned_there spelled_there has.writes share
+  shows = job_shows volume one job has
 
   -- an image of the parts after a job's commit is one of those that the fsync leaves
   pub image_left : (image : List ℕ) → IsImageOf job.place.layout nothing_open (parts_after job volume.parts (parts_brought volume one)) image
@@ -62,11 +49,6 @@ module _ (volume : Volume) (one : OneFsync) (job : Job) (has : HasJob volume one
       subst (λ (layout : Layout). IsImageOf layout nothing_open (parts_left volume one) image) has.layout
       (parts_instead job.place.layout nothing_open (parts_after job volume.parts (parts_brought volume one)) (parts_left volume one) image
       (λ i low none. sym ((shows 0).after i low)) is)
-
-  pub record_is_low : (entry : TxRecord) → Contains (records_written (change_planned one.plan) one.grant) entry → entry.inode < job.place.layout.inodes
-  record_is_low =
-      low_record volume.first volume.history volume.flushes volume.cut volume.inodes one.flush one.raised one.after volume.num volume.store volume.parts
-      one.nodes one.entries one.plan one.grant job planned_there spelled_there has.writes
 
 pub ok_commits_go_on : (old now : View) → OkCommitsGoOn old now
 ok_commits_go_on old now volume one job has carried content told image left = image_left volume one job has image (carried.ended content told image left)
@@ -162,8 +144,7 @@ module _ (volume : Volume) (one : OneFsync) (tx : Tx) (place : Place) (stamp : �
 
   over : IsPlanOverParts volume.num one.nodes (tree_held volume) (tree_raised volume one)
       (inodes_shown volume.layout volume.parts) one.plan one.grant volume.store volume.parts
-  over = over_parts volume.first volume.history volume.flushes volume.cut volume.inodes one.flush one.raised one.after volume.num volume.layout volume.store
-      volume.parts one.nodes one.entries one.plan one.grant is.planned
+  over = over_parts volume one is.planned
 
   lies : (fresh : FreshBlock) → Contains (contents_of tx).fresh fresh → LiesInData place.layout fresh
   lies fresh there =

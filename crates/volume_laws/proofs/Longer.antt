@@ -21,7 +21,8 @@ use Rattle.cut_laws.proofs.WholeHistory.{none_above, flushes_grow, cut_trees_gro
 use Rattle.raise_laws.specs.Next.{IsMountedHistory}
 use Rattle.volume_laws.proofs.MoreNodes.{stands_more}
 use Rattle.volume_laws.specs.Laws.{LongerHistoriesStayBetween}
-use Rattle.volume_laws.specs.Volume.{Volume, tree_held, IsVolumeStanding}
+use Rattle.volume_laws.specs.Volume.{IsVolumeStanding}
+use Rattle.flush_laws.specs.Volume.{Volume, tree_held}
 
 module _ (volume : Volume) (entry : Entry) (is : IsVolumeStanding volume) (mounted : IsMountedHistory volume.first (volume.history ++ entry ∷ [])) where
   abbrev longer : List Entry

@@ -33,11 +33,13 @@ use Rattle.cut_laws.proofs.Basics.{in_either}
 use Rattle.flush_laws.proofs.Clean.{over_parts}
 use Rattle.flush_laws.proofs.Later.{fsyncs_leave_ready}
 use Rattle.space_laws.proofs.Used.{in_some}
-use Rattle.volume_laws.specs.Stores.{IsStoreLeft, StoresGoOn, CommitsStayStanding}
-use Rattle.volume_laws.specs.Volume.{Volume, OneFsync, IsPlannedFor, tree_held, tree_raised}
+use Rattle.volume_laws.specs.Stores.{StoresGoOn, CommitsStayStanding}
+use Rattle.flush_laws.specs.Laws.{IsStoreLeft}
+use Rattle.flush_laws.specs.Volume.{Volume, OneFsync, tree_held, tree_raised}
+use Rattle.flush_laws.specs.Planned.{IsPlannedFsync}
 use Rattle.volume_laws.proofs.FreshBlocks.{table_long, data_long}
 
-module _ (volume : Volume) (one : OneFsync) (is : IsPlannedFor volume one) where
+module _ (volume : Volume) (one : OneFsync) (is : IsPlannedFsync volume one) where
   abbrev old : TreeState
   old = tree_held volume
 
@@ -54,8 +56,7 @@ module _ (volume : Volume) (one : OneFsync) (is : IsPlannedFor volume one) where
   later = store_planned volume.store one.plan one.grant
 
   over : IsPlanOverParts volume.num one.nodes old new image one.plan one.grant volume.store volume.parts
-  over = over_parts volume.first volume.history volume.flushes volume.cut volume.inodes one.flush one.raised one.after volume.num volume.layout volume.store
-      volume.parts one.nodes one.entries one.plan one.grant is
+  over = over_parts volume one is
 
   stand_fresh : StandIn later fresh
   stand_fresh = λ k d low.
@@ -128,8 +129,7 @@ stores_go_on volume one is = (store_planned volume.store one.plan one.grant, sto
 pub commits_stay_standing : CommitsStayStanding
 commits_stay_standing volume one later stands is comes there = record {
   between =
-      fsyncs_leave_ready volume.first volume.history volume.flushes volume.cut volume.inodes one.flush one.raised one.after volume.num volume.layout
-      volume.store volume.parts one.nodes one.entries one.plan one.grant later is there;
+      fsyncs_leave_ready volume one later is there;
   among = record {
     low = λ flush among. elim (in_either volume.flushes (one.flush ∷ []) flush among) [
       | inl before ↦ stands.among.low flush before

@@ -22,7 +22,8 @@ use Rattle.recovery.specs.Recovered.{ShowsTheSame, IsRecoveredFrom}
 use Rattle.mount.specs.Mounted.{share_of_nodes, IsMountOf, IsSoundMount}
 use Rattle.mount.specs.declared.begin.Mounted.{Mounted}
 use Rattle.space_laws.specs.Map.{IsMapOf}
-use Rattle.volume_laws.specs.Volume.{Volume, IsVolumeStanding}
+use Rattle.volume_laws.specs.Volume.{IsVolumeStanding}
+use Rattle.flush_laws.specs.Volume.{Volume}
 
 -- a volume with nothing behind its mount: each node has its own number
 abbrev pub volume_begun : TreeState → Layout → (ℕ → List ℕ) → (ℕ → Part) → Volume

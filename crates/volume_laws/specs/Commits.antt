@@ -1,8 +1,8 @@
 -- What the commit of an fsync makes of a volume.
-use Rattle.std.specs.Prelude.{◌≡◌, ℕ, ◌<◌, All, List, [], Some, Ok}
+use Rattle.std.specs.Prelude.{◌≡◌, ℕ, ◌<◌, All, [], Some, Ok}
 use Rattle.sfs_dev.specs.Disk.{View, images}
 use Rattle.sfs_dev.specs.Steps.{IfTold}
-use Rattle.sfs_image.specs.ImageOf.{InodePart, IsImageOf}
+use Rattle.sfs_image.specs.ImageOf.{IsImageOf}
 use Rattle.sfs_image.specs.Journal.{Entry as JournalEntry}
 use Rattle.sfs_image.specs.Part.{Part}
 use Rattle.fmt_journal.specs.declared.tx.Tx.{Tx}
@@ -14,33 +14,14 @@ use Rattle.commit_one.specs.Change.{nothing_open, job_for}
 use Rattle.disk_change.specs.Records.{records_written}
 use Rattle.disk_change.specs.Written.{IsTransactionOf}
 use Rattle.commit_laws.specs.CommitOfPlan.{change_planned}
-use Rattle.commit_laws.specs.PartsStand.{part_next}
 use Rattle.crash_laws.specs.Wrote.{Wrote}
-use Rattle.flush_laws.specs.Journal.{WritesPlan, AreSpelled, parts_given, ShowsCommit}
-use Rattle.volume_laws.specs.Volume.{Volume, OneFsync, IsPlannedFor, tree_held, tree_raised}
-
--- the parts of a volume once an fsync is on its disk
-abbrev pub parts_left : Volume → OneFsync → ℕ → Part
-parts_left volume one = part_next volume.store volume.parts one.plan one.grant
-
--- the parts that the fsync's commit gives
-abbrev pub parts_brought : Volume → OneFsync → List InodePart
-parts_brought volume one = parts_given volume.store volume.parts one.plan one.grant
-
--- the records of a volume's disk are spelled as their inodes are
-abbrev pub IsSpelled : Volume → Type 0
-IsSpelled volume = AreSpelled volume.layout.inodes volume.parts
+use Rattle.flush_laws.specs.Journal.{AreSpelled, ShowsCommit, HasJob, IsSpelled, parts_brought}
+use Rattle.flush_laws.specs.Volume.{Volume, OneFsync, tree_held, tree_raised, parts_left}
+use Rattle.flush_laws.specs.Planned.{IsPlannedFsync}
 
 -- each image of a disk, where it tells what a read gives, stands for the parts of a volume with no journal slot open
 abbrev pub HoldsParts : Volume → (ℕ → Part) → View → Type 0
 HoldsParts volume parts disk = EachLeft disk (IsImageOf volume.layout nothing_open parts)
-
--- A planned fsync has a job that writes its plan, through a slot of the volume's disk.
-pub record HasJob (volume : Volume) (one : OneFsync) (job : Job) : Type 0 where
-  pub planned : IsPlannedFor volume one
-  pub spelled : IsSpelled volume
-  pub layout : job.place.layout ≡ volume.layout
-  pub writes : WritesPlan one.plan one.grant job
 
 -- After an Ok of its commit each image stands for the parts that the fsync leaves.
 abbrev pub OkCommitsGoOn : View → View → Type 0
@@ -50,7 +31,7 @@ OkCommitsGoOn old now = (volume : Volume) (one : OneFsync) (job : Job) → HasJo
 
 -- A planned fsync has nothing to write: none of its records differs from what the disk has, and each image stands for the parts.
 pub record HasNothingToWrite (volume : Volume) (one : OneFsync) (disk : View) : Type 0 where
-  pub planned : IsPlannedFor volume one
+  pub planned : IsPlannedFsync volume one
   pub spelled : IsSpelled volume
   pub none : records_written (change_planned one.plan) one.grant ≡ []
   pub holds : HoldsParts volume volume.parts disk
@@ -68,7 +49,7 @@ EmptyCommitsWrite disk = (volume : Volume) (one : OneFsync) → HasNothingToWrit
 
 -- A transaction was built of a planned fsync, for the first slot of the volume's disk.
 pub record WasBuilt (volume : Volume) (one : OneFsync) (tx : Tx) (place : Place) : Type 0 where
-  pub planned : IsPlannedFor volume one
+  pub planned : IsPlannedFsync volume one
   pub spelled : IsSpelled volume
   pub built : IsTransactionOf (change_planned one.plan) one.grant tx
   pub layout : place.layout ≡ volume.layout

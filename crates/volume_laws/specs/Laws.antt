@@ -2,7 +2,8 @@
 use Rattle.std.specs.Prelude.{[], ◌∷◌, ◌++◌}
 use Rattle.tree_laws.specs.declared.history.Entry.{Entry}
 use Rattle.raise_laws.specs.Next.{IsMountedHistory}
-use Rattle.volume_laws.specs.Volume.{Volume, IsVolumeStanding}
+use Rattle.volume_laws.specs.Volume.{IsVolumeStanding}
+use Rattle.flush_laws.specs.Volume.{Volume}
 
 -- A volume goes on standing once a call has come.
 abbrev pub LongerHistoriesStayBetween : Type 0

@@ -23,8 +23,8 @@ use Rattle.crash_laws.specs.Wrote.{Wrote}
 use Rattle.cut_laws.specs.Closure.{Closure, every_entry}
 use Rattle.flush_plan.specs.declared.plans.FsyncPlan.{FsyncPlan}
 use Rattle.plan_laws.specs.Plans.{planned_flush}
-use Rattle.volume_laws.specs.Stores.{volume_left}
-use Rattle.volume_laws.specs.Volume.{Volume, OneFsync, tree_held, tree_raised}
+use Rattle.flush_laws.specs.Volume.{volume_left}
+use Rattle.flush_laws.specs.Volume.{Volume, OneFsync, tree_held, tree_raised}
 use Rattle.volume_laws.proofs.Stores.{stores_go_on}
 use Rattle.commit_one.specs.Carried.{sealed_at}
 use Rattle.commit_one.specs.Change.{job_for}

@@ -15,8 +15,8 @@ use Rattle.tree_laws.specs.Tree.{TreeState, is_alive}
 use Rattle.tree_laws.specs.Verdict.{verdict, or_else, answered}
 use Rattle.core_logs.specs.Logs.{MayAdd}
 use Rattle.cut_laws.specs.Closure.{Flush}
-use Rattle.volume_laws.specs.Volume.{Volume}
-use Rattle.volume_laws.specs.Stores.{volume_left}
+use Rattle.flush_laws.specs.Volume.{Volume}
+use Rattle.flush_laws.specs.Volume.{volume_left}
 use Rattle.volume_one.specs.Calls.{call_entry}
 use Rattle.volume_one.specs.Ends.{FlushEnds, PlanEnds, GrantEnds, ReadyEnds, dead, stopped, unplanned, planned, short, unreserved, reserved, unready, readied, carried, doubted}
 use Rattle.volume_one.specs.Fsync.{FsyncMakes, FsyncStays, NotesEntry, IsFsyncAnswer, IsLiveAnswer, with_fsync, fsync_at}

@@ -28,7 +28,7 @@ use Rattle.space_laws.specs.Map.{IsMapOf}
 use Rattle.space_laws.specs.Laws.{HasNoneGranted}
 use Rattle.volume_laws.specs.Begun.{volume_begun}
 use Rattle.volume_laws.specs.Mounting.{WasMounted, IsBegunVolume}
-use Rattle.volume_laws.specs.Volume.{Volume}
+use Rattle.flush_laws.specs.Volume.{Volume}
 use Rattle.volume_laws.proofs.MountedVolumes.{begun_volume}
 use Rattle.volume_laws.proofs.Mounts.{mounts_begin}
 use Rattle.volume_laws.proofs.ReadParts.{read_parts_stand}

@@ -26,7 +26,7 @@ use Rattle.turn_ties.specs.Plans.{IsRestingMap, planning_of, amount_planned, nee
 use Rattle.turn_ties.proofs.Fits.{fits_are_the_books, shorts_are_the_books, counted_nodes_fit}
 use Rattle.turn_ties.proofs.Least.{grants_are_the_least}
 use Rattle.turn_ties.proofs.Needs.{needs_are_the_books}
-use Rattle.volume_laws.specs.Volume.{Volume, OneFsync}
+use Rattle.flush_laws.specs.Volume.{Volume, OneFsync}
 use Rattle.volume_one.specs.Carry.{CarriesPacked}
 use Rattle.volume_one.specs.Deeds.{FitsBooks, BeginsByBooks, IsDurableDeed, LacksSpace, WasGivenBack}
 use Rattle.volume_one.specs.Ends.{need_of_change, durable_deed}

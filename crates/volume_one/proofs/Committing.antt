@@ -26,7 +26,8 @@ use Rattle.turn_ties.specs.Led.{IsTied}
 use Rattle.turn_ties.specs.Plans.{Planning}
 use Rattle.volume_laws.specs.Commits.{WasBuilt, CanCommit}
 use Rattle.volume_laws.specs.Stores.{ComesNow}
-use Rattle.volume_laws.specs.Volume.{Volume, OneFsync, IsPlannedFor}
+use Rattle.flush_laws.specs.Volume.{Volume, OneFsync}
+use Rattle.flush_laws.specs.Planned.{IsPlannedFsync}
 use Rattle.volume_laws.proofs.Commits.{built_jobs_write_plans}
 use Rattle.volume_one.specs.Carry.{first_slot, MayCarry}
 use Rattle.volume_one.specs.Ends.{need_of_change, IsReserved}
@@ -77,12 +78,6 @@ module _ (kept : Volume) (volume : OpenVolume) (node : NodeId) (stamp : Stamp) (
     blocks = subst (λ (change : Planned). Grants volume.space.blocks (need_of_change change).blocks grant.blocks space.blocks) is.leads.made is.reserved.blocks;
   }
 
-  grants_plan : GrantsPlan kept.layout kept.parts commit_plan grant
-  grants_plan =
-      grants_serve_plans kept.first kept.history kept.flushes kept.cut kept.inodes (planned_flush node stamp) is.leads.raised is.leads.after kept.num
-      kept.layout kept.store kept.parts own_nodes own_entries commit_plan volume.space space grant is.remembers.stands.between is.remembers.disk.entries
-      is.leads.leads is.names is.remembers.disk.space was_granted
-
   -- the fsync with its plan and its grant
   abbrev pub own_fsync : OneFsync
   own_fsync = record {
@@ -95,7 +90,11 @@ module _ (kept : Volume) (volume : OpenVolume) (node : NodeId) (stamp : Stamp) (
     grant = grant;
   }
 
-  pub planned_for : IsPlannedFor kept own_fsync
+  grants_plan : GrantsPlan kept.layout kept.parts commit_plan grant
+  grants_plan =
+      grants_serve_plans kept own_fsync volume.space space is.remembers.stands.between is.remembers.disk.entries is.leads.leads is.names is.remembers.disk.space was_granted
+
+  pub planned_for : IsPlannedFsync kept own_fsync
   planned_for = record {
     ready = is.remembers.stands.between;
     keeps = is.remembers.disk.entries;

@@ -38,7 +38,7 @@ use Rattle.core_logs.proofs.Keeping.{room_keeps, entries_keep}
 use Rattle.core_logs.proofs.Ordered.{logged_in_order}
 use Rattle.dep_closure.specs.Gathered.{born_as, cut_in}
 use Rattle.mark_laws.specs.Laws.{verdict_behind}
-use Rattle.volume_laws.specs.Volume.{Volume}
+use Rattle.flush_laws.specs.Volume.{Volume}
 use Rattle.volume_laws.proofs.Longer.{longer_histories_stay_between}
 use Rattle.volume_one.specs.Calls.{kept_with}
 use Rattle.volume_one.specs.Fsync.{NotesEntry}

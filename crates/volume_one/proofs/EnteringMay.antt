@@ -42,7 +42,7 @@ use Rattle.cut_laws.proofs.NewNodes.{births_are_new_nodes}
 use Rattle.cut_laws.proofs.Prefixes.{alive_node}
 use Rattle.cut_laws.proofs.RunFacts.{found_in}
 use Rattle.file_table.specs.Table.{file_at}
-use Rattle.volume_laws.specs.Volume.{Volume}
+use Rattle.flush_laws.specs.Volume.{Volume}
 use Rattle.volume_one.specs.Calls.{is_fsync, call_entry, kept_with, HasKept, MayKeep}
 use Rattle.volume_one.specs.Stands.{Remembers}
 use Rattle.volume_one.specs.declared.volume.OpenVolume.{OpenVolume}

@@ -18,9 +18,11 @@ use Rattle.crash_laws.specs.Wrote.{Wrote}
 use Rattle.flush_laws.specs.Journal.{CarriesCommit, ShowsCommit}
 use Rattle.flush_laws.proofs.Carried.{carried_commits_write, doubtful_commits_write}
 use Rattle.flush_plan.specs.declared.plans.FsyncPlan.{FsyncPlan}
-use Rattle.volume_laws.specs.Commits.{HasJob, HasNothingToWrite, IsWrittenAlready, parts_left, parts_brought, CanCommit}
-use Rattle.volume_laws.specs.Stores.{volume_left}
-use Rattle.volume_laws.specs.Volume.{Volume, OneFsync, tree_held, tree_raised}
+use Rattle.volume_laws.specs.Commits.{HasNothingToWrite, IsWrittenAlready, CanCommit}
+use Rattle.flush_laws.specs.Journal.{HasJob, parts_brought}
+use Rattle.flush_laws.specs.Volume.{parts_left}
+use Rattle.flush_laws.specs.Volume.{volume_left}
+use Rattle.flush_laws.specs.Volume.{Volume, OneFsync, tree_held, tree_raised}
 use Rattle.volume_laws.proofs.Commits.{ok_commits_go_on, empty_commits_write}
 use Rattle.volume_one.specs.Carry.{IsCarried, first_slot}
 use Rattle.volume_one.specs.Fsync.{HoldsVolume}

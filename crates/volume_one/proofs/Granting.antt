@@ -11,7 +11,7 @@ use Rattle.file_table.specs.Table.{file_at}
 use Rattle.flush_plan.specs.declared.plans.FsyncPlan.{FsyncPlan}
 use Rattle.plan_laws.specs.Leads.{LeadsToCut}
 use Rattle.plan_laws.specs.Plans.{planned_flush}
-use Rattle.volume_laws.specs.Volume.{Volume}
+use Rattle.flush_laws.specs.Volume.{Volume}
 use Rattle.volume_one.specs.Carry.{MayCarry}
 use Rattle.volume_one.specs.Ends.{IsReserved}
 use Rattle.volume_one.specs.Entries.{disk_entries_in}

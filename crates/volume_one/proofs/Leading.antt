@@ -39,7 +39,7 @@ use Rattle.flush_plan.specs.Touched.{IsFileChange}
 use Rattle.node_lists.specs.Known.{OrderlyLogs}
 use Rattle.turn_ties.specs.Led.{IsTied, planning_led}
 use Rattle.turn_ties.proofs.Led.{led_plans_are_tied}
-use Rattle.volume_laws.specs.Volume.{Volume}
+use Rattle.flush_laws.specs.Volume.{Volume}
 use Rattle.volume_one.specs.Entries.{disk_entries_in, disk_entries_at}
 use Rattle.volume_one.specs.Planned.{IsOwnChange, WasPlanned}
 use Rattle.volume_one.specs.Stands.{Remembers}
@@ -161,7 +161,7 @@ module _ (kept : Volume) (volume : OpenVolume) (remembers : Remembers kept volum
         plan = plan;
       }
 
-      pub plans_fsync : PlansFsync first history kept.flushes kept.cut kept.inodes kept.num kept.layout kept.store kept.parts sources
+      pub plans_fsync : PlansFsync kept sources
       plans_fsync = record {
         ready = remembers.stands.between;
         keeps = remembers.disk.entries;
@@ -175,7 +175,7 @@ module _ (kept : Volume) (volume : OpenVolume) (remembers : Remembers kept volum
       }
 
       led : LeadsWith first history kept.cut kept.inodes sources plans_fsync.plans
-      led = plans_lead_to_cuts first history kept.flushes kept.cut kept.inodes kept.num kept.layout kept.store kept.parts sources plans_fsync
+      led = plans_lead_to_cuts kept sources plans_fsync
 
       pub leads : LeadsToCut first history kept.cut kept.inodes (planned_flush node stamp) (disk_entries_in volume.stored) plan
       leads = led.leads

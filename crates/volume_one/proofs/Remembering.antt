@@ -16,7 +16,7 @@ use Rattle.node_lists.specs.Known.{HasSameNodes}
 use Rattle.space_laws.specs.Laws.{HasNoneGranted}
 use Rattle.space_laws.specs.Map.{IsMapOf, WasReturned}
 use Rattle.space_laws.proofs.Mapped.{grants_keep_maps, returns_keep_maps}
-use Rattle.volume_laws.specs.Volume.{Volume}
+use Rattle.flush_laws.specs.Volume.{Volume}
 use Rattle.volume_one.specs.Ends.{with_space, ReturnsGrant}
 use Rattle.volume_one.specs.Entries.{disk_entries_in, HasSameEntries}
 use Rattle.volume_one.specs.Memory.{HoldsFiles}

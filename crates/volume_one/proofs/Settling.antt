@@ -21,7 +21,9 @@ use Rattle.dep_closure.specs.Gathered.{cut_in, born_as}
 use Rattle.cut_laws.specs.Rules.{IsOneOf, births_of}
 use Rattle.flush_laws.proofs.Clean.{over_parts}
 use Rattle.space_laws.specs.Laws.{HasNoneGranted}
-use Rattle.volume_laws.specs.Volume.{Volume, OneFsync, IsPlannedFor, IsVolumeStanding, tree_held, tree_raised}
+use Rattle.volume_laws.specs.Volume.{IsVolumeStanding}
+use Rattle.flush_laws.specs.Volume.{Volume, OneFsync, tree_held, tree_raised}
+use Rattle.flush_laws.specs.Planned.{IsPlannedFsync}
 use Rattle.tree_laws.specs.NameRow.{node_number}
 use Rattle.space_map.specs.Space.{Space, GrantedNumbers}
 use Rattle.keyed_list.specs.Ascending.{AscendBy, item_with}
@@ -47,8 +49,9 @@ use Rattle.flush_plan.specs.declared.plans.FsyncPlan.{FsyncPlan}
 use Rattle.space_laws.specs.Map.{IsMapOf}
 use Rattle.space_laws.proofs.Committed.{commits_keep_maps}
 use Rattle.space_laws.proofs.Mapped.{grants_keep_maps}
-use Rattle.volume_laws.specs.Commits.{parts_left}
-use Rattle.volume_laws.specs.Stores.{IsStoreLeft, volume_left}
+use Rattle.flush_laws.specs.Volume.{parts_left}
+use Rattle.flush_laws.specs.Laws.{IsStoreLeft}
+use Rattle.flush_laws.specs.Volume.{volume_left}
 use Rattle.volume_laws.proofs.Stores.{commits_stay_standing}
 use Rattle.volume_one.specs.Ends.{with_space}
 use Rattle.volume_one.specs.Entries.{KeptNodes, old_at, kept_in, disk_entries_in, AreReplaced}
@@ -110,13 +113,11 @@ module _ (kept : Volume) (volume : OpenVolume) (node : NodeId) (stamp : Stamp) (
   abbrev change : Planned
   change = change_planned one.plan
 
-  planned : IsPlannedFor kept one
+  planned : IsPlannedFsync kept one
   planned = planned_for kept volume node stamp plan grant space is
 
   over : IsPlanOverParts kept.num nodes (tree_held kept) (tree_raised kept one) (inodes_shown kept.layout kept.parts) one.plan grant kept.store kept.parts
-  over =
-      over_parts kept.first kept.history kept.flushes kept.cut kept.inodes one.flush one.raised one.after kept.num kept.layout kept.store kept.parts
-      nodes one.entries one.plan grant planned
+  over = over_parts kept one planned
 
   -- what the disk has of a node after the commit is of one that it concerns
   entry_among : (entry : OldEntry) → Contains (after_commit change grant) entry → is_listed nodes entry.node.0 ≡ true
@@ -153,7 +154,7 @@ module _ (kept : Volume) (volume : OpenVolume) (node : NodeId) (stamp : Stamp) (
     up = subst (AscendBy entry_node) after_is built.ascend
 
     -- what memory then keeps of the disk's nodes
-    after_entries : AreEntriesAfter nodes one.entries one.plan grant (disk_entries_in new.stored)
+    after_entries : AreEntriesAfter one (disk_entries_in new.stored)
     after_entries = record {
       ascend = all_ascend new.stored ordered_new;
       each = λ entry. (
@@ -167,17 +168,14 @@ module _ (kept : Volume) (volume : OpenVolume) (node : NodeId) (stamp : Stamp) (
     }
 
     keeps_after : KeepsEntries (numbers_planned kept.num one.plan grant.inodes) (parts_left kept one) (disk_entries_in new.stored)
-    keeps_after =
-        fsyncs_keep_entries kept.first kept.history kept.flushes kept.cut kept.inodes one.flush one.raised one.after kept.num kept.layout kept.store kept.parts
-        nodes one.entries one.plan grant (disk_entries_in new.stored) planned after_entries
+    keeps_after = fsyncs_keep_entries kept one (disk_entries_in new.stored) planned after_entries
 
     room_space : room.space ≡ space
     room_space = ap (λ (v : OpenVolume). v.space) same.others
 
     map_after : IsMapOf kept.layout (disk_entries_in new.stored) new.space
     map_after =
-        commits_keep_maps kept.first kept.history kept.flushes kept.cut kept.inodes one.flush one.raised one.after kept.num kept.layout kept.store kept.parts
-        nodes one.entries one.plan grant (disk_entries_in new.stored) built.tx space new.space planned after_entries
+        commits_keep_maps kept one (disk_entries_in new.stored) built.tx space new.space planned after_entries
         (grants_keep_maps kept.layout one.entries one.plan volume.space space grant is.remembers.disk.space
         (was_granted kept volume node stamp plan grant space is))
         (record {

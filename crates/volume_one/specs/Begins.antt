@@ -16,7 +16,7 @@ use Rattle.crash_laws.specs.Wrote.{Mounts}
 use Rattle.turn_laws.specs.Need.{node_bound}
 use Rattle.mount.specs.Mounted.{share_of_nodes}
 use Rattle.recovery.specs.Freed.{without_unlinked}
-use Rattle.volume_laws.specs.Volume.{Volume}
+use Rattle.flush_laws.specs.Volume.{Volume}
 use Rattle.volume_one.specs.Fsync.{HoldsVolume}
 use Rattle.volume_one.specs.Stands.{Remembers}
 use Rattle.volume_one.specs.declared.volume.OpenVolume.{OpenVolume}

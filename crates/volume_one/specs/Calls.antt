@@ -17,7 +17,7 @@ use Rattle.keyed_list.specs.Ascending.{item_with}
 use Rattle.dep_closure.specs.Gathered.{birth_node}
 use Rattle.file_table.specs.Table.{file_at, HasSameFiles, SetsFile, EditsFile}
 use Rattle.node_lists.specs.Known.{HasOneMoreBirth}
-use Rattle.volume_laws.specs.Volume.{Volume}
+use Rattle.flush_laws.specs.Volume.{Volume}
 use Rattle.volume_one.specs.declared.volume.OpenVolume.{OpenVolume}
 use Rattle.volume_one.specs.Stands.{Remembers}
 

@@ -12,8 +12,8 @@ use Rattle.turn_laws.specs.Books.{free_in, FitsFree, IsShortOf}
 use Rattle.turn_laws.specs.Need.{nothing, node_bound}
 use Rattle.turn_ties.specs.Led.{IsTied}
 use Rattle.turn_ties.specs.Plans.{Planning, planning_of, books_of_rest, need_of_planning, granted_of_planning}
-use Rattle.volume_laws.specs.Commits.{HasJob}
-use Rattle.volume_laws.specs.Volume.{Volume, OneFsync}
+use Rattle.flush_laws.specs.Journal.{HasJob}
+use Rattle.flush_laws.specs.Volume.{Volume, OneFsync}
 use Rattle.volume_one.specs.declared.deed.Deed.{Deed}
 use Rattle.volume_one.specs.declared.deed.Deed.TheVariants as deeds
 

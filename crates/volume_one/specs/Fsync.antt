@@ -16,8 +16,11 @@ use Rattle.core_logs.specs.Logs.{AreWithEntry}
 use Rattle.crash_laws.specs.Wrote.{Wrote}
 use Rattle.cut_laws.specs.Closure.{Flush}
 use Rattle.volume_laws.specs.Commits.{HoldsParts}
-use Rattle.volume_laws.specs.Stores.{ComesNow, IsStoreLeft, volume_left}
-use Rattle.volume_laws.specs.Volume.{Volume, OneFsync, IsPlannedFor, tree_held, tree_raised}
+use Rattle.volume_laws.specs.Stores.{ComesNow}
+use Rattle.flush_laws.specs.Laws.{IsStoreLeft}
+use Rattle.flush_laws.specs.Volume.{volume_left}
+use Rattle.flush_laws.specs.Volume.{Volume, OneFsync, tree_held, tree_raised}
+use Rattle.flush_laws.specs.Planned.{IsPlannedFsync}
 use Rattle.volume_one.specs.Calls.{call_entry, kept_with}
 use Rattle.volume_one.specs.Deeds.{DidCommit, DidFail, DidStay}
 use Rattle.volume_one.specs.Stands.{Remembers}
@@ -38,7 +41,7 @@ fsync_at node stamp = record { node = node.0; stamp = stamp.0 }
 -- One fsync of a volume comes now, with its plan and its grant.
 pub record IsComingFsync (kept : Volume) (flush : Flush) (one : OneFsync) : Type 0 where
   pub flush_is : one.flush ≡ flush
-  pub planned : IsPlannedFor kept one
+  pub planned : IsPlannedFsync kept one
   pub comes : ComesNow kept one
 
 -- A commit is on the disk since a moment between the two views. Where the disk held the volume, it holds what the commit leaves of it, and a

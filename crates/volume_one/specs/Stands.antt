@@ -10,7 +10,8 @@ use Rattle.flush_laws.specs.Journal.{AreSpelled}
 use Rattle.flush_laws.specs.Ready.{KeepsEntries}
 use Rattle.space_laws.specs.Laws.{HasNoneGranted}
 use Rattle.space_laws.specs.Map.{IsMapOf}
-use Rattle.volume_laws.specs.Volume.{Volume, IsVolumeStanding}
+use Rattle.volume_laws.specs.Volume.{IsVolumeStanding}
+use Rattle.flush_laws.specs.Volume.{Volume}
 use Rattle.volume_one.specs.Entries.{disk_entries_in}
 use Rattle.volume_one.specs.Memory.{KnowsNodes, HoldsFiles}
 use Rattle.volume_one.specs.declared.volume.OpenVolume.{OpenVolume}
