@@ -1,0 +1,5 @@
+pub mod Slots
+pub mod Labels
+pub mod Rules
+pub mod Fits
+pub mod Laws

@@ -1,0 +1,27 @@
+//! What is proved of labels: each function's contract is a law.
+ghost use Rattle.slot_laws.specs.Laws.{LabelsCountFaults, LabelsRise, LawfulFits, OwnIs, PensMakeTheRecord};
+
+/// What fits goes on to fit, whatever is told by the rules.
+pub fn lawful_fits()
+    ensures { LawfulFits }
+{}
+
+/// What a core told is what its own events come to.
+pub fn own_is()
+    ensures { OwnIs }
+{}
+
+/// Of a core at rest the record has the turns that its own events tell.
+pub fn pens_make_the_record()
+    ensures { PensMakeTheRecord }
+{}
+
+/// Each turn's count of faults is right where it stands.
+pub fn labels_count_faults()
+    ensures { LabelsCountFaults }
+{}
+
+/// The moments of turns don't fall.
+pub fn labels_rise()
+    ensures { LabelsRise }
+{}
