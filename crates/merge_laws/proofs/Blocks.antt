@@ -11,7 +11,7 @@ use Rattle.cut_laws.proofs.Basics.{in_left}
 use Rattle.turn_laws.specs.Ways.{own_turns}
 use Rattle.turn_laws.proofs.Going.{none_own, all_own, own_both}
 use Rattle.merge_laws.specs.Pens.{FsyncTurns, FsyncsDiffer, HasTurnsFor}
-use Rattle.merge_laws.proofs.Lists.{joined_at}
+use Rattle.merge_laws.proofs.Lists.{joined_at, nothing_joined}
 
 -- the turns of a pen's fsyncs, one after the other
 abbrev pub pen_turns : List FsyncTurns → List Turn
@@ -83,11 +83,7 @@ pub record IsInBlock (fsyncs : List FsyncTurns) (front : List Turn) (turn : Turn
 
 pub in_block : (fsyncs : List FsyncTurns) (front : List Turn) (turn : Turn) (back : List Turn) → pen_turns fsyncs ≡ front ++ turn ∷ back
     → IsInBlock fsyncs front turn
-in_block [] front turn back e = absurd (none front e)
-  where
-    none : (l : List Turn) → ◌≡◌ {A = List Turn} [] (l ++ turn ∷ back) → ⊥
-    none [] f = cc
-    none (x ∷ l) f = cc
+in_block [] front turn back e = absurd (nothing_joined front turn back e)
 in_block (one ∷ fsyncs) front turn back e = elim (joined_at one.turns (pen_turns fsyncs) front turn back e) [
   | inl here ↦ record {
     done = [];

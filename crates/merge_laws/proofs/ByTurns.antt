@@ -1,10 +1,10 @@
 -- The order of turns gives that of acknowledgements.
 use borrow.Author.Tests.{leb-true, leb-false}
-use Rattle.std.proofs.Common.{◌≡◌, ◌≢◌, ℕ, ◌<◌, ◌≤◌, nat_le, Bool, true, false, cond, List, [], ◌∷◌, ◌++◌, Option, Some, None, inl, inr, refl, sym, ap, subst, ◌∙◌, arith, nat_eq}
 use Rattle.std.specs.Prelude.{filter}
+use Rattle.std.specs.List.{cons_option}
+use Rattle.std.proofs.Common.{◌≡◌, ◌≢◌, ◌<◌, ◌≤◌, ◌∷◌, ◌++◌, ◌∙◌, ℕ, nat_le, Bool, true, false, cond, List, [], Option, Some, None, inl, inr, refl, sym, ap, subst, arith, nat_eq}
 use Rattle.std.proofs.lemmas.Bool.Decides.{nat_tests}
 use Rattle.std.proofs.lemmas.List.{append_assoc}
-use Rattle.std.specs.List.{cons_option}
 use Rattle.sfs_base.proofs.BasicNumbers.{same_number}
 use Rattle.sfs_dev.specs.Disk.{View}
 use Rattle.tree_laws.specs.declared.history.Entry.{Entry}

@@ -16,13 +16,14 @@ use Rattle.tree_laws.specs.History.{IsLegal}
 use Rattle.tree_laws.specs.Tree.{TreeState}
 use Rattle.tree_laws.proofs.Cores.{cores_stay}
 use Rattle.cut_laws.specs.Rules.{IsOneOf}
+use Rattle.cut_laws.proofs.RunFacts.{event_there}
 use Rattle.cut_laws.proofs.Basics.{in_left}
 use Rattle.cut_laws.proofs.Entries.{entries_may_come, stamps_are_once}
 use Rattle.turn_laws.specs.Recorded.{IsLiveFsync, IsOfFsync}
 use Rattle.turn_laws.specs.Ways.{own_turns, no_turn, GoesWay}
 use Rattle.turn_laws.proofs.Behind.{stays_in}
 use Rattle.merge_laws.specs.Pens.{failed_in, turns_of_core, FsyncTurns, HasTurnsFor, AgreesAll}
-use Rattle.merge_laws.proofs.Lists.{filter_again, in_part, something_at}
+use Rattle.merge_laws.proofs.Lists.{filter_again, in_part}
 use Rattle.merge_laws.proofs.Blocks.{pen_turns, AreStamped, has_or_lacks, none_of_pen, own_of_pen}
 
 -- What is had of one fsync: its turns go one of the ways with its answer, its Durable tells its acknowledgement, and its stop the first failure.
@@ -47,7 +48,7 @@ module _ (first : TreeState) (history : List Entry) (before most : ℕ) (turns :
 
   pub penned : (turn : Turn) → IsOneOf turns turn → IsPenned turn
   penned turn among =
-      let pen = something_at pens turn.core.0 (agrees.merges.cores turn among) in
+      let pen = event_there pens turn.core.0 (agrees.merges.cores turn among) in
       let own = subst (λ (l : List Turn). IsOneOf l turn) (agrees.merges.own turn.core.0 pen.0 pen.1)
       (stays_in (λ (t : Turn). nat_eq t.core.0 turn.core.0) turns turn among (same_number turn.core.0)) in
       let part = in_part (λ (one : FsyncTurns). one.turns) pen.0 turn own in
@@ -96,7 +97,7 @@ module _ (first : TreeState) (history : List Entry) (before most : ℕ) (turns :
   pub pen_of : (entry : Entry) → IsOneOf history entry → (fsyncs : List FsyncTurns) × (slice_get pens entry.core.0 ≡ Some fsyncs)
   pen_of entry among =
       let may = (entries_may_come first history entry legal among).may in
-      something_at pens entry.core.0
+      event_there pens entry.core.0
       (subst (λ (n : ℕ). entry.core.0 < n) (cores_stay first (take entry.stamp.0 history) ∙ sym agrees.cores) may.core)
 
   pub fsync_agrees : (entry : Entry) (node : NodeId) → IsLiveFsync first history entry node → FsyncAgrees turns entry
@@ -112,7 +113,8 @@ module _ (first : TreeState) (history : List Entry) (before most : ℕ) (turns :
       cores turn among same =
           let its = of_fsync turn among in
           let stamps : its.entry.stamp.0 ≡ entry.stamp.0 = sym (ap (λ (s : Stamp). s.0) its.stamp) ∙ same in
-          ap (λ (c : CoreId). c.0) (its.core ∙ ap (λ (e : Entry). e.core) (stamps_are_once first history its.entry entry legal its.fsync.among live.among stamps))
+          ap (λ (c : CoreId). c.0) (its.core ∙ ap (λ (e : Entry). e.core)
+          (stamps_are_once first history its.entry entry legal its.fsync.among live.among stamps))
 
       own_are : own_turns entry.stamp.0 turns ≡ own_turns entry.stamp.0 (pen_turns pen.0)
       own_are =

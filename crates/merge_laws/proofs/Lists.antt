@@ -1,6 +1,6 @@
 -- Lists taken apart: what stands at a place, what passes a test, and what was joined of parts.
-use Rattle.std.specs.Prelude.{filter, flat_map, slice_get}
-use Rattle.std.proofs.Common.{◌≡◌, ◌<◌, ◌∷◌, ◌++◌, ◌⊎◌, ◌∙◌, ℕ, zero, suc, Bool, true, false, cond, List, [], length, Some, inl, inr, refl, sym, ap, arith}
+use Rattle.std.specs.Prelude.{filter, flat_map}
+use Rattle.std.proofs.Common.{◌≡◌, ◌∷◌, ◌++◌, ◌⊎◌, ◌∙◌, Bool, true, false, cond, List, [], inl, inr, refl, sym, ap}
 use Rattle.sfs_base.proofs.BasicTruth.{true_not_false}
 use Rattle.cut_laws.specs.Rules.{IsOneOf}
 use Rattle.cut_laws.proofs.Basics.{in_left, in_right, in_either}
@@ -105,11 +105,7 @@ joined_at (y ∷ xs) ys (z ∷ front) x back e =
       })
     ]
 
--- there is something at each place of a list
-pub something_at : {X : Type 0} (xs : List X) (place : ℕ) → place < length xs → (x : X) × (slice_get xs place ≡ Some x)
-something_at [] place within = absurd (none within)
-  where
-    none : place < 0 → ⊥
-    none lt = omega arith
-something_at (x ∷ xs) zero within = (x, refl)
-something_at (x ∷ xs) (suc place) within = something_at xs place (omega arith)
+-- nothing is no list with something in it
+pub nothing_joined : {X : Type 0} (front : List X) (x : X) (back : List X) → ◌≡◌ {A = List X} [] (front ++ x ∷ back) → ⊥
+nothing_joined [] x back e = cc
+nothing_joined (first ∷ front) x back e = cc

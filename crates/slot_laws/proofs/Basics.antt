@@ -1,7 +1,7 @@
 -- Something at a place, and the others as they were.
-use Rattle.std.proofs.Common.{◌≡◌, ◌≢◌, ℕ, Bool, true, false, cond, Option, Some, None, inl, inr, refl, sym, ap, ◌∙◌, nat_eq}
-use Rattle.std.proofs.Math.Path.{fun_ext}
 use Rattle.std.specs.Prelude.{option_map}
+use Rattle.std.proofs.Common.{◌≡◌, ◌≢◌, ◌∙◌, ℕ, Bool, true, false, cond, Option, Some, None, inl, inr, refl, sym, ap, nat_eq}
+use Rattle.std.proofs.Math.Path.{fun_ext}
 use Rattle.sfs_base.proofs.BasicNumbers.{same_number, not_same}
 use Rattle.merge_laws.proofs.Blocks.{same_or_not}
 use Rattle.slot_laws.specs.Labels.{OwnTold}

@@ -1,31 +1,30 @@
 -- Each label that may be told leaves what fits.
-use Rattle.journal_one.specs.declared.slot.Filling.{Filling}
-use Rattle.std.proofs.Common.{◌≡◌, ◌≢◌, ◌⊎◌, ℕ, ◌≤◌, Bool, true, false, ◌||◌, List, [], ◌∷◌, ◌++◌, Option, Some, None, inl, inr, refl, sym, ap, subst, ◌∙◌, arith}
 use Rattle.std.specs.Prelude.{option_map}
 use Rattle.std.specs.Option.{option_or}
+use Rattle.std.proofs.Common.{◌≡◌, ◌≢◌, ◌∷◌, ◌++◌, ◌∙◌, ℕ, Bool, true, List, [], Option, Some, None, inl, inr, refl, sym, ap, subst, arith}
 use Rattle.std.proofs.Math.Path.{fun_ext}
 use Rattle.std.proofs.lemmas.List.{append_assoc}
-use Rattle.sfs_base.proofs.BasicOptions.{some_same}
-use Rattle.sfs_base.proofs.BasicTruth.{not_both, false_not_true}
 use Rattle.sfs_base.specs.declared.numbers.NodeId.{NodeId}
 use Rattle.sfs_base.specs.declared.numbers.Stamp.{Stamp}
+use Rattle.sfs_base.proofs.BasicOptions.{some_same}
+use Rattle.sfs_base.proofs.BasicTruth.{not_both}
 use Rattle.sfs_image.specs.Super.{Layout}
+use Rattle.journal_one.specs.declared.slot.Filling.{Filling}
 use Rattle.tree_laws.specs.declared.turns.Turn.{Turn}
-use Rattle.tree_laws.specs.declared.turns.TurnAct.{TurnAct}
-use Rattle.tree_laws.specs.declared.turns.TurnAct.TheVariants as act
 use Rattle.cut_laws.specs.Rules.{IsOneOf}
-use Rattle.turn_laws.specs.Books.{CountsFaults}
 use Rattle.merge_laws.specs.Pens.{failure_by}
 use Rattle.merge_laws.proofs.Blocks.{same_or_not}
 use Rattle.slot_laws.specs.declared.label.Label.{Label}
 use Rattle.slot_laws.specs.declared.label.Label.TheVariants as label
-use Rattle.slot_laws.specs.Slots.{open_gate, shut_gate, known_filled, known_placed, known_gated, SlotWork, begun_work, knowing, settled_work, Slots, with_at, changed, synced_slots}
-use Rattle.slot_laws.specs.Labels.{owner, fsync_at, SlotFlight, OwnTold, ends_all, opened_flight, own_label, BoxPast, box_label, after_label}
+use Rattle.slot_laws.specs.Slots.{open_gate, shut_gate, known_filled, known_placed, known_gated, SlotWork, begun_work, knowing, settled_work, Slots, with_at, changed_slot, synced_slots}
+use Rattle.slot_laws.specs.Labels.{owner, fsync_told, SlotFlight, OwnTold, ends_all, opened_flight, own_label, BoxPast, box_label, after_label}
 use Rattle.slot_laws.specs.Rules.{NotedRule, ReservedRule, BeganRule, OpenedRule, SettledRule, ShutRule, IdledRule, LookedRule, EmptyRule, MayLabel}
 use Rattle.slot_laws.specs.Fits.{FlightsFit, TurnsFit, NumbersFit, TimesFit, PastFits}
 use Rattle.slot_laws.proofs.Basics.{at_same, at_other, parts, own_put, own_same}
-use Rattle.slot_laws.proofs.Flying.{SlotsKeep, changed_keeps, synced_keep, kept_fit, begun_fit, idled_fit, opened_fit, none_waits, owner_waits, settled_fit, looked_fit}
+use Rattle.slot_laws.proofs.Flying.{SlotsKeep, changed_keeps, synced_keep, kept_fit, begun_fit, idled_fit}
+use Rattle.slot_laws.proofs.Landing.{opened_fit, none_waits, owner_waits, settled_fit, looked_fit}
 use Rattle.slot_laws.proofs.Numbers.{SlotsCome, changed_come, synced_come, idled_come, slots_come, numbers_stay, numbers_back, numbers_reserve, numbers_begin}
+use Rattle.slot_laws.proofs.Quiet.{ends_failed, either_true, or_some, counts_calm, cut_not_fail, opened_not_fail, durable_not_fail, quiet_more}
 use Rattle.slot_laws.proofs.Turns.{turns_told, turns_wait, turns_looked, times_more}
 
 -- a core that tells nothing new of itself
@@ -47,51 +46,6 @@ reserved_of own = own.reserved
 
 abbrev over_of : OwnTold → Bool
 over_of own = own.over
-
--- an act that fails no commit
-quiet_act : (a : TurnAct) (faults : ℕ) → a ≢ act.Fail → failure_by a faults ≡ None
-quiet_act act.Granted faults away = refl
-quiet_act act.GivenBack faults away = refl
-quiet_act (act.Short kind need free) faults away = refl
-quiet_act act.Halted faults away = refl
-quiet_act act.CutAt faults away = refl
-quiet_act act.Opened faults away = refl
-quiet_act act.Durable faults away = refl
-quiet_act act.Fail faults away = absurd (away refl)
-
-or_nothing : (o : Option ℕ) (other : Option ℕ) → other ≡ None → option_or o other ≡ o
-or_nothing None other e = e
-or_nothing (Some n) other e = refl
-
-or_some : (o other : Option ℕ) → o ≢ None → option_or o other ≢ None
-or_some None other some e = some refl
-or_some (Some n) other some e = some e
-
--- while none has failed, the count of a turn that neither halts nor fails is that of before
-counts_calm : (before faults : ℕ) (failed : Option ℕ) (a did : TurnAct) → failed ≡ None → a ≡ did → (did ≡ act.Opened) ⊎ (did ≡ act.Durable)
-    → faults ≡ before → CountsFaults before faults failed a faults
-counts_calm before faults failed a did calm is which same =
-    subst (λ (o : Option ℕ). CountsFaults before faults o a faults) (sym calm)
-    (elim which [
-      | inl opened ↦ subst (λ (b : TurnAct). CountsFaults before faults None b faults) (sym (is ∙ opened)) same
-      | inr durable ↦ subst (λ (b : TurnAct). CountsFaults before faults None b faults) (sym (is ∙ durable)) same
-    ])
-
-cut_not_fail : act.CutAt ≢ act.Fail
-cut_not_fail e = cc
-
-opened_not_fail : act.Opened ≢ act.Fail
-opened_not_fail e = cc
-
-durable_not_fail : act.Durable ≢ act.Fail
-durable_not_fail e = cc
-
--- a quiet turn more
-quiet_more : (before : ℕ) (turns : List Turn) (moment : ℕ) (failed : Option ℕ) → TimesFit before turns moment failed → (turn : Turn) → turn.act ≢ act.Fail
-    → moment ≤ turn.now → CountsFaults before turn.faults failed turn.act turn.faults → TimesFit before (turns ++ turn ∷ []) turn.now failed
-quiet_more before turns moment failed fits turn quiet rises right =
-    subst (TimesFit before (turns ++ turn ∷ []) turn.now) (or_nothing failed (failure_by turn.act turn.faults) (quiet_act turn.act turn.faults quiet))
-    (times_more before turns moment failed fits turn rises right)
 
 module _ (layout : Layout) (before core : ℕ) (past : BoxPast) (fits : PastFits layout before past) where
   -- the same with what the core tells of itself
@@ -121,7 +75,8 @@ module _ (layout : Layout) (before core : ℕ) (past : BoxPast) (fits : PastFits
       absurd ((fits.over c (sym (ap (λ (f : ℕ → Bool). f c) (own_same over_of past.owns core own same)) ∙ e)).1 calm)
 
   -- what the core tells nothing new of itself with
-  unchanged : (fact : Label) → own_label fact (past.owns core) ≡ past.owns core → PastFits layout before (record (box_label layout core fact past) { owns = past.owns })
+  unchanged : (fact : Label) → own_label fact (past.owns core) ≡ past.owns core
+      → PastFits layout before (record (box_label layout core fact past) { owns = past.owns })
       → PastFits layout before (after_label layout core fact past)
   unchanged fact own =
       subst (λ (o : ℕ → OwnTold). PastFits layout before (record (box_label layout core fact past) { owns = o }))
@@ -147,7 +102,7 @@ module _ (layout : Layout) (before core : ℕ) (past : BoxPast) (fits : PastFits
   filled : (k piece : ℕ) (done : Bool) → PastFits layout before (after_label layout core (label.Filled k piece done) past)
   filled k piece done =
       unchanged (label.Filled k piece done) refl
-      (fits_kept (changed past.slots k (knowing (known_filled done piece)))
+      (fits_kept (changed_slot past.slots k (knowing (known_filled done piece)))
       (changed_keeps past.slots k (knowing (known_filled done piece))
       (λ work there. record { job = refl; commit = refl; flush = refl; settled = refl; gates = λ aloft opened left read. (left, read) }))
       (changed_come past.slots k (knowing (known_filled done piece)) (λ work. record { job = refl; commit = refl })))
@@ -155,7 +110,7 @@ module _ (layout : Layout) (before core : ℕ) (past : BoxPast) (fits : PastFits
   placed : (k n : ℕ) (done : Bool) → PastFits layout before (after_label layout core (label.Placed k n done) past)
   placed k n done =
       unchanged (label.Placed k n done) refl
-      (fits_kept (changed past.slots k (knowing (known_placed done n)))
+      (fits_kept (changed_slot past.slots k (knowing (known_placed done n)))
       (changed_keeps past.slots k (knowing (known_placed done n))
       (λ work there. record { job = refl; commit = refl; flush = refl; settled = refl; gates = λ aloft opened left read. (left, read) }))
       (changed_come past.slots k (knowing (known_placed done n)) (λ work. record { job = refl; commit = refl })))
@@ -166,7 +121,7 @@ module _ (layout : Layout) (before core : ℕ) (past : BoxPast) (fits : PastFits
   shut : (k : ℕ) (done : Bool) → ShutRule k past → PastFits layout before (after_label layout core (label.Shut k done) past)
   shut k done rule =
       unchanged (label.Shut k done) refl
-      (fits_kept (changed past.slots k (knowing (known_gated done shut_gate)))
+      (fits_kept (changed_slot past.slots k (knowing (known_gated done shut_gate)))
       (changed_keeps past.slots k (knowing (known_gated done shut_gate))
       (λ work there. record {
         job = refl;
@@ -190,14 +145,17 @@ module _ (layout : Layout) (before core : ℕ) (past : BoxPast) (fits : PastFits
 
   settled : (k : ℕ) (turn : Turn) → SettledRule layout before k turn past → PastFits layout before (after_label layout core (label.Settled k turn) past)
   settled k turn rule = unchanged (label.Settled k turn) refl (record {
-    flights = settled_fit layout past.slots past.waits (parts flight_of past.owns) fits.flights k turn rule.has.work rule.has.there rule.has.aloft rule.has.gate_is rule.is;
+    flights = settled_fit layout past.slots past.waits
+        (parts flight_of past.owns) fits.flights k turn rule.has.work rule.has.there rule.has.aloft rule.has.gate_is rule.is;
     turns = turns_wait past.turns past.waits (parts told_of past.owns) fits.turns (owner layout k) turn rule.is.core_is
-        (owner_waits layout past.slots past.waits (parts flight_of past.owns) fits.flights k turn rule.has.work rule.has.there rule.has.aloft rule.has.gate_is rule.is);
+        (owner_waits layout past.slots past.waits
+        (parts flight_of past.owns) fits.flights k turn rule.has.work rule.has.there rule.has.aloft rule.has.gate_is rule.is);
     numbers = numbers_stay layout past.slots (parts reserved_of past.owns) (parts flight_of past.owns) past.commits past.stamps fits.numbers
-        (changed past.slots k settled_work) (parts flight_of past.owns)
+        (changed_slot past.slots k settled_work) (parts flight_of past.owns)
         (changed_come past.slots k settled_work (λ work. record { job = refl; commit = refl })) (λ c e. e);
     over = λ c e. absurd ((fits.over c e).1 rule.calm);
-    times = quiet_more before past.turns past.moment past.failed fits.times turn (λ e. durable_not_fail (sym rule.is.did_is ∙ e)) rule.now.rises rule.now.counts;
+    times = quiet_more before past.turns past.moment past.failed fits.times turn (λ e. durable_not_fail (sym rule.is.did_is
+        ∙ e)) rule.now.rises rule.now.counts;
   })
 
   noted : (turn : Turn) → NotedRule before core turn past → PastFits layout before (after_label layout core (label.Noted turn) past)
@@ -219,34 +177,11 @@ module _ (layout : Layout) (before core : ℕ) (past : BoxPast) (fits : PastFits
       its : (t : Turn) → IsOneOf (turn ∷ []) t → t.core.0 ≡ core
       its t one = elim one [ inl same ↦ ap (λ (u : Turn). u.core.0) (sym same) ∙ rule.own | inr nothing ↦ absurd nothing ]
 
-      -- a turn that ends all stands behind a failure, or is one
-      ends_failed : (a : TurnAct) (failed : Option ℕ) → CountsFaults before turn.faults failed a turn.faults → ends_all a ≡ true
-          → option_or failed (failure_by a turn.faults) ≢ None
-      ends_failed act.Fail None counts e none = absurd (some_there none)
-        where
-          some_there : Some turn.faults ≡ None → ⊥
-          some_there f = cc
-      ends_failed act.Halted None counts e none = absurd counts
-      ends_failed act.Granted None counts e none = false_not_true e
-      ends_failed act.GivenBack None counts e none = false_not_true e
-      ends_failed (act.Short kind need free) None counts e none = false_not_true e
-      ends_failed act.CutAt None counts e none = false_not_true e
-      ends_failed act.Opened None counts e none = false_not_true e
-      ends_failed act.Durable None counts e none = false_not_true e
-      ends_failed a (Some n) counts e none = absurd (some_there none)
-        where
-          some_there : option_or (Some n) (failure_by a turn.faults) ≡ None → ⊥
-          some_there f = cc
-
-      which : (b o : Bool) → (b || o) ≡ true → (b ≡ true) ⊎ (o ≡ true)
-      which true o e = inl refl
-      which false o e = inr e
-
       over_then : (c : ℕ) → over_of (with_at past.owns core own c) ≡ true
           → (past.waits c ≡ None) × (option_or past.failed (failure_by turn.act turn.faults) ≢ None)
       over_then c e = elim (same_or_not c core) [
-        | inl same ↦ elim (which (ends_all turn.act) (past.owns core).over (sym (ap over_of (at_same past.owns core own c same)) ∙ e)) [
-          | inl ends ↦ (ap past.waits same ∙ rule.looked, ends_failed turn.act past.failed rule.now.counts ends)
+        | inl same ↦ elim (either_true (ends_all turn.act) (past.owns core).over (sym (ap over_of (at_same past.owns core own c same)) ∙ e)) [
+          | inl ends ↦ (ap past.waits same ∙ rule.looked, ends_failed before turn.faults turn.act past.failed rule.now.counts ends)
           | inr was ↦
               let had = fits.over core was in
               (ap past.waits same ∙ had.0, or_some past.failed (failure_by turn.act turn.faults) had.1)
@@ -293,14 +228,16 @@ module _ (layout : Layout) (before core : ℕ) (past : BoxPast) (fits : PastFits
       → PastFits layout before (after_label layout core (label.Began filling commit node stamp) past)
   began filling commit node stamp rule = record {
     flights = flights_put own later past.waits
-        (begun_fit layout past.slots past.waits (parts flight_of past.owns) fits.flights core k filling.job commit (fsync_at node stamp) rule.idle rests rule.own);
+        (begun_fit layout past.slots past.waits (parts flight_of past.owns) fits.flights core k filling.job commit
+        (fsync_told node stamp) rule.idle rests rule.own);
     turns = told_same own past.turns past.waits refl fits.turns;
     numbers = subst (λ (f : ℕ → Option SlotFlight). NumbersFit layout later (parts reserved_of (with_at past.owns core own)) f past.commits filling.job.stamp)
         (sym (own_put flight_of past.owns core own))
         (subst (λ (r : ℕ → Option ℕ). NumbersFit layout later r (with_at (parts flight_of past.owns) core own.flight) past.commits filling.job.stamp)
         (sym (own_put reserved_of past.owns core own))
-        (numbers_begin layout past.slots (parts reserved_of past.owns) (parts flight_of past.owns) past.commits past.stamps fits.numbers core k filling.job commit
-        (fsync_at node stamp) rule.number rule.stamp rule.within rule.place own.flight));
+        (numbers_begin layout past.slots (parts reserved_of past.owns)
+        (parts flight_of past.owns) past.commits past.stamps fits.numbers core k filling.job commit
+        (fsync_told node stamp) rule.number rule.stamp rule.within rule.place own.flight));
     over = λ c e. calm_over rule.calm own refl c e;
     times = fits.times;
   }
@@ -312,7 +249,7 @@ module _ (layout : Layout) (before core : ℕ) (past : BoxPast) (fits : PastFits
       k = filling.job.place.slot
 
       later : Slots
-      later = with_at past.slots filling.job.place.slot (Some (begun_work filling.job commit (fsync_at node stamp)))
+      later = with_at past.slots filling.job.place.slot (Some (begun_work filling.job commit (fsync_told node stamp)))
 
       rests : (past.owns core).flight ≡ None
       rests = fits.numbers.rests core commit rule.number
@@ -321,7 +258,8 @@ module _ (layout : Layout) (before core : ℕ) (past : BoxPast) (fits : PastFits
   looked turn rule = record {
     flights = flights_put own past.slots (with_at past.waits core None)
         (looked_fit layout past.slots past.waits (parts flight_of past.owns) fits.flights core turn rule.waits);
-    turns = told_put own past.turns (with_at past.waits core None) (turns_looked past.turns past.waits (parts told_of past.owns) fits.turns core turn rule.waits);
+    turns = told_put own past.turns (with_at past.waits core None) (turns_looked past.turns past.waits
+        (parts told_of past.owns) fits.turns core turn rule.waits);
     numbers = subst (λ (r : ℕ → Option ℕ). NumbersFit layout past.slots r (parts flight_of (with_at past.owns core own)) past.commits past.stamps)
         (sym (own_same reserved_of past.owns core own refl))
         (numbers_stay layout past.slots (parts reserved_of past.owns) (parts flight_of past.owns) past.commits past.stamps fits.numbers past.slots
@@ -366,16 +304,17 @@ module _ (layout : Layout) (before core : ℕ) (past : BoxPast) (fits : PastFits
     over = λ c e. calm_over rule.calm own refl c e;
     times = subst (λ (l : List Turn). TimesFit before l opened.now past.failed) (append_assoc past.turns (cut ∷ []) (opened ∷ []))
         (quiet_more before (past.turns ++ cut ∷ []) cut.now past.failed
-        (quiet_more before past.turns past.moment past.failed fits.times cut (λ e. cut_not_fail (sym rule.cut_is.did_is ∙ e)) rule.cut_now.rises rule.cut_now.counts)
+        (quiet_more before past.turns past.moment past.failed fits.times cut (λ e. cut_not_fail (sym rule.cut_is.did_is
+        ∙ e)) rule.cut_now.rises rule.cut_now.counts)
         opened (λ e. opened_not_fail (sym rule.opened_is.did_is ∙ e)) (let same = rule.opened_now.0 in omega (arith, same))
-        (counts_calm before opened.faults past.failed opened.act act.Opened rule.calm rule.opened_is.did_is (inl refl) rule.opened_now.1));
+        (counts_calm before opened.faults past.failed opened.act rule.calm (inl rule.opened_is.did_is) rule.opened_now.1));
   }
     where
       own : OwnTold
       own = own_label (label.Opened k done cut opened) (past.owns core)
 
       later : Slots
-      later = changed past.slots k (knowing (known_gated done open_gate))
+      later = changed_slot past.slots k (knowing (known_gated done open_gate))
 
       its : (t : Turn) → IsOneOf (cut ∷ opened ∷ []) t → t.core.0 ≡ core
       its t one = elim one [
@@ -411,12 +350,13 @@ module _ (layout : Layout) (before core : ℕ) (past : BoxPast) (fits : PastFits
         (append_assoc (past.turns ++ cut ∷ []) (opened ∷ []) (durable ∷ []) ∙ append_assoc past.turns (cut ∷ []) (opened ∷ durable ∷ []))
         (quiet_more before ((past.turns ++ cut ∷ []) ++ opened ∷ []) opened.now past.failed
         (quiet_more before (past.turns ++ cut ∷ []) cut.now past.failed
-        (quiet_more before past.turns past.moment past.failed fits.times cut (λ e. cut_not_fail (sym rule.cut_is.did_is ∙ e)) rule.cut_now.rises rule.cut_now.counts)
+        (quiet_more before past.turns past.moment past.failed fits.times cut (λ e. cut_not_fail (sym rule.cut_is.did_is
+        ∙ e)) rule.cut_now.rises rule.cut_now.counts)
         opened (λ e. opened_not_fail (sym rule.opened_is.did_is ∙ e)) (let same = rule.opened_now.0 in omega (arith, same))
-        (counts_calm before opened.faults past.failed opened.act act.Opened rule.calm rule.opened_is.did_is (inl refl) rule.opened_now.1))
+        (counts_calm before opened.faults past.failed opened.act rule.calm (inl rule.opened_is.did_is) rule.opened_now.1))
         durable (λ e. durable_not_fail (sym rule.durable_is.did_is ∙ e))
         (let same = rule.durable_now.0 in let first = rule.opened_now.0 in omega (arith, same, first))
-        (counts_calm before durable.faults past.failed durable.act act.Durable rule.calm rule.durable_is.did_is (inr refl) rule.durable_now.1));
+        (counts_calm before durable.faults past.failed durable.act rule.calm (inr rule.durable_is.did_is) rule.durable_now.1));
   }
     where
       own : OwnTold

@@ -1,7 +1,7 @@
 -- What is told by the rules goes on to fit, and makes the record.
-use Rattle.sfs_base.proofs.BasicNumbers.{same_number, not_same}
-use Rattle.std.proofs.Common.{◌≡◌, ℕ, ◌≤◌, Bool, true, false, cond, List, [], ◌∷◌, ◌++◌, Option, Some, None, inl, inr, refl, sym, ap, subst, ◌∙◌, nat_eq}
+use Rattle.std.proofs.Common.{◌≡◌, ◌≤◌, ◌∷◌, ◌++◌, ◌∙◌, ℕ, Bool, true, false, cond, List, [], Option, Some, None, inl, inr, refl, sym, ap, subst, nat_eq}
 use Rattle.std.proofs.lemmas.List.{append-nil}
+use Rattle.sfs_base.proofs.BasicNumbers.{same_number, not_same}
 use Rattle.sfs_base.proofs.BasicTruth.{false_not_true}
 use Rattle.sfs_image.specs.Super.{Layout}
 use Rattle.tree_laws.specs.declared.turns.Turn.{Turn}
@@ -11,7 +11,7 @@ use Rattle.cut_laws.specs.Rules.{IsOneOf}
 use Rattle.turn_laws.specs.Books.{CountsFaults}
 use Rattle.merge_laws.specs.Pens.{failed_in}
 use Rattle.merge_laws.proofs.Blocks.{same_or_not}
-use Rattle.merge_laws.proofs.Lists.{among_at}
+use Rattle.merge_laws.proofs.Lists.{among_at, nothing_joined}
 use Rattle.stamp_table.specs.declared.event.Event.{Event}
 use Rattle.stamp_table.specs.declared.event.Event.TheVariants.{Called, Told}
 use Rattle.stamp_table.specs.Events.{event_core}
@@ -47,12 +47,8 @@ first_fits layout before moment = record {
     place = λ k work is. none_there is;
   };
   over = λ core e. absurd (false_not_true e);
-  times = record { rise = tt; latest = λ turn one. absurd one; failed = refl; counts = λ front back turn e. absurd (nothing_more front turn back e) };
+  times = record { rise = tt; latest = λ turn one. absurd one; failed = refl; counts = λ front back turn e. absurd (nothing_joined front turn back e) };
 }
-  where
-    nothing_more : (front : List Turn) (turn : Turn) (back : List Turn) → ◌≡◌ {A = List Turn} [] (front ++ turn ∷ back) → ⊥
-    nothing_more [] turn back e = cc
-    nothing_more (first ∷ front) turn back e = cc
 
 -- what a core told is what its own events come to, from something on
 own_goes_on : (layout : Layout) (log : List (Event Label)) (core : ℕ) (past : BoxPast)

@@ -1,13 +1,13 @@
 -- Numbers and commit stamps go on to fit.
-use Rattle.std.proofs.Common.{◌≡◌, ◌≢◌, ℕ, ◌+◌, ◌<◌, ◌≤◌, Option, Some, None, inl, inr, refl, sym, ap, subst, ◌∙◌, arith}
 use Rattle.std.specs.Prelude.{option_map}
+use Rattle.std.proofs.Common.{◌≡◌, ◌≢◌, ◌+◌, ◌<◌, ◌≤◌, ◌∙◌, ℕ, Option, Some, None, inl, inr, refl, sym, ap, subst, arith}
 use Rattle.sfs_base.proofs.BasicOptions.{some_same}
 use Rattle.sfs_image.specs.Super.{Layout}
 use Rattle.sfs_image.specs.Settled.{slot_count}
 use Rattle.journal_one.specs.Job.{Job}
 use Rattle.cut_laws.specs.Closure.{Flush}
 use Rattle.merge_laws.proofs.Blocks.{same_or_not}
-use Rattle.slot_laws.specs.Slots.{SlotWork, begun_work, Slots, with_at, changed, synced_slots, knowing, known_synced, place_at}
+use Rattle.slot_laws.specs.Slots.{SlotWork, begun_work, Slots, with_at, changed_slot, synced_slots, knowing, known_synced, place_at}
 use Rattle.slot_laws.specs.Labels.{SlotFlight}
 use Rattle.slot_laws.specs.Fits.{NumbersFit}
 use Rattle.slot_laws.proofs.Basics.{at_same, at_other, none_there, mapped_some}
@@ -28,7 +28,7 @@ pub record KeepsNumbers (work new : SlotWork) : Type 0 where
   pub commit : new.commit ≡ work.commit
 
 pub changed_come : (slots : Slots) (k : ℕ) (change : SlotWork → SlotWork) → ((work : SlotWork) → KeepsNumbers work (change work))
-    → SlotsCome slots (changed slots k change)
+    → SlotsCome slots (changed_slot slots k change)
 changed_come slots k change keeps j new there = elim (same_or_not j k) [
   | inl same ↦
       let was = mapped_some change (slots k) new (sym (at_same slots k (option_map change (slots k)) j same) ∙ there) in

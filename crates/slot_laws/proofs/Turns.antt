@@ -1,6 +1,6 @@
 -- The record of turns goes on to fit what cores told, and moments and counts of faults.
-use Rattle.std.proofs.Common.{◌≡◌, ◌≢◌, ℕ, ◌≤◌, List, [], ◌∷◌, ◌++◌, Option, Some, None, inl, inr, refl, sym, ap, subst, ◌∙◌, arith, nat_eq}
 use Rattle.std.specs.Option.{option_or}
+use Rattle.std.proofs.Common.{◌≡◌, ◌≢◌, ◌≤◌, ◌∷◌, ◌++◌, ◌∙◌, ℕ, List, [], Option, Some, None, inl, inr, refl, sym, ap, subst, arith, nat_eq}
 use Rattle.std.proofs.lemmas.List.{append-nil}
 use Rattle.std.proofs.lemmas.List.Elements.{filter-append}
 use Rattle.sfs_base.proofs.BasicNumbers.{same_number, not_same}
@@ -12,7 +12,7 @@ use Rattle.merge_laws.specs.LeftByTurns.{TimesRise}
 use Rattle.merge_laws.specs.Pens.{failure_by, failed_in, turns_of_core}
 use Rattle.merge_laws.proofs.Blocks.{same_or_not}
 use Rattle.merge_laws.proofs.Follows.{failed_more}
-use Rattle.merge_laws.proofs.Lists.{joined_at, heads_are}
+use Rattle.merge_laws.proofs.Lists.{joined_at, heads_are, nothing_joined}
 use Rattle.slot_laws.specs.Slots.{with_at}
 use Rattle.slot_laws.specs.Fits.{waiting_turns, TurnsFit, TimesFit}
 use Rattle.slot_laws.proofs.Basics.{at_here, at_other}
@@ -96,10 +96,6 @@ rise_more (first ∷ turns) turn rises low =
       | inr last ↦ elim last [ inl same ↦ subst (λ (t : Turn). first.now ≤ t.now) same (low first (inl refl)) | inr nothing ↦ absurd nothing ]
     ]
 
-nothing_more : (more : List Turn) (turn : Turn) (back : List Turn) → ◌≡◌ {A = List Turn} [] (more ++ turn ∷ back) → ⊥
-nothing_more [] turn back e = cc
-nothing_more (first ∷ more) turn back e = cc
-
 module _ (before : ℕ) (turns : List Turn) (moment : ℕ) (failure : Option ℕ) (fits : TimesFit before turns moment failure) where
   -- one turn more
   pub times_more : (turn : Turn) → moment ≤ turn.now → CountsFaults before turn.faults failure turn.act turn.faults
@@ -124,4 +120,5 @@ module _ (before : ℕ) (turns : List Turn) (moment : ℕ) (failure : Option ℕ
           subst (λ (t : Turn). CountsFaults before t.faults (failed_in front) t.act t.faults) same
           (subst (λ (o : Option ℕ). CountsFaults before turn.faults o turn.act turn.faults)
           (fits.failed ∙ ap failed_in (sym (append-nil turns) ∙ sym front_is)) right)
-      last_counts front other (next ∷ more) back front_is whole = absurd (nothing_more more other back (heads_are turn next [] (more ++ other ∷ back) whole).1)
+      last_counts front other (next ∷ more) back front_is whole = absurd (nothing_joined more other back (heads_are turn next []
+          (more ++ other ∷ back) whole).1)

@@ -13,7 +13,7 @@ use Rattle.slot_laws.specs.Labels.{owner, SlotFlight, BoxPast}
 use Rattle.slot_laws.specs.Rules.{IsTurnBy}
 
 -- A flight that is not durable yet is in its slot, with the gate as it knows it, and no turn waits.
-pub record Flies (slots : Slots) (waits : ℕ → Option Turn) (core : ℕ) (flight : SlotFlight) : Type 0 where
+pub record IsFlying (slots : Slots) (waits : ℕ → Option Turn) (core : ℕ) (flight : SlotFlight) : Type 0 where
   pub work : SlotWork
   pub there : slots flight.slot ≡ Some work
   pub commit : work.commit ≡ flight.commit
@@ -33,14 +33,14 @@ pub record Landed (waits : ℕ → Option Turn) (core : ℕ) (flight : SlotFligh
 -- A flight of a core is in a slot of its own, and flies or has landed.
 pub record FlightFits (layout : Layout) (slots : Slots) (waits : ℕ → Option Turn) (core : ℕ) (flight : SlotFlight) : Type 0 where
   pub own : owner layout flight.slot ≡ core
-  pub is : Flies slots waits core flight ⊎ Landed waits core flight
+  pub is : IsFlying slots waits core flight ⊎ Landed waits core flight
 
 -- A slot's commit that is not durable is its owner's flight.
 pub record IsAloftBy (layout : Layout) (slots : Slots) (waits : ℕ → Option Turn) (flights : ℕ → Option SlotFlight) (k : ℕ) : Type 0 where
   pub flight : SlotFlight
   pub flies_is : flights (owner layout k) ≡ Some flight
   pub slot_is : flight.slot ≡ k
-  pub flies : Flies slots waits (owner layout k) flight
+  pub flies : IsFlying slots waits (owner layout k) flight
 
 -- Flights, slots and turns that wait fit.
 pub record FlightsFit (layout : Layout) (slots : Slots) (waits : ℕ → Option Turn) (flights : ℕ → Option SlotFlight) : Type 0 where

@@ -13,15 +13,15 @@ use Rattle.stamp_table.specs.declared.event.Event.{Event}
 use Rattle.stamp_table.specs.declared.event.Event.TheVariants.{Called, Told}
 use Rattle.slot_laws.specs.declared.label.Label.{Label}
 use Rattle.slot_laws.specs.declared.label.Label.TheVariants as label
-use Rattle.slot_laws.specs.Slots.{open_gate, shut_gate, known_filled, known_placed, known_gated, begun_work, knowing, settled_work, Slots, with_at, changed, synced_slots}
+use Rattle.slot_laws.specs.Slots.{open_gate, shut_gate, known_filled, known_placed, known_gated, begun_work, knowing, settled_work, Slots, with_at, changed_slot, synced_slots}
 
 -- whose a slot is
 abbrev pub owner : Layout → ℕ → ℕ
 owner layout k = k / layout.slots
 
 -- the fsync of a node at a stamp
-abbrev pub fsync_at : NodeId → Stamp → Flush
-fsync_at node stamp = record { node = node.0; stamp = stamp.0 }
+abbrev pub fsync_told : NodeId → Stamp → Flush
+fsync_told node stamp = record { node = node.0; stamp = stamp.0 }
 
 -- The commit that a core has in a slot and of whose end it has not told yet, and whether its gate was written.
 pub record SlotFlight : Type 0 where
@@ -58,7 +58,7 @@ own_label (label.Reserved commit) own = record own { reserved = Some commit }
 own_label (label.Returned commit) own = record own { reserved = None }
 own_label (label.Began filling commit node stamp) own = record own {
   reserved = None;
-  flight = Some (record { slot = filling.job.place.slot; commit = commit; flush = fsync_at node stamp; opened = false });
+  flight = Some (record { slot = filling.job.place.slot; commit = commit; flush = fsync_told node stamp; opened = false });
 }
 own_label (label.Opened slot done cut opened) own =
     record own { flight = option_map opened_flight own.flight; told = own.told ++ cut ∷ opened ∷ [] }
@@ -103,25 +103,25 @@ box_label layout core (label.Noted turn) past =
 box_label layout core (label.Reserved commit) past = record past { commits = commit }
 box_label layout core (label.Returned commit) past = past
 box_label layout core (label.Began filling commit node stamp) past = record past {
-  slots = with_at past.slots filling.job.place.slot (Some (begun_work filling.job commit (fsync_at node stamp)));
+  slots = with_at past.slots filling.job.place.slot (Some (begun_work filling.job commit (fsync_told node stamp)));
   stamps = filling.job.stamp;
 }
-box_label layout core (label.Filled slot piece done) past = record past { slots = changed past.slots slot (knowing (known_filled done piece)) }
+box_label layout core (label.Filled slot piece done) past = record past { slots = changed_slot past.slots slot (knowing (known_filled done piece)) }
 box_label layout core label.Synced past = record past { slots = synced_slots past.slots }
 box_label layout core (label.Opened slot done cut opened) past = record past {
   turns = past.turns ++ cut ∷ opened ∷ [];
-  slots = changed past.slots slot (knowing (known_gated done open_gate));
+  slots = changed_slot past.slots slot (knowing (known_gated done open_gate));
   moment = opened.now;
 }
 box_label layout core (label.Settled slot turn) past = record past {
   turns = past.turns ++ turn ∷ [];
-  slots = changed past.slots slot settled_work;
+  slots = changed_slot past.slots slot settled_work;
   waits = with_at past.waits (owner layout slot) (Some turn);
   moment = turn.now;
 }
 box_label layout core (label.Looked turn) past = record past { waits = with_at past.waits core None }
-box_label layout core (label.Placed slot n done) past = record past { slots = changed past.slots slot (knowing (known_placed done n)) }
-box_label layout core (label.Shut slot done) past = record past { slots = changed past.slots slot (knowing (known_gated done shut_gate)) }
+box_label layout core (label.Placed slot n done) past = record past { slots = changed_slot past.slots slot (knowing (known_placed done n)) }
+box_label layout core (label.Shut slot done) past = record past { slots = changed_slot past.slots slot (knowing (known_gated done shut_gate)) }
 box_label layout core (label.Idled slot) past = record past { slots = with_at past.slots slot None }
 box_label layout core (label.Empty commit cut opened durable) past =
     record past { turns = past.turns ++ cut ∷ opened ∷ durable ∷ []; moment = durable.now }

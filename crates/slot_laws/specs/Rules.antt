@@ -23,7 +23,7 @@ pub record IsTurnBy (turn : Turn) (did : TurnAct) (own_core number : ℕ) (own_f
   pub flush_is : flush_at turn ≡ own_flush
 
 -- A turn comes next: its moment does not fall, and its count of faults is right, `before` until a failure.
-pub record ComesNow (before : ℕ) (past : BoxPast) (turn : Turn) : Type 0 where
+pub record IsNextTurn (before : ℕ) (past : BoxPast) (turn : Turn) : Type 0 where
   pub rises : past.moment ≤ turn.now
   pub counts : CountsFaults before turn.faults past.failed turn.act turn.faults
 
@@ -33,7 +33,7 @@ pub record NotedRule (before core : ℕ) (turn : Turn) (past : BoxPast) : Type 0
   pub no_open : turn.act ≢ act.Opened
   pub no_durable : turn.act ≢ act.Durable
   pub looked : past.waits core ≡ None
-  pub now : ComesNow before past turn
+  pub now : IsNextTurn before past turn
 
 -- The next number is reserved, by a core that has none and no flight.
 pub record ReservedRule (core commit : ℕ) (past : BoxPast) : Type 0 where
@@ -76,7 +76,7 @@ pub record OpenedRule (layout : Layout) (before core k : ℕ) (cut opened : Turn
   pub filled : (n : ℕ) → n < fill_count has.work.job → has.work.known.fill_left n ≡ true
   pub cut_is : IsTurnBy cut act.CutAt core has.work.commit has.work.flush
   pub opened_is : IsTurnBy opened act.Opened core has.work.commit has.work.flush
-  pub cut_now : ComesNow before past cut
+  pub cut_now : IsNextTurn before past cut
   pub opened_now : (opened.now ≡ cut.now) × (opened.faults ≡ before)
 
 -- A commit is durable whose gate is open in each image, whoever tells it.
@@ -84,18 +84,18 @@ pub record SettledRule (layout : Layout) (before k : ℕ) (turn : Turn) (past : 
   pub calm : past.failed ≡ None
   pub has : HasWork past.slots k false open_gate
   pub is : IsTurnBy turn act.Durable (owner layout k) has.work.commit has.work.flush
-  pub now : ComesNow before past turn
+  pub now : IsNextTurn before past turn
 
 -- the inode of the n-th record of a commit, and whether it has a record of an inode
-abbrev pub inode_at : SlotWork → ℕ → ℕ
-inode_at work n = (slice_index_or work.job.entries n no_entry).inode
+abbrev pub inode_of_record : SlotWork → ℕ → ℕ
+inode_of_record work n = (slice_index_or work.job.entries n no_entry).inode
 
 abbrev pub HasRecord : SlotWork → ℕ → Type 0
-HasRecord work inode = (n : ℕ) × (n < length work.job.entries) × (inode_at work n ≡ inode)
+HasRecord work inode = (n : ℕ) × (n < length work.job.entries) × (inode_of_record work n ≡ inode)
 
 -- of the durable commits with a record of an inode this one has the least stamp
 abbrev pub IsOldestOf : Slots → ℕ → SlotWork → ℕ → Type 0
-IsOldestOf slots k work n = (j : ℕ) (other : SlotWork) → j ≢ k → slots j ≡ Some other → other.settled ≡ true → HasRecord other (inode_at work n)
+IsOldestOf slots k work n = (j : ℕ) (other : SlotWork) → j ≢ k → slots j ≡ Some other → other.settled ≡ true → HasRecord other (inode_of_record work n)
     → work.job.stamp < other.job.stamp
 
 -- A record of a durable commit is placed, the oldest of its inode.
@@ -135,7 +135,7 @@ pub record EmptyRule (before core commit : ℕ) (turns : EmptyTurns) (past : Box
   pub cut_is : IsTurnBy turns.cut act.CutAt core commit flush
   pub opened_is : IsTurnBy turns.opened act.Opened core commit flush
   pub durable_is : IsTurnBy turns.durable act.Durable core commit flush
-  pub cut_now : ComesNow before past turns.cut
+  pub cut_now : IsNextTurn before past turns.cut
   pub opened_now : (turns.opened.now ≡ turns.cut.now) × (turns.opened.faults ≡ before)
   pub durable_now : (turns.durable.now ≡ turns.cut.now) × (turns.durable.faults ≡ before)
 

@@ -99,8 +99,8 @@ abbrev pub with_at : {X : Type 0} → (ℕ → X) → ℕ → X → ℕ → X
 with_at all place one other = if other == place then one else all other
 
 -- another commit in a slot, where it has one
-abbrev pub changed : Slots → ℕ → (SlotWork → SlotWork) → Slots
-changed slots k change = with_at slots k (option_map change (slots k))
+abbrev pub changed_slot : Slots → ℕ → (SlotWork → SlotWork) → Slots
+changed_slot slots k change = with_at slots k (option_map change (slots k))
 
 -- each slot once nothing is pending
 abbrev pub synced_slots : Slots → Slots
