@@ -1,5 +1,7 @@
 -- What is told by the rules goes on to fit, and makes the record.
-use Rattle.std.proofs.Common.{◌≡◌, ◌≤◌, ◌∷◌, ◌++◌, ◌∙◌, ℕ, Bool, true, false, cond, List, [], Option, Some, None, inl, inr, refl, sym, ap, subst, nat_eq}
+use Rattle.turn_laws.proofs.Behind.{stays_in}
+use Rattle.cut_laws.proofs.Basics.{below_or}
+use Rattle.std.proofs.Common.{◌≡◌, ◌≤◌, ◌∷◌, ◌++◌, ◌∙◌, ℕ, Bool, true, false, cond, List, [], Option, Some, None, inl, inr, refl, sym, ap, subst, nat_eq, length, arith}
 use Rattle.std.proofs.lemmas.List.{append-nil}
 use Rattle.sfs_base.proofs.BasicNumbers.{same_number, not_same}
 use Rattle.sfs_base.proofs.BasicTruth.{false_not_true}
@@ -9,7 +11,7 @@ use Rattle.tree_laws.specs.declared.turns.TurnAct.{TurnAct}
 use Rattle.tree_laws.specs.declared.turns.TurnAct.TheVariants as act
 use Rattle.cut_laws.specs.Rules.{IsOneOf}
 use Rattle.turn_laws.specs.Books.{CountsFaults}
-use Rattle.merge_laws.specs.Pens.{failed_in}
+use Rattle.merge_laws.specs.Pens.{failed_in, turns_of_core}
 use Rattle.merge_laws.proofs.Blocks.{same_or_not}
 use Rattle.merge_laws.proofs.Lists.{among_at, nothing_joined}
 use Rattle.stamp_table.specs.declared.event.Event.{Event}
@@ -17,9 +19,9 @@ use Rattle.stamp_table.specs.declared.event.Event.TheVariants.{Called, Told}
 use Rattle.stamp_table.specs.Events.{event_core}
 use Rattle.stamp_table.specs.Rule.{entries_by}
 use Rattle.slot_laws.specs.declared.label.Label.{Label}
-use Rattle.slot_laws.specs.Labels.{OwnTold, own_label, BoxPast, first_past, after_label, past_from, own_from}
+use Rattle.slot_laws.specs.Labels.{OwnTold, own_label, BoxPast, first_past, after_label, past_from, own_from, nothing_told}
 use Rattle.slot_laws.specs.Fits.{waiting_turns, PastFits}
-use Rattle.slot_laws.specs.Laws.{LawfulFits, OwnIs, PensMakeTheRecord, LabelsCountFaults, LabelsRise}
+use Rattle.slot_laws.specs.Laws.{LawfulFits, OwnIs, PensMakeTheRecord, LabelsCountFaults, LabelsRise, LabelsMergePens, AreOfCores, IsAtRest}
 use Rattle.slot_laws.proofs.Basics.{at_same, at_other, none_there}
 use Rattle.slot_laws.proofs.Labels.{label_fits}
 
@@ -117,3 +119,31 @@ labels_count_faults layout before most log moment may within front back turn who
 pub labels_rise : LabelsRise
 labels_rise layout before log moment may =
     (lawful_fits layout before log (first_past moment) (first_fits layout before moment) may).times.rise
+
+-- a core of which no event is tells nothing
+none_by : (log : List (Event Label)) (cores core : ℕ) → AreOfCores cores log → cores ≤ core → entries_by event_core core log ≡ []
+none_by [] cores core all above = refl
+none_by (event ∷ log) cores core all above =
+    ap (λ (b : Bool). cond b (event ∷ entries_by event_core core log) (entries_by event_core core log))
+    (not_same (event_core event) core (λ same. let low = all event (inl refl) in omega (arith, low, above, same)))
+    ∙ none_by log cores core (λ other one. all other (inr one)) above
+
+pub labels_merge_pens : LabelsMergePens
+labels_merge_pens layout before log moment pens may all have = record {
+  own = λ core fsyncs pen.
+      let is = have core fsyncs pen in
+      pens_make_the_record layout before log core moment may is.rests ∙ is.told;
+  cores = λ turn among. elim (below_or turn.core.0 (length pens)) [
+    | inl low ↦ low
+    | inr above ↦
+        let silent = none_by log (length pens) turn.core.0 all above in
+        let rests : IsAtRest (own_from (entries_by event_core turn.core.0 log) nothing_told) =
+        inl (ap (λ (l : List (Event Label)). (own_from l nothing_told).flight) silent) in
+        let none : turns_of_core turn.core.0 (past_from layout log (first_past moment)).turns ≡ [] =
+        pens_make_the_record layout before log turn.core.0 moment may rests
+        ∙ ap (λ (l : List (Event Label)). (own_from l nothing_told).told) silent in
+        absurd
+        (subst (λ (l : List Turn). IsOneOf l turn) none
+        (stays_in (λ (t : Turn). nat_eq t.core.0 turn.core.0) (past_from layout log (first_past moment)).turns turn among (same_number turn.core.0)))
+  ];
+}

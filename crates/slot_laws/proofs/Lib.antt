@@ -6,3 +6,4 @@ pub mod Turns
 pub mod Quiet
 pub mod Labels
 pub mod Lawful
+pub mod Worked

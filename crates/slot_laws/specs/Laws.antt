@@ -1,10 +1,10 @@
 -- The laws of labels, each of which a function of the module laws proves.
-use Rattle.std.specs.Prelude.{◌≡◌, ◌⊎◌, ◌≤◌, ℕ, true, List, None}
+use Rattle.std.specs.Prelude.{◌≡◌, ◌⊎◌, ◌≤◌, ◌<◌, ℕ, true, List, None, flat_map, length, slice_get, Some}
 use Rattle.sfs_image.specs.Super.{Layout}
 use Rattle.tree_laws.specs.declared.turns.Turn.{Turn}
 use Rattle.cut_laws.specs.Rules.{IsOneOf}
 use Rattle.merge_laws.specs.LeftByTurns.{TimesRise}
-use Rattle.merge_laws.specs.Pens.{CountAll, turns_of_core}
+use Rattle.merge_laws.specs.Pens.{CountAll, turns_of_core, FsyncTurns, MergesPens}
 use Rattle.stamp_table.specs.declared.event.Event.{Event}
 use Rattle.stamp_table.specs.Events.{event_core}
 use Rattle.stamp_table.specs.Rule.{entries_by}
@@ -43,3 +43,19 @@ LabelsCountFaults = (layout : Layout) (before most : ℕ) (log : List (Event Lab
 abbrev pub LabelsRise : Type 0
 LabelsRise = (layout : Layout) (before : ℕ) (log : List (Event Label)) (moment : ℕ) → MayFrom layout before log (first_past moment)
     → TimesRise (past_from layout log (first_past moment)).turns
+
+-- A pen has what its core told, and the core is at rest.
+pub record IsPenOf (core : ℕ) (log : List (Event Label)) (fsyncs : List FsyncTurns) : Type 0 where
+  pub rests : IsAtRest (own_from (entries_by event_core core log) nothing_told)
+  pub told : (own_from (entries_by event_core core log) nothing_told).told ≡ flat_map (λ one. one.turns) fsyncs
+
+-- Events of so many cores.
+abbrev pub AreOfCores : ℕ → List (Event Label) → Type 0
+AreOfCores cores log = (event : Event Label) → IsOneOf log event → event_core event < cores
+
+-- The record that labels make has each pen's turns in the pen's order, and no others.
+abbrev pub LabelsMergePens : Type 0
+LabelsMergePens = (layout : Layout) (before : ℕ) (log : List (Event Label)) (moment : ℕ) (pens : List (List FsyncTurns))
+    → MayFrom layout before log (first_past moment) → AreOfCores (length pens) log
+    → ((core : ℕ) (fsyncs : List FsyncTurns) → slice_get pens core ≡ Some fsyncs → IsPenOf core log fsyncs)
+    → MergesPens (past_from layout log (first_past moment)).turns pens

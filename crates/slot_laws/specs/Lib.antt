@@ -3,3 +3,4 @@ pub mod Labels
 pub mod Rules
 pub mod Fits
 pub mod Laws
+pub mod Worked

@@ -1,5 +1,6 @@
 //! What is proved of labels: each function's contract is a law.
-ghost use Rattle.slot_laws.specs.Laws.{LabelsCountFaults, LabelsRise, LawfulFits, OwnIs, PensMakeTheRecord};
+ghost use Rattle.slot_laws.specs.Laws.{LabelsCountFaults, LabelsMergePens, LabelsRise, LawfulFits, OwnIs, PensMakeTheRecord};
+ghost use Rattle.slot_laws.specs.Worked.{LabelsCanBeMet};
 
 /// What fits goes on to fit, whatever is told by the rules.
 pub fn lawful_fits()
@@ -24,4 +25,14 @@ pub fn labels_count_faults()
 /// The moments of turns don't fall.
 pub fn labels_rise()
     ensures { LabelsRise }
+{}
+
+/// A worked history of two cores may be told by the rules.
+pub fn labels_can_be_met()
+    ensures { LabelsCanBeMet }
+{}
+
+/// The record that labels make has each pen's turns in the pen's order, and no others.
+pub fn labels_merge_pens()
+    ensures { LabelsMergePens }
 {}
