@@ -6,4 +6,5 @@ pub mod Turns
 pub mod Quiet
 pub mod Labels
 pub mod Lawful
+pub mod Rings
 pub mod Worked

@@ -3,4 +3,5 @@ pub mod Labels
 pub mod Rules
 pub mod Fits
 pub mod Laws
+pub mod Rings
 pub mod Worked

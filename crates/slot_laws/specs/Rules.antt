@@ -86,17 +86,17 @@ pub record SettledRule (layout : Layout) (before k : ℕ) (turn : Turn) (past : 
   pub is : IsTurnBy turn act.Durable (owner layout k) has.work.commit has.work.flush
   pub now : IsNextTurn before past turn
 
--- the inode of the n-th record of a commit, and whether it has a record of an inode
-abbrev pub inode_of_record : SlotWork → ℕ → ℕ
-inode_of_record work n = (slice_index_or work.job.entries n no_entry).inode
+-- the inode of the n-th record of a job, and whether it has a record of an inode
+abbrev pub inode_in : Job → ℕ → ℕ
+inode_in job n = (slice_index_or job.entries n no_entry).inode
 
-abbrev pub HasRecord : SlotWork → ℕ → Type 0
-HasRecord work inode = (n : ℕ) × (n < length work.job.entries) × (inode_of_record work n ≡ inode)
+abbrev pub HasRecordOf : Job → ℕ → Type 0
+HasRecordOf job inode = (n : ℕ) × (n < length job.entries) × (inode_in job n ≡ inode)
 
--- of the durable commits with a record of an inode this one has the least stamp
+-- of the durable commits with a record of the inode of the n-th record this one has the least stamp
 abbrev pub IsOldestOf : Slots → ℕ → SlotWork → ℕ → Type 0
-IsOldestOf slots k work n = (j : ℕ) (other : SlotWork) → j ≢ k → slots j ≡ Some other → other.settled ≡ true → HasRecord other (inode_of_record work n)
-    → work.job.stamp < other.job.stamp
+IsOldestOf slots k work n = (j : ℕ) (other : SlotWork) → j ≢ k → slots j ≡ Some other → other.settled ≡ true
+    → HasRecordOf other.job (inode_in work.job n) → work.job.stamp < other.job.stamp
 
 -- A record of a durable commit is placed, the oldest of its inode.
 pub record PlacedRule (k n : ℕ) (past : BoxPast) : Type 0 where

@@ -1,5 +1,6 @@
 //! What is proved of labels: each function's contract is a law.
 ghost use Rattle.slot_laws.specs.Laws.{LabelsCountFaults, LabelsMergePens, LabelsRise, LawfulFits, OwnIs, PensMakeTheRecord};
+ghost use Rattle.slot_laws.specs.Rings.{SlotsCloseInOrder};
 ghost use Rattle.slot_laws.specs.Worked.{LabelsCanBeMet};
 
 /// What fits goes on to fit, whatever is told by the rules.
@@ -35,4 +36,9 @@ pub fn labels_can_be_met()
 /// The record that labels make has each pen's turns in the pen's order, and no others.
 pub fn labels_merge_pens()
     ensures { LabelsMergePens }
+{}
+
+/// A slot's gate is written shut only behind each commit with a smaller stamp that shares an inode.
+pub fn slots_close_in_order()
+    ensures { SlotsCloseInOrder }
 {}

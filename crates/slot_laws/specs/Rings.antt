@@ -1,0 +1,62 @@
+-- In which order slots close that have records of one inode.
+use Rattle.std.specs.Prelude.{◌≡◌, ◌≢◌, ◌<◌, ◌||◌, ◌∷◌, ◌++◌, ℕ, Bool, true, false, List, [], length, Some}
+use Rattle.sfs_base.specs.declared.numbers.CoreId.{CoreId}
+use Rattle.sfs_image.specs.Super.{Layout}
+use Rattle.journal_one.specs.Job.{Job}
+use Rattle.stamp_table.specs.declared.event.Event.{Event}
+use Rattle.stamp_table.specs.declared.event.Event.TheVariants.{Told}
+use Rattle.slot_laws.specs.declared.label.Label.{Label}
+use Rattle.slot_laws.specs.declared.label.Label.TheVariants as label
+use Rattle.slot_laws.specs.Slots.{SlotWork, Slots}
+use Rattle.slot_laws.specs.Labels.{BoxPast, first_past, after_event, past_from}
+use Rattle.slot_laws.specs.Rules.{inode_in, HasRecordOf, MayFrom}
+
+-- Two jobs have a record of one inode.
+abbrev pub ShareInode : Job → Job → Type 0
+ShareInode one other = (n : ℕ) × (n < length one.entries) × HasRecordOf other (inode_in one n)
+
+-- where a commit begins, no other that is not durable has a record of an inode of its
+abbrev pub BeginsApart : Event Label → BoxPast → Type 0
+BeginsApart (Told core (label.Began filling commit node stamp)) past =
+    (k : ℕ) (other : SlotWork) → past.slots k ≡ Some other → other.settled ≡ false → ShareInode filling.job other.job → ⊥
+BeginsApart _ past = Unit {0}
+
+-- so it is all along a history
+abbrev pub BeginApart : Layout → List (Event Label) → BoxPast → Type 0
+BeginApart layout [] past = Unit {0}
+BeginApart layout (event ∷ log) past = BeginsApart event past × BeginApart layout log (after_event layout event past)
+
+-- whether a record of a commit was placed since the commit is durable
+abbrev pub is_started : SlotWork → ℕ → Bool
+is_started work n = work.known.table_left n || work.known.table_read n
+
+-- Commits in slots that share an inode: of two one is durable; one that is not is later than each that is; and one of which the shared record
+-- was placed is earlier than each other durable one. Of a commit that is not durable no record was placed.
+pub record RingsFit (slots : Slots) : Type 0 where
+  pub apart : (j k : ℕ) (one other : SlotWork) → j ≢ k → slots j ≡ Some one → slots k ≡ Some other → one.settled ≡ false → other.settled ≡ false
+      → ShareInode one.job other.job → ⊥
+  pub later : (j k : ℕ) (one other : SlotWork) → j ≢ k → slots j ≡ Some one → slots k ≡ Some other → one.settled ≡ true → other.settled ≡ false
+      → ShareInode one.job other.job → one.job.stamp < other.job.stamp
+  pub started : (j k n : ℕ) (one other : SlotWork) → j ≢ k → slots j ≡ Some one → slots k ≡ Some other → one.settled ≡ true → other.settled ≡ true
+      → is_started one n ≡ true → n < length one.job.entries → HasRecordOf other.job (inode_in one.job n) → one.job.stamp < other.job.stamp
+  pub unplaced : (k : ℕ) (work : SlotWork) → slots k ≡ Some work → work.settled ≡ false → (n : ℕ) → is_started work n ≡ false
+
+-- Where a slot's gate is written shut, each other commit in a slot with a record of an inode of its has a greater stamp: those with smaller ones
+-- are in no slot any more.
+pub record ClosesInOrder (past : BoxPast) (k : ℕ) : Type 0 where
+  pub work : SlotWork
+  pub there : past.slots k ≡ Some work
+  pub order : (j : ℕ) (other : SlotWork) → j ≢ k → past.slots j ≡ Some other → ShareInode work.job other.job → work.job.stamp < other.job.stamp
+
+-- A label of a history says that a slot's gate is written shut.
+pub record IsGateShutIn (log : List (Event Label)) (k : ℕ) : Type 0 where
+  pub front : List (Event Label)
+  pub core : CoreId
+  pub done : Bool
+  pub back : List (Event Label)
+  pub whole : log ≡ front ++ Told core (label.Shut k done) ∷ back
+
+-- So it is at each such label, in a history by the rules in which commits begin apart.
+abbrev pub SlotsCloseInOrder : Type 0
+SlotsCloseInOrder = (layout : Layout) (before moment : ℕ) (log : List (Event Label)) (k : ℕ) → MayFrom layout before log (first_past moment)
+    → BeginApart layout log (first_past moment) → (shut : IsGateShutIn log k) → ClosesInOrder (past_from layout shut.front (first_past moment)) k
