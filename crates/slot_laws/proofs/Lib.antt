@@ -7,4 +7,5 @@ pub mod Quiet
 pub mod Labels
 pub mod Lawful
 pub mod Rings
+pub mod Follow
 pub mod Worked

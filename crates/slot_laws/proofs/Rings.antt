@@ -23,7 +23,7 @@ use Rattle.slot_laws.proofs.Labels.{label_fits}
 use Rattle.slot_laws.proofs.Lawful.{first_fits}
 
 -- sharing goes both ways
-share_back : (one other : Job) → ShareInode one other → ShareInode other one
+pub share_back : (one other : Job) → ShareInode one other → ShareInode other one
 share_back one other shares = (shares.2.0, shares.2.1, (shares.0, shares.1, sym shares.2.2))
 
 -- A commit was in the same slot before, with the same job, durable or not as it was; and each record that was placed was so, or is the oldest of
@@ -251,7 +251,7 @@ kept_as slots k work new there job settled marks =
 
 module _ (layout : Layout) (before : ℕ) where
   -- each label that may be told, where a commit begins apart, leaves what fits
-  rings_label : (core : ℕ) (teller : CoreId) (past : BoxPast) → PastFits layout before past → RingsFit past.slots → (fact : Label)
+  pub rings_label : (core : ℕ) (teller : CoreId) (past : BoxPast) → PastFits layout before past → RingsFit past.slots → (fact : Label)
       → MayLabel layout before core fact past → BeginsApart (Told teller fact) past → RingsFit (after_label layout core fact past).slots
   rings_label core teller past all fits label.Took rule apart = fits
   rings_label core teller past all fits label.Gave rule apart = fits
@@ -313,7 +313,7 @@ module _ (layout : Layout) (before : ℕ) where
       closes_at front back core k done (after_label layout teller.0 fact past) (label_fits layout before teller.0 past all fact may.0.1)
       (rings_label teller.0 teller past all fits fact may.0.1 apart.0) may.1 apart.1
 
-first_rings : RingsFit (λ k. None)
+pub first_rings : RingsFit (λ k. None)
 first_rings = record {
   apart = λ j k one other away here there aloft flying shares. none_there here;
   later = λ j k one other away here there durable flying shares. none_there here;

@@ -1,4 +1,8 @@
 -- In which order slots close that have records of one inode.
+use Rattle.turn_laws.specs.Books.{flush_at}
+use Rattle.cut_laws.specs.Rules.{IsOneOf}
+use Rattle.tree_laws.specs.declared.turns.Turn.{Turn}
+use Rattle.tree_laws.specs.declared.turns.TurnAct.TheVariants as act
 use Rattle.std.specs.Prelude.{◌≡◌, ◌≢◌, ◌<◌, ◌||◌, ◌∷◌, ◌++◌, ℕ, Bool, true, false, List, [], length, Some}
 use Rattle.sfs_base.specs.declared.numbers.CoreId.{CoreId}
 use Rattle.sfs_image.specs.Super.{Layout}
@@ -60,3 +64,40 @@ pub record IsGateShutIn (log : List (Event Label)) (k : ℕ) : Type 0 where
 abbrev pub SlotsCloseInOrder : Type 0
 SlotsCloseInOrder = (layout : Layout) (before moment : ℕ) (log : List (Event Label)) (k : ℕ) → MayFrom layout before log (first_past moment)
     → BeginApart layout log (first_past moment) → (shut : IsGateShutIn log k) → ClosesInOrder (past_from layout shut.front (first_past moment)) k
+
+-- A turn makes a commit durable.
+pub record IsSettling (turn : Turn) (work : SlotWork) : Type 0 where
+  pub did : turn.act ≡ act.Durable
+  pub number : turn.commit ≡ work.commit
+  pub own : flush_at turn ≡ work.flush
+
+-- Such a turn is among these.
+pub record WasSettled (turns : List Turn) (work : SlotWork) : Type 0 where
+  pub turn : Turn
+  pub among : IsOneOf turns turn
+  pub settles : IsSettling turn work
+
+-- One commit became durable before another.
+pub record WasSettledBefore (turns : List Turn) (one other : SlotWork) : Type 0 where
+  pub front : List Turn
+  pub turn : Turn
+  pub back : List Turn
+  pub whole : turns ≡ front ++ turn ∷ back
+  pub settles : IsSettling turn other
+  pub earlier : WasSettled front one
+
+-- Of two commits in slots that share an inode the one with the greater stamp is the newer: at most one is not durable, and it has the greater
+-- stamp; and of two durable ones the one with the smaller stamp became durable first.
+pub record StampsFollow (slots : Slots) (turns : List Turn) : Type 0 where
+  pub one_durable : (j k : ℕ) (one other : SlotWork) → j ≢ k → slots j ≡ Some one → slots k ≡ Some other → one.settled ≡ false → other.settled ≡ false
+      → ShareInode one.job other.job → ⊥
+  pub aloft : (j k : ℕ) (one other : SlotWork) → j ≢ k → slots j ≡ Some one → slots k ≡ Some other → one.settled ≡ true → other.settled ≡ false
+      → ShareInode one.job other.job → one.job.stamp < other.job.stamp
+  pub durable : (j k : ℕ) (one other : SlotWork) → j ≢ k → slots j ≡ Some one → slots k ≡ Some other → one.settled ≡ true → other.settled ≡ true
+      → ShareInode one.job other.job → one.job.stamp < other.job.stamp → WasSettledBefore turns one other
+
+-- So it is behind each history by the rules in which commits begin apart.
+abbrev pub GreaterStampsAreNewer : Type 0
+GreaterStampsAreNewer = (layout : Layout) (before moment : ℕ) (log : List (Event Label)) → MayFrom layout before log (first_past moment)
+    → BeginApart layout log (first_past moment)
+    → StampsFollow (past_from layout log (first_past moment)).slots (past_from layout log (first_past moment)).turns

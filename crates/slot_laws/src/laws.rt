@@ -1,6 +1,6 @@
 //! What is proved of labels: each function's contract is a law.
 ghost use Rattle.slot_laws.specs.Laws.{LabelsCountFaults, LabelsMergePens, LabelsRise, LawfulFits, OwnIs, PensMakeTheRecord};
-ghost use Rattle.slot_laws.specs.Rings.{SlotsCloseInOrder};
+ghost use Rattle.slot_laws.specs.Rings.{GreaterStampsAreNewer, SlotsCloseInOrder};
 ghost use Rattle.slot_laws.specs.Worked.{LabelsCanBeMet};
 
 /// What fits goes on to fit, whatever is told by the rules.
@@ -41,4 +41,9 @@ pub fn labels_merge_pens()
 /// A slot's gate is written shut only behind each commit with a smaller stamp that shares an inode.
 pub fn slots_close_in_order()
     ensures { SlotsCloseInOrder }
+{}
+
+/// Of commits in slots that share an inode the one with the greater stamp is the newer.
+pub fn greater_stamps_are_newer()
+    ensures { GreaterStampsAreNewer }
 {}
