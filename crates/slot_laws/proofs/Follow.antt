@@ -1,15 +1,13 @@
 -- Of commits that share an inode the one with the greater stamp became durable later.
-use Rattle.std.proofs.Common.{◌≡◌, ◌≢◌, ◌⊎◌, ℕ, ◌<◌, Bool, true, false, List, [], ◌∷◌, ◌++◌, Option, Some, None, inl, inr, refl, sym, ap, subst, ◌∙◌, arith}
 use Rattle.std.specs.Prelude.{option_map}
+use Rattle.std.proofs.Common.{◌≡◌, ◌≢◌, ◌<◌, ◌∷◌, ◌++◌, ◌∙◌, ℕ, true, false, List, [], Some, None, inl, inr, refl, sym, ap, subst, arith}
 use Rattle.std.proofs.lemmas.List.{append-nil, append_assoc}
 use Rattle.sfs_base.proofs.BasicOptions.{some_same}
 use Rattle.sfs_base.proofs.BasicTruth.{not_both}
-use Rattle.sfs_base.specs.declared.numbers.CoreId.{CoreId}
 use Rattle.sfs_image.specs.Super.{Layout}
 use Rattle.journal_one.specs.Job.{Job}
 use Rattle.tree_laws.specs.declared.turns.Turn.{Turn}
 use Rattle.cut_laws.specs.Closure.{Flush}
-use Rattle.cut_laws.specs.Rules.{IsOneOf}
 use Rattle.cut_laws.proofs.Basics.{in_left}
 use Rattle.merge_laws.proofs.Blocks.{same_or_not}
 use Rattle.merge_laws.proofs.Lists.{among_at}
@@ -18,10 +16,10 @@ use Rattle.stamp_table.specs.declared.event.Event.TheVariants.{Called, Told}
 use Rattle.slot_laws.specs.declared.label.Label.{Label}
 use Rattle.slot_laws.specs.declared.label.Label.TheVariants as label
 use Rattle.slot_laws.specs.Slots.{SlotKnown, SlotWork, begun_work, knowing, known_synced, known_filled, known_placed, known_gated, settled_work, open_gate, shut_gate, Slots, with_at, changed_slot, synced_slots}
-use Rattle.slot_laws.specs.Labels.{fsync_told, BoxPast, first_past, after_label, after_event, past_from}
+use Rattle.slot_laws.specs.Labels.{fsync_told, BoxPast, first_past, after_label, past_from}
 use Rattle.slot_laws.specs.Rules.{MayLabel, MayFrom}
 use Rattle.slot_laws.specs.Fits.{PastFits}
-use Rattle.slot_laws.specs.Rings.{ShareInode, BeginsApart, BeginApart, RingsFit, IsSettling, WasSettled, WasSettledBefore, StampsFollow, GreaterStampsAreNewer}
+use Rattle.slot_laws.specs.Rings.{ShareInode, BeginApart, RingsFit, IsSettling, WasSettled, WasSettledBefore, StampsFollow, GreaterStampsAreNewer}
 use Rattle.slot_laws.proofs.Basics.{at_same, at_other, none_there, mapped_some}
 use Rattle.slot_laws.proofs.Labels.{label_fits}
 use Rattle.slot_laws.proofs.Lawful.{first_fits}

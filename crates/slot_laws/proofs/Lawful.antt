@@ -1,6 +1,4 @@
 -- What is told by the rules goes on to fit, and makes the record.
-use Rattle.turn_laws.proofs.Behind.{stays_in}
-use Rattle.cut_laws.proofs.Basics.{below_or}
 use Rattle.std.proofs.Common.{◌≡◌, ◌≤◌, ◌∷◌, ◌++◌, ◌∙◌, ℕ, Bool, true, false, cond, List, [], Option, Some, None, inl, inr, refl, sym, ap, subst, nat_eq, length, arith}
 use Rattle.std.proofs.lemmas.List.{append-nil}
 use Rattle.sfs_base.proofs.BasicNumbers.{same_number, not_same}
@@ -10,7 +8,9 @@ use Rattle.tree_laws.specs.declared.turns.Turn.{Turn}
 use Rattle.tree_laws.specs.declared.turns.TurnAct.{TurnAct}
 use Rattle.tree_laws.specs.declared.turns.TurnAct.TheVariants as act
 use Rattle.cut_laws.specs.Rules.{IsOneOf}
+use Rattle.cut_laws.proofs.Basics.{below_or}
 use Rattle.turn_laws.specs.Books.{CountsFaults}
+use Rattle.turn_laws.proofs.Behind.{stays_in}
 use Rattle.merge_laws.specs.Pens.{failed_in, turns_of_core}
 use Rattle.merge_laws.proofs.Blocks.{same_or_not}
 use Rattle.merge_laws.proofs.Lists.{among_at, nothing_joined}

@@ -8,4 +8,5 @@ pub mod Labels
 pub mod Lawful
 pub mod Rings
 pub mod Follow
+pub mod Few
 pub mod Worked

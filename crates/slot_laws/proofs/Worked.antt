@@ -1,10 +1,10 @@
 -- The worked history may be told.
-use Rattle.std.proofs.Common.{◌≡◌, ◌≢◌, ℕ, zero, suc, ◌<◌, Bool, true, false, List, [], ◌∷◌, ◌++◌, Some, None, inl, inr, refl, sym, ap, subst, ◌∙◌, arith, ◌⊎◌}
+use Rattle.std.proofs.Common.{◌≡◌, ◌≢◌, ◌<◌, ◌∷◌, ◌++◌, ◌∙◌, ◌⊎◌, ℕ, zero, suc, Bool, true, false, List, [], Some, None, inl, inr, refl, sym, ap, subst, arith}
+use Rattle.sfs_base.proofs.BasicOptions.{some_same}
 use Rattle.sfs_image.specs.Super.{Layout}
 use Rattle.journal_one.specs.Job.{fill_count, Place, Job}
 use Rattle.journal_one.specs.declared.slot.Filling.{Filling}
 use Rattle.cut_laws.specs.Closure.{Flush}
-use Rattle.sfs_base.proofs.BasicOptions.{some_same}
 use Rattle.merge_laws.proofs.Blocks.{same_or_not}
 use Rattle.stamp_table.specs.declared.event.Event.{Event}
 use Rattle.stamp_table.specs.declared.event.Event.TheVariants.{Called, Told}
@@ -241,11 +241,38 @@ module _ (own other : Filling) (own_is : BeginsIn own 0 1) (other_is : BeginsIn 
             (
               (refl, tt),
               (
-                (refl, record { calm = refl; own = refl; has = record { work = _; there = refl; aloft = refl; gate_is = refl }; within = other_piece 0 (omega arith) }),
                 (
-                  (refl, record { calm = refl; own = refl; has = record { work = _; there = refl; aloft = refl; gate_is = refl }; within = other_piece 1 (omega arith) }),
+                  refl,
+                  record {
+                    calm = refl;
+                    own = refl;
+                    has = record { work = _; there = refl; aloft = refl; gate_is = refl };
+                    within = other_piece
+                        0 (omega arith);
+                  },
+                ),
+                (
                   (
-                    (refl, record { calm = refl; own = refl; has = record { work = _; there = refl; aloft = refl; gate_is = refl }; within = other_piece 2 (omega arith) }),
+                    refl,
+                    record {
+                      calm = refl;
+                      own = refl;
+                      has = record { work = _; there = refl; aloft = refl; gate_is = refl };
+                      within =
+                          other_piece 1 (omega arith);
+                    },
+                  ),
+                  (
+                    (
+                      refl,
+                      record {
+                        calm = refl;
+                        own = refl;
+                        has = record { work = _; there = refl; aloft = refl; gate_is = refl };
+                        within =
+                            other_piece 2 (omega arith);
+                      },
+                    ),
                     (
                       (refl, refl),
                       (
@@ -425,7 +452,8 @@ module _ (own other : Filling) (own_is : BeginsIn own 0 1) (other_is : BeginsIn 
 
       by : (k ≡ 2) ⊎ (k ≢ 2) → own.job.stamp < work.job.stamp
       by (inl second) =
-          let same = some_same (sym (at_same (own_begun own 0 1).slots 2 (Some (begun_work other.job 2 (record { node = 0; stamp = 1 }))) k second) ∙ was.there) in
+          let same = some_same (sym (at_same (own_begun own 0 1).slots 2 (Some (begun_work other.job 2 (record { node = 0; stamp = 1 }))) k second)
+          ∙ was.there) in
           let drawn : work.job.stamp ≡ 2 =
           ap (λ (job : Job). job.stamp) was.job ∙ ap (λ (w : SlotWork). w.job.stamp) (sym same) ∙ other_is.stamp in
           let first = own_is.stamp in

@@ -59,3 +59,8 @@ LabelsMergePens = (layout : Layout) (before : ℕ) (log : List (Event Label)) (m
     → MayFrom layout before log (first_past moment) → AreOfCores (length pens) log
     → ((core : ℕ) (fsyncs : List FsyncTurns) → slice_get pens core ≡ Some fsyncs → IsPenOf core log fsyncs)
     → MergesPens (past_from layout log (first_past moment)).turns pens
+
+-- No commit stamp is above the number of numbers that were given.
+abbrev pub StampsAreFew : Type 0
+StampsAreFew = (layout : Layout) (before : ℕ) (log : List (Event Label)) (moment : ℕ) → MayFrom layout before log (first_past moment)
+    → (past_from layout log (first_past moment)).stamps ≤ (past_from layout log (first_past moment)).commits

@@ -1,12 +1,12 @@
 -- In which order slots close that have records of one inode.
-use Rattle.turn_laws.specs.Books.{flush_at}
-use Rattle.cut_laws.specs.Rules.{IsOneOf}
-use Rattle.tree_laws.specs.declared.turns.Turn.{Turn}
-use Rattle.tree_laws.specs.declared.turns.TurnAct.TheVariants as act
 use Rattle.std.specs.Prelude.{◌≡◌, ◌≢◌, ◌<◌, ◌||◌, ◌∷◌, ◌++◌, ℕ, Bool, true, false, List, [], length, Some}
 use Rattle.sfs_base.specs.declared.numbers.CoreId.{CoreId}
 use Rattle.sfs_image.specs.Super.{Layout}
 use Rattle.journal_one.specs.Job.{Job}
+use Rattle.tree_laws.specs.declared.turns.Turn.{Turn}
+use Rattle.tree_laws.specs.declared.turns.TurnAct.TheVariants as act
+use Rattle.cut_laws.specs.Rules.{IsOneOf}
+use Rattle.turn_laws.specs.Books.{flush_at}
 use Rattle.stamp_table.specs.declared.event.Event.{Event}
 use Rattle.stamp_table.specs.declared.event.Event.TheVariants.{Told}
 use Rattle.slot_laws.specs.declared.label.Label.{Label}

@@ -1,5 +1,5 @@
 //! What is proved of labels: each function's contract is a law.
-ghost use Rattle.slot_laws.specs.Laws.{LabelsCountFaults, LabelsMergePens, LabelsRise, LawfulFits, OwnIs, PensMakeTheRecord};
+ghost use Rattle.slot_laws.specs.Laws.{LabelsCountFaults, LabelsMergePens, LabelsRise, LawfulFits, OwnIs, PensMakeTheRecord, StampsAreFew};
 ghost use Rattle.slot_laws.specs.Rings.{GreaterStampsAreNewer, SlotsCloseInOrder};
 ghost use Rattle.slot_laws.specs.Worked.{LabelsCanBeMet};
 
@@ -46,4 +46,9 @@ pub fn slots_close_in_order()
 /// Of commits in slots that share an inode the one with the greater stamp is the newer.
 pub fn greater_stamps_are_newer()
     ensures { GreaterStampsAreNewer }
+{}
+
+/// No commit stamp is above the number of numbers that were given.
+pub fn stamps_are_few()
+    ensures { StampsAreFew }
 {}
