@@ -19,17 +19,17 @@ use Rattle.slot_laws.specs.Slots.{SlotKnown, SlotWork, begun_work, knowing, know
 use Rattle.slot_laws.specs.Labels.{fsync_told, BoxPast, first_past, after_label, past_from}
 use Rattle.slot_laws.specs.Rules.{MayLabel, MayFrom}
 use Rattle.slot_laws.specs.Fits.{PastFits}
-use Rattle.slot_laws.specs.Rings.{ShareInode, BeginApart, RingsFit, IsSettling, WasSettled, WasSettledBefore, StampsFollow, GreaterStampsAreNewer}
+use Rattle.slot_laws.specs.Rings.{ShareInode, BeginApart, RingsFit, IsSettling, WasSettled, WasSettledBefore, StampsFollow, GreaterStampsAreNewer, AreInSlots}
 use Rattle.slot_laws.proofs.Basics.{at_same, at_other, none_there, mapped_some}
 use Rattle.slot_laws.proofs.Labels.{label_fits}
 use Rattle.slot_laws.proofs.Lawful.{first_fits}
-use Rattle.slot_laws.proofs.Rings.{share_back, rings_label, first_rings}
+use Rattle.slot_laws.proofs.Rings.{share_back, rings_label, first_rings, in_slots}
 
 -- What became durable did so by its turn, and in the order of the stamps.
 record TurnsFollow (slots : Slots) (turns : List Turn) : Type 0 where
   settled : (k : ℕ) (work : SlotWork) → slots k ≡ Some work → work.settled ≡ true → WasSettled turns work
-  order : (j k : ℕ) (one other : SlotWork) → j ≢ k → slots j ≡ Some one → slots k ≡ Some other → one.settled ≡ true → other.settled ≡ true
-      → ShareInode one.job other.job → one.job.stamp < other.job.stamp → WasSettledBefore turns one other
+  order : (j k : ℕ) (one other : SlotWork) → AreInSlots slots j k one other true true → ShareInode one.job other.job → one.job.stamp < other.job.stamp
+      → WasSettledBefore turns one other
 
 -- A commit was in the same slot before, and is told the same but for what is known.
 record CameWith (slots : Slots) (k : ℕ) (new : SlotWork) : Type 0 where
@@ -68,12 +68,17 @@ follow_on slots later turns more follows come = record {
       let was = come k new there in
       settled_still turns more new
       (settled_of turns was.work new was.commit was.flush (follows.settled k was.work was.there (sym was.settled ∙ durable)));
-  order = λ j k one other away here there durable too shares low.
+  order = λ j k one other pair shares low.
+      let away = pair.away in
+      let here = pair.here in
+      let there = pair.there in
+      let durable = pair.one_is in
+      let too = pair.other_is in
       let was = come j one here in
       let had = come k other there in
       let shared = subst (λ (job : Job). ShareInode job had.work.job) was.job (subst (ShareInode one.job) had.job shares) in
       let less = subst (λ (job : Job). job.stamp < had.work.job.stamp) was.job (subst (λ (job : Job). one.job.stamp < job.stamp) had.job low) in
-      let before = follows.order j k was.work had.work away was.there had.there (sym was.settled ∙ durable) (sym had.settled ∙ too) shared less in
+      let before = follows.order j k was.work had.work (in_slots away was.there had.there (sym was.settled ∙ durable) (sym had.settled ∙ too)) shared less in
       before_still turns more one other (record {
         front = before.front;
         turn = before.turn;
@@ -119,8 +124,13 @@ begun_follows : (slots : Slots) (turns : List Turn) (k : ℕ) (job : Job) (commi
     → TurnsFollow (with_at slots k (Some (begun_work job commit flush))) turns
 begun_follows slots turns k job commit flush follows = record {
   settled = λ j work there durable. follows.settled j work (before j work there durable) durable;
-  order = λ j i one other away here there durable too shares low.
-      follows.order j i one other away (before j one here durable) (before i other there too) durable too shares low;
+  order = λ j i one other pair shares low.
+      let away = pair.away in
+      let here = pair.here in
+      let there = pair.there in
+      let durable = pair.one_is in
+      let too = pair.other_is in
+      follows.order j i one other (in_slots away (before j one here durable) (before i other there too) durable too) shares low;
 }
   where
     before : (j : ℕ) (work : SlotWork) → with_at slots k (Some (begun_work job commit flush)) j ≡ Some work → work.settled ≡ true → slots j ≡ Some work
@@ -133,39 +143,44 @@ begun_follows slots turns k job commit flush follows = record {
     ]
 
 -- a commit becomes durable by the last turn, behind all that it shares an inode with
-settled_follows : (slots : Slots) (turns : List Turn) (k : ℕ) (turn : Turn) (work : SlotWork) → RingsFit slots → TurnsFollow slots turns
+settled_follows : (slots : Slots) (turns : List Turn) (k : ℕ) (turn : Turn) (work : SlotWork) → RingsFit slots × TurnsFollow slots turns
     → slots k ≡ Some work × (work.settled ≡ false) → IsSettling turn work → TurnsFollow (changed_slot slots k settled_work) (turns ++ turn ∷ [])
-settled_follows slots turns k turn work rings follows at settles = record {
+settled_follows slots turns k turn work fits at settles = record {
   settled = λ j other there durable. elim (same_or_not j k) [
     | inl same ↦ subst (WasSettled (turns ++ turn ∷ [])) (is j other there same) (record {
       turn = turn;
       among = among_at turns turn [];
       settles = settling_of turn work (settled_work work) refl refl settles;
     })
-    | inr apart ↦ settled_still turns (turn ∷ []) other (follows.settled j other (before j other there apart) durable)
+    | inr apart ↦ settled_still turns (turn ∷ []) other (fits.1.settled j other (before j other there apart) durable)
   ];
-  order = λ j i one other away here there durable too shares low. elim (same_or_not i k) [
-    | inl at_i ↦
-        let off : j ≢ k = λ same. away (same ∙ sym at_i) in
-        subst (WasSettledBefore (turns ++ turn ∷ []) one) (is i other there at_i) (record {
-          front = turns;
-          turn = turn;
-          back = [];
-          whole = refl;
-          settles = settling_of turn work (settled_work work) refl refl settles;
-          earlier = follows.settled j one (before j one here off) durable;
-        })
-    | inr out ↦ elim (same_or_not j k) [
-      | inl at_j ↦
-          let later = rings.later i k other work out (before i other there out) at.0 too at.1
-          (share_back work.job other.job (subst (λ (w : SlotWork). ShareInode w.job other.job) (sym (is j one here at_j)) shares)) in
-          let first = subst (λ (w : SlotWork). w.job.stamp < other.job.stamp) (sym (is j one here at_j)) low in
-          absurd (omega (arith, later, first))
-      | inr off ↦
-          before_still turns (turn ∷ []) one other
-          (follows.order j i one other away (before j one here off) (before i other there out) durable too shares low)
-    ]
-  ];
+  order = λ j i one other pair shares low.
+      let away = pair.away in
+      let here = pair.here in
+      let there = pair.there in
+      let durable = pair.one_is in
+      let too = pair.other_is in elim (same_or_not i k) [
+        | inl at_i ↦
+            let off : j ≢ k = λ same. away (same ∙ sym at_i) in
+            subst (WasSettledBefore (turns ++ turn ∷ []) one) (is i other there at_i) (record {
+              front = turns;
+              turn = turn;
+              back = [];
+              whole = refl;
+              settles = settling_of turn work (settled_work work) refl refl settles;
+              earlier = fits.1.settled j one (before j one here off) durable;
+            })
+        | inr out ↦ elim (same_or_not j k) [
+          | inl at_j ↦
+              let later = fits.0.later i k other work (in_slots out (before i other there out) at.0 too at.1)
+              (share_back work.job other.job (subst (λ (w : SlotWork). ShareInode w.job other.job) (sym (is j one here at_j)) shares)) in
+              let first = subst (λ (w : SlotWork). w.job.stamp < other.job.stamp) (sym (is j one here at_j)) low in
+              absurd (omega (arith, later, first))
+          | inr off ↦
+              before_still turns (turn ∷ []) one other
+              (fits.1.order j i one other (in_slots away (before j one here off) (before i other there out) durable too) shares low)
+        ]
+      ];
 }
   where
     before : (j : ℕ) (other : SlotWork) → changed_slot slots k settled_work j ≡ Some other → j ≢ k → slots j ≡ Some other
@@ -197,7 +212,7 @@ module _ (layout : Layout) (before : ℕ) where
       follow_on past.slots (changed_slot past.slots k (knowing (known_gated done open_gate))) past.turns (cut ∷ opened ∷ []) follows
       (changed_with past.slots k (known_gated done open_gate))
   follow_label core past rings follows (label.Settled k turn) rule =
-      settled_follows past.slots past.turns k turn rule.has.work rings follows (rule.has.there, rule.has.aloft)
+      settled_follows past.slots past.turns k turn rule.has.work (rings, follows) (rule.has.there, rule.has.aloft)
       (record { did = rule.is.did_is; number = rule.is.commit_is; own = rule.is.flush_is })
   follow_label core past rings follows (label.Looked turn) rule = follows
   follow_label core past rings follows (label.Placed k n done) rule =
@@ -228,6 +243,11 @@ greater_stamps_are_newer layout before moment log may apart =
     follow_all layout before log (first_past moment) (first_fits layout before moment) first_rings
     (record {
       settled = λ k work there durable. none_there there;
-      order = λ j k one other away here there durable too shares low. none_there here;
+      order = λ j k one other pair shares low.
+          let away = pair.away in
+          let here = pair.here in
+          let there = pair.there in
+          let durable = pair.one_is in
+          let too = pair.other_is in none_there here;
     })
     may apart

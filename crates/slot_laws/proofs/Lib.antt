@@ -9,4 +9,6 @@ pub mod Lawful
 pub mod Rings
 pub mod Follow
 pub mod Few
+pub mod Comes
+pub mod WorkedBegins
 pub mod Worked

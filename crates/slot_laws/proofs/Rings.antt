@@ -15,12 +15,16 @@ use Rattle.slot_laws.specs.declared.label.Label.{Label}
 use Rattle.slot_laws.specs.declared.label.Label.TheVariants as label
 use Rattle.slot_laws.specs.Slots.{SlotWork, begun_work, knowing, known_synced, known_filled, known_placed, known_gated, settled_work, open_gate, shut_gate, Slots, with_at, with_number, without_number, changed_slot, synced_slots}
 use Rattle.slot_laws.specs.Labels.{BoxPast, first_past, after_label, past_from, fsync_told}
-use Rattle.slot_laws.specs.Rules.{inode_in, HasRecordOf, IsOldestOf, MayLabel, MayFrom, ShutRule}
+use Rattle.slot_laws.specs.Rules.{inode_of_nth, HasRecordOf, IsOldestOf, MayLabel, MayFrom, ShutRule}
 use Rattle.slot_laws.specs.Fits.{PastFits}
-use Rattle.slot_laws.specs.Rings.{ShareInode, BeginsApart, BeginApart, is_started, RingsFit, ClosesInOrder, SlotsCloseInOrder}
+use Rattle.slot_laws.specs.Rings.{ShareInode, BeginsApart, BeginApart, is_started, RingsFit, ClosesInOrder, SlotsCloseInOrder, AreInSlots}
 use Rattle.slot_laws.proofs.Basics.{at_same, at_other, none_there, mapped_some}
 use Rattle.slot_laws.proofs.Labels.{label_fits}
 use Rattle.slot_laws.proofs.Lawful.{first_fits}
+
+module _ {slots : Slots} {j k : ℕ} {one other : SlotWork} {durable too : Bool} where
+  pub in_slots : j ≢ k → slots j ≡ Some one → slots k ≡ Some other → one.settled ≡ durable → other.settled ≡ too → AreInSlots slots j k one other durable too
+  in_slots away here there one_is other_is = record { away = away; here = here; there = there; one_is = one_is; other_is = other_is }
 
 -- sharing goes both ways
 pub share_back : (one other : Job) → ShareInode one other → ShareInode other one
@@ -40,24 +44,44 @@ came_itself slots k work there = record { work = work; there = there; job = refl
 
 rings_move : (slots later : Slots) → RingsFit slots → ((k : ℕ) (new : SlotWork) → later k ≡ Some new → CameAs slots k new) → RingsFit later
 rings_move slots later fits come = record {
-  apart = λ j k one other away here there aloft flying shares.
+  apart = λ j k one other pair shares.
+      let away = pair.away in
+      let here = pair.here in
+      let there = pair.there in
+      let aloft = pair.one_is in
+      let flying = pair.other_is in
       let was = come j one here in
       let had = come k other there in
-      fits.apart j k was.work had.work away was.there had.there (sym was.settled ∙ aloft) (sym had.settled ∙ flying) (shares_before was had shares);
-  later = λ j k one other away here there durable flying shares.
+      fits.apart j k was.work had.work (in_slots away was.there had.there (sym was.settled ∙ aloft) (sym had.settled ∙ flying)) (shares_before was had shares);
+  later = λ j k one other pair shares.
+      let away = pair.away in
+      let here = pair.here in
+      let there = pair.there in
+      let durable = pair.one_is in
+      let flying = pair.other_is in
       let was = come j one here in
       let had = come k other there in
       stamps was had
-      (fits.later j k was.work had.work away was.there had.there (sym was.settled ∙ durable) (sym had.settled ∙ flying) (shares_before was had shares));
-  started = λ j k n one other away here there durable too mark low shares.
+      (fits.later j k was.work had.work (in_slots away was.there had.there (sym was.settled ∙ durable) (sym had.settled
+      ∙ flying)) (shares_before was had shares));
+  started = λ j k one other pair begun_placing.
+      let away = pair.away in
+      let here = pair.here in
+      let there = pair.there in
+      let durable = pair.one_is in
+      let too = pair.other_is in
+      let n = begun_placing.n in
+      let mark = begun_placing.placed in
+      let low = begun_placing.within in
+      let shares = begun_placing.shared in
       let was = come j one here in
       let had = come k other there in
-      let shared = subst (λ (i : ℕ). HasRecordOf had.work.job i) (ap (λ (job : Job). inode_in job n) was.job)
-      (subst (λ (job : Job). HasRecordOf job (inode_in one.job n)) had.job shares) in
+      let shared = subst (λ (i : ℕ). HasRecordOf had.work.job i) (ap (λ (job : Job). inode_of_nth job n) was.job)
+      (subst (λ (job : Job). HasRecordOf job (inode_of_nth one.job n)) had.job shares) in
       stamps was had (elim (was.marks n mark) [
         | inl before ↦
-            fits.started j k n was.work had.work away was.there had.there (sym was.settled ∙ durable) (sym had.settled ∙ too) before
-            (subst (λ (job : Job). n < length job.entries) was.job low) shared
+            fits.started j k was.work had.work (in_slots away was.there had.there (sym was.settled ∙ durable) (sym had.settled ∙ too))
+            (record { n = n; placed = before; within = (subst (λ (job : Job). n < length job.entries) was.job low); shared = shared })
         | inr oldest ↦ oldest.1 k had.work (λ same. away (sym same)) had.there (sym had.settled ∙ too) shared
       ]);
   unplaced = λ k work there aloft n. unplaced_then k work there aloft n (true_or_false (is_started work n));
@@ -162,31 +186,51 @@ begun_fits : (slots : Slots) (k : ℕ) (job : Job) (commit : ℕ) (flush : Flush
     → ((j : ℕ) (other : SlotWork) → slots j ≡ Some other → other.settled ≡ false → ShareInode job other.job → ⊥)
     → RingsFit (with_at slots k (Some (begun_work job commit flush)))
 begun_fits slots k job commit flush fits greatest apart_begun = record {
-  apart = λ j i one other away here there aloft flying shares. elim (same_or_not j k) [
-    | inl at_j ↦
-        let off : i ≢ k = λ same. away (at_j ∙ sym same) in
-        apart_begun i other (before i other there off) flying (subst (λ (w : SlotWork). ShareInode w.job other.job) (sym (begun j one here at_j)) shares)
-    | inr off ↦ elim (same_or_not i k) [
-      | inl at_i ↦
-          apart_begun j one (before j one here off) aloft
-          (share_back one.job job (subst (λ (w : SlotWork). ShareInode one.job w.job) (sym (begun i other there at_i)) shares))
-      | inr out ↦ fits.apart j i one other away (before j one here off) (before i other there out) aloft flying shares
-    ]
-  ];
-  later = λ j i one other away here there durable flying shares. elim (same_or_not j k) [
-    | inl at_j ↦ absurd (not_both durable (ap (λ (w : SlotWork). w.settled) (sym (begun j one here at_j))))
-    | inr off ↦ elim (same_or_not i k) [
-      | inl at_i ↦ subst (λ (w : SlotWork). one.job.stamp < w.job.stamp) (begun i other there at_i) (greatest j one (before j one here off))
-      | inr out ↦ fits.later j i one other away (before j one here off) (before i other there out) durable flying shares
-    ]
-  ];
-  started = λ j i n one other away here there durable too mark low shares. elim (same_or_not j k) [
-    | inl at_j ↦ absurd (not_both durable (ap (λ (w : SlotWork). w.settled) (sym (begun j one here at_j))))
-    | inr off ↦ elim (same_or_not i k) [
-      | inl at_i ↦ absurd (not_both too (ap (λ (w : SlotWork). w.settled) (sym (begun i other there at_i))))
-      | inr out ↦ fits.started j i n one other away (before j one here off) (before i other there out) durable too mark low shares
-    ]
-  ];
+  apart = λ j i one other pair shares.
+      let away = pair.away in
+      let here = pair.here in
+      let there = pair.there in
+      let aloft = pair.one_is in
+      let flying = pair.other_is in elim (same_or_not j k) [
+        | inl at_j ↦
+            let off : i ≢ k = λ same. away (at_j ∙ sym same) in
+            apart_begun i other (before i other there off) flying (subst (λ (w : SlotWork). ShareInode w.job other.job) (sym (begun j one here at_j)) shares)
+        | inr off ↦ elim (same_or_not i k) [
+          | inl at_i ↦
+              apart_begun j one (before j one here off) aloft
+              (share_back one.job job (subst (λ (w : SlotWork). ShareInode one.job w.job) (sym (begun i other there at_i)) shares))
+          | inr out ↦ fits.apart j i one other (in_slots away (before j one here off) (before i other there out) aloft flying) shares
+        ]
+      ];
+  later = λ j i one other pair shares.
+      let away = pair.away in
+      let here = pair.here in
+      let there = pair.there in
+      let durable = pair.one_is in
+      let flying = pair.other_is in elim (same_or_not j k) [
+        | inl at_j ↦ absurd (not_both durable (ap (λ (w : SlotWork). w.settled) (sym (begun j one here at_j))))
+        | inr off ↦ elim (same_or_not i k) [
+          | inl at_i ↦ subst (λ (w : SlotWork). one.job.stamp < w.job.stamp) (begun i other there at_i) (greatest j one (before j one here off))
+          | inr out ↦ fits.later j i one other (in_slots away (before j one here off) (before i other there out) durable flying) shares
+        ]
+      ];
+  started = λ j i one other pair begun_placing.
+      let away = pair.away in
+      let here = pair.here in
+      let there = pair.there in
+      let durable = pair.one_is in
+      let too = pair.other_is in
+      let n = begun_placing.n in
+      let mark = begun_placing.placed in
+      let low = begun_placing.within in
+      let shares = begun_placing.shared in elim (same_or_not j k) [
+        | inl at_j ↦ absurd (not_both durable (ap (λ (w : SlotWork). w.settled) (sym (begun j one here at_j))))
+        | inr off ↦ elim (same_or_not i k) [
+          | inl at_i ↦ absurd (not_both too (ap (λ (w : SlotWork). w.settled) (sym (begun i other there at_i))))
+          | inr out ↦ fits.started j i one other (in_slots away (before j one here off) (before i other there out) durable too)
+              (record { n = n; placed = mark; within = low; shared = shares })
+        ]
+      ];
   unplaced = λ j work there aloft n. elim (same_or_not j k) [
     | inl at_j ↦ subst (λ (w : SlotWork). is_started w n ≡ false) (begun j work there at_j) refl
     | inr off ↦ fits.unplaced j work (before j work there off) aloft n
@@ -203,31 +247,51 @@ begun_fits slots k job commit flush fits greatest apart_begun = record {
 settled_fits : (slots : Slots) (k : ℕ) (work : SlotWork) → RingsFit slots → slots k ≡ Some work → work.settled ≡ false
     → RingsFit (changed_slot slots k settled_work)
 settled_fits slots k work fits there aloft = record {
-  apart = λ j i one other away here at flying too shares.
+  apart = λ j i one other pair shares.
+      let away = pair.away in
+      let here = pair.here in
+      let at = pair.there in
+      let flying = pair.one_is in
+      let too = pair.other_is in
       let off_j = off j one here flying in
       let off_i = off i other at too in
-      fits.apart j i one other away (before j one here off_j) (before i other at off_i) flying too shares;
-  later = λ j i one other away here at durable flying shares.
+      fits.apart j i one other (in_slots away (before j one here off_j) (before i other at off_i) flying too) shares;
+  later = λ j i one other pair shares.
+      let away = pair.away in
+      let here = pair.here in
+      let at = pair.there in
+      let durable = pair.one_is in
+      let flying = pair.other_is in
       let out = off i other at flying in
       elim (same_or_not j k) [
         | inl at_j ↦
             absurd
-            (fits.apart k i work other (λ same. out (sym same)) there (before i other at out) aloft flying
+            (fits.apart k i work other (in_slots (λ same. out (sym same)) there (before i other at out) aloft flying)
             (subst (λ (w : SlotWork). ShareInode w.job other.job) (sym (settled_is j one here at_j)) shares))
-        | inr away_j ↦ fits.later j i one other away (before j one here away_j) (before i other at out) durable flying shares
+        | inr away_j ↦ fits.later j i one other (in_slots away (before j one here away_j) (before i other at out) durable flying) shares
       ];
-  started = λ j i n one other away here at durable too mark low shares. elim (same_or_not j k) [
-    | inl at_j ↦
-        absurd
-        (not_both (subst (λ (w : SlotWork). is_started w n ≡ true) (sym (settled_is j one here at_j)) mark) (fits.unplaced k work there aloft n))
-    | inr away_j ↦ elim (same_or_not i k) [
-      | inl at_i ↦
-          subst (λ (w : SlotWork). one.job.stamp < w.job.stamp) (settled_is i other at at_i)
-          (fits.later j k one work away_j (before j one here away_j) there durable aloft
-          (n, low, subst (λ (w : SlotWork). HasRecordOf w.job (inode_in one.job n)) (sym (settled_is i other at at_i)) shares))
-      | inr away_i ↦ fits.started j i n one other away (before j one here away_j) (before i other at away_i) durable too mark low shares
-    ]
-  ];
+  started = λ j i one other pair begun_placing.
+      let away = pair.away in
+      let here = pair.here in
+      let at = pair.there in
+      let durable = pair.one_is in
+      let too = pair.other_is in
+      let n = begun_placing.n in
+      let mark = begun_placing.placed in
+      let low = begun_placing.within in
+      let shares = begun_placing.shared in elim (same_or_not j k) [
+        | inl at_j ↦
+            absurd
+            (not_both (subst (λ (w : SlotWork). is_started w n ≡ true) (sym (settled_is j one here at_j)) mark) (fits.unplaced k work there aloft n))
+        | inr away_j ↦ elim (same_or_not i k) [
+          | inl at_i ↦
+              subst (λ (w : SlotWork). one.job.stamp < w.job.stamp) (settled_is i other at at_i)
+              (fits.later j k one work (in_slots away_j (before j one here away_j) there durable aloft)
+              (n, low, subst (λ (w : SlotWork). HasRecordOf w.job (inode_of_nth one.job n)) (sym (settled_is i other at at_i)) shares))
+          | inr away_i ↦ fits.started j i one other (in_slots away (before j one here away_j) (before i other at away_i) durable too)
+              (record { n = n; placed = mark; within = low; shared = shares })
+        ]
+      ];
   unplaced = λ j other at flying n.
       let out = off j other at flying in
       fits.unplaced j other (before j other at out) flying n;
@@ -299,30 +363,56 @@ module _ (layout : Layout) (before : ℕ) where
       by : (j : ℕ) (other : SlotWork) → j ≢ k → past.slots j ≡ Some other → ShareInode rule.has.work.job other.job
           → (other.settled ≡ true) ⊎ (other.settled ≡ false) → rule.has.work.job.stamp < other.job.stamp
       by j other away at shares (inl durable) =
-          fits.started k j shares.0 rule.has.work other (λ same. away (sym same)) rule.has.there at rule.has.aloft durable
-          (first_or (rule.has.work.known.table_left shares.0) (rule.has.work.known.table_read shares.0) (rule.placed shares.0 shares.1)) shares.1 shares.2
+          fits.started k j rule.has.work other (in_slots (λ same. away (sym same)) rule.has.there at rule.has.aloft durable)
+          (record {
+            n = shares.0;
+            placed = (first_or (rule.has.work.known.table_left shares.0) (rule.has.work.known.table_read shares.0)
+                (rule.placed shares.0 shares.1));
+            within = shares.1;
+            shared = shares.2;
+          })
       by j other away at shares (inr flying) =
-          fits.later k j rule.has.work other (λ same. away (sym same)) rule.has.there at rule.has.aloft flying shares
+          fits.later k j rule.has.work other (in_slots (λ same. away (sym same)) rule.has.there at rule.has.aloft flying) shares
 
-  closes_at : (front back : List (Event Label)) (core : CoreId) (k : ℕ) (done : Bool) (past : BoxPast) → PastFits layout before past → RingsFit past.slots
-      → MayFrom layout before (front ++ Told core (label.Shut k done) ∷ back) past
-      → BeginApart layout (front ++ Told core (label.Shut k done) ∷ back) past → ClosesInOrder (past_from layout front past) k
-  closes_at [] back core k done past all fits may apart = shut_closes past k fits may.0.1
-  closes_at (Called entry ∷ front) back core k done past all fits may apart = absurd may.0
-  closes_at (Told teller fact ∷ front) back core k done past all fits may apart =
-      closes_at front back core k done (after_label layout teller.0 fact past) (label_fits layout before teller.0 past all fact may.0.1)
-      (rings_label teller.0 teller past all fits fact may.0.1 apart.0) may.1 apart.1
+  module _ (back : List (Event Label)) (core : CoreId) (k : ℕ) (done : Bool) where
+    closes_at : (front : List (Event Label)) (past : BoxPast) → PastFits layout before past → RingsFit past.slots
+        → MayFrom layout before (front ++ Told core (label.Shut k done) ∷ back) past
+        → BeginApart layout (front ++ Told core (label.Shut k done) ∷ back) past → ClosesInOrder (past_from layout front past) k
+    closes_at [] past all fits may apart = shut_closes past k fits may.0.1
+    closes_at (Called entry ∷ front) past all fits may apart = absurd may.0
+    closes_at (Told teller fact ∷ front) past all fits may apart =
+        closes_at front (after_label layout teller.0 fact past) (label_fits layout before teller.0 past all fact may.0.1)
+        (rings_label teller.0 teller past all fits fact may.0.1 apart.0) may.1 apart.1
 
 pub first_rings : RingsFit (λ k. None)
 first_rings = record {
-  apart = λ j k one other away here there aloft flying shares. none_there here;
-  later = λ j k one other away here there durable flying shares. none_there here;
-  started = λ j k n one other away here there durable too mark low shares. none_there here;
+  apart = λ j k one other pair shares.
+      let away = pair.away in
+      let here = pair.here in
+      let there = pair.there in
+      let aloft = pair.one_is in
+      let flying = pair.other_is in none_there here;
+  later = λ j k one other pair shares.
+      let away = pair.away in
+      let here = pair.here in
+      let there = pair.there in
+      let durable = pair.one_is in
+      let flying = pair.other_is in none_there here;
+  started = λ j k one other pair begun_placing.
+      let away = pair.away in
+      let here = pair.here in
+      let there = pair.there in
+      let durable = pair.one_is in
+      let too = pair.other_is in
+      let n = begun_placing.n in
+      let mark = begun_placing.placed in
+      let low = begun_placing.within in
+      let shares = begun_placing.shared in none_there here;
   unplaced = λ k work there aloft n. none_there there;
 }
 
 pub slots_close_in_order : SlotsCloseInOrder
 slots_close_in_order layout before moment log k may apart shut =
-    closes_at layout before shut.front shut.back shut.core k shut.done (first_past moment) (first_fits layout before moment) first_rings
+    closes_at layout before shut.back shut.core k shut.done shut.front (first_past moment) (first_fits layout before moment) first_rings
     (subst (λ (l : List (Event Label)). MayFrom layout before l (first_past moment)) shut.whole may)
     (subst (λ (l : List (Event Label)). BeginApart layout l (first_past moment)) shut.whole apart)

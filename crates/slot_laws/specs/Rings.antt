@@ -13,11 +13,11 @@ use Rattle.slot_laws.specs.declared.label.Label.{Label}
 use Rattle.slot_laws.specs.declared.label.Label.TheVariants as label
 use Rattle.slot_laws.specs.Slots.{SlotWork, Slots}
 use Rattle.slot_laws.specs.Labels.{BoxPast, first_past, after_event, past_from}
-use Rattle.slot_laws.specs.Rules.{inode_in, HasRecordOf, MayFrom}
+use Rattle.slot_laws.specs.Rules.{inode_of_nth, HasRecordOf, MayFrom}
 
 -- Two jobs have a record of one inode.
 abbrev pub ShareInode : Job → Job → Type 0
-ShareInode one other = (n : ℕ) × (n < length one.entries) × HasRecordOf other (inode_in one n)
+ShareInode one other = (n : ℕ) × (n < length one.entries) × HasRecordOf other (inode_of_nth one n)
 
 -- where a commit begins, no other that is not durable has a record of an inode of its
 abbrev pub BeginsApart : Event Label → BoxPast → Type 0
@@ -34,15 +34,28 @@ BeginApart layout (event ∷ log) past = BeginsApart event past × BeginApart la
 abbrev pub is_started : SlotWork → ℕ → Bool
 is_started work n = work.known.table_left n || work.known.table_read n
 
+-- Two commits are in two slots, each durable or not as is said.
+pub record AreInSlots (slots : Slots) (j k : ℕ) (one other : SlotWork) (durable too : Bool) : Type 0 where
+  pub away : j ≢ k
+  pub here : slots j ≡ Some one
+  pub there : slots k ≡ Some other
+  pub one_is : one.settled ≡ durable
+  pub other_is : other.settled ≡ too
+
+-- A record of one was placed since it is durable, and the other has one of the same inode.
+pub record HasStartedBeside (one other : SlotWork) : Type 0 where
+  pub n : ℕ
+  pub placed : is_started one n ≡ true
+  pub within : n < length one.job.entries
+  pub shared : HasRecordOf other.job (inode_of_nth one.job n)
+
 -- Commits in slots that share an inode: of two one is durable; one that is not is later than each that is; and one of which the shared record
 -- was placed is earlier than each other durable one. Of a commit that is not durable no record was placed.
 pub record RingsFit (slots : Slots) : Type 0 where
-  pub apart : (j k : ℕ) (one other : SlotWork) → j ≢ k → slots j ≡ Some one → slots k ≡ Some other → one.settled ≡ false → other.settled ≡ false
-      → ShareInode one.job other.job → ⊥
-  pub later : (j k : ℕ) (one other : SlotWork) → j ≢ k → slots j ≡ Some one → slots k ≡ Some other → one.settled ≡ true → other.settled ≡ false
-      → ShareInode one.job other.job → one.job.stamp < other.job.stamp
-  pub started : (j k n : ℕ) (one other : SlotWork) → j ≢ k → slots j ≡ Some one → slots k ≡ Some other → one.settled ≡ true → other.settled ≡ true
-      → is_started one n ≡ true → n < length one.job.entries → HasRecordOf other.job (inode_in one.job n) → one.job.stamp < other.job.stamp
+  pub apart : (j k : ℕ) (one other : SlotWork) → AreInSlots slots j k one other false false → ShareInode one.job other.job → ⊥
+  pub later : (j k : ℕ) (one other : SlotWork) → AreInSlots slots j k one other true false → ShareInode one.job other.job → one.job.stamp < other.job.stamp
+  pub started : (j k : ℕ) (one other : SlotWork) → AreInSlots slots j k one other true true → HasStartedBeside one other
+      → one.job.stamp < other.job.stamp
   pub unplaced : (k : ℕ) (work : SlotWork) → slots k ≡ Some work → work.settled ≡ false → (n : ℕ) → is_started work n ≡ false
 
 -- Where a slot's gate is written shut, each other commit in a slot with a record of an inode of its has a greater stamp: those with smaller ones
@@ -89,12 +102,10 @@ pub record WasSettledBefore (turns : List Turn) (one other : SlotWork) : Type 0 
 -- Of two commits in slots that share an inode the one with the greater stamp is the newer: at most one is not durable, and it has the greater
 -- stamp; and of two durable ones the one with the smaller stamp became durable first.
 pub record StampsFollow (slots : Slots) (turns : List Turn) : Type 0 where
-  pub one_durable : (j k : ℕ) (one other : SlotWork) → j ≢ k → slots j ≡ Some one → slots k ≡ Some other → one.settled ≡ false → other.settled ≡ false
-      → ShareInode one.job other.job → ⊥
-  pub aloft : (j k : ℕ) (one other : SlotWork) → j ≢ k → slots j ≡ Some one → slots k ≡ Some other → one.settled ≡ true → other.settled ≡ false
-      → ShareInode one.job other.job → one.job.stamp < other.job.stamp
-  pub durable : (j k : ℕ) (one other : SlotWork) → j ≢ k → slots j ≡ Some one → slots k ≡ Some other → one.settled ≡ true → other.settled ≡ true
-      → ShareInode one.job other.job → one.job.stamp < other.job.stamp → WasSettledBefore turns one other
+  pub one_durable : (j k : ℕ) (one other : SlotWork) → AreInSlots slots j k one other false false → ShareInode one.job other.job → ⊥
+  pub aloft : (j k : ℕ) (one other : SlotWork) → AreInSlots slots j k one other true false → ShareInode one.job other.job → one.job.stamp < other.job.stamp
+  pub durable : (j k : ℕ) (one other : SlotWork) → AreInSlots slots j k one other true true → ShareInode one.job other.job
+      → one.job.stamp < other.job.stamp → WasSettledBefore turns one other
 
 -- So it is behind each history by the rules in which commits begin apart.
 abbrev pub GreaterStampsAreNewer : Type 0

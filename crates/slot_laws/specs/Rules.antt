@@ -87,16 +87,16 @@ pub record SettledRule (layout : Layout) (before k : ℕ) (turn : Turn) (past : 
   pub now : IsNextTurn before past turn
 
 -- the inode of the n-th record of a job, and whether it has a record of an inode
-abbrev pub inode_in : Job → ℕ → ℕ
-inode_in job n = (slice_index_or job.entries n no_entry).inode
+abbrev pub inode_of_nth : Job → ℕ → ℕ
+inode_of_nth job n = (slice_index_or job.entries n no_entry).inode
 
 abbrev pub HasRecordOf : Job → ℕ → Type 0
-HasRecordOf job inode = (n : ℕ) × (n < length job.entries) × (inode_in job n ≡ inode)
+HasRecordOf job inode = (n : ℕ) × (n < length job.entries) × (inode_of_nth job n ≡ inode)
 
 -- of the durable commits with a record of the inode of the n-th record this one has the least stamp
 abbrev pub IsOldestOf : Slots → ℕ → SlotWork → ℕ → Type 0
 IsOldestOf slots k work n = (j : ℕ) (other : SlotWork) → j ≢ k → slots j ≡ Some other → other.settled ≡ true
-    → HasRecordOf other.job (inode_in work.job n) → work.job.stamp < other.job.stamp
+    → HasRecordOf other.job (inode_of_nth work.job n) → work.job.stamp < other.job.stamp
 
 -- A record of a durable commit is placed, the oldest of its inode.
 pub record PlacedRule (k n : ℕ) (past : BoxPast) : Type 0 where

@@ -75,8 +75,8 @@ abbrev pub other_begins : Filling → List (Event Label)
 other_begins other = other_hold (label.Took ∷ label.Began other 2 (record { 0 = 0 }) (record { 0 = 1 }) ∷ [])
 
 -- the history
-abbrev pub worked_log : Filling → Filling → List (Event Label)
-worked_log own other = both_reserve ++ own_begins own ++ other_begins other ++ both_fill ++ both_land ++ one_goes_home
+abbrev pub rings_log : Filling → Filling → List (Event Label)
+rings_log own other = both_reserve ++ own_begins own ++ other_begins other ++ both_fill ++ both_land ++ one_goes_home
 
 -- the record of turns behind it
 abbrev pub WORKED_RECORD : List Turn
@@ -93,10 +93,10 @@ WORKED_RECORD =
 
 -- It may be told, it comes to this record, and both cores are at rest behind it.
 pub record IsMetBy (own other : Filling) : Type 0 where
-  pub may : MayFrom TWO_RINGS 0 (worked_log own other) (first_past 0)
-  pub turns : (past_from TWO_RINGS (worked_log own other) (first_past 0)).turns ≡ WORKED_RECORD
-  pub own_rests : IsAtRest (own_from (entries_by event_core 0 (worked_log own other)) nothing_told)
-  pub other_rests : IsAtRest (own_from (entries_by event_core 1 (worked_log own other)) nothing_told)
+  pub may : MayFrom TWO_RINGS 0 (rings_log own other) (first_past 0)
+  pub turns : (past_from TWO_RINGS (rings_log own other) (first_past 0)).turns ≡ WORKED_RECORD
+  pub own_rests : IsAtRest (own_from (entries_by event_core 0 (rings_log own other)) nothing_told)
+  pub other_rests : IsAtRest (own_from (entries_by event_core 1 (rings_log own other)) nothing_told)
 
 -- So it is of each two such commits.
 abbrev pub LabelsCanBeMet : Type 0
