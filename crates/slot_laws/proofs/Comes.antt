@@ -3,6 +3,7 @@ use Rattle.std.proofs.Common.{◌≡◌, ◌∷◌, ◌++◌, ◌∙◌, ℕ, Bo
 use Rattle.sfs_image.specs.Super.{Layout}
 use Rattle.stamp_table.specs.declared.event.Event.{Event}
 use Rattle.stamp_table.specs.declared.event.Event.TheVariants.{Called, Told}
+use Rattle.slot_laws.specs.Rings.{BeginsApart, BeginApart}
 use Rattle.slot_laws.specs.declared.label.Label.{Label}
 use Rattle.slot_laws.specs.declared.label.Label.TheVariants as label
 use Rattle.slot_laws.specs.Slots.{Slots, knowing, known_filled, known_placed, known_gated, settled_work, open_gate, shut_gate}
@@ -61,3 +62,34 @@ NoneBegins (event ∷ log) = (begins event ≡ false) × NoneBegins log
 pub log_comes : (layout : Layout) (log : List (Event Label)) (past : BoxPast) → NoneBegins log → SlotsCome past.slots (past_from layout log past).slots
 log_comes layout [] past none = slots_come past.slots
 log_comes layout (event ∷ log) past none = come_on (event_comes layout event past none.0) (log_comes layout log (after_event layout event past) none.1)
+
+-- where none begins, nothing is asked of commits that begin
+pub none_apart : (layout : Layout) (log : List (Event Label)) (past : BoxPast) → NoneBegins log → BeginApart layout log past
+none_apart layout [] past none = tt
+none_apart layout (event ∷ log) past none = (asks_nothing event none.0, none_apart layout log (after_event layout event past) none.1)
+  where
+    asks_nothing : (e : Event Label) → begins e ≡ false → BeginsApart e past
+    asks_nothing (Called entry) quiet = tt
+    asks_nothing (Told core label.Took) quiet = tt
+    asks_nothing (Told core label.Gave) quiet = tt
+    asks_nothing (Told core (label.Noted turn)) quiet = tt
+    asks_nothing (Told core (label.Reserved commit)) quiet = tt
+    asks_nothing (Told core (label.Returned commit)) quiet = tt
+    asks_nothing (Told core (label.Began filling commit node stamp)) quiet = absurd (begins_one quiet)
+      where
+        begins_one : true ≡ false → ⊥
+        begins_one e = cc
+    asks_nothing (Told core (label.Filled k piece done)) quiet = tt
+    asks_nothing (Told core label.Synced) quiet = tt
+    asks_nothing (Told core (label.Opened k done cut opened)) quiet = tt
+    asks_nothing (Told core (label.Settled k turn)) quiet = tt
+    asks_nothing (Told core (label.Looked turn)) quiet = tt
+    asks_nothing (Told core (label.Placed k n done)) quiet = tt
+    asks_nothing (Told core (label.Shut k done)) quiet = tt
+    asks_nothing (Told core (label.Idled k)) quiet = tt
+    asks_nothing (Told core (label.Empty commit cut opened durable)) quiet = tt
+
+pub apart_both : (layout : Layout) (log more : List (Event Label)) (past : BoxPast) → BeginApart layout log past
+    → BeginApart layout more (past_from layout log past) → BeginApart layout (log ++ more) past
+apart_both layout [] more past first second = second
+apart_both layout (event ∷ log) more past first second = (first.0, apart_both layout log more (after_event layout event past) first.1 second)

@@ -11,6 +11,7 @@ use Rattle.stamp_table.specs.declared.event.Event.{Event}
 use Rattle.stamp_table.specs.declared.event.Event.TheVariants.{Told}
 use Rattle.stamp_table.specs.Events.{event_core}
 use Rattle.stamp_table.specs.Rule.{entries_by}
+use Rattle.slot_laws.specs.Rings.{ShareInode, BeginApart}
 use Rattle.slot_laws.specs.declared.label.Label.{Label}
 use Rattle.slot_laws.specs.declared.label.Label.TheVariants as label
 use Rattle.slot_laws.specs.Slots.{place_at}
@@ -91,9 +92,10 @@ WORKED_RECORD =
     ∷ own_turn 5 0 act.Durable
     ∷ []
 
--- It may be told, it comes to this record, and both cores are at rest behind it.
+-- It may be told, its commits begin apart where they share no inode, it comes to this record, and both cores are at rest behind it.
 pub record IsMetBy (own other : Filling) : Type 0 where
   pub may : MayFrom TWO_RINGS 0 (rings_log own other) (first_past 0)
+  pub apart : (ShareInode own.job other.job → ⊥) → BeginApart TWO_RINGS (rings_log own other) (first_past 0)
   pub turns : (past_from TWO_RINGS (rings_log own other) (first_past 0)).turns ≡ WORKED_RECORD
   pub own_rests : IsAtRest (own_from (entries_by event_core 0 (rings_log own other)) nothing_told)
   pub other_rests : IsAtRest (own_from (entries_by event_core 1 (rings_log own other)) nothing_told)
