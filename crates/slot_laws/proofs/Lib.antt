@@ -11,4 +11,5 @@ pub mod Follow
 pub mod Few
 pub mod Comes
 pub mod WorkedBegins
+pub mod WorkedApart
 pub mod Worked
