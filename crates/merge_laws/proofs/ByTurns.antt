@@ -166,11 +166,11 @@ module _ (first : TreeState) (history : List Entry) (legal : IsLegal first histo
   durable_once turns merge = differs turns merge [] turns refl
 
 pub durables_are_acknowledged : DurablesAreAcknowledged
-durables_are_acknowledged first history turns moment flushes legal tell rises begins =
-    acknowledged_first first history legal turns moment flushes tell rises begins
+durables_are_acknowledged first history turns moment flushes legal told begins =
+    acknowledged_first first history legal turns moment flushes told.tell told.rise begins
 
 pub durables_survive : (disk : View) → DurablesSurvive disk
-durables_survive disk share from first history turns legal tell rises survives moment image since until left =
+durables_survive disk share from first history turns legal told survives moment image since until left =
     let safe = survives moment image since until left in
     record {
       flushes = safe.flushes;
@@ -178,7 +178,7 @@ durables_survive disk share from first history turns legal tell rises survives m
       inodes = safe.inodes;
       closed = safe.closed;
       covers = safe.covers;
-      raises = acknowledged_first first history legal turns moment safe.flushes tell rises safe.begins;
+      raises = acknowledged_first first history legal turns moment safe.flushes told.tell told.rise safe.begins;
       raised = safe.raised;
       read = safe.read;
     }
