@@ -1,10 +1,10 @@
 -- The order of turns gives that of acknowledgements.
 use borrow.Author.Tests.{leb-true, leb-false}
-use Rattle.std.proofs.Common.{◌≡◌, ◌≢◌, ℕ, ◌<◌, ◌≤◌, nat_le, Bool, true, false, cond, List, [], ◌∷◌, ◌++◌, Option, Some, None, inl, inr, refl, sym, ap, subst, ◌∙◌, arith, nat_eq}
 use Rattle.std.specs.Prelude.{filter}
+use Rattle.std.specs.List.{cons_option}
+use Rattle.std.proofs.Common.{◌≡◌, ◌≢◌, ◌<◌, ◌≤◌, ◌∷◌, ◌++◌, ◌∙◌, ℕ, nat_le, Bool, true, false, cond, List, [], Option, Some, None, inl, inr, refl, sym, ap, subst, arith, nat_eq}
 use Rattle.std.proofs.lemmas.Bool.Decides.{nat_tests}
 use Rattle.std.proofs.lemmas.List.{append_assoc}
-use Rattle.std.specs.List.{cons_option}
 use Rattle.sfs_base.proofs.BasicNumbers.{same_number}
 use Rattle.sfs_dev.specs.Disk.{View}
 use Rattle.tree_laws.specs.declared.history.Entry.{Entry}
@@ -164,11 +164,11 @@ module _ (first : TreeState) (history : List Entry) (legal : IsLegal first histo
   durable_once turns merge = differs turns merge [] turns refl
 
 pub durables_are_acknowledged : DurablesAreAcknowledged
-durables_are_acknowledged first history turns moment flushes legal tell rises begins =
-    acknowledged_first first history legal turns moment flushes tell rises begins
+durables_are_acknowledged first history turns moment flushes legal told begins =
+    acknowledged_first first history legal turns moment flushes told.tell told.rise begins
 
 pub durables_survive : (disk : View) → DurablesSurvive disk
-durables_survive disk share from first history turns legal tell rises survives moment image since until left =
+durables_survive disk share from first history turns legal told survives moment image since until left =
     let safe = survives moment image since until left in
     record {
       flushes = safe.flushes;
@@ -176,7 +176,7 @@ durables_survive disk share from first history turns legal tell rises survives m
       inodes = safe.inodes;
       closed = safe.closed;
       covers = safe.covers;
-      raises = acknowledged_first first history legal turns moment safe.flushes tell rises safe.begins;
+      raises = acknowledged_first first history legal turns moment safe.flushes told.tell told.rise safe.begins;
       raised = safe.raised;
       read = safe.read;
     }

@@ -16,6 +16,7 @@ use Rattle.tree_laws.specs.History.{IsLegal}
 use Rattle.tree_laws.specs.Tree.{TreeState}
 use Rattle.tree_laws.proofs.Cores.{cores_stay}
 use Rattle.cut_laws.specs.Rules.{IsOneOf}
+use Rattle.cut_laws.proofs.RunFacts.{event_there}
 use Rattle.cut_laws.proofs.Basics.{in_left}
 use Rattle.cut_laws.proofs.Entries.{entries_may_come, stamps_are_once}
 use Rattle.turn_laws.specs.Recorded.{IsLiveFsync, IsOfFsync}
@@ -114,7 +115,8 @@ module _ (first : TreeState) (history : List Entry) (before most : ℕ) (turns :
       cores turn among same =
           let its = of_fsync turn among in
           let stamps : its.entry.stamp.0 ≡ entry.stamp.0 = sym (ap (λ (s : Stamp). s.0) its.stamp) ∙ same in
-          ap (λ (c : CoreId). c.0) (its.core ∙ ap (λ (e : Entry). e.core) (stamps_are_once first history its.entry entry legal its.fsync.among live.among stamps))
+          ap (λ (c : CoreId). c.0) (its.core ∙ ap (λ (e : Entry). e.core)
+          (stamps_are_once first history its.entry entry legal its.fsync.among live.among stamps))
 
       own_are : own_turns entry.stamp.0 turns ≡ own_turns entry.stamp.0 (pen_turns pen.0)
       own_are =

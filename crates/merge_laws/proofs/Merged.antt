@@ -1,10 +1,7 @@
 -- The record of turns that all cores agree on with their pens is what fsyncs do.
-use Rattle.turn_laws.specs.LawsTurns.{durable_by_act, durable_flush}
-use Rattle.turn_laws.specs.Books.{flush_at}
-use Rattle.cut_laws.specs.Closure.{Flush}
 use Rattle.std.specs.List.{cons_option, filter_map}
 use borrow.Author.Tests.{eqb-true}
-use Rattle.std.specs.Prelude.{slice_get, ◌↔◌}
+use Rattle.std.specs.Prelude.{◌↔◌, slice_get}
 use Rattle.std.specs.Option.{option_or, option_map}
 use Rattle.std.proofs.Common.{◌≡◌, ◌≢◌, ◌∷◌, ◌++◌, ◌∙◌, ℕ, Bool, true, false, cond, List, [], map, Option, Some, None, inl, inr, refl, sym, ap, subst, nat_eq}
 use Rattle.std.proofs.lemmas.List.{append-nil, append_assoc, map-append}
@@ -21,9 +18,12 @@ use Rattle.tree_laws.specs.declared.turns.TurnAct.{TurnAct}
 use Rattle.tree_laws.specs.declared.turns.TurnAct.TheVariants as act
 use Rattle.tree_laws.specs.History.{IsLegal}
 use Rattle.tree_laws.specs.Tree.{TreeState}
+use Rattle.cut_laws.specs.Closure.{Flush}
 use Rattle.cut_laws.specs.Rules.{IsOneOf}
 use Rattle.cut_laws.proofs.RunFacts.{in_filter}
 use Rattle.cut_laws.proofs.Basics.{in_left}
+use Rattle.turn_laws.specs.LawsTurns.{durable_by_act, durable_flush}
+use Rattle.turn_laws.specs.Books.{flush_at}
 use Rattle.turn_laws.specs.Recorded.{IsLiveFsync, last_turn, EndsWith, EndsBy}
 use Rattle.turn_laws.specs.Ways.{Way, no_turn, lacked, returned, committed, at_once, doubted, opened_doubted, halted, granted_halted, begun_halted, opened_halted, acts_of_way, answer_of, own_turns}
 use Rattle.turn_laws.proofs.Behind.{stays_in}
@@ -72,39 +72,40 @@ last_behind [] x = refl
 last_behind (y ∷ front) x = ap (λ o. option_or o (Some y)) (last_behind front x)
 
 -- how an fsync ends by the act of its last turn
-ends_by : (failed : Option ℕ) (last : Option Turn) (given : Reply) (ack : Option ℕ) (way : Way) → option_map (λ turn. turn.act) last ≡ last_of (acts_of_way way)
-    → given ≡ answer_of way
-    → ((turn : Turn) → last ≡ Some turn → turn.act ≡ act.Durable → ack ≡ Some turn.now)
-    → ((faults : ℕ) → given ≡ reply.Stopped faults → failed ≡ Some faults) → EndsBy failed last given ack
-unfolding last_of
-ends_by failed None given ack no_turn e given_is told stopped = given_is
-ends_by failed None given ack (lacked kind need free) e given_is told stopped = absurd (none_some e)
-ends_by failed None given ack returned e given_is told stopped = absurd (none_some e)
-ends_by failed None given ack committed e given_is told stopped = absurd (none_some e)
-ends_by failed None given ack at_once e given_is told stopped = absurd (none_some e)
-ends_by failed None given ack doubted e given_is told stopped = absurd (none_some e)
-ends_by failed None given ack opened_doubted e given_is told stopped = absurd (none_some e)
-ends_by failed None given ack (halted faults) e given_is told stopped = absurd (none_some e)
-ends_by failed None given ack (granted_halted faults) e given_is told stopped = absurd (none_some e)
-ends_by failed None given ack (begun_halted faults) e given_is told stopped = absurd (none_some e)
-ends_by failed None given ack (opened_halted faults) e given_is told stopped = absurd (none_some e)
-ends_by failed (Some turn) given ack way e given_is told stopped = by way e given_is
-  where
-    at : (a : TurnAct) → turn.act ≡ a → EndsWith failed a turn given ack → EndsWith failed turn.act turn given ack
-    at a same = subst (λ (b : TurnAct). EndsWith failed b turn given ack) (sym same)
+module _ (failed : Option ℕ) (given : Reply) (ack : Option ℕ) where
+  ends_by : (last : Option Turn) (way : Way) → option_map (λ turn. turn.act) last ≡ last_of (acts_of_way way)
+      → given ≡ answer_of way
+      → ((turn : Turn) → last ≡ Some turn → turn.act ≡ act.Durable → ack ≡ Some turn.now)
+      → ((faults : ℕ) → given ≡ reply.Stopped faults → failed ≡ Some faults) → EndsBy failed last given ack
+  unfolding last_of
+  ends_by None no_turn e given_is told stopped = given_is
+  ends_by None (lacked kind need free) e given_is told stopped = absurd (none_some e)
+  ends_by None returned e given_is told stopped = absurd (none_some e)
+  ends_by None committed e given_is told stopped = absurd (none_some e)
+  ends_by None at_once e given_is told stopped = absurd (none_some e)
+  ends_by None doubted e given_is told stopped = absurd (none_some e)
+  ends_by None opened_doubted e given_is told stopped = absurd (none_some e)
+  ends_by None (halted faults) e given_is told stopped = absurd (none_some e)
+  ends_by None (granted_halted faults) e given_is told stopped = absurd (none_some e)
+  ends_by None (begun_halted faults) e given_is told stopped = absurd (none_some e)
+  ends_by None (opened_halted faults) e given_is told stopped = absurd (none_some e)
+  ends_by (Some turn) way e given_is told stopped = by way e given_is
+    where
+      at : (a : TurnAct) → turn.act ≡ a → EndsWith failed a turn given ack → EndsWith failed turn.act turn given ack
+      at a same = subst (λ (b : TurnAct). EndsWith failed b turn given ack) (sym same)
 
-    by : (w : Way) → Some turn.act ≡ last_of (acts_of_way w) → given ≡ answer_of w → EndsWith failed turn.act turn given ack
-    by no_turn is answered = absurd (none_some (sym is))
-    by (lacked kind need free) is answered = at (act.Short kind need free) (some_same is) answered
-    by returned is answered = at act.GivenBack (some_same is) answered
-    by committed is answered = at act.Durable (some_same is) (answered, told turn refl (some_same is))
-    by at_once is answered = at act.Durable (some_same is) (answered, told turn refl (some_same is))
-    by doubted is answered = at act.Fail (some_same is) answered
-    by opened_doubted is answered = at act.Fail (some_same is) answered
-    by (halted faults) is answered = at act.Halted (some_same is) (faults, stopped faults answered, answered)
-    by (granted_halted faults) is answered = at act.Halted (some_same is) (faults, stopped faults answered, answered)
-    by (begun_halted faults) is answered = at act.Halted (some_same is) (faults, stopped faults answered, answered)
-    by (opened_halted faults) is answered = at act.Halted (some_same is) (faults, stopped faults answered, answered)
+      by : (w : Way) → Some turn.act ≡ last_of (acts_of_way w) → given ≡ answer_of w → EndsWith failed turn.act turn given ack
+      by no_turn is answered = absurd (none_some (sym is))
+      by (lacked kind need free) is answered = at (act.Short kind need free) (some_same is) answered
+      by returned is answered = at act.GivenBack (some_same is) answered
+      by committed is answered = at act.Durable (some_same is) (answered, told turn refl (some_same is))
+      by at_once is answered = at act.Durable (some_same is) (answered, told turn refl (some_same is))
+      by doubted is answered = at act.Fail (some_same is) answered
+      by opened_doubted is answered = at act.Fail (some_same is) answered
+      by (halted faults) is answered = at act.Halted (some_same is) (faults, stopped faults answered, answered)
+      by (granted_halted faults) is answered = at act.Halted (some_same is) (faults, stopped faults answered, answered)
+      by (begun_halted faults) is answered = at act.Halted (some_same is) (faults, stopped faults answered, answered)
+      by (opened_halted faults) is answered = at act.Halted (some_same is) (faults, stopped faults answered, answered)
 
 -- what is found last is among the own turns
 last_is_own : (stamp : ℕ) (turns : List Turn) (turn : Turn) → last_turn stamp turns ≡ Some turn → IsOneOf (own_turns stamp turns) turn
@@ -118,7 +119,8 @@ module _ (first : TreeState) (history : List Entry) (before most : ℕ) (turns :
   -- each turn may come where it stands
   comes : (front back : List Turn) (turn : Turn) → turns ≡ front ++ turn ∷ back → may_follow (phase_of turn.stamp.0 front) turn.act ≡ true
   comes front back turn whole =
-      let its = of_fsync first history before most turns pens legal agrees turn (subst (λ (l : List Turn). IsOneOf l turn) (sym whole) (among_at front turn back)) in
+      let its = of_fsync first history before most turns pens legal agrees turn (subst (λ (l : List Turn). IsOneOf l turn) (sym whole)
+      (among_at front turn back)) in
       let goes = (fsync_agrees first history before most turns pens legal agrees its.entry turn.node its.fsync).goes in
       let own : own_turns its.entry.stamp.0 turns ≡ own_turns turn.stamp.0 front ++ turn ∷ own_turns turn.stamp.0 back =
       ap (λ (s : Stamp). own_turns s.0 turns) (sym its.stamp) ∙ ap (own_turns turn.stamp.0) whole ∙ own_at turn front back in
@@ -174,7 +176,7 @@ module _ (first : TreeState) (history : List Entry) (before most : ℕ) (turns :
       → EndsBy (failed_in turns) (last_turn entry.stamp.0 turns) entry.reply entry.ack
   ends entry node live =
       let had = fsync_agrees first history before most turns pens legal agrees entry node live in
-      ends_by (failed_in turns) (last_turn entry.stamp.0 turns) entry.reply entry.ack had.goes.way
+      ends_by (failed_in turns) entry.reply entry.ack (last_turn entry.stamp.0 turns) had.goes.way
       (ap (option_map (λ (t : Turn). t.act)) (last_own entry.stamp.0 turns) ∙ last_mapped (λ (t : Turn). t.act) (own_turns entry.stamp.0 turns)
       ∙ ap last_of had.goes.acts)
       had.goes.answered (λ turn e did. had.ack turn (last_is_own entry.stamp.0 turns turn e) did) had.stopped
@@ -266,11 +268,13 @@ done_are (one_play turns turn at later plays did) =
     ∙ ap (map (λ (flush : Flush). flush.stamp)) (sym (filter_map-append durable_flush turns (turn ∷ [])))
   where
     joined : (a : TurnAct) → map (λ (flush : Flush). flush.stamp) (filter_map durable_flush turns ++ cons_option (durable_by_act a (flush_at turn)) [])
-        ≡ map (λ (flush : Flush). flush.stamp) (filter_map durable_flush turns) ++ map (λ (flush : Flush). flush.stamp) (cons_option (durable_by_act a (flush_at turn)) [])
+        ≡ map (λ (flush : Flush). flush.stamp) (filter_map durable_flush turns) ++ map (λ (flush : Flush). flush.stamp) (cons_option
+        (durable_by_act a (flush_at turn)) [])
     joined a = map-append (λ (flush : Flush). flush.stamp) (filter_map durable_flush turns) (cons_option (durable_by_act a (flush_at turn)) [])
 
     by : (a : TurnAct) → PlaysAct a turns at turn later → at.done ≡ map (λ (flush : Flush). flush.stamp) (durables turns)
-        → later.done ≡ map (λ (flush : Flush). flush.stamp) (durables turns) ++ map (λ (flush : Flush). flush.stamp) (cons_option (durable_by_act a (flush_at turn)) [])
+        → later.done ≡ map (λ (flush : Flush). flush.stamp) (durables turns) ++ map (λ (flush : Flush). flush.stamp) (cons_option (durable_by_act a
+        (flush_at turn)) [])
     by act.Granted is was = ap (λ (s : PlayState). s.done) is.later_is ∙ was ∙ sym (append-nil _)
     by act.GivenBack is was = ap (λ (s : PlayState). s.done) is.later_is ∙ was ∙ sym (append-nil _)
     by (act.Short kind need free) is was = ap (λ (s : PlayState). s.done) is.later_is ∙ was ∙ sym (append-nil _)

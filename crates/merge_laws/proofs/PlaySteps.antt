@@ -65,7 +65,8 @@ module _ (before most : ℕ) (front : List Turn) (turn : Turn) (at : PlayState)
       → WaitingMoves (λ other. phase_of other front) (λ other. phase_of other (front ++ turn ∷ [])) turn.stamp.0 moves at.waiting (w.before_it ++ w.behind_it)
   leaves_waiting w never =
       subst
-      (λ (l : List ℕ). WaitingMoves (λ other. phase_of other front) (λ other. phase_of other (front ++ turn ∷ [])) turn.stamp.0 moves l (w.before_it ++ w.behind_it))
+      (λ (l : List ℕ). WaitingMoves (λ other. phase_of other front) (λ other. phase_of other (front ++ turn ∷ [])) turn.stamp.0 moves l
+      (w.before_it ++ w.behind_it))
       (sym w.whole) (waiting_less _ _ turn.stamp.0 moves w.before_it w.behind_it (waiting_differs w) never)
 
   -- Its commit is aloft, between these.
@@ -140,7 +141,8 @@ module _ (before most : ℕ) (front : List Turn) (turn : Turn) (at : PlayState)
   unfolding Flies
   fly_less was f never =
       subst
-      (λ (l : List Aloft). AloftMoves (λ other. phase_of other front) (λ other. phase_of other (front ++ turn ∷ [])) turn.stamp.0 moves l (f.before_it ++ f.behind_it))
+      (λ (l : List Aloft). AloftMoves (λ other. phase_of other front) (λ other. phase_of other (front ++ turn ∷ [])) turn.stamp.0 moves l
+      (f.before_it ++ f.behind_it))
       (sym f.whole) (aloft_less _ _ turn.stamp.0 moves f.before_it f.opened f.behind_it (flight_differs was f) never)
 
   fly_marked : (was : Phase) (f : FliesHere was) (mark : Bool) → FitsPhase mark (phase_of turn.stamp.0 (front ++ turn ∷ []))

@@ -126,10 +126,12 @@ module _ (first : TreeState) (history : List Entry) (turns : List Turn) (legal :
       way : GoesWay (own_turns its.entry.stamp.0 turns) its.entry.reply
       way = merge.goes its.entry turn.node its.fsync
 
-      acts : acts_of_way way.way ≡ map (λ (t : Turn). t.act) (own_turns turn.stamp.0 front) ++ act.Durable ∷ map (λ (t : Turn). t.act) (own_turns turn.stamp.0 back)
+      acts : acts_of_way way.way ≡ map (λ (t : Turn). t.act) (own_turns turn.stamp.0 front) ++ act.Durable ∷ map (λ (t : Turn). t.act)
+          (own_turns turn.stamp.0 back)
       acts =
           sym way.acts
-          ∙ ap (map (λ (t : Turn). t.act)) (ap (λ (n : ℕ). own_turns n turns) (sym (stamp_of turn its)) ∙ ap (own_turns turn.stamp.0) whole ∙ own_at turn front back)
+          ∙ ap (map (λ (t : Turn). t.act)) (ap (λ (n : ℕ). own_turns n turns) (sym (stamp_of turn its)) ∙ ap (own_turns turn.stamp.0) whole
+          ∙ own_at turn front back)
           ∙ map-append (λ (t : Turn). t.act) (own_turns turn.stamp.0 front) (turn ∷ own_turns turn.stamp.0 back)
           ∙ ap (λ (a : TurnAct). map (λ (t : Turn). t.act) (own_turns turn.stamp.0 front) ++ a ∷ map (λ (t : Turn). t.act) (own_turns turn.stamp.0 back)) did
 

@@ -66,14 +66,16 @@ worked_legal own other own_ack other_ack due other_due acked other_acked = (
 )
 
 -- both are fsyncs of live nodes
-pub own_live : (own other : Entry) (given : Reply) (ack : Option ℕ) → own ≡ own_fsync given ack → IsLiveFsync TWO_CORES (own ∷ other ∷ []) own (record { 0 = 1 })
+pub own_live : (own other : Entry) (given : Reply) (ack : Option ℕ) → own ≡ own_fsync given ack
+    → IsLiveFsync TWO_CORES (own ∷ other ∷ []) own (record { 0 = 1 })
 own_live own other given ack is = record {
   among = inl refl;
   asked = ap (λ (e : Entry). e.call) is;
   alive = subst (λ (e : Entry). HasLiveNode TWO_CORES (own ∷ other ∷ []) (record { node = 1; stamp = e.stamp.0 })) (sym is) alive_there;
 }
 
-pub other_live : (own : Entry) (given : Reply) (ack : Option ℕ) → IsLiveFsync TWO_CORES (own ∷ other_fsync given ack ∷ []) (other_fsync given ack) (record { 0 = 0 })
+pub other_live : (own : Entry) (given : Reply) (ack : Option ℕ)
+    → IsLiveFsync TWO_CORES (own ∷ other_fsync given ack ∷ []) (other_fsync given ack) (record { 0 = 0 })
 other_live own given ack = record { among = inr (inl refl); asked = refl; alive = refl }
 
 -- counts of faults that are right from a front on
@@ -82,18 +84,19 @@ CountsFrom before most failed [] = Unit {0}
 CountsFrom before most failed (turn ∷ turns) =
     CountsFaults before most failed turn.act turn.faults × CountsFrom before most (option_or failed (failure_by turn.act turn.faults)) turns
 
-counts_from : (before most : ℕ) (turns front : List Turn) → CountsFrom before most (failed_in front) turns → (more back : List Turn) (turn : Turn)
-    → turns ≡ more ++ turn ∷ back → CountsFaults before most (failed_in (front ++ more)) turn.act turn.faults
-counts_from before most [] front right more back turn e = absurd (nothing_there more turn back e)
-counts_from before most (first ∷ turns) front right [] back turn e =
-    subst (λ (t : Turn). CountsFaults before most (failed_in (front ++ [])) t.act t.faults) (heads_are first turn turns back e).0
-    (subst (λ (l : List Turn). CountsFaults before most (failed_in l) first.act first.faults) (sym (append-nil front)) right.0)
-counts_from before most (first ∷ turns) front right (next ∷ more) back turn e =
-    let same = heads_are first next turns (more ++ turn ∷ back) e in
-    subst (λ (l : List Turn). CountsFaults before most (failed_in l) turn.act turn.faults)
-    (append_assoc front (first ∷ []) more ∙ ap (λ (t : Turn). front ++ t ∷ more) same.0)
-    (counts_from before most turns (front ++ first ∷ [])
-    (subst (λ (o : Option ℕ). CountsFrom before most o turns) (sym (failed_more front first)) right.1) more back turn same.1)
+module _ (before most : ℕ) where
+  counts_from : (turns front : List Turn) → CountsFrom before most (failed_in front) turns → (more back : List Turn) (turn : Turn)
+      → turns ≡ more ++ turn ∷ back → CountsFaults before most (failed_in (front ++ more)) turn.act turn.faults
+  counts_from [] front right more back turn e = absurd (nothing_there more turn back e)
+  counts_from (first ∷ turns) front right [] back turn e =
+      subst (λ (t : Turn). CountsFaults before most (failed_in (front ++ [])) t.act t.faults) (heads_are first turn turns back e).0
+      (subst (λ (l : List Turn). CountsFaults before most (failed_in l) first.act first.faults) (sym (append-nil front)) right.0)
+  counts_from (first ∷ turns) front right (next ∷ more) back turn e =
+      let same = heads_are first next turns (more ++ turn ∷ back) e in
+      subst (λ (l : List Turn). CountsFaults before most (failed_in l) turn.act turn.faults)
+      (append_assoc front (first ∷ []) more ∙ ap (λ (t : Turn). front ++ t ∷ more) same.0)
+      (counts_from turns (front ++ first ∷ [])
+      (subst (λ (o : Option ℕ). CountsFrom before most o turns) (sym (failed_more front first)) right.1) more back turn same.1)
 
 -- an fsync of a core that no other entry is of, as its pen has it
 module _ (first : TreeState) (history : List Entry) (turns : List Turn) (core : ℕ) (entry : Entry) (node : NodeId)
@@ -135,31 +138,33 @@ module _ (first : TreeState) (history : List Entry) (turns : List Turn) (core : 
   }
 
 -- what two pens have are the turns of a record
-pub two_agree : (history : List Entry) (most : ℕ) (turns : List Turn) (own other : List FsyncTurns) → PenAgrees TWO_CORES history turns 0 own
-    → PenAgrees TWO_CORES history turns 1 other → (turns_of_core 0 turns ≡ pen_turns own) × (turns_of_core 1 turns ≡ pen_turns other)
-    → Each (λ turn. turn.core.0 < 2) turns → CountsFrom 0 most None turns → AgreesAll TWO_CORES history 0 most turns (own ∷ other ∷ [])
-two_agree history most turns own other own_agrees other_agrees merged cores counts = record {
-  cores = refl;
-  each = each;
-  merges = record { own = has; cores = of_each (λ (turn : Turn). turn.core.0 < 2) turns cores };
-  counts = λ front back turn whole. counts_from 0 most turns [] counts front back turn whole;
-}
-  where
-    each : (core : ℕ) (fsyncs : List FsyncTurns) → slice_get (own ∷ other ∷ []) core ≡ Some fsyncs → PenAgrees TWO_CORES history turns core fsyncs
-    each zero fsyncs e = subst (PenAgrees TWO_CORES history turns 0) (some_same e) own_agrees
-    each (suc zero) fsyncs e = subst (PenAgrees TWO_CORES history turns 1) (some_same e) other_agrees
-    each (suc (suc core)) fsyncs e = absurd (none_some e)
+module _ (history : List Entry) (most : ℕ) (turns : List Turn) where
+  pub two_agree : (own other : List FsyncTurns) → PenAgrees TWO_CORES history turns 0 own
+      → PenAgrees TWO_CORES history turns 1 other → (turns_of_core 0 turns ≡ pen_turns own) × (turns_of_core 1 turns ≡ pen_turns other)
+      → Each (λ turn. turn.core.0 < 2) turns → CountsFrom 0 most None turns → AgreesAll TWO_CORES history 0 most turns (own ∷ other ∷ [])
+  two_agree own other own_agrees other_agrees merged cores counts = record {
+    cores = refl;
+    each = each;
+    merges = record { own = has; cores = of_each (λ (turn : Turn). turn.core.0 < 2) turns cores };
+    counts = λ front back turn whole. counts_from 0 most turns [] counts front back turn whole;
+  }
+    where
+      each : (core : ℕ) (fsyncs : List FsyncTurns) → slice_get (own ∷ other ∷ []) core ≡ Some fsyncs → PenAgrees TWO_CORES history turns core fsyncs
+      each zero fsyncs e = subst (PenAgrees TWO_CORES history turns 0) (some_same e) own_agrees
+      each (suc zero) fsyncs e = subst (PenAgrees TWO_CORES history turns 1) (some_same e) other_agrees
+      each (suc (suc core)) fsyncs e = absurd (none_some e)
 
-    has : (core : ℕ) (fsyncs : List FsyncTurns) → slice_get (own ∷ other ∷ []) core ≡ Some fsyncs → turns_of_core core turns ≡ pen_turns fsyncs
-    has zero fsyncs e = merged.0 ∙ ap pen_turns (some_same e)
-    has (suc zero) fsyncs e = merged.1 ∙ ap pen_turns (some_same e)
-    has (suc (suc core)) fsyncs e = absurd (none_some e)
+      has : (core : ℕ) (fsyncs : List FsyncTurns) → slice_get (own ∷ other ∷ []) core ≡ Some fsyncs → turns_of_core core turns ≡ pen_turns fsyncs
+      has zero fsyncs e = merged.0 ∙ ap pen_turns (some_same e)
+      has (suc zero) fsyncs e = merged.1 ∙ ap pen_turns (some_same e)
+      has (suc (suc core)) fsyncs e = absurd (none_some e)
 
 -- the turns of each fsync are its own
 pub own_is : (given : Reply) (ack : Option ℕ) (now faults : ℕ) (did : TurnAct) → IsTurnOf (own_fsync given ack) (record { 0 = 1 }) (own_turn now faults did)
 own_is given ack now faults did = record { core_is = refl; node_is = refl; stamp_is = refl }
 
-pub other_is : (given : Reply) (ack : Option ℕ) (now faults : ℕ) (did : TurnAct) → IsTurnOf (other_fsync given ack) (record { 0 = 0 }) (other_turn now faults did)
+pub other_is : (given : Reply) (ack : Option ℕ) (now faults : ℕ) (did : TurnAct)
+    → IsTurnOf (other_fsync given ack) (record { 0 = 0 }) (other_turn now faults did)
 other_is given ack now faults did = record { core_is = refl; node_is = refl; stamp_is = refl }
 
 module _ (given other_given : Reply) (ack other_ack : Option ℕ) where
@@ -174,7 +179,8 @@ module _ (given other_given : Reply) (ack other_ack : Option ℕ) where
     ]
   ]
 
-  pub other_only : (other : Entry) (n : NodeId) → IsLiveFsync TWO_CORES (own_fsync given ack ∷ other_fsync other_given other_ack ∷ []) other n → other.core.0 ≡ 1
+  pub other_only : (other : Entry) (n : NodeId) → IsLiveFsync TWO_CORES (own_fsync given ack ∷ other_fsync other_given other_ack ∷ []) other n
+      → other.core.0 ≡ 1
       → other_fsync other_given other_ack ≡ other
   other_only other n is same = elim is.among [
     | inl e ↦ absurd (let wrong : 0 ≡ 1 = ap (λ (x : Entry). x.core.0) e ∙ same in omega (arith, wrong))

@@ -1,5 +1,5 @@
 -- Each way that the turns of an fsync go is met by cores that agree with their pens.
-use Rattle.std.proofs.Common.{Option, ◌≡◌, ◌≢◌, ◌<◌, ◌∷◌, ◌↔◌, ◌≤◌, ℕ, [], Some, None, inl, inr, refl, IsSome, IsTrue, map, arith, subst, sym}
+use Rattle.std.proofs.Common.{◌≡◌, ◌≢◌, ◌<◌, ◌∷◌, ◌↔◌, ◌≤◌, Option, ℕ, [], Some, None, inl, inr, refl, IsSome, IsTrue, map, arith, subst, sym}
 use Rattle.sfs_base.specs.Ends.{HasRisen}
 use Rattle.tree_laws.specs.History.{IsFsyncReply, is_ok_reply, IsLegal}
 use Rattle.tree_laws.specs.declared.turns.TurnAct.TheVariants as act
@@ -107,7 +107,8 @@ each_way_is_met (lacked kind need free) some = record {
   legal = legal_way (lacked kind need free);
   agrees = two_agree (worked_history (lacked kind need free)) 1 (worked_own (lacked kind need free))
       (record { stamp = 0; turns = worked_own (lacked kind need free) } ∷ []) []
-      (own_pen (lacked kind need free) some_turns (own_is _ _ _ _ _, tt) refl (inl refl, tt) (never_durable (λ e. cc), tt) (λ faults e. absurd (not_stopped faults e)))
+      (own_pen (lacked kind need free) some_turns (own_is _ _ _ _ _, tt) refl (inl refl, tt) (never_durable (λ e. cc), tt) (λ faults e. absurd
+      (not_stopped faults e)))
       (other_none (lacked kind need free) refl) (refl, refl) (omega arith, tt) (refl, tt);
   goes = refl;
 }

@@ -11,7 +11,7 @@ use Rattle.crash_laws.specs.Survives.{RaisesInOrder, SurvivesAll, ReadsBack}
 use Rattle.merge_laws.specs.Pens.{FsyncTurns, AgreesAll}
 use Rattle.merge_laws.specs.Plays.{PensMerge}
 use Rattle.merge_laws.specs.Tell.{TurnsTell}
-use Rattle.merge_laws.specs.LeftByTurns.{turns_until, TimesRise, BeginsWithDurables, SurvivesByTurns, ReadsByTurns}
+use Rattle.merge_laws.specs.LeftByTurns.{turns_until, TimesRise, BeginsWithDurables, SurvivesByTurns, ReadsByTurns, TellInTime}
 
 -- Where all cores agree with their pens, the record of turns is what fsyncs do.
 abbrev pub MergedTurns : Type 0
@@ -37,12 +37,12 @@ MomentsCutTurns = (turns : List Turn) (moment : ℕ) → TimesRise turns → IsF
 -- acknowledged by it.
 abbrev pub DurablesAreAcknowledged : Type 0
 DurablesAreAcknowledged = (first : TreeState) (history : List Entry) (turns : List Turn) (moment : ℕ) (flushes : List Flush) → IsLegal first history
-    → TurnsTell history turns → TimesRise turns → BeginsWithDurables history turns moment flushes → RaisesInOrder history moment flushes
+    → TellInTime history turns → BeginsWithDurables history turns moment flushes → RaisesInOrder history moment flushes
 
 -- What survives in the order of turns survives in that of acknowledgements.
 abbrev pub DurablesSurvive : View → Type 0
 DurablesSurvive disk = (share from : ℕ) (first : TreeState) (history : List Entry) (turns : List Turn) → IsLegal first history
-    → TurnsTell history turns → TimesRise turns → SurvivesByTurns share from first history turns disk → SurvivesAll share from first history disk
+    → TellInTime history turns → SurvivesByTurns share from first history turns disk → SurvivesAll share from first history disk
 
 -- And so does what is read back.
 abbrev pub DurablesReadBack : View → Type 0

@@ -12,6 +12,7 @@ use Rattle.cut_laws.specs.Covers.{Covers}
 use Rattle.cut_laws.specs.Cut.{Cut, tree_at_cut}
 use Rattle.crash_laws.specs.Listed.{IsListedFsync, StampsDiffer}
 use Rattle.crash_laws.specs.Survives.{HasFailure}
+use Rattle.merge_laws.specs.Tell.{TurnsTell}
 use Rattle.merge_laws.specs.Plays.{durables}
 
 -- the turns up to a moment
@@ -22,6 +23,11 @@ turns_until moment turns = filter (λ turn. nat_le turn.now moment) turns
 abbrev pub TimesRise : List Turn → Type 0
 TimesRise [] = Unit {0}
 TimesRise (turn ∷ turns) = ((later : Turn) → IsOneOf turns later → turn.now ≤ later.now) × TimesRise turns
+
+-- Turns tell of answers and acknowledgements, and their moments don't fall.
+pub record TellInTime (history : List Entry) (turns : List Turn) : Type 0 where
+  pub tell : TurnsTell history turns
+  pub rise : TimesRise turns
 
 -- A list of fsyncs begins with those whose commits became durable up to a moment, in the order of their turns. Each other was answered Ok,
 -- DiskFailed or Stopped, and none stands in it twice.

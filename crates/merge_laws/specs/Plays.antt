@@ -1,14 +1,14 @@
 -- The record of turns as what fsyncs do: which wait, which commits are aloft, which are done, and whether one has failed.
-use Rattle.turn_laws.specs.LawsTurns.{durable_flush}
-use Rattle.cut_laws.specs.Closure.{Flush}
 use Rattle.std.specs.List.{filter_map}
-use Rattle.std.specs.Prelude.{◌≡◌, ◌≢◌, ◌⊎◌, ◌∷◌, ◌++◌, ℕ, Bool, true, false, List, [], Option, Some, None, ◌↔◌, map}
+use Rattle.std.specs.Prelude.{◌≡◌, ◌≢◌, ◌⊎◌, ◌∷◌, ◌++◌, ◌↔◌, ℕ, Bool, true, false, List, [], Option, Some, None, map}
 use Rattle.tree_laws.specs.declared.history.Entry.{Entry}
 use Rattle.tree_laws.specs.declared.turns.Turn.{Turn}
 use Rattle.tree_laws.specs.declared.turns.TurnAct.{TurnAct}
 use Rattle.tree_laws.specs.declared.turns.TurnAct.TheVariants as act
 use Rattle.tree_laws.specs.Tree.{TreeState}
+use Rattle.cut_laws.specs.Closure.{Flush}
 use Rattle.cut_laws.specs.Rules.{IsOneOf}
+use Rattle.turn_laws.specs.LawsTurns.{durable_flush}
 use Rattle.turn_laws.specs.Recorded.{IsOfFsync, EachEnds}
 use Rattle.turn_laws.specs.Ways.{own_turns, EachGoes}
 use Rattle.merge_laws.specs.Phases.{has_reserved, phase_of, flies_in}

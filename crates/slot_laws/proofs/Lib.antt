@@ -1,0 +1,15 @@
+pub mod Basics
+pub mod Flying
+pub mod Landing
+pub mod Numbers
+pub mod Turns
+pub mod Quiet
+pub mod Labels
+pub mod Lawful
+pub mod Rings
+pub mod Follow
+pub mod Few
+pub mod Comes
+pub mod WorkedBegins
+pub mod WorkedApart
+pub mod Worked

@@ -1,0 +1,76 @@
+use journal_one::Filling;
+use sfs_base::{NodeId, Stamp};
+use tree_laws::Turn;
+
+/// What a core tells of the box with the disk and its journal slots. A slot is told by its number.
+pub enum Label {
+    /// The core has taken the box.
+    Took,
+    /// It brings the box home.
+    Gave,
+    /// It took a turn that neither opens a commit nor makes one durable.
+    Noted {
+        turn: Turn,
+    },
+    /// It reserved this number for its next commit.
+    Reserved {
+        commit: u64,
+    },
+    /// It gave the number back.
+    Returned {
+        commit: u64,
+    },
+    /// The commit with the number, of an fsync of this node at this stamp, began in a slot.
+    Began {
+        filling: Filling,
+        commit: u64,
+        node: NodeId,
+        stamp: Stamp,
+    },
+    /// A piece of the commit in a slot was written, or failed to be.
+    Filled {
+        slot: usize,
+        piece: usize,
+        done: bool,
+    },
+    /// The disk was synced.
+    Synced,
+    /// The gate of a slot was written open, or failed to be: its commit's two turns.
+    Opened {
+        slot: usize,
+        done: bool,
+        cut: Turn,
+        opened: Turn,
+    },
+    /// The commit in a slot is durable, whoever tells it: its turn.
+    Settled {
+        slot: usize,
+        turn: Turn,
+    },
+    /// The core has found the turn that made its commit durable.
+    Looked {
+        turn: Turn,
+    },
+    /// A record of a durable commit was placed in the table, or failed to be.
+    Placed {
+        slot: usize,
+        record: usize,
+        done: bool,
+    },
+    /// The gate of a slot was written shut, or failed to be.
+    Shut {
+        slot: usize,
+        done: bool,
+    },
+    /// A slot is idle again.
+    Idled {
+        slot: usize,
+    },
+    /// A commit with this number wrote nothing: its three turns.
+    Empty {
+        commit: u64,
+        cut: Turn,
+        opened: Turn,
+        durable: Turn,
+    },
+}
