@@ -23,6 +23,7 @@ use Rattle.stamp_table.specs.Events.{event_core, calls_in}
 use Rattle.stamp_table.specs.Rule.{entries_by}
 use Rattle.stamp_table.specs.Hand.{places_of}
 use Rattle.stamp_table.specs.Table.{Stamps, LetsGo, cell_at, with_value, is_at, drop_from, left_below, entry_numbered}
+use Rattle.stamp_table.proofs.Closing.{own_calls}
 use Rattle.mem_values.specs.Start.{FileHand, FileState}
 use Rattle.mem_values.specs.declared.cell.Cell.{Cell}
 use Rattle.mem_values.specs.declared.cell.Cell.TheVariants as cell
@@ -97,15 +98,6 @@ drop_all (c ∷ cells) = ⊎_elim
 pub none_left : (cells : List (HeldCell Cell)) → left_below 0 cells ≡ []
 none_left cells = ap reverse (drop_all (reverse cells))
 
--- the calls of a core are those of its events
-own_calls : (core : ℕ) (log : List (Event Fact)) → length (filter (is_core core) (calls_in log)) ≡ length (calls_in (entries_by event_core core log))
-own_calls core [] = refl
-own_calls core (Called entry ∷ log) = let r = own_calls core log in
-    ⊎_elim (λ (is : nat_eq entry.core.0 core ≡ true). rw is (ap suc r)) (λ (is : nat_eq entry.core.0 core ≡ false). rw is r)
-    (cases_Bool (nat_eq entry.core.0 core))
-own_calls core (Told by fact ∷ log) = let r = own_calls core log in
-    ⊎_elim (λ (is : nat_eq by.0 core ≡ true). rw is r) (λ (is : nat_eq by.0 core ≡ false). rw is r) (cases_Bool (nat_eq by.0 core))
-
 module _ (given : ℕ → Option OldKept) (t : FileState) (nodes : ℕ) (before : FileHand) (table : IsFileTable t nodes) (work : IsWorking given t before)
     (c : Call) (reply : Reply) (number : ℕ) (mid : FileHand) (stamps : Stamps (IsLawfulLog given) (StandsAt given) c reply before number mid) where
   abbrev S : TreeState
@@ -159,7 +151,7 @@ module _ (given : ℕ → Option OldKept) (t : FileState) (nodes : ℕ) (before 
       → length (calls_in before.view.mine) ≤ 2 ^ 50 → p.log.entries < 2 ^ 64 - 1
   few_entries p is few =
       let counted = (part_stood p is).left.entries_counted in
-      let own_few = own_calls before.view.core log in
+      let own_few = ap length (own_calls before.view.core log) in
       let mine = ap (λ l. length (calls_in l)) (stamped.mine_is given t nodes before table work c reply number mid stamps) in
       omega (arith, counted, own_few, mine, few)
 

@@ -22,7 +22,7 @@ use Rattle.stamp_table.specs.Rule.{Kept, entries_by}
 use Rattle.stamp_table.specs.Steps.{gathered, spent}
 use Rattle.stamp_table.specs.Events.{event_core, is_call, calls_in, SeatView, LawfulFrom, StandsFrom, NO_TREE}
 use Rattle.stamp_table.specs.Answered.{unanswered, AreCallsOf}
-use Rattle.stamp_table.specs.Table.{mine_of, seen_of, answered_entries, IsLogAtEnd, AreAtHome}
+use Rattle.stamp_table.specs.Table.{mine_of, events_seen, answered_entries, IsLogAtEnd, AreAtHome}
 use Rattle.stamp_table.specs.Hand.{Hand, IsCore, empty_slots, places_of}
 use Rattle.stamp_table.proofs.Answered.{legal_answered}
 use Rattle.stamp_table.proofs.Calling.{stamps_are_calls}
@@ -49,7 +49,7 @@ module _ {C X G : Type 0} where
 
 module _ {X : Type 0} where
   -- a core's calls are the calls of its events
-  own_calls : (core : ℕ) (log : List (Event X)) → calls_in (entries_by event_core core log) ≡ filter (is_core core) (calls_in log)
+  pub own_calls : (core : ℕ) (log : List (Event X)) → calls_in (entries_by event_core core log) ≡ filter (is_core core) (calls_in log)
   own_calls core [] = refl
   own_calls core (Called entry ∷ log) = let r = own_calls core log in
       ⊎_elim (λ is. rw is (ap (λ l. entry ∷ l) r)) (λ is. rw is r) (cases_Bool (entry.core.0 == core))
@@ -129,7 +129,7 @@ module _ {C X G : Type 0} (lawful : G → TreeState → List (Event X) → Type 
 
   -- the lists of all cores make the history
   ends_filled : (hands : List (Hand C X G)) (parts : List (Vec Entry Global)) (filled : List Entry) → map (λ p. p.items) parts ≡ map answered_entries hands
-      → length parts ≡ length start.0.made → length hands ≡ length start.0.made → lists ≡ map mine_of hands → saws ≡ map seen_of hands
+      → length parts ≡ length start.0.made → length hands ≡ length start.0.made → lists ≡ map mine_of hands → saws ≡ map events_seen hands
       → IsFilled (length start.0.made) (entries_at parts) (calls_in log) filled → IsEnd (lawful start.1) start.0 hands parts log filled
   ends_filled hands parts filled same long all mine seen is =
       let legal : IsLegal start.0 filled = legal_answered start.0 0 (calls_in log) filled is.same is.well gathered_all.legal_log.legal_calls in
@@ -142,7 +142,7 @@ module _ {C X G : Type 0} (lawful : G → TreeState → List (Event X) → Type 
           lawful_log = gathered_all.legal_log;
           calls = is.same;
           mine = λ core hand at. gathered_all.own core hand.view.mine (ap (λ l. slice_get l core) mine ∙ there_too mine_of hands core hand at);
-          seen = λ core hand at. gathered_all.seen core hand.view.seen (ap (λ l. slice_get l core) seen ∙ there_too seen_of hands core hand at);
+          seen = λ core hand at. gathered_all.seen core hand.view.seen (ap (λ l. slice_get l core) seen ∙ there_too events_seen hands core hand at);
         };
       }
 
@@ -185,7 +185,7 @@ module _ {C X G : Type 0} (lawful : G → TreeState → List (Event X) → Type 
   -- where all lists were gathered there is one
   pub closes : (words : List ℕ) (slots : List (Option C)) (id : ℕ) (v : SeatView G X) (hands : List (Hand C X G)) (parts : List (Vec Entry Global))
       → Final (Seen (Kept event_core is_call (LawfulFrom lawful) (StandsFrom stands) start) id v) words slots → v.gathers ≡ true
-      → v.lists ≡ map mine_of hands → v.saws ≡ map seen_of hands → v.cores ≡ length hands
+      → v.lists ≡ map mine_of hands → v.saws ≡ map events_seen hands → v.cores ≡ length hands
       → map (λ p. p.items) parts ≡ map answered_entries hands → AllZip AreCallsOf (map mine_of hands) (map answered_entries hands)
       → length hands ≡ length start.0.made
       → (log : List (Event X)) × (history : List Entry) × IsWhole (lawful start.1) (stands start.1) start.0 hands parts slots log history

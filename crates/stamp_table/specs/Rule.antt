@@ -69,8 +69,8 @@ module _ {T E S : Type 0} (core_of : E → ℕ) (draws : E → Bool) (legal : T 
     pub waits : length hub.lists ≤ core
 
   -- a core's view has a cell among those that it holds
-  abbrev pub IsHeldBy : ℕ → ℕ → List (View T E) → Type 0
-  IsHeldBy core place views = (v : View T E) × (get_elem? views (suc core) ≡ some v) × Has v.held place
+  abbrev pub CoreHolds : ℕ → ℕ → List (View T E) → Type 0
+  CoreHolds core place views = (v : View T E) × (get_elem? views (suc core) ≡ some v) × Has v.held place
 
   -- The views: the first gathers, and has the lists of the first cores and what these had seen; the others are the cores', at their
   -- numbers. Each cell that a core holds has it as its owner, and who owns a cell holds it.
@@ -83,7 +83,7 @@ module _ {T E S : Type 0} (core_of : E → ℕ) (draws : E → Bool) (legal : T 
     pub saws : (core : ℕ) (seen : List E) → slice_get hub.saws core ≡ Some seen → IsPrefix seen log
     pub hands : (core : ℕ) (v : View T E) → get_elem? views (suc core) ≡ some v → IsGone core hub v ⊎ IsAtWork first core log hub v
     pub owned : (core place : ℕ) (v : View T E) → get_elem? views (suc core) ≡ some v → Has v.held place → owner place ≡ suc core
-    pub holders : (core place : ℕ) → owner place ≡ suc core → IsHeldBy core place views
+    pub holders : (core place : ℕ) → owner place ≡ suc core → CoreHolds core place views
 
   -- The cells: one at home has no owner, and stands for what the history leaves of it; one that is out has a core as its owner; one
   -- whose lock word is 0 is at home.

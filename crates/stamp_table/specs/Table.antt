@@ -251,8 +251,8 @@ module _ {C X G : Type 0} where
   mine_of hand = hand.view.mine
 
   -- what a core has seen
-  abbrev pub seen_of : Hand C X G → List (Event X)
-  seen_of hand = hand.view.seen
+  abbrev pub events_seen : Hand C X G → List (Event X)
+  events_seen hand = hand.view.seen
 
   -- a core's entries, with their answers
   abbrev pub answered_entries : Hand C X G → List Entry

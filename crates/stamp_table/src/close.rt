@@ -8,7 +8,7 @@ ghost use Rattle.std.specs.List.{AllZip};
 ghost use Rattle.stamp_table.specs.Answered.{AreCallsOf};
 ghost use Rattle.stamp_table.specs.declared.event.Event.{Event};
 ghost use Rattle.stamp_table.specs.Hand.{Desk, Hand, IsLead};
-ghost use Rattle.stamp_table.specs.Table.{AreAllCores, AreIdleFrom, first_leads, mine_of, seen_of, answered_entries, IsSameSeat, IsLogAtEnd, AreAtHome};
+ghost use Rattle.stamp_table.specs.Table.{AreAllCores, AreIdleFrom, first_leads, mine_of, events_seen, answered_entries, IsSameSeat, IsLogAtEnd, AreAtHome};
 
 use crate::meaning::Gather;
 use crate::shared::{CoreSeat, Key};
@@ -68,7 +68,7 @@ fn first_lead<C: Drop, X, G>(cores: &mut Vec<Core<C, X, G>>) -> CoreSeat<C, X, G
     ensures ready { (table : Desk G) (count : ℕ) → AreIdleFrom table count 0 cores.old.items
         → AreIdleFrom table count 0 cores.new.items × IsLead table.id count result }
     ensures mine { map mine_of cores.new.items ≡ map mine_of cores.old.items }
-    ensures seen { map seen_of cores.new.items ≡ map seen_of cores.old.items }
+    ensures seen { map events_seen cores.new.items ≡ map events_seen cores.old.items }
     ensures entries { map answered_entries cores.new.items ≡ map answered_entries cores.old.items }
 {
     cores[0].take_lead()
@@ -87,7 +87,7 @@ fn gather_all<C: Drop, X, G, M: Meaning<C, X, G>>(
     ensures lead { (result.0.table_id ≡ table.now.shared.table_id) × (result.0.me.0.gathers ≡ true) }
     ensures cores { result.0.me.0.cores ≡ length cores.items }
     ensures lists { result.0.me.0.lists ≡ map mine_of cores.items }
-    ensures saws { result.0.me.0.saws ≡ map seen_of cores.items }
+    ensures saws { result.0.me.0.saws ≡ map events_seen cores.items }
     ensures parts { map (λ part. part.items) result.1.items ≡ map answered_entries cores.items }
     ensures calls { AllZip AreCallsOf (map mine_of cores.items) (map answered_entries cores.items) }
 {
