@@ -10,9 +10,7 @@ use Rattle.tree_laws.specs.Tree.{BUCKET_ROWS, TreeState, is_alive, is_directory,
 use Rattle.tree_laws.specs.Sound.{IsNumbered, IsWithinLimits}
 use Rattle.stamp_table.specs.declared.event.Event.{Event}
 use Rattle.stamp_table.specs.declared.event.Event.TheVariants.{Called}
-use Rattle.stamp_table.specs.Hand.{Hand}
-use Rattle.stamp_table.specs.Table.{TableState}
-use Rattle.mem_values.specs.declared.cell.Cell.{Cell}
+use Rattle.mem_values.specs.Start.{FileHand, FileState}
 use Rattle.mem_values.specs.declared.fact.Fact.{Fact}
 use Rattle.mem_values.specs.Places.{node_count}
 use Rattle.mem_begin.specs.Beginning.{CanBeginTable}
@@ -54,13 +52,13 @@ pub record BeginsTable (tree : TreeState) (first share cores : ℕ) : Type 0 whe
   pub cores_are : length tree.made ≡ cores
 
 -- A table that began with such a tree.
-pub record IsCallTable (t : TableState) (first share nodes : ℕ) : Type 0 where
+pub record IsCallTable (t : FileState) (first share nodes : ℕ) : Type 0 where
   pub table : IsFileTable t nodes
   pub first_is : t.first.first ≡ first
   pub share_is : t.first.share ≡ share
 
 -- A core has made a call: it has one entry more, which stands in the history with the reply of the tree before it.
-pub record HasMade (t : TableState) (c : Call) (reply : Reply) (before after : Hand Cell Fact) : Type 0 where
+pub record HasMade (t : FileState) (c : Call) (reply : Reply) (before after : FileHand) : Type 0 where
   pub log : List (Event Fact)
   pub entry : Entry
   pub stands : StandsBehind t c reply before after log entry
@@ -68,11 +66,11 @@ pub record HasMade (t : TableState) (c : Call) (reply : Reply) (before after : H
   pub mine : after.view.mine ≡ before.view.mine ++ Called entry ∷ []
 
 -- A core has made no call: it has no further entry. It may have seen more of the history.
-pub record HasMadeNone (before after : Hand Cell Fact) : Type 0 where
+pub record HasMadeNone (before after : FileHand) : Type 0 where
   pub seen : IsPrefix before.view.seen after.view.seen
   pub entries : after.entries ≡ before.entries
   pub mine : after.view.mine ≡ before.view.mine
 
 -- what a call comes to, by the reply that it has or has not
-abbrev pub ComesToReply : TableState → Call → Hand Cell Fact → Hand Cell Fact → Option Reply → Type 0
+abbrev pub ComesToReply : FileState → Call → FileHand → FileHand → Option Reply → Type 0
 ComesToReply t c before after result = MatchOption result (HasMadeNone before after) (λ reply. HasMade t c reply before after)

@@ -5,10 +5,9 @@ ghost use Rattle.stamp_table.specs.Table.{IsBetweenCalls, IsSameCore};
 ghost use Rattle.mem_calls.specs.Table.{IsFileTable, AreNumbersOf};
 ghost use Rattle.begun_tables.specs.Begun.{ComesToReply, IsCallTable};
 
-use crate::tables::Files;
 use mem_calls::{Numbers, call};
 use mem_rename::{Move, RENAME_CELLS, rename};
-use mem_values::FileCore;
+use mem_values::{FileCore, FileShared};
 use sfs_base::Gate;
 use std::alloc::Global;
 use std::sync::Wait;
@@ -18,7 +17,7 @@ use tree_laws::{Call, Reply};
 fn make_ready<R: Wait, G: Gate>(
     rt: &R,
     alloc: Global,
-    shared: &Files,
+    shared: &FileShared,
     core: &mut FileCore,
     nodes: u32,
     numbers: Numbers,
@@ -59,7 +58,7 @@ fn make_ready<R: Wait, G: Gate>(
 pub fn make_call<R: Wait, G: Gate>(
     rt: &R,
     alloc: Global,
-    shared: &Files,
+    shared: &FileShared,
     core: &mut FileCore,
     nodes: u32,
     numbers: Numbers,

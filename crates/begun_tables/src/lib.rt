@@ -7,4 +7,4 @@ mod tables;
 
 pub use calls::make_call;
 pub use puts::{put_node, put_row, root_alone};
-pub use tables::{Files, Nothing, begun};
+pub use tables::begun;

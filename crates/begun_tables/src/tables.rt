@@ -1,33 +1,23 @@
 // A table over a tree, of which the disk has nothing.
-ghost use Rattle.std.specs.Prelude.{◌≡◌, ◌+◌, ◌*◌, ◌<◌, ◌≤◌, All, IfOk, None};
+ghost use Rattle.std.specs.Prelude.{◌≡◌, ◌+◌, ◌*◌, ◌<◌, ◌≤◌, All, IfOk};
 ghost use Rattle.stamp_table.specs.Table.{AreAllCores, IsBetweenCalls};
 ghost use Rattle.begun_tables.specs.Begun.{BeginsTable, IsCallTable};
 
 use disk_nodes::OldDisk;
 use mem_begin::make;
-use mem_values::{FileCore, FileShared, Given};
+use mem_values::{FileCore, FileShared};
 use sfs_base::NoMemory;
 use sfs_tree::Tree;
 use std::alloc::Global;
 
-/// The disk has nothing of a node as the table begins.
-pub struct Nothing;
-
-impl Given for Nothing {
-    ghost given = { λ node. None };
-}
-
-/// A table of which the disk has nothing.
-pub type Files = FileShared<Nothing>;
-
-/// A table over a tree, and its cores.
+/// A table over a tree of which the disk has nothing, and its cores.
 pub fn begun(
     alloc: Global,
     tree: &Tree,
     first: u32,
     share: u32,
     cores: u8,
-) -> Result<(Files, Vec<FileCore>), NoMemory>
+) -> Result<(FileShared, Vec<FileCore>), NoMemory>
     requires tree { BeginsTable tree.now first share cores }
     requires cores { 0 < cores }
     requires few { first + share * cores ≤ 81920 }
@@ -37,6 +27,6 @@ pub fn begun(
     ensures between { IfOk result (λ made. All (IsBetweenCalls made.0) made.1.items) }
 {
     let nodes = first + share * cores as u32;
-    let (shared, hands) = make::<Nothing>(alloc, tree, OldDisk::new(alloc), nodes, cores)?;
+    let (shared, hands) = make(alloc, tree, OldDisk::new(alloc), nodes, cores)?;
     Ok((shared, hands))
 }

@@ -6,9 +6,9 @@ ghost use Rattle.begun_tables.specs.Begun.{IsCallTable};
 
 use crate::loads::{Load, first_name, own_name};
 use crate::trees::{FIRST, NAMES, SHARE, begun_tree};
-use begun_tables::{Files, begun, make_call};
+use begun_tables::{begun, make_call};
 use mem_calls::Numbers;
-use mem_values::FileCore;
+use mem_values::{FileCore, FileShared};
 use sfs_base::{CoreId, Kind, NoGate, NodeId};
 use std::alloc::Global;
 use std::rt::Clock;
@@ -64,7 +64,7 @@ fn call_of(alloc: Global, case: Case, core: CoreId, round: u32) -> Option<Call>
 fn call_once<R: Wait>(
     rt: &R,
     alloc: Global,
-    shared: &Files,
+    shared: &FileShared,
     core: &mut FileCore,
     nodes: u32,
     case: Case,
@@ -86,7 +86,7 @@ fn call_once<R: Wait>(
 fn call_often<R: Wait>(
     rt: &R,
     alloc: Global,
-    shared: &Files,
+    shared: &FileShared,
     core: &mut FileCore,
     nodes: u32,
     case: Case,
@@ -110,7 +110,7 @@ fn call_often<R: Wait>(
 fn call_all<R: Threads + Wait + Sync>(
     rt: &R,
     alloc: Global,
-    shared: &Files,
+    shared: &FileShared,
     cores: &mut [FileCore],
     nodes: u32,
     case: Case,

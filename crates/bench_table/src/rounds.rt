@@ -6,6 +6,7 @@ use sfs_base::NoMemory;
 use sfs_tree::Tree;
 use stamp_table::{Core, Meaning, Shared};
 use std::alloc::Global;
+use std::snapshot::Snapshot;
 use std::sync::Wait;
 use std::thread;
 use std::thread::Threads;
@@ -16,20 +17,22 @@ const APART: usize = 16;
 // Each value stands for whatever the calls leave.
 pub(crate) struct Anything;
 
-impl<C, X> Meaning<C, X> for Anything {
-    ghost lawful = { λ first log. Unit {0} };
+impl<C, X> Meaning<C, X, ()> for Anything {
+    ghost lawful = { λ given first log. Unit {0} };
 
-    ghost stands = { λ first log place value. Unit {0} };
+    ghost stands = { λ given first log place value. Unit {0} };
+
+    ghost nothing = { tt };
 }
 
-pub(crate) type Cells = Shared<u64, (), Anything>;
+pub(crate) type Cells = Shared<u64, (), (), Anything>;
 
-pub(crate) type Hand = Core<u64, ()>;
+pub(crate) type Hand = Core<u64, (), ()>;
 
 // Holds a cell and changes it so often.
 fn hold_often<R: Wait>(rt: &R, shared: &Cells, core: &mut Hand, place: usize, rounds: u32)
     requires core { IsBetweenCalls shared.now core.old }
-    requires cell { place < shared.now.table.slots }
+    requires cell { place < shared.now.table.id.slots }
 {
     if core.reserve(0, 1).is_err() {
         return;
@@ -54,7 +57,7 @@ pub fn hold_all<R: Threads + Wait + Sync>(
 {
     let first = Tree::empty(alloc, 1, 1, cores)?;
     let cells = vec![in alloc; 0u64; APART * cores as usize]?;
-    let (shared, mut hands) = Cells::make(alloc, &first, cells, cores)?;
+    let (shared, mut hands) = Cells::make(alloc, &first, Snapshot::of(&()), cells, cores)?;
     hold_each(rt, &shared, hands.as_mut_slice(), apart, rounds);
     Ok(())
 }
@@ -68,7 +71,7 @@ fn hold_each<R: Threads + Wait + Sync>(
     rounds: u32,
 )
     requires cores { All (IsBetweenCalls shared.now) hands.old }
-    requires cells { APART * length hands.old ≤ shared.now.table.slots }
+    requires cells { APART * length hands.old ≤ shared.now.table.id.slots }
     requires few { length hands.old ≤ 8 }
 {
     thread::for_each_mut(
@@ -76,7 +79,7 @@ fn hold_each<R: Threads + Wait + Sync>(
         hands,
         8,
         &|number, core: &mut Hand|
-            requires { IsBetweenCalls shared.now core.now × (APART * number < shared.now.table.slots) × (number < 8) }
+            requires { IsBetweenCalls shared.now core.now × (APART * number < shared.now.table.id.slots) × (number < 8) }
         {
             let place = if apart { APART * number } else { 0 };
             hold_often(rt, shared, core, place, rounds)

@@ -14,7 +14,8 @@ use Rattle.mem_values.specs.Places.{node_count}
 use Rattle.mem_values.specs.Stands.{StandsAt}
 use Rattle.mem_values.specs.Home.{BeginsAs}
 use Rattle.mem_values.proofs.Begun.{cells_begin}
-use Rattle.mem_begin.specs.Beginning.{given_in, given_of, IsGivenOf, IsFlushedOf, HasGivenBelow}
+use Rattle.mem_values.specs.Start.{given_in}
+use Rattle.mem_begin.specs.Beginning.{given_of, IsGivenOf, IsFlushedOf, HasGivenBelow}
 use Rattle.mem_begin.specs.Lying.{IsWhatLiesAt}
 use Rattle.mem_begin.proofs.Standing.{StandFrom}
 

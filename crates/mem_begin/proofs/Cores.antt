@@ -6,7 +6,7 @@ use Rattle.stamp_table.specs.Hand.{Hand}
 use Rattle.stamp_table.specs.Table.{TableState, AreAllCores, AreNew, IsBetweenCalls}
 use Rattle.stamp_table.proofs.Beginning.{new_between}
 
-pub between_made : {C X V E : Type 0} (hands : V → List (Hand C X)) (cores : ℕ) (first : TreeState) (result : Result (TableState × V) E)
+pub between_made : {C X G V E : Type 0} (hands : V → List (Hand C X G)) (cores : ℕ) (first : TreeState) (result : Result (TableState G × V) E)
     → cores ≡ length first.made → IfOk result (λ made. made.0.first ≡ first) → IfOk result (λ made. length (hands made.1) ≡ cores)
     → IfOk result (λ made. AreAllCores made.0 (hands made.1)) → IfOk result (λ made. AreNew first (hands made.1))
     → IfOk result (λ made. All (IsBetweenCalls made.0) (hands made.1))

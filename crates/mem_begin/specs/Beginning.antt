@@ -1,27 +1,22 @@
 -- With what trees a table begins, and what is given of their nodes.
-use Rattle.std.specs.Prelude.{◌≡◌, ℕ, ◌+◌, ◌-◌, ◌*◌, ◌<◌, ◌≤◌, List, length, Option, None, option_map}
+use Rattle.std.specs.Prelude.{◌≡◌, ℕ, ◌+◌, ◌-◌, ◌*◌, ◌<◌, ◌≤◌, List, length, Option, None}
 use Rattle.std.specs.FinMap.{get}
 use Rattle.tree_laws.specs.Tree.{TreeState, bytes_of, made_by}
 use Rattle.tree_laws.specs.Sound.{IsSound}
 use Rattle.tree_laws.specs.Verdict.{LARGEST_FILE}
 use Rattle.disk_nodes.specs.OldKept.{OldKept}
-use Rattle.keyed_list.specs.Ascending.{item_with}
-use Rattle.disk_nodes.specs.Nodes.{entry_node, entry_old}
 use Rattle.disk_nodes.specs.declared.old.OldEntry.{OldEntry}
 use Rattle.mem_values.specs.declared.bucket.Bucket.{Bucket}
 use Rattle.mem_values.specs.declared.cell_id.CellId.{CellId}
 use Rattle.mem_values.specs.declared.cell_id.CellId.TheVariants as id
 use Rattle.mem_values.specs.Stands.{if_directory}
+use Rattle.mem_values.specs.Start.{given_in}
 
 -- A tree with which a table may begin: it is sound, no file is longer than one may be, and no core has made a node.
 pub record CanBeginTable (tree : TreeState) : Type 0 where
   pub sound : IsSound tree
   pub short : (node : ℕ) → length (bytes_of tree node) ≤ LARGEST_FILE
   pub unmade : (core : ℕ) → made_by tree core ≡ 0
-
--- what the disk has of a node, by a list of the nodes of which it has something
-abbrev pub given_in : List OldEntry → ℕ → Option OldKept
-given_in entries node = option_map entry_old (item_with entry_node node entries)
 
 -- what the disk has of the node, where a cell is what was flushed of one
 abbrev pub given_of : List OldEntry → CellId → Option OldKept

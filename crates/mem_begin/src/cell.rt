@@ -1,16 +1,18 @@
 // What each cell begins with.
 ghost use Rattle.std.specs.Prelude.{◌≡◌, [], ℕ, IfOk};
+ghost use Rattle.mem_values.specs.Start.{given_in};
 ghost use Rattle.mem_values.specs.Home.{BeginsAs};
-ghost use Rattle.mem_begin.specs.Beginning.{CanBeginTable, given_in, given_of, IsGivenOf, IsFlushedOf};
+ghost use Rattle.mem_begin.specs.Beginning.{CanBeginTable, given_of, IsGivenOf, IsFlushedOf};
 
 use crate::bucket::bucket_of;
 use crate::file::file_of;
 use disk_nodes::{OldDisk, OldNode, take_old};
 use mem_cells::LogPart;
-use mem_values::{Cell, CellId, Given, PartCell, Pending, TreeLock};
+use mem_values::{Cell, CellId, PartCell, Pending, TreeLock};
 use sfs_base::{NoMemory, Stamp};
 use sfs_tree::Tree;
 use std::alloc::Global;
+use std::snapshot::Snapshot;
 
 /// What the disk has of the node, taken out of the list, where the cell is what was flushed of one.
 pub(crate) fn take_given(given: &mut OldDisk, cell: CellId) -> Option<OldNode>
@@ -24,16 +26,18 @@ pub(crate) fn take_given(given: &mut OldDisk, cell: CellId) -> Option<OldNode>
 }
 
 /// What a cell begins with, and with what the disk has of its node where it is what was flushed of one.
-pub(crate) fn begin_cell<T: Given>(
+pub(crate) fn begin_cell(
     alloc: Global,
     tree: &Tree,
+    start: &Snapshot<OldDisk>,
     cell: CellId,
     old: Option<OldNode>,
 ) -> Result<Cell, NoMemory>
     requires begins { CanBeginTable tree.now }
-    requires given { IsGivenOf T.given cell old }
-    ensures { IfOk result (BeginsAs T.given tree.now cell) }
+    requires given { IsGivenOf (given_in start.now.value.items) cell old }
+    ensures { IfOk result (BeginsAs (given_in start.now.value.items) tree.now cell) }
 {
+    let _start = start;
     match cell {
         CellId::Lock => Ok(Cell::Lock {
             lock: TreeLock { moved: None },

@@ -16,9 +16,10 @@ use Rattle.stamp_table.specs.declared.event.Event.TheVariants.{Called}
 use Rattle.stamp_table.specs.declared.held.HeldCell.{HeldCell}
 use Rattle.stamp_table.specs.Answered.{asks_fsync}
 use Rattle.stamp_table.specs.Events.{calls_in}
-use Rattle.stamp_table.specs.Hand.{Hand, places_of}
-use Rattle.stamp_table.specs.Table.{TableState, Stamps, LetsGo, Stands, EachFrom, left_below}
+use Rattle.stamp_table.specs.Hand.{places_of}
+use Rattle.stamp_table.specs.Table.{Stamps, LetsGo, Stands, EachFrom, left_below}
 use Rattle.stamp_table.proofs.Calling.{calls_snoc}
+use Rattle.mem_values.specs.Start.{FileHand, FileState}
 use Rattle.mem_values.specs.declared.cell.Cell.{Cell}
 use Rattle.mem_values.specs.declared.cell.PartCell.{PartCell}
 use Rattle.mem_values.specs.declared.cell_id.CellId.{CellId}
@@ -42,20 +43,20 @@ use Rattle.mem_calls.proofs.Finished as finished
 use Rattle.mem_calls.proofs.Stamped as stamped
 
 -- A core that makes a call in the middle of which it has taken values out of its cells, drawn its stamp, and changes what it holds.
-pub record Turn (given : ℕ → Option OldKept) (t : TableState) (nodes : ℕ) (before : Hand Cell Fact) (c : Call) (v : Verdict) (number : ℕ)
-    (mid : Hand Cell Fact) : Type 0 where
+pub record Turn (given : ℕ → Option OldKept) (t : FileState) (nodes : ℕ) (before : FileHand) (c : Call) (v : Verdict) (number : ℕ)
+    (mid : FileHand) : Type 0 where
   pub table : IsFileTable t nodes
   pub work : IsWorking given t before
   pub not : asks_fsync c ≡ false
   pub due : InEach before (λ tree. verdict tree before.view.core c ≡ v)
   pub held : List (HeldCell Cell)
-  pub out : Hand Cell Fact
+  pub out : FileHand
   pub out_is : out ≡ record before { held = held }
   pub drawn : Stamps (IsLawfulLog given) (StandsAt given) c v.reply out number mid
 
-module _ (given : ℕ → Option OldKept) (t : TableState) (nodes : ℕ) (before : Hand Cell Fact) (c : Call) (v : Verdict) (number : ℕ) (mid : Hand Cell Fact)
+module _ (given : ℕ → Option OldKept) (t : FileState) (nodes : ℕ) (before : FileHand) (c : Call) (v : Verdict) (number : ℕ) (mid : FileHand)
     (turn : Turn given t nodes before c v number mid) where
-  abbrev mid0 : Hand Cell Fact
+  abbrev mid0 : FileHand
   mid0 = record mid { held = before.held }
 
   abbrev pub stamps : Stamps (IsLawfulLog given) (StandsAt given) c v.reply before number mid0
@@ -74,7 +75,7 @@ module _ (given : ℕ → Option OldKept) (t : TableState) (nodes : ℕ) (before
   next = tree_after_call S before.view.core c
 
   pub mid_held : mid.held ≡ turn.held
-  mid_held = ap (λ (h : Hand Cell Fact). h.held) turn.drawn.frame ∙ ap (λ (h : Hand Cell Fact). h.held) turn.out_is
+  mid_held = ap (λ (h : FileHand). h.held) turn.drawn.frame ∙ ap (λ (h : FileHand). h.held) turn.out_is
 
   pub core_mid : mid.view.core ≡ before.view.core
   core_mid = finished.core_mid given t nodes before turn.table turn.work c v.reply number mid0 stamps
@@ -115,7 +116,8 @@ module _ (given : ℕ → Option OldKept) (t : TableState) (nodes : ℕ) (before
   pub part_stood : (p : PartCell) → part_held nodes before.held before.view.core ≡ Some p → StandsPart before.view.first (account_of log) before.view.core p
   part_stood p is = finished.part_stood given t nodes before turn.table turn.work c v.reply number mid0 stamps p is
 
-  pub few_entries : (p : PartCell) → part_held nodes before.held before.view.core ≡ Some p → length before.view.mine ≤ 2 ^ 50 → p.log.entries < 2 ^ 64 - 1
+  pub few_entries : (p : PartCell) → part_held nodes before.held before.view.core ≡ Some p
+      → length (calls_in before.view.mine) ≤ 2 ^ 50 → p.log.entries < 2 ^ 64 - 1
   few_entries p is few = finished.few_entries given t nodes before turn.table turn.work c v.reply number mid0 stamps p is few
 
   -- the own log goes home with what the entry logs
@@ -128,15 +130,15 @@ module _ (given : ℕ → Option OldKept) (t : TableState) (nodes : ℕ) (before
       (stamped.lawful_log given t nodes before turn.table turn.work c v.reply number mid0 stamps) stands added
       (made ∙ ap (λ (x : TreeState). made_by x before.view.core) (sym next_is)))
 
-  module _ (final : Hand Cell Fact) (held : List (HeldCell Cell)) (final_is : final ≡ record mid { held = held })
+  module _ (final : FileHand) (held : List (HeldCell Cell)) (final_is : final ≡ record mid { held = held })
       (places : places_of held ≡ places_of before.held) where
     final_held : final.held ≡ held
-    final_held = ap (λ (h : Hand Cell Fact). h.held) final_is
+    final_held = ap (λ (h : FileHand). h.held) final_is
 
     pub goes_home : ((which : CellId) (value : Cell) → IsCell nodes (length t.first.made) which → value_held nodes held which ≡ Some value
         → StandsForCell given before.view.first (account_of (log ++ Called entry ∷ [])) which value)
         → EachFrom 0 (Stands (IsLawfulLog given) (StandsAt given) final.view) final.held
-    goes_home each = stamped.home given t nodes before turn.table turn.work c v.reply number mid0 stamps final (ap (λ (h : Hand Cell Fact). h.view) final_is)
+    goes_home each = stamped.home given t nodes before turn.table turn.work c v.reply number mid0 stamps final (ap (λ (h : FileHand). h.view) final_is)
         (finished.view_held_mid given t nodes before turn.table turn.work c v.reply number mid0 stamps)
         (ap (λ (l : List (HeldCell Cell)). places_of l) final_held ∙ places)
         (λ which value is_cell is. each which value is_cell (ap (λ l. value_held nodes l which) (sym final_held) ∙ is))
@@ -148,7 +150,7 @@ module _ (given : ℕ → Option OldKept) (t : TableState) (nodes : ℕ) (before
         let two = Rattle.std.proofs.lemmas.List.length-map before.held (λ (h : HeldCell Cell). h.place) in
         omega (arith, same, one, two)
 
-    pub ended : (last : Hand Cell Fact) → LetsGo final last → last.held ≡ left_below 0 final.held → last.view.held ≡ reverse (places_of last.held)
+    pub ended : (last : FileHand) → LetsGo final last → last.held ≡ left_below 0 final.held → last.view.held ≡ reverse (places_of last.held)
         → IsAnswered t c v.reply before last
     ended last lets left at = finished.ends given t nodes before turn.table turn.work c v.reply number mid0 stamps v final last turn.due refl turn.not
-        (ap (λ (h : Hand Cell Fact). record h { held = before.held }) final_is) many lets left at
+        (ap (λ (h : FileHand). record h { held = before.held }) final_is) many lets left at

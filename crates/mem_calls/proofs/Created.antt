@@ -27,10 +27,11 @@ use Rattle.stamp_table.specs.declared.event.Event.{Event}
 use Rattle.stamp_table.specs.declared.event.Event.TheVariants.{Called}
 use Rattle.stamp_table.specs.declared.held.HeldCell.{HeldCell}
 use Rattle.stamp_table.specs.Events.{calls_in}
-use Rattle.stamp_table.specs.Hand.{Hand, places_of}
-use Rattle.stamp_table.specs.Table.{TableState, with_value, LetsGo, Stands, EachFrom, left_below}
+use Rattle.stamp_table.specs.Hand.{places_of}
+use Rattle.stamp_table.specs.Table.{with_value, LetsGo, Stands, EachFrom, left_below}
 use Rattle.stamp_table.proofs.Calling.{calls_snoc}
 use Rattle.stamp_table.proofs.Replacing.{same_places}
+use Rattle.mem_values.specs.Start.{FileHand, FileState}
 use Rattle.mem_values.specs.declared.cell.Cell.{Cell}
 use Rattle.mem_values.specs.declared.cell.FileCell.{FileCell}
 use Rattle.mem_values.specs.declared.cell.PartCell.{PartCell}
@@ -68,8 +69,8 @@ use Rattle.mem_calls.proofs.Changed as changed
 use Rattle.mem_calls.proofs.Changed.{Turn}
 use Rattle.mem_calls.proofs.Creation.{Creation}
 
-module _ {given : ℕ → Option OldKept} {t : TableState} {nodes : ℕ} {before : Hand Cell Fact} {dir : NodeId} {name : List ℕ} {child : NodeId} {kind : Kind}
-    {coming : Coming} {out : Hand Cell Fact} {number : ℕ} {mid : Hand Cell Fact}
+module _ {given : ℕ → Option OldKept} {t : FileState} {nodes : ℕ} {before : FileHand} {dir : NodeId} {name : List ℕ} {child : NodeId} {kind : Kind}
+    {coming : Coming} {out : FileHand} {number : ℕ} {mid : FileHand}
     (r : Creation given t nodes before dir name child kind coming out number mid) where
   abbrev mine : CellId
   mine = id.Part (record { 0 = before.view.core })
@@ -136,7 +137,7 @@ module _ {given : ℕ → Option OldKept} {t : TableState} {nodes : ℕ} {before
 
   pub bucket_out : IsSome (value_held nodes mid.held (id.Bucket dir (bucket name)))
   bucket_out = at_there nodes before dir name r.may.place r.part coming.ready r.is.mid r.is.ready out none_b r.is.out.1 mid
-      (ap (λ (h : Hand Cell Fact). h.held) r.drawn.frame)
+      (ap (λ (h : FileHand). h.held) r.drawn.frame)
 
   -- the bucket of the name, which is the one that was made ready
   row : IsWithRow name child.0 kind r.may.place.bucket_of coming.bucket.value
@@ -220,7 +221,7 @@ module _ {given : ℕ → Option OldKept} {t : TableState} {nodes : ℕ} {before
       (account_of log) before.view.core r.is.ready.part coming.ready.part.value r.is.ready.same r.is.ready.made
       (changed.part_stood given t nodes before c v number mid turn r.is.ready.part r.is.ready.was)
 
-  pub has_room : length before.view.mine ≤ 2 ^ 50 → HasRoomFor (log_entry number dir.0 name child.0 kind Add None [] ∷ []) coming.ready.part.value
+  pub has_room : length (calls_in before.view.mine) ≤ 2 ^ 50 → HasRoomFor (log_entry number dir.0 name child.0 kind Add None [] ∷ []) coming.ready.part.value
   has_room few = room_for_one before.view.first (account_of log) before.view.core coming.ready.part.value change part_stands
       (changed.legal_log given t nodes before c v number mid turn)
       (changed.number_is given t nodes before c v number mid turn) r.is.ready.room
@@ -230,9 +231,9 @@ module _ {given : ℕ → Option OldKept} {t : TableState} {nodes : ℕ} {before
   pub few_made : coming.ready.part.value.made < 4294967295
   few_made = let same = r.is.ready.made in let few = r.may.few r.is.ready.part r.is.ready.was in omega (arith, same, few)
 
-  module _ (vb : Cell) (three : Hand Cell Fact) (puts_b : PutsValue nodes (id.Bucket dir (bucket name)) vb mid three) where
+  module _ (vb : Cell) (three : FileHand) (puts_b : PutsValue nodes (id.Bucket dir (bucket name)) vb mid three) where
     three_held : three.held ≡ with_value (cell_place nodes at) vb out_held
-    three_held = ap (λ (h : Hand Cell Fact). h.held) puts_b ∙ ap (with_value (cell_place nodes at) vb) mid_held
+    three_held = ap (λ (h : FileHand). h.held) puts_b ∙ ap (with_value (cell_place nodes at) vb) mid_held
 
     -- the cells of the node are as they were
     same_by : (which : CellId) → (cell_place nodes at ≡ cell_place nodes which → ⊥) → (cell_place nodes mine ≡ cell_place nodes which → ⊥)
@@ -281,16 +282,16 @@ module _ {given : ℕ → Option OldKept} {t : TableState} {nodes : ℕ} {before
         file_mine same = let never : mine ≡ id.File child = places_apart nodes cores mine (id.File child) r.work.core r.may.new.within same in
             absurd (cc (never))
 
-    module _ (four : Hand Cell Fact) (settles : SettlesCreation nodes (is_new_cell child kind) dir three four) where
+    module _ (four : FileHand) (settles : SettlesCreation nodes (is_new_cell child kind) dir three four) where
       four_is : four ≡ record three { held = four.held }
-      four_is = ap (λ (h : Hand Cell Fact). record h { held = four.held }) settles.frame
+      four_is = ap (λ (h : FileHand). record h { held = four.held }) settles.frame
 
       three_is : three ≡ record mid { held = three.held }
-      three_is = puts_b ∙ ap (λ (l : List (HeldCell Cell)). record mid { held = l }) (ap (λ (h : Hand Cell Fact). h.held) (sym puts_b))
+      three_is = puts_b ∙ ap (λ (l : List (HeldCell Cell)). record mid { held = l }) (ap (λ (h : FileHand). h.held) (sym puts_b))
 
       core_four : four.view.core ≡ before.view.core
-      core_four = ap (λ (h : Hand Cell Fact). h.view.core) four_is
-          ∙ (ap (λ (h : Hand Cell Fact). h.view.core) three_is ∙ changed.core_mid given t nodes before c v number mid turn)
+      core_four = ap (λ (h : FileHand). h.view.core) four_is
+          ∙ (ap (λ (h : FileHand). h.view.core) three_is ∙ changed.core_mid given t nodes before c v number mid turn)
 
       at_below : cell_place nodes at ≡ cell_place nodes mine → ⊥
       at_below same = let never : at ≡ mine = places_apart nodes cores at mine at_cell r.work.core same in absurd (cc (never))
@@ -307,7 +308,7 @@ module _ {given : ℕ → Option OldKept} {t : TableState} {nodes : ℕ} {before
       module _ (is_b : as_bucket vb ≡ Some coming.bucket.value) (entered after : PartCell) (vp : Cell) (is_p : as_part vp ≡ Some after)
           (added : IsAddedTo coming.ready.part.value.log (log_entry number dir.0 name child.0 kind Add None [] ∷ []) entered.log)
           (made : entered.made ≡ coming.ready.part.value.made)
-          (same_log : after.log ≡ entered.log) (one_more : after.made ≡ entered.made + 1) (final : Hand Cell Fact)
+          (same_log : after.log ≡ entered.log) (one_more : after.made ≡ entered.made + 1) (final : FileHand)
           (puts_p : PutsValue nodes (id.Part (record { 0 = four.view.core })) vp four final) where
         abbrev new_cells : List (HeldCell Cell)
         new_cells = with_value (cell_place nodes mine) vp four.held
@@ -316,8 +317,8 @@ module _ {given : ℕ → Option OldKept} {t : TableState} {nodes : ℕ} {before
         puts = puts_p ∙ ap (λ (n : ℕ). record four { held = with_value (cell_place nodes (id.Part (record { 0 = n }))) vp four.held }) core_four
 
         final_is : final ≡ record mid { held = new_cells }
-        final_is = puts ∙ (ap (λ (h : Hand Cell Fact). record h { held = new_cells }) four_is
-            ∙ ap (λ (h : Hand Cell Fact). record h { held = new_cells }) three_is)
+        final_is = puts ∙ (ap (λ (h : FileHand). record h { held = new_cells }) four_is
+            ∙ ap (λ (h : FileHand). record h { held = new_cells }) three_is)
 
         places : places_of new_cells ≡ places_of before.held
         places = same_places (cell_place nodes mine) four.held vp ∙ (settles.places ∙ (ap places_of three_held ∙ (same_places (cell_place nodes at) out_held vb
@@ -371,6 +372,6 @@ module _ {given : ℕ → Option OldKept} {t : TableState} {nodes : ℕ} {before
         pub goes_home : EachFrom 0 (Stands (IsLawfulLog given) (StandsAt given) final.view) final.held
         goes_home = changed.goes_home given t nodes before c v number mid turn final new_cells final_is places each
 
-        pub answers : (last : Hand Cell Fact) → LetsGo final last → last.held ≡ left_below 0 final.held → last.view.held ≡ reverse (places_of last.held)
+        pub answers : (last : FileHand) → LetsGo final last → last.held ≡ left_below 0 final.held → last.view.held ≡ reverse (places_of last.held)
             → IsAnswered t (call.Make dir name kind) (reply.Node child kind) before last
         answers last lets left at_places = changed.ended given t nodes before c v number mid turn final new_cells final_is places last lets left at_places

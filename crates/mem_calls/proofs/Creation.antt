@@ -8,12 +8,10 @@ use Rattle.sfs_base.specs.declared.numbers.Kind.{Kind}
 use Rattle.tree_laws.specs.declared.call.Call.TheVariants as call
 use Rattle.tree_laws.specs.declared.reply.Reply.TheVariants as reply
 use Rattle.tree_laws.specs.Verdict.{verdict}
-use Rattle.stamp_table.specs.Hand.{Hand}
-use Rattle.stamp_table.specs.Table.{TableState, Stamps}
-use Rattle.mem_values.specs.declared.cell.Cell.{Cell}
+use Rattle.stamp_table.specs.Table.{Stamps}
+use Rattle.mem_values.specs.Start.{FileHand, FileState}
 use Rattle.mem_values.specs.declared.cell_id.CellId.{CellId}
 use Rattle.mem_values.specs.declared.cell_id.CellId.TheVariants as id
-use Rattle.mem_values.specs.declared.fact.Fact.{Fact}
 use Rattle.mem_values.specs.Stands.{StandsAt}
 use Rattle.mem_values.specs.Facts.{IsLawfulLog}
 use Rattle.mem_values.proofs.Basics.{some_of}
@@ -30,8 +28,8 @@ use Rattle.mem_calls.proofs.NewCells.{new_held}
 use Rattle.mem_calls.proofs.Stamped as stamped
 
 -- A node that is made, from the moment on at which its creation is stamped.
-pub record Creation (given : ℕ → Option OldKept) (t : TableState) (nodes : ℕ) (before : Hand Cell Fact) (dir : NodeId) (name : List ℕ) (child : NodeId)
-    (kind : Kind) (coming : Coming) (out : Hand Cell Fact) (number : ℕ) (mid : Hand Cell Fact) : Type 0 where
+pub record Creation (given : ℕ → Option OldKept) (t : FileState) (nodes : ℕ) (before : FileHand) (dir : NodeId) (name : List ℕ) (child : NodeId)
+    (kind : Kind) (coming : Coming) (out : FileHand) (number : ℕ) (mid : FileHand) : Type 0 where
   pub table : IsFileTable t nodes
   pub work : IsWorking given t before
   pub may : MayMake nodes before dir name child kind
@@ -40,8 +38,8 @@ pub record Creation (given : ℕ → Option OldKept) (t : TableState) (nodes : �
   pub is : IsComing nodes dir name child.0 kind before coming out
   pub drawn : Stamps (IsLawfulLog given) (StandsAt given) (call.Make dir name kind) (reply.Node child kind) out number mid
 
-pub creation : {given : ℕ → Option OldKept} {t : TableState} {nodes : ℕ} {before : Hand Cell Fact} {dir : NodeId} {name : List ℕ} {child : NodeId} {kind : Kind}
-    {coming : Coming} {out : Hand Cell Fact} {number : ℕ} {mid : Hand Cell Fact}
+pub creation : {given : ℕ → Option OldKept} {t : FileState} {nodes : ℕ} {before : FileHand} {dir : NodeId} {name : List ℕ} {child : NodeId} {kind : Kind}
+    {coming : Coming} {out : FileHand} {number : ℕ} {mid : FileHand}
     → IsFileTable t nodes → IsWorking given t before → MayMake nodes before dir name child kind → IsSome (part_held nodes before.held before.view.core)
     → InEach before (λ tree. verdict tree before.view.core (call.Make dir name kind) ≡ creates child dir name kind)
     → IsComing nodes dir name child.0 kind before coming out
@@ -49,7 +47,7 @@ pub creation : {given : ℕ → Option OldKept} {t : TableState} {nodes : ℕ} {
     → Creation given t nodes before dir name child kind coming out number mid
 creation table work may part due is drawn = record { table = table; work = work; may = may; part = part; due = due; is = is; drawn = drawn }
 
-module _ (given : ℕ → Option OldKept) (t : TableState) (nodes : ℕ) (before : Hand Cell Fact) (table : IsFileTable t nodes) (work : IsWorking given t before)
+module _ (given : ℕ → Option OldKept) (t : FileState) (nodes : ℕ) (before : FileHand) (table : IsFileTable t nodes) (work : IsWorking given t before)
     (dir : NodeId) (name : List ℕ) (child : NodeId) (kind : Kind) (may : MayMake nodes before dir name child kind)
     (part : IsSome (part_held nodes before.held before.view.core))
     (due : InEach before (λ tree. verdict tree before.view.core (call.Make dir name kind) ≡ creates child dir name kind)) where

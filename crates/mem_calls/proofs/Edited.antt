@@ -1,7 +1,7 @@
 -- A call that changes a file's bytes.
 use Rattle.std.proofs.Common.{◌≡◌, ◌<◌, ◌≤◌, ◌^◌, ℕ, Bool, true, false, ◌==◌, nat_eq, List, [], ◌∷◌, ◌++◌, length, Option, Some, None, IsSome, option_map, ◌⊎◌, inl, inr, refl, sym, ap, subst, ◌∙◌, eq-eqb, arith, ⊎_elim}
 use borrow.Author.Tests.{eqb-true}
-use Rattle.std.specs.Prelude.{if◌then◌else◌, ◌||◌, ◌&&◌, not}
+use Rattle.std.specs.Prelude.{if◌then◌else◌, ◌&&◌, not}
 use Rattle.std.proofs.lemmas.Bool.{cases_Bool, both_ways}
 use Rattle.std.proofs.lemmas.Option.{option_and_then_some}
 use Rattle.disk_nodes.specs.OldKept.{OldKept}
@@ -31,10 +31,11 @@ use Rattle.stamp_table.specs.declared.event.Event.TheVariants.{Called}
 use Rattle.stamp_table.specs.declared.held.HeldCell.{HeldCell}
 use Rattle.stamp_table.specs.Answered.{asks_fsync}
 use Rattle.stamp_table.specs.Events.{calls_in}
-use Rattle.stamp_table.specs.Hand.{Hand, places_of}
-use Rattle.stamp_table.specs.Table.{TableState, Stamps, Stands, EachFrom, with_value}
+use Rattle.stamp_table.specs.Hand.{places_of}
+use Rattle.stamp_table.specs.Table.{Stamps, Stands, EachFrom, with_value}
 use Rattle.stamp_table.proofs.Calling.{calls_snoc}
 use Rattle.stamp_table.proofs.Replacing.{same_places}
+use Rattle.mem_values.specs.Start.{FileHand, FileState}
 use Rattle.mem_values.specs.declared.cell.Cell.{Cell}
 use Rattle.mem_values.specs.declared.cell.Cell.TheVariants as cell
 use Rattle.mem_values.specs.declared.cell.FileCell.{FileCell}
@@ -65,15 +66,15 @@ use Rattle.mem_calls.proofs.Finished as finished
 use Rattle.mem_calls.proofs.Stamped as stamped
 
 -- a call of a core that has taken values out of its cells is one of the core as it was
-pub stamps_back : (given : ℕ → Option OldKept) (c : Call) (r : Reply) (before out : Hand Cell Fact) (number : ℕ) (mid : Hand Cell Fact)
+pub stamps_back : (given : ℕ → Option OldKept) (c : Call) (r : Reply) (before out : FileHand) (number : ℕ) (mid : FileHand)
     (held : List (HeldCell Cell)) → out ≡ record before { held = held }
     → Stamps (IsLawfulLog given) (StandsAt given) c r out number mid
     → Stamps (IsLawfulLog given) (StandsAt given) c r before number (record mid { held = before.held })
 stamps_back given c r before out number mid held out_is stamps =
     let s : Stamps (IsLawfulLog given) (StandsAt given) c r (record before { held = held }) number mid = subst
-    (λ (o : Hand Cell Fact). Stamps (IsLawfulLog given) (StandsAt given) c r o number mid) out_is stamps in
+    (λ (o : FileHand). Stamps (IsLawfulLog given) (StandsAt given) c r o number mid) out_is stamps in
     record {
-      frame = ap (λ (h : Hand Cell Fact). record h { held = before.held }) s.frame;
+      frame = ap (λ (h : FileHand). record h { held = before.held }) s.frame;
       spare = s.spare;
       entries = s.entries;
       waiting = s.waiting;
@@ -128,7 +129,7 @@ pub held_there : (nodes : ℕ) (held : List (HeldCell Cell)) (one other : CellId
 held_there nodes held one other same some = subst
     (λ p. IsSome (option_map (λ (h : HeldCell Cell). h.value) (Rattle.stamp_table.specs.Table.cell_at p held))) same some
 
-module _ (given : ℕ → Option OldKept) (t : TableState) (nodes : ℕ) (before : Hand Cell Fact) (table : IsFileTable t nodes) (work : IsWorking given t before)
+module _ (given : ℕ → Option OldKept) (t : FileState) (nodes : ℕ) (before : FileHand) (table : IsFileTable t nodes) (work : IsWorking given t before)
     (part : HoldsPart nodes before)
     (file : NodeId) (edit : FileEdit) (within : file.0 < nodes) (holds : IsSome (file_held nodes before.held file))
     (due : InEach before (λ tree. verdict tree before.view.core (edit_call file edit) ≡ done (Edits file.0 (edit_of edit)))) where
@@ -165,12 +166,12 @@ module _ (given : ℕ → Option OldKept) (t : TableState) (nodes : ℕ) (before
   value_of_file log (cell.Part box) f is stands = absurd (cc (is))
 
   -- where the edit is refused memory, the file is put back
-  module _ (none : Cell) (out : Hand Cell Fact) (out_is : out ≡ record before { held = with_value (cell_place nodes (id.File file)) none before.held })
+  module _ (none : Cell) (out : FileHand) (out_is : out ≡ record before { held = with_value (cell_place nodes (id.File file)) none before.held })
       (old : FileCell) (old_is : file_held nodes before.held file ≡ Some old)
-      (value : Cell) (is : as_file value ≡ Some old) (put : Hand Cell Fact)
+      (value : Cell) (is : as_file value ≡ Some old) (put : FileHand)
       (put_is : put ≡ record out { held = with_value (cell_place nodes (id.File file)) value out.held }) where
     pub put_back : put ≡ record before { held = with_value (cell_place nodes (id.File file)) value before.held }
-    put_back = put_is ∙ (ap (λ (h : Hand Cell Fact). record h { held = with_value (cell_place nodes (id.File file)) value h.held }) out_is
+    put_back = put_is ∙ (ap (λ (h : FileHand). record h { held = with_value (cell_place nodes (id.File file)) value h.held }) out_is
         ∙ ap (λ (l : List (HeldCell Cell)). record before { held = l }) (with_twice (cell_place nodes (id.File file)) value none before.held))
 
     stands : StandsForCell given before.view.first (account_of before.view.seen) (id.File file) value
@@ -180,17 +181,17 @@ module _ (given : ℕ → Option OldKept) (t : TableState) (nodes : ℕ) (before
     pub works_again : IsWorking given t put
     works_again = works_put given t nodes before table work (id.File file) value put within stands put_back
 
-    pub back_again : (last : Hand Cell Fact) → IsRefusedMemory t put last → IsRefusedMemory t before last
+    pub back_again : (last : FileHand) → IsRefusedMemory t put last → IsRefusedMemory t before last
     back_again last refused = refused_back t before put last (with_value (cell_place nodes (id.File file)) value before.held) put_back
         (same_length given t nodes before table work (id.File file) value put within stands put_back) refused
 
-  module _ (none : Cell) (out : Hand Cell Fact) (out_is : out ≡ record before { held = with_value (cell_place nodes (id.File file)) none before.held })
-      (number : ℕ) (mid : Hand Cell Fact)
+  module _ (none : Cell) (out : FileHand) (out_is : out ≡ record before { held = with_value (cell_place nodes (id.File file)) none before.held })
+      (number : ℕ) (mid : FileHand)
       (drawn : Stamps (IsLawfulLog given) (StandsAt given) c reply.Ok out number mid) where
     abbrev place : ℕ
     place = cell_place nodes (id.File file)
 
-    abbrev mid0 : Hand Cell Fact
+    abbrev mid0 : FileHand
     mid0 = record mid { held = before.held }
 
     abbrev pub stamps : Stamps (IsLawfulLog given) (StandsAt given) c reply.Ok before number mid0
@@ -206,7 +207,7 @@ module _ (given : ℕ → Option OldKept) (t : TableState) (nodes : ℕ) (before
     entry = stamped.entry given t nodes before table work c reply.Ok number mid0 stamps
 
     mid_held : mid.held ≡ with_value place none before.held
-    mid_held = ap (λ (h : Hand Cell Fact). h.held) drawn.frame ∙ ap (λ (h : Hand Cell Fact). h.held) out_is
+    mid_held = ap (λ (h : FileHand). h.held) drawn.frame ∙ ap (λ (h : FileHand). h.held) out_is
 
     verdict_is : verdict S before.view.core c ≡ done (Edits file.0 (edit_of edit))
     verdict_is = due S (stamped.meets given t nodes before table work c reply.Ok number mid0 stamps)
@@ -228,13 +229,13 @@ module _ (given : ℕ → Option OldKept) (t : TableState) (nodes : ℕ) (before
         ∙ Rattle.mem_calls.proofs.Taken.value_with nodes (id.File file) none before.held
         (some_first as_file (value_held nodes before.held (id.File file)) holds))
 
-    module _ (value : Cell) (next : FileCell) (is : as_file value ≡ Some next) (put : Hand Cell Fact)
+    module _ (value : Cell) (next : FileCell) (is : as_file value ≡ Some next) (put : FileHand)
         (put_is : put ≡ record mid { held = with_value (cell_place nodes (id.File file)) value mid.held }) where
       put_held : put.held ≡ with_value place value before.held
-      put_held = ap (λ (h : Hand Cell Fact). h.held) put_is ∙ (ap (with_value place value) mid_held ∙ with_twice place value none before.held)
+      put_held = ap (λ (h : FileHand). h.held) put_is ∙ (ap (with_value place value) mid_held ∙ with_twice place value none before.held)
 
       put_core : put.view.core ≡ before.view.core
-      put_core = ap (λ (h : Hand Cell Fact). h.view.core) put_is ∙ finished.core_mid given t nodes before table work c reply.Ok number mid0 stamps
+      put_core = ap (λ (h : FileHand). h.view.core) put_is ∙ finished.core_mid given t nodes before table work c reply.Ok number mid0 stamps
 
       parts_apart : place ≡ cell_place nodes own → ⊥
       parts_apart same = omega (arith, within, same)
@@ -247,17 +248,17 @@ module _ (given : ℕ → Option OldKept) (t : TableState) (nodes : ℕ) (before
       pub part_may : HoldsPart nodes put
       part_may = subst IsSome (sym own_part) part
 
-      pub room_may : length before.view.mine ≤ 2 ^ 50 → MayTake nodes [] put
+      pub room_may : length (calls_in before.view.mine) ≤ 2 ^ 50 → MayTake nodes [] put
       room_may few p held = no_changes p (finished.few_entries given t nodes before table work c reply.Ok number mid0 stamps p (sym own_part ∙ held) few)
 
-      module _ (final : Hand Cell Fact) (takes : TakesEntry nodes [] put final) where
+      module _ (final : FileHand) (takes : TakesEntry nodes [] put final) where
         final_held : final.held ≡ with_value (cell_place nodes own) takes.value (with_value place value before.held)
-        final_held = ap (λ (h : Hand Cell Fact). h.held) takes.frame
+        final_held = ap (λ (h : FileHand). h.held) takes.frame
             ∙ (λ i. with_value (cell_place nodes (id.Part (record { 0 = put_core i }))) takes.value (put_held i))
 
         pub final_is : record final { held = mid0.held } ≡ mid0
-        final_is = ap (λ (h : Hand Cell Fact). record h { held = before.held })
-            (takes.frame ∙ ap (λ (h : Hand Cell Fact). record h
+        final_is = ap (λ (h : FileHand). record h { held = before.held })
+            (takes.frame ∙ ap (λ (h : FileHand). record h
             { held = with_value (cell_place nodes (id.Part (record { 0 = put.view.core }))) takes.value put.held }) put_is)
 
         places : places_of final.held ≡ places_of before.held
@@ -343,5 +344,5 @@ module _ (given : ℕ → Option OldKept) (t : TableState) (nodes : ℕ) (before
               ]
 
           pub goes_home : EachFrom 0 (Stands (IsLawfulLog given) (StandsAt given) final.view) final.held
-          goes_home = stamped.home given t nodes before table work c reply.Ok number mid0 stamps final (ap (λ (h : Hand Cell Fact). h.view) final_is)
+          goes_home = stamped.home given t nodes before table work c reply.Ok number mid0 stamps final (ap (λ (h : FileHand). h.view) final_is)
               (finished.view_held_mid given t nodes before table work c reply.Ok number mid0 stamps) places each

@@ -1,7 +1,6 @@
 -- A call that ends a directory.
 use Rattle.std.proofs.Common.{◌≡◌, ◌≢◌, ◌<◌, ◌≤◌, ◌+◌, ◌*◌, ◌^◌, ℕ, reverse, Bool, true, false, not, ◌&&◌, ◌==◌, List, [], ◌∷◌, ◌++◌, length, Option, Some, None, IsSome, ◌⊎◌, inl, inr, refl, sym, ap, subst, ◌∙◌, eq-eqb, arith, ⊎_elim}
 use borrow.Author.Tests.{eqb-true}
-use Rattle.std.specs.Prelude.{◌||◌}
 use Rattle.std.specs.Option.{option_and_then}
 use Rattle.std.specs.FinMap.{get}
 use Rattle.std.proofs.lemmas.Bool.{cases_Bool, both_ways}
@@ -28,9 +27,11 @@ use Rattle.mem_cells.specs.Part.{IsAddedTo}
 use Rattle.stamp_table.specs.declared.event.Event.{Event}
 use Rattle.stamp_table.specs.declared.event.Event.TheVariants.{Called}
 use Rattle.stamp_table.specs.declared.held.HeldCell.{HeldCell}
-use Rattle.stamp_table.specs.Hand.{Hand, places_of}
-use Rattle.stamp_table.specs.Table.{TableState, with_value, Stamps, LetsGo, Stands, EachFrom, left_below}
+use Rattle.stamp_table.specs.Hand.{places_of}
+use Rattle.stamp_table.specs.Table.{with_value, Stamps, LetsGo, Stands, EachFrom, left_below}
 use Rattle.stamp_table.proofs.Replacing.{same_places}
+use Rattle.stamp_table.specs.Events.{calls_in}
+use Rattle.mem_values.specs.Start.{FileHand, FileState}
 use Rattle.mem_values.specs.declared.cell.Cell.{Cell}
 use Rattle.mem_values.specs.declared.cell.PartCell.{PartCell}
 use Rattle.mem_values.specs.declared.bucket.Bucket.{Bucket}
@@ -123,8 +124,8 @@ is_bucket nodes cores node (id.Part owner) within is_cell = inr (λ number lt sa
     part d n p k less lt same = omega (arith, less, lt, same)
 
 -- A directory that ends, from the moment on at which its removal is stamped.
-pub record Removal (given : ℕ → Option OldKept) (t : TableState) (nodes : ℕ) (before : Hand Cell Fact) (dir : NodeId) (name : List ℕ) (child : NodeId)
-    (ready : Ready) (out : Hand Cell Fact) (number : ℕ) (mid : Hand Cell Fact) : Type 0 where
+pub record Removal (given : ℕ → Option OldKept) (t : FileState) (nodes : ℕ) (before : FileHand) (dir : NodeId) (name : List ℕ) (child : NodeId)
+    (ready : Ready) (out : FileHand) (number : ℕ) (mid : FileHand) : Type 0 where
   pub table : IsFileTable t nodes
   pub work : IsWorking given t before
   pub names : NamesDirectory nodes before.held dir (bucket name) name child
@@ -135,7 +136,7 @@ pub record Removal (given : ℕ → Option OldKept) (t : TableState) (nodes : �
   pub is_ready : IsReadyForRow nodes dir name before ready out
   pub drawn : Stamps (IsLawfulLog given) (StandsAt given) (call.Rmdir dir name) reply.Ok out number mid
 
-module _ (given : ℕ → Option OldKept) (t : TableState) (nodes : ℕ) (before : Hand Cell Fact) (table : IsFileTable t nodes) (work : IsWorking given t before)
+module _ (given : ℕ → Option OldKept) (t : FileState) (nodes : ℕ) (before : FileHand) (table : IsFileTable t nodes) (work : IsWorking given t before)
     (dir : NodeId) (name : List ℕ) (child : NodeId)
     (names : NamesDirectory nodes before.held dir (bucket name) name child) (within : child.0 < nodes) (buckets : HoldsBuckets nodes before.held child)
     (part : IsSome (part_held nodes before.held before.view.core))
@@ -165,8 +166,8 @@ module _ (given : ℕ → Option OldKept) (t : TableState) (nodes : ℕ) (before
           (let one = meets.cores in let two = stamped.core_known given t nodes before table work in omega (arith, one, two)) child.0
           (meets.sound.sound.node dir.0 name child.0 row.0) ∙ row.1
 
-module _ (given : ℕ → Option OldKept) (t : TableState) (nodes : ℕ) (before : Hand Cell Fact) (dir : NodeId) (name : List ℕ) (child : NodeId) (ready : Ready)
-    (out : Hand Cell Fact) (number : ℕ) (mid : Hand Cell Fact)
+module _ (given : ℕ → Option OldKept) (t : FileState) (nodes : ℕ) (before : FileHand) (dir : NodeId) (name : List ℕ) (child : NodeId) (ready : Ready)
+    (out : FileHand) (number : ℕ) (mid : FileHand)
     (r : Removal given t nodes before dir name child ready out number mid) where
   abbrev c : Call
   c = call.Rmdir dir name
@@ -284,15 +285,15 @@ module _ (given : ℕ → Option OldKept) (t : TableState) (nodes : ℕ) (before
   part_stands = same_part_stands given before.view.first (account_of log) before.view.core r.is_ready.part ready.part.value r.is_ready.same r.is_ready.made
       (changed.part_stood given t nodes before c v number mid turn r.is_ready.part r.is_ready.was)
 
-  pub has_room : length before.view.mine ≤ 2 ^ 50 → HasRoomFor (change ∷ []) ready.part.value
+  pub has_room : length (calls_in before.view.mine) ≤ 2 ^ 50 → HasRoomFor (change ∷ []) ready.part.value
   has_room few = room_for_one before.view.first (account_of log) before.view.core ready.part.value change part_stands
       (changed.legal_log given t nodes before c v number mid turn) (changed.number_is given t nodes before c v number mid turn) r.is_ready.room
       (let e = r.is_ready.same.entries in let lt = changed.few_entries given t nodes before c v number mid turn r.is_ready.part r.is_ready.was few in
       omega (arith, e, lt))
 
-  module _ (two : Hand Cell Fact) (gone : RemovesRow nodes dir (bucket name) name mid two) where
+  module _ (two : FileHand) (gone : RemovesRow nodes dir (bucket name) name mid two) where
     two_held : two.held ≡ with_value (cell_place nodes at) gone.change.value out_held
-    two_held = ap (λ (h : Hand Cell Fact). h.held) gone.change.puts ∙ ap (with_value (cell_place nodes at) gone.change.value) mid_held
+    two_held = ap (λ (h : FileHand). h.held) gone.change.puts ∙ ap (with_value (cell_place nodes at) gone.change.value) mid_held
 
     bucket_kept : (k : ℕ) → k < 8 → bucket_held nodes two.held child k ≡ bucket_held nodes before.held child k
     bucket_kept k lt = ap (λ l. bucket_held nodes l child k) two_held
@@ -303,16 +304,16 @@ module _ (given : ℕ → Option OldKept) (t : TableState) (nodes : ℕ) (before
     pub buckets_there : HoldsBuckets nodes two.held child
     buckets_there k lt = subst IsSome (sym (bucket_kept k lt)) (r.buckets k lt)
 
-    module _ (three : Hand Cell Fact) (ends : PlacesDirectory nodes child 8 None two three) where
+    module _ (three : FileHand) (ends : PlacesDirectory nodes child 8 None two three) where
       three_is : three ≡ record two { held = three.held }
-      three_is = ap (λ (h : Hand Cell Fact). record h { held = three.held }) ends.frame
+      three_is = ap (λ (h : FileHand). record h { held = three.held }) ends.frame
 
       two_is : two ≡ record mid { held = two.held }
-      two_is = gone.change.puts ∙ ap (λ (l : List (HeldCell Cell)). record mid { held = l }) (ap (λ (h : Hand Cell Fact). h.held) (sym gone.change.puts))
+      two_is = gone.change.puts ∙ ap (λ (l : List (HeldCell Cell)). record mid { held = l }) (ap (λ (h : FileHand). h.held) (sym gone.change.puts))
 
       pub core_three : three.view.core ≡ before.view.core
-      core_three = ap (λ (h : Hand Cell Fact). h.view.core) three_is
-          ∙ (ap (λ (h : Hand Cell Fact). h.view.core) two_is ∙ changed.core_mid given t nodes before c v number mid turn)
+      core_three = ap (λ (h : FileHand). h.view.core) three_is
+          ∙ (ap (λ (h : FileHand). h.view.core) two_is ∙ changed.core_mid given t nodes before c v number mid turn)
 
       pub part_there : IsSome (value_held nodes three.held mine)
       part_there = some_of (value_held nodes three.held mine) r.is_ready.out.0
@@ -321,14 +322,14 @@ module _ (given : ℕ → Option OldKept) (t : TableState) (nodes : ℕ) (before
           ∙ value_with nodes mine r.is_ready.out.0 before.held (some_first as_part (value_held nodes before.held mine) r.part))))
 
       module _ (after : PartCell) (value : Cell) (is : as_part value ≡ Some after) (added : IsAddedTo ready.part.value.log (change ∷ []) after.log)
-          (made : after.made ≡ ready.part.value.made) (final : Hand Cell Fact)
+          (made : after.made ≡ ready.part.value.made) (final : FileHand)
           (puts : final ≡ record three { held = with_value (cell_place nodes mine) value three.held }) where
         abbrev new_held : List (HeldCell Cell)
         new_held = with_value (cell_place nodes mine) value three.held
 
         final_is : final ≡ record mid { held = new_held }
-        final_is = puts ∙ (ap (λ (h : Hand Cell Fact). record h { held = new_held }) three_is
-            ∙ ap (λ (h : Hand Cell Fact). record h { held = new_held }) two_is)
+        final_is = puts ∙ (ap (λ (h : FileHand). record h { held = new_held }) three_is
+            ∙ ap (λ (h : FileHand). record h { held = new_held }) two_is)
 
         cells : places_of new_held ≡ places_of before.held
         cells = same_places (cell_place nodes mine) three.held value
@@ -382,6 +383,6 @@ module _ (given : ℕ → Option OldKept) (t : TableState) (nodes : ℕ) (before
         pub goes_home : EachFrom 0 (Stands (IsLawfulLog given) (StandsAt given) final.view) final.held
         goes_home = changed.goes_home given t nodes before c v number mid turn final new_held final_is cells each
 
-        pub answers : (last : Hand Cell Fact) → LetsGo final last → last.held ≡ left_below 0 final.held → last.view.held ≡ reverse (places_of last.held)
+        pub answers : (last : FileHand) → LetsGo final last → last.held ≡ left_below 0 final.held → last.view.held ≡ reverse (places_of last.held)
             → IsAnswered t c reply.Ok before last
         answers last lets left at_places = changed.ended given t nodes before c v number mid turn final new_held final_is cells last lets left at_places

@@ -7,7 +7,6 @@ use Rattle.std.specs.Option.{option_map_or}
 use Rattle.std.specs.FinMap.{get}
 use Rattle.sfs_base.specs.Name.{bucket}
 use Rattle.sfs_base.specs.declared.numbers.NodeId.{NodeId}
-use Rattle.sfs_base.proofs.BasicOptions.{none_of}
 use Rattle.tree_laws.specs.NameRow.{number_of}
 use Rattle.tree_laws.specs.declared.call.Call.TheVariants as call
 use Rattle.tree_laws.specs.declared.reply.Code.TheVariants.{NoEntry, NotDir, NotEmpty}
@@ -19,11 +18,10 @@ use Rattle.tree_laws.proofs.Walks.{above_same}
 use Rattle.tree_laws.proofs.Joined.{bucket_small}
 use Rattle.stamp_table.specs.Ascending.{LiesAbove}
 use Rattle.stamp_table.specs.declared.held.HeldCell.{HeldCell}
-use Rattle.stamp_table.specs.Hand.{Hand}
+use Rattle.mem_values.specs.Start.{FileHand}
 use Rattle.mem_values.specs.declared.cell.Cell.{Cell}
 use Rattle.mem_values.specs.declared.bucket.Bucket.{Bucket}
 use Rattle.mem_values.specs.declared.cell_id.CellId.TheVariants as id
-use Rattle.mem_values.specs.declared.fact.Fact.{Fact}
 use Rattle.mem_values.specs.Places.{node_count}
 use Rattle.mem_values.specs.Stands.{ShowsBucket, if_directory}
 use Rattle.mem_values.specs.Laws.{MayMeet}
@@ -86,7 +84,7 @@ module _ (nodes : ℕ) (held : List (HeldCell Cell)) (dir : NodeId) (name : List
   }
 
 -- what a row names in each tree that a core may meet
-pub named_row : (hand : Hand Cell Fact) (nodes : ℕ) (dir : NodeId) (name : List ℕ) (child : NodeId) (tree : TreeState) → nodes ≡ node_count hand.view.first
+pub named_row : (hand : FileHand) (nodes : ℕ) (dir : NodeId) (name : List ℕ) (child : NodeId) (tree : TreeState) → nodes ≡ node_count hand.view.first
     → NamesDirectory nodes hand.held dir (bucket name) name child → MayMeet hand.view hand.held tree
     → (row_of tree dir.0 name ≡ Some child.0) × (is_directory tree child.0 ≡ true)
 named_row hand nodes dir name child tree counted names meets =
@@ -94,7 +92,7 @@ named_row hand nodes dir name child tree counted names meets =
     (name_shows hand nodes counted tree meets dir name (bucket name) names.bucket names.within refl names.held_is) child.0 names.row
 
 -- the child of a row is a node, and not the directory that has the row
-module _ (hand : Hand Cell Fact) (nodes : ℕ) (dir : NodeId) (name : List ℕ) (counted : nodes ≡ node_count hand.view.first) (met : CanMeet hand) where
+module _ (hand : FileHand) (nodes : ℕ) (dir : NodeId) (name : List ℕ) (counted : nodes ≡ node_count hand.view.first) (met : CanMeet hand) where
   pub child_within : (child : NodeId) → NamesDirectory nodes hand.held dir (bucket name) name child → child.0 < nodes
   child_within child names =
       let row = (named_row hand nodes dir name child met.0 counted names met.1).0 in
@@ -115,7 +113,7 @@ module _ (hand : Hand Cell Fact) (nodes : ℕ) (dir : NodeId) (name : List ℕ) 
   apart_if None names = tt
   apart_if (Some child) names = child_apart child names
 
-module _ (nodes : ℕ) (dir : NodeId) (name : List ℕ) (before after : Hand Cell Fact) where
+module _ (nodes : ℕ) (dir : NodeId) (name : List ℕ) (before after : FileHand) where
   -- what a row names still is what it named
   pub names_back : (child : NodeId) → StillHolds nodes before after → HoldsDirectory nodes before.held dir (bucket name)
       → NamesDirectory nodes after.held dir (bucket name) name child → NamesDirectory nodes before.held dir (bucket name) name child

@@ -16,10 +16,8 @@ use Rattle.tree_laws.specs.Laws.{IsSoundTree}
 use Rattle.tree_laws.proofs.RowFacts.{alive_named}
 use Rattle.tree_laws.proofs.KeepsNodes.{directory_node}
 use Rattle.tree_laws.proofs.Holders.{standing_is_alive}
-use Rattle.stamp_table.specs.Hand.{Hand}
-use Rattle.mem_values.specs.declared.cell.Cell.{Cell}
+use Rattle.mem_values.specs.Start.{FileHand}
 use Rattle.mem_values.specs.declared.bucket.Bucket.{Bucket}
-use Rattle.mem_values.specs.declared.fact.Fact.{Fact}
 use Rattle.mem_values.specs.Places.{node_count}
 use Rattle.mem_values.specs.Stands.{ShowsBucket, file_links}
 use Rattle.mem_values.specs.Laws.{MayMeet}
@@ -27,7 +25,7 @@ use Rattle.mem_values.proofs.Basics.{left_false}
 use Rattle.mem_calls.specs.Held.{is_standing}
 
 -- a tree that a core may meet has as many numbers as the first one
-pub same_count : (hand : Hand Cell Fact) (tree : TreeState) → MayMeet hand.view hand.held tree → node_count tree ≡ node_count hand.view.first
+pub same_count : (hand : FileHand) (tree : TreeState) → MayMeet hand.view hand.held tree → node_count tree ≡ node_count hand.view.first
 same_count hand tree meets = λ i. meets.first i + meets.share i * meets.cores i
 
 pub same_some : (o : Option NodeId) (p : Option ℕ) → number_of o ≡ p → is_some p ≡ is_some o

@@ -1,5 +1,5 @@
 -- The end of a call: the own log has its entry, and each cell goes home.
-use Rattle.std.proofs.Common.{◌≡◌, ◌<◌, ◌≤◌, ◌-◌, ◌^◌, ℕ, true, false, ◌&&◌, nat_eq, List, [], ◌∷◌, ◌++◌, length, filter, reverse, Option, Some, None, option_map, ◌⊎◌, inl, inr, refl, sym, ap, subst, ◌∙◌, eq-eqb, arith, ⊎_elim}
+use Rattle.std.proofs.Common.{◌≡◌, ◌<◌, ◌≤◌, ◌-◌, ◌^◌, ℕ, suc, true, false, ◌&&◌, nat_eq, List, [], ◌∷◌, ◌++◌, length, filter, reverse, Option, Some, None, option_map, ◌⊎◌, inl, inr, refl, sym, ap, subst, ◌∙◌, eq-eqb, arith, ⊎_elim}
 use borrow.Author.Tests.{eqb-true}
 use Rattle.std.specs.Prelude.{if◌then◌else◌, nat_le}
 use Rattle.std.proofs.lemmas.Bool.{cases_Bool, both_ways, leb-false}
@@ -21,8 +21,10 @@ use Rattle.stamp_table.specs.declared.held.HeldCell.{HeldCell}
 use Rattle.stamp_table.specs.Answered.{asks_fsync, is_want}
 use Rattle.stamp_table.specs.Events.{event_core, calls_in}
 use Rattle.stamp_table.specs.Rule.{entries_by}
-use Rattle.stamp_table.specs.Hand.{Hand, places_of}
-use Rattle.stamp_table.specs.Table.{TableState, Stamps, LetsGo, cell_at, with_value, is_at, drop_from, left_below, entry_numbered}
+use Rattle.stamp_table.specs.Hand.{places_of}
+use Rattle.stamp_table.specs.Table.{Stamps, LetsGo, cell_at, with_value, is_at, drop_from, left_below, entry_numbered}
+use Rattle.stamp_table.proofs.Closing.{own_calls}
+use Rattle.mem_values.specs.Start.{FileHand, FileState}
 use Rattle.mem_values.specs.declared.cell.Cell.{Cell}
 use Rattle.mem_values.specs.declared.cell.Cell.TheVariants as cell
 use Rattle.mem_values.specs.declared.cell.PartCell.{PartCell}
@@ -96,17 +98,8 @@ drop_all (c ∷ cells) = ⊎_elim
 pub none_left : (cells : List (HeldCell Cell)) → left_below 0 cells ≡ []
 none_left cells = ap reverse (drop_all (reverse cells))
 
--- the calls of a core are no more than its events
-own_calls : (core : ℕ) (log : List (Event Fact)) → length (filter (is_core core) (calls_in log)) ≤ length (entries_by event_core core log)
-own_calls core [] = omega arith
-own_calls core (Called entry ∷ log) = let r = own_calls core log in
-    ⊎_elim (λ (is : nat_eq entry.core.0 core ≡ true). rw is (omega (arith, r))) (λ (is : nat_eq entry.core.0 core ≡ false). rw is r)
-    (cases_Bool (nat_eq entry.core.0 core))
-own_calls core (Told by fact ∷ log) = let r = own_calls core log in
-    ⊎_elim (λ (is : nat_eq by.0 core ≡ true). rw is (omega (arith, r))) (λ (is : nat_eq by.0 core ≡ false). rw is r) (cases_Bool (nat_eq by.0 core))
-
-module _ (given : ℕ → Option OldKept) (t : TableState) (nodes : ℕ) (before : Hand Cell Fact) (table : IsFileTable t nodes) (work : IsWorking given t before)
-    (c : Call) (reply : Reply) (number : ℕ) (mid : Hand Cell Fact) (stamps : Stamps (IsLawfulLog given) (StandsAt given) c reply before number mid) where
+module _ (given : ℕ → Option OldKept) (t : FileState) (nodes : ℕ) (before : FileHand) (table : IsFileTable t nodes) (work : IsWorking given t before)
+    (c : Call) (reply : Reply) (number : ℕ) (mid : FileHand) (stamps : Stamps (IsLawfulLog given) (StandsAt given) c reply before number mid) where
   abbrev S : TreeState
   S = stamped.tree given t nodes before table work c reply number mid stamps
 
@@ -123,7 +116,7 @@ module _ (given : ℕ → Option OldKept) (t : TableState) (nodes : ℕ) (before
   own = id.Part (record { 0 = before.view.core })
 
   pub held_mid : mid.held ≡ before.held
-  held_mid = ap (λ (h : Hand Cell Fact). h.held) stamps.frame
+  held_mid = ap (λ (h : FileHand). h.held) stamps.frame
 
   pub view_held_mid : mid.view.held ≡ before.view.held
   view_held_mid = ap (λ (v : View TreeState (Event Fact)). v.held) stamps.drew.1.frame
@@ -154,11 +147,12 @@ module _ (given : ℕ → Option OldKept) (t : TableState) (nodes : ℕ) (before
       (λ value found kind. part_of_value value p kind (stamped.stood given t nodes before table work c reply number mid stamps own value work.core found))
 
   -- it counts fewer entries than it can
-  pub few_entries : (p : PartCell) → part_held nodes before.held before.view.core ≡ Some p → length before.view.mine ≤ 2 ^ 50 → p.log.entries < 2 ^ 64 - 1
+  pub few_entries : (p : PartCell) → part_held nodes before.held before.view.core ≡ Some p
+      → length (calls_in before.view.mine) ≤ 2 ^ 50 → p.log.entries < 2 ^ 64 - 1
   few_entries p is few =
       let counted = (part_stood p is).left.entries_counted in
-      let own_few = own_calls before.view.core log in
-      let mine = ap length (stamped.mine_is given t nodes before table work c reply number mid stamps) in
+      let own_few = ap length (own_calls before.view.core log) in
+      let mine = ap (λ l. length (calls_in l)) (stamped.mine_is given t nodes before table work c reply number mid stamps) in
       omega (arith, counted, own_few, mine, few)
 
   -- it goes home with what its entry logs
@@ -171,15 +165,15 @@ module _ (given : ℕ → Option OldKept) (t : TableState) (nodes : ℕ) (before
       (stamped.lawful_log given t nodes before table work c reply number mid stamps) (part_stood p was) added made)
 
   -- what a call comes to whose cells have all gone home
-  pub ends_as : (v : Verdict) (final last : Hand Cell Fact) → verdict S before.view.core c ≡ v → v.reply ≡ reply → asks_fsync c ≡ false
+  pub ends_as : (v : Verdict) (final last : FileHand) → verdict S before.view.core c ≡ v → v.reply ≡ reply → asks_fsync c ≡ false
       → record final { held = mid.held } ≡ mid → length final.held ≡ length before.held → LetsGo final last → last.held ≡ left_below 0 final.held
       → last.view.held ≡ reverse (places_of last.held)
       → IsAnswered t c reply before last
   ends_as v final last verdict_is reply_is not final_is many lets left places =
       let last_held : last.held ≡ [] = left ∙ none_left final.held in
-      let view_final : final.view ≡ mid.view = ap (λ (h : Hand Cell Fact). h.view) final_is in
-      let table_is : last.table ≡ before.table = ap (λ (h : Hand Cell Fact). h.table) lets.frame
-      ∙ (ap (λ (h : Hand Cell Fact). h.table) final_is ∙ ap (λ (h : Hand Cell Fact). h.table) stamps.frame) in
+      let view_final : final.view ≡ mid.view = ap (λ (h : FileHand). h.view) final_is in
+      let table_is : last.table ≡ before.table = ap (λ (h : FileHand). h.table) lets.frame
+      ∙ (ap (λ (h : FileHand). h.table) final_is ∙ ap (λ (h : FileHand). h.table) stamps.frame) in
       let core_is : last.view.core ≡ before.view.core = ap (λ (v : View TreeState (Event Fact)). v.core) lets.view
       ∙ (ap (λ (v : View TreeState (Event Fact)). v.core) view_final ∙ core_mid) in
       record {
@@ -191,20 +185,20 @@ module _ (given : ℕ → Option OldKept) (t : TableState) (nodes : ℕ) (before
           core_is = subst (λ n. n < length t.first.made) (sym core_is) work.core;
           holds_none = last_held;
           none_held = places ∙ ap (λ (l : List (HeldCell Cell)). reverse (places_of l)) last_held;
-          none_waits = ap (λ (h : Hand Cell Fact). h.waiting) lets.frame
-              ∙ (ap (λ (h : Hand Cell Fact). h.waiting) final_is ∙ (stamps.waiting ∙ ap (λ b. if b && is_want reply then Some number else None) not));
+          none_waits = ap (λ (h : FileHand). h.waiting) lets.frame
+              ∙ (ap (λ (h : FileHand). h.waiting) final_is ∙ (stamps.waiting ∙ ap (λ b. if b && is_want reply then Some number else None) not));
         };
         same = record {
           table = table_is;
-          cores = ap (λ (h : Hand Cell Fact). h.cores) lets.frame
-              ∙ (ap (λ (h : Hand Cell Fact). h.cores) final_is ∙ ap (λ (h : Hand Cell Fact). h.cores) stamps.frame);
-          leads = ap (λ (h : Hand Cell Fact). h.leads) lets.frame
-              ∙ (ap (λ (h : Hand Cell Fact). h.leads) final_is ∙ ap (λ (h : Hand Cell Fact). h.leads) stamps.frame);
+          cores = ap (λ (h : FileHand). h.cores) lets.frame
+              ∙ (ap (λ (h : FileHand). h.cores) final_is ∙ ap (λ (h : FileHand). h.cores) stamps.frame);
+          leads = ap (λ (h : FileHand). h.leads) lets.frame
+              ∙ (ap (λ (h : FileHand). h.leads) final_is ∙ ap (λ (h : FileHand). h.leads) stamps.frame);
           number = core_is;
         };
-        room = (let r = lets.room in let none = ap length last_held in let same = ap (λ (h : Hand Cell Fact). h.room) final_is in
-            let was = ap (λ (h : Hand Cell Fact). h.room) stamps.frame in omega (arith, r, none, same, was, many));
-        spare = (let l = ap (λ (h : Hand Cell Fact). h.spare) lets.frame in let f = ap (λ (h : Hand Cell Fact). h.spare) final_is in let s = stamps.spare in
+        room = (let r = lets.room in let none = ap length last_held in let same = ap (λ (h : FileHand). h.room) final_is in
+            let was = ap (λ (h : FileHand). h.room) stamps.frame in omega (arith, r, none, same, was, many));
+        spare = (let l = ap (λ (h : FileHand). h.spare) lets.frame in let f = ap (λ (h : FileHand). h.spare) final_is in let s = stamps.spare in
             omega (arith, l, f, s));
         stands = (
           log,
@@ -217,13 +211,13 @@ module _ (given : ℕ → Option OldKept) (t : TableState) (nodes : ℕ) (before
             due = sym reply_is ∙ (sym (ap (λ (w : Verdict). w.reply) verdict_is)
                 ∙ ap (λ f. (verdict (tree_after f (calls_in log)) before.view.core c).reply) work.first);
           },
-          ap (λ (h : Hand Cell Fact). h.entries) lets.frame ∙ (ap (λ (h : Hand Cell Fact). h.entries) final_is ∙ stamps.entries),
+          ap (λ (h : FileHand). h.entries) lets.frame ∙ (ap (λ (h : FileHand). h.entries) final_is ∙ stamps.entries),
           ap (λ (v : View TreeState (Event Fact)). v.mine) lets.view ∙ (ap (λ (v : View TreeState (Event Fact)). v.mine) view_final ∙ stamps.drew.1.mine),
         );
       }
 
   -- the same by what is due in each tree that the core may meet
-  pub ends : (v : Verdict) (final last : Hand Cell Fact) → InEach before (λ tree. verdict tree before.view.core c ≡ v) → v.reply ≡ reply → asks_fsync c ≡ false
+  pub ends : (v : Verdict) (final last : FileHand) → InEach before (λ tree. verdict tree before.view.core c ≡ v) → v.reply ≡ reply → asks_fsync c ≡ false
       → record final { held = mid.held } ≡ mid → length final.held ≡ length before.held → LetsGo final last → last.held ≡ left_below 0 final.held
       → last.view.held ≡ reverse (places_of last.held)
       → IsAnswered t c reply before last

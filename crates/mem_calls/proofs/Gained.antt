@@ -15,10 +15,11 @@ use Rattle.stamp_table.specs.declared.view.View.{View}
 use Rattle.stamp_table.specs.declared.event.Event.{Event}
 use Rattle.stamp_table.specs.declared.held.HeldCell.{HeldCell}
 use Rattle.stamp_table.specs.Rule.{Has, entries_by}
-use Rattle.stamp_table.specs.Hand.{Hand, places_of}
+use Rattle.stamp_table.specs.Hand.{places_of}
 use Rattle.stamp_table.specs.Ascending.{LiesAbove, Falls}
-use Rattle.stamp_table.specs.Table.{TableState, HoldsMore}
+use Rattle.stamp_table.specs.Table.{HoldsMore}
 use Rattle.stamp_table.proofs.Hands.{places_snoc, held_once}
+use Rattle.mem_values.specs.Start.{FileHand, FileState}
 use Rattle.mem_values.specs.declared.cell.Cell.{Cell}
 use Rattle.mem_values.specs.declared.cell.Cell.TheVariants as cell
 use Rattle.mem_values.specs.declared.cell_id.CellId.{CellId}
@@ -69,7 +70,7 @@ pub knows_append : (given : ℕ → Option OldKept) (view : View TreeState (Even
 knows_append given view [] more one two = two
 knows_append given view (c ∷ cells) more one two = (one.0, knows_append given view cells more one.1 two)
 
-module _ (given : ℕ → Option OldKept) (t : TableState) (nodes : ℕ) (which : CellId) (before after : Hand Cell Fact) (table : IsFileTable t nodes)
+module _ (given : ℕ → Option OldKept) (t : FileState) (nodes : ℕ) (which : CellId) (before after : FileHand) (table : IsFileTable t nodes)
     (work : IsWorking given t before)
     (is_cell : IsCell nodes (length t.first.made) which) (above : LiesAbove (cell_place nodes which) before.view.held)
     (holds : HoldsMore (IsLawfulLog given) (StandsAt given) (cell_place nodes which) before after) where
@@ -98,10 +99,9 @@ module _ (given : ℕ → Option OldKept) (t : TableState) (nodes : ℕ) (which 
 
   pub works : IsWorking given t after
   works = record {
-    table = ap (λ (h : Hand Cell Fact). h.table) holds.frame ∙ work.table;
+    table = ap (λ (h : FileHand). h.table) holds.frame ∙ work.table;
     first = first_same ∙ work.first;
     core = subst (λ n. n < length t.first.made) (sym (ap (λ (v : View TreeState (Event Fact)). v.core) holds.saw.frame)) work.core;
-    none_waits = ap (λ (h : Hand Cell Fact). h.waiting) holds.frame ∙ work.none_waits;
     places = holds.saw.held ∙ (ap (λ l. cell_place nodes which ∷ l) work.places
         ∙ (sym (places_snoc before.held last) ∙ ap (λ (l : List (HeldCell Cell)). reverse (places_of l)) (sym held_is)));
     falls = subst Falls (sym holds.saw.held) falls;

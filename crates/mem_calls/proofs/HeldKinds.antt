@@ -1,9 +1,9 @@
 -- What a core still holds, and of which kind it is.
-use Rattle.std.proofs.Common.{◌≡◌, ℕ, false, Option, Some, None, IsSome, refl, sym, ap, subst, ◌∙◌}
+use Rattle.std.proofs.Common.{◌≡◌, ℕ, false, Option, Some, IsSome, refl, sym, ap, subst, ◌∙◌}
 use Rattle.std.specs.Option.{option_and_then, option_map_or}
 use Rattle.std.proofs.lemmas.Option.{option_and_then_some}
 use Rattle.sfs_base.specs.declared.numbers.NodeId.{NodeId}
-use Rattle.stamp_table.specs.Hand.{Hand}
+use Rattle.mem_values.specs.Start.{FileHand}
 use Rattle.mem_values.specs.declared.cell.Cell.{Cell}
 use Rattle.mem_values.specs.declared.cell.Cell.TheVariants as cell
 use Rattle.mem_values.specs.declared.cell.FileCell.{FileCell}
@@ -11,7 +11,6 @@ use Rattle.mem_values.specs.declared.cell.Pending.{Pending}
 use Rattle.mem_values.specs.declared.bucket.Bucket.{Bucket}
 use Rattle.mem_values.specs.declared.cell_id.CellId.{CellId}
 use Rattle.mem_values.specs.declared.cell_id.CellId.TheVariants as id
-use Rattle.mem_values.specs.declared.fact.Fact.{Fact}
 use Rattle.mem_values.proofs.Basics.{is_value, some_of}
 use Rattle.mem_calls.specs.Held.{value_held, as_bucket, as_file, as_pending, bucket_held, file_held, pending_held, is_standing, is_linked, HoldsDirectory, HoldsFile}
 use Rattle.mem_calls.specs.Working.{IsOfKind, StillHolds, Gains}
@@ -41,7 +40,7 @@ pending_kind node (cell.Part part) kind = absurd kind
 some_then : {X Y : Type 0} (f : X → Option Y) (o : Option X) (x : X) → o ≡ Some x → IsSome (f x) → IsSome (option_and_then f o)
 some_then f o x is some = subst (λ p. IsSome (option_and_then f p)) (sym is) some
 
-module _ (nodes : ℕ) (before after : Hand Cell Fact) where
+module _ (nodes : ℕ) (before after : FileHand) where
   pub holds_file : (node : NodeId) → Gains nodes (id.File node) before after → IsSome (file_held nodes after.held node)
   holds_file node gains = some_then as_file (value_held nodes after.held (id.File node)) gains.there.0 gains.there.1
       (file_kind node gains.there.0 gains.there.2)

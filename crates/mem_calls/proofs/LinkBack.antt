@@ -12,8 +12,8 @@ use Rattle.mem_cells.specs.Part.{IsSamePart}
 use Rattle.stamp_table.specs.declared.event.Event.{Event}
 use Rattle.stamp_table.specs.declared.held.HeldCell.{HeldCell}
 use Rattle.stamp_table.specs.Events.{calls_in}
-use Rattle.stamp_table.specs.Hand.{Hand}
-use Rattle.stamp_table.specs.Table.{TableState, is_at, with_value}
+use Rattle.stamp_table.specs.Table.{is_at, with_value}
+use Rattle.mem_values.specs.Start.{FileHand, FileState}
 use Rattle.mem_values.specs.declared.cell.Cell.{Cell}
 use Rattle.mem_values.specs.declared.cell.Cell.TheVariants as cell
 use Rattle.mem_values.specs.declared.cell.PartCell.{PartCell}
@@ -56,11 +56,11 @@ bucket_of_value given first log node number (cell.Lock lock) b is stood = absurd
 bucket_of_value given first log node number (cell.Pending box) b is stood = absurd stood
 bucket_of_value given first log node number (cell.Part box) b is stood = absurd stood
 
-module _ (given : ℕ → Option OldKept) (t : TableState) (nodes : ℕ) (before : Hand Cell Fact) (table : IsFileTable t nodes) (work : IsWorking given t before)
+module _ (given : ℕ → Option OldKept) (t : FileState) (nodes : ℕ) (before : FileHand) (table : IsFileTable t nodes) (work : IsWorking given t before)
     (dir : NodeId) (number : ℕ) (within : dir.0 < nodes) (eight : number < 8)
     (b : Bucket) (bucket_is : bucket_held nodes before.held dir number ≡ Some b) (vb : Cell) (is_b : as_bucket vb ≡ Some b) (p q : PartCell)
     (was : part_held nodes before.held before.view.core ≡ Some p) (same : IsSamePart p.log q.log) (made : q.made ≡ p.made)
-    (vp : Cell) (is_p : as_part vp ≡ Some q) (none_b none_p : Cell) (put : Hand Cell Fact)
+    (vp : Cell) (is_p : as_part vp ≡ Some q) (none_b none_p : Cell) (put : FileHand)
     (puts : put ≡ record before {
       held = with_value (cell_place nodes (id.Part (record { 0 = before.view.core }))) vp (with_value (cell_place nodes (id.Bucket dir number)) vb
           (with_value (cell_place nodes (id.Bucket dir number)) none_b
@@ -75,7 +75,7 @@ module _ (given : ℕ → Option OldKept) (t : TableState) (nodes : ℕ) (before
   apart : at ≡ mine → ⊥
   apart e = omega (arith, within, eight, e)
 
-  abbrev one : Hand Cell Fact
+  abbrev one : FileHand
   one = record before { held = with_value at vb before.held }
 
   puts_now : put ≡ record one { held = with_value mine vp one.held }
@@ -98,7 +98,7 @@ module _ (given : ℕ → Option OldKept) (t : TableState) (nodes : ℕ) (before
   pub works_both : IsWorking given t put
   works_both = works_ready given t nodes one table works_one p q was_one same made vp is_p put puts_now
 
-  pub back_both : (last : Hand Cell Fact) → IsRefusedMemory t put last → IsRefusedMemory t before last
+  pub back_both : (last : FileHand) → IsRefusedMemory t put last → IsRefusedMemory t before last
   back_both last refused =
       refused_back t before one last (with_value at vb before.held) refl
       (same_length given t nodes before table work (id.Bucket dir number) vb one (within, eight) stands refl)

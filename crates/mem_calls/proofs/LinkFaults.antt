@@ -6,7 +6,6 @@ use Rattle.std.specs.FinMap.{get, len}
 use Rattle.std.proofs.lemmas.Bool.Decides.{nat_tests}
 use Rattle.sfs_base.specs.Name.{bucket}
 use Rattle.sfs_base.specs.declared.numbers.NodeId.{NodeId}
-use Rattle.sfs_base.proofs.BasicOptions.{none_of}
 use Rattle.tree_laws.specs.declared.call.Call.TheVariants as call
 use Rattle.tree_laws.specs.declared.reply.Code.{Code}
 use Rattle.tree_laws.specs.declared.reply.Code.TheVariants.{NoEntry, IsDir, Exists, NotPermitted, TooManyLinks, DirFull}

@@ -31,10 +31,11 @@ use Rattle.stamp_table.specs.declared.event.Event.{Event}
 use Rattle.stamp_table.specs.declared.event.Event.TheVariants.{Called}
 use Rattle.stamp_table.specs.declared.held.HeldCell.{HeldCell}
 use Rattle.stamp_table.specs.Events.{calls_in}
-use Rattle.stamp_table.specs.Hand.{Hand, places_of}
-use Rattle.stamp_table.specs.Table.{TableState, with_value, Stamps, LetsGo, Stands, EachFrom, left_below}
+use Rattle.stamp_table.specs.Hand.{places_of}
+use Rattle.stamp_table.specs.Table.{with_value, Stamps, LetsGo, Stands, EachFrom, left_below}
 use Rattle.stamp_table.proofs.Calling.{calls_snoc}
 use Rattle.stamp_table.proofs.Replacing.{same_places}
+use Rattle.mem_values.specs.Start.{FileHand, FileState}
 use Rattle.mem_values.specs.declared.cell.Cell.{Cell}
 use Rattle.mem_values.specs.declared.cell.FileCell.{FileCell}
 use Rattle.mem_values.specs.declared.cell.PartCell.{PartCell}
@@ -99,8 +100,8 @@ link_keeps nodes tree core file dir name (id.Part owner) does part not_file here
     (cases_Bool (core == owner.0))
 
 -- A file that gets a further row, from the moment on at which that is stamped.
-pub record Linking (given : ℕ → Option OldKept) (t : TableState) (nodes : ℕ) (before : Hand Cell Fact) (file dir : NodeId) (name : List ℕ)
-    (coming : Coming) (out : Hand Cell Fact) (number : ℕ) (mid : Hand Cell Fact) : Type 0 where
+pub record Linking (given : ℕ → Option OldKept) (t : FileState) (nodes : ℕ) (before : FileHand) (file dir : NodeId) (name : List ℕ)
+    (coming : Coming) (out : FileHand) (number : ℕ) (mid : FileHand) : Type 0 where
   pub table : IsFileTable t nodes
   pub work : IsWorking given t before
   pub may : MayLink nodes before.held file dir name
@@ -109,9 +110,9 @@ pub record Linking (given : ℕ → Option OldKept) (t : TableState) (nodes : �
   pub is : IsComing nodes dir name file.0 File before coming out
   pub drawn : Stamps (IsLawfulLog given) (StandsAt given) (call.Link file dir name) reply.Ok out number mid
 
-pub linking : {given : ℕ → Option OldKept} {t : TableState} {nodes : ℕ} {before : Hand Cell Fact} {file dir : NodeId} {name : List ℕ} {coming : Coming}
-    {out : Hand Cell Fact} {number : ℕ}
-    {mid : Hand Cell Fact} → IsFileTable t nodes → IsWorking given t before → MayLink nodes before.held file dir name
+pub linking : {given : ℕ → Option OldKept} {t : FileState} {nodes : ℕ} {before : FileHand} {file dir : NodeId} {name : List ℕ} {coming : Coming}
+    {out : FileHand} {number : ℕ}
+    {mid : FileHand} → IsFileTable t nodes → IsWorking given t before → MayLink nodes before.held file dir name
     → IsSome (part_held nodes before.held before.view.core)
     → InEach before (λ tree. verdict tree before.view.core (call.Link file dir name) ≡ done (Adds dir.0 name file.0))
     → IsComing nodes dir name file.0 File before coming out
@@ -119,7 +120,7 @@ pub linking : {given : ℕ → Option OldKept} {t : TableState} {nodes : ℕ} {b
     → Linking given t nodes before file dir name coming out number mid
 linking table work may part due is drawn = record { table = table; work = work; may = may; part = part; due = due; is = is; drawn = drawn }
 
-module _ (given : ℕ → Option OldKept) (t : TableState) (nodes : ℕ) (before : Hand Cell Fact) (table : IsFileTable t nodes) (work : IsWorking given t before)
+module _ (given : ℕ → Option OldKept) (t : FileState) (nodes : ℕ) (before : FileHand) (table : IsFileTable t nodes) (work : IsWorking given t before)
     (file dir : NodeId)
     (name : List ℕ) (may : MayLink nodes before.held file dir name) (part : IsSome (part_held nodes before.held before.view.core))
     (due : InEach before (λ tree. verdict tree before.view.core (call.Link file dir name) ≡ done (Adds dir.0 name file.0))) where
@@ -143,9 +144,9 @@ module _ (given : ℕ → Option OldKept) (t : TableState) (nodes : ℕ) (before
       (same_place nodes (id.File file) which))
       (same_place nodes own_log which)
 
-module _ {given : ℕ → Option OldKept} {t : TableState} {nodes : ℕ} {before : Hand Cell Fact} {file dir : NodeId} {name : List ℕ} {coming : Coming}
-    {out : Hand Cell Fact} {number : ℕ}
-    {mid : Hand Cell Fact} (r : Linking given t nodes before file dir name coming out number mid) where
+module _ {given : ℕ → Option OldKept} {t : FileState} {nodes : ℕ} {before : FileHand} {file dir : NodeId} {name : List ℕ} {coming : Coming}
+    {out : FileHand} {number : ℕ}
+    {mid : FileHand} (r : Linking given t nodes before file dir name coming out number mid) where
   abbrev mine : CellId
   mine = id.Part (record { 0 = before.view.core })
 
@@ -212,7 +213,7 @@ module _ {given : ℕ → Option OldKept} {t : TableState} {nodes : ℕ} {before
 
   pub bucket_out : IsSome (value_held nodes mid.held (id.Bucket dir (bucket name)))
   bucket_out = at_there nodes before dir name r.may.place r.part coming.ready r.is.mid r.is.ready out none_b r.is.out.1 mid
-      (ap (λ (h : Hand Cell Fact). h.held) r.drawn.frame)
+      (ap (λ (h : FileHand). h.held) r.drawn.frame)
 
   -- the bucket of the name, which is the one that was made ready
   row : IsWithRow name file.0 File r.may.place.bucket_of coming.bucket.value
@@ -288,16 +289,16 @@ module _ {given : ℕ → Option OldKept} {t : TableState} {nodes : ℕ} {before
       (account_of log) before.view.core r.is.ready.part coming.ready.part.value r.is.ready.same r.is.ready.made
       (changed.part_stood given t nodes before c v number mid turn r.is.ready.part r.is.ready.was)
 
-  pub has_room : length before.view.mine ≤ 2 ^ 50 → HasRoomFor (log_entry number dir.0 name file.0 File Add None [] ∷ []) coming.ready.part.value
+  pub has_room : length (calls_in before.view.mine) ≤ 2 ^ 50 → HasRoomFor (log_entry number dir.0 name file.0 File Add None [] ∷ []) coming.ready.part.value
   has_room few = room_for_one before.view.first (account_of log) before.view.core coming.ready.part.value
       (log_entry number dir.0 name file.0 File Add None []) part_stands
       (changed.legal_log given t nodes before c v number mid turn) (changed.number_is given t nodes before c v number mid turn) r.is.ready.room
       (let e = r.is.ready.same.entries in let lt = changed.few_entries given t nodes before c v number mid turn r.is.ready.part r.is.ready.was few in
       omega (arith, e, lt))
 
-  module _ (vb : Cell) (three : Hand Cell Fact) (puts_b : PutsValue nodes (id.Bucket dir (bucket name)) vb mid three) where
+  module _ (vb : Cell) (three : FileHand) (puts_b : PutsValue nodes (id.Bucket dir (bucket name)) vb mid three) where
     three_held : three.held ≡ with_value (cell_place nodes at) vb out_held
-    three_held = ap (λ (h : Hand Cell Fact). h.held) puts_b ∙ ap (with_value (cell_place nodes at) vb) mid_held
+    three_held = ap (λ (h : FileHand). h.held) puts_b ∙ ap (with_value (cell_place nodes at) vb) mid_held
 
     file_same : file_held nodes three.held file ≡ file_held nodes before.held file
     file_same = ap (λ l. file_held nodes l file) three_held ∙ ap (option_and_then as_file) (apart_value nodes out_held at (id.File file) vb bucket_apart
@@ -313,13 +314,13 @@ module _ {given : ℕ → Option OldKept} {t : TableState} {nodes : ℕ} {before
     pub links_few : (f : FileCell) → file_held nodes three.held file ≡ Some f → f.links < 65535
     links_few f is = subst (λ (x : FileCell). x.links < 65535) (same_file f is) r.may.few
 
-    module _ (four : Hand Cell Fact) (raised : RaisesLinks nodes file three four) where
+    module _ (four : FileHand) (raised : RaisesLinks nodes file three four) where
       four_held : four.held ≡ with_value (cell_place nodes (id.File file)) raised.change.value (with_value (cell_place nodes at) vb out_held)
-      four_held = ap (λ (h : Hand Cell Fact). h.held) raised.change.puts ∙ ap (with_value (cell_place nodes (id.File file)) raised.change.value) three_held
+      four_held = ap (λ (h : FileHand). h.held) raised.change.puts ∙ ap (with_value (cell_place nodes (id.File file)) raised.change.value) three_held
 
       pub core_four : four.view.core ≡ before.view.core
-      core_four = ap (λ (h : Hand Cell Fact). h.view.core) raised.change.puts
-          ∙ (ap (λ (h : Hand Cell Fact). h.view.core) puts_b ∙ changed.core_mid given t nodes before c v number mid turn)
+      core_four = ap (λ (h : FileHand). h.view.core) raised.change.puts
+          ∙ (ap (λ (h : FileHand). h.view.core) puts_b ∙ changed.core_mid given t nodes before c v number mid turn)
 
       mine_there : value_held nodes four.held mine ≡ Some none_p
       mine_there = ap (λ l. value_held nodes l mine) four_held
@@ -334,7 +335,7 @@ module _ {given : ℕ → Option OldKept} {t : TableState} {nodes : ℕ} {before
       module _ (is_b : as_bucket vb ≡ Some coming.bucket.value) (after : PartCell) (vp : Cell) (is_p : as_part vp ≡ Some after)
           (added : IsAddedTo coming.ready.part.value.log (log_entry number dir.0 name file.0 File Add None [] ∷ []) after.log)
           (made : after.made ≡ coming.ready.part.value.made)
-          (final : Hand Cell Fact) (puts_p : PutsValue nodes (id.Part (record { 0 = four.view.core })) vp four final) where
+          (final : FileHand) (puts_p : PutsValue nodes (id.Part (record { 0 = four.view.core })) vp four final) where
         abbrev new_held : List (HeldCell Cell)
         new_held = with_value (cell_place nodes mine) vp
             (with_value (cell_place nodes (id.File file)) raised.change.value (with_value (cell_place nodes at) vb out_held))
@@ -344,7 +345,7 @@ module _ {given : ℕ → Option OldKept} {t : TableState} {nodes : ℕ} {before
 
         final_is : final ≡ record mid { held = new_held }
         final_is = puts ∙ ((λ i. record (raised.change.puts i) { held = with_value (cell_place nodes mine) vp (four_held i) })
-            ∙ ap (λ (h : Hand Cell Fact). record h { held = new_held }) puts_b)
+            ∙ ap (λ (h : FileHand). record h { held = new_held }) puts_b)
 
         cells : places_of new_held ≡ places_of before.held
         cells = same_places (cell_place nodes mine) _ vp ∙ (same_places (cell_place nodes (id.File file)) _ raised.change.value
@@ -391,6 +392,6 @@ module _ {given : ℕ → Option OldKept} {t : TableState} {nodes : ℕ} {before
         pub goes_home : EachFrom 0 (Stands (IsLawfulLog given) (StandsAt given) final.view) final.held
         goes_home = changed.goes_home given t nodes before c v number mid turn final new_held final_is cells each
 
-        pub answers : (last : Hand Cell Fact) → LetsGo final last → last.held ≡ left_below 0 final.held → last.view.held ≡ reverse (places_of last.held)
+        pub answers : (last : FileHand) → LetsGo final last → last.held ≡ left_below 0 final.held → last.view.held ≡ reverse (places_of last.held)
             → IsAnswered t (call.Link file dir name) reply.Ok before last
         answers last lets left at_places = changed.ended given t nodes before c v number mid turn final new_held final_is cells last lets left at_places

@@ -20,10 +20,8 @@ use Rattle.tree_laws.specs.declared.listing.NameKind.{NameKind}
 use Rattle.tree_laws.proofs.Joined.{count-cons, bucket_small}
 use Rattle.tree_laws.proofs.Names.{entries-names_where}
 use Rattle.tree_laws.proofs.Counting.{count_agree}
-use Rattle.stamp_table.specs.Hand.{Hand}
-use Rattle.mem_values.specs.declared.cell.Cell.{Cell}
+use Rattle.mem_values.specs.Start.{FileHand}
 use Rattle.mem_values.specs.declared.bucket.Bucket.{Bucket}
-use Rattle.mem_values.specs.declared.fact.Fact.{Fact}
 use Rattle.mem_values.specs.Places.{node_count}
 use Rattle.mem_values.specs.Stands.{ShowsBucket}
 use Rattle.mem_values.specs.Laws.{MayMeet}
@@ -122,7 +120,7 @@ module _ (tree : TreeState) (d : ℕ) where
           (below name rows (Rattle.sfs_base.proofs.BasicTruth.both_second _ _ all))
 
 -- The names that are sorted are those of each tree that a core may meet.
-pub names_are : (hand : Hand Cell Fact) (nodes : ℕ) (node : NodeId) (rows sorted : List NameKind) → nodes ≡ node_count hand.view.first → node.0 < nodes
+pub names_are : (hand : FileHand) (nodes : ℕ) (node : NodeId) (rows sorted : List NameKind) → nodes ≡ node_count hand.view.first → node.0 < nodes
     → HoldsBuckets nodes hand.held node → map name_kind rows ≡ join_until 8 (kinds_held nodes hand.held node)
     → IsPermutation rows sorted → AreInNameOrder sorted → (tree : TreeState) → MayMeet hand.view hand.held tree
     → map name_kind sorted ≡ with_kinds tree (names_of node.0 tree.rows)

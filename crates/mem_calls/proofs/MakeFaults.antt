@@ -17,12 +17,9 @@ use Rattle.tree_laws.specs.Effect.{Adds}
 use Rattle.tree_laws.specs.Verdict.{verdict, refused, or_else, directory_fault, make_fault, make_node, is_full}
 use Rattle.tree_laws.proofs.Numbers.{fresh_number}
 use Rattle.tree_laws.proofs.KeepsNodes.{directory_node}
-use Rattle.stamp_table.specs.Hand.{Hand}
-use Rattle.stamp_table.specs.Table.{TableState}
-use Rattle.mem_values.specs.declared.cell.Cell.{Cell}
+use Rattle.mem_values.specs.Start.{FileHand, FileState}
 use Rattle.mem_values.specs.declared.cell.PartCell.{PartCell}
 use Rattle.mem_values.specs.declared.bucket.Bucket.{Bucket}
-use Rattle.mem_values.specs.declared.fact.Fact.{Fact}
 use Rattle.mem_values.specs.Places.{node_count}
 use Rattle.mem_values.specs.Stands.{ShowsBucket}
 use Rattle.mem_values.specs.Laws.{MayMeet}
@@ -72,7 +69,7 @@ module _ (tree : TreeState) (core : ℕ) (dir : NodeId) (name : List ℕ) (kind 
         ∙ (λ i. record { reply = reply.Node (record { 0 = number i }) kind; effect = Adds dir.0 name (number i); makes = Some kind })
 
 -- the number that a core gives next, in a tree that it may meet
-module _ (hand : Hand Cell Fact) (nodes : ℕ) (counted : nodes ≡ node_count hand.view.first) (next : Option NodeId) (has : HasNext nodes hand next) where
+module _ (hand : FileHand) (nodes : ℕ) (counted : nodes ≡ node_count hand.view.first) (next : Option NodeId) (has : HasNext nodes hand next) where
   count_below : (made : ℕ) → made < hand.view.first.share → hand.view.first.first + hand.view.core * hand.view.first.share + made < nodes
   count_below made lt =
       let known = has.known in
@@ -131,7 +128,7 @@ module _ (hand : Hand Cell Fact) (nodes : ℕ) (counted : nodes ≡ node_count h
         is_one true true is = refl
 
 -- the numbers of a table's cores
-module _ (t : TableState) (nodes : ℕ) (table : IsFileTable t nodes) (numbers : Numbers) (are : AreNumbersOf t.first numbers) (core : ℕ)
+module _ (t : FileState) (nodes : ℕ) (table : IsFileTable t nodes) (numbers : Numbers) (are : AreNumbersOf t.first numbers) (core : ℕ)
     (known : core < length t.first.made) where
   shares_below : numbers.first + core * numbers.share + numbers.share ≤ nodes
   shares_below =

@@ -9,11 +9,10 @@ use Rattle.tree_laws.specs.NameRow.{number_of}
 use Rattle.tree_laws.proofs.Joined.{bucket_small}
 use Rattle.stamp_table.specs.Ascending.{LiesAbove}
 use Rattle.stamp_table.specs.declared.held.HeldCell.{HeldCell}
-use Rattle.stamp_table.specs.Hand.{Hand}
+use Rattle.mem_values.specs.Start.{FileHand}
 use Rattle.mem_values.specs.declared.cell.Cell.{Cell}
 use Rattle.mem_values.specs.declared.bucket.Bucket.{Bucket}
 use Rattle.mem_values.specs.declared.cell_id.CellId.TheVariants as id
-use Rattle.mem_values.specs.declared.fact.Fact.{Fact}
 use Rattle.mem_values.specs.Places.{node_count}
 use Rattle.mem_values.proofs.Basics.{is_value, some_of}
 use Rattle.mem_values.proofs.Places.{node_again}
@@ -22,7 +21,7 @@ use Rattle.mem_calls.specs.Working.{StillHolds, Gains}
 use Rattle.mem_calls.specs.Changes.{NamesFile, HoldsNamed}
 use Rattle.mem_calls.proofs.Shown.{name_shows}
 use Rattle.mem_calls.proofs.NamedRows.{row_in}
-use Rattle.mem_calls.proofs.Faults.{same_count, node_within, same_some}
+use Rattle.mem_calls.proofs.Faults.{same_count, node_within}
 use Rattle.mem_calls.proofs.HeldKinds.{holds_file, still_bucket, still_file, still_directory}
 
 module _ (nodes : ℕ) (held : List (HeldCell Cell)) (dir : NodeId) (name : List ℕ) where
@@ -48,7 +47,7 @@ module _ (nodes : ℕ) (held : List (HeldCell Cell)) (dir : NodeId) (name : List
   }
 
 -- the child of a row is a node
-pub child_within : (hand : Hand Cell Fact) (nodes : ℕ) (dir : NodeId) (name : List ℕ) (o : Option NodeId) (b : Bucket) → nodes ≡ node_count hand.view.first
+pub child_within : (hand : FileHand) (nodes : ℕ) (dir : NodeId) (name : List ℕ) (o : Option NodeId) (b : Bucket) → nodes ≡ node_count hand.view.first
     → CanMeet hand → dir.0 < nodes → bucket_held nodes hand.held dir (bucket name) ≡ Some b
     → number_of o ≡ get b.rows name → IfSome o (λ child. child.0 < nodes)
 child_within hand nodes dir name None b counted met within is row = tt
@@ -59,7 +58,7 @@ child_within hand nodes dir name (Some child) b counted met within is row =
     let same = same_count hand met.0 met.1 in
     omega (arith, counted, lt, same)
 
-module _ (nodes : ℕ) (dir : NodeId) (name : List ℕ) (before after : Hand Cell Fact) where
+module _ (nodes : ℕ) (dir : NodeId) (name : List ℕ) (before after : FileHand) where
   -- what a row names still is what it named
   pub names_back : (child : NodeId) → StillHolds nodes before after → HoldsDirectory nodes before.held dir (bucket name)
       → NamesFile nodes after.held dir (bucket name) name child → NamesFile nodes before.held dir (bucket name) name child

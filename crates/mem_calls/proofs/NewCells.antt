@@ -9,11 +9,10 @@ use Rattle.sfs_base.specs.declared.numbers.NodeId.{NodeId}
 use Rattle.sfs_base.specs.declared.numbers.Kind.{Kind}
 use Rattle.sfs_base.specs.declared.numbers.Kind.TheVariants.{File, Directory}
 use Rattle.stamp_table.specs.declared.held.HeldCell.{HeldCell}
-use Rattle.stamp_table.specs.Hand.{Hand}
+use Rattle.mem_values.specs.Start.{FileHand}
 use Rattle.mem_values.specs.declared.cell.Cell.{Cell}
 use Rattle.mem_values.specs.declared.cell_id.CellId.{CellId}
 use Rattle.mem_values.specs.declared.cell_id.CellId.TheVariants as id
-use Rattle.mem_values.specs.declared.fact.Fact.{Fact}
 use Rattle.mem_values.specs.Places.{cell_place, IsCell}
 use Rattle.mem_values.proofs.Places.{places_apart}
 use Rattle.mem_values.proofs.Basics.{is_value, some_of}
@@ -108,7 +107,7 @@ module _ (nodes : ℕ) (held : List (HeldCell Cell)) (child : NodeId) (kind : Ki
           (subst (HoldsOwn nodes held child) is holds.own number lt))
 
 -- what is held for a creation still is
-module _ (nodes : ℕ) (before after : Hand Cell Fact) (still : StillHolds nodes before after) where
+module _ (nodes : ℕ) (before after : FileHand) (still : StillHolds nodes before after) where
   pub still_own : (child : NodeId) (kind : Kind) → HoldsOwn nodes before.held child kind → HoldsOwn nodes after.held child kind
   still_own child File own = let f = is_value (file_held nodes before.held child) own in
       some_of (file_held nodes after.held child) f.0 (still_file nodes before after child f.0 still f.1)
@@ -127,7 +126,7 @@ module _ (nodes : ℕ) (before after : Hand Cell Fact) (still : StillHolds nodes
   }
 
 -- the place of a name, the node's own cells, and then what was flushed of it
-module _ (nodes : ℕ) (before after : Hand Cell Fact) (dir : NodeId) (name : List ℕ) (child : NodeId) (kind : Kind) (next : Option NodeId) where
+module _ (nodes : ℕ) (before after : FileHand) (dir : NodeId) (name : List ℕ) (child : NodeId) (kind : Kind) (next : Option NodeId) where
   pub creation_held : HoldsDirectory nodes before.held dir (bucket name) → HoldsOwn nodes before.held child kind → Gains nodes (id.Pending child) before after
       → child.0 < nodes → next ≡ Some child → HoldsCreation nodes after.held dir name kind next
   creation_held place own gains within is = record {

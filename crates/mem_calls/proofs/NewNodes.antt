@@ -1,5 +1,5 @@
 -- The node that a call makes, in the tree before it and after it.
-use Rattle.std.proofs.Common.{◌≡◌, ◌≢◌, ◌<◌, ◌+◌, ◌*◌, ℕ, Bool, true, false, not, ◌==◌, List, [], ◌∷◌, ◌++◌, length, Option, Some, None, IsSome, option_map, inl, inr, refl, sym, ap, subst, ◌∙◌, eq-eqb, ⊎_elim}
+use Rattle.std.proofs.Common.{◌≡◌, ◌≢◌, ◌<◌, ◌+◌, ◌*◌, ℕ, Bool, true, false, not, ◌==◌, List, [], ◌∷◌, ◌++◌, length, Some, None, option_map, inl, inr, refl, sym, ap, subst, ◌∙◌, eq-eqb, ⊎_elim}
 use borrow.Author.Tests.{eqb-true}
 use Rattle.std.specs.Prelude.{◌&&◌, if◌then◌else◌}
 use Rattle.std.specs.List.{find}

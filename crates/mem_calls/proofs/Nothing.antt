@@ -23,10 +23,11 @@ use Rattle.stamp_table.specs.declared.event.Event.{Event}
 use Rattle.stamp_table.specs.declared.event.Event.TheVariants.{Called}
 use Rattle.stamp_table.specs.declared.held.HeldCell.{HeldCell}
 use Rattle.stamp_table.specs.Events.{calls_in}
-use Rattle.stamp_table.specs.Hand.{Hand, places_of}
-use Rattle.stamp_table.specs.Table.{TableState, Stamps, Stands, EachFrom, with_value}
+use Rattle.stamp_table.specs.Hand.{places_of}
+use Rattle.stamp_table.specs.Table.{Stamps, Stands, EachFrom, with_value}
 use Rattle.stamp_table.proofs.Calling.{calls_snoc}
 use Rattle.stamp_table.proofs.Replacing.{same_places}
+use Rattle.mem_values.specs.Start.{FileHand, FileState}
 use Rattle.mem_values.specs.declared.cell.Cell.{Cell}
 use Rattle.mem_values.specs.declared.cell.PartCell.{PartCell}
 use Rattle.mem_values.specs.declared.cell_id.CellId.{CellId}
@@ -75,7 +76,7 @@ nothing_keeps nodes tree core c (id.Part other) nothing apart = ⊎_elim
     (cases_Bool (core == other.0))
 
 -- a core that holds its own log holds each cell that is not kept
-pub nothing_or_part : (nodes : ℕ) (hand : Hand Cell Fact) (tree : TreeState) (c : Call) (which : CellId) → DoesNothing (verdict tree hand.view.core c)
+pub nothing_or_part : (nodes : ℕ) (hand : FileHand) (tree : TreeState) (c : Call) (which : CellId) → DoesNothing (verdict tree hand.view.core c)
     → HoldsPart nodes hand
     → KeepsCell tree hand.view.core c which ⊎ IsSome (value_held nodes hand.held which)
 nothing_or_part nodes hand tree c which nothing part = ⊎_elim
@@ -87,8 +88,8 @@ nothing_or_part nodes hand tree c which nothing part = ⊎_elim
     (λ same. both_ways (nat_eq (cell_place nodes (id.Part (record { 0 = hand.view.core }))) (cell_place nodes which)) other (eq-eqb _ _ same))))
     (cases_Bool (nat_eq (cell_place nodes (id.Part (record { 0 = hand.view.core }))) (cell_place nodes which)))
 
-module _ (given : ℕ → Option OldKept) (t : TableState) (nodes : ℕ) (before : Hand Cell Fact) (table : IsFileTable t nodes) (work : IsWorking given t before)
-    (c : Call) (reply : Reply) (number : ℕ) (mid : Hand Cell Fact) (stamps : Stamps (IsLawfulLog given) (StandsAt given) c reply before number mid)
+module _ (given : ℕ → Option OldKept) (t : FileState) (nodes : ℕ) (before : FileHand) (table : IsFileTable t nodes) (work : IsWorking given t before)
+    (c : Call) (reply : Reply) (number : ℕ) (mid : FileHand) (stamps : Stamps (IsLawfulLog given) (StandsAt given) c reply before number mid)
     (due : verdict (stamped.tree given t nodes before table work c reply number mid stamps) before.view.core c ≡ answered reply) where
   abbrev S : TreeState
   S = stamped.tree given t nodes before table work c reply number mid stamps
@@ -108,19 +109,19 @@ module _ (given : ℕ → Option OldKept) (t : TableState) (nodes : ℕ) (before
   logs_none : entry_logged S entry ≡ []
   logs_none = ap (λ (v : Verdict). logged_by S before.view.core number v.effect v.makes) verdict_is
 
-  pub has_room : length before.view.mine ≤ 2 ^ 50 → MayTake nodes [] mid
+  pub has_room : length (calls_in before.view.mine) ≤ 2 ^ 50 → MayTake nodes [] mid
   has_room few part held = no_changes part (few_entries given t nodes before table work c reply number mid stamps part (own_part part held) few)
     where
       own_part : (p : PartCell) → part_held nodes mid.held mid.view.core ≡ Some p → part_held nodes before.held before.view.core ≡ Some p
       own_part p is = (λ i. part_held nodes (sym (held_mid given t nodes before table work c reply number mid stamps) i)
           (sym (core_mid given t nodes before table work c reply number mid stamps) i)) ∙ is
 
-  module _ (final : Hand Cell Fact) (takes : TakesEntry nodes [] mid final) where
+  module _ (final : FileHand) (takes : TakesEntry nodes [] mid final) where
     pub final_is : record final { held = mid.held } ≡ mid
-    final_is = ap (λ (h : Hand Cell Fact). record h { held = mid.held }) takes.frame
+    final_is = ap (λ (h : FileHand). record h { held = mid.held }) takes.frame
 
     held_is : final.held ≡ with_value (cell_place nodes (id.Part (record { 0 = before.view.core }))) takes.value before.held
-    held_is = ap (λ (h : Hand Cell Fact). h.held) takes.frame
+    held_is = ap (λ (h : FileHand). h.held) takes.frame
         ∙ (λ i. with_value (cell_place nodes (id.Part (record { 0 = core_mid given t nodes before table work c reply number mid stamps i }))) takes.value
         (held_mid given t nodes before table work c reply number mid stamps i))
 
@@ -158,7 +159,7 @@ module _ (given : ℕ → Option OldKept) (t : TableState) (nodes : ℕ) (before
         omega (arith, places, same, one, two)
 
     pub goes_home : EachFrom 0 (Stands (IsLawfulLog given) (StandsAt given) final.view) final.held
-    goes_home = stamped.home given t nodes before table work c reply number mid stamps final (ap (λ (h : Hand Cell Fact). h.view) takes.frame)
+    goes_home = stamped.home given t nodes before table work c reply number mid stamps final (ap (λ (h : FileHand). h.view) takes.frame)
         (view_held_mid given t nodes before table work c reply number mid stamps)
         (ap (λ (l : List (HeldCell Cell)). places_of l) held_is
         ∙ same_places (cell_place nodes (id.Part (record { 0 = before.view.core }))) before.held takes.value) each

@@ -5,14 +5,13 @@ use Rattle.std.specs.Option.{option_and_then}
 use Rattle.std.proofs.lemmas.Bool.{cases_Bool, both_ways}
 use Rattle.std.proofs.lemmas.Bool.Decides.{nat_tests}
 use Rattle.sfs_base.specs.declared.numbers.NodeId.{NodeId}
-use Rattle.stamp_table.specs.Hand.{Hand, places_of}
+use Rattle.stamp_table.specs.Hand.{places_of}
 use Rattle.stamp_table.specs.Table.{with_value}
 use Rattle.stamp_table.proofs.Replacing.{same_places}
-use Rattle.mem_values.specs.declared.cell.Cell.{Cell}
+use Rattle.mem_values.specs.Start.{FileHand}
 use Rattle.mem_values.specs.declared.bucket.Bucket.{Bucket}
 use Rattle.mem_values.specs.declared.cell_id.CellId.{CellId}
 use Rattle.mem_values.specs.declared.cell_id.CellId.TheVariants as id
-use Rattle.mem_values.specs.declared.fact.Fact.{Fact}
 use Rattle.mem_values.specs.Places.{cell_place}
 use Rattle.mem_values.proofs.Basics.{some_of}
 use Rattle.mem_calls.specs.Held.{value_held, as_bucket, bucket_held}
@@ -21,7 +20,7 @@ use Rattle.mem_calls.proofs.Nothing.{some_first}
 use Rattle.mem_calls.proofs.Taken.{value_with}
 use Rattle.mem_calls.proofs.Unlinked.{apart_value}
 
-module _ (nodes : ℕ) (node : NodeId) (count : ℕ) (place : Option NodeId) (before now : Hand Cell Fact)
+module _ (nodes : ℕ) (node : NodeId) (count : ℕ) (place : Option NodeId) (before now : FileHand)
     (done : PlacesDirectory nodes node count place before now) where
   -- a bucket whose turn has not come is as it was
   same_next : bucket_held nodes now.held node count ≡ bucket_held nodes before.held node count
@@ -31,11 +30,11 @@ module _ (nodes : ℕ) (node : NodeId) (count : ℕ) (place : Option NodeId) (be
   pub still_there : IsSome (bucket_held nodes before.held node count) → IsSome (bucket_held nodes now.held node count)
   still_there some = subst IsSome (sym same_next) some
 
-  pub one_more : (after : Hand Cell Fact) → count < 8 → PlacesBucket nodes node count place now after
+  pub one_more : (after : FileHand) → count < 8 → PlacesBucket nodes node count place now after
       → PlacesDirectory nodes node (count + 1) place before after
   one_more after eight leaves = record {
-    frame = ap (λ (h : Hand Cell Fact). record h { held = before.held }) leaves.change.puts ∙ done.frame;
-    places = ap (λ (h : Hand Cell Fact). places_of h.held) leaves.change.puts
+    frame = ap (λ (h : FileHand). record h { held = before.held }) leaves.change.puts ∙ done.frame;
+    places = ap (λ (h : FileHand). places_of h.held) leaves.change.puts
         ∙ (same_places (cell_place nodes (id.Bucket node count)) now.held leaves.change.value ∙ done.places);
     placed = λ k old lt was. ⊎_elim
         (λ (here : (count == k) ≡ true). this k old (eqb-true count k here) was)
@@ -46,7 +45,7 @@ module _ (nodes : ℕ) (node : NodeId) (count : ℕ) (place : Option NodeId) (be
   }
     where
       after_held : after.held ≡ with_value (cell_place nodes (id.Bucket node count)) leaves.change.value now.held
-      after_held = ap (λ (h : Hand Cell Fact). h.held) leaves.change.puts
+      after_held = ap (λ (h : FileHand). h.held) leaves.change.puts
 
       apart_now : (which : CellId) → (cell_place nodes (id.Bucket node count) ≡ cell_place nodes which → ⊥)
           → value_held nodes after.held which ≡ value_held nodes now.held which
@@ -78,7 +77,7 @@ module _ (nodes : ℕ) (node : NodeId) (count : ℕ) (place : Option NodeId) (be
           )
 
 -- before the first bucket nothing has changed
-pub at_first : (nodes : ℕ) (node : NodeId) (place : Option NodeId) (hand : Hand Cell Fact) → PlacesDirectory nodes node 0 place hand hand
+pub at_first : (nodes : ℕ) (node : NodeId) (place : Option NodeId) (hand : FileHand) → PlacesDirectory nodes node 0 place hand hand
 at_first nodes node place hand = record {
   frame = refl;
   places = refl;

@@ -6,10 +6,11 @@ use Rattle.stamp_table.specs.declared.view.View.{View}
 use Rattle.stamp_table.specs.declared.event.Event.{Event}
 use Rattle.stamp_table.specs.declared.held.HeldCell.{HeldCell}
 use Rattle.stamp_table.specs.Rule.{Has}
-use Rattle.stamp_table.specs.Hand.{Hand, places_of}
+use Rattle.stamp_table.specs.Hand.{places_of}
 use Rattle.stamp_table.specs.Ascending.{Falls}
-use Rattle.stamp_table.specs.Table.{TableState, EachFrom, cell_at, with_value}
+use Rattle.stamp_table.specs.Table.{EachFrom, cell_at, with_value}
 use Rattle.stamp_table.proofs.Replacing.{same_places}
+use Rattle.mem_values.specs.Start.{FileHand, FileState}
 use Rattle.mem_values.specs.declared.cell.Cell.{Cell}
 use Rattle.mem_values.specs.declared.cell_id.CellId.{CellId}
 use Rattle.mem_values.specs.declared.fact.Fact.{Fact}
@@ -31,7 +32,7 @@ knows_each : (given : ℕ → Option OldKept) (view : View TreeState (Event Fact
 knows_each given view [] each = tt
 knows_each given view (c ∷ cells) each = (each.0 (omega arith), knows_each given view cells each.1)
 
-module _ (given : ℕ → Option OldKept) (t : TableState) (nodes : ℕ) (before : Hand Cell Fact) (table : IsFileTable t nodes)
+module _ (given : ℕ → Option OldKept) (t : FileState) (nodes : ℕ) (before : FileHand) (table : IsFileTable t nodes)
     (work : IsWorking given t before) where
   to_first : (which : CellId) → IsCell nodes (length t.first.made) which → IsCell (node_count before.view.first) (length before.view.first.made) which
   to_first which is_cell = subst (λ (f : TreeState). IsCell (node_count f) (length f.made) which) (sym work.first)
@@ -51,14 +52,14 @@ module _ (given : ℕ → Option OldKept) (t : TableState) (nodes : ℕ) (before
       subst (StandsForCell given before.view.first (account_of before.view.seen) which) h.2
       (knows.stood which (to_first which is_cell) (ap (λ n. cell_place n which) (sym (counted given t nodes before table work)) ∙ sym place))
 
-  module _ (changed : CellId) (new : Cell) (put : Hand Cell Fact) (is_cell : IsCell nodes (length t.first.made) changed)
+  module _ (changed : CellId) (new : Cell) (put : FileHand) (is_cell : IsCell nodes (length t.first.made) changed)
       (stands : StandsForCell given before.view.first (account_of before.view.seen) changed new)
       (put_is : put ≡ record before { held = with_value (cell_place nodes changed) new before.held }) where
     put_held : put.held ≡ with_value (cell_place nodes changed) new before.held
-    put_held = ap (λ (h : Hand Cell Fact). h.held) put_is
+    put_held = ap (λ (h : FileHand). h.held) put_is
 
     view_is : put.view ≡ before.view
-    view_is = ap (λ (h : Hand Cell Fact). h.view) put_is
+    view_is = ap (λ (h : FileHand). h.view) put_is
 
     places : places_of put.held ≡ places_of before.held
     places = ap (λ (l : List (HeldCell Cell)). places_of l) put_held ∙ same_places (cell_place nodes changed) before.held new
@@ -88,10 +89,9 @@ module _ (given : ℕ → Option OldKept) (t : TableState) (nodes : ℕ) (before
     -- it is still in the middle of its call
     pub works_put : IsWorking given t put
     works_put = record {
-      table = ap (λ (h : Hand Cell Fact). h.table) put_is ∙ work.table;
+      table = ap (λ (h : FileHand). h.table) put_is ∙ work.table;
       first = ap (λ (v : View TreeState (Event Fact)). v.first) view_is ∙ work.first;
       core = subst (λ (v : View TreeState (Event Fact)). v.core < length t.first.made) (sym view_is) work.core;
-      none_waits = ap (λ (h : Hand Cell Fact). h.waiting) put_is ∙ work.none_waits;
       places = view_places;
       falls = subst (λ (v : View TreeState (Event Fact)). Falls v.held) (sym view_is) work.falls;
       knows = subst (λ (v : View TreeState (Event Fact)). KnowsCells given v put.held) (sym view_is)
@@ -107,11 +107,11 @@ module _ (given : ℕ → Option OldKept) (t : TableState) (nodes : ℕ) (before
         omega (arith, same, one, two)
 
 -- who is refused with other values is refused with those before
-pub refused_back : (t : TableState) (before put last : Hand Cell Fact) (held : List (HeldCell Cell)) → put ≡ record before { held = held }
+pub refused_back : (t : FileState) (before put last : FileHand) (held : List (HeldCell Cell)) → put ≡ record before { held = held }
     → length put.held ≡ length before.held → IsRefusedMemory t put last → IsRefusedMemory t before last
 refused_back t before put last held put_is many refused =
-    let count : length held ≡ length before.held = ap length (sym (ap (λ (h : Hand Cell Fact). h.held) put_is)) ∙ many in
-    let r : IsRefusedMemory t (record before { held = held }) last = subst (λ (h : Hand Cell Fact). IsRefusedMemory t h last) put_is refused in
+    let count : length held ≡ length before.held = ap length (sym (ap (λ (h : FileHand). h.held) put_is)) ∙ many in
+    let r : IsRefusedMemory t (record before { held = held }) last = subst (λ (h : FileHand). IsRefusedMemory t h last) put_is refused in
     record {
       between = r.between;
       same = record { table = r.same.table; cores = r.same.cores; leads = r.same.leads; number = r.same.number };

@@ -7,7 +7,7 @@ use Rattle.std.proofs.lemmas.Bool.{cases_Bool}
 use Rattle.std.specs.FinMap.{FinMap, get, remove, get-remove}
 use Rattle.sfs_base.specs.Name.{bucket}
 use Rattle.tree_laws.specs.Order.{name_cmp}
-use Rattle.tree_laws.specs.Tree.{TreeState, row_of, is_directory, is_directory_kind, bucket_rows}
+use Rattle.tree_laws.specs.Tree.{TreeState, row_of, bucket_rows}
 use Rattle.tree_laws.specs.declared.call.Call.{Call}
 use Rattle.tree_laws.specs.Effect.{Removes}
 use Rattle.tree_laws.specs.Parts.{part_after}
@@ -16,8 +16,6 @@ use Rattle.tree_laws.specs.Laws.{IsSoundTree}
 use Rattle.tree_laws.proofs.Joined.{name_cmp-IsAntisymmetric, is_equal}
 use Rattle.tree_laws.proofs.Parts.{parts_after}
 use Rattle.tree_laws.proofs.Names.{get-names_where}
-use Rattle.tree_laws.proofs.Readings.{directory_by_kind}
-use Rattle.tree_laws.proofs.KeepsRest.{calls_keep_the_rest}
 use Rattle.mem_values.specs.declared.bucket.Bucket.{Bucket}
 use Rattle.mem_values.specs.Stands.{ShowsBucket, if_directory}
 use Rattle.mem_values.specs.Touches.{touches_standing}

@@ -8,8 +8,9 @@ use Rattle.sfs_base.proofs.BasicTruth.{or_first, or_second}
 use Rattle.sfs_base.specs.declared.numbers.NodeId.{NodeId}
 use Rattle.sfs_base.specs.declared.numbers.Kind.{Kind}
 use Rattle.sfs_base.specs.declared.numbers.Kind.TheVariants.{File, Directory}
-use Rattle.stamp_table.specs.Hand.{Hand, places_of}
+use Rattle.stamp_table.specs.Hand.{places_of}
 use Rattle.stamp_table.proofs.Replacing.{same_places}
+use Rattle.mem_values.specs.Start.{FileHand}
 use Rattle.mem_values.specs.declared.cell.Cell.{Cell}
 use Rattle.mem_values.specs.declared.cell.Cell.TheVariants as cell
 use Rattle.mem_values.specs.declared.cell.FileCell.{FileCell}
@@ -17,7 +18,6 @@ use Rattle.mem_values.specs.declared.cell.Pending.{Pending}
 use Rattle.mem_values.specs.declared.bucket.Bucket.{Bucket}
 use Rattle.mem_values.specs.declared.cell_id.CellId.{CellId}
 use Rattle.mem_values.specs.declared.cell_id.CellId.TheVariants as id
-use Rattle.mem_values.specs.declared.fact.Fact.{Fact}
 use Rattle.mem_values.specs.Places.{cell_place, IsCell}
 use Rattle.mem_values.proofs.Places.{places_apart}
 use Rattle.mem_values.proofs.Basics.{is_value, some_of}
@@ -100,23 +100,23 @@ own_or_flushed child kind (id.Part core) is = refl
 own_or_flushed child File (id.Pending node) is = absurd (cc (is))
 own_or_flushed child Directory (id.Pending node) is = absurd (cc (is))
 
-module _ (nodes : ℕ) (dir : NodeId) (before after : Hand Cell Fact) where
+module _ (nodes : ℕ) (dir : NodeId) (before after : FileHand) where
   -- one cell alone
   settles_one : (test : CellId → Bool) (one : CellId) (old new : Cell) → ((cores : ℕ) → IsCell nodes cores one) → test one ≡ true
       → ((which : CellId) → test which ≡ true → which ≡ one)
       → value_held nodes before.held one ≡ Some old → PutsValue nodes one new before after → IsSettled dir old new → SettlesCreation nodes test dir before after
   settles_one test one old new is_one passes only was puts is = record {
-    frame = ap (λ (h : Hand Cell Fact). record h { held = before.held }) puts;
-    places = ap (λ (h : Hand Cell Fact). places_of h.held) puts ∙ same_places (cell_place nodes one) before.held new;
+    frame = ap (λ (h : FileHand). record h { held = before.held }) puts;
+    places = ap (λ (h : FileHand). places_of h.held) puts ∙ same_places (cell_place nodes one) before.held new;
     settled = λ cores which x is_cell of_test found.
         let same : which ≡ one = only which of_test in
         let old_is : old ≡ x = cc (sym was ∙ (ap (value_held nodes before.held) (sym same) ∙ found)) in (
           new,
-          ap (value_held nodes after.held) same ∙ (ap (λ (h : Hand Cell Fact). value_held nodes h.held one) puts
+          ap (value_held nodes after.held) same ∙ (ap (λ (h : FileHand). value_held nodes h.held one) puts
               ∙ value_with nodes one new before.held (some_of (value_held nodes before.held one) old was)),
           subst (λ v. IsSettled dir v new) old_is is,
         );
-    rest = λ cores which is_cell fails. ap (λ (h : Hand Cell Fact). value_held nodes h.held which) puts
+    rest = λ cores which is_cell fails. ap (λ (h : FileHand). value_held nodes h.held which) puts
         ∙ apart_value nodes before.held one which new
         (λ at. both_ways (test which) fails (ap test (places_apart nodes cores which one is_cell (is_one cores) (sym at)) ∙ passes));
   }
@@ -177,12 +177,12 @@ module _ (nodes : ℕ) (dir : NodeId) (before after : Hand Cell Fact) where
           ∙ eq-eqb child.0 child.0 refl));
     }
 
-module _ (nodes : ℕ) (dir : NodeId) (before mid after : Hand Cell Fact) where
+module _ (nodes : ℕ) (dir : NodeId) (before mid after : FileHand) where
   -- cells of one sort and then those of another
   pub settles_both : (one two : CellId → Bool) → ((which : CellId) → one which ≡ true → two which ≡ false) → SettlesCreation nodes one dir before mid
       → SettlesCreation nodes two dir mid after → SettlesCreation nodes (λ which. one which || two which) dir before after
   settles_both one two apart first second = record {
-    frame = ap (λ (h : Hand Cell Fact). record h { held = before.held }) second.frame ∙ first.frame;
+    frame = ap (λ (h : FileHand). record h { held = before.held }) second.frame ∙ first.frame;
     places = second.places ∙ first.places;
     settled = λ cores which x is_cell passes found. ⊎_elim
         (λ is. let s = first.settled cores which x is_cell is found in (s.0, second.rest cores which is_cell (apart which is) ∙ s.1, s.2))

@@ -1,18 +1,18 @@
 -- What the values that a core holds show of each tree that it may meet.
-use Rattle.std.proofs.Common.{◌≡◌, ◌<◌, ◌%◌, arith, ℕ, List, [], ◌∷◌, ◌++◌, length, Option, Some, None, option_map, refl, sym, ap, subst, ◌∙◌, ⊎_elim}
+use Rattle.std.proofs.Common.{◌≡◌, ◌<◌, ℕ, List, [], ◌∷◌, ◌++◌, length, Option, Some, None, option_map, refl, sym, ap, subst, ◌∙◌, ⊎_elim}
 use Rattle.std.specs.Prelude.{if◌then◌else◌}
 use Rattle.std.proofs.lemmas.Bool.{cases_Bool}
 use Rattle.std.proofs.lemmas.Option.{option_and_then_some}
 use Rattle.sfs_base.specs.declared.numbers.NodeId.{NodeId}
-use Rattle.sfs_base.specs.Name.{bucket, name_hash}
+use Rattle.sfs_base.specs.Name.{bucket}
 use Rattle.disk_nodes.specs.OldKept.{OldKept}
 use Rattle.tree_laws.specs.Tree.{TreeState, made_by, bytes_of}
 use Rattle.tree_laws.proofs.Joined.{bucket_small}
 use Rattle.stamp_table.specs.declared.view.View.{View}
 use Rattle.stamp_table.specs.declared.event.Event.{Event}
 use Rattle.stamp_table.specs.declared.held.HeldCell.{HeldCell}
-use Rattle.stamp_table.specs.Hand.{Hand}
 use Rattle.stamp_table.specs.Table.{is_at, cell_at}
+use Rattle.mem_values.specs.Start.{FileHand}
 use Rattle.mem_values.specs.declared.cell.Cell.{Cell}
 use Rattle.mem_values.specs.declared.cell.Cell.TheVariants as cell
 use Rattle.mem_values.specs.declared.cell.FileCell.{FileCell}
@@ -63,7 +63,7 @@ held_cell nodes held which value is = by (cell_at (cell_place nodes which) held)
     by None found is = absurd (cc (is))
     by (Some h) found is = (h, found, cc (is))
 
-module _ (hand : Hand Cell Fact) (nodes : ℕ) (counted : nodes ≡ node_count hand.view.first) (tree : TreeState) (meets : MayMeet hand.view hand.held tree) where
+module _ (hand : FileHand) (nodes : ℕ) (counted : nodes ≡ node_count hand.view.first) (tree : TreeState) (meets : MayMeet hand.view hand.held tree) where
   -- a value that is held shows its cell
   pub value_shows : (which : CellId) (value : Cell) → IsCell nodes (length hand.view.first.made) which → value_held nodes hand.held which ≡ Some value
       → ShowsCell tree which value

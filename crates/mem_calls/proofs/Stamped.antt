@@ -1,5 +1,5 @@
 -- A call that is stamped: what stands behind it.
-use Rattle.std.proofs.Common.{◌≡◌, ◌<◌, ℕ, false, ◌&&◌, List, [], ◌∷◌, ◌++◌, length, reverse, Option, Some, None, IsSome, option_map, ◌⊎◌, inl, inr, refl, sym, ap, subst, ◌∙◌}
+use Rattle.std.proofs.Common.{◌≡◌, ◌<◌, ℕ, false, ◌&&◌, List, [], ◌∷◌, ◌++◌, length, reverse, Option, Some, IsSome, option_map, ◌⊎◌, inl, inr, refl, sym, ap, subst, ◌∙◌}
 use Rattle.std.proofs.lemmas.List.{append_cancel_right}
 use Rattle.disk_nodes.specs.OldKept.{OldKept}
 use Rattle.tree_laws.specs.Tree.{TreeState}
@@ -18,10 +18,11 @@ use Rattle.stamp_table.specs.Answered.{asks_fsync}
 use Rattle.stamp_table.specs.Events.{event_core, is_call, calls_in, IsLawful, stands_for}
 use Rattle.stamp_table.specs.Rule.{Has, entries_by}
 use Rattle.stamp_table.specs.Steps.{IsPast}
-use Rattle.stamp_table.specs.Hand.{Hand, places_of}
-use Rattle.stamp_table.specs.Table.{TableState, MayCall, Stamps, Stands, EachFrom, cell_at, entry_numbered}
+use Rattle.stamp_table.specs.Hand.{places_of}
+use Rattle.stamp_table.specs.Table.{MayCall, Stamps, Stands, EachFrom, cell_at, entry_numbered}
 use Rattle.stamp_table.proofs.Calling.{calls_snoc, stamps_are_calls}
 use Rattle.stamp_table.proofs.Logs.{own_comes}
+use Rattle.mem_values.specs.Start.{FileHand, FileState}
 use Rattle.mem_values.specs.declared.cell.Cell.{Cell}
 use Rattle.mem_values.specs.declared.cell_id.CellId.{CellId}
 use Rattle.mem_values.specs.declared.fact.Fact.{Fact}
@@ -56,7 +57,7 @@ no_flush tree (call.Trunc f size) not = refl
 no_flush tree (call.Stat d) not = refl
 no_flush tree (call.List d) not = refl
 
-module _ (given : ℕ → Option OldKept) (t : TableState) (nodes : ℕ) (hand : Hand Cell Fact) (table : IsFileTable t nodes) (work : IsWorking given t hand) where
+module _ (given : ℕ → Option OldKept) (t : FileState) (nodes : ℕ) (hand : FileHand) (table : IsFileTable t nodes) (work : IsWorking given t hand) where
   pub counted : nodes ≡ node_count hand.view.first
   counted = table.counted ∙ ap node_count (sym work.first)
 
@@ -104,8 +105,8 @@ pub lawful_front : (given : ℕ → Option OldKept) (first : TreeState) (before 
 lawful_front given first before [] rest lawful = tt
 lawful_front given first before (e ∷ log) rest lawful = (lawful.0, lawful_front given first (before ++ e ∷ []) log rest lawful.1)
 
-module _ (given : ℕ → Option OldKept) (t : TableState) (nodes : ℕ) (before : Hand Cell Fact) (table : IsFileTable t nodes) (work : IsWorking given t before)
-    (c : Call) (reply : Reply) (number : ℕ) (mid : Hand Cell Fact) (stamps : Stamps (IsLawfulLog given) (StandsAt given) c reply before number mid) where
+module _ (given : ℕ → Option OldKept) (t : FileState) (nodes : ℕ) (before : FileHand) (table : IsFileTable t nodes) (work : IsWorking given t before)
+    (c : Call) (reply : Reply) (number : ℕ) (mid : FileHand) (stamps : Stamps (IsLawfulLog given) (StandsAt given) c reply before number mid) where
   abbrev pub first : TreeState
   first = before.view.first
 
@@ -178,7 +179,7 @@ module _ (given : ℕ → Option OldKept) (t : TableState) (nodes : ℕ) (before
       (stood which value is_cell is)
 
   -- each cell goes home where what is held of each stands for it behind the call
-  pub home : (final : Hand Cell Fact) → final.view ≡ mid.view → mid.view.held ≡ before.view.held → places_of final.held ≡ places_of before.held
+  pub home : (final : FileHand) → final.view ≡ mid.view → mid.view.held ≡ before.view.held → places_of final.held ≡ places_of before.held
       → ((which : CellId) (value : Cell) → IsCell nodes (length t.first.made) which → value_held nodes final.held which ≡ Some value
       → StandsForCell given first (account_of after_log) which value)
       → EachFrom 0 (Stands (IsLawfulLog given) (StandsAt given) final.view) final.held

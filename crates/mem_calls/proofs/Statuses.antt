@@ -11,10 +11,8 @@ use Rattle.tree_laws.specs.declared.reply.Code.TheVariants.{NoEntry}
 use Rattle.tree_laws.specs.Tree.{TreeState, is_alive, is_directory, kind_of, kind_if, kind_again, links_of, row_count, holds_directory, bytes_of, bucket_rows, count_of}
 use Rattle.tree_laws.specs.Verdict.{verdict, answered, refused, or_else, size_of}
 use Rattle.tree_laws.proofs.Readings.{directory_by_kind}
-use Rattle.stamp_table.specs.Hand.{Hand}
-use Rattle.mem_values.specs.declared.cell.Cell.{Cell}
+use Rattle.mem_values.specs.Start.{FileHand}
 use Rattle.mem_values.specs.declared.bucket.Bucket.{Bucket}
-use Rattle.mem_values.specs.declared.fact.Fact.{Fact}
 use Rattle.mem_values.specs.Places.{node_count}
 use Rattle.mem_values.specs.Laws.{MayMeet}
 use Rattle.mem_values.proofs.Basics.{is_value, some_of}
@@ -25,7 +23,7 @@ use Rattle.mem_calls.proofs.HeldKinds.{still_bucket, still_directory}
 use Rattle.mem_calls.proofs.Shown.{bucket_shows}
 use Rattle.mem_calls.proofs.Summed.{sum_same, rows_summed, directories_counted, directories_summed, fewer_directories}
 
-module _ (nodes : ℕ) (before after : Hand Cell Fact) (node : NodeId) (still : StillHolds nodes before after) where
+module _ (nodes : ℕ) (before after : FileHand) (node : NodeId) (still : StillHolds nodes before after) where
   pub still_buckets : HoldsBuckets nodes before.held node → HoldsBuckets nodes after.held node
   still_buckets holds number lt = let b = is_value (bucket_held nodes before.held node number) (holds number lt) in
       some_of (bucket_held nodes after.held node number) b.0 (still_bucket nodes before after node number b.0 still b.1)
@@ -44,7 +42,7 @@ module _ (nodes : ℕ) (before after : Hand Cell Fact) (node : NodeId) (still : 
   pub all_buckets : HoldsDirectory nodes before.held node 0 → HoldsBuckets nodes after.held node → HoldsNode nodes after.held node
   all_buckets directory buckets = record { directory = still_directory nodes before after node 0 still directory; buckets = λ within stands. buckets }
 
-module _ (hand : Hand Cell Fact) (nodes : ℕ) (counted : nodes ≡ node_count hand.view.first) (node : NodeId) (within : node.0 < nodes) where
+module _ (hand : FileHand) (nodes : ℕ) (counted : nodes ≡ node_count hand.view.first) (node : NodeId) (within : node.0 < nodes) where
   -- no bucket that is held is larger than it may be
   pub small_buckets : CanMeet hand → AreSmall nodes hand.held node
   small_buckets met number b lt is =

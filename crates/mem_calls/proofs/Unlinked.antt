@@ -30,8 +30,8 @@ use Rattle.stamp_table.specs.declared.event.Event.{Event}
 use Rattle.stamp_table.specs.declared.event.Event.TheVariants.{Called}
 use Rattle.stamp_table.specs.declared.held.HeldCell.{HeldCell}
 use Rattle.stamp_table.specs.Events.{calls_in}
-use Rattle.stamp_table.specs.Hand.{Hand, places_of}
-use Rattle.stamp_table.specs.Table.{TableState, with_value}
+use Rattle.stamp_table.specs.Hand.{places_of}
+use Rattle.stamp_table.specs.Table.{with_value}
 use Rattle.stamp_table.proofs.Calling.{calls_snoc}
 use Rattle.stamp_table.proofs.Replacing.{same_places}
 use Rattle.mem_values.specs.declared.cell.Cell.{Cell}
@@ -54,6 +54,7 @@ use Rattle.mem_calls.specs.Working.{IsWorking}
 use Rattle.tree_laws.specs.declared.reply.Reply.TheVariants as reply
 use Rattle.tree_laws.proofs.Joined.{bucket_small}
 use Rattle.stamp_table.specs.Table.{Stamps, LetsGo, Stands, EachFrom, left_below}
+use Rattle.mem_values.specs.Start.{FileHand, FileState}
 use Rattle.mem_values.specs.Stands.{StandsAt}
 use Rattle.mem_values.specs.Facts.{IsLawfulLog}
 use Rattle.mem_values.proofs.Basics.{some_of, first_false, both_false}
@@ -129,14 +130,14 @@ module _ (given : ℕ → Option OldKept) (first : TreeState) (log : List (Event
   value_of_bucket number (cell.Part box) b is shows = absurd (cc (is))
 
 -- a row of a file in a tree that the core may meet
-pub names_row : (hand : Hand Cell Fact) (nodes : ℕ) (dir : NodeId) (name : List ℕ) (child : NodeId) (tree : TreeState)
+pub names_row : (hand : FileHand) (nodes : ℕ) (dir : NodeId) (name : List ℕ) (child : NodeId) (tree : TreeState)
     → nodes ≡ Rattle.mem_values.specs.Places.node_count hand.view.first → NamesFile nodes hand.held dir (bucket name) name child
     → Rattle.mem_values.specs.Laws.MayMeet hand.view hand.held tree → (row_of tree dir.0 name ≡ Some child.0) × (is_directory tree child.0 ≡ false)
 names_row hand nodes dir name child tree counted names meets =
     let shows = name_shows hand nodes counted tree meets dir name (bucket name) names.bucket names.within refl names.held_is in
     (row_in tree dir.0 name names.bucket shows ∙ names.row, sym (directory_in tree dir.0 name names.bucket shows child.0 names.row) ∙ names.file)
 
-module _ (given : ℕ → Option OldKept) (t : TableState) (nodes : ℕ) (before : Hand Cell Fact) (table : IsFileTable t nodes) (work : IsWorking given t before)
+module _ (given : ℕ → Option OldKept) (t : FileState) (nodes : ℕ) (before : FileHand) (table : IsFileTable t nodes) (work : IsWorking given t before)
     (dir : NodeId) (name : List ℕ) (child : NodeId)
     (names : NamesFile nodes before.held dir (bucket name) name child) (part : IsSome (part_held nodes before.held before.view.core))
     (file : IsSome (file_held nodes before.held child))
@@ -162,8 +163,8 @@ module _ (given : ℕ → Option OldKept) (t : TableState) (nodes : ℕ) (before
       (same_place nodes (id.File child) which))
       (same_place nodes (id.Part (record { 0 = before.view.core })) which)
 
-module _ (given : ℕ → Option OldKept) (t : TableState) (nodes : ℕ) (before : Hand Cell Fact) (dir : NodeId) (name : List ℕ) (child : NodeId) (number : ℕ)
-    (mid : Hand Cell Fact)
+module _ (given : ℕ → Option OldKept) (t : FileState) (nodes : ℕ) (before : FileHand) (dir : NodeId) (name : List ℕ) (child : NodeId) (number : ℕ)
+    (mid : FileHand)
     (turn : Turn given t nodes before (call.Unlink dir name) (done (Removes dir.0 name child.0)) number mid)
     (names : NamesFile nodes before.held dir (bucket name) name child) (within : child.0 < nodes) where
   abbrev c : Call
@@ -344,12 +345,12 @@ pub apart_value : (nodes : ℕ) (held : List (HeldCell Cell)) (changed which : C
 apart_value nodes held changed which new apart =
     ap (option_map (λ (x : HeldCell Cell). x.value)) (with_other (cell_place nodes changed) new held (cell_place nodes which) apart)
 
-module _ (given : ℕ → Option OldKept) (t : TableState) (nodes : ℕ) (before : Hand Cell Fact) (table : IsFileTable t nodes) (work : IsWorking given t before)
+module _ (given : ℕ → Option OldKept) (t : FileState) (nodes : ℕ) (before : FileHand) (table : IsFileTable t nodes) (work : IsWorking given t before)
     (dir : NodeId) (name : List ℕ) (child : NodeId)
     (names : NamesFile nodes before.held dir (bucket name) name child) (within : child.0 < nodes) (part : IsSome (part_held nodes before.held before.view.core))
     (file : IsSome (file_held nodes before.held child))
     (due : InEach before (λ tree. verdict tree before.view.core (call.Unlink dir name) ≡ done (Removes dir.0 name child.0)))
-    (ready : Ready) (out : Hand Cell Fact) (is_ready : IsReadyForRow nodes dir name before ready out) (number : ℕ) (mid : Hand Cell Fact)
+    (ready : Ready) (out : FileHand) (is_ready : IsReadyForRow nodes dir name before ready out) (number : ℕ) (mid : FileHand)
     (drawn : Stamps (IsLawfulLog given) (StandsAt given) (call.Unlink dir name) reply.Ok out number mid) where
   abbrev mine : CellId
   mine = id.Part (record { 0 = before.view.core })
@@ -392,9 +393,9 @@ module _ (given : ℕ → Option OldKept) (t : TableState) (nodes : ℕ) (before
   pub row_there : (b : Bucket) → bucket_held nodes mid.held dir (bucket name) ≡ Some b → IsSome (get b.rows name)
   row_there b is = some_of (get b.rows name) child.0 (ap (λ (x : Bucket). get x.rows name) (sym (same_bucket b is)) ∙ names.row)
 
-  module _ (two : Hand Cell Fact) (gone : RemovesRow nodes dir (bucket name) name mid two) where
+  module _ (two : FileHand) (gone : RemovesRow nodes dir (bucket name) name mid two) where
     two_held : two.held ≡ with_value (cell_place nodes at) gone.change.value out_held
-    two_held = ap (λ (h : Hand Cell Fact). h.held) gone.change.puts ∙ ap (with_value (cell_place nodes at) gone.change.value) mid_held
+    two_held = ap (λ (h : FileHand). h.held) gone.change.puts ∙ ap (with_value (cell_place nodes at) gone.change.value) mid_held
 
     file_same : file_held nodes two.held child ≡ file_held nodes before.held child
     file_same =
@@ -409,9 +410,9 @@ module _ (given : ℕ → Option OldKept) (t : TableState) (nodes : ℕ) (before
     pub named_there : (f : FileCell) → file_held nodes two.held child ≡ Some f → 0 < f.links
     named_there f is = some_links given t nodes before dir name child number mid turn names within f (sym file_same ∙ is)
 
-    module _ (three : Hand Cell Fact) (lowered : LowersLinks nodes child two three) where
+    module _ (three : FileHand) (lowered : LowersLinks nodes child two three) where
       three_held : three.held ≡ with_value (cell_place nodes (id.File child)) lowered.change.value (with_value (cell_place nodes at) gone.change.value out_held)
-      three_held = ap (λ (h : Hand Cell Fact). h.held) lowered.change.puts ∙ ap (with_value (cell_place nodes (id.File child)) lowered.change.value) two_held
+      three_held = ap (λ (h : FileHand). h.held) lowered.change.puts ∙ ap (with_value (cell_place nodes (id.File child)) lowered.change.value) two_held
 
       abbrev change : Change
       change = log_entry number dir.0 name child.0 File Remove None []
@@ -424,7 +425,7 @@ module _ (given : ℕ → Option OldKept) (t : TableState) (nodes : ℕ) (before
           is_ready.made
           (changed.part_stood given t nodes before (call.Unlink dir name) (done (Removes dir.0 name child.0)) number mid turn is_ready.part is_ready.was)
 
-      pub has_room : length before.view.mine ≤ 2 ^ 50 → HasRoomFor (change ∷ []) ready.part.value
+      pub has_room : length (calls_in before.view.mine) ≤ 2 ^ 50 → HasRoomFor (change ∷ []) ready.part.value
       has_room few =
           room_for_one before.view.first
           (account_of (log given t nodes before dir name child number mid turn names within)) before.view.core ready.part.value change part_stands
@@ -437,7 +438,7 @@ module _ (given : ℕ → Option OldKept) (t : TableState) (nodes : ℕ) (before
           omega (arith, e, lt))
 
       three_core : three.view.core ≡ before.view.core
-      three_core = ap (λ (h : Hand Cell Fact). h.view.core) lowered.change.puts ∙ (ap (λ (h : Hand Cell Fact). h.view.core) gone.change.puts
+      three_core = ap (λ (h : FileHand). h.view.core) lowered.change.puts ∙ (ap (λ (h : FileHand). h.view.core) gone.change.puts
           ∙ changed.core_mid given t nodes before (call.Unlink dir name) (done (Removes dir.0 name child.0)) number mid turn)
 
       pub core_three : three.view.core ≡ before.view.core
@@ -454,7 +455,7 @@ module _ (given : ℕ → Option OldKept) (t : TableState) (nodes : ℕ) (before
           ∙ value_with nodes mine is_ready.out.0 before.held (some_first as_part (value_held nodes before.held mine) part))))
 
       module _ (after : PartCell) (value : Cell) (is : as_part value ≡ Some after) (added : IsAddedTo ready.part.value.log (change ∷ []) after.log)
-          (made : after.made ≡ ready.part.value.made) (final : Hand Cell Fact)
+          (made : after.made ≡ ready.part.value.made) (final : FileHand)
           (puts : final ≡ record three { held = with_value (cell_place nodes (id.Part (record { 0 = before.view.core }))) value three.held }) where
         old_file : file_held nodes before.held child ≡ Some lowered.change.old
         old_file = sym file_same ∙ lowered.change.was
@@ -468,7 +469,7 @@ module _ (given : ℕ → Option OldKept) (t : TableState) (nodes : ℕ) (before
                   (with_value (cell_place nodes (id.File child)) lowered.change.value (with_value (cell_place nodes at) gone.change.value out_held));
             }
         final_is = puts ∙ ((λ i. record (lowered.change.puts i) { held = with_value (cell_place nodes mine) value (three_held i) })
-            ∙ ap (λ (h : Hand Cell Fact). record h {
+            ∙ ap (λ (h : FileHand). record h {
               held = with_value (cell_place nodes mine) value
                   (with_value (cell_place nodes (id.File child)) lowered.change.value (with_value (cell_place nodes at) gone.change.value out_held));
             })
@@ -492,7 +493,7 @@ module _ (given : ℕ → Option OldKept) (t : TableState) (nodes : ℕ) (before
             value is_ready.out.0 gone.change.new lowered.change.old lowered.change.new
             gone.change.is without old_file lowered.change.is lowered.links lowered.file is added made)
 
-        pub answers : (last : Hand Cell Fact) → LetsGo final last → last.held ≡ left_below 0 final.held → last.view.held ≡ reverse (places_of last.held)
+        pub answers : (last : FileHand) → LetsGo final last → last.held ≡ left_below 0 final.held → last.view.held ≡ reverse (places_of last.held)
             → IsAnswered t (call.Unlink dir name) reply.Ok before last
         answers last lets left at_places = changed.ended given t nodes before (call.Unlink dir name) (done (Removes dir.0 name child.0)) number mid turn final
             (with_value (cell_place nodes mine) value

@@ -6,30 +6,29 @@ use Rattle.sfs_base.specs.declared.numbers.Kind.{Kind}
 use Rattle.tree_laws.specs.Tree.{is_directory_kind}
 use Rattle.mem_cells.specs.Part.{IsSamePart, room_kept}
 use Rattle.stamp_table.specs.declared.held.HeldCell.{HeldCell}
-use Rattle.stamp_table.specs.Hand.{Hand}
 use Rattle.stamp_table.specs.Ascending.{LiesAbove}
 use Rattle.stamp_table.specs.Table.{with_value}
 use Rattle.sfs_base.specs.Name.{bucket}
 use Rattle.tree_laws.specs.declared.reply.Code.{Code}
 use Rattle.tree_laws.specs.declared.reply.Code.TheVariants.{IsDir, NotPermitted}
+use Rattle.mem_values.specs.Start.{FileHand}
 use Rattle.mem_values.specs.declared.cell.Cell.{Cell}
 use Rattle.mem_values.specs.declared.cell.FileCell.{FileCell}
 use Rattle.mem_values.specs.declared.cell.PartCell.{PartCell}
 use Rattle.mem_values.specs.declared.bucket.Bucket.{Bucket}
 use Rattle.mem_values.specs.declared.cell_id.CellId.{CellId}
 use Rattle.mem_values.specs.declared.cell_id.CellId.TheVariants as id
-use Rattle.mem_values.specs.declared.fact.Fact.{Fact}
 use Rattle.mem_values.specs.Places.{cell_place}
 use Rattle.mem_calls.specs.Held.{as_bucket, as_file, bucket_held, file_held, part_held, is_standing, HoldsDirectory, HoldsFile}
 use Rattle.mem_calls.specs.declared.ready.Ready.{Ready}
 use Rattle.mem_calls.specs.declared.coming.Coming.{Coming}
 
 -- a core holds another value of a cell, and nothing else changes
-abbrev pub PutsValue : ℕ → CellId → Cell → Hand Cell Fact → Hand Cell Fact → Type 0
+abbrev pub PutsValue : ℕ → CellId → Cell → FileHand → FileHand → Type 0
 PutsValue nodes which value before after = after ≡ record before { held = with_value (cell_place nodes which) value before.held }
 
 -- A bucket that is held is another one.
-pub record ReplacesBucket (nodes : ℕ) (node : NodeId) (number : ℕ) (before after : Hand Cell Fact) : Type 0 where
+pub record ReplacesBucket (nodes : ℕ) (node : NodeId) (number : ℕ) (before after : FileHand) : Type 0 where
   pub old : Bucket
   pub was : bucket_held nodes before.held node number ≡ Some old
   pub value : Cell
@@ -38,7 +37,7 @@ pub record ReplacesBucket (nodes : ℕ) (node : NodeId) (number : ℕ) (before a
   pub puts : PutsValue nodes (id.Bucket node number) value before after
 
 -- A file that is held is another one.
-pub record ReplacesFile (nodes : ℕ) (node : NodeId) (before after : Hand Cell Fact) : Type 0 where
+pub record ReplacesFile (nodes : ℕ) (node : NodeId) (before after : FileHand) : Type 0 where
   pub old : FileCell
   pub was : file_held nodes before.held node ≡ Some old
   pub value : Cell
@@ -53,12 +52,12 @@ pub record IsWithoutRow (name : List ℕ) (old new : Bucket) : Type 0 where
   pub stands : new.stands ≡ old.stands
 
 -- a row goes from a bucket that is held
-pub record RemovesRow (nodes : ℕ) (node : NodeId) (number : ℕ) (name : List ℕ) (before after : Hand Cell Fact) : Type 0 where
+pub record RemovesRow (nodes : ℕ) (node : NodeId) (number : ℕ) (name : List ℕ) (before after : FileHand) : Type 0 where
   pub change : ReplacesBucket nodes node number before after
   pub row : IsWithoutRow name change.old change.new
 
 -- a file that is held has one name less
-pub record LowersLinks (nodes : ℕ) (node : NodeId) (before after : Hand Cell Fact) : Type 0 where
+pub record LowersLinks (nodes : ℕ) (node : NodeId) (before after : FileHand) : Type 0 where
   pub change : ReplacesFile nodes node before after
   pub links : change.new.links + 1 ≡ change.old.links
   pub file : change.new.file ≡ change.old.file
@@ -73,14 +72,14 @@ pub record NamesFile (nodes : ℕ) (held : List (HeldCell Cell)) (node : NodeId)
   pub file : is_some (get bucket.directories name) ≡ false
 
 -- The place of a name is held, and where its row names a file that is held too, all below the logs.
-pub record HoldsNamed (nodes : ℕ) (node : NodeId) (name : List ℕ) (hand : Hand Cell Fact) : Type 0 where
+pub record HoldsNamed (nodes : ℕ) (node : NodeId) (name : List ℕ) (hand : FileHand) : Type 0 where
   pub directory : HoldsDirectory nodes hand.held node (bucket name)
   pub file : (child : NodeId) → NamesFile nodes hand.held node (bucket name) name child → (child.0 < nodes) × IsSome (file_held nodes hand.held child)
   pub below : LiesAbove (32 + 10 * nodes) hand.view.held
   pub few : length hand.held ≤ 4
 
 -- The own log is out of its cell, with room for one more change of a directory, and the name is copied.
-pub record IsReadyForRow (nodes : ℕ) (node : NodeId) (name : List ℕ) (before : Hand Cell Fact) (ready : Ready) (after : Hand Cell Fact) : Type 0 where
+pub record IsReadyForRow (nodes : ℕ) (node : NodeId) (name : List ℕ) (before : FileHand) (ready : Ready) (after : FileHand) : Type 0 where
   pub name_is : ready.name ≡ name
   pub none : ready.changes.items ≡ []
   pub spare : 1 ≤ ready.changes.spare
@@ -106,9 +105,9 @@ pub record IsWithRow (name : List ℕ) (child : ℕ) (kind : Kind) (old new : Bu
 
 -- The own log and the bucket of a name are out of their cells: the log has room for one more change of the directory, and the bucket has
 -- the row of a child.
-pub record IsComing (nodes : ℕ) (node : NodeId) (name : List ℕ) (child : ℕ) (kind : Kind) (before : Hand Cell Fact) (coming : Coming)
-    (after : Hand Cell Fact) : Type 0 where
-  pub mid : Hand Cell Fact
+pub record IsComing (nodes : ℕ) (node : NodeId) (name : List ℕ) (child : ℕ) (kind : Kind) (before : FileHand) (coming : Coming)
+    (after : FileHand) : Type 0 where
+  pub mid : FileHand
   pub ready : IsReadyForRow nodes node name before coming.ready mid
   pub out : (value : Cell) × PutsValue nodes (id.Bucket node (bucket name)) value mid after
   pub old : Bucket
@@ -116,7 +115,7 @@ pub record IsComing (nodes : ℕ) (node : NodeId) (name : List ℕ) (child : ℕ
   pub row : IsWithRow name child kind old coming.bucket.value
 
 -- a file that is held has one name more
-pub record RaisesLinks (nodes : ℕ) (node : NodeId) (before after : Hand Cell Fact) : Type 0 where
+pub record RaisesLinks (nodes : ℕ) (node : NodeId) (before after : FileHand) : Type 0 where
   pub change : ReplacesFile nodes node before after
   pub links : change.new.links ≡ change.old.links + 1
   pub file : change.new.file ≡ change.old.file
@@ -131,7 +130,7 @@ pub record MayLink (nodes : ℕ) (held : List (HeldCell Cell)) (file node : Node
   pub few : file_of.links < 65535
 
 -- What tells of a file and of the place of a row is held; where the two are one node, what tells whether that is a directory.
-pub record HoldsLink (nodes : ℕ) (file node : NodeId) (name : List ℕ) (hand : Hand Cell Fact) : Type 0 where
+pub record HoldsLink (nodes : ℕ) (file node : NodeId) (name : List ℕ) (hand : FileHand) : Type 0 where
   pub place : HoldsDirectory nodes hand.held node (bucket name)
   pub other : (file.0 ≡ node.0 → ⊥) → HoldsFile nodes hand.held file
 

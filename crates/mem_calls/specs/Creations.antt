@@ -8,13 +8,13 @@ use Rattle.tree_laws.specs.declared.reply.Reply.TheVariants as reply
 use Rattle.tree_laws.specs.Effect.{Adds}
 use Rattle.tree_laws.specs.Verdict.{Verdict}
 use Rattle.stamp_table.specs.declared.held.HeldCell.{HeldCell}
-use Rattle.stamp_table.specs.Hand.{Hand, places_of}
+use Rattle.stamp_table.specs.Hand.{places_of}
+use Rattle.mem_values.specs.Start.{FileHand}
 use Rattle.mem_values.specs.declared.cell.Cell.{Cell}
 use Rattle.mem_values.specs.declared.cell.Cell.TheVariants as cell
 use Rattle.mem_values.specs.declared.cell.PartCell.{PartCell}
 use Rattle.mem_values.specs.declared.cell_id.CellId.{CellId}
 use Rattle.mem_values.specs.declared.cell_id.CellId.TheVariants as id
-use Rattle.mem_values.specs.declared.fact.Fact.{Fact}
 use Rattle.mem_values.specs.Places.{IsCell}
 use Rattle.mem_calls.specs.Held.{value_held, file_held, part_held, pending_held, HoldsDirectory}
 use Rattle.mem_calls.specs.Sums.{HoldsBuckets}
@@ -31,7 +31,7 @@ IsNextNumber first share core made None = share ≤ made
 IsNextNumber first share core made (Some node) = (made < share) × (node.0 ≡ first + core * share + made)
 
 -- This is the number that a core gives next by its own log, which it holds.
-pub record HasNext (nodes : ℕ) (hand : Hand Cell Fact) (next : Option NodeId) : Type 0 where
+pub record HasNext (nodes : ℕ) (hand : FileHand) (next : Option NodeId) : Type 0 where
   pub known : hand.view.core < length hand.view.first.made
   pub part : PartCell
   pub held : part_held nodes hand.held hand.view.core ≡ Some part
@@ -55,7 +55,7 @@ pub record HoldsCreation (nodes : ℕ) (held : List (HeldCell Cell)) (dir : Node
 
 -- A node may be made: the place of its name is free, its cells are held, it is not the directory itself, and the core counts fewer nodes
 -- than it can.
-pub record MayMake (nodes : ℕ) (hand : Hand Cell Fact) (dir : NodeId) (name : List ℕ) (child : NodeId) (kind : Kind) : Type 0 where
+pub record MayMake (nodes : ℕ) (hand : FileHand) (dir : NodeId) (name : List ℕ) (child : NodeId) (kind : Kind) : Type 0 where
   pub place : IsFreePlace nodes hand.held dir name
   pub new : HoldsCreated nodes hand.held child kind
   pub apart : child.0 ≢ dir.0
@@ -84,7 +84,7 @@ IsSettled dir (cell.Pending old) (cell.Pending new) = new.value ≡ record old.v
 IsSettled dir _ _ = ⊥
 
 -- Cells that pass a test get what a creation in a directory makes of them, and nothing else changes.
-pub record SettlesCreation (nodes : ℕ) (test : CellId → Bool) (dir : NodeId) (before after : Hand Cell Fact) : Type 0 where
+pub record SettlesCreation (nodes : ℕ) (test : CellId → Bool) (dir : NodeId) (before after : FileHand) : Type 0 where
   pub frame : record after { held = before.held } ≡ before
   pub places : places_of after.held ≡ places_of before.held
   pub settled : (cores : ℕ) (which : CellId) (old : Cell) → IsCell nodes cores which → test which ≡ true → value_held nodes before.held which ≡ Some old

@@ -4,13 +4,13 @@ use Rattle.std.specs.FinMap.{get}
 use Rattle.sfs_base.specs.Name.{bucket}
 use Rattle.sfs_base.specs.declared.numbers.NodeId.{NodeId}
 use Rattle.stamp_table.specs.declared.held.HeldCell.{HeldCell}
-use Rattle.stamp_table.specs.Hand.{Hand, places_of}
+use Rattle.stamp_table.specs.Hand.{places_of}
 use Rattle.stamp_table.specs.Ascending.{LiesAbove}
+use Rattle.mem_values.specs.Start.{FileHand}
 use Rattle.mem_values.specs.declared.cell.Cell.{Cell}
 use Rattle.mem_values.specs.declared.bucket.Bucket.{Bucket}
 use Rattle.mem_values.specs.declared.cell_id.CellId.{CellId}
 use Rattle.mem_values.specs.declared.cell_id.CellId.TheVariants as id
-use Rattle.mem_values.specs.declared.fact.Fact.{Fact}
 use Rattle.mem_values.specs.Places.{cell_place}
 use Rattle.mem_calls.specs.Held.{value_held, bucket_held, is_standing, HoldsDirectory}
 use Rattle.mem_calls.specs.Sums.{HoldsBuckets}
@@ -30,7 +30,7 @@ HoldsNamedBuckets nodes held node name =
     (child : NodeId) → NamesDirectory nodes held node (bucket name) name child → (child.0 < nodes) × HoldsBuckets nodes held child
 
 -- The place of a name is held, and where its row names a directory all buckets of that, all below the logs.
-pub record HoldsEnding (nodes : ℕ) (node : NodeId) (name : List ℕ) (hand : Hand Cell Fact) : Type 0 where
+pub record HoldsEnding (nodes : ℕ) (node : NodeId) (name : List ℕ) (hand : FileHand) : Type 0 where
   pub directory : HoldsDirectory nodes hand.held node (bucket name)
   pub child : HoldsNamedBuckets nodes hand.held node name
   pub below : LiesAbove (32 + 10 * nodes) hand.view.held
@@ -43,12 +43,12 @@ pub record IsPlacedBucket (place : Option NodeId) (old new : Bucket) : Type 0 wh
   pub stands : new.stands ≡ place
 
 -- by a bucket that is held its directory stands here
-pub record PlacesBucket (nodes : ℕ) (node : NodeId) (number : ℕ) (place : Option NodeId) (before after : Hand Cell Fact) : Type 0 where
+pub record PlacesBucket (nodes : ℕ) (node : NodeId) (number : ℕ) (place : Option NodeId) (before after : FileHand) : Type 0 where
   pub change : ReplacesBucket nodes node number before after
   pub placed : IsPlacedBucket place change.old change.new
 
 -- By so many buckets that are held a directory stands here, and nothing else changes.
-pub record PlacesDirectory (nodes : ℕ) (node : NodeId) (count : ℕ) (place : Option NodeId) (before after : Hand Cell Fact) : Type 0 where
+pub record PlacesDirectory (nodes : ℕ) (node : NodeId) (count : ℕ) (place : Option NodeId) (before after : FileHand) : Type 0 where
   pub frame : record after { held = before.held } ≡ before
   pub places : places_of after.held ≡ places_of before.held
   pub placed : (number : ℕ) (old : Bucket) → number < count → bucket_held nodes before.held node number ≡ Some old

@@ -5,8 +5,8 @@ use Rattle.sfs_base.specs.declared.numbers.NodeId.{NodeId}
 use Rattle.tree_laws.specs.Tree.{TreeState}
 use Rattle.tree_laws.specs.Sound.{IsWithinLimits}
 use Rattle.stamp_table.specs.declared.held.HeldCell.{HeldCell}
-use Rattle.stamp_table.specs.Hand.{Hand}
 use Rattle.stamp_table.specs.Table.{cell_at}
+use Rattle.mem_values.specs.Start.{FileHand}
 use Rattle.mem_values.specs.declared.cell.Cell.{Cell}
 use Rattle.mem_values.specs.declared.cell.Cell.TheVariants as cell
 use Rattle.mem_values.specs.declared.cell.FileCell.{FileCell}
@@ -15,7 +15,6 @@ use Rattle.mem_values.specs.declared.cell.Pending.{Pending}
 use Rattle.mem_values.specs.declared.bucket.Bucket.{Bucket}
 use Rattle.mem_values.specs.declared.cell_id.CellId.{CellId}
 use Rattle.mem_values.specs.declared.cell_id.CellId.TheVariants as id
-use Rattle.mem_values.specs.declared.fact.Fact.{Fact}
 use Rattle.mem_values.specs.Places.{cell_place}
 use Rattle.mem_values.specs.Laws.{MayMeet}
 
@@ -80,13 +79,13 @@ pub record HoldsFile (nodes : ℕ) (held : List (HeldCell Cell)) (node : NodeId)
   pub bucket : node.0 < nodes → linked_held nodes held node ≡ false → IsSome (bucket_held nodes held node 0)
 
 -- the own log is held
-abbrev pub HoldsPart : ℕ → Hand Cell Fact → Type 0
+abbrev pub HoldsPart : ℕ → FileHand → Type 0
 HoldsPart nodes hand = IsSome (part_held nodes hand.held hand.view.core)
 
 -- a fact of each tree that the values show which a core holds
-abbrev pub InEach : Hand Cell Fact → (TreeState → Type 0) → Type 0
+abbrev pub InEach : FileHand → (TreeState → Type 0) → Type 0
 InEach hand P = (tree : TreeState) → MayMeet hand.view hand.held tree → P tree
 
 -- There is such a tree, within its limits.
-abbrev pub CanMeet : Hand Cell Fact → Type 0
+abbrev pub CanMeet : FileHand → Type 0
 CanMeet hand = (tree : TreeState) × MayMeet hand.view hand.held tree × IsWithinLimits tree

@@ -9,17 +9,17 @@ ghost use Rattle.mem_calls.specs.Outcome.{ComesTo};
 use crate::holding::CALL_CELLS;
 use crate::numbers::Numbers;
 use crate::{link, list, look, make, read, rmdir, stat, trunc, unlink, write};
-use mem_values::{FileCore, FileShared, Given};
+use mem_values::{FileCore, FileShared};
 use sfs_base::{Gate, NoMemory};
 use std::alloc::Global;
 use std::sync::Wait;
 use tree_laws::{Call, Reply};
 
 /// Makes a call that is neither a rename nor an fsync. It may wait. Only want of memory refuses it.
-pub fn call<R: Wait, T: Given, G: Gate>(
+pub fn call<R: Wait, G: Gate>(
     rt: &R,
     alloc: Global,
-    shared: &FileShared<T>,
+    shared: &FileShared,
     core: &mut FileCore,
     nodes: u32,
     numbers: Numbers,
@@ -47,10 +47,10 @@ pub fn call<R: Wait, T: Given, G: Gate>(
 }
 
 // Makes a call that may change the tree.
-fn change<R: Wait, T: Given, G: Gate>(
+fn change<R: Wait, G: Gate>(
     rt: &R,
     alloc: Global,
-    shared: &FileShared<T>,
+    shared: &FileShared,
     core: &mut FileCore,
     nodes: u32,
     numbers: Numbers,

@@ -1,5 +1,6 @@
 // What may be refused memory of a call by which a row comes, done before its stamp.
-ghost use Rattle.std.specs.Prelude.{MatchResult};
+ghost use Rattle.std.specs.Prelude.{MatchResult, ◌≡◌, None};
+ghost use Rattle.mem_values.specs.Start.{given_by};
 ghost use Rattle.mem_calls.specs.Table.{IsFileTable};
 ghost use Rattle.mem_calls.specs.Held.{HoldsPart};
 ghost use Rattle.mem_calls.specs.Working.{IsWorking};
@@ -9,7 +10,7 @@ ghost use Rattle.mem_calls.specs.Outcome.{IsRefusedMemory};
 use crate::ready::{Ready, make_ready};
 use crate::rows::with_row;
 use crate::taking::{put_bucket, put_part, take_bucket};
-use mem_values::{Bucket, FileCore, FileShared, Given};
+use mem_values::{Bucket, FileCore, FileShared};
 use sfs_base::{Kind, Name, NoMemory, NodeId, bucket_of};
 use std::alloc::Global;
 
@@ -21,9 +22,9 @@ pub(crate) struct Coming {
 }
 
 /// Makes ready for a row that comes, and takes its bucket out of its cell. Where it is refused memory the call is given up.
-pub(crate) fn make_coming<T: Given>(
+pub(crate) fn make_coming(
     alloc: Global,
-    shared: &FileShared<T>,
+    shared: &FileShared,
     core: &mut FileCore,
     nodes: u32,
     dir: NodeId,
@@ -31,7 +32,8 @@ pub(crate) fn make_coming<T: Given>(
     child: (NodeId, Kind),
 ) -> Result<Coming, NoMemory>
     requires table { IsFileTable shared.now nodes }
-    requires work { IsWorking T.given shared.now core.old }
+    requires work { IsWorking (given_by shared.now) shared.now core.old }
+    requires answered { core.old.waiting ≡ None }
     requires part { HoldsPart nodes core.old }
     requires free { IsFreePlace nodes core.old.held dir name.now }
     ensures { MatchResult result (λ coming. IsComing nodes dir name.now child.0.0 child.1 core.old coming core.new)

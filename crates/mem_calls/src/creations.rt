@@ -2,6 +2,7 @@
 ghost use Rattle.std.specs.Prelude.{◌≡◌, ◌+◌, ◌*◌, ◌<◌, ◌≤◌, [], IfSome};
 ghost use Rattle.stamp_table.specs.Ascending.{LiesAbove};
 ghost use Rattle.stamp_table.specs.Table.{IsBetweenCalls};
+ghost use Rattle.mem_values.specs.Start.{given_by};
 ghost use Rattle.mem_calls.specs.Table.{IsFileTable, AreNumbersOf};
 ghost use Rattle.mem_calls.specs.Held.{HoldsPart, CanMeet};
 ghost use Rattle.mem_calls.specs.Working.{IsWorking, WorksOn, StillHolds};
@@ -15,24 +16,19 @@ use crate::holding::{
 };
 use crate::making::{finish_make, make_in};
 use crate::numbers::Numbers;
-use mem_values::{CellId, FileCore, FileShared, Given};
+use mem_values::{CellId, FileCore, FileShared};
 use sfs_base::{Gate, Kind, Name, NoMemory, NodeId, bucket_of};
 use std::alloc::Global;
 use std::sync::Wait;
 use tree_laws::{Call, Reply};
 
 // How many nodes the core has made, by its own log, which it holds for that alone.
-fn read_made<R: Wait, T: Given>(
-    rt: &R,
-    shared: &FileShared<T>,
-    core: &mut FileCore,
-    nodes: u32,
-) -> u32
+fn read_made<R: Wait>(rt: &R, shared: &FileShared, core: &mut FileCore, nodes: u32) -> u32
     requires table { IsFileTable shared.now nodes }
-    requires work { IsWorking T.given shared.now core.old }
+    requires work { IsWorking (given_by shared.now) shared.now core.old }
     requires none { (core.old.held ≡ []) × (core.old.view.held ≡ []) }
     requires room { 0 < core.old.room }
-    ensures work { IsWorking T.given shared.now core.new }
+    ensures work { IsWorking (given_by shared.now) shared.now core.new }
     ensures on { WorksOn core.old core.new }
     ensures none { (core.new.held ≡ []) × (core.new.view.held ≡ []) }
 {
@@ -44,20 +40,20 @@ fn read_made<R: Wait, T: Given>(
 }
 
 // Holds the file of a node, or all its buckets.
-fn hold_own<R: Wait, T: Given>(
+fn hold_own<R: Wait>(
     rt: &R,
-    shared: &FileShared<T>,
+    shared: &FileShared,
     core: &mut FileCore,
     nodes: u32,
     node: NodeId,
     kind: Kind,
 )
     requires table { IsFileTable shared.now nodes }
-    requires work { IsWorking T.given shared.now core.old }
+    requires work { IsWorking (given_by shared.now) shared.now core.old }
     requires within { node.0 < nodes }
     requires above { LiesAbove (16 + 9 * node.0) core.old.view.held }
     requires room { 8 ≤ core.old.room }
-    ensures work { IsWorking T.given shared.now core.new }
+    ensures work { IsWorking (given_by shared.now) shared.now core.new }
     ensures on { WorksOn core.old core.new }
     ensures still { StillHolds nodes core.old core.new }
     ensures own { HoldsOwn nodes core.new.held node kind }
@@ -73,9 +69,9 @@ fn hold_own<R: Wait, T: Given>(
 
 // Holds the place of a name and the cells of the node that comes there, in their order. Where the directory itself has the number that
 // comes, or has none of the table's, there is no such place, and no cells of a node are held.
-fn hold_places<R: Wait, T: Given>(
+fn hold_places<R: Wait>(
     rt: &R,
-    shared: &FileShared<T>,
+    shared: &FileShared,
     core: &mut FileCore,
     nodes: u32,
     dir: NodeId,
@@ -84,11 +80,11 @@ fn hold_places<R: Wait, T: Given>(
     next: Option<NodeId>,
 )
     requires table { IsFileTable shared.now nodes }
-    requires work { IsWorking T.given shared.now core.old }
+    requires work { IsWorking (given_by shared.now) shared.now core.old }
     requires none { (core.old.held ≡ []) × (core.old.view.held ≡ []) }
     requires within { IfSome next (λ child. child.0 < nodes) }
     requires room { CALL_CELLS ≤ core.old.room }
-    ensures work { IsWorking T.given shared.now core.new }
+    ensures work { IsWorking (given_by shared.now) shared.now core.new }
     ensures on { WorksOn core.old core.new }
     ensures held { HoldsCreation nodes core.new.held dir name.now kind next }
     ensures below { LiesAbove (32 + 10 * nodes) core.new.view.held }
@@ -113,9 +109,9 @@ fn hold_places<R: Wait, T: Given>(
 }
 
 // Holds what a creation needs, with the own log, and answers the number that the core gives next.
-fn hold_creation<R: Wait, T: Given, G: Gate>(
+fn hold_creation<R: Wait, G: Gate>(
     rt: &R,
-    shared: &FileShared<T>,
+    shared: &FileShared,
     core: &mut FileCore,
     nodes: u32,
     numbers: Numbers,
@@ -125,11 +121,11 @@ fn hold_creation<R: Wait, T: Given, G: Gate>(
     gate: &G,
 ) -> Option<NodeId>
     requires table { IsFileTable shared.now nodes }
-    requires work { IsWorking T.given shared.now core.old }
+    requires work { IsWorking (given_by shared.now) shared.now core.old }
     requires numbers { AreNumbersOf shared.now.first numbers }
     requires none { (core.old.held ≡ []) × (core.old.view.held ≡ []) }
     requires room { CALL_CELLS ≤ core.old.room }
-    ensures work { IsWorking T.given shared.now core.new }
+    ensures work { IsWorking (given_by shared.now) shared.now core.new }
     ensures on { WorksOn core.old core.new }
     ensures part { HoldsPart nodes core.new }
     ensures met { CanMeet core.new }
@@ -152,10 +148,10 @@ fn hold_creation<R: Wait, T: Given, G: Gate>(
 /// Makes an empty node and a row that names it. First it reads in its own log which number it gives next. Then it holds the place of the
 /// name, where the directory does not stand by that also its file, and of the new node the file or the eight buckets, and what was
 /// flushed of it. It may wait. Only want of memory refuses it.
-pub fn make<R: Wait, T: Given, G: Gate>(
+pub fn make<R: Wait, G: Gate>(
     rt: &R,
     alloc: Global,
-    shared: &FileShared<T>,
+    shared: &FileShared,
     core: &mut FileCore,
     nodes: u32,
     numbers: Numbers,

@@ -4,6 +4,7 @@ ghost use Rattle.tree_laws.specs.Effect.{Edits};
 ghost use Rattle.tree_laws.specs.Verdict.{verdict, answered, done};
 ghost use Rattle.tree_laws.specs.declared.reply.Reply.TheVariants as reply;
 ghost use Rattle.stamp_table.specs.Table.{IsBetweenCalls};
+ghost use Rattle.mem_values.specs.Start.{given_by};
 ghost use Rattle.mem_values.specs.Places.{node_count};
 ghost use Rattle.mem_calls.specs.Table.{IsFileTable};
 ghost use Rattle.mem_calls.specs.Held.{file_held, HoldsFile, HoldsPart, InEach};
@@ -18,7 +19,7 @@ use crate::held::file_fault_in;
 use crate::holding::{CALL_CELLS, hold_file, hold_part};
 use crate::short::Short;
 use crate::taking::{add_entry, put, take_file};
-use mem_values::{Cell, CellId, FileCore, FileShared, Given};
+use mem_values::{Cell, CellId, FileCore, FileShared};
 use sfs_base::{Chunk, Gate, NoMemory, NodeId};
 use std::alloc::Global;
 use std::sync::Wait;
@@ -49,16 +50,17 @@ fn edit_answer(core: &FileCore, nodes: u32, file: NodeId, edit: &FileEdit) -> Op
 }
 
 // Does an edit that nothing refuses but want of memory.
-fn finish_edit<T: Given>(
+fn finish_edit(
     alloc: Global,
-    shared: &FileShared<T>,
+    shared: &FileShared,
     core: &mut FileCore,
     nodes: u32,
     file: NodeId,
     edit: FileEdit,
 ) -> Result<(), NoMemory>
     requires table { IsFileTable shared.now nodes }
-    requires work { IsWorking T.given shared.now core.old }
+    requires work { IsWorking (given_by shared.now) shared.now core.old }
+    requires answered { core.old.waiting ≡ None }
     requires part { HoldsPart nodes core.old }
     requires spare { 0 < core.old.spare }
     requires within { file.0 < nodes }
@@ -68,7 +70,7 @@ fn finish_edit<T: Given>(
     ensures { MatchResult result (λ _. IsAnswered shared.now (edit_call file edit) reply.Ok core.old core.new) (λ _. IsRefusedMemory shared.now core.old core.new) }
 {
     let cell = CellId::File { node: file };
-    core.events_are_few();
+    core.calls_are_few();
     let (value, outcome) = edited(take_file(core, nodes, file), &edit);
     match outcome {
         Ok(touched) => {
@@ -88,10 +90,10 @@ fn finish_edit<T: Given>(
 }
 
 // Edits a file.
-fn edit_file<R: Wait, T: Given, G: Gate>(
+fn edit_file<R: Wait, G: Gate>(
     rt: &R,
     alloc: Global,
-    shared: &FileShared<T>,
+    shared: &FileShared,
     core: &mut FileCore,
     nodes: u32,
     file: NodeId,
@@ -121,10 +123,10 @@ fn edit_file<R: Wait, T: Given, G: Gate>(
 
 /// Puts bytes into a file from byte `at` on. It holds the file, and where no row names it also the first bucket of its node. It may
 /// wait. Only want of memory refuses it.
-pub fn write<R: Wait, T: Given, G: Gate>(
+pub fn write<R: Wait, G: Gate>(
     rt: &R,
     alloc: Global,
-    shared: &FileShared<T>,
+    shared: &FileShared,
     core: &mut FileCore,
     nodes: u32,
     file: NodeId,
@@ -143,10 +145,10 @@ pub fn write<R: Wait, T: Given, G: Gate>(
 }
 
 /// Gives a file this size. It holds the same cells as `write`. It may wait. Only want of memory refuses it.
-pub fn trunc<R: Wait, T: Given, G: Gate>(
+pub fn trunc<R: Wait, G: Gate>(
     rt: &R,
     alloc: Global,
-    shared: &FileShared<T>,
+    shared: &FileShared,
     core: &mut FileCore,
     nodes: u32,
     file: NodeId,

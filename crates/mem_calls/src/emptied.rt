@@ -1,11 +1,12 @@
 // Rows of empty directories, which go.
-ghost use Rattle.std.specs.Prelude.{◌≡◌, ◌≢◌, ◌<◌, ◌≤◌, [], IsSome, IfSome, IfOk, MatchBool, MatchResult};
+ghost use Rattle.std.specs.Prelude.{◌≡◌, ◌≢◌, ◌<◌, ◌≤◌, [], IsSome, IfSome, IfOk, MatchBool, MatchResult, None};
 ghost use Rattle.sfs_base.specs.Name.{bucket};
 ghost use Rattle.sfs_base.specs.declared.numbers.NodeId.{NodeId as Node};
 ghost use Rattle.tree_laws.specs.Effect.{Removes};
 ghost use Rattle.tree_laws.specs.Verdict.{verdict, refused, done};
 ghost use Rattle.tree_laws.specs.declared.reply.Reply.TheVariants as reply;
 ghost use Rattle.stamp_table.specs.Table.{IsBetweenCalls};
+ghost use Rattle.mem_values.specs.Start.{given_by};
 ghost use Rattle.mem_values.specs.Places.{node_count};
 ghost use Rattle.mem_calls.specs.Table.{IsFileTable};
 ghost use Rattle.mem_calls.specs.Held.{bucket_held, HoldsDirectory, HoldsPart, CanMeet, InEach};
@@ -24,7 +25,7 @@ use crate::rows::{remove_row, removed_row};
 use crate::standing::place_directory;
 use crate::status::directory_counts;
 use crate::taking::{put_part, with_entry};
-use mem_values::{CellId, FileCore, FileShared, Given};
+use mem_values::{CellId, FileCore, FileShared};
 use sfs_base::{Gate, Kind, Name, NoMemory, NodeId, bucket_of};
 use std::alloc::Global;
 use std::sync::Wait;
@@ -52,19 +53,19 @@ fn directory_named(core: &FileCore, nodes: u32, dir: NodeId, name: &Name) -> Opt
 
 // Holds the place of a name, and where its row names a directory also all buckets of that. Where they lie below the place, it lets go,
 // holds both in their order, and looks again whether the row names this directory; if not, it holds nothing.
-fn try_hold_ending<R: Wait, T: Given>(
+fn try_hold_ending<R: Wait>(
     rt: &R,
-    shared: &FileShared<T>,
+    shared: &FileShared,
     core: &mut FileCore,
     nodes: u32,
     dir: NodeId,
     name: &Name,
 ) -> bool
     requires table { IsFileTable shared.now nodes }
-    requires work { IsWorking T.given shared.now core.old }
+    requires work { IsWorking (given_by shared.now) shared.now core.old }
     requires none { (core.old.held ≡ []) × (core.old.view.held ≡ []) }
     requires room { CALL_CELLS ≤ core.old.room }
-    ensures work { IsWorking T.given shared.now core.new }
+    ensures work { IsWorking (given_by shared.now) shared.now core.new }
     ensures on { WorksOn core.old core.new }
     ensures held { MatchBool result (HoldsEnding nodes dir name.now core.new) ((core.new.held ≡ []) × (core.new.view.held ≡ [])) }
 {
@@ -94,19 +95,19 @@ fn try_hold_ending<R: Wait, T: Given>(
 }
 
 // Holds the place of a name, and where its row names a directory also all buckets of that.
-fn hold_ending<R: Wait, T: Given>(
+fn hold_ending<R: Wait>(
     rt: &R,
-    shared: &FileShared<T>,
+    shared: &FileShared,
     core: &mut FileCore,
     nodes: u32,
     dir: NodeId,
     name: &Name,
 )
     requires table { IsFileTable shared.now nodes }
-    requires work { IsWorking T.given shared.now core.old }
+    requires work { IsWorking (given_by shared.now) shared.now core.old }
     requires none { (core.old.held ≡ []) × (core.old.view.held ≡ []) }
     requires room { CALL_CELLS ≤ core.old.room }
-    ensures work { IsWorking T.given shared.now core.new }
+    ensures work { IsWorking (given_by shared.now) shared.now core.new }
     ensures on { WorksOn core.old core.new }
     ensures held { HoldsEnding nodes dir name.now core.new }
 {
@@ -148,9 +149,9 @@ fn rmdir_in(core: &FileCore, nodes: u32, dir: NodeId, name: &Name) -> Result<Nod
 }
 
 // Ends a directory that nothing keeps but want of memory.
-fn finish_rmdir<T: Given>(
+fn finish_rmdir(
     alloc: Global,
-    shared: &FileShared<T>,
+    shared: &FileShared,
     core: &mut FileCore,
     nodes: u32,
     dir: NodeId,
@@ -158,7 +159,8 @@ fn finish_rmdir<T: Given>(
     child: NodeId,
 ) -> Result<(), NoMemory>
     requires table { IsFileTable shared.now nodes }
-    requires work { IsWorking T.given shared.now core.old }
+    requires work { IsWorking (given_by shared.now) shared.now core.old }
+    requires answered { core.old.waiting ≡ None }
     requires part { HoldsPart nodes core.old }
     requires spare { 0 < core.old.spare }
     requires names { NamesDirectory nodes core.old.held dir (bucket name) name child }
@@ -166,7 +168,7 @@ fn finish_rmdir<T: Given>(
     requires due { InEach core.old (λ tree. verdict tree core.old.view.core (Call.Rmdir dir name) ≡ done (Removes dir.0 name child.0)) }
     ensures { MatchResult result (λ _. IsAnswered shared.now (Call.Rmdir dir name) reply.Ok core.old core.new) (λ _. IsRefusedMemory shared.now core.old core.new) }
 {
-    core.events_are_few();
+    core.calls_are_few();
     let number = bucket_of(&name);
     let ready = make_ready(alloc, shared, core, nodes, dir, &name)?;
     let stamp = core.stamp(shared, Call::Rmdir { dir, name }, Reply::Ok);
@@ -187,10 +189,10 @@ fn finish_rmdir<T: Given>(
 
 /// Removes the row of a directory that has no rows. It holds the bucket of the name, where the row's own directory does not stand also its
 /// file, and all buckets of the directory that the row names. It may wait. Only want of memory refuses it.
-pub fn rmdir<R: Wait, T: Given, G: Gate>(
+pub fn rmdir<R: Wait, G: Gate>(
     rt: &R,
     alloc: Global,
-    shared: &FileShared<T>,
+    shared: &FileShared,
     core: &mut FileCore,
     nodes: u32,
     dir: NodeId,

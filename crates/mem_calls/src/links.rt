@@ -6,6 +6,7 @@ ghost use Rattle.tree_laws.specs.Verdict.{verdict, refused, done};
 ghost use Rattle.tree_laws.specs.declared.reply.Reply.TheVariants as reply;
 ghost use Rattle.stamp_table.specs.Ascending.{LiesAbove};
 ghost use Rattle.stamp_table.specs.Table.{IsBetweenCalls};
+ghost use Rattle.mem_values.specs.Start.{given_by};
 ghost use Rattle.mem_values.specs.Places.{node_count};
 ghost use Rattle.mem_calls.specs.Table.{IsFileTable};
 ghost use Rattle.mem_calls.specs.Held.{HoldsDirectory, HoldsFile, HoldsPart, InEach};
@@ -19,7 +20,7 @@ use crate::held::{bucket_in, directory_fault_in, file_fault_in, file_in};
 use crate::holding::{CALL_CELLS, hold_directory, hold_file, hold_more, hold_part};
 use crate::rows::{added_row, raise_links};
 use crate::taking::{put_bucket, put_part, with_entry};
-use mem_values::{CellId, FileCore, FileShared, Given};
+use mem_values::{CellId, FileCore, FileShared};
 use sfs_base::{Gate, Kind, Name, NoMemory, NodeId, bucket_of};
 use std::alloc::Global;
 use std::sync::Wait;
@@ -32,9 +33,9 @@ const MOST_LINKS: u32 = 65_535;
 pub(crate) const BUCKET_ROWS: usize = 4096;
 
 // Gives a file a further row that nothing refuses but want of memory.
-fn finish_link<T: Given>(
+fn finish_link(
     alloc: Global,
-    shared: &FileShared<T>,
+    shared: &FileShared,
     core: &mut FileCore,
     nodes: u32,
     file: NodeId,
@@ -42,7 +43,8 @@ fn finish_link<T: Given>(
     name: Name,
 ) -> Result<(), NoMemory>
     requires table { IsFileTable shared.now nodes }
-    requires work { IsWorking T.given shared.now core.old }
+    requires work { IsWorking (given_by shared.now) shared.now core.old }
+    requires answered { core.old.waiting ≡ None }
     requires part { HoldsPart nodes core.old }
     requires spare { 0 < core.old.spare }
     requires may { MayLink nodes core.old.held file dir name }
@@ -50,7 +52,7 @@ fn finish_link<T: Given>(
     ensures { MatchResult result (λ _. IsAnswered shared.now (Call.Link file dir name) reply.Ok core.old core.new)
         (λ _. IsRefusedMemory shared.now core.old core.new) }
 {
-    core.events_are_few();
+    core.calls_are_few();
     let number = bucket_of(&name);
     let child = (file, Kind::File);
     let coming = make_coming(alloc, shared, core, nodes, dir, &name, child)?;
@@ -100,9 +102,9 @@ fn link_in(core: &FileCore, nodes: u32, file: NodeId, dir: NodeId, name: &Name) 
 }
 
 // Holds the file and the place of the row, in their order.
-fn hold_link<R: Wait, T: Given>(
+fn hold_link<R: Wait>(
     rt: &R,
-    shared: &FileShared<T>,
+    shared: &FileShared,
     core: &mut FileCore,
     nodes: u32,
     file: NodeId,
@@ -110,10 +112,10 @@ fn hold_link<R: Wait, T: Given>(
     name: &Name,
 )
     requires table { IsFileTable shared.now nodes }
-    requires work { IsWorking T.given shared.now core.old }
+    requires work { IsWorking (given_by shared.now) shared.now core.old }
     requires none { (core.old.held ≡ []) × (core.old.view.held ≡ []) }
     requires room { CALL_CELLS ≤ core.old.room }
-    ensures work { IsWorking T.given shared.now core.new }
+    ensures work { IsWorking (given_by shared.now) shared.now core.new }
     ensures on { WorksOn core.old core.new }
     ensures held { HoldsLink nodes file dir name.now core.new }
     ensures below { LiesAbove (32 + 10 * nodes) core.new.view.held }
@@ -144,10 +146,10 @@ fn hold_link<R: Wait, T: Given>(
 /// Makes one more row that names a file. It holds the file and the bucket of the name; where no row names the file also the first bucket
 /// of its node, and so where it lies above the directory; where the directory does not stand also its file. It may wait. Only want of
 /// memory refuses it.
-pub fn link<R: Wait, T: Given, G: Gate>(
+pub fn link<R: Wait, G: Gate>(
     rt: &R,
     alloc: Global,
-    shared: &FileShared<T>,
+    shared: &FileShared,
     core: &mut FileCore,
     nodes: u32,
     file: NodeId,

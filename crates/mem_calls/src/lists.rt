@@ -16,7 +16,7 @@ ghost use Rattle.mem_calls.specs.Outcome.{IsAnswered, IsRefusedMemory, ComesTo};
 use crate::finish::finish;
 use crate::held::{bucket_in, directory_fault_in};
 use crate::holding::{CALL_CELLS, hold_node, hold_part, let_all_go};
-use mem_values::{Bucket, FileCore, FileShared, Given};
+use mem_values::{Bucket, FileCore, FileShared};
 use sfs_base::{Gate, NoMemory, NodeId};
 use std::alloc::Global;
 use std::sync::Wait;
@@ -95,10 +95,10 @@ fn list_in(
 
 /// Asks for the names in a directory, ascending by their bytes, each with the kind of its node. It holds the first bucket of the node, and
 /// where it stands by that the other seven, else its file. It may wait. Only want of memory refuses it.
-pub fn list<R: Wait, T: Given, G: Gate>(
+pub fn list<R: Wait, G: Gate>(
     rt: &R,
     alloc: Global,
-    shared: &FileShared<T>,
+    shared: &FileShared,
     core: &mut FileCore,
     nodes: u32,
     dir: NodeId,

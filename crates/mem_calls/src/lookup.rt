@@ -13,7 +13,7 @@ use crate::finish::finish;
 use crate::held::{bucket_in, directory_fault_in};
 use crate::holding::{CALL_CELLS, hold_directory, hold_part};
 use crate::short::Short;
-use mem_values::{FileCore, FileShared, Given};
+use mem_values::{FileCore, FileShared};
 use sfs_base::{Gate, Name, NodeId, bucket_of};
 use std::alloc::Global;
 use std::sync::Wait;
@@ -43,10 +43,10 @@ fn look_in(core: &FileCore, nodes: u32, dir: NodeId, name: &Name) -> Short
 
 /// Asks for the child of the row with this name. It holds the bucket of the name, and where the directory does not stand also its file.
 /// It may wait. It takes no memory.
-pub fn look<R: Wait, T: Given, G: Gate>(
+pub fn look<R: Wait, G: Gate>(
     rt: &R,
     alloc: Global,
-    shared: &FileShared<T>,
+    shared: &FileShared,
     core: &mut FileCore,
     nodes: u32,
     dir: NodeId,

@@ -1,7 +1,8 @@
 // What a creation answers and does, with what it needs held.
-ghost use Rattle.std.specs.Prelude.{◌≡◌, ◌<◌, IfOk, MatchResult};
+ghost use Rattle.std.specs.Prelude.{◌≡◌, ◌<◌, IfOk, MatchResult, None};
 ghost use Rattle.tree_laws.specs.Verdict.{verdict, refused};
 ghost use Rattle.tree_laws.specs.declared.reply.Reply.TheVariants as reply;
+ghost use Rattle.mem_values.specs.Start.{given_by};
 ghost use Rattle.mem_values.specs.Places.{node_count};
 ghost use Rattle.mem_calls.specs.Table.{IsFileTable};
 ghost use Rattle.mem_calls.specs.Held.{HoldsPart, CanMeet, InEach};
@@ -15,7 +16,7 @@ use crate::links::BUCKET_ROWS;
 use crate::rows::added_row;
 use crate::settling::settle;
 use crate::taking::{put_bucket, put_part, with_entry, with_node};
-use mem_values::{FileCore, FileShared, Given};
+use mem_values::{FileCore, FileShared};
 use sfs_base::{Kind, Name, NoMemory, NodeId, bucket_of};
 use std::alloc::Global;
 use tree_laws::{Call, Code, Reply};
@@ -56,9 +57,9 @@ pub(crate) fn make_in(
 }
 
 /// Makes a node that nothing refuses but want of memory.
-pub(crate) fn finish_make<T: Given>(
+pub(crate) fn finish_make(
     alloc: Global,
-    shared: &FileShared<T>,
+    shared: &FileShared,
     core: &mut FileCore,
     nodes: u32,
     dir: NodeId,
@@ -66,7 +67,8 @@ pub(crate) fn finish_make<T: Given>(
     child: (NodeId, Kind),
 ) -> Result<(), NoMemory>
     requires table { IsFileTable shared.now nodes }
-    requires work { IsWorking T.given shared.now core.old }
+    requires work { IsWorking (given_by shared.now) shared.now core.old }
+    requires answered { core.old.waiting ≡ None }
     requires part { HoldsPart nodes core.old }
     requires spare { 0 < core.old.spare }
     requires may { MayMake nodes core.old dir name child.0 child.1 }
@@ -75,7 +77,7 @@ pub(crate) fn finish_make<T: Given>(
         (λ _. IsAnswered shared.now (Call.Make dir name child.1) (reply.Node child.0 child.1) core.old core.new)
         (λ _. IsRefusedMemory shared.now core.old core.new) }
 {
-    core.events_are_few();
+    core.calls_are_few();
     let number = bucket_of(&name);
     let (node, kind) = child;
     let coming = make_coming(alloc, shared, core, nodes, dir, &name, child)?;

@@ -11,7 +11,7 @@ use crate::finish::finish;
 use crate::held::{file_fault_in, file_in};
 use crate::holding::{CALL_CELLS, hold_file, hold_part, let_all_go};
 use mem_files::FileBytes;
-use mem_values::{FileCore, FileShared, Given};
+use mem_values::{FileCore, FileShared};
 use sfs_base::{Chunk, Gate, NoMemory, NodeId};
 use std::alloc::Global;
 use std::sync::Wait;
@@ -57,10 +57,10 @@ fn read_in(
 
 /// Asks for `count` bytes of a file, at most 65,536, from byte `at` on. It holds the file, and where no row names it also the first
 /// bucket of its node. It may wait. Only want of memory refuses it.
-pub fn read<R: Wait, T: Given, G: Gate>(
+pub fn read<R: Wait, G: Gate>(
     rt: &R,
     alloc: Global,
-    shared: &FileShared<T>,
+    shared: &FileShared,
     core: &mut FileCore,
     nodes: u32,
     file: NodeId,

@@ -1,6 +1,7 @@
 // What may be refused memory of a call that changes a row, done before its stamp.
-ghost use Rattle.std.specs.Prelude.{◌≡◌, ◌≤◌, [], IfOk, OnOk, MatchResult};
+ghost use Rattle.std.specs.Prelude.{◌≡◌, ◌≤◌, [], IfOk, OnOk, MatchResult, None};
 ghost use Rattle.mem_cells.specs.Part.{IsSamePart, room_kept};
+ghost use Rattle.mem_values.specs.Start.{given_by};
 ghost use Rattle.mem_calls.specs.Table.{IsFileTable};
 ghost use Rattle.mem_calls.specs.Held.{HoldsPart};
 ghost use Rattle.mem_calls.specs.Working.{IsWorking};
@@ -9,7 +10,7 @@ ghost use Rattle.mem_calls.specs.Outcome.{IsRefusedMemory};
 
 use crate::holding::let_all_go;
 use crate::taking::{put, take_part};
-use mem_values::{Cell, CellId, FileCore, FileShared, Given, PartCell};
+use mem_values::{Cell, CellId, FileCore, FileShared, PartCell};
 use sfs_base::{Name, NoMemory, NodeId};
 use std::alloc::Global;
 use tree_laws::Changes;
@@ -46,16 +47,17 @@ fn with_room(part: Box<PartCell>, dir: NodeId) -> (Box<PartCell>, Result<(), NoM
 }
 
 /// Makes ready for the change of a row of a directory. Where it is refused memory the call is given up.
-pub(crate) fn make_ready<T: Given>(
+pub(crate) fn make_ready(
     alloc: Global,
-    shared: &FileShared<T>,
+    shared: &FileShared,
     core: &mut FileCore,
     nodes: u32,
     dir: NodeId,
     name: &Name,
 ) -> Result<Ready, NoMemory>
     requires table { IsFileTable shared.now nodes }
-    requires work { IsWorking T.given shared.now core.old }
+    requires work { IsWorking (given_by shared.now) shared.now core.old }
+    requires answered { core.old.waiting ≡ None }
     requires part { HoldsPart nodes core.old }
     ensures { MatchResult result (λ ready. IsReadyForRow nodes dir name.now core.old ready core.new) (λ _. IsRefusedMemory shared.now core.old core.new) }
 {

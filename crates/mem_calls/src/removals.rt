@@ -1,11 +1,12 @@
 // Rows that go.
-ghost use Rattle.std.specs.Prelude.{◌≡◌, ◌<◌, ◌≤◌, [], IsSome, IfSome, IfOk, MatchBool, MatchResult};
+ghost use Rattle.std.specs.Prelude.{◌≡◌, ◌<◌, ◌≤◌, [], IsSome, IfSome, IfOk, MatchBool, MatchResult, None};
 ghost use Rattle.sfs_base.specs.Name.{bucket};
 ghost use Rattle.sfs_base.specs.declared.numbers.NodeId.{NodeId as Node};
 ghost use Rattle.tree_laws.specs.Effect.{Removes};
 ghost use Rattle.tree_laws.specs.Verdict.{verdict, refused, done};
 ghost use Rattle.tree_laws.specs.declared.reply.Reply.TheVariants as reply;
 ghost use Rattle.stamp_table.specs.Table.{IsBetweenCalls};
+ghost use Rattle.mem_values.specs.Start.{given_by};
 ghost use Rattle.mem_values.specs.Places.{node_count};
 ghost use Rattle.mem_calls.specs.Table.{IsFileTable};
 ghost use Rattle.mem_calls.specs.Held.{bucket_held, file_held, HoldsDirectory, HoldsPart, CanMeet, InEach};
@@ -19,7 +20,7 @@ use crate::holding::{CALL_CELLS, hold_directory, hold_more, hold_part, let_all_g
 use crate::ready::make_ready;
 use crate::rows::{lower_links, remove_row, removed_row};
 use crate::taking::{put, with_entry};
-use mem_values::{Cell, CellId, FileCore, FileShared, Given};
+use mem_values::{Cell, CellId, FileCore, FileShared};
 use sfs_base::{Gate, Kind, Name, NoMemory, NodeId, bucket_of};
 use std::alloc::Global;
 use std::sync::Wait;
@@ -46,19 +47,19 @@ fn file_named(core: &FileCore, nodes: u32, dir: NodeId, name: &Name) -> Option<N
 
 // Holds the place of a name, and where its row names a file also that. Where the file lies below the place, it lets go, holds both in
 // their order, and looks again whether the row names this file; if not, it holds nothing.
-fn try_hold_named<R: Wait, T: Given>(
+fn try_hold_named<R: Wait>(
     rt: &R,
-    shared: &FileShared<T>,
+    shared: &FileShared,
     core: &mut FileCore,
     nodes: u32,
     dir: NodeId,
     name: &Name,
 ) -> bool
     requires table { IsFileTable shared.now nodes }
-    requires work { IsWorking T.given shared.now core.old }
+    requires work { IsWorking (given_by shared.now) shared.now core.old }
     requires none { (core.old.held ≡ []) × (core.old.view.held ≡ []) }
     requires room { CALL_CELLS ≤ core.old.room }
-    ensures work { IsWorking T.given shared.now core.new }
+    ensures work { IsWorking (given_by shared.now) shared.now core.new }
     ensures on { WorksOn core.old core.new }
     ensures held { MatchBool result (HoldsNamed nodes dir name.now core.new) ((core.new.held ≡ []) × (core.new.view.held ≡ [])) }
 {
@@ -88,19 +89,19 @@ fn try_hold_named<R: Wait, T: Given>(
 }
 
 // Holds the place of a name, and where its row names a file also that.
-fn hold_named<R: Wait, T: Given>(
+fn hold_named<R: Wait>(
     rt: &R,
-    shared: &FileShared<T>,
+    shared: &FileShared,
     core: &mut FileCore,
     nodes: u32,
     dir: NodeId,
     name: &Name,
 )
     requires table { IsFileTable shared.now nodes }
-    requires work { IsWorking T.given shared.now core.old }
+    requires work { IsWorking (given_by shared.now) shared.now core.old }
     requires none { (core.old.held ≡ []) × (core.old.view.held ≡ []) }
     requires room { CALL_CELLS ≤ core.old.room }
-    ensures work { IsWorking T.given shared.now core.new }
+    ensures work { IsWorking (given_by shared.now) shared.now core.new }
     ensures on { WorksOn core.old core.new }
     ensures held { HoldsNamed nodes dir name.now core.new }
 {
@@ -136,9 +137,9 @@ fn unlink_in(core: &FileCore, nodes: u32, dir: NodeId, name: &Name) -> Result<No
 }
 
 // Does a removal of a file's row that nothing refuses but want of memory.
-fn finish_unlink<T: Given>(
+fn finish_unlink(
     alloc: Global,
-    shared: &FileShared<T>,
+    shared: &FileShared,
     core: &mut FileCore,
     nodes: u32,
     dir: NodeId,
@@ -146,7 +147,8 @@ fn finish_unlink<T: Given>(
     child: NodeId,
 ) -> Result<(), NoMemory>
     requires table { IsFileTable shared.now nodes }
-    requires work { IsWorking T.given shared.now core.old }
+    requires work { IsWorking (given_by shared.now) shared.now core.old }
+    requires answered { core.old.waiting ≡ None }
     requires part { HoldsPart nodes core.old }
     requires spare { 0 < core.old.spare }
     requires names { NamesFile nodes core.old.held dir (bucket name) name child }
@@ -154,7 +156,7 @@ fn finish_unlink<T: Given>(
     requires due { InEach core.old (λ tree. verdict tree core.old.view.core (Call.Unlink dir name) ≡ done (Removes dir.0 name child.0)) }
     ensures { MatchResult result (λ _. IsAnswered shared.now (Call.Unlink dir name) reply.Ok core.old core.new) (λ _. IsRefusedMemory shared.now core.old core.new) }
 {
-    core.events_are_few();
+    core.calls_are_few();
     let number = bucket_of(&name);
     let ready = make_ready(alloc, shared, core, nodes, dir, &name)?;
     let stamp = core.stamp(shared, Call::Unlink { dir, name }, Reply::Ok);
@@ -179,10 +181,10 @@ fn finish_unlink<T: Given>(
 
 /// Removes the row of a file. It holds the bucket of the name, where the directory does not stand also its file, and the file that the
 /// row names. It may wait. Only want of memory refuses it.
-pub fn unlink<R: Wait, T: Given, G: Gate>(
+pub fn unlink<R: Wait, G: Gate>(
     rt: &R,
     alloc: Global,
-    shared: &FileShared<T>,
+    shared: &FileShared,
     core: &mut FileCore,
     nodes: u32,
     dir: NodeId,

@@ -13,7 +13,7 @@ use crate::finish::finish;
 use crate::held::{bucket_in, file_in, is_standing};
 use crate::holding::{CALL_CELLS, hold_node, hold_part};
 use crate::short::Short;
-use mem_values::{FileCore, FileShared, Given};
+use mem_values::{FileCore, FileShared};
 use sfs_base::{Gate, Kind, NodeId};
 use std::alloc::Global;
 use std::sync::Wait;
@@ -71,10 +71,10 @@ fn stat_in(core: &FileCore, nodes: u32, node: NodeId) -> Short
 
 /// Asks for a node's kind, link count and size. It holds the first bucket of the node, and where it is a directory that stands all of its
 /// buckets, else its file. It may wait. It takes no memory.
-pub fn stat<R: Wait, T: Given, G: Gate>(
+pub fn stat<R: Wait, G: Gate>(
     rt: &R,
     alloc: Global,
-    shared: &FileShared<T>,
+    shared: &FileShared,
     core: &mut FileCore,
     nodes: u32,
     node: NodeId,

@@ -7,10 +7,8 @@ use Rattle.tree_laws.specs.Tree.{TreeState}
 use Rattle.tree_laws.specs.declared.reply.Reply.{Reply}
 use Rattle.tree_laws.specs.Verdict.{Verdict, verdict}
 use Rattle.stamp_table.specs.Rule.{Has}
-use Rattle.stamp_table.specs.Hand.{Hand}
-use Rattle.stamp_table.specs.Table.{TableState, MayCall, Stamps}
-use Rattle.mem_values.specs.declared.cell.Cell.{Cell}
-use Rattle.mem_values.specs.declared.fact.Fact.{Fact}
+use Rattle.stamp_table.specs.Table.{MayCall, Stamps}
+use Rattle.mem_values.specs.Start.{FileHand, FileState}
 use Rattle.mem_values.specs.Places.{cell_place, IsCell}
 use Rattle.mem_values.specs.Stands.{StandsAt}
 use Rattle.mem_values.specs.Facts.{IsLawfulLog}
@@ -27,8 +25,8 @@ use Rattle.mem_rename.proofs.Stamped.{still_read, calls_may_come_on_a_way}
 use Rattle.mem_rename.proofs.Readies as readies
 use Rattle.mem_rename.proofs.Fitted.{keeps_or_holds}
 
-module _ (given : ℕ → Option OldKept) (t : TableState) (nodes : ℕ) (table : IsFileTable t nodes) (move : Move) (within : AreSidesWithin nodes move)
-    (plan : Plan) (above : List ℕ) (hand : Hand Cell Fact)
+module _ (given : ℕ → Option OldKept) (t : FileState) (nodes : ℕ) (table : IsFileTable t nodes) (move : Move) (within : AreSidesWithin nodes move)
+    (plan : Plan) (above : List ℕ) (hand : FileHand)
     (ready : HoldsRename given t nodes move plan above hand) where
   abbrev seen : Sight
   seen = sight_of nodes hand.held move plan above
@@ -65,7 +63,7 @@ module _ (given : ℕ → Option OldKept) (t : TableState) (nodes : ℕ) (table 
   ]
 
   -- at its stamp it may meet the tree, on the way that it has read
-  pub on_stamped : (reply : Reply) (number : ℕ) (mid : Hand Cell Fact)
+  pub on_stamped : (reply : Reply) (number : ℕ) (mid : FileHand)
       (stamps : Stamps (IsLawfulLog given) (StandsAt given) (rename_call move) reply hand number mid)
       → MayMeetOn plan move.to_directory.0 above hand (stamped.tree given t nodes hand table ready.work (rename_call move) reply number mid stamps)
   on_stamped reply number mid stamps = record {
@@ -77,7 +75,7 @@ module _ (given : ℕ → Option OldKept) (t : TableState) (nodes : ℕ) (table 
   }
 
   -- and the verdict is this
-  pub verdict_stamped : (reply : Reply) (number : ℕ) (mid : Hand Cell Fact)
+  pub verdict_stamped : (reply : Reply) (number : ℕ) (mid : FileHand)
       (stamps : Stamps (IsLawfulLog given) (StandsAt given) (rename_call move) reply hand number mid)
       → verdict (stamped.tree given t nodes hand table ready.work (rename_call move) reply number mid stamps) hand.view.core
       (rename_call move) ≡ rename_by seen move

@@ -4,11 +4,9 @@ use Rattle.std.specs.Prelude.{MatchOption}
 use Rattle.sfs_base.specs.Name.{bucket as name_bucket}
 use Rattle.sfs_base.specs.declared.numbers.NodeId.{NodeId}
 use Rattle.tree_laws.proofs.Joined.{bucket_small}
-use Rattle.stamp_table.specs.Hand.{Hand}
-use Rattle.mem_values.specs.declared.cell.Cell.{Cell}
+use Rattle.mem_values.specs.Start.{FileHand}
 use Rattle.mem_values.specs.declared.cell.FileCell.{FileCell}
 use Rattle.mem_values.specs.declared.bucket.Bucket.{Bucket}
-use Rattle.mem_values.specs.declared.fact.Fact.{Fact}
 use Rattle.mem_calls.specs.Held.{bucket_held, file_held}
 use Rattle.mem_rename.specs.declared.sides.Move.{Move}
 use Rattle.mem_rename.specs.declared.plans.Plan.{Plan}
@@ -26,7 +24,7 @@ of_within None nodes within = tt
 of_within (Some n) nodes within = within n refl
 
 module _ (nodes : ℕ) (move : Move) (plan : Plan) (within : AreSidesWithin nodes move) (plan_within : IsPlanWithin nodes plan) where
-  pub still_can : (b : NodeId → ℕ → Bucket → Bucket) (f : NodeId → FileCell → FileCell) (before after : Hand Cell Fact) → ChangesHeld nodes b f before after
+  pub still_can : (b : NodeId → ℕ → Bucket → Bucket) (f : NodeId → FileCell → FileCell) (before after : FileHand) → ChangesHeld nodes b f before after
       → CanChange nodes move plan before.held → CanChange nodes move plan after.held
   still_can b f before after change can = record {
     old = bucket_stays nodes b f before after move.directory (name_bucket move.name) change within.old (bucket_small move.name) can.old;

@@ -12,12 +12,9 @@ use Rattle.tree_laws.specs.Verdict.{names_child, place_fault}
 use Rattle.tree_laws.proofs.Fitting.{not_so}
 use Rattle.cut_laws.specs.Rules.{IsOneOf}
 use Rattle.cut_laws.proofs.Basics.{in_either}
-use Rattle.stamp_table.specs.Hand.{Hand}
-use Rattle.stamp_table.specs.Table.{TableState}
-use Rattle.mem_values.specs.declared.cell.Cell.{Cell}
+use Rattle.mem_values.specs.Start.{FileHand, FileState}
 use Rattle.mem_values.specs.declared.cell_id.CellId.{CellId}
 use Rattle.mem_values.specs.declared.cell_id.CellId.TheVariants as id
-use Rattle.mem_values.specs.declared.fact.Fact.{Fact}
 use Rattle.mem_values.specs.Places.{IsCell}
 use Rattle.mem_values.specs.Touches.{KeepsCell}
 use Rattle.mem_calls.specs.Table.{IsFileTable}
@@ -37,11 +34,11 @@ use Rattle.mem_rename.proofs.Logged.{holder_of_moved}
 use Rattle.mem_rename.proofs.Home as home
 use Rattle.mem_rename.proofs.Readies as readies
 
-value_there : (nodes : ℕ) (hand : Hand Cell Fact) (cell : CellId) → HoldsCell nodes hand.held cell → IsSome (value_held nodes hand.held cell)
+value_there : (nodes : ℕ) (hand : FileHand) (cell : CellId) → HoldsCell nodes hand.held cell → IsSome (value_held nodes hand.held cell)
 value_there nodes hand cell holds = subst IsSome (sym holds.1) refl
 
-module _ (given : ℕ → Option OldKept) (t : TableState) (nodes : ℕ) (table : IsFileTable t nodes) (move : Move) (within : AreSidesWithin nodes move)
-    (plan : Plan) (above : List ℕ) (hand : Hand Cell Fact)
+module _ (given : ℕ → Option OldKept) (t : FileState) (nodes : ℕ) (table : IsFileTable t nodes) (move : Move) (within : AreSidesWithin nodes move)
+    (plan : Plan) (above : List ℕ) (hand : FileHand)
     (ready : HoldsRename given t nodes move plan above hand) (tree : TreeState) (on : MayMeetOn plan move.to_directory.0 above hand tree) where
   abbrev seen : Sight
   seen = sight_of nodes hand.held move plan above

@@ -1,5 +1,5 @@
 -- What was held in one round, and how it is let go without a call.
-use Rattle.std.proofs.Common.{◌≡◌, ℕ, ◌+◌, ◌<◌, ◌≤◌, Bool, true, List, [], ◌∷◌, ◌++◌, length, reverse, Option, Some, option_map, inl, refl, sym, ap, subst, ◌∙◌, arith, append-nil, eq-eqb}
+use Rattle.std.proofs.Common.{◌≡◌, ℕ, ◌+◌, ◌<◌, ◌≤◌, Bool, true, List, [], ◌∷◌, ◌++◌, length, reverse, Option, Some, option_map, inl, refl, sym, ap, subst, ◌∙◌, arith, append-nil, eq-eqb, None}
 use Rattle.std.specs.Prelude.{is_some, if◌then◌else◌}
 use Rattle.sfs_base.specs.Name.{bucket as name_bucket}
 use Rattle.disk_nodes.specs.OldKept.{OldKept}
@@ -11,15 +11,14 @@ use Rattle.stamp_table.specs.declared.event.Event.{Event}
 use Rattle.stamp_table.specs.declared.view.View.{View}
 use Rattle.stamp_table.specs.declared.held.HeldCell.{HeldCell}
 use Rattle.stamp_table.specs.Events.{calls_in}
-use Rattle.stamp_table.specs.Hand.{Hand, places_of}
-use Rattle.stamp_table.specs.Table.{TableState, LetsGo, Stands, EachFrom, left_below}
+use Rattle.stamp_table.specs.Hand.{places_of}
+use Rattle.stamp_table.specs.Table.{LetsGo, left_below}
+use Rattle.mem_values.specs.Start.{FileHand, FileState}
 use Rattle.mem_values.specs.declared.cell.Cell.{Cell}
 use Rattle.mem_values.specs.declared.cell_id.CellId.TheVariants as id
 use Rattle.mem_values.specs.declared.fact.Fact.{Fact}
 use Rattle.mem_values.specs.Account.{account_of}
-use Rattle.mem_values.specs.Stands.{StandsAt, StandsForCell}
-use Rattle.mem_values.specs.Facts.{IsLawfulLog}
-use Rattle.mem_values.specs.Laws.{KnowsCells}
+use Rattle.mem_values.specs.Stands.{StandsForCell}
 use Rattle.mem_calls.specs.Table.{IsFileTable}
 use Rattle.mem_calls.specs.Held.{value_held}
 use Rattle.mem_calls.specs.Outcome.{IsRefusedMemory}
@@ -27,7 +26,7 @@ use Rattle.mem_calls.specs.Working.{IsWorking, WorksOn, StillHolds}
 use Rattle.mem_calls.proofs.Cells.{found_place}
 use Rattle.mem_calls.proofs.Shown.{held_cell, knows_found}
 use Rattle.mem_calls.proofs.Finished.{none_left}
-use Rattle.mem_calls.proofs.Left.{known_home, on_again}
+use Rattle.mem_calls.proofs.Left.{on_again}
 use Rattle.mem_rename.specs.declared.sides.Move.{Move}
 use Rattle.mem_rename.specs.declared.plans.Plan.{Plan}
 use Rattle.mem_rename.specs.Plans.{asked_cells}
@@ -37,35 +36,35 @@ use Rattle.mem_rename.specs.Rounds.{HoldsRound}
 use Rattle.mem_rename.proofs.Upwards.{read_ways_stay}
 
 -- a core that lets go of all has made no call
-pub refused : (given : ℕ → Option OldKept) (t : TableState) (before after : Hand Cell Fact) → IsWorking given t before → LetsGo before after
+pub refused : (given : ℕ → Option OldKept) (t : FileState) (before after : FileHand) → IsWorking given t before → before.waiting ≡ None → LetsGo before after
     → after.held ≡ left_below 0 before.held → after.view.held ≡ reverse (places_of after.held) → IsRefusedMemory t before after
-refused given t before after work lets left places =
+refused given t before after work answered lets left places =
     let none : after.held ≡ [] = left ∙ none_left before.held in
     let core_is : after.view.core ≡ before.view.core = ap (λ (v : View TreeState (Event Fact)). v.core) lets.view in
     record {
       between = record {
-        table_is = ap (λ (h : Hand Cell Fact). h.table) lets.frame ∙ work.table;
+        table_is = ap (λ (h : FileHand). h.table) lets.frame ∙ work.table;
         first_is = ap (λ (v : View TreeState (Event Fact)). v.first) lets.view ∙ work.first;
         core_is = subst (λ n. n < length t.first.made) (sym core_is) work.core;
         holds_none = none;
         none_held = places ∙ ap (λ (l : List (HeldCell Cell)). reverse (places_of l)) none;
-        none_waits = ap (λ (h : Hand Cell Fact). h.waiting) lets.frame ∙ work.none_waits;
+        none_waits = ap (λ (h : FileHand). h.waiting) lets.frame ∙ answered;
       };
       same = record {
-        table = ap (λ (h : Hand Cell Fact). h.table) lets.frame;
-        cores = ap (λ (h : Hand Cell Fact). h.cores) lets.frame;
-        leads = ap (λ (h : Hand Cell Fact). h.leads) lets.frame;
+        table = ap (λ (h : FileHand). h.table) lets.frame;
+        cores = ap (λ (h : FileHand). h.cores) lets.frame;
+        leads = ap (λ (h : FileHand). h.leads) lets.frame;
         number = core_is;
       };
       room = (let r = lets.room in let n = ap length none in omega (arith, r, n));
-      spare = ap (λ (h : Hand Cell Fact). h.spare) lets.frame;
+      spare = ap (λ (h : FileHand). h.spare) lets.frame;
       seen = ([], append-nil before.view.seen ∙ sym (ap (λ (v : View TreeState (Event Fact)). v.seen) lets.view));
-      entries = ap (λ (h : Hand Cell Fact). h.entries) lets.frame;
+      entries = ap (λ (h : FileHand). h.entries) lets.frame;
       mine = ap (λ (v : View TreeState (Event Fact)). v.mine) lets.view;
     }
 
 -- Directories above another one that were read are so still, as long as the lock has its value.
-module _ (given : ℕ → Option OldKept) (t : TableState) (nodes : ℕ) (table : IsFileTable t nodes) (node : ℕ) (above : List ℕ) (before after : Hand Cell Fact)
+module _ (given : ℕ → Option OldKept) (t : FileState) (nodes : ℕ) (table : IsFileTable t nodes) (node : ℕ) (above : List ℕ) (before after : FileHand)
     (work : IsWorking given t before) (work_after : IsWorking given t after) (on : WorksOn before after) (still : StillHolds nodes before after)
     (legal : IsLegal after.view.first (calls_in after.view.seen)) (value : Cell) (found : value_held nodes before.held id.Lock ≡ Some value) where
   first_same : after.view.first ≡ before.view.first
@@ -92,8 +91,8 @@ module _ (given : ℕ → Option OldKept) (t : TableState) (nodes : ℕ) (table 
             holders);
       }
 
-module _ (given : ℕ → Option OldKept) (t : TableState) (nodes : ℕ) (table : IsFileTable t nodes) (move : Move) (plan : Plan) (above : List ℕ)
-    (before locked after : Hand Cell Fact) (work_locked : IsWorking given t locked) (work : IsWorking given t after) (on_locked : WorksOn before locked)
+module _ (given : ℕ → Option OldKept) (t : FileState) (nodes : ℕ) (table : IsFileTable t nodes) (move : Move) (plan : Plan) (above : List ℕ)
+    (before locked after : FileHand) (work_locked : IsWorking given t locked) (work : IsWorking given t after) (on_locked : WorksOn before locked)
     (holds : HoldsAsked nodes (asked_cells move plan) locked after)
     (lock : is_some plan.comes ≡ true → HoldsLock locked) (read : is_some plan.comes ≡ true → HasReadAll locked move.to_directory.0 above) where
   lock_value : (comes : is_some plan.comes ≡ true) → value_held nodes locked.held id.Lock ≡ Some (lock comes).lock.value

@@ -7,15 +7,15 @@ use Rattle.sfs_base.specs.declared.fault.NoMemory.{NoMemory}
 use Rattle.sfs_base.proofs.BasicTruth.{and_first, and_second, true_or_false}
 use Rattle.sfs_base.specs.declared.numbers.NodeId.{NodeId}
 use Rattle.stamp_table.specs.declared.held.HeldCell.{HeldCell}
-use Rattle.stamp_table.specs.Hand.{Hand, places_of}
+use Rattle.stamp_table.specs.Hand.{places_of}
 use Rattle.stamp_table.specs.Table.{with_value}
 use Rattle.stamp_table.proofs.Replacing.{same_places}
+use Rattle.mem_values.specs.Start.{FileHand}
 use Rattle.mem_values.specs.declared.cell.Cell.{Cell}
 use Rattle.mem_values.specs.declared.cell.FileCell.{FileCell}
 use Rattle.mem_values.specs.declared.bucket.Bucket.{Bucket}
 use Rattle.mem_values.specs.declared.cell_id.CellId.{CellId}
 use Rattle.mem_values.specs.declared.cell_id.CellId.TheVariants as id
-use Rattle.mem_values.specs.declared.fact.Fact.{Fact}
 use Rattle.mem_values.specs.Places.{cell_place}
 use Rattle.mem_calls.specs.Held.{value_held, as_bucket, as_file, bucket_held, file_held}
 use Rattle.mem_calls.specs.Changes.{PutsValue}
@@ -36,7 +36,7 @@ mapped_like f g None like = refl
 mapped_like f g (Some x) like = ap Some (like x)
 
 -- a value that was taken out of a bucket's cell and another one that was put there
-pub puts_bucket : (nodes : ℕ) (before out after : Hand Cell Fact) (node : NodeId) (number : ℕ) (by : Bucket → Bucket) (none value : Cell) (old new : Bucket)
+pub puts_bucket : (nodes : ℕ) (before out after : FileHand) (node : NodeId) (number : ℕ) (by : Bucket → Bucket) (none value : Cell) (old new : Bucket)
     → bucket_held nodes before.held node number ≡ Some old → as_bucket value ≡ Some new
     → new ≡ by old → PutsValue nodes (id.Bucket node number) none before out → PutsValue nodes (id.Bucket node number) value out after
     → PutsBucket nodes node number by before after
@@ -52,7 +52,7 @@ puts_bucket nodes before out after node number by none value old new was is by_i
   is = by_is;
 }
 
-pub puts_file : (nodes : ℕ) (before out after : Hand Cell Fact) (node : NodeId) (by : FileCell → FileCell) (none value : Cell) (old new : FileCell)
+pub puts_file : (nodes : ℕ) (before out after : FileHand) (node : NodeId) (by : FileCell → FileCell) (none value : Cell) (old new : FileCell)
     → file_held nodes before.held node ≡ Some old → as_file value ≡ Some new
     → new ≡ by old → PutsValue nodes (id.File node) none before out → PutsValue nodes (id.File node) value out after → PutsFile nodes node by before after
 puts_file nodes before out after node by none value old new was is by_is one two = record {
@@ -62,7 +62,7 @@ puts_file nodes before out after node by none value old new was is by_is one two
 
 module _ (nodes : ℕ) where
   -- nothing changes
-  pub same_held : (hand : Hand Cell Fact) → ChangesHeld nodes same_bucket same_file hand hand
+  pub same_held : (hand : FileHand) → ChangesHeld nodes same_bucket same_file hand hand
   same_held hand = record {
     frame = refl;
     places = refl;
@@ -72,11 +72,11 @@ module _ (nodes : ℕ) where
   }
 
   -- one change after the other
-  pub both_held : (b c : NodeId → ℕ → Bucket → Bucket) (f g : NodeId → FileCell → FileCell) (before mid after : Hand Cell Fact)
+  pub both_held : (b c : NodeId → ℕ → Bucket → Bucket) (f g : NodeId → FileCell → FileCell) (before mid after : FileHand)
       → ChangesHeld nodes b f before mid → ChangesHeld nodes c g mid after
       → ChangesHeld nodes (λ at n x. c at n (b at n x)) (λ at x. g at (f at x)) before after
   both_held b c f g before mid after one two = record {
-    frame = two.frame ∙ ap (λ (h : Hand Cell Fact). record h { held = after.held }) one.frame;
+    frame = two.frame ∙ ap (λ (h : FileHand). record h { held = after.held }) one.frame;
     places = two.places ∙ one.places;
     buckets = λ at n lt small. two.buckets at n lt small
         ∙ (ap (option_map (c at n)) (one.buckets at n lt small) ∙ mapped_twice (b at n) (c at n) (bucket_held nodes before.held at n));
@@ -85,7 +85,7 @@ module _ (nodes : ℕ) where
   }
 
   -- the same change in other words
-  pub like_held : (b c : NodeId → ℕ → Bucket → Bucket) (f g : NodeId → FileCell → FileCell) (before after : Hand Cell Fact)
+  pub like_held : (b c : NodeId → ℕ → Bucket → Bucket) (f g : NodeId → FileCell → FileCell) (before after : FileHand)
       → ((at : NodeId) (n : ℕ) (x : Bucket) → n < 8 → b at n x ≡ c at n x) → ((at : NodeId) (x : FileCell) → f at x ≡ g at x)
       → ChangesHeld nodes b f before after → ChangesHeld nodes c g before after
   like_held b c f g before after like alike one = record {
@@ -101,18 +101,18 @@ module _ (nodes : ℕ) where
   some_mapped f (Some x) p is some = subst IsSome (sym is) refl
 
   -- what is held of buckets and files still is
-  pub bucket_stays : (b : NodeId → ℕ → Bucket → Bucket) (f : NodeId → FileCell → FileCell) (before after : Hand Cell Fact) (at : NodeId) (n : ℕ)
+  pub bucket_stays : (b : NodeId → ℕ → Bucket → Bucket) (f : NodeId → FileCell → FileCell) (before after : FileHand) (at : NodeId) (n : ℕ)
       → ChangesHeld nodes b f before after → at.0 < nodes → n < 8 → IsSome (bucket_held nodes before.held at n)
       → IsSome (bucket_held nodes after.held at n)
   bucket_stays b f before after at n one lt small some = some_mapped (b at n) (bucket_held nodes before.held at n) (bucket_held nodes after.held at n)
       (one.buckets at n lt small) some
 
-  pub file_stays : (b : NodeId → ℕ → Bucket → Bucket) (f : NodeId → FileCell → FileCell) (before after : Hand Cell Fact) (at : NodeId)
+  pub file_stays : (b : NodeId → ℕ → Bucket → Bucket) (f : NodeId → FileCell → FileCell) (before after : FileHand) (at : NodeId)
       → ChangesHeld nodes b f before after → at.0 < nodes → IsSome (file_held nodes before.held at)
       → IsSome (file_held nodes after.held at)
   file_stays b f before after at one lt some = some_mapped (f at) (file_held nodes before.held at) (file_held nodes after.held at) (one.files at lt) some
 
-  module _ (node : NodeId) (number : ℕ) (by : Bucket → Bucket) (before after : Hand Cell Fact) (lt : node.0 < nodes) (small : number < 8)
+  module _ (node : NodeId) (number : ℕ) (by : Bucket → Bucket) (before after : FileHand) (lt : node.0 < nodes) (small : number < 8)
       (one : PutsBucket nodes node number by before after) where
     abbrev value : Cell
     value = one.change.value
@@ -121,7 +121,7 @@ module _ (nodes : ℕ) where
     here = id.Bucket node number
 
     held_is : after.held ≡ with_value (cell_place nodes here) value before.held
-    held_is = ap (λ (h : Hand Cell Fact). h.held) one.change.puts
+    held_is = ap (λ (h : FileHand). h.held) one.change.puts
 
     else_where : (which : CellId) → (cell_place nodes here ≡ cell_place nodes which → ⊥)
         → value_held nodes after.held which ≡ value_held nodes before.held which
@@ -173,12 +173,12 @@ module _ (nodes : ℕ) where
         not_other (id.Pending at) other place = omega (arith, place, lt, small)
         not_other (id.Part core) other place = omega (arith, place, lt, small)
 
-  module _ (node : NodeId) (by : FileCell → FileCell) (before after : Hand Cell Fact) (lt : node.0 < nodes) (one : PutsFile nodes node by before after) where
+  module _ (node : NodeId) (by : FileCell → FileCell) (before after : FileHand) (lt : node.0 < nodes) (one : PutsFile nodes node by before after) where
     abbrev file_cell : CellId
     file_cell = id.File node
 
     file_held_is : after.held ≡ with_value (cell_place nodes file_cell) one.change.value before.held
-    file_held_is = ap (λ (h : Hand Cell Fact). h.held) one.change.puts
+    file_held_is = ap (λ (h : FileHand). h.held) one.change.puts
 
     file_else : (which : CellId) → (cell_place nodes file_cell ≡ cell_place nodes which → ⊥)
         → value_held nodes after.held which ≡ value_held nodes before.held which
@@ -247,14 +247,14 @@ lower_more true false false true by x front more end = elim (front refl)
 lt-true : (a b : ℕ) → a < b → nat_lt a b ≡ true
 lt-true a b lt = elim (true_or_false (nat_lt a b)) [ inl less ↦ less | inr other ↦ let ge = ltb-false a b other in absurd (omega (arith, lt, ge)) ]
 
-module _ (nodes : ℕ) (node : NodeId) (by : Bucket → Bucket) (before : Hand Cell Fact) where
+module _ (nodes : ℕ) (node : NodeId) (by : Bucket → Bucket) (before : FileHand) where
   pub below_begins : ChangesHeld nodes (below_in node 0 by) same_file before before
   below_begins = like_held nodes same_bucket (below_in node 0 by) same_file same_file before before
       (λ at n x small. sym (lower_same (nat_eq node.0 at.0) (nat_lt n 0) (by x) x (λ (is : nat_lt n 0 ≡ true). let lt = ltb-true n 0 is in omega (arith, lt))))
       (λ at x. refl)
       (same_held nodes before)
 
-  pub below_more : (k : ℕ) (mid after : Hand Cell Fact) → node.0 < nodes → k < 8 → ChangesHeld nodes (below_in node k by) same_file before mid
+  pub below_more : (k : ℕ) (mid after : FileHand) → node.0 < nodes → k < 8 → ChangesHeld nodes (below_in node k by) same_file before mid
       → PutsBucket nodes node k by mid after → ChangesHeld nodes (below_in node (k + 1) by) same_file before after
   below_more k mid after lt small one two =
       like_held nodes (λ at n x. at_bucket node k by at n (below_in node k by at n x)) (below_in node (k + 1) by) same_file same_file before after
@@ -277,7 +277,7 @@ module _ (nodes : ℕ) (node : NodeId) (by : Bucket → Bucket) (before : Hand C
       end : (n : ℕ) → nat_eq k n ≡ true → nat_lt n (k + 1) ≡ true
       end n is = let same = eqb-true k n is in lt-true n (k + 1) (omega (arith, same))
 
-  pub below_ends : (k : ℕ) (after : Hand Cell Fact) → 8 ≤ k → ChangesHeld nodes (below_in node k by) same_file before after
+  pub below_ends : (k : ℕ) (after : FileHand) → 8 ≤ k → ChangesHeld nodes (below_in node k by) same_file before after
       → ChangesHeld nodes (in_buckets_of (Some node) by) same_file before after
   below_ends k after all one =
       like_held nodes (below_in node k by) (in_buckets_of (Some node) by) same_file same_file before after
@@ -289,7 +289,7 @@ module _ (nodes : ℕ) (node : NodeId) (by : Bucket → Bucket) (before : Hand C
       drop false x y = refl
 
 -- what comes of a row that is put or refused memory
-pub put_or_same : {X : Type 0} (nodes : ℕ) (node : NodeId) (number : ℕ) (by : Bucket → Bucket) (before after : Hand Cell Fact) (outcome : Result X NoMemory)
+pub put_or_same : {X : Type 0} (nodes : ℕ) (node : NodeId) (number : ℕ) (by : Bucket → Bucket) (before after : FileHand) (outcome : Result X NoMemory)
     (old new : Bucket) → OnOk outcome (new ≡ by old) → OnErr outcome (new ≡ old)
     → ((change : Bucket → Bucket) → new ≡ change old → PutsBucket nodes node number change before after)
     → MatchResult outcome (λ _. PutsBucket nodes node number by before after) (λ _. PutsBucket nodes node number (λ b. b) before after)

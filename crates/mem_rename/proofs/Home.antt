@@ -5,7 +5,7 @@ use Rattle.std.specs.Option.{option_or}
 use Rattle.std.specs.FinMap.{FinMap, get, remove}
 use Rattle.sfs_base.specs.Name.{bucket as name_bucket}
 use Rattle.sfs_base.specs.declared.numbers.Kind.{Kind}
-use Rattle.sfs_base.proofs.BasicTruth.{and_first, and_second, true_or_false, then_false, not_both}
+use Rattle.sfs_base.proofs.BasicTruth.{and_first, and_second, true_or_false, not_both}
 use Rattle.sfs_base.proofs.BasicOptions.{some_is}
 use Rattle.tree_laws.specs.declared.reply.Code.{Code}
 use Rattle.tree_laws.specs.declared.reply.Reply.TheVariants as reply

@@ -22,10 +22,11 @@ use Rattle.stamp_table.specs.declared.event.Event.{Event}
 use Rattle.stamp_table.specs.declared.event.Event.TheVariants.{Called}
 use Rattle.stamp_table.specs.declared.view.View.{View}
 use Rattle.stamp_table.specs.declared.held.HeldCell.{HeldCell}
-use Rattle.stamp_table.specs.Hand.{Hand, places_of}
-use Rattle.stamp_table.specs.Table.{TableState, Stamps, LetsGo, Stands, EachFrom, with_value, left_below}
+use Rattle.stamp_table.specs.Hand.{places_of}
+use Rattle.stamp_table.specs.Table.{Stamps, LetsGo, Stands, EachFrom, with_value, left_below}
 use Rattle.stamp_table.proofs.Replacing.{same_places}
 use Rattle.mem_cells.specs.Part.{IsAddedTo}
+use Rattle.mem_values.specs.Start.{FileHand, FileState}
 use Rattle.mem_values.specs.declared.cell.Cell.{Cell}
 use Rattle.mem_values.specs.declared.cell.Cell.TheVariants as cell
 use Rattle.mem_values.specs.declared.cell.FileCell.{FileCell}
@@ -86,16 +87,16 @@ mapped_some : {X Y : Type 0} (f : X → Y) (o : Option X) → IsSome o → (y : 
 mapped_some f None some = absurd cc
 mapped_some f (Some x) some = (f x, refl)
 
-module _ (given : ℕ → Option OldKept) (t : TableState) (nodes : ℕ) (table : IsFileTable t nodes) (move : Move) (within : AreSidesWithin nodes move)
-    (plan : Plan) (plan_within : IsPlanWithin nodes plan) (above : List ℕ) (before : Hand Cell Fact)
+module _ (given : ℕ → Option OldKept) (t : FileState) (nodes : ℕ) (table : IsFileTable t nodes) (move : Move) (within : AreSidesWithin nodes move)
+    (plan : Plan) (plan_within : IsPlanWithin nodes plan) (above : List ℕ) (before : FileHand)
     (ready : HoldsRename given t nodes move plan above before) (child : NodeId)
     (moves_is : rename_by (sight_of nodes before.held move plan above) move ≡ done
     (Moves move.directory.0 move.name move.to_directory.0 move.to_name child.0))
-    (shift : Shift) (noted : Noted) (row_hand : Hand Cell Fact) (prepared : IsPrepared nodes move shift before noted row_hand) (out : Hand Cell Fact)
+    (shift : Shift) (noted : Noted) (row_hand : FileHand) (prepared : IsPrepared nodes move shift before noted row_hand) (out : FileHand)
     (change : ChangesHeld nodes (bucket_moved move plan) (at_file plan.file less_one) row_hand out)
-    (number : ℕ) (mid : Hand Cell Fact) (drawn : Stamps (IsLawfulLog given) (StandsAt given) (rename_call move) reply.Ok out number mid)
-    (locked : Hand Cell Fact) (lock : SetsLock nodes (is_some plan.comes) (record { 0 = number }) mid locked)
-    (shift_is : shift ≡ shift_of (look_seen (sight_of nodes before.held move plan above) move) move child) (final : Hand Cell Fact)
+    (number : ℕ) (mid : FileHand) (drawn : Stamps (IsLawfulLog given) (StandsAt given) (rename_call move) reply.Ok out number mid)
+    (locked : FileHand) (lock : SetsLock nodes (is_some plan.comes) (record { 0 = number }) mid locked)
+    (shift_is : shift ≡ shift_of (look_seen (sight_of nodes before.held move plan above) move) move child) (final : FileHand)
     (takes : TakesEntry nodes (shift_logged shift noted.old noted.new number (cond (is_some plan.comes) above [])) locked final) where
   abbrev seen : Sight
   seen = sight_of nodes before.held move plan above
@@ -106,7 +107,7 @@ module _ (given : ℕ → Option OldKept) (t : TableState) (nodes : ℕ) (table 
   abbrev own : CellId
   own = id.Part (record { 0 = core })
 
-  abbrev back : Hand Cell Fact
+  abbrev back : FileHand
   back =
       turned.back given t nodes table move within plan plan_within above before ready child moves_is shift noted row_hand prepared out change number mid drawn
 
@@ -161,8 +162,8 @@ module _ (given : ℕ → Option OldKept) (t : TableState) (nodes : ℕ) (table 
   core_locked = by (is_some plan.comes) lock
     where
       by : (b : Bool) → SetsLock nodes b (record { 0 = number }) mid locked → locked.view ≡ mid.view
-      by true puts = ap (λ (h : Hand Cell Fact). h.view) puts
-      by false same = ap (λ (h : Hand Cell Fact). h.view) same
+      by true puts = ap (λ (h : FileHand). h.view) puts
+      by false same = ap (λ (h : FileHand). h.view) same
 
   core_is : locked.view.core ≡ core
   core_is = ap (λ (v : View TreeState (Event Fact)). v.core) core_locked
@@ -170,17 +171,17 @@ module _ (given : ℕ → Option OldKept) (t : TableState) (nodes : ℕ) (table 
       drawn
 
   final_held : final.held ≡ with_value (cell_place nodes own) takes.value locked.held
-  final_held = ap (λ (h : Hand Cell Fact). h.held) takes.frame
+  final_held = ap (λ (h : FileHand). h.held) takes.frame
       ∙ (λ i. with_value (cell_place nodes (id.Part (record { 0 = core_is i }))) takes.value locked.held)
 
   locked_else : (b : Bool) → SetsLock nodes b (record { 0 = number }) mid locked → (which : CellId) → (0 ≡ cell_place nodes which → ⊥)
       → value_held nodes locked.held which ≡ value_held nodes mid.held which
-  locked_else true puts which apart = ap (λ (h : Hand Cell Fact). value_held nodes h.held which) puts ∙ apart_value nodes mid.held id.Lock which _ apart
-  locked_else false same which apart = ap (λ (h : Hand Cell Fact). value_held nodes h.held which) same
+  locked_else true puts which apart = ap (λ (h : FileHand). value_held nodes h.held which) puts ∙ apart_value nodes mid.held id.Lock which _ apart
+  locked_else false same which apart = ap (λ (h : FileHand). value_held nodes h.held which) same
 
   locked_places : (b : Bool) → SetsLock nodes b (record { 0 = number }) mid locked → places_of locked.held ≡ places_of mid.held
-  locked_places true puts = ap (λ (h : Hand Cell Fact). places_of h.held) puts ∙ same_places 0 mid.held _
-  locked_places false same = ap (λ (h : Hand Cell Fact). places_of h.held) same
+  locked_places true puts = ap (λ (h : FileHand). places_of h.held) puts ∙ same_places 0 mid.held _
+  locked_places false same = ap (λ (h : FileHand). places_of h.held) same
 
   mid_held : mid.held ≡ out.held
   mid_held =
@@ -317,7 +318,7 @@ module _ (given : ℕ → Option OldKept) (t : TableState) (nodes : ℕ) (table 
       mid drawn is in
       let value : cell.Lock (record { moved = Some (record { 0 = number }) }) ≡ y = some_same
       (sym (ap (λ l. value_held nodes l id.Lock) final_held ∙ (apart_value nodes locked.held own id.Lock takes.value (λ place. omega (arith, place))
-      ∙ (ap (λ (h : Hand Cell Fact). value_held nodes h.held id.Lock) puts ∙ value_with nodes id.Lock _ mid.held there))) ∙ found) in
+      ∙ (ap (λ (h : FileHand). value_held nodes h.held id.Lock) puts ∙ value_with nodes id.Lock _ mid.held there))) ∙ found) in
       subst (StandsForCell given first (account_of after_log) id.Lock) value
       (home id.Lock (cell.Lock l) (cell.Lock (record { moved = Some (record { 0 = number }) })) stands
       (subst (λ b. Rattle.mem_rename.specs.After.IsMovedLock b (record { 0 = number }) l (record { moved = Some (record { 0 = number }) }))
@@ -329,7 +330,7 @@ module _ (given : ℕ → Option OldKept) (t : TableState) (nodes : ℕ) (table 
   lock_home false same is x y was found stands =
       let value : value_held nodes before.held id.Lock ≡ Some y = sym
       (ap (λ l. value_held nodes l id.Lock) final_held ∙ (apart_value nodes locked.held own id.Lock takes.value (λ place. omega (arith, place))
-      ∙ (ap (λ (h : Hand Cell Fact). value_held nodes h.held id.Lock) same
+      ∙ (ap (λ (h : FileHand). value_held nodes h.held id.Lock) same
       ∙ (ap (λ l. value_held nodes l id.Lock) mid_held ∙ out_before id.Lock tt (λ place. omega (arith, place)))))) ∙ found in
       kept_home id.Lock y tt value (inl (renames_need_lock S core move seen child.0 on.meets.sound shows effect_is ∙ (sym comes_is ∙ is)))
 
@@ -355,15 +356,15 @@ module _ (given : ℕ → Option OldKept) (t : TableState) (nodes : ℕ) (table 
   ]
 
   view_is : final.view ≡ mid.view
-  view_is = ap (λ (h : Hand Cell Fact). h.view) takes.frame ∙ core_locked
+  view_is = ap (λ (h : FileHand). h.view) takes.frame ∙ core_locked
 
   pub goes_home : EachFrom 0 (Stands (IsLawfulLog given) (StandsAt given) final.view) final.held
   goes_home = stamped.home given t nodes before table ready.work (rename_call move) reply.Ok number back stamps final view_is
       (finished.view_held_mid given t nodes before table ready.work (rename_call move) reply.Ok number back stamps) final_places each
 
   same_rest : (b : Bool) → SetsLock nodes b (record { 0 = number }) mid locked → record locked { held = before.held } ≡ back
-  same_rest true puts = ap (λ (h : Hand Cell Fact). record h { held = before.held }) puts
-  same_rest false same = ap (λ (h : Hand Cell Fact). record h { held = before.held }) same
+  same_rest true puts = ap (λ (h : FileHand). record h { held = before.held }) puts
+  same_rest false same = ap (λ (h : FileHand). record h { held = before.held }) same
 
   many : length final.held ≡ length before.held
   many =
@@ -372,9 +373,9 @@ module _ (given : ℕ → Option OldKept) (t : TableState) (nodes : ℕ) (table 
       let b = Rattle.std.proofs.lemmas.List.length-map before.held (λ (h : HeldCell Cell). h.place) in
       omega (arith, same, a, b)
 
-  pub answers : (last : Hand Cell Fact) → LetsGo final last → last.held ≡ left_below 0 final.held → last.view.held ≡ reverse (places_of last.held)
+  pub answers : (last : FileHand) → LetsGo final last → last.held ≡ left_below 0 final.held → last.view.held ≡ reverse (places_of last.held)
       → IsAnswered t (rename_call move) reply.Ok before last
   answers last lets left at = finished.ends_as given t nodes before table ready.work (rename_call move) reply.Ok number back stamps
       (done (Moves move.directory.0 move.name move.to_directory.0 move.to_name child.0)) final last
       (answering.verdict_stamped given t nodes table move within plan above before ready reply.Ok number back stamps ∙ moves_is) refl refl
-      (ap (λ (h : Hand Cell Fact). record h { held = before.held }) takes.frame ∙ same_rest (is_some plan.comes) lock) many lets left at
+      (ap (λ (h : FileHand). record h { held = before.held }) takes.frame ∙ same_rest (is_some plan.comes) lock) many lets left at

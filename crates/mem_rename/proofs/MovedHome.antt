@@ -8,10 +8,10 @@ use Rattle.tree_laws.specs.Tree.{TreeState}
 use Rattle.tree_laws.specs.Logged.{numbered_node}
 use Rattle.tree_laws.specs.Verdict.{names_child}
 use Rattle.stamp_table.specs.declared.held.HeldCell.{HeldCell}
-use Rattle.stamp_table.specs.Hand.{Hand, places_of}
-use Rattle.stamp_table.specs.Table.{TableState, cell_at}
+use Rattle.stamp_table.specs.Hand.{places_of}
+use Rattle.stamp_table.specs.Table.{cell_at}
+use Rattle.mem_values.specs.Start.{FileHand, FileState}
 use Rattle.mem_values.specs.declared.cell.Cell.{Cell}
-use Rattle.mem_values.specs.declared.fact.Fact.{Fact}
 use Rattle.mem_values.proofs.Basics.{first_false}
 use Rattle.mem_calls.specs.Table.{IsFileTable}
 use Rattle.mem_rename.specs.declared.sides.Move.{Move}
@@ -41,8 +41,8 @@ none_either true o is = is
 none_either false o is = refl
 
 -- in a tree that a core may meet which is ready to move a child its plan is this
-module _ (given : ℕ → Option OldKept) (t : TableState) (nodes : ℕ) (table : IsFileTable t nodes) (move : Move) (within : AreSidesWithin nodes move)
-    (plan : Plan) (above : List ℕ) (hand : Hand Cell Fact)
+module _ (given : ℕ → Option OldKept) (t : FileState) (nodes : ℕ) (table : IsFileTable t nodes) (move : Move) (within : AreSidesWithin nodes move)
+    (plan : Plan) (above : List ℕ) (hand : FileHand)
     (ready : HoldsRename given t nodes move plan above hand) (tree : TreeState) (on : MayMeetOn plan move.to_directory.0 above hand tree) (child : NodeId)
     (moves : MovesChild tree hand.view.core move child.0) where
   abbrev seen : Sight

@@ -8,10 +8,8 @@ use Rattle.sfs_base.proofs.BasicOptions.{none_some, some_is}
 use Rattle.tree_laws.specs.Tree.{TreeState}
 use Rattle.tree_laws.specs.Logged.{numbered_node}
 use Rattle.tree_laws.proofs.Joined.{bucket_small}
-use Rattle.stamp_table.specs.Hand.{Hand}
-use Rattle.mem_values.specs.declared.cell.Cell.{Cell}
+use Rattle.mem_values.specs.Start.{FileHand}
 use Rattle.mem_values.specs.declared.cell_id.CellId.TheVariants as id
-use Rattle.mem_values.specs.declared.fact.Fact.{Fact}
 use Rattle.mem_values.specs.Places.{node_count}
 use Rattle.mem_values.specs.Laws.{MayMeet}
 use Rattle.mem_calls.specs.Held.{bucket_held}
@@ -28,7 +26,7 @@ use Rattle.mem_rename.specs.Rounds.{IsPlanWithin}
 use Rattle.mem_rename.proofs.Told.{row_told}
 use Rattle.mem_rename.proofs.Readies.{held_bucket}
 
-module _ (nodes : ℕ) (hand : Hand Cell Fact) (count : nodes ≡ node_count hand.view.first) (move : Move) (within : AreSidesWithin nodes move) (plan : Plan)
+module _ (nodes : ℕ) (hand : FileHand) (count : nodes ≡ node_count hand.view.first) (move : Move) (within : AreSidesWithin nodes move) (plan : Plan)
     (holds : HoldsCells nodes hand.held (asked_cells move plan))
     (tree : TreeState) (met : MayMeet hand.view hand.held tree) where
   -- what a row of a held bucket names has a number of the table

@@ -8,13 +8,12 @@ use Rattle.sfs_base.specs.declared.numbers.NodeId.{NodeId}
 use Rattle.disk_nodes.specs.OldKept.{OldKept}
 use Rattle.tree_laws.specs.Tree.{TreeState}
 use Rattle.mem_cells.specs.Part.{IsSamePart, room_kept}
-use Rattle.stamp_table.specs.Hand.{Hand}
-use Rattle.stamp_table.specs.Table.{TableState, with_value}
+use Rattle.stamp_table.specs.Table.{with_value}
+use Rattle.mem_values.specs.Start.{FileHand, FileState}
 use Rattle.mem_values.specs.declared.cell.Cell.{Cell}
 use Rattle.mem_values.specs.declared.cell.Cell.TheVariants as cell
 use Rattle.mem_values.specs.declared.bucket.Bucket.{Bucket}
 use Rattle.mem_values.specs.declared.cell_id.CellId.TheVariants as id
-use Rattle.mem_values.specs.declared.fact.Fact.{Fact}
 use Rattle.mem_values.specs.Account.{Account, account_of}
 use Rattle.mem_values.specs.Places.{cell_place}
 use Rattle.mem_values.specs.Stands.{StandsForCell}
@@ -36,26 +35,26 @@ same_twice one two = record {
 }
 
 -- what comes of a log that gets room or is refused it
-pub room_or_same : {X : Type 0} (nodes : ℕ) (move : Move) (before after : Hand Cell Fact) (outcome : Result X NoMemory) (keeps : KeepsPart nodes before after)
+pub room_or_same : {X : Type 0} (nodes : ℕ) (move : Move) (before after : FileHand) (outcome : Result X NoMemory) (keeps : KeepsPart nodes before after)
     → OnOk outcome (3 ≤ room_kept keeps.next.log move.directory.0)
     → OnOk outcome (3 ≤ room_kept keeps.next.log move.to_directory.0)
     → MatchResult outcome (λ _. MakesRoom nodes move before after) (λ _. KeepsPart nodes before after)
 room_or_same nodes move before after (Ok x) keeps old new = record { keeps = keeps; old = old; new = new }
 room_or_same nodes move before after (Err fault) keeps old new = keeps
 
-module _ (given : ℕ → Option OldKept) (t : TableState) (nodes : ℕ) (before : Hand Cell Fact) (table : IsFileTable t nodes)
+module _ (given : ℕ → Option OldKept) (t : FileState) (nodes : ℕ) (before : FileHand) (table : IsFileTable t nodes)
     (work : IsWorking given t before) where
   -- a core whose log has more room
-  module _ (mid : Hand Cell Fact) (keeps : KeepsPart nodes before mid) where
+  module _ (mid : FileHand) (keeps : KeepsPart nodes before mid) where
     pub works_kept : IsWorking given t mid
     works_kept = works_ready given t nodes before table work keeps.part keeps.next keeps.was keeps.same keeps.made keeps.value keeps.is mid keeps.puts
 
-    pub refused_kept : (last : Hand Cell Fact) → IsRefusedMemory t mid last → IsRefusedMemory t before last
+    pub refused_kept : (last : FileHand) → IsRefusedMemory t mid last → IsRefusedMemory t before last
     refused_kept last refused =
         back_ready given t nodes before table work keeps.part keeps.next keeps.was keeps.same keeps.made keeps.value keeps.is mid keeps.puts last refused
 
   -- a core whose bucket is the same
-  module _ (node : NodeId) (number : ℕ) (lt : node.0 < nodes) (small : number < 8) (after : Hand Cell Fact)
+  module _ (node : NodeId) (number : ℕ) (lt : node.0 < nodes) (small : number < 8) (after : FileHand)
       (same : PutsBucket nodes node number (λ b. b) before after) where
     bucket_stands : (first : TreeState) (account : Account) (x y : Cell) (b : Bucket) → as_bucket x ≡ Some b → as_bucket y ≡ Some b
         → StandsForCell given first account (id.Bucket node number) x → StandsForCell given first account (id.Bucket node number) y
@@ -80,17 +79,17 @@ module _ (given : ℕ → Option OldKept) (t : TableState) (nodes : ℕ) (before
     pub works_same : IsWorking given t after
     works_same = works_put given t nodes before table work (id.Bucket node number) same.change.value after (lt, small) stands same.change.puts
 
-    pub refused_same : (last : Hand Cell Fact) → IsRefusedMemory t after last → IsRefusedMemory t before last
+    pub refused_same : (last : FileHand) → IsRefusedMemory t after last → IsRefusedMemory t before last
     refused_same last refused = refused_back t before after last
         (with_value (cell_place nodes (id.Bucket node number)) same.change.value before.held) same.change.puts
         (same_length given t nodes before table work (id.Bucket node number) same.change.value after (lt, small) stands same.change.puts) refused
 
 -- what is held besides the own log is the same
-module _ (nodes : ℕ) (before mid : Hand Cell Fact) (keeps : KeepsPart nodes before mid) where
+module _ (nodes : ℕ) (before mid : FileHand) (keeps : KeepsPart nodes before mid) where
   pub kept_value : (which : Rattle.mem_values.specs.declared.cell_id.CellId.CellId)
       → (cell_place nodes (id.Part (record { 0 = before.view.core })) ≡ cell_place nodes which → ⊥)
       → value_held nodes mid.held which ≡ value_held nodes before.held which
-  kept_value which apart = ap (λ (h : Hand Cell Fact). value_held nodes h.held which) keeps.puts
+  kept_value which apart = ap (λ (h : FileHand). value_held nodes h.held which) keeps.puts
       ∙ apart_value nodes before.held (id.Part (record { 0 = before.view.core })) which keeps.value apart
 
   pub kept_bucket : (node : NodeId) (number : ℕ) → node.0 < nodes → number < 8

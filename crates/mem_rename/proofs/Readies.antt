@@ -14,14 +14,11 @@ use Rattle.tree_laws.specs.Verdict.{names_child}
 use Rattle.tree_laws.proofs.Joined.{bucket_small}
 use Rattle.cut_laws.specs.Rules.{IsOneOf}
 use Rattle.cut_laws.proofs.Basics.{in_left, in_right}
-use Rattle.stamp_table.specs.Hand.{Hand}
-use Rattle.stamp_table.specs.Table.{TableState}
-use Rattle.mem_values.specs.declared.cell.Cell.{Cell}
+use Rattle.mem_values.specs.Start.{FileHand, FileState}
 use Rattle.mem_values.specs.declared.cell.FileCell.{FileCell}
 use Rattle.mem_values.specs.declared.cell_id.CellId.{CellId}
 use Rattle.mem_values.specs.declared.cell_id.CellId.TheVariants as id
 use Rattle.mem_values.specs.declared.bucket.Bucket.{Bucket}
-use Rattle.mem_values.specs.declared.fact.Fact.{Fact}
 use Rattle.mem_values.specs.Stands.{ShowsBucket, file_links, if_directory}
 use Rattle.mem_values.proofs.Basics.{is_value}
 use Rattle.mem_calls.specs.Table.{IsFileTable}
@@ -39,7 +36,7 @@ use Rattle.mem_rename.specs.Plans.{file_if, buckets_if, file_of, asked_cells}
 use Rattle.mem_rename.specs.Holding.{HoldsCell}
 use Rattle.mem_rename.specs.Ready.{bucket_or, links_if, buckets_held, sight_of, AreSidesWithin, HoldsRename, MayMeetOn}
 
-module _ (nodes : ℕ) (hand : Hand Cell Fact) where
+module _ (nodes : ℕ) (hand : FileHand) where
   -- a bucket of which the cell is held, and a file
   pub held_bucket : (node : NodeId) (number : ℕ) → HoldsCell nodes hand.held (id.Bucket node number) → (b : Bucket)
       × (bucket_held nodes hand.held node number ≡ Some b)
@@ -92,8 +89,8 @@ module _ (move : Move) (plan : Plan) where
   pub file_asked : (node : NodeId) (cell : CellId) → plan.file ≡ Some node → IsOneOf (id.File node ∷ []) cell → IsOneOf (asked_cells move plan) cell
   file_asked node cell is among = inr (inr (in_right with_directory (file_of plan.file) cell (subst (λ o. IsOneOf (file_of o) cell) (sym is) among)))
 
-module _ (given : ℕ → Option OldKept) (t : TableState) (nodes : ℕ) (table : IsFileTable t nodes) (move : Move) (within : AreSidesWithin nodes move)
-    (plan : Plan) (above : List ℕ) (hand : Hand Cell Fact)
+module _ (given : ℕ → Option OldKept) (t : FileState) (nodes : ℕ) (table : IsFileTable t nodes) (move : Move) (within : AreSidesWithin nodes move)
+    (plan : Plan) (above : List ℕ) (hand : FileHand)
     (ready : HoldsRename given t nodes move plan above hand) where
   abbrev pub seen : Sight
   seen = sight_of nodes hand.held move plan above

@@ -8,7 +8,7 @@ use Rattle.std.specs.FinMap.{FinMap, get, insert, remove, get-insert, get-remove
 use Rattle.sfs_base.specs.declared.numbers.NodeId.{NodeId}
 use Rattle.tree_laws.specs.Order.{name_cmp}
 use Rattle.tree_laws.specs.NameRow.{number_of}
-use Rattle.tree_laws.proofs.Joined.{name_cmp-IsAntisymmetric, is_equal}
+use Rattle.tree_laws.proofs.Joined.{name_cmp-IsAntisymmetric}
 use Rattle.mem_calls.proofs.RowsGo.{same_name}
 use Rattle.mem_rename.specs.Moving.{row_again}
 

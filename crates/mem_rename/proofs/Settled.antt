@@ -13,9 +13,8 @@ use Rattle.tree_laws.specs.Tree.{TreeState}
 use Rattle.stamp_table.specs.declared.event.Event.{Event}
 use Rattle.stamp_table.specs.declared.view.View.{View}
 use Rattle.stamp_table.specs.Events.{calls_in}
-use Rattle.stamp_table.specs.Hand.{Hand}
-use Rattle.stamp_table.specs.Table.{TableState, IsBetweenCalls}
-use Rattle.mem_values.specs.declared.cell.Cell.{Cell}
+use Rattle.stamp_table.specs.Table.{IsBetweenCalls}
+use Rattle.mem_values.specs.Start.{FileHand, FileState}
 use Rattle.mem_values.specs.declared.cell_id.CellId.TheVariants as id
 use Rattle.mem_values.specs.declared.fact.Fact.{Fact}
 use Rattle.mem_calls.specs.Outcome.{IsRefusedMemory}
@@ -32,7 +31,7 @@ use Rattle.mem_rename.specs.Rounds.{IsPlanWithin, HoldsRound, SettlesRename}
 use Rattle.mem_rename.proofs.SoFar.{holds_still}
 use Rattle.mem_rename.proofs.Gathered.{way_stays}
 
-pub refused_same : (t : TableState) (hand : Hand Cell Fact) → IsBetweenCalls t hand → IsRefusedMemory t hand hand
+pub refused_same : (t : FileState) (hand : FileHand) → IsBetweenCalls t hand → IsRefusedMemory t hand hand
 refused_same t hand between = record {
   between = between;
   same = record { table = refl; cores = refl; leads = refl; number = refl };
@@ -43,7 +42,7 @@ refused_same t hand between = record {
   mine = refl;
 }
 
-pub refused_both : (t : TableState) (a b c : Hand Cell Fact) → IsRefusedMemory t a b → IsRefusedMemory t b c → IsRefusedMemory t a c
+pub refused_both : (t : FileState) (a b c : FileHand) → IsRefusedMemory t a b → IsRefusedMemory t b c → IsRefusedMemory t a c
 refused_both t a b c one two = record {
   between = two.between;
   same = record {
@@ -59,19 +58,19 @@ refused_both t a b c one two = record {
   mine = two.mine ∙ one.mine;
 }
 
-pub refused_after : (t : TableState) (a b c : Hand Cell Fact) → WorksOn a b → IsRefusedMemory t b c → IsRefusedMemory t a c
+pub refused_after : (t : FileState) (a b c : FileHand) → WorksOn a b → IsRefusedMemory t b c → IsRefusedMemory t a c
 refused_after t a b c on two = record {
   between = two.between;
   same = record {
-    table = two.same.table ∙ ap (λ (h : Hand Cell Fact). h.table) on.frame;
-    cores = two.same.cores ∙ ap (λ (h : Hand Cell Fact). h.cores) on.frame;
-    leads = two.same.leads ∙ ap (λ (h : Hand Cell Fact). h.leads) on.frame;
+    table = two.same.table ∙ ap (λ (h : FileHand). h.table) on.frame;
+    cores = two.same.cores ∙ ap (λ (h : FileHand). h.cores) on.frame;
+    leads = two.same.leads ∙ ap (λ (h : FileHand). h.leads) on.frame;
     number = two.same.number ∙ ap (λ (v : View TreeState (Event Fact)). v.core) on.view;
   };
   room = two.room ∙ on.room;
-  spare = two.spare ∙ ap (λ (h : Hand Cell Fact). h.spare) on.frame;
+  spare = two.spare ∙ ap (λ (h : FileHand). h.spare) on.frame;
   seen = (on.seen.0 ++ two.seen.0, sym (append_assoc a.view.seen on.seen.0 two.seen.0) ∙ (ap (λ l. l ++ two.seen.0) on.seen.1 ∙ two.seen.1));
-  entries = two.entries ∙ ap (λ (h : Hand Cell Fact). h.entries) on.frame;
+  entries = two.entries ∙ ap (λ (h : FileHand). h.entries) on.frame;
   mine = two.mine ∙ ap (λ (v : View TreeState (Event Fact)). v.mine) on.view;
 }
 
@@ -106,8 +105,8 @@ plan_same a b is =
     }
 
 -- A round that holds what follows from it has settled once the own log is held.
-module _ (given : ℕ → Option OldKept) (t : TableState) (nodes : ℕ) (table : IsFileTable t nodes) (move : Move) (plan next : Plan) (above : List ℕ)
-    (begun hand after : Hand Cell Fact) (round : HoldsRound given t nodes move plan above begun hand) (work : IsWorking given t after) (on : WorksOn hand after)
+module _ (given : ℕ → Option OldKept) (t : FileState) (nodes : ℕ) (table : IsFileTable t nodes) (move : Move) (plan next : Plan) (above : List ℕ)
+    (begun hand after : FileHand) (round : HoldsRound given t nodes move plan above begun hand) (work : IsWorking given t after) (on : WorksOn hand after)
     (still : StillHolds nodes hand after) (legal : IsLegal after.view.first (calls_in after.view.seen)) where
   -- a bucket that was asked for is the same
   bucket_stays : (node : NodeId) (number : ℕ) → IsOneOf (asked_cells move plan) (id.Bucket node number)
@@ -120,7 +119,7 @@ module _ (given : ℕ → Option OldKept) (t : TableState) (nodes : ℕ) (table 
   look_stays = λ i. look_by (bucket_stays move.directory (name_bucket move.name) (inl refl) i)
       (bucket_stays move.to_directory (name_bucket move.to_name) (inr (inl refl)) i) move
 
-  pub settled : (start : Hand Cell Fact) → IsPlanWithin nodes plan → IsRefusedMemory t start begun
+  pub settled : (start : FileHand) → IsPlanWithin nodes plan → IsRefusedMemory t start begun
       → next ≡ plan_by (look_seen (sight_of nodes hand.held move plan above) move) move → is_plan next plan ≡ true → HoldsPart nodes after
       → SettlesRename given t nodes move plan above start after
   settled start within again asked same part = record {
@@ -130,6 +129,7 @@ module _ (given : ℕ → Option OldKept) (t : TableState) (nodes : ℕ) (table 
     within = within;
     ready = record {
       work = work;
+      answered = ap (λ (h : FileHand). h.waiting) on.frame ∙ (ap (λ (h : FileHand). h.waiting) round.on.frame ∙ again.between.none_waits);
       part = part;
       cells = λ cell among. holds_still nodes hand after cell still (round.cells cell among);
       lock = λ comes. holds_still nodes hand after id.Lock still (round.lock comes);

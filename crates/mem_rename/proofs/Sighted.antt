@@ -8,10 +8,8 @@ use Rattle.sfs_base.specs.Name.{bucket as name_bucket}
 use Rattle.sfs_base.specs.declared.numbers.NodeId.{NodeId}
 use Rattle.tree_laws.specs.Logged.{numbered_node}
 use Rattle.tree_laws.specs.Tree.{BUCKET_ROWS}
-use Rattle.stamp_table.specs.Hand.{Hand}
-use Rattle.mem_values.specs.declared.cell.Cell.{Cell}
+use Rattle.mem_values.specs.Start.{FileHand}
 use Rattle.mem_values.specs.declared.cell_id.CellId.TheVariants as id
-use Rattle.mem_values.specs.declared.fact.Fact.{Fact}
 use Rattle.mem_values.proofs.Basics.{some_of}
 use Rattle.mem_calls.specs.Held.{bucket_held, file_held}
 use Rattle.mem_rename.specs.declared.sides.Move.{Move}
@@ -25,7 +23,7 @@ use Rattle.mem_rename.specs.Ready.{bucket_or, links_if, buckets_held, is_at_or_i
 use Rattle.mem_rename.proofs.Kept.{bucket_in}
 use Rattle.mem_rename.proofs.Readies.{held_bucket, held_file, old_file_asked, new_file_asked, directory_asked}
 
-module _ (nodes : ℕ) (hand : Hand Cell Fact) (move : Move) (plan : Plan) (holds : HoldsCells nodes hand.held (asked_cells move plan)) where
+module _ (nodes : ℕ) (hand : FileHand) (move : Move) (plan : Plan) (holds : HoldsCells nodes hand.held (asked_cells move plan)) where
   pub old_there : IsSome (bucket_held nodes hand.held move.directory (name_bucket move.name))
   old_there = let b = held_bucket nodes hand move.directory (name_bucket move.name)
       (holds (id.Bucket move.directory (name_bucket move.name)) (Rattle.std.proofs.Common.inl refl)) in some_of _ b.0 b.1
@@ -52,7 +50,7 @@ below_same : (move : Move) (above : List ℕ) (seen : Sight) (child : Option ℕ
 below_same move above seen None is = refl
 below_same move above seen (Some child) is = ap (λ l. is_at_or_in (Some (numbered_node child)) move.to_directory.0 l) (sym is)
 
-pub reads_same : (nodes : ℕ) (hand : Hand Cell Fact) (move : Move) (plan : Plan) (above : List ℕ) (reads : Reads)
+pub reads_same : (nodes : ℕ) (hand : FileHand) (move : Move) (plan : Plan) (above : List ℕ) (reads : Reads)
     → reads.old_links ≡ links_if plan.old_file (file_held nodes hand.held move.directory)
     → reads.new_links ≡ links_if plan.new_file (file_held nodes hand.held move.to_directory)
     → reads.full ≡ nat_le BUCKET_ROWS (len (bucket_or (bucket_held nodes hand.held move.to_directory (name_bucket move.to_name))).rows)

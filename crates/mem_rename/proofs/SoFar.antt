@@ -1,19 +1,13 @@
 -- Cells that are held one after the other, the least place first.
-use Rattle.std.proofs.Common.{◌≡◌, ◌⊎◌, ℕ, ◌+◌, ◌*◌, ◌<◌, ◌≤◌, Bool, true, false, cond, List, [], ◌∷◌, ◌++◌, length, Option, None, inl, inr, refl, sym, ap, subst, ◌∙◌, arith, nat_le, append-nil, append_assoc}
+use Rattle.std.proofs.Common.{◌≡◌, ◌⊎◌, ℕ, ◌+◌, ◌*◌, ◌<◌, ◌≤◌, Bool, true, false, cond, List, [], ◌∷◌, length, Option, None, inl, inr, refl, sym, subst, arith, nat_le, append-nil}
 use borrow.Author.Tests.{leb-true, le-leb}
 use Rattle.sfs_base.proofs.BasicTruth.{true_or_false}
 use Rattle.disk_nodes.specs.OldKept.{OldKept}
 use Rattle.cut_laws.specs.Rules.{IsOneOf}
-use Rattle.tree_laws.specs.Tree.{TreeState}
-use Rattle.stamp_table.specs.declared.event.Event.{Event}
-use Rattle.stamp_table.specs.declared.view.View.{View}
-use Rattle.stamp_table.specs.Hand.{Hand}
 use Rattle.stamp_table.specs.Ascending.{LiesAbove}
-use Rattle.stamp_table.specs.Table.{TableState}
-use Rattle.mem_values.specs.declared.cell.Cell.{Cell}
+use Rattle.mem_values.specs.Start.{FileHand, FileState}
 use Rattle.mem_values.specs.declared.cell_id.CellId.{CellId}
 use Rattle.mem_values.specs.declared.cell_id.CellId.TheVariants as id
-use Rattle.mem_values.specs.declared.fact.Fact.{Fact}
 use Rattle.mem_values.specs.Places.{cell_place, IsCell}
 use Rattle.mem_values.proofs.Places.{places_apart}
 use Rattle.mem_calls.specs.Working.{IsWorking, WorksOn, StillHolds, Gains}
@@ -22,14 +16,14 @@ use Rattle.mem_rename.specs.Ways.{HasMet}
 use Rattle.mem_rename.specs.Holding.{IsTreeCell, AreTreeCells, IsLeastAbove, IsNextAbove, HoldsCell, HoldsAsked}
 
 -- what works on works on
-pub works_on_same : (hand : Hand Cell Fact) → WorksOn hand hand
+pub works_on_same : (hand : FileHand) → WorksOn hand hand
 works_on_same hand = record { frame = refl; view = refl; seen = ([], append-nil hand.view.seen); room = refl }
 
-pub still_same : (nodes : ℕ) (hand : Hand Cell Fact) → StillHolds nodes hand hand
+pub still_same : (nodes : ℕ) (hand : FileHand) → StillHolds nodes hand hand
 still_same nodes hand = record { values = λ which value is. is; trees = λ tree meets. meets }
 
 -- what is held is still held
-pub holds_still : (nodes : ℕ) (before after : Hand Cell Fact) (cell : CellId) → StillHolds nodes before after → HoldsCell nodes before.held cell
+pub holds_still : (nodes : ℕ) (before after : FileHand) (cell : CellId) → StillHolds nodes before after → HoldsCell nodes before.held cell
     → HoldsCell nodes after.held cell
 holds_still nodes before after cell still holds = (holds.0, still.values cell holds.0 holds.1, holds.2)
 
@@ -105,7 +99,7 @@ higher [] last place above lt = tt
 higher (p ∷ places) last place above lt = omega (arith, above, lt)
 
 -- So far a core holds those of some cells that lie up to a place.
-pub record HoldsSoFar (given : ℕ → Option OldKept) (t : TableState) (nodes : ℕ) (cells : List CellId) (last : ℕ) (start now : Hand Cell Fact) : Type 0 where
+pub record HoldsSoFar (given : ℕ → Option OldKept) (t : FileState) (nodes : ℕ) (cells : List CellId) (last : ℕ) (start now : FileHand) : Type 0 where
   pub work : IsWorking given t now
   pub on : WorksOn start now
   pub still : StillHolds nodes start now
@@ -115,7 +109,7 @@ pub record HoldsSoFar (given : ℕ → Option OldKept) (t : TableState) (nodes :
   pub met : (last ≡ 15) ⊎ HasMet now
   pub room : start.room ≤ now.room + count_low nodes last cells
 
-module _ (given : ℕ → Option OldKept) (t : TableState) (nodes : ℕ) (cells : List CellId) (are : AreTreeCells nodes cells) (start : Hand Cell Fact) where
+module _ (given : ℕ → Option OldKept) (t : FileState) (nodes : ℕ) (cells : List CellId) (are : AreTreeCells nodes cells) (start : FileHand) where
   pub begins : IsWorking given t start → LiesAbove 16 start.view.held → HoldsSoFar given t nodes cells 15 start start
   begins work above = record {
     work = work;
@@ -128,8 +122,8 @@ module _ (given : ℕ → Option OldKept) (t : TableState) (nodes : ℕ) (cells 
     room = omega arith;
   }
 
-  module _ (last : ℕ) (now : Hand Cell Fact) (so : HoldsSoFar given t nodes cells last start now) where
-    pub goes_on : (next : CellId) (after : Hand Cell Fact) → IsLeastAbove nodes last cells next → IsWorking given t after → Gains nodes next now after
+  module _ (last : ℕ) (now : FileHand) (so : HoldsSoFar given t nodes cells last start now) where
+    pub goes_on : (next : CellId) (after : FileHand) → IsLeastAbove nodes last cells next → IsWorking given t after → Gains nodes next now after
         → HoldsSoFar given t nodes cells (cell_place nodes next) start after
     goes_on next after least work gains = record {
       work = work;

@@ -12,9 +12,10 @@ use Rattle.stamp_table.specs.declared.view.View.{View}
 use Rattle.stamp_table.specs.declared.held.HeldCell.{HeldCell}
 use Rattle.stamp_table.specs.Events.{calls_in}
 use Rattle.stamp_table.specs.Rule.{Has}
-use Rattle.stamp_table.specs.Hand.{Hand, places_of}
+use Rattle.stamp_table.specs.Hand.{places_of}
 use Rattle.stamp_table.specs.Ascending.{Falls}
-use Rattle.stamp_table.specs.Table.{TableState, LetsGo, left_below}
+use Rattle.stamp_table.specs.Table.{LetsGo, left_below}
+use Rattle.mem_values.specs.Start.{FileHand, FileState}
 use Rattle.mem_values.specs.declared.cell.Cell.{Cell}
 use Rattle.mem_values.specs.declared.bucket.Bucket.{Bucket}
 use Rattle.mem_values.specs.declared.cell_id.CellId.TheVariants as id
@@ -34,8 +35,8 @@ lock_left lock last place above =
     ap (λ b. reverse (cond b (cond (nat_le 1 lock.place) [] (lock ∷ [])) (last ∷ lock ∷ []))) (le-leb 1 last.place above)
     ∙ ap (λ (p : ℕ). reverse (cond (nat_le 1 p) [] (lock ∷ []))) place
 
-module _ (given : ℕ → Option OldKept) (t : TableState) (nodes : ℕ) (table : IsFileTable t nodes) (node : NodeId) (within : node.0 < nodes)
-    (before mid after : Hand Cell Fact)
+module _ (given : ℕ → Option OldKept) (t : FileState) (nodes : ℕ) (table : IsFileTable t nodes) (node : NodeId) (within : node.0 < nodes)
+    (before mid after : FileHand)
     (work : IsWorking given t before) (lock : HoldsLock before) (work_mid : IsWorking given t mid) (gains : Gains nodes (id.Bucket node 0) before mid)
     (lets : LetsGo mid after) (left : after.held ≡ left_below 1 mid.held) (places : after.view.held ≡ reverse (places_of after.held)) where
   both_held : mid.held ≡ lock.lock ∷ gains.held.0 ∷ []
@@ -63,7 +64,7 @@ module _ (given : ℕ → Option OldKept) (t : TableState) (nodes : ℕ) (table 
   on : ReadsOn before after
   on = record {
     frame = (λ i. record after { view = before.view; held = held_after i; room = room_after i })
-        ∙ (ap (λ (h : Hand Cell Fact). record h { view = before.view; held = before.held; room = before.room }) lets.frame ∙ gains.on.frame);
+        ∙ (ap (λ (h : FileHand). record h { view = before.view; held = before.held; room = before.room }) lets.frame ∙ gains.on.frame);
     view = (λ i. record after.view { seen = before.view.seen; held = view_held_after i })
         ∙ (ap (λ (v : View TreeState (Event Fact)). record v { seen = before.view.seen; held = before.view.held }) lets.view ∙ gains.on.view);
     seen = subst (IsPrefix before.view.seen) (sym seen_after) gains.on.seen;
@@ -82,10 +83,9 @@ module _ (given : ℕ → Option OldKept) (t : TableState) (nodes : ℕ) (table 
 
   pub works_after : IsWorking given t after
   works_after = record {
-    table = ap (λ (h : Hand Cell Fact). h.table) on.frame ∙ work.table;
+    table = ap (λ (h : FileHand). h.table) on.frame ∙ work.table;
     first = first_after ∙ work.first;
     core = subst (λ n. n < length t.first.made) (sym (ap (λ (v : View TreeState (Event Fact)). v.core) on.view)) work.core;
-    none_waits = ap (λ (h : Hand Cell Fact). h.waiting) on.frame ∙ work.none_waits;
     places = places;
     falls = subst Falls (sym view_held_after) work.falls;
     knows = subst (KnowsCells given after.view) (sym (held_after ∙ lock.alone)) (lock_known, tt);

@@ -13,10 +13,11 @@ use Rattle.tree_laws.specs.Verdict.{Verdict, done}
 use Rattle.tree_laws.proofs.Joined.{bucket_small}
 use Rattle.stamp_table.specs.declared.event.Event.{Event}
 use Rattle.stamp_table.specs.declared.view.View.{View}
-use Rattle.stamp_table.specs.Hand.{Hand, places_of}
-use Rattle.stamp_table.specs.Table.{TableState, MayCall, Stamps}
+use Rattle.stamp_table.specs.Hand.{places_of}
+use Rattle.stamp_table.specs.Table.{MayCall, Stamps}
 use Rattle.stamp_table.proofs.Replacing.{same_places}
-use Rattle.mem_values.specs.declared.cell.Cell.{Cell}
+use Rattle.stamp_table.specs.Events.{calls_in}
+use Rattle.mem_values.specs.Start.{FileHand, FileState}
 use Rattle.mem_values.specs.declared.cell.PartCell.{PartCell}
 use Rattle.mem_values.specs.declared.cell_id.CellId.TheVariants as id
 use Rattle.mem_values.specs.declared.fact.Fact.{Fact}
@@ -56,13 +57,13 @@ each_of : (o : Option NodeId) (P : NodeId → Type 0) → ((n : NodeId) → o �
 each_of None P each = tt
 each_of (Some n) P each = each n refl
 
-module _ (given : ℕ → Option OldKept) (t : TableState) (nodes : ℕ) (table : IsFileTable t nodes) (move : Move) (within : AreSidesWithin nodes move)
-    (plan : Plan) (plan_within : IsPlanWithin nodes plan) (above : List ℕ) (before : Hand Cell Fact)
+module _ (given : ℕ → Option OldKept) (t : FileState) (nodes : ℕ) (table : IsFileTable t nodes) (move : Move) (within : AreSidesWithin nodes move)
+    (plan : Plan) (plan_within : IsPlanWithin nodes plan) (above : List ℕ) (before : FileHand)
     (ready : HoldsRename given t nodes move plan above before) (child : NodeId)
     (moves_is : rename_by (sight_of nodes before.held move plan above) move ≡ done
     (Moves move.directory.0 move.name move.to_directory.0 move.to_name child.0))
-    (shift : Shift) (noted : Noted) (row_hand : Hand Cell Fact) (prepared : IsPrepared nodes move shift before noted row_hand) where
-  abbrev mid0 : Hand Cell Fact
+    (shift : Shift) (noted : Noted) (row_hand : FileHand) (prepared : IsPrepared nodes move shift before noted row_hand) where
+  abbrev mid0 : FileHand
   mid0 = prepared.mid
 
   abbrev keeps : KeepsPart nodes before mid0
@@ -103,33 +104,33 @@ module _ (given : ℕ → Option OldKept) (t : TableState) (nodes : ℕ) (table 
   pub can_change : CanChange nodes move plan row_hand.held
   can_change = still_can nodes move plan within plan_within _ same_file mid0 row_hand row_step can_mid
 
-  module _ (out : Hand Cell Fact) (change : ChangesHeld nodes (bucket_moved move plan) (at_file plan.file less_one) row_hand out) where
+  module _ (out : FileHand) (change : ChangesHeld nodes (bucket_moved move plan) (at_file plan.file less_one) row_hand out) where
     pub all : ChangesHeld nodes (λ at n x. bucket_moved move plan at n
         (at_bucket move.to_directory (name_bucket move.to_name) (with_row shift.child_is_directory move.to_name shift.child.0) at n x))
         (λ at x. at_file plan.file less_one at x) mid0 out
     all = both_held nodes _ _ same_file _ mid0 row_hand out row_step change
 
     pub out_is : out ≡ record before { held = out.held }
-    out_is = all.frame ∙ ap (λ (h : Hand Cell Fact). record h { held = out.held }) keeps.puts
+    out_is = all.frame ∙ ap (λ (h : FileHand). record h { held = out.held }) keeps.puts
 
     pub out_places : places_of out.held ≡ places_of before.held
-    out_places = all.places ∙ (ap (λ (h : Hand Cell Fact). places_of h.held) keeps.puts ∙ same_places (cell_place nodes own) before.held keeps.value)
+    out_places = all.places ∙ (ap (λ (h : FileHand). places_of h.held) keeps.puts ∙ same_places (cell_place nodes own) before.held keeps.value)
 
     -- it may be stamped
     pub may : MayCall (IsLawfulLog given) (StandsAt given) out.view (rename_call move) reply.Ok
     may = subst (λ (z : View TreeState (Event Fact) × Reply). MayCall (IsLawfulLog given) (StandsAt given) z.0 (rename_call move) z.1)
-        (λ i. (sym (ap (λ (h : Hand Cell Fact). h.view) out_is) i, ap (λ (v : Verdict). v.reply) moves_is i))
+        (λ i. (sym (ap (λ (h : FileHand). h.view) out_is) i, ap (λ (v : Verdict). v.reply) moves_is i))
         (answering.may_come given t nodes table move within plan above before ready)
 
-    module _ (number : ℕ) (mid : Hand Cell Fact) (drawn : Stamps (IsLawfulLog given) (StandsAt given) (rename_call move) reply.Ok out number mid) where
-      abbrev pub back : Hand Cell Fact
+    module _ (number : ℕ) (mid : FileHand) (drawn : Stamps (IsLawfulLog given) (StandsAt given) (rename_call move) reply.Ok out number mid) where
+      abbrev pub back : FileHand
       back = record mid { held = before.held }
 
       abbrev pub stamps : Stamps (IsLawfulLog given) (StandsAt given) (rename_call move) reply.Ok before number back
       stamps = stamps_back given (rename_call move) reply.Ok before out number mid out.held out_is drawn
 
       pub mid_held : mid.held ≡ out.held
-      mid_held = ap (λ (h : Hand Cell Fact). h.held) drawn.frame
+      mid_held = ap (λ (h : FileHand). h.held) drawn.frame
 
       pub mid_core : mid.view.core ≡ before.view.core
       mid_core = finished.core_mid given t nodes before table ready.work (rename_call move) reply.Ok number back stamps
@@ -145,17 +146,17 @@ module _ (given : ℕ → Option OldKept) (t : TableState) (nodes : ℕ) (table 
       own_mid : value_held nodes mid.held own ≡ Some keeps.value
       own_mid =
           ap (λ h. value_held nodes h own) mid_held ∙ (all.others own tt
-          ∙ (ap (λ (h : Hand Cell Fact). value_held nodes h.held own) keeps.puts
+          ∙ (ap (λ (h : FileHand). value_held nodes h.held own) keeps.puts
           ∙ value_with nodes own keeps.value before.held (some_first as_part (value_held nodes before.held own) ready.part)))
 
-      module _ (comes : Bool) (locked : Hand Cell Fact) (lock : SetsLock nodes comes (record { 0 = number }) mid locked) where
+      module _ (comes : Bool) (locked : FileHand) (lock : SetsLock nodes comes (record { 0 = number }) mid locked) where
         own_by : (b : Bool) → SetsLock nodes b (record { 0 = number }) mid locked → (value_held nodes locked.held own ≡ Some keeps.value)
             × (locked.view ≡ mid.view)
         own_by true puts = (
-          ap (λ (h : Hand Cell Fact). value_held nodes h.held own) puts ∙ (apart_value nodes mid.held id.Lock own _ (λ place. omega (arith, place)) ∙ own_mid),
-          ap (λ (h : Hand Cell Fact). h.view) puts,
+          ap (λ (h : FileHand). value_held nodes h.held own) puts ∙ (apart_value nodes mid.held id.Lock own _ (λ place. omega (arith, place)) ∙ own_mid),
+          ap (λ (h : FileHand). h.view) puts,
         )
-        own_by false same = (ap (λ (h : Hand Cell Fact). value_held nodes h.held own) same ∙ own_mid, ap (λ (h : Hand Cell Fact). h.view) same)
+        own_by false same = (ap (λ (h : FileHand). value_held nodes h.held own) same ∙ own_mid, ap (λ (h : FileHand). h.view) same)
 
         pub part_locked : part_held nodes locked.held locked.view.core ≡ Some keeps.next
         part_locked =
@@ -174,7 +175,8 @@ module _ (given : ℕ → Option OldKept) (t : TableState) (nodes : ℕ) (table 
         some_one e = cc (e)
 
         -- the own log has room for what it logs
-        pub takes_shift : (name to_name : List ℕ) (way : List ℕ) → shift.from ≡ move.directory → shift.to ≡ move.to_directory → length before.view.mine ≤ 2 ^ 50
+        pub takes_shift : (name to_name : List ℕ) (way : List ℕ) → shift.from ≡ move.directory → shift.to ≡ move.to_directory
+            → length (calls_in before.view.mine) ≤ 2 ^ 50
             → MayTake nodes (shift_logged shift name to_name number way) locked
         takes_shift name to_name way from to few part found =
             let same : keeps.next ≡ part = some_one (sym part_locked ∙ found) in

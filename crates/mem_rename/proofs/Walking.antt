@@ -15,9 +15,7 @@ use Rattle.tree_laws.proofs.KeepsNodes.{directory_node}
 use Rattle.stamp_table.specs.declared.event.Event.{Event}
 use Rattle.stamp_table.specs.declared.view.View.{View}
 use Rattle.stamp_table.specs.Events.{calls_in}
-use Rattle.stamp_table.specs.Hand.{Hand}
-use Rattle.stamp_table.specs.Table.{TableState}
-use Rattle.mem_values.specs.declared.cell.Cell.{Cell}
+use Rattle.mem_values.specs.Start.{FileHand, FileState}
 use Rattle.mem_values.specs.declared.cell_id.CellId.TheVariants as id
 use Rattle.mem_values.specs.declared.fact.Fact.{Fact}
 use Rattle.mem_values.specs.Account.{account_of}
@@ -31,7 +29,7 @@ use Rattle.mem_rename.specs.Ways.{last_read, HoldsLock, ReadsOn, SawStanding, Ha
 use Rattle.mem_rename.proofs.Upwards.{read_ways_stay, reading_goes_up, reading_ends_at_the_root}
 
 -- So far directories above one have been read, the last of which stands here.
-pub record HasWalked (given : ℕ → Option OldKept) (t : TableState) (nodes node : ℕ) (start now : Hand Cell Fact) (above : List NodeId)
+pub record HasWalked (given : ℕ → Option OldKept) (t : FileState) (nodes node : ℕ) (start now : FileHand) (above : List NodeId)
     (at : NodeId) : Type 0 where
   pub on : ReadsOn start now
   pub work : IsWorking given t now
@@ -40,12 +38,12 @@ pub record HasWalked (given : ℕ → Option OldKept) (t : TableState) (nodes no
   pub last : last_read node (map node_number above) ≡ at.0
   pub within : at.0 < nodes
 
-pub reads_on_same : (hand : Hand Cell Fact) → IsLegal hand.view.first (calls_in hand.view.seen) → ReadsOn hand hand
+pub reads_on_same : (hand : FileHand) → IsLegal hand.view.first (calls_in hand.view.seen) → ReadsOn hand hand
 reads_on_same hand legal = record { frame = refl; view = refl; seen = ([], append-nil hand.view.seen); legal = legal }
 
-pub reads_on_both : (a b c : Hand Cell Fact) → ReadsOn a b → ReadsOn b c → ReadsOn a c
+pub reads_on_both : (a b c : FileHand) → ReadsOn a b → ReadsOn b c → ReadsOn a c
 reads_on_both a b c one two = record {
-  frame = ap (λ (h : Hand Cell Fact). record h { view = a.view }) two.frame ∙ one.frame;
+  frame = ap (λ (h : FileHand). record h { view = a.view }) two.frame ∙ one.frame;
   view = ap (λ (v : View TreeState (Event Fact)). record v { seen = a.view.seen }) two.view ∙ one.view;
   seen = (one.seen.0 ++ two.seen.0, sym (append_assoc a.view.seen one.seen.0 two.seen.0) ∙ (ap (λ l. l ++ two.seen.0) one.seen.1 ∙ two.seen.1));
   legal = subst (λ f. IsLegal f (calls_in c.view.seen)) (ap (λ (v : View TreeState (Event Fact)). v.first) one.view) two.legal;
@@ -66,24 +64,24 @@ holder_node tree is node holder stands = node_within tree is holder (directory_n
       | inr none ↦ absurd (none_some (sym none.0 ∙ s))
     ]
 
-module _ (given : ℕ → Option OldKept) (t : TableState) (nodes : ℕ) (table : IsFileTable t nodes) (node : ℕ) (start : Hand Cell Fact) where
+module _ (given : ℕ → Option OldKept) (t : FileState) (nodes : ℕ) (table : IsFileTable t nodes) (node : ℕ) (start : FileHand) where
   pub walk_begins : (at : NodeId) → node ≡ at.0 → IsWorking given t start → HoldsLock start → IsLegal start.view.first (calls_in start.view.seen) → at.0 < nodes
       → HasWalked given t nodes node start start [] at
   walk_begins at same work lock legal within = record { on = reads_on_same start legal; work = work; lock = lock; holders = tt; last = same; within = within }
 
-  module _ (now : Hand Cell Fact) (above : List NodeId) (at : NodeId) (walked : HasWalked given t nodes node start now above at) where
+  module _ (now : FileHand) (above : List NodeId) (at : NodeId) (walked : HasWalked given t nodes node start now above at) where
     pub walk_ends : at.0 ≡ 0 → HasReadAll now node (map node_number above)
     walk_ends root = record { holders = walked.holders; ends = reading_ends_at_the_root node (map node_number above) (walked.last ∙ root) }
 
-    lock_stands : (hand : Hand Cell Fact) → IsWorking given t hand → (lock : HoldsLock hand)
+    lock_stands : (hand : FileHand) → IsWorking given t hand → (lock : HoldsLock hand)
         → StandsForCell given hand.view.first (account_of hand.view.seen) id.Lock lock.lock.value
     lock_stands hand work lock = (subst (KnowsCells given hand.view) lock.alone work.knows).0.stood id.Lock tt (sym lock.place)
 
-    module _ (after : Hand Cell Fact) (holder : NodeId) (work : IsWorking given t after) (saw : SawStanding at.0 now (Some holder) after) where
+    module _ (after : FileHand) (holder : NodeId) (work : IsWorking given t after) (saw : SawStanding at.0 now (Some holder) after) where
       abbrev pub lock_after : HoldsLock after
       lock_after = record {
         lock = walked.lock.lock;
-        alone = ap (λ (h : Hand Cell Fact). h.held) saw.on.frame ∙ walked.lock.alone;
+        alone = ap (λ (h : FileHand). h.held) saw.on.frame ∙ walked.lock.alone;
         place = walked.lock.place;
         kind = walked.lock.kind;
       }

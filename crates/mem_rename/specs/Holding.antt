@@ -1,13 +1,12 @@
 -- Cells that a rename holds.
 use Rattle.std.specs.Prelude.{◌≡◌, ◌⊎◌, ℕ, ◌+◌, ◌*◌, ◌<◌, ◌≤◌, Bool, true, ◌&&◌, nat_lt, if◌then◌else◌, List, [], ◌∷◌, Option, Some, None}
 use Rattle.stamp_table.specs.declared.held.HeldCell.{HeldCell}
-use Rattle.stamp_table.specs.Hand.{Hand}
 use Rattle.stamp_table.specs.Ascending.{LiesAbove}
 use Rattle.cut_laws.specs.Rules.{IsOneOf}
+use Rattle.mem_values.specs.Start.{FileHand}
 use Rattle.mem_values.specs.declared.cell.Cell.{Cell}
 use Rattle.mem_values.specs.declared.cell_id.CellId.{CellId}
 use Rattle.mem_values.specs.declared.cell_id.CellId.TheVariants as id
-use Rattle.mem_values.specs.declared.fact.Fact.{Fact}
 use Rattle.mem_values.specs.Places.{cell_place}
 use Rattle.mem_calls.specs.Held.{value_held}
 use Rattle.mem_calls.specs.Working.{WorksOn, StillHolds, IsOfKind}
@@ -54,7 +53,7 @@ HoldsCells nodes held cells = (cell : CellId) → IsOneOf cells cell → HoldsCe
 
 -- A core holds these cells more, and still those that it held; all lie below the logs. Where there are such cells, it may meet the tree that it
 -- has seen.
-pub record HoldsAsked (nodes : ℕ) (cells : List CellId) (before after : Hand Cell Fact) : Type 0 where
+pub record HoldsAsked (nodes : ℕ) (cells : List CellId) (before after : FileHand) : Type 0 where
   pub on : WorksOn before after
   pub still : StillHolds nodes before after
   pub holds : HoldsCells nodes after.held cells

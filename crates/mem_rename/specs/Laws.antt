@@ -32,8 +32,7 @@ use Rattle.mem_values.specs.Touches.{KeepsCell}
 use Rattle.mem_values.specs.Laws.{KnowsCells, MayMeet, CallFits}
 use Rattle.mem_rename.specs.declared.sides.Move.{Move}
 use Rattle.mem_rename.specs.Sights.{Sight, rename_call, rename_by, there_seen, meets_directory, goes_between, ShowsMove}
-use Rattle.stamp_table.specs.Hand.{Hand}
-use Rattle.stamp_table.specs.Table.{TableState}
+use Rattle.mem_values.specs.Start.{FileHand, FileState}
 use Rattle.mem_calls.specs.Table.{IsFileTable}
 use Rattle.mem_calls.specs.Held.{value_held}
 use Rattle.mem_rename.specs.declared.plans.Plan.{Plan}
@@ -119,14 +118,14 @@ DecisionsAreVerdicts = (move : Move) (seen : Sight) → verdict_of move (decisio
 
 -- What a core holds that is ready for a rename shows each tree that it may meet.
 abbrev pub ReadyCoresSeeAll : Type 0
-ReadyCoresSeeAll = (given : ℕ → Option OldKept) (t : TableState) (nodes : ℕ) (move : Move) (plan : Plan) (above : List ℕ) (hand : Hand Cell Fact)
+ReadyCoresSeeAll = (given : ℕ → Option OldKept) (t : FileState) (nodes : ℕ) (move : Move) (plan : Plan) (above : List ℕ) (hand : FileHand)
     (tree : TreeState)
     → IsFileTable t nodes → AreSidesWithin nodes move → HoldsRename given t nodes move plan above hand → MayMeetOn plan move.to_directory.0 above hand tree
     → ShowsMove tree move (sight_of nodes hand.held move plan above)
 
 -- And it holds each cell that the rename does not keep there.
 abbrev pub ReadyCoresHoldAll : Type 0
-ReadyCoresHoldAll = (given : ℕ → Option OldKept) (t : TableState) (nodes : ℕ) (move : Move) (plan : Plan) (above : List ℕ) (hand : Hand Cell Fact)
+ReadyCoresHoldAll = (given : ℕ → Option OldKept) (t : FileState) (nodes : ℕ) (move : Move) (plan : Plan) (above : List ℕ) (hand : FileHand)
     (tree : TreeState) (which : CellId)
     → IsFileTable t nodes → AreSidesWithin nodes move → HoldsRename given t nodes move plan above hand → MayMeetOn plan move.to_directory.0 above hand tree
     → IsCell nodes (length t.first.made) which

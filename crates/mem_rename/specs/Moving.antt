@@ -7,7 +7,8 @@ use Rattle.sfs_base.specs.Name.{bucket as name_bucket}
 use Rattle.tree_laws.specs.Order.{name_cmp}
 use Rattle.mem_cells.specs.Part.{IsSamePart, room_kept}
 use Rattle.stamp_table.specs.declared.held.HeldCell.{HeldCell}
-use Rattle.stamp_table.specs.Hand.{Hand, places_of}
+use Rattle.stamp_table.specs.Hand.{places_of}
+use Rattle.mem_values.specs.Start.{FileHand}
 use Rattle.mem_values.specs.declared.cell.Cell.{Cell}
 use Rattle.mem_values.specs.declared.cell.Cell.TheVariants as cell
 use Rattle.mem_values.specs.declared.cell.FileCell.{FileCell}
@@ -15,7 +16,6 @@ use Rattle.mem_values.specs.declared.cell.PartCell.{PartCell}
 use Rattle.mem_values.specs.declared.bucket.Bucket.{Bucket}
 use Rattle.mem_values.specs.declared.cell_id.CellId.{CellId}
 use Rattle.mem_values.specs.declared.cell_id.CellId.TheVariants as id
-use Rattle.mem_values.specs.declared.fact.Fact.{Fact}
 use Rattle.mem_calls.specs.Held.{value_held, as_part, bucket_held, file_held, part_held}
 use Rattle.mem_calls.specs.Changes.{PutsValue, ReplacesBucket, ReplacesFile}
 use Rattle.mem_rename.specs.declared.sides.Move.{Move}
@@ -82,12 +82,12 @@ at_file None change at file = file
 at_file (Some node) change at file = if node.0 == at.0 then change file else file
 
 -- A bucket that is held changes so.
-pub record PutsBucket (nodes : ℕ) (node : NodeId) (number : ℕ) (by : Bucket → Bucket) (before after : Hand Cell Fact) : Type 0 where
+pub record PutsBucket (nodes : ℕ) (node : NodeId) (number : ℕ) (by : Bucket → Bucket) (before after : FileHand) : Type 0 where
   pub change : ReplacesBucket nodes node number before after
   pub is : change.new ≡ by change.old
 
 -- A file that is held changes so.
-pub record PutsFile (nodes : ℕ) (node : NodeId) (by : FileCell → FileCell) (before after : Hand Cell Fact) : Type 0 where
+pub record PutsFile (nodes : ℕ) (node : NodeId) (by : FileCell → FileCell) (before after : FileHand) : Type 0 where
   pub change : ReplacesFile nodes node before after
   pub is : change.new ≡ by change.old
 
@@ -99,7 +99,7 @@ IsOther nodes (id.Pending node) = node.0 < nodes
 IsOther nodes _ = Unit {0}
 
 -- The buckets and files that a core holds change so, and nothing else does.
-pub record ChangesHeld (nodes : ℕ) (bucket : NodeId → ℕ → Bucket → Bucket) (file : NodeId → FileCell → FileCell) (before after : Hand Cell Fact) : Type 0 where
+pub record ChangesHeld (nodes : ℕ) (bucket : NodeId → ℕ → Bucket → Bucket) (file : NodeId → FileCell → FileCell) (before after : FileHand) : Type 0 where
   pub frame : after ≡ record before { held = after.held }
   pub places : places_of after.held ≡ places_of before.held
   pub buckets : (at : NodeId) (n : ℕ) → at.0 < nodes → n < 8 → bucket_held nodes after.held at n ≡ option_map (bucket at n) (bucket_held nodes before.held at n)
@@ -115,7 +115,7 @@ bucket_moved move plan at n bucket =
     (at_bucket move.directory (name_bucket move.name) (without_row move.name) at n bucket))
 
 -- The own log that is held has the same changes, and where that is not refused room for three more of either directory.
-pub record KeepsPart (nodes : ℕ) (before after : Hand Cell Fact) : Type 0 where
+pub record KeepsPart (nodes : ℕ) (before after : FileHand) : Type 0 where
   pub part : PartCell
   pub was : part_held nodes before.held before.view.core ≡ Some part
   pub value : Cell
@@ -126,7 +126,7 @@ pub record KeepsPart (nodes : ℕ) (before after : Hand Cell Fact) : Type 0 wher
   pub made : next.made ≡ part.made
 
 -- The same, and there is room for three more changes of either directory.
-pub record MakesRoom (nodes : ℕ) (move : Move) (before after : Hand Cell Fact) : Type 0 where
+pub record MakesRoom (nodes : ℕ) (move : Move) (before after : FileHand) : Type 0 where
   pub keeps : KeepsPart nodes before after
   pub old : 3 ≤ room_kept keeps.next.log move.directory.0
   pub new : 3 ≤ room_kept keeps.next.log move.to_directory.0
@@ -139,13 +139,13 @@ pub record CanChange (nodes : ℕ) (move : Move) (plan : Plan) (held : List (Hel
   pub file : MatchOption plan.file Unit (λ node. IsSome (file_held nodes held node))
 
 -- A core has made ready for a child to move: its log has room, and the new row is in its bucket.
-pub record IsPrepared (nodes : ℕ) (move : Move) (shift : Shift) (before : Hand Cell Fact) (noted : Noted) (after : Hand Cell Fact) : Type 0 where
+pub record IsPrepared (nodes : ℕ) (move : Move) (shift : Shift) (before : FileHand) (noted : Noted) (after : FileHand) : Type 0 where
   pub noted_is : IsNotedMove move noted
-  pub mid : Hand Cell Fact
+  pub mid : FileHand
   pub room : MakesRoom nodes move before mid
   pub row : PutsBucket nodes move.to_directory (name_bucket move.to_name) (with_row shift.child_is_directory move.to_name shift.child.0) mid after
 
 -- the lock has this stamp, where a directory came to another one
-abbrev pub SetsLock : ℕ → Bool → Stamp → Hand Cell Fact → Hand Cell Fact → Type 0
+abbrev pub SetsLock : ℕ → Bool → Stamp → FileHand → FileHand → Type 0
 SetsLock nodes true stamp before after = PutsValue nodes id.Lock (cell.Lock (record { moved = Some stamp })) before after
 SetsLock nodes false stamp before after = after ≡ before

@@ -8,13 +8,11 @@ use Rattle.disk_nodes.specs.OldKept.{OldKept}
 use Rattle.tree_laws.specs.Tree.{TreeState}
 use Rattle.tree_laws.specs.Lock.{EndsAtRoot, AreHolders}
 use Rattle.stamp_table.specs.declared.held.HeldCell.{HeldCell}
-use Rattle.stamp_table.specs.Hand.{Hand}
-use Rattle.stamp_table.specs.Table.{TableState}
+use Rattle.mem_values.specs.Start.{FileHand, FileState}
 use Rattle.mem_values.specs.declared.cell.Cell.{Cell}
 use Rattle.mem_values.specs.declared.cell.FileCell.{FileCell}
 use Rattle.mem_values.specs.declared.cell_id.CellId.TheVariants as id
 use Rattle.mem_values.specs.declared.bucket.Bucket.{Bucket}
-use Rattle.mem_values.specs.declared.fact.Fact.{Fact}
 use Rattle.mem_values.specs.Laws.{MayMeet}
 use Rattle.mem_calls.specs.Held.{bucket_held, file_held, HoldsPart}
 use Rattle.mem_calls.specs.Working.{IsWorking}
@@ -66,11 +64,12 @@ pub record AreSidesWithin (nodes : ℕ) (move : Move) : Type 0 where
   pub old : move.directory.0 < nodes
   pub new : move.to_directory.0 < nodes
 
--- A core holds what a rename asks for by what it holds: both buckets, its plan's cells and its log; and under the lock, where it needs
--- that, it has read the directories above the new one up to the root.
-pub record HoldsRename (given : ℕ → Option OldKept) (t : TableState) (nodes : ℕ) (move : Move) (plan : Plan) (above : List ℕ)
-    (hand : Hand Cell Fact) : Type 0 where
+-- A core, no fsync of which waits for its answer, holds what a rename asks for by what it holds: both buckets, its plan's cells and its
+-- log; and under the lock, where it needs that, it has read the directories above the new one up to the root.
+pub record HoldsRename (given : ℕ → Option OldKept) (t : FileState) (nodes : ℕ) (move : Move) (plan : Plan) (above : List ℕ)
+    (hand : FileHand) : Type 0 where
   pub work : IsWorking given t hand
+  pub answered : hand.waiting ≡ None
   pub part : HoldsPart nodes hand
   pub cells : HoldsCells nodes hand.held (asked_cells move plan)
   pub lock : is_some plan.comes ≡ true → HoldsCell nodes hand.held id.Lock
@@ -79,7 +78,7 @@ pub record HoldsRename (given : ℕ → Option OldKept) (t : TableState) (nodes 
   pub asked : plan ≡ plan_by (look_seen (sight_of nodes hand.held move plan above) move) move
 
 -- A tree that a core may meet which has read a way where it needs one: its values show it, and the way is the holders.
-pub record MayMeetOn (plan : Plan) (node : ℕ) (above : List ℕ) (hand : Hand Cell Fact) (tree : TreeState) : Type 0 where
+pub record MayMeetOn (plan : Plan) (node : ℕ) (above : List ℕ) (hand : FileHand) (tree : TreeState) : Type 0 where
   pub meets : MayMeet hand.view hand.held tree
   pub holders : is_some plan.comes ≡ true → AreHolders tree node above
 

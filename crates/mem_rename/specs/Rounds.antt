@@ -4,11 +4,8 @@ use Rattle.sfs_base.specs.declared.numbers.NodeId.{NodeId}
 use Rattle.disk_nodes.specs.OldKept.{OldKept}
 use Rattle.tree_laws.specs.Lock.{EndsAtRoot}
 use Rattle.stamp_table.specs.Ascending.{LiesAbove}
-use Rattle.stamp_table.specs.Hand.{Hand}
-use Rattle.stamp_table.specs.Table.{TableState}
-use Rattle.mem_values.specs.declared.cell.Cell.{Cell}
+use Rattle.mem_values.specs.Start.{FileHand, FileState}
 use Rattle.mem_values.specs.declared.cell_id.CellId.TheVariants as id
-use Rattle.mem_values.specs.declared.fact.Fact.{Fact}
 use Rattle.mem_values.specs.Laws.{MayMeet}
 use Rattle.mem_calls.specs.Outcome.{IsRefusedMemory}
 use Rattle.mem_rename.specs.Ready.{HoldsRename}
@@ -27,8 +24,8 @@ pub record IsPlanWithin (nodes : ℕ) (plan : Plan) : Type 0 where
 
 -- A core holds what a rename asks for by a plan but for its log, for which it has room, and has read the way up where it needs that. It may meet
 -- the tree that it has seen.
-pub record HoldsRound (given : ℕ → Option OldKept) (t : TableState) (nodes : ℕ) (move : Move) (plan : Plan) (above : List ℕ)
-    (before after : Hand Cell Fact) : Type 0 where
+pub record HoldsRound (given : ℕ → Option OldKept) (t : FileState) (nodes : ℕ) (move : Move) (plan : Plan) (above : List ℕ)
+    (before after : FileHand) : Type 0 where
   pub work : IsWorking given t after
   pub on : WorksOn before after
   pub cells : HoldsCells nodes after.held (asked_cells move plan)
@@ -40,9 +37,9 @@ pub record HoldsRound (given : ℕ → Option OldKept) (t : TableState) (nodes :
   pub room : 0 < after.room
 
 -- A core has come to hold all that its rename asks for. It may have let go of all and begun again before.
-pub record SettlesRename (given : ℕ → Option OldKept) (t : TableState) (nodes : ℕ) (move : Move) (plan : Plan) (above : List ℕ)
-    (before after : Hand Cell Fact) : Type 0 where
-  pub begun : Hand Cell Fact
+pub record SettlesRename (given : ℕ → Option OldKept) (t : FileState) (nodes : ℕ) (move : Move) (plan : Plan) (above : List ℕ)
+    (before after : FileHand) : Type 0 where
+  pub begun : FileHand
   pub again : IsRefusedMemory t before begun
   pub on : WorksOn begun after
   pub within : IsPlanWithin nodes plan

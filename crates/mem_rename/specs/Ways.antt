@@ -15,11 +15,11 @@ use Rattle.mem_values.specs.Places.{node_count, cell_place}
 use Rattle.mem_values.specs.Laws.{KnowsCell, MayMeet}
 use Rattle.mem_values.specs.Stands.{ShowsBucket}
 use Rattle.mem_values.specs.declared.bucket.Bucket.{Bucket}
-use Rattle.stamp_table.specs.Hand.{Hand}
 use Rattle.sfs_base.specs.declared.numbers.NodeId.{NodeId}
 use Rattle.mem_calls.specs.Working.{IsOfKind}
 use Rattle.mem_rename.specs.Sights.{IsWay}
 use mathlib.Core.List.{IsPrefix}
+use Rattle.mem_values.specs.Start.{FileHand}
 
 -- the last of the directories read above a node, and the node itself where none is read yet: the one of which a bucket is read next
 abbrev pub last_read : ℕ → List ℕ → ℕ
@@ -34,30 +34,30 @@ pub record HasRead (given : ℕ → Option OldKept) (view : View TreeState (Even
   pub holders : AreHolders (tree_after view.first (calls_in view.seen)) node above
 
 -- A core holds the lock of the tree, and no other cell.
-pub record HoldsLock (hand : Hand Cell Fact) : Type 0 where
+pub record HoldsLock (hand : FileHand) : Type 0 where
   pub lock : HeldCell Cell
   pub alone : hand.held ≡ lock ∷ []
   pub place : lock.place ≡ 0
   pub kind : IsOfKind id.Lock lock.value
 
 -- A core has seen more of the history, and is as before otherwise.
-pub record ReadsOn (before after : Hand Cell Fact) : Type 0 where
+pub record ReadsOn (before after : FileHand) : Type 0 where
   pub frame : record after { view = before.view } ≡ before
   pub view : record after.view { seen = before.view.seen } ≡ before.view
   pub seen : IsPrefix before.view.seen after.view.seen
   pub legal : IsLegal before.view.first (calls_in after.view.seen)
 
 -- the tree after all that a core has seen
-abbrev pub tree_seen : Hand Cell Fact → TreeState
+abbrev pub tree_seen : FileHand → TreeState
 tree_seen hand = tree_after hand.view.first (calls_in hand.view.seen)
 
 -- What a core has seen is legal, and the tree after it is one that the core may meet.
-pub record HasMet (hand : Hand Cell Fact) : Type 0 where
+pub record HasMet (hand : FileHand) : Type 0 where
   pub legal : IsLegal hand.view.first (calls_in hand.view.seen)
   pub met : MayMeet hand.view hand.held (tree_seen hand)
 
 -- A core has read on, and found where a directory stands, by a bucket of it.
-pub record SawStanding (node : ℕ) (before : Hand Cell Fact) (found : Option NodeId) (after : Hand Cell Fact) : Type 0 where
+pub record SawStanding (node : ℕ) (before : FileHand) (found : Option NodeId) (after : FileHand) : Type 0 where
   pub on : ReadsOn before after
   pub met : MayMeet after.view [] (tree_seen after)
   pub bucket : Bucket
@@ -65,5 +65,5 @@ pub record SawStanding (node : ℕ) (before : Hand Cell Fact) (found : Option No
   pub stands : found ≡ bucket.stands
 
 -- The directories above one have been read up to the root.
-abbrev pub HasReadAll : Hand Cell Fact → ℕ → List ℕ → Type 0
+abbrev pub HasReadAll : FileHand → ℕ → List ℕ → Type 0
 HasReadAll hand node above = IsWay (tree_seen hand) node above

@@ -2,6 +2,7 @@
 ghost use Rattle.std.specs.Prelude.{◌≡◌, ◌<◌, map};
 ghost use Rattle.tree_laws.specs.NameRow.{node_number};
 ghost use Rattle.tree_laws.specs.Verdict.{answered};
+ghost use Rattle.mem_values.specs.Start.{given_by};
 ghost use Rattle.mem_calls.specs.Table.{IsFileTable};
 ghost use Rattle.mem_calls.specs.Reply.{reply_of};
 ghost use Rattle.mem_calls.specs.Outcome.{IsAnswered};
@@ -11,15 +12,15 @@ ghost use Rattle.mem_rename.specs.Ready.{sight_of, AreSidesWithin, HoldsRename};
 use crate::plans::Plan;
 use crate::sides::Move;
 use mem_calls::{Short, add_entry};
-use mem_values::{FileCore, FileShared, Given};
+use mem_values::{FileCore, FileShared};
 use sfs_base::NodeId;
 use std::alloc::Global;
 use tree_laws::Changes;
 
 /// Stamps a rename that changes nothing with its answer, counts its entry, and lets go of all cells. It takes no memory.
-pub(crate) fn answer<T: Given>(
+pub(crate) fn answer(
     alloc: Global,
-    shared: &FileShared<T>,
+    shared: &FileShared,
     core: &mut FileCore,
     nodes: u32,
     move_: Move,
@@ -29,14 +30,14 @@ pub(crate) fn answer<T: Given>(
 )
     requires table { IsFileTable shared.now nodes }
     requires within { AreSidesWithin nodes move_ }
-    requires ready { HoldsRename T.given shared.now nodes move_ plan (map node_number above.now) core.old }
+    requires ready { HoldsRename (given_by shared.now) shared.now nodes move_ plan (map node_number above.now) core.old }
     requires spare { 0 < core.old.spare }
     requires answers { rename_by (sight_of nodes core.old.held move_ plan (map node_number above.now)) move_ ≡ answered (reply_of short) }
     ensures { IsAnswered shared.now (rename_call move_) (reply_of short) core.old core.new }
 {
     let _plan = plan;
     let _above = above.len();
-    core.events_are_few();
+    core.calls_are_few();
     core.stamp(shared, move_.into_call(), short.reply());
     add_entry(core, nodes, Changes::new(alloc));
     core.let_go(shared, 0);

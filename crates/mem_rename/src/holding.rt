@@ -1,12 +1,13 @@
 // Cells that a rename holds, in the order of their places.
 ghost use Rattle.std.specs.Prelude.{◌≡◌, ◌+◌, ◌*◌, ◌<◌, ◌≤◌, length};
 ghost use Rattle.stamp_table.specs.Ascending.{LiesAbove};
+ghost use Rattle.mem_values.specs.Start.{given_by};
 ghost use Rattle.mem_calls.specs.Table.{IsFileTable};
 ghost use Rattle.mem_calls.specs.Working.{IsWorking};
 ghost use Rattle.mem_rename.specs.Holding.{AreTreeCells, is_before, nearer, IsNextAbove, HoldsAsked};
 
 use mem_calls::hold_more;
-use mem_values::{CellId, FileCore, FileShared, Given};
+use mem_values::{CellId, FileCore, FileShared};
 use std::sync::Wait;
 
 // Whether a place lies before that of a cell that may be there.
@@ -43,19 +44,19 @@ fn next_above(cells: &[CellId], nodes: u32, last: usize) -> Option<CellId>
 }
 
 /// Holds these cells more, the least place first, one that is named twice once. It waits while another core has one of them.
-pub(crate) fn hold_asked<R: Wait, T: Given>(
+pub(crate) fn hold_asked<R: Wait>(
     rt: &R,
-    shared: &FileShared<T>,
+    shared: &FileShared,
     core: &mut FileCore,
     nodes: u32,
     cells: &[CellId],
 )
     requires table { IsFileTable shared.now nodes }
-    requires work { IsWorking T.given shared.now core.old }
+    requires work { IsWorking (given_by shared.now) shared.now core.old }
     requires cells { AreTreeCells nodes cells.now }
     requires above { LiesAbove 16 core.old.view.held }
     requires room { length cells.now ≤ core.old.room }
-    ensures work { IsWorking T.given shared.now core.new }
+    ensures work { IsWorking (given_by shared.now) shared.now core.new }
     ensures holds { HoldsAsked nodes cells.now core.old core.new }
     ensures room { core.old.room ≤ core.new.room + length cells.now }
 {

@@ -4,6 +4,7 @@ ghost use Rattle.tree_laws.specs.NameRow.{node_number};
 ghost use Rattle.tree_laws.specs.Effect.{Moves as MovesEffect};
 ghost use Rattle.tree_laws.specs.Verdict.{done};
 ghost use Rattle.tree_laws.specs.declared.reply.Reply.TheVariants as reply;
+ghost use Rattle.mem_values.specs.Start.{given_by};
 ghost use Rattle.mem_values.specs.declared.cell_id.CellId.TheVariants as id;
 ghost use Rattle.mem_calls.specs.Table.{IsFileTable};
 ghost use Rattle.mem_calls.specs.Held.{value_held};
@@ -24,7 +25,7 @@ use crate::shifts::{Shift, shifted};
 use crate::sides::Move;
 use crate::sights::look_in;
 use mem_calls::{add_entry, put};
-use mem_values::{Cell, CellId, FileCore, FileShared, Given, TreeLock};
+use mem_values::{Cell, CellId, FileCore, FileShared, TreeLock};
 use sfs_base::{NoMemory, NodeId, NodeList, Stamp};
 use std::alloc::Global;
 use tree_laws::{Ancestors, Reply};
@@ -85,9 +86,9 @@ fn way_of(alloc: Global, comes: bool, above: Vec<NodeId>) -> Ancestors
 
 /// Makes ready for a child to move, changes what is held, stamps the rename, sets the lock where a directory comes to another one, counts
 /// the entry, and lets go of all cells. Where it is refused memory the call is given up before its stamp.
-pub(crate) fn move_child<T: Given>(
+pub(crate) fn move_child(
     alloc: Global,
-    shared: &FileShared<T>,
+    shared: &FileShared,
     core: &mut FileCore,
     nodes: u32,
     move_: Move,
@@ -98,13 +99,13 @@ pub(crate) fn move_child<T: Given>(
     requires table { IsFileTable shared.now nodes }
     requires within { AreSidesWithin nodes move_ }
     requires plan { IsPlanWithin nodes plan }
-    requires ready { HoldsRename T.given shared.now nodes move_ plan (map node_number above.items) core.old }
+    requires ready { HoldsRename (given_by shared.now) shared.now nodes move_ plan (map node_number above.items) core.old }
     requires spare { 0 < core.old.spare }
     requires moves { rename_by (sight_of nodes core.old.held move_ plan (map node_number above.items)) move_
         ≡ done (MovesEffect move_.directory.0 move_.name move_.to_directory.0 move_.to_name child.0) }
     ensures { MatchResult result (λ _. IsAnswered shared.now (rename_call move_) reply.Ok core.old core.new) (λ _. IsRefusedMemory shared.now core.old core.new) }
 {
-    core.events_are_few();
+    core.calls_are_few();
     let comes = plan.comes.is_some();
     let shift = shift_in(core, nodes, &move_, plan, child);
     let noted = prepare(alloc, shared, core, nodes, &move_, shift)?;

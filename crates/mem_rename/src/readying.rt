@@ -1,7 +1,8 @@
 // What may be refused memory of a child that moves, done before the stamp: the new row last, so that nothing has to be taken back.
-ghost use Rattle.std.specs.Prelude.{◌≡◌, ◌≤◌, IsSome, OnOk, MatchResult};
+ghost use Rattle.std.specs.Prelude.{◌≡◌, ◌≤◌, IsSome, OnOk, MatchResult, None};
 ghost use Rattle.sfs_base.specs.Name.{bucket};
 ghost use Rattle.mem_cells.specs.Part.{IsSamePart, room_kept};
+ghost use Rattle.mem_values.specs.Start.{given_by};
 ghost use Rattle.mem_calls.specs.Table.{IsFileTable};
 ghost use Rattle.mem_calls.specs.Held.{bucket_held, HoldsPart};
 ghost use Rattle.mem_calls.specs.Outcome.{IsRefusedMemory};
@@ -15,7 +16,7 @@ use crate::shifts::{Noted, Shift, note};
 use crate::sides::Move;
 use mem_calls::{put, take_part};
 use mem_cells::LogPart;
-use mem_values::{Cell, CellId, FileCore, FileShared, Given, PartCell};
+use mem_values::{Cell, CellId, FileCore, FileShared, PartCell};
 use sfs_base::NoMemory;
 use std::alloc::Global;
 
@@ -55,16 +56,17 @@ fn reserve_log(core: &mut FileCore, nodes: u32, move_: &Move) -> Result<(), NoMe
 }
 
 /// Makes ready for a child to move. Where it is refused memory the call is given up.
-pub(crate) fn prepare<T: Given>(
+pub(crate) fn prepare(
     alloc: Global,
-    shared: &FileShared<T>,
+    shared: &FileShared,
     core: &mut FileCore,
     nodes: u32,
     move_: &Move,
     shift: Shift,
 ) -> Result<Noted, NoMemory>
     requires table { IsFileTable shared.now nodes }
-    requires work { IsWorking T.given shared.now core.old }
+    requires work { IsWorking (given_by shared.now) shared.now core.old }
+    requires answered { core.old.waiting ≡ None }
     requires within { AreSidesWithin nodes move_.now }
     requires part { HoldsPart nodes core.old }
     requires held { IsSome (bucket_held nodes core.old.held move_.now.to_directory (bucket move_.now.to_name)) }

@@ -12,7 +12,7 @@ use crate::moving::move_child;
 use crate::settling::{decide_in, settle};
 use crate::sides::Move;
 use mem_calls::{answer_call, directory_fault_in, hold_directory, hold_part};
-use mem_values::{FileCore, FileShared, Given};
+use mem_values::{FileCore, FileShared};
 use sfs_base::{Gate, NoMemory, bucket_of};
 use std::alloc::Global;
 use std::sync::Wait;
@@ -32,10 +32,10 @@ fn fault_or(fault: Option<Code>) -> Code
 }
 
 // A rename of which a directory has a number that the table does not have: the old directory's fault, or no such entry.
-fn answer_outside<R: Wait, T: Given, G: Gate>(
+fn answer_outside<R: Wait, G: Gate>(
     rt: &R,
     alloc: Global,
-    shared: &FileShared<T>,
+    shared: &FileShared,
     core: &mut FileCore,
     nodes: u32,
     move_: Move,
@@ -66,10 +66,10 @@ fn answer_outside<R: Wait, T: Given, G: Gate>(
 /// Gives the row of a name in a directory to another name, in the same directory or another one, in place of what that named. It holds
 /// the cells that it reads and changes, under the lock of the tree where a directory comes to another one. It may wait. Only want of
 /// memory refuses it.
-pub fn rename<R: Wait, T: Given, G: Gate>(
+pub fn rename<R: Wait, G: Gate>(
     rt: &R,
     alloc: Global,
-    shared: &FileShared<T>,
+    shared: &FileShared,
     core: &mut FileCore,
     nodes: u32,
     move_: Move,

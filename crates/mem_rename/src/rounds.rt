@@ -1,8 +1,9 @@
 // All that a rename asks for by a plan but for its log, held; or nothing, where it has to begin again or was refused memory.
-ghost use Rattle.std.specs.Prelude.{◌≡◌, ◌+◌, ◌<◌, ◌≤◌, true, map, IfOk, IfErr, MatchOption};
+ghost use Rattle.std.specs.Prelude.{◌≡◌, ◌+◌, ◌<◌, ◌≤◌, true, map, None, IfOk, IfErr, MatchOption};
 ghost use Rattle.tree_laws.specs.NameRow.{node_number};
 ghost use Rattle.stamp_table.specs.Ascending.{LiesAbove};
 ghost use Rattle.stamp_table.specs.Table.{IsBetweenCalls};
+ghost use Rattle.mem_values.specs.Start.{given_by};
 ghost use Rattle.mem_calls.specs.Table.{IsFileTable};
 ghost use Rattle.mem_calls.specs.Outcome.{IsRefusedMemory};
 ghost use Rattle.mem_calls.specs.Working.{IsWorking, WorksOn};
@@ -17,24 +18,25 @@ use crate::renaming::RENAME_CELLS;
 use crate::sides::Move;
 use crate::ways::read_way;
 use mem_calls::hold_more;
-use mem_values::{CellId, FileCore, FileShared, Given};
+use mem_values::{CellId, FileCore, FileShared};
 use sfs_base::{NoMemory, NodeId};
 use std::alloc::Global;
 use std::sync::Wait;
 
 /// Lets go of all. No call is made.
-pub(crate) fn give_up<T: Given>(shared: &FileShared<T>, core: &mut FileCore)
-    requires { IsWorking T.given shared.now core.old }
+pub(crate) fn give_up(shared: &FileShared, core: &mut FileCore)
+    requires work { IsWorking (given_by shared.now) shared.now core.old }
+    requires answered { core.old.waiting ≡ None }
     ensures { IsRefusedMemory shared.now core.old core.new }
 {
     core.let_go(shared, 0);
 }
 
 // Holds the lock where a directory would come to another one, and reads the way up. None, where that breaks off.
-fn hold_lock<R: Wait, T: Given>(
+fn hold_lock<R: Wait>(
     rt: &R,
     alloc: Global,
-    shared: &FileShared<T>,
+    shared: &FileShared,
     core: &mut FileCore,
     nodes: u32,
     node: NodeId,
@@ -44,7 +46,7 @@ fn hold_lock<R: Wait, T: Given>(
     requires core { IsBetweenCalls shared.now core.old }
     requires node { node.0 < nodes }
     requires room { 2 ≤ core.old.room }
-    ensures work { IsWorking T.given shared.now core.new }
+    ensures work { IsWorking (given_by shared.now) shared.now core.new }
     ensures on { WorksOn core.old core.new }
     ensures low { LiesAbove 16 core.new.view.held }
     ensures room { core.old.room ≤ core.new.room + 1 }
@@ -59,10 +61,10 @@ fn hold_lock<R: Wait, T: Given>(
 }
 
 /// Holds all that a rename asks for by a plan but for its log, and reads the way up where it needs that. None, where it has to begin again.
-pub(crate) fn hold_round<R: Wait, T: Given>(
+pub(crate) fn hold_round<R: Wait>(
     rt: &R,
     alloc: Global,
-    shared: &FileShared<T>,
+    shared: &FileShared,
     core: &mut FileCore,
     nodes: u32,
     move_: &Move,
@@ -75,7 +77,7 @@ pub(crate) fn hold_round<R: Wait, T: Given>(
     requires room { RENAME_CELLS ≤ core.old.room }
     ensures held { IfOk result (λ way. MatchOption way
         (IsRefusedMemory shared.now core.old core.new)
-        (λ above. HoldsRound T.given shared.now nodes move_.now plan (map node_number above.items) core.old core.new)) }
+        (λ above. HoldsRound (given_by shared.now) shared.now nodes move_.now plan (map node_number above.items) core.old core.new)) }
     ensures refused { IfErr result (λ fault. IsRefusedMemory shared.now core.old core.new) }
 {
     let cells = asked(alloc, move_, plan)?;

@@ -5,6 +5,7 @@ ghost use Rattle.tree_laws.specs.NameRow.{node_number};
 ghost use Rattle.stamp_table.specs.Ascending.{LiesAbove};
 ghost use Rattle.stamp_table.specs.Events.{calls_in};
 ghost use Rattle.stamp_table.specs.Table.{IsBetweenCalls};
+ghost use Rattle.mem_values.specs.Start.{given_by};
 ghost use Rattle.mem_calls.specs.Table.{IsFileTable};
 ghost use Rattle.mem_calls.specs.Held.{HoldsPart};
 ghost use Rattle.mem_calls.specs.Outcome.{IsRefusedMemory};
@@ -23,24 +24,24 @@ use crate::rounds::{give_up, hold_round};
 use crate::sides::Move;
 use crate::sights::{look_in, next_plan, reads_in};
 use mem_calls::hold_more;
-use mem_values::{CellId, FileCore, FileShared, Given};
+use mem_values::{CellId, FileCore, FileShared};
 use sfs_base::{Gate, NoMemory, NodeId, Place};
 use std::alloc::Global;
 use std::sync::Wait;
 
 // Holds the own log, above all other cells.
-fn hold_own<R: Wait, T: Given, G: Gate>(
+fn hold_own<R: Wait, G: Gate>(
     rt: &R,
-    shared: &FileShared<T>,
+    shared: &FileShared,
     core: &mut FileCore,
     nodes: u32,
     gate: &G,
 )
     requires table { IsFileTable shared.now nodes }
-    requires work { IsWorking T.given shared.now core.old }
+    requires work { IsWorking (given_by shared.now) shared.now core.old }
     requires below { LiesAbove (32 + 10 * nodes) core.old.view.held }
     requires room { 0 < core.old.room }
-    ensures work { IsWorking T.given shared.now core.new }
+    ensures work { IsWorking (given_by shared.now) shared.now core.new }
     ensures on { WorksOn core.old core.new }
     ensures still { StillHolds nodes core.old core.new }
     ensures part { HoldsPart nodes core.new }
@@ -54,10 +55,10 @@ fn hold_own<R: Wait, T: Given, G: Gate>(
 
 /// Holds all that a rename asks for by what is held: it begins again as long as that is more than the plan has, or the way up broke off.
 /// Where it begins again it has let go of all, and made no call.
-pub(crate) fn settle<R: Wait, T: Given, G: Gate>(
+pub(crate) fn settle<R: Wait, G: Gate>(
     rt: &R,
     alloc: Global,
-    shared: &FileShared<T>,
+    shared: &FileShared,
     core: &mut FileCore,
     nodes: u32,
     move_: &Move,
@@ -68,7 +69,7 @@ pub(crate) fn settle<R: Wait, T: Given, G: Gate>(
     requires within { AreSidesWithin nodes move_.now }
     requires room { RENAME_CELLS ≤ core.old.room }
     ensures { MatchResult result
-        (λ held. SettlesRename T.given shared.now nodes move_.now held.0 (map node_number held.1.items) core.old core.new)
+        (λ held. SettlesRename (given_by shared.now) shared.now nodes move_.now held.0 (map node_number held.1.items) core.old core.new)
         (λ fault. IsRefusedMemory shared.now core.old core.new) }
 {
     let mut plan = Plan::none();

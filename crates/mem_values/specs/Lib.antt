@@ -5,6 +5,7 @@ pub mod Inode
 pub mod Laws
 pub mod Logs
 pub mod Places
+pub mod Start
 pub mod Stands
 pub mod Telling
 pub mod Touches

@@ -1,29 +1,20 @@
 // What the cells of a file tree stand for.
-ghost use Rattle.std.specs.Prelude.{ℕ, Option, None};
-ghost use Rattle.disk_nodes.specs.OldKept.{OldKept};
+ghost use Rattle.std.specs.Prelude.{[]};
 ghost use Rattle.mem_values.specs.Facts.{IsLawfulLog};
 ghost use Rattle.mem_values.specs.Stands.{StandsAt};
+ghost use Rattle.mem_values.specs.Start.{given_in};
 
 use crate::{Cell, Fact};
+use disk_nodes::OldDisk;
 use stamp_table::Meaning;
-use std::marker::{Brand, PhantomData};
 
-/// What the disk had of each node as the table began.
-pub trait Given {
-    ghost given: { ℕ → Option OldKept };
-}
+/// The meaning of the cells of a file tree. Given is what the disk has of its nodes as the table begins.
+pub struct FileTable;
 
-impl Given for Brand {
-    ghost given = { λ node. None };
-}
+impl Meaning<Cell, Fact, OldDisk> for FileTable {
+    ghost lawful = { λ given first log. IsLawfulLog (given_in given.items) first log };
 
-/// The meaning of the cells of a file tree.
-pub struct FileTable<G> {
-    given: PhantomData<G>,
-}
+    ghost stands = { λ given first log place value. StandsAt (given_in given.items) first log place value };
 
-impl<G: Given> Meaning<Cell, Fact> for FileTable<G> {
-    ghost lawful = { λ first log. IsLawfulLog G.given first log };
-
-    ghost stands = { λ first log place value. StandsAt G.given first log place value };
+    ghost nothing = { record { items = []; spare = 0 } };
 }

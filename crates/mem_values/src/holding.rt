@@ -6,31 +6,32 @@ ghost use Rattle.mem_values.specs.Places.{cell_place};
 ghost use Rattle.mem_values.specs.Stands.{StandsAt};
 ghost use Rattle.mem_values.specs.Facts.{IsLawfulLog};
 
-use crate::{Cell, CellId, Fact, FileTable, Given};
+use crate::{Cell, CellId, Fact, FileTable};
+use disk_nodes::OldDisk;
 use sfs_base::NodeId;
 use stamp_table::{Core, Shared};
 use std::sync::Wait;
 
 /// A table over a file tree.
-pub type FileShared<G> = Shared<Cell, Fact, FileTable<G>>;
+pub type FileShared = Shared<Cell, Fact, OldDisk, FileTable>;
 
 /// A core of such a table.
-pub type FileCore = Core<Cell, Fact>;
+pub type FileCore = Core<Cell, Fact, OldDisk>;
 
 /// Holds these cells more, in their order, each above all that the core holds, at a table of so many nodes. It waits while another core
 /// has one of them. It takes no memory.
-pub fn hold_cells<R: Wait, G: Given>(
+pub fn hold_cells<R: Wait>(
     rt: &R,
-    shared: &FileShared<G>,
+    shared: &FileShared,
     core: &mut FileCore,
     nodes: u32,
     cells: &[CellId],
 )
     requires table { core.old.table ≡ shared.now.table }
-    requires within { AreBelow shared.now.table.slots (map (cell_place nodes) cells.now) }
+    requires within { AreBelow shared.now.table.id.slots (map (cell_place nodes) cells.now) }
     requires above { RiseAbove core.old.view.held (map (cell_place nodes) cells.now) }
     requires room { length cells.now ≤ core.old.room }
-    ensures { HoldsAll (IsLawfulLog G.given) (StandsAt G.given) (map (cell_place nodes) cells.now) core.old core.new }
+    ensures { HoldsAll (IsLawfulLog (given_by shared.now)) (StandsAt (given_by shared.now)) (map (cell_place nodes) cells.now) core.old core.new }
 {
     for cell in cells {
         core.hold_one(rt, shared, cell.place(nodes));
@@ -55,6 +56,7 @@ pub fn replace_value(core: &mut FileCore, nodes: u32, cell: CellId, value: Cell)
 }
 
 ghost use Rattle.std.specs.Prelude.{◌<◌, []};
+ghost use Rattle.mem_values.specs.Start.{given_by};
 ghost use Rattle.mem_values.specs.Inode.{has_inode_kept, SawInode};
 ghost use Rattle.mem_values.specs.declared.cell_id.CellId.TheVariants.{Pending};
 
@@ -69,18 +71,18 @@ fn has_inode_in(cell: &Cell) -> bool
 }
 
 /// Whether a node has an inode, as what was flushed of it says when this call holds it. The core holds no cell before and after it.
-pub fn has_inode<R: Wait, G: Given>(
+pub fn has_inode<R: Wait>(
     rt: &R,
-    shared: &FileShared<G>,
+    shared: &FileShared,
     core: &mut FileCore,
     nodes: u32,
     node: NodeId,
 ) -> bool
     requires table { core.old.table ≡ shared.now.table }
-    requires cell { cell_place nodes (Pending node) < shared.now.table.slots }
+    requires cell { cell_place nodes (Pending node) < shared.now.table.id.slots }
     requires idle { (core.old.held ≡ []) × (core.old.view.held ≡ []) }
     requires room { 0 < core.old.room }
-    ensures { SawInode G.given (cell_place nodes (Pending node)) core.old result core.new }
+    ensures { SawInode (given_by shared.now) (cell_place nodes (Pending node)) core.old result core.new }
 {
     let place = CellId::Pending { node }.place(nodes);
     core.hold_one(rt, shared, place);

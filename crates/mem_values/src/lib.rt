@@ -13,5 +13,5 @@ pub use bucket::Bucket;
 pub use cell::{Cell, FileCell, PartCell, Pending, TreeLock};
 pub use cell_id::CellId;
 pub use fact::{Fact, HeldNode};
-pub use file_table::{FileTable, Given};
+pub use file_table::FileTable;
 pub use holding::{FileCore, FileShared, has_inode, hold_cells, replace_value, value_of};

@@ -6,20 +6,18 @@ use Rattle.std.proofs.lemmas.List.Elements.{All-cons, All-nil}
 use lib.ListN.{get_elem?}
 use mathlib.Core.Option.{some, some-injective, some-ne-none}
 use Rattle.atomic_table.specs.Table.{Splits, opening}
-use Rattle.atomic_table.specs.Seated.{TableId}
 use Rattle.tree_laws.specs.Tree.{TreeState}
 use Rattle.stamp_table.specs.declared.event.Event.{Event}
-use Rattle.stamp_table.specs.declared.view.View.{View}
 use Rattle.stamp_table.specs.Rule.{Kept}
 use Rattle.stamp_table.specs.Steps.{gatherer, one_more, newcomer}
-use Rattle.stamp_table.specs.Events.{event_core, is_call, IsLawful, stands_for}
-use Rattle.stamp_table.specs.Hand.{Hand}
+use Rattle.stamp_table.specs.Events.{event_core, is_call, stands_for, SeatView, LawfulFrom, StandsFrom}
+use Rattle.stamp_table.specs.Hand.{Hand, Desk}
 use Rattle.stamp_table.specs.Table.{TableState, IsIdleCore, AreIdleFrom, IsNew, AreNew, IsBetweenCalls, IsSameCore, AreAllCores, first_leads}
 use Rattle.stamp_table.proofs.Gathering.{may_split, begins}
 
 -- the seat that gathers, once so many cores are made
-abbrev pub gatherer_with : {X : Type 0} → TreeState → ℕ → View TreeState (Event X)
-gatherer_with first cores = record (gatherer first) { cores = cores }
+abbrev pub gatherer_with : {X G : Type 0} → TreeState × G → ℕ → SeatView G X
+gatherer_with start cores = record (gatherer start) { cores = cores }
 
 -- words that are all 0
 pub all_zero : (count place : ℕ) → let none : ℕ = 0 in get_or (replicate count none) place none ≡ none
@@ -28,29 +26,6 @@ all_zero (suc count) zero = refl
 all_zero (suc count) (suc place) = all_zero count place
 
 module _ {C X : Type 0} where
-  pub ready_snoc : (table : TableId) (cores number : ℕ) (hands : List (Hand C X)) (hand : Hand C X) → AreIdleFrom table cores number hands
-      → IsIdleCore table cores (number + length hands) hand → AreIdleFrom table cores number (hands ++ hand ∷ [])
-  ready_snoc table cores number [] hand ready next = (subst (λ n. IsIdleCore table cores n hand) (omega arith) next, tt)
-  ready_snoc table cores number (h ∷ hands) hand ready next =
-      (ready.0, ready_snoc table cores (number + 1) hands hand ready.1 (subst (λ n. IsIdleCore table cores n hand) (omega arith) next))
-
-  pub ready_next : (table : TableId) (cores : ℕ) (hands : List (Hand C X)) (hand : Hand C X) → AreIdleFrom table cores 0 hands
-      → IsIdleCore table cores (length hands) hand → AreIdleFrom table cores 0 (hands ++ hand ∷ [])
-  ready_next table cores hands hand ready next = ready_snoc table cores 0 hands hand ready (subst (λ n. IsIdleCore table cores n hand) (omega arith) next)
-
-  pub new_snoc : (first : TreeState) (hands : List (Hand C X)) (hand : Hand C X) → AreNew first hands → IsNew first hand → AreNew first (hands ++ hand ∷ [])
-  new_snoc first [] hand new next = (next, tt)
-  new_snoc first (h ∷ hands) hand new next = (new.0, new_snoc first hands hand new.1 next)
-
-  -- one more core may be made
-  pub asks_split : (lawful : TreeState → List (Event X) → Type 0) (stands : TreeState → List (Event X) → ℕ → C → Type 0) (first : TreeState)
-      (id number cores : ℕ)
-      → number < cores → cores < 256
-      → Splits (Kept event_core is_call (IsLawful lawful) (stands_for stands) first) id (gatherer_with first number) (one_more (gatherer_with first number))
-      (newcomer (gatherer_with first number))
-  asks_split lawful stands first id number cores lt few =
-      may_split event_core is_call (IsLawful lawful) (stands_for stands) first id (gatherer_with first number) refl refl (omega (arith, lt, few))
-
   stood_at : (stands : TreeState → List (Event X) → ℕ → C → Type 0) (first : TreeState) (more : ℕ) (values : List C) (place : ℕ) (value : Option C)
       → get_elem? (map Some values) place ≡ some value
       → ((p : ℕ) (x : C) → slice_get values p ≡ Some x → stands first [] (more + p) x) → stands_for stands first [] (more + place) value
@@ -60,19 +35,44 @@ module _ {C X : Type 0} where
   stood_at stands first more (x ∷ values) (suc place) value at stood = subst (λ p. stands_for stands first [] p value) (omega arith)
       (stood_at stands first (more + 1) values place value at (λ p y is. subst (λ q. stands first [] q y) (omega arith) (stood (suc p) y is)))
 
+module _ {C X G : Type 0} where
+  pub ready_snoc : (table : Desk G) (cores number : ℕ) (hands : List (Hand C X G)) (hand : Hand C X G) → AreIdleFrom table cores number hands
+      → IsIdleCore table cores (number + length hands) hand → AreIdleFrom table cores number (hands ++ hand ∷ [])
+  ready_snoc table cores number [] hand ready next = (subst (λ n. IsIdleCore table cores n hand) (omega arith) next, tt)
+  ready_snoc table cores number (h ∷ hands) hand ready next =
+      (ready.0, ready_snoc table cores (number + 1) hands hand ready.1 (subst (λ n. IsIdleCore table cores n hand) (omega arith) next))
+
+  pub ready_next : (table : Desk G) (cores : ℕ) (hands : List (Hand C X G)) (hand : Hand C X G) → AreIdleFrom table cores 0 hands
+      → IsIdleCore table cores (length hands) hand → AreIdleFrom table cores 0 (hands ++ hand ∷ [])
+  ready_next table cores hands hand ready next = ready_snoc table cores 0 hands hand ready (subst (λ n. IsIdleCore table cores n hand) (omega arith) next)
+
+  pub new_snoc : (first : TreeState) (hands : List (Hand C X G)) (hand : Hand C X G) → AreNew first hands → IsNew first hand
+      → AreNew first (hands ++ hand ∷ [])
+  new_snoc first [] hand new next = (next, tt)
+  new_snoc first (h ∷ hands) hand new next = (new.0, new_snoc first hands hand new.1 next)
+
+  -- one more core may be made
+  pub asks_split : (lawful : G → TreeState → List (Event X) → Type 0) (stands : G → TreeState → List (Event X) → ℕ → C → Type 0) (start : TreeState × G)
+      (id number cores : ℕ)
+      → number < cores → cores < 256
+      → Splits (Kept event_core is_call (LawfulFrom lawful) (StandsFrom stands) start) id (gatherer_with start number) (one_more (gatherer_with start number))
+      (newcomer (gatherer_with start number))
+  asks_split lawful stands start id number cores lt few =
+      may_split event_core is_call (LawfulFrom lawful) (StandsFrom stands) start id (gatherer_with start number) refl refl (omega (arith, lt, few))
+
   -- the rule holds of a table that begins
-  pub asks_new : (lawful : TreeState → List (Event X) → Type 0) (stands : TreeState → List (Event X) → ℕ → C → Type 0) (first : TreeState) (words : List ℕ)
-      (values : List C)
-      → get_or words 0 0 ≡ 0 → length words ≡ 16 + length values → lawful first [] → ((p : ℕ) (x : C) → slice_get values p ≡ Some x → stands first [] p x)
-      → Kept event_core is_call (IsLawful lawful) (stands_for stands) first (opening words (map Some values) (gatherer first))
-  asks_new lawful stands first words values zero_stamp long told stood =
-      begins event_core is_call (IsLawful lawful) (stands_for stands) first words (map Some values) zero_stamp
+  pub asks_new : (lawful : G → TreeState → List (Event X) → Type 0) (stands : G → TreeState → List (Event X) → ℕ → C → Type 0) (start : TreeState × G)
+      (words : List ℕ) (values : List C) → get_or words 0 0 ≡ 0 → length words ≡ 16 + length values → lawful start.1 start.0 []
+      → ((p : ℕ) (x : C) → slice_get values p ≡ Some x → stands start.1 start.0 [] p x)
+      → Kept event_core is_call (LawfulFrom lawful) (StandsFrom stands) start (opening words (map Some values) (gatherer start))
+  asks_new lawful stands start words values zero_stamp long told stood =
+      begins event_core is_call (LawfulFrom lawful) (StandsFrom stands) start words (map Some values) zero_stamp
       (long ∙ ap (λ k. 16 + k) (sym (length-map values Some))) (record { legal_calls = tt; told = told })
-      (λ p x at. subst (λ q. stands_for stands first [] q x) (omega arith)
-      (stood_at stands first 0 values p x at (λ q y is. subst (λ r. stands first [] r y) (omega arith) (stood q y is))))
+      (λ p x at. subst (λ q. stands_for (stands start.1) start.0 [] q x) (omega arith)
+      (stood_at (stands start.1) start.0 0 values p x at (λ q y is. subst (λ r. stands start.1 start.0 [] r y) (omega arith) (stood q y is))))
 
   -- new cores are between two calls
-  pub new_between : (t : TableState) (number : ℕ) (hands : List (Hand C X)) → AreIdleFrom t.table t.cores number hands → AreNew t.first hands
+  pub new_between : (t : TableState G) (number : ℕ) (hands : List (Hand C X G)) → AreIdleFrom t.table t.cores number hands → AreNew t.first hands
       → number + length hands ≤ length t.first.made → All (IsBetweenCalls t) hands
   new_between t number [] idle new within = All-nil (IsBetweenCalls t)
   new_between t number (h ∷ hands) idle new within = All-cons (IsBetweenCalls t) h hands
@@ -87,8 +87,10 @@ module _ {C X : Type 0} where
       (new_between t (number + 1) hands idle.1 new.1 (omega (arith, within)))
 
   -- cores that stay what they are and are between two calls again are still all cores of the table
-  pub idle_again : (t : TableState) (number : ℕ) (before after : List (Hand C X)) → length after ≡ length before → AreIdleFrom t.table t.cores number before
-      → ((place : ℕ) (d : Hand C X) → place < length before → IsSameCore (get_or before place d) (get_or after place d) × ((get_or after place d).held ≡ []))
+  pub idle_again : (t : TableState G) (number : ℕ) (before after : List (Hand C X G)) → length after ≡ length before
+      → AreIdleFrom t.table t.cores number before
+      → ((place : ℕ) (d : Hand C X G) → place < length before → IsSameCore (get_or before place d) (get_or after place d)
+      × ((get_or after place d).held ≡ []))
       → AreIdleFrom t.table t.cores number after
   idle_again t number [] [] long idle same = tt
   idle_again t number [] (a ∷ after) long idle same = absurd (omega (arith, long))
@@ -103,16 +105,18 @@ module _ {C X : Type 0} where
     idle_again t (number + 1) before after (omega (arith, long)) idle.1 (λ place d lt. same (suc place) d (omega (arith, lt))),
   )
 
-  leads_again : (before after : List (Hand C X)) → length after ≡ length before
-      → ((place : ℕ) (d : Hand C X) → place < length before → IsSameCore (get_or before place d) (get_or after place d) × ((get_or after place d).held ≡ []))
+  leads_again : (before after : List (Hand C X G)) → length after ≡ length before
+      → ((place : ℕ) (d : Hand C X G) → place < length before → IsSameCore (get_or before place d) (get_or after place d)
+      × ((get_or after place d).held ≡ []))
       → first_leads before ≡ true → first_leads after ≡ true
   leads_again [] [] long same leads = leads
   leads_again [] (a ∷ after) long same leads = absurd (omega (arith, long))
   leads_again (b ∷ before) [] long same leads = absurd (omega (arith, long))
   leads_again (b ∷ before) (a ∷ after) long same leads = (same 0 b (omega arith)).0.leads ∙ leads
 
-  pub all_again : (t : TableState) (before after : List (Hand C X)) → length after ≡ length before
-      → ((place : ℕ) (d : Hand C X) → place < length before → IsSameCore (get_or before place d) (get_or after place d) × ((get_or after place d).held ≡ []))
+  pub all_again : (t : TableState G) (before after : List (Hand C X G)) → length after ≡ length before
+      → ((place : ℕ) (d : Hand C X G) → place < length before → IsSameCore (get_or before place d) (get_or after place d)
+      × ((get_or after place d).held ≡ []))
       → AreAllCores t before → AreAllCores t after
   all_again t before after long same all = record {
     count = long ∙ all.count;

@@ -1,5 +1,6 @@
 -- A core draws a stamp for its next entry, or tells what takes no stamp.
-use Rattle.std.proofs.Common.{◌≡◌, ◌≢◌, ℕ, suc, ◌+◌, ◌^◌, ◌%◌, ◌<◌, ◌≤◌, Bool, true, false, List, [], ◌∷◌, ◌++◌, length, get_or, set, sym, refl, ap, ◌∙◌, subst, arith, get_or-set_same, length-append}
+use Rattle.std.proofs.Common.{◌≡◌, ◌≢◌, ℕ, suc, ◌+◌, ◌^◌, ◌%◌, ◌<◌, ◌≤◌, Bool, true, false, List, [], ◌∷◌, ◌++◌, get_or, set, sym, refl, ap, ◌∙◌, subst, arith, get_or-set_same, ⊎_elim}
+use Rattle.std.proofs.lemmas.Bool.{cases_Bool}
 use mathlib.Core.Logic.{dite}
 use mathlib.Core.Option.{some}
 use native.Mathlib.Decide.{ℕ_discrete}
@@ -8,8 +9,8 @@ use Rattle.atomic_table.specs.Table.{State, keeps, stepped, Allows}
 use Rattle.stamp_table.specs.declared.view.View.{View}
 use Rattle.stamp_table.specs.Rule.{Has, entries_by, IsAtWork, IsLog, IsKept, Kept, stamps_in}
 use Rattle.stamp_table.specs.Steps.{Adds, Drew, IsPast, MayDraw}
-use Rattle.stamp_table.proofs.Logs.{own_comes, other_comes, few_in_all, known_snoc, known_more, drawer_counts, teller_counts_not, stamps_within}
-use Rattle.stamp_table.proofs.Keeps.{get_elem_within, begins_itself, begins_longer, cells_longer, is_a_core, is_at_work, views_set}
+use Rattle.stamp_table.proofs.Logs.{own_comes, other_comes, few_stamps, known_snoc, known_more, drawer_counts, teller_counts_not}
+use Rattle.stamp_table.proofs.Keeps.{get_elem_within, begins_itself, begins_longer, cells_longer, is_a_core, is_at_work, views_set, holder_is}
 
 module _ {T E S : Type 0} (core_of : E → ℕ) (draws : E → Bool) (legal : T → List E → Type 0) (stands : T → List E → ℕ → S → Type 0) (first : T) where
   abbrev V : Type 0
@@ -18,12 +19,13 @@ module _ {T E S : Type 0} (core_of : E → ℕ) (draws : E → Bool) (legal : T 
   abbrev Keeps : State S V → Type 0
   Keeps = Kept core_of draws legal stands first
 
-  -- What a core asks that draws a stamp: its entry is its own, its list has room, and the entry may come in each history that the core may meet.
+  -- What a core asks that draws a stamp or tells: its entry is its own, it has drawn few stamps where the entry draws one, and the entry
+  -- may come in each history that the core may meet.
   pub record MayStamp (v : V) (entry : ℕ → E) : Type 0 where
     pub lives : v.gone ≡ false
     pub calls : v.gathers ≡ false
     pub own : (number : ℕ) → core_of (entry number) ≡ v.core
-    pub few : length v.mine < 2 ^ 50
+    pub few : (number : ℕ) → draws (entry number) ≡ true → stamps_in draws v.mine < 2 ^ 50
     pub asks : (log : List E) → IsPast core_of draws legal stands v log → MayDraw core_of draws legal stands v entry log
 
   -- the view of a core that has drawn
@@ -55,19 +57,24 @@ module _ {T E S : Type 0} (core_of : E → ℕ) (draws : E → Bool) (legal : T 
     keeps_others : (p : ℕ) (x : S) → (Has v.held p → ⊥) → stands first log p x → stands first (log ++ e ∷ []) p x
     keeps_others p x not = subst (λ f. stands f log p x → stands f (log ++ e ∷ []) p x) work.hand.first_known (asked.keeps p x not)
 
-    small : length log < 2 ^ 60
+    small : stamps_in draws log < 2 ^ 60
     small = let many = kept.log_is.many in
-        let le = few_in_all core_of 256 (2 ^ 50) log (known_more core_of hub.cores 256 log many kept.log_is.known) kept.log_is.few in omega (arith, le)
+        let le = few_stamps core_of draws 256 (2 ^ 50) log (known_more core_of hub.cores 256 log many kept.log_is.known) kept.log_is.few in omega (arith, le)
 
     known_core : core < hub.cores
     known_core = let lt = get_elem_within s.views (suc core) v at in let is = kept.views_are.cores in omega (arith, lt, is)
 
-    few_after : (c : ℕ) → length (entries_by core_of c (log ++ e ∷ [])) ≤ 2 ^ 50
+    few_after : (c : ℕ) → stamps_in draws (entries_by core_of c (log ++ e ∷ [])) ≤ 2 ^ 50
     few_after c = dite (ℕ_discrete core c)
-        (λ is. let l = ap length (own_comes core_of c log e (own_core ∙ is)) in let m = length-append (entries_by core_of c log) (e ∷ []) in
-        let h = ap length work.hand.mine in let few = may.few in
-        let same = ap (λ k. length (entries_by core_of k log)) is in omega (arith, l, m, h, few, same))
-        (λ not. let l = ap length (other_comes core_of c log e (λ is. not (sym own_core ∙ is))) in let few = kept.log_is.few c in omega (arith, l, few))
+        (λ is. let l = ap (stamps_in draws) (own_comes core_of c log e (own_core ∙ is)) in let few = kept.log_is.few c in
+        ⊎_elim
+        (λ does. let m = drawer_counts draws (entries_by core_of c log) e does in let h = ap (stamps_in draws) work.hand.mine in
+        let f = may.few (stamps_in draws log) does in let same = ap (λ k. stamps_in draws (entries_by core_of k log)) is in
+        omega (arith, l, m, h, f, same))
+        (λ tells. let m = teller_counts_not draws (entries_by core_of c log) e tells in omega (arith, l, m, few))
+        (cases_Bool (draws e)))
+        (λ not. let l = ap (stamps_in draws) (other_comes core_of c log e (λ is. not (sym own_core ∙ is))) in let few = kept.log_is.few c in
+        omega (arith, l, few))
 
     log_after : (n : ℕ) → n ≡ stamps_in draws (log ++ e ∷ []) → IsLog core_of draws legal stands first hub.cores (log ++ e ∷ []) (set s.words 0 n)
     log_after n is = record {
@@ -117,7 +124,10 @@ module _ {T E S : Type 0} (core_of : E → ℕ) (draws : E → Bool) (legal : T 
       views_are =
           views_set core_of draws legal stands first log (log ++ e ∷ []) owner owner hub s.views core v (drawing log e v) at drawer_works
           (λ p has. kept.views_are.owned core p v at has)
+          (λ p owned. holder_is core_of draws legal stands first log owner hub s.views core p v at kept.views_are owned)
           (record {
+            saws_stay = λ seen is. begins_longer seen log (e ∷ []) is;
+            back = λ c p not owned. owned;
             lists_stay = λ c lt. other_comes core_of c log e (λ is. let w = work.waits in omega (arith, lt, w, is, own_core));
             others = others_work;
             theirs = λ c p u not there has o. o;
@@ -140,7 +150,7 @@ module _ {T E S : Type 0} (core_of : E → ℕ) (draws : E → Bool) (legal : T 
     }
 
   adds : (slots id : ℕ) (v : V) (carried : List (ℕ × S)) (entry : ℕ → E) (f : ℕ → ℕ) → MayStamp v entry
-      → ((log : List E) → length log < 2 ^ 60 → f (stamps_in draws log) ≡ stamps_in draws (log ++ entry (stamps_in draws log) ∷ []))
+      → ((log : List E) → stamps_in draws log < 2 ^ 60 → f (stamps_in draws log) ≡ stamps_in draws (log ++ entry (stamps_in draws log) ∷ []))
       → Allows Keeps slots id (v, carried) 0 f (Adds core_of draws legal stands entry (v, carried))
   adds slots id v carried entry f may counts s holds wide at _ =
       let log = holds.0 in let owner = holds.1 in let hub = holds.2 in let kept = holds.3 in
@@ -169,8 +179,7 @@ module _ {T E S : Type 0} (core_of : E → ℕ) (draws : E → Bool) (legal : T 
   pub may_draw : (slots id : ℕ) (v : V) (carried : List (ℕ × S)) (entry : ℕ → E) → MayStamp v entry → ((number : ℕ) → draws (entry number) ≡ true)
       → Allows Keeps slots id (v, carried) 0 (λ n. (n + 1) % 2 ^ 64) (Adds core_of draws legal stands entry (v, carried))
   may_draw slots id v carried entry may does = adds slots id v carried entry (λ n. (n + 1) % 2 ^ 64) may
-      (λ log lt. let c = drawer_counts draws log (entry (stamps_in draws log)) (does (stamps_in draws log)) in let w = stamps_within draws log in
-      omega (arith, c, lt, w))
+      (λ log lt. let c = drawer_counts draws log (entry (stamps_in draws log)) (does (stamps_in draws log)) in omega (arith, c, lt))
 
   -- A core may tell what takes no stamp.
   pub may_tell : (slots id : ℕ) (v : V) (carried : List (ℕ × S)) (entry : ℕ → E) → MayStamp v entry → ((number : ℕ) → draws (entry number) ≡ false)

@@ -1,8 +1,8 @@
 -- A core's list gets an entry more.
-use Rattle.std.proofs.Common.{◌≡◌, ℕ, ◌+◌, ◌^◌, ◌<◌, true, List, [], ◌∷◌, ◌++◌, map, length, Option, IsSome, sym, ap, ◌∙◌, subst, refl, arith, length-append, append-nil, Some, None, option_map, ⊎_elim}
+use Rattle.std.proofs.Common.{◌≡◌, ℕ, ◌^◌, ◌<◌, ◌≤◌, true, List, [], ◌∷◌, ◌++◌, map, length, Option, IsSome, sym, ap, ◌∙◌, subst, refl, arith, length-append, append-nil, Some, None, option_map, ⊎_elim}
 use Rattle.std.specs.Prelude.{◌↔◌, IsTrue, if◌then◌else◌}
 use Rattle.std.proofs.lemmas.Bool.{cases_Bool}
-use Rattle.std.proofs.lemmas.List.{map-append}
+use Rattle.std.proofs.lemmas.List.{map-append, length-map}
 use Rattle.std.proofs.lemmas.List.Elements.{filter_map-append}
 use Rattle.atomic_table.specs.Seated.{TableId}
 use Rattle.atomic_table.specs.declared.shared.Seat.{Seat}
@@ -14,19 +14,21 @@ use Rattle.tree_laws.specs.declared.history.Entry.{Entry}
 use Rattle.tree_laws.specs.History.{IsLegal, IsFsyncReply, is_ok_reply}
 use Rattle.stamp_table.specs.declared.event.Event.{Event}
 use Rattle.stamp_table.specs.declared.event.Event.TheVariants.{Called}
-use Rattle.stamp_table.specs.declared.view.View.{View}
+use Rattle.stamp_table.specs.Rule.{stamps_in}
+use Rattle.stamp_table.proofs.Seats.{past_down, draw_up}
+use Rattle.stamp_table.proofs.Calling.{stamps_are_calls}
 use Rattle.stamp_table.specs.declared.held.HeldCell.{HeldCell}
 use Rattle.stamp_table.specs.Ascending.{Falls, AreBelow}
 use Rattle.stamp_table.specs.Steps.{MayDraw, IsPast}
-use Rattle.stamp_table.specs.Events.{event_core, is_call, called, told_by, calls_in, IsLawful, stands_for}
+use Rattle.stamp_table.specs.Events.{event_core, is_call, called, told_by, calls_in, SeatView, tree_view, LawfulFrom, StandsFrom}
 use Rattle.stamp_table.specs.Hand.{IsCore, WaitsWell, spare_of, empty_slots}
-use Rattle.stamp_table.specs.Table.{IsSameSeat, MayCall, MayDrawEntry, AddsEntry, MayTell, MayTellNow, TellsNow, entry_numbered, with_answer}
+use Rattle.stamp_table.specs.Table.{IsSameSeat, MayCall, MayDrawEntry, AddsEntry, MayTell, MayTellNow, TellsNow, LooksNow, entry_numbered, with_answer}
 use Rattle.stamp_table.specs.Answered.{unanswered, IsWellAnswered, AreWellAnswered, AreCallsOf, waits_for_answer}
 use Rattle.stamp_table.proofs.Answered.{last_comes_well, answered_well}
 
 -- where there is room for an entry more, the most that a core may have was not reached
-pub below_most : (capacity entries events : ℕ) → 0 < spare_of capacity entries events → events < 2 ^ 50
-below_most capacity entries events some = grind (arith, some)
+pub below_most : (capacity entries : ℕ) → 0 < spare_of capacity entries → entries < 2 ^ 50
+below_most capacity entries some = grind (arith, some)
 
 well_snoc : (entries : List Entry) (entry : Entry) → AreWellAnswered entries → IsWellAnswered entry → AreWellAnswered (entries ++ entry ∷ [])
 well_snoc [] entry well last = (last, tt)
@@ -74,80 +76,100 @@ module _ {X : Type 0} where
   seen_well first log entry seen is legal =
       last_comes_well first 0 (calls_in log) entry (subst (λ l. IsLegal first l) (ap calls_in is ∙ filter_map-append called log (Called entry ∷ [])) legal)
 
-module _ {C X : Type 0} (lawful : TreeState → List (Event X) → Type 0) (stands : TreeState → List (Event X) → ℕ → C → Type 0)
-    (seat : Seat (Option C) (View TreeState (Event X))) (number events : ℕ) (entries : List Entry) (cells : List (HeldCell C))
-    (core : IsCore seat number entries events cells) (call : Call) (reply : Reply) where
+  -- a core has drawn as many stamps as it has entries
+  pub stamps_of : (mine : List (Event X)) (entries : List Entry) → AreCallsOf mine entries → stamps_in is_call mine ≡ length entries
+  stamps_of mine entries are = let l = ap length are.same in let m = length-map entries unanswered in let n = length-map (calls_in mine) unanswered in
+      let s = stamps_are_calls mine in omega (arith, l, m, n, s)
+
+  pub calls_few : (mine : List (Event X)) (entries : List Entry) → AreCallsOf mine entries → length entries ≤ 2 ^ 50 → length (calls_in mine) ≤ 2 ^ 50
+  calls_few mine entries are few = let s = stamps_of mine entries are in let c = stamps_are_calls mine in omega (arith, s, c, few)
+
+module _ {C X G : Type 0} (lawful : G → TreeState → List (Event X) → Type 0) (stands : G → TreeState → List (Event X) → ℕ → C → Type 0)
+    (seat : Seat (Option C) (SeatView G X)) (number : ℕ) (entries : List Entry) (cells : List (HeldCell C))
+    (core : IsCore seat number entries cells) (call : Call) (reply : Reply) where
   -- a call that may come may be entered
-  pub may_enter : events < 2 ^ 50 → MayCall lawful stands seat.me.0 call reply → MayDrawEntry lawful stands seat.me.0 (entry_numbered number call reply)
+  pub may_enter : length entries < 2 ^ 50 → MayCall (lawful seat.me.0.first.1) (stands seat.me.0.first.1) (tree_view seat.me.0) call reply
+      → MayDrawEntry lawful stands seat.me.0 (entry_numbered number call reply)
   may_enter few may = record {
     own = λ n. sym core.number_known;
-    few = let c = core.counted in omega (arith, c, few);
+    few = let c = stamps_of seat.me.0.mine entries core.entries_are in omega (arith, c, few);
     may =
-        subst (λ k. (log : List (Event X)) → IsPast event_core is_call (IsLawful lawful) (stands_for stands) seat.me.0 log
-        → MayDraw event_core is_call (IsLawful lawful) (stands_for stands) seat.me.0 (λ n. Called (entry_numbered k call reply n)) log)
-        core.number_known may;
+        subst (λ k. (log : List (Event X)) → IsPast event_core is_call (LawfulFrom lawful) (StandsFrom stands) seat.me.0 log
+        → MayDraw event_core is_call (LawfulFrom lawful) (StandsFrom stands) seat.me.0 (λ n. Called (entry_numbered k call reply n)) log)
+        core.number_known
+        (λ log past. draw_up lawful stands seat.me.0 (λ n. Called (entry_numbered seat.me.0.core call reply n)) log
+        (may log (past_down lawful stands seat.me.0 log past)));
   }
 
   -- and once it was entered the core's parts fit again
-  pub entered : (after : Seat (Option C) (View TreeState (Event X))) (stamp : ℕ) → events < 2 ^ 50 → IsSameSeat seat after
+  pub entered : (after : Seat (Option C) (SeatView G X)) (stamp : ℕ) → length entries < 2 ^ 50 → IsSameSeat seat after
       → AddsEntry lawful stands (entry_numbered number call reply) seat.me stamp after.me
-      → IsCore after number (entries ++ entry_numbered number call reply stamp ∷ []) (events + 1) cells
+      → IsCore after number (entries ++ entry_numbered number call reply stamp ∷ []) cells
   entered after stamp few same adds = let drew = adds.1.1 in let held : after.me.0.held ≡ seat.me.0.held = ap (λ v. v.held) drew.frame in record {
     lives = ap (λ v. v.gone) drew.frame ∙ core.lives;
     calls = ap (λ v. v.gathers) drew.frame ∙ core.calls;
     number_known = ap (λ v. v.core) drew.frame ∙ core.number_known;
     entries_are = subst (λ m. AreCallsOf m (entries ++ entry_numbered number call reply stamp ∷ [])) (sym drew.mine)
         (calls_more seat.me.0.mine entries (entry_numbered number call reply stamp) core.entries_are
-        (seen_well seat.me.0.first adds.1.0 (entry_numbered number call reply stamp) after.me.0.seen drew.entry_last drew.legal_seen.legal_calls));
-    counted = let c = core.counted in let l = ap length drew.mine in
-        let m = length-append seat.me.0.mine (Called (entry_numbered number call reply stamp) ∷ []) in omega (arith, c, l, m);
-    few = omega (arith, few);
+        (seen_well seat.me.0.first.0 adds.1.0 (entry_numbered number call reply stamp) after.me.0.seen drew.entry_last drew.legal_seen.legal_calls));
+    few = let m = length-append entries (entry_numbered number call reply stamp ∷ []) in omega (arith, m, few);
     places = held ∙ core.places;
     falls = subst Falls (sym held) core.falls;
     slots = adds.0 ∙ (core.slots ∙ ap empty_slots (sym held));
     within = subst (λ (z : TableId × List ℕ). AreBelow z.0.slots z.1) (λ i. (sym same.table i, sym held i)) core.within;
   }
 
-module _ {C X : Type 0} (lawful : TreeState → List (Event X) → Type 0) (stands : TreeState → List (Event X) → ℕ → C → Type 0)
-    (seat : Seat (Option C) (View TreeState (Event X))) (number events : ℕ) (entries : List Entry) (cells : List (HeldCell C))
-    (core : IsCore seat number entries events cells) where
+module _ {C X G : Type 0} (lawful : G → TreeState → List (Event X) → Type 0) (stands : G → TreeState → List (Event X) → ℕ → C → Type 0)
+    (seat : Seat (Option C) (SeatView G X)) (number : ℕ) (entries : List Entry) (cells : List (HeldCell C))
+    (core : IsCore seat number entries cells) where
   -- a fact that may stand may be told
-  pub may_tell_now : (fact : X) → events < 2 ^ 50 → MayTell lawful stands seat.me.0 fact → MayTellNow lawful stands seat.me.0 fact
-  may_tell_now fact few may = record {
-    few = let c = core.counted in omega (arith, c, few);
-    may = may;
-  }
+  pub may_tell_now : (fact : X) → MayTell (lawful seat.me.0.first.1) (stands seat.me.0.first.1) (tree_view seat.me.0) fact
+      → MayTellNow lawful stands seat.me.0 fact
+  may_tell_now fact may log past = draw_up lawful stands seat.me.0 (told_by seat.me.0.core fact) log (may log (past_down lawful stands seat.me.0 log past))
 
   -- once a core has told a fact its parts fit again, and its entries are as before
-  pub has_told : (after : Seat (Option C) (View TreeState (Event X))) (fact : X) → events < 2 ^ 50 → IsSameSeat seat after
-      → TellsNow lawful stands fact seat.me after.me → IsCore after number entries (events + 1) cells
-  has_told after fact few same tells = let drew = tells.1.1.1 in let held : after.me.0.held ≡ seat.me.0.held = ap (λ v. v.held) drew.frame in record {
+  pub has_told : (after : Seat (Option C) (SeatView G X)) (fact : X) → IsSameSeat seat after
+      → TellsNow lawful stands fact seat.me after.me → IsCore after number entries cells
+  has_told after fact same tells = let drew = tells.1.1.1 in let held : after.me.0.held ≡ seat.me.0.held = ap (λ v. v.held) drew.frame in record {
     lives = ap (λ v. v.gone) drew.frame ∙ core.lives;
     calls = ap (λ v. v.gathers) drew.frame ∙ core.calls;
     number_known = ap (λ v. v.core) drew.frame ∙ core.number_known;
     entries_are = subst (λ m. AreCallsOf m entries) (sym drew.mine) (calls_told seat.me.0.mine entries seat.me.0.core fact tells.0 core.entries_are);
-    counted = let c = core.counted in let l = ap length drew.mine in let m = length-append seat.me.0.mine (told_by seat.me.0.core fact tells.0 ∷ []) in
-        omega (arith, c, l, m);
-    few = omega (arith, few);
+    few = core.few;
     places = held ∙ core.places;
     falls = subst Falls (sym held) core.falls;
     slots = tells.1.0 ∙ (core.slots ∙ ap empty_slots (sym held));
     within = subst (λ (z : TableId × List ℕ). AreBelow z.0.slots z.1) (λ i. (sym same.table i, sym held i)) core.within;
   }
 
-module _ {C X : Type 0} (seat : Seat (Option C) (View TreeState (Event X))) (number events : ℕ) (entries : List Entry) (cells : List (HeldCell C))
-    (core : IsCore seat number entries events cells) where
+  -- once a core has seen the history its parts fit again
+  pub has_looked : (after : Seat (Option C) (SeatView G X)) (found : ℕ) → IsSameSeat seat after → LooksNow lawful stands seat.me found after.me
+      → IsCore after number entries cells
+  has_looked after found same looks = let saw = looks.1 in let held : after.me.0.held ≡ seat.me.0.held = ap (λ v. v.held) saw.frame in record {
+    lives = ap (λ v. v.gone) saw.frame ∙ core.lives;
+    calls = ap (λ v. v.gathers) saw.frame ∙ core.calls;
+    number_known = ap (λ v. v.core) saw.frame ∙ core.number_known;
+    entries_are = subst (λ m. AreCallsOf m entries) (sym (ap (λ v. v.mine) saw.frame)) core.entries_are;
+    few = core.few;
+    places = held ∙ core.places;
+    falls = subst Falls (sym held) core.falls;
+    slots = looks.0 ∙ (core.slots ∙ ap empty_slots (sym held));
+    within = subst (λ (z : TableId × List ℕ). AreBelow z.0.slots z.1) (λ i. (sym same.table i, sym held i)) core.within;
+  }
+
+module _ {C X G : Type 0} (seat : Seat (Option C) (SeatView G X)) (number : ℕ) (entries : List Entry) (cells : List (HeldCell C))
+    (core : IsCore seat number entries cells) where
   -- once its last entry has an answer its parts fit again
   pub has_answered : (front : List Entry) (last : Entry) (answer : Reply) (ack : Option ℕ) → entries ≡ front ++ last ∷ []
       → waits_for_answer last.call last.reply ≡ true → IsFsyncReply answer → (IsSome ack ↔ IsTrue (is_ok_reply answer))
-      → IsCore seat number (front ++ with_answer last answer ack ∷ []) events cells
+      → IsCore seat number (front ++ with_answer last answer ack ∷ []) cells
   has_answered front last answer ack is waits may acknowledged = record {
     lives = core.lives;
     calls = core.calls;
     number_known = core.number_known;
     entries_are = calls_answered seat.me.0.mine front last answer ack (subst (λ l. AreCallsOf seat.me.0.mine l) is core.entries_are) waits may acknowledged;
-    counted = core.counted;
-    few = core.few;
+    few = let f = core.few in let l = ap length is in let m = length-append front (last ∷ []) in
+        let n = length-append front (with_answer last answer ack ∷ []) in omega (arith, f, l, m, n);
     places = core.places;
     falls = core.falls;
     slots = core.slots;

@@ -6,10 +6,13 @@ use Rattle.std.proofs.lemmas.List.{length-map}
 use Rattle.atomic_table.specs.Table.{State, opening, Seen, Splits, Joins}
 use Rattle.atomic_table.proofs.Lists.{at_set, set_here, set_else, at_longer, some_there}
 use Rattle.stamp_table.specs.declared.view.View.{View}
-use Rattle.stamp_table.specs.Rule.{Has, entries_by, AreKnown, IsAtWork, AreViews, IsKept, Kept}
+use mathlib.Core.List.{IsPrefix}
+use Rattle.stamp_table.specs.Rule.{Has, entries_by, AreKnown, IsAtWork, AreViews, IsKept, Kept, stamps_in}
 use Rattle.stamp_table.specs.Steps.{gatherer, one_more, newcomer, gathered}
-use Rattle.stamp_table.proofs.Logs.{known_more, none_yet, few_in_all}
-use Rattle.stamp_table.proofs.Keeps.{is_a_core, is_at_work}
+use Rattle.stamp_table.proofs.Logs.{known_more, none_yet, few_stamps}
+use Rattle.stamp_table.proofs.Keeps.{is_a_core, is_at_work, get_elem_within}
+use mathlib.Core.Logic.{dite}
+use native.Mathlib.Decide.{ℕ_discrete}
 
 -- what stands behind the others stands at their number
 snoc_place : {A : Type 0} (l : List A) (a b : A) (j : ℕ) → get_elem? (l ++ a ∷ []) j ≡ some b → (get_elem? l j ≡ some b) ⊎ ((j ≡ length l) × (a ≡ b))
@@ -29,6 +32,18 @@ home_of : {A : Type 0} (xs : List A) (p : ℕ) (x : A) → get_elem? (map some x
 home_of [] p x e = absurd (some-ne-none (some x) (sym e))
 home_of (y ∷ ys) zero x e = some-injective (some y) (some x) e
 home_of (y ∷ ys) (suc p) x e = home_of ys p x e
+
+-- nothing is out of them
+none_out : {A : Type 0} (xs : List A) (p : ℕ) → get_elem? (map some xs) p ≡ some none → ⊥
+none_out [] p e = some-ne-none none (sym e)
+none_out (y ∷ ys) zero e = some-ne-none y (some-injective (some y) none e)
+none_out (y ∷ ys) (suc p) e = none_out ys p e
+
+-- what stands at a place of a list
+some_at : {A : Type 0} (l : List A) (p : ℕ) → p < length l → (a : A) × (get_elem? l p ≡ some a)
+some_at [] p lt = absurd (omega (arith, lt))
+some_at (x ∷ xs) zero lt = (x, refl)
+some_at (x ∷ xs) (suc p) lt = some_at xs p (omega (arith, lt))
 
 module _ {T E S : Type 0} (core_of : E → ℕ) (draws : E → Bool) (legal : T → List E → Type 0) (stands : T → List E → ℕ → S → Type 0) (first : T) where
   abbrev V : Type 0
@@ -52,12 +67,15 @@ module _ {T E S : Type 0} (core_of : E → ℕ) (draws : E → Bool) (legal : T 
         hub_knows = refl;
         cores = refl;
         lists = λ core list is. absurd cc;
+        saws = λ core seen is. absurd cc;
+        holders = λ core p is. absurd (omega (arith, is));
         hands = λ core v at. absurd (some-ne-none v (sym at));
         owned = λ core p v at has. absurd (some-ne-none v (sym at));
       };
       cells_are = record {
         locks = long ∙ ap (λ k. 16 + k) (sym (length-map values some));
         home = λ p x at. (refl, stood p x (home_of values p x at));
+        out = λ p at. absurd (none_out values p at);
         free = λ p lt is0. some_there values p (let l = length-map {B = mathlib.Core.Option.Option S} values some in omega (arith, lt, l));
       };
     },
@@ -99,6 +117,12 @@ module _ {T E S : Type 0} (core_of : E → ℕ) (draws : E → Bool) (legal : T 
       hub_knows = are.hub_knows;
       cores = let l = length-append longer (newcomer v ∷ []) in let m = length-set s.views 0 (one_more v) in let is = are.cores in omega (arith, l, m, is);
       lists = are.lists;
+      saws = are.saws;
+      holders = λ c p owned. let old = are.holders c p owned in (
+        old.0,
+        at_longer longer (newcomer v ∷ []) (suc c) old.0 (set_else s.views 0 (suc c) (one_more v) (λ is. omega (arith, is)) ∙ old.1),
+        old.2,
+      );
       hands = λ c u at. ⊎_elim
           (λ old. ⊎_elim
           (λ gone. inl (record { gone = gone.gone; calls = gone.calls; holds_none = gone.holds_none; gathered = gone.gathered }))
@@ -142,7 +166,7 @@ module _ {T E S : Type 0} (core_of : E → ℕ) (draws : E → Bool) (legal : T 
 
   module _ (s : State S V) (log : List E) (owner : ℕ → ℕ) (v w : V) (kept : IsKept core_of draws legal stands first log owner v s) (core : ℕ)
       (at : get_elem? s.views (suc core) ≡ some w) (lives : w.gone ≡ false) (next : w.core ≡ length v.lists) (left : V) (left_gone : left.gone ≡ true)
-      (left_calls : left.gathers ≡ false) (left_empty : left.held ≡ []) where
+      (left_calls : left.gathers ≡ false) (left_empty : left.held ≡ []) (empty : w.held ≡ []) where
     abbrev held_by_hub : List V
     held_by_hub = set s.views 0 (gathered v w)
 
@@ -168,6 +192,17 @@ module _ {T E S : Type 0} (core_of : E → ℕ) (draws : E → Bool) (legal : T 
       lists = λ k list is. ⊎_elim (λ old. are.lists k list old)
           (λ new. sym new.1 ∙ (work.hand.mine ∙ ap (λ c. entries_by core_of c log) (is_next ∙ sym new.0)))
           (slice_snoc v.lists w.mine list k is);
+      saws = λ k seen is. ⊎_elim (λ old. are.saws k seen old) (λ new. subst (λ l. IsPrefix l log) new.1 work.hand.seen) (slice_snoc v.saws w.seen seen k is);
+      holders = λ c p owned. let old = are.holders c p owned in dite (ℕ_discrete c core)
+          (λ is. absurd
+          (let same : old.0 ≡ w = some-injective old.0 w (sym old.1 ∙ (ap (λ k. get_elem? s.views (suc k)) is ∙ at)) in
+          subst (λ l. Has l p) (ap (λ (x : V). x.held) same ∙ empty) old.2))
+          (λ other. (
+            old.0,
+            set_else held_by_hub (suc core) (suc c) left (λ is. other (omega (arith, is)))
+                ∙ (set_else s.views 0 (suc c) (gathered v w) (λ is. omega (arith, is)) ∙ old.1),
+            old.2,
+          ));
       hands = λ c u there. ⊎_elim
           (λ here. inl (record {
             gone = ap (λ (x : V). x.gone) (sym here.1) ∙ left_gone;
@@ -208,9 +243,9 @@ module _ {T E S : Type 0} (core_of : E → ℕ) (draws : E → Bool) (legal : T 
     }
 
   -- The list of the next core may be gathered.
-  pub may_join : (id other : ℕ) (v w left : V) → v.gathers ≡ true → w.gathers ≡ false → w.gone ≡ false → w.core ≡ length v.lists
+  pub may_join : (id other : ℕ) (v w left : V) → v.gathers ≡ true → w.gathers ≡ false → w.gone ≡ false → w.core ≡ length v.lists → w.held ≡ []
       → left.gone ≡ true → left.gathers ≡ false → left.held ≡ [] → Joins Keeps id v other w (gathered v w) left
-  may_join id other v w left does calls lives next gone quiet empty s holds at apart there =
+  may_join id other v w left does calls lives next holds_none gone quiet empty s holds at apart there =
       let log = holds.0 in let owner = holds.1 in let hub = holds.2 in let kept = holds.3 in
       let is = is_the_hub log owner hub s.views id v does kept.views_are at in
       let seen : get_elem? s.views other ≡ some w = sym (set_else s.views id other (gathered v w) apart) ∙ there in
@@ -221,18 +256,39 @@ module _ {T E S : Type 0} (core_of : E → ℕ) (draws : E → Bool) (legal : T 
         owner,
         gathered v w,
         joined s log owner v w (subst (λ h. IsKept core_of draws legal stands first log owner h s) is.1 kept) core.0
-            (subst (λ j. get_elem? s.views j ≡ some w) core.1 seen) lives next left gone quiet empty,
+            (subst (λ j. get_elem? s.views j ≡ some w) core.1 seen) lives next left gone quiet empty holds_none,
       )
 
-  -- what is known at the end, when all lists were gathered
-  pub record IsGathered (lists : List (List E)) (cores : ℕ) (log : List E) : Type 0 where
+  -- what is known at the end, when all lists were gathered, and what their cores had seen
+  pub record IsGathered (lists saws : List (List E)) (cores : ℕ) (log : List E) : Type 0 where
     pub legal_log : legal first log
     pub known : AreKnown core_of cores log
     pub own : (core : ℕ) (list : List E) → slice_get lists core ≡ Some list → list ≡ entries_by core_of core log
-    pub small : length log < 2 ^ 60
+    pub seen : (core : ℕ) (seen : List E) → slice_get saws core ≡ Some seen → IsPrefix seen log
+    pub small : stamps_in draws log < 2 ^ 60
 
-  pub ends : (id : ℕ) (v : V) (s : State S V) → v.gathers ≡ true → Seen Keeps id v s → (log : List E) × IsGathered v.lists v.cores log
-  ends id v s does seen =
+  -- each cell is at home, and stands for the history
+  abbrev pub AreHome : List (mathlib.Core.Option.Option S) → List E → Type 0
+  AreHome homes log = (p : ℕ) → p < length homes → (x : S) × (get_elem? homes p ≡ some (some x)) × stands first log p x
+
+  -- where all lists were gathered no core holds a cell
+  all_home : (s : State S V) (log : List E) (owner : ℕ → ℕ) (v : V) → IsKept core_of draws legal stands first log owner v s → length v.lists ≡ v.cores
+      → AreHome s.homes log
+  all_home s log owner v kept all p lt = at_home (some_at s.homes p lt) where
+    out_of : (core : ℕ) → owner p ≡ suc core → ⊥
+    out_of core owned = let holds = kept.views_are.holders core p owned in ⊎_elim
+        (λ gone. subst (λ l. Has l p) gone.holds_none holds.2)
+        (λ work. let within = get_elem_within s.views (suc core) holds.0 holds.1 in let is = kept.views_are.cores in let waits = work.waits in
+        absurd (omega (arith, within, is, waits, all)))
+        (kept.views_are.hands core holds.0 holds.1)
+
+    at_home : (h : mathlib.Core.Option.Option S) × (get_elem? s.homes p ≡ some h) → (x : S) × (get_elem? s.homes p ≡ some (some x)) × stands first log p x
+    at_home (none, at) = let out = kept.cells_are.out p at in absurd (out_of out.0 out.1)
+    at_home (some x, at) = (x, at, (kept.cells_are.home p x at).1)
+
+  pub ends : (id : ℕ) (v : V) (s : State S V) → v.gathers ≡ true → Seen Keeps id v s → length v.lists ≡ v.cores
+      → (log : List E) × IsGathered v.lists v.saws v.cores log × AreHome s.homes log
+  ends id v s does seen all =
       let log = seen.0.0 in let owner = seen.0.1 in let hub = seen.0.2 in let kept = seen.0.3 in
       let is = is_the_hub log owner hub s.views id v does kept.views_are seen.1 in
       let kept' = subst (λ h. IsKept core_of draws legal stands first log owner h s) is.1 kept in (
@@ -241,7 +297,10 @@ module _ {T E S : Type 0} (core_of : E → ℕ) (draws : E → Bool) (legal : T 
           legal_log = kept.log_is.legal_log;
           known = kept'.log_is.known;
           own = kept'.views_are.lists;
+          seen = kept'.views_are.saws;
           small = let many = kept'.log_is.many in
-              let le = few_in_all core_of 256 (2 ^ 50) log (known_more core_of v.cores 256 log many kept'.log_is.known) kept.log_is.few in omega (arith, le);
+              let le = few_stamps core_of draws 256 (2 ^ 50) log (known_more core_of v.cores 256 log many kept'.log_is.known) kept.log_is.few in
+              omega (arith, le);
         },
+        λ p lt. all_home s log owner v kept' all p lt,
       )

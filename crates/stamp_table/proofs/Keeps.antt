@@ -18,6 +18,11 @@ begins_itself log = ([], append-nil log)
 pub begins_longer : {A : Type 0} (seen log more : List A) → IsPrefix seen log → IsPrefix seen (log ++ more)
 begins_longer seen log more p = (p.0 ++ more, sym (append_assoc seen p.0 more) ∙ ap (λ w. w ++ more) p.1)
 
+-- what begins the beginning of a list begins the list
+pub begins_on : {A : Type 0} (seen more log : List A) → IsPrefix seen more → IsPrefix more log → IsPrefix seen log
+begins_on seen more log one two =
+    (one.0 ++ two.0, sym (append_assoc seen one.0 two.0) ∙ (ap (λ l. l ++ two.0) one.1 ∙ two.1))
+
 suc-same : (a b : ℕ) → suc a ≡ suc b → a ≡ b
 suc-same a b e = omega (arith, e)
 
@@ -56,6 +61,7 @@ module _ {T E S : Type 0} (core_of : E → ℕ) (draws : E → Bool) (legal : T 
   cells_locked log owner words homes place n not cells = record {
     locks = length-set words (lock_word place) n ∙ cells.locks;
     home = cells.home;
+    out = cells.out;
     free = λ p lt is0. dite (ℕ_discrete p place)
         (λ is. absurd
         (not
@@ -65,14 +71,16 @@ module _ {T E S : Type 0} (core_of : E → ℕ) (draws : E → Bool) (legal : T 
   }
 
   -- a cell is taken from home by a new owner
-  pub cells_taken : (log : List E) (owner : ℕ → ℕ) (words : List ℕ) (homes : List (mathlib.Core.Option.Option S)) (place n new : ℕ) → n ≢ 0
+  pub cells_taken : (log : List E) (owner : ℕ → ℕ) (words : List ℕ) (homes : List (mathlib.Core.Option.Option S)) (place n core : ℕ) → n ≢ 0
       → AreCells core_of draws legal stands first log owner words homes
-      → AreCells core_of draws legal stands first log (owner_with owner place new) (set words (lock_word place) n) (set homes place none)
-  cells_taken log owner words homes place n new not cells = let locked = cells_locked log owner words homes place n not cells in record {
+      → AreCells core_of draws legal stands first log (owner_with owner place (suc core)) (set words (lock_word place) n) (set homes place none)
+  cells_taken log owner words homes place n core not cells = let locked = cells_locked log owner words homes place n not cells in record {
     locks = locked.locks ∙ ap (λ k. 16 + k) (sym (length-set homes place none));
     home = λ p x at. ⊎_elim (λ here. absurd (some-ne-none x (sym here.1)))
-        (λ there. let old = cells.home p x there.1 in (owner_else owner place new p there.0 ∙ old.0, old.1))
+        (λ there. let old = cells.home p x there.1 in (owner_else owner place (suc core) p there.0 ∙ old.0, old.1))
         (at_set homes place p none (some x) at);
+    out = λ p at. dite (ℕ_discrete p place) (λ is. (core, owner_here owner place (suc core) p is))
+        (λ other. let old = cells.out p (sym (set_else homes place p none other) ∙ at) in (old.0, owner_else owner place (suc core) p other ∙ old.1));
     free = λ p lt is0. dite (ℕ_discrete p place)
         (λ is. absurd
         (not
@@ -94,6 +102,9 @@ module _ {T E S : Type 0} (core_of : E → ℕ) (draws : E → Bool) (legal : T 
         (owner_here owner place 0 p here.0, subst (λ (z : ℕ × S). stands first log z.0 z.1) (λ i. (sym here.0 i, some-injective value x here.1 i)) stood))
         (λ there. let old = cells.home p x there.1 in (owner_else owner place 0 p there.0 ∙ old.0, old.1))
         (at_set homes place p (some value) (some x) at);
+    out = λ p at. ⊎_elim (λ here. absurd (some-ne-none value here.1))
+        (λ there. let old = cells.out p there.1 in (old.0, owner_else owner place 0 p there.0 ∙ old.1))
+        (at_set homes place p (some value) none at);
     free = λ p lt is0. dite (ℕ_discrete p place)
         (λ is. (value, ap (λ q. get_elem? (set homes place (some value)) q) is ∙ set_here homes place (some value) within))
         (λ other. let old = cells.free p (let h = length-set homes place (some value) in omega (arith, lt, h))
@@ -108,6 +119,7 @@ module _ {T E S : Type 0} (core_of : E → ℕ) (draws : E → Bool) (legal : T 
   cells_longer log next owner words homes n kept cells = record {
     locks = length-set words 0 n ∙ cells.locks;
     home = λ p x at. let old = cells.home p x at in (old.0, kept p x old.0 old.1);
+    out = cells.out;
     free = λ p lt is0. cells.free p lt (sym (other_word words 0 (lock_word p) n (λ same. omega (arith, same))) ∙ is0);
   }
 
@@ -128,9 +140,11 @@ module _ {T E S : Type 0} (core_of : E → ℕ) (draws : E → Bool) (legal : T 
   -- what happens to the other cores where a core's view changes
   pub record AreOthers (log next : List E) (owner after : ℕ → ℕ) (hub : V) (views : List V) (core : ℕ) : Type 0 where
     pub lists_stay : (other : ℕ) → other < length hub.lists → entries_by core_of other next ≡ entries_by core_of other log
+    pub saws_stay : (seen : List E) → IsPrefix seen log → IsPrefix seen next
     pub others : (other : ℕ) (u : V) → other ≢ core → get_elem? views (suc other) ≡ some u → IsAtWork core_of draws legal stands first other log hub u
         → IsAtWork core_of draws legal stands first other next hub u
     pub theirs : (other p : ℕ) (u : V) → other ≢ core → get_elem? views (suc other) ≡ some u → Has u.held p → owner p ≡ suc other → after p ≡ suc other
+    pub back : (other p : ℕ) → other ≢ core → after p ≡ suc other → owner p ≡ suc other
 
   pub slice_within : {A : Type 0} (xs : List A) (k : ℕ) (x : A) → Rattle.std.specs.List.slice_get xs k ≡ Rattle.std.specs.Prelude.Some x → k < length xs
   slice_within xs k x e = Rattle.std.proofs.lemmas.Option.slice_get_within xs k x e
@@ -138,14 +152,16 @@ module _ {T E S : Type 0} (core_of : E → ℕ) (draws : E → Bool) (legal : T 
   -- a core's view changes
   pub views_set : (log next : List E) (owner after : ℕ → ℕ) (hub : V) (views : List V) (core : ℕ) (v w : V) → get_elem? views (suc core) ≡ some v
       → IsAtWork core_of draws legal stands first core next hub w → ((p : ℕ) → Has w.held p → after p ≡ suc core)
+      → ((p : ℕ) → after p ≡ suc core → Has w.held p)
       → AreOthers log next owner after hub views core
       → AreViews core_of draws legal stands first log owner hub views → AreViews core_of draws legal stands first next after hub (set views (suc core) w)
-  views_set log next owner after hub views core v w at work mine rest are = record {
+  views_set log next owner after hub views core v w at work mine held rest are = record {
     hub_first = set_else views (suc core) 0 w (λ is. omega (arith, is)) ∙ are.hub_first;
     gathers = are.gathers;
     hub_knows = are.hub_knows;
     cores = length-set views (suc core) w ∙ are.cores;
     lists = λ c list is. are.lists c list is ∙ sym (rest.lists_stay c (slice_within hub.lists c list is));
+    saws = λ c seen is. rest.saws_stay seen (are.saws c seen is);
     hands = λ c u there. ⊎_elim
         (λ here. inr (subst (λ (z : ℕ × V). IsAtWork core_of draws legal stands first z.0 next hub z.1) (λ i. (suc-same core c (sym here.0) i, here.1 i)) work))
         (λ else. ⊎_elim (λ gone. inl gone) (λ old. inr (rest.others c u (λ is. else.0 (ap suc is)) else.1 old)) (are.hands c u else.1))
@@ -154,4 +170,21 @@ module _ {T E S : Type 0} (core_of : E → ℕ) (draws : E → Bool) (legal : T 
         (λ here. mine p (subst (λ (x : V). Has x.held p) (sym here.1) has) ∙ sym here.0)
         (λ else. rest.theirs c p u (λ is. else.0 (ap suc is)) else.1 has (are.owned c p u else.1 has))
         (at_set views (suc core) (suc c) w u there);
+    holders = λ c p owned. dite (ℕ_discrete c core)
+        (λ is. (
+          w,
+          ap (λ k. get_elem? (set views (suc core) w) (suc k)) is ∙ set_here views (suc core) w (get_elem_within views (suc core) v at),
+          held p (owned ∙ ap suc is),
+        ))
+        (λ other. let old = are.holders c p (rest.back c p other owned) in (
+          old.0,
+          set_else views (suc core) (suc c) w (λ is. other (suc-same c core is)) ∙ old.1,
+          old.2,
+        ));
   }
+
+  -- what a core owns it holds, if the view is the core's
+  pub holder_is : (log : List E) (owner : ℕ → ℕ) (hub : V) (views : List V) (core p : ℕ) (v : V) → get_elem? views (suc core) ≡ some v
+      → AreViews core_of draws legal stands first log owner hub views → owner p ≡ suc core → Has v.held p
+  holder_is log owner hub views core p v at are owned = let holds = are.holders core p owned in
+      let same : holds.0 ≡ v = some-injective holds.0 v (sym holds.1 ∙ at) in subst (λ (u : V). Has u.held p) same holds.2

@@ -2,7 +2,9 @@ pub mod Logs
 pub mod Keeps
 pub mod Taking
 pub mod Drawing
+pub mod Looking
 pub mod Gathering
+pub mod Seats
 pub mod Asking
 pub mod Hands
 pub mod Answered
@@ -11,5 +13,7 @@ pub mod Leaving
 pub mod Refilling
 pub mod Closing
 pub mod Beginning
+pub mod Finding
 pub mod Replacing
+pub mod Exchanging
 pub mod Calling

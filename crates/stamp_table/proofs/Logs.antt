@@ -1,5 +1,6 @@
 -- The entries of a core when one comes, and how many a history has at most.
-use Rattle.std.proofs.Common.{◌≡◌, ◌≢◌, ℕ, zero, suc, ◌+◌, ◌*◌, ◌<◌, ◌≤◌, Bool, true, false, not, List, [], ◌∷◌, ◌++◌, length, filter, sym, refl, ap, ◌∙◌, arith, eq-eqb, ne_eqb, append-nil, length-append, suc-mul}
+use Rattle.std.proofs.lemmas.Bool.{cases_Bool}
+use Rattle.std.proofs.Common.{◌≡◌, ◌≢◌, ⊎_elim, ℕ, zero, suc, ◌+◌, ◌*◌, ◌<◌, ◌≤◌, Bool, true, false, not, List, [], ◌∷◌, ◌++◌, length, filter, sym, refl, ap, ◌∙◌, arith, eq-eqb, ne_eqb, append-nil, length-append, suc-mul}
 use Rattle.std.proofs.lemmas.List.Elements.{filter-append}
 use Rattle.std.proofs.lemmas.List.Filters.{length-filter_both}
 use mathlib.Core.Logic.{dite}
@@ -78,3 +79,23 @@ module _ {E : Type 0} (draws : E → Bool) where
 
   pub stamps_within : (log : List E) → stamps_in draws log ≤ length log
   stamps_within log = let both = length-filter_both draws (λ e. not (draws e)) (λ e. refl) log in omega (arith, both)
+
+module _ {E : Type 0} (core_of : E → ℕ) (draws : E → Bool) where
+  drawers_known : (n : ℕ) (log : List E) → AreKnown core_of n log → AreKnown core_of n (filter draws log)
+  drawers_known n [] known = tt
+  drawers_known n (x ∷ log) known =
+      ⊎_elim (λ is. rw is ((known.0, drawers_known n log known.1))) (λ not. rw not (drawers_known n log known.1)) (cases_Bool (draws x))
+
+  -- those of a core among those that drew are those that drew among the core's
+  drawers_by : (core : ℕ) (log : List E) → entries_by core_of core (filter draws log) ≡ filter draws (entries_by core_of core log)
+  drawers_by core [] = refl
+  drawers_by core (x ∷ log) = let r = drawers_by core log in ⊎_elim
+      (λ is. ⊎_elim (λ mine. rw is (rw mine (rw is (ap (λ l. x ∷ l) r)))) (λ not. rw is (rw not r)) (cases_Bool (is_by core_of core x)))
+      (λ isnt. ⊎_elim (λ mine. rw isnt (rw mine (rw isnt r))) (λ not. rw isnt (rw not r)) (cases_Bool (is_by core_of core x)))
+      (cases_Bool (draws x))
+
+  -- a history of so many cores, each of which drew so many stamps at most
+  pub few_stamps : (n most : ℕ) (log : List E) → AreKnown core_of n log → ((core : ℕ) → stamps_in draws (entries_by core_of core log) ≤ most)
+      → stamps_in draws log ≤ n * most
+  few_stamps n most log known few = few_in_all core_of n most (filter draws log) (drawers_known n log known)
+      (λ core. let l = ap length (drawers_by core log) in let f = few core in omega (arith, l, f))

@@ -56,3 +56,8 @@ module _ {C : Type 0} (place : ℕ) where
   pub within_found : (cells held : List (HeldCell C)) (at : ℕ) → cells ≡ held → IsSome (cell_at place held) → at ≡ cells_before place cells → at < length cells
   within_found cells held at same found index =
       subst (λ k. k < length cells) (sym index) (found_within cells (subst (λ l. IsSome (cell_at place l)) (sym same) found))
+
+  -- what stands at the index is the cell that is found
+  pub found_at : (cells held : List (HeldCell C)) (at : ℕ) (cell : HeldCell C) → cells ≡ held → IsSome (cell_at place held) → at ≡ cells_before place cells
+      → cell ≡ get_or cells at cell → cell_at place held ≡ Some cell
+  found_at cells held at cell same found index is = (replaced cells held at cell cell.value cell.value same found index is refl).0

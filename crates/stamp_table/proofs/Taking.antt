@@ -1,5 +1,5 @@
 -- A core takes a cell, and gives it back.
-use Rattle.std.proofs.Common.{◌≡◌, ◌≢◌, ℕ, suc, ◌<◌, eqb, Bool, false, List, [], ◌∷◌, length, get_or, set, sym, refl, ap, ◌∙◌, subst, arith, inr, ⊎_elim}
+use Rattle.std.proofs.Common.{◌≡◌, ◌≢◌, ℕ, suc, ◌<◌, eqb, Bool, false, List, [], ◌∷◌, length, get_or, set, sym, refl, ap, ◌∙◌, subst, arith, inl, inr, ⊎_elim}
 use mathlib.Core.Logic.{dite}
 use mathlib.Core.Option.{some}
 use native.Mathlib.Decide.{ℕ_discrete}
@@ -10,7 +10,7 @@ use Rattle.atomic_table.proofs.Lists.{set_again, exchanged}
 use Rattle.stamp_table.specs.declared.view.View.{View}
 use Rattle.stamp_table.specs.Rule.{lock_word, Has, entries_by, IsAtWork, AreViews, IsLog, IsKept, Kept}
 use Rattle.stamp_table.specs.Steps.{Took, MayTake, Gave, tail}
-use Rattle.stamp_table.proofs.Keeps.{begins_itself, owner_with, owner_here, owner_else, other_word, cells_locked, cells_taken, cells_given, is_a_core, is_at_work, views_set}
+use Rattle.stamp_table.proofs.Keeps.{begins_itself, owner_with, owner_here, owner_else, other_word, cells_locked, cells_taken, cells_given, is_a_core, is_at_work, views_set, holder_is}
 
 -- a word that is 1 once it was 0 is not 0
 pub locked_not_0 : (n : ℕ) → either (eqb n 0) 1 n ≢ 0
@@ -67,8 +67,16 @@ module _ {T E S : Type 0} (core_of : E → ℕ) (draws : E → Bool) (legal : T 
         (λ old. dite (ℕ_discrete p place) (λ is. owner_here owner place (suc core) p is)
         (λ not. owner_else owner place (suc core) p not ∙ kept.views_are.owned core p me.0 at old))
         has)
+        (λ p owned. dite (ℕ_discrete p place) (λ is. inl (sym is))
+        (λ not. inr
+        (holder_is core_of draws legal stands first log owner hub s.views core p me.0 at kept.views_are
+        (sym (owner_else owner place (suc core) p not) ∙ owned))))
         (record {
           lists_stay = λ other lt. refl;
+          saws_stay = λ seen is. is;
+          back = λ other p not owned. dite (ℕ_discrete p place)
+              (λ is. absurd (not (let z = sym (owner_here owner place (suc core) p is) ∙ owned in omega (arith, z))))
+              (λ else. sym (owner_else owner place (suc core) p else) ∙ owned);
           others = λ other u not there w. w;
           theirs = λ other p u not there has is. owner_else owner place (suc core) p (λ same. (let z = ap owner same in omega (arith, z, homed, is))) ∙ is;
         })
@@ -80,7 +88,7 @@ module _ {T E S : Type 0} (core_of : E → ℕ) (draws : E → Bool) (legal : T 
     taken n value not there = record {
       log_is = log_stays hub.cores log s.words place n kept.log_is;
       views_are = taken_views (kept.cells_are.home place value there).0;
-      cells_are = cells_taken core_of draws legal stands first log owner s.words s.homes place n (suc core) not kept.cells_are;
+      cells_are = cells_taken core_of draws legal stands first log owner s.words s.homes place n core not kept.cells_are;
     }
 
     tells : (value : S) → get_elem? s.homes place ≡ some (some value) → Took core_of draws legal stands place me (taking log place me.0, (place, value) ∷ me.1)
@@ -149,6 +157,12 @@ module _ {T E S : Type 0} (core_of : E → ℕ) (draws : E → Bool) (legal : T 
   has_tail [] p has = has
   has_tail (x ∷ held) p has = inr has
 
+  -- what is held beside the last cell is held once that is gone
+  tail_has : (held : List ℕ) (place p : ℕ) → Has held place → (Has (tail held) place → ⊥) → Has held p → p ≢ place → Has (tail held) p
+  tail_has [] place p holds once has not = has
+  tail_has (x ∷ held) place p holds once has not =
+      ⊎_elim (λ here. ⊎_elim (λ mine. absurd (not (sym here ∙ mine))) (λ there. absurd (once there)) holds) (λ there. there) has
+
   -- the view of a core whose last cell went home
   abbrev giving : V → V
   giving v = record v { held = tail v.held }
@@ -188,8 +202,16 @@ module _ {T E S : Type 0} (core_of : E → ℕ) (draws : E → Bool) (legal : T 
           (giver_works log hub v core at_work)
           (λ p has. owner_else owner place 0 p (λ same. may.once (subst (λ q. Has (tail v.held) q) same has))
           ∙ kept.views_are.owned core p v at (has_tail v.held p has))
+          (λ p owned. dite (ℕ_discrete p place)
+          (λ is. absurd (let z = sym (owner_here owner place 0 p is) ∙ owned in omega (arith, z)))
+          (λ not. tail_has v.held place p may.holds may.once
+          (holder_is core_of draws legal stands first log owner hub s.views core p v at kept.views_are (sym (owner_else owner place 0 p not) ∙ owned)) not))
           (record {
             lists_stay = λ other lt. refl;
+            saws_stay = λ seen is. is;
+            back = λ other p not owned. dite (ℕ_discrete p place)
+                (λ is. absurd (let z = sym (owner_here owner place 0 p is) ∙ owned in omega (arith, z)))
+                (λ else. sym (owner_else owner place 0 p else) ∙ owned);
             others = λ other u not there w. w;
             theirs =
                 λ other p u not there has is. owner_else owner place 0 p

@@ -9,7 +9,7 @@ use Rattle.stamp_table.specs.declared.event.Event.{Event}
 use Rattle.stamp_table.specs.declared.event.Event.TheVariants.{Called, Told}
 use Rattle.stamp_table.specs.declared.view.View.{View}
 use Rattle.stamp_table.specs.declared.held.HeldCell.{HeldCell}
-use Rattle.stamp_table.specs.Hand.{Hand}
+use Rattle.stamp_table.specs.Hand.{Hand, Desk}
 
 -- an event as a call's entry, or as a core and what it told
 abbrev pub parts_of_event : {X : Type 0} → Event X → Entry ⊎ (ℕ × X)
@@ -30,14 +30,15 @@ event_code {X} entry fact = code_by (Entry ⊎ (ℕ × X)) (coded⊎ entry (code
 -- a view as its fields
 abbrev pub view_code : {T E : Type 0} → Coded T → Coded E → Coded (View T E)
 view_code {T} {E} first event =
-    code_by (Bool × (Bool × (T × (ℕ × (List E × (List E × (List ℕ × (ℕ × List (List E)))))))))
+    code_by (Bool × (Bool × (T × (ℕ × (List E × (List E × (List ℕ × (ℕ × (List (List E) × List (List E))))))))))
     (coded× coded_bool
     (coded× coded_bool
     (coded× first
     (coded× coded_ℕ
     (coded× (coded_list event)
-    (coded× (coded_list event) (coded× (coded_list coded_ℕ) (coded× coded_ℕ (coded_list (coded_list event))))))))))
-    (λ v. (v.gathers, (v.gone, (v.first, (v.core, (v.seen, (v.mine, (v.held, (v.cores, v.lists))))))))) (λ p. record {
+    (coded× (coded_list event)
+    (coded× (coded_list coded_ℕ) (coded× coded_ℕ (coded× (coded_list (coded_list event)) (coded_list (coded_list event)))))))))))
+    (λ v. (v.gathers, (v.gone, (v.first, (v.core, (v.seen, (v.mine, (v.held, (v.cores, (v.lists, v.saws)))))))))) (λ p. record {
       gathers = p.0;
       gone = p.1.0;
       first = p.1.1.0;
@@ -46,18 +47,23 @@ view_code {T} {E} first event =
       mine = p.1.1.1.1.1.0;
       held = p.1.1.1.1.1.1.0;
       cores = p.1.1.1.1.1.1.1.0;
-      lists = p.1.1.1.1.1.1.1.1;
+      lists = p.1.1.1.1.1.1.1.1.0;
+      saws = p.1.1.1.1.1.1.1.1.1;
     }) (λ _. refl)
 
 -- a held cell as its place and its value
 abbrev pub cell_code : {C : Type 0} → Coded C → Coded (HeldCell C)
 cell_code {C} value = code_by (ℕ × C) (coded× coded_ℕ value) (λ c. (c.place, c.value)) (λ p. record { place = p.0; value = p.1 }) (λ _. refl)
 
+-- a table's name as its fields
+abbrev pub desk_code : {G : Type 0} → Coded G → Coded (Desk G)
+desk_code {G} given = code_by (TableId × G) (coded× table_id_coded given) (λ d. (d.id, d.given)) (λ p. record { id = p.0; given = p.1 }) (λ _. refl)
+
 -- a core as its fields
-abbrev pub hand_code : {C X : Type 0} → Coded Entry → Coded C → Coded X → Coded (Hand C X)
-hand_code {C} {X} entry value fact =
-    code_by (TableId × (View TreeState (Event X) × (List Entry × (Option ℕ × (List (HeldCell C) × (ℕ × (ℕ × (Bool × ℕ))))))))
-    (coded× table_id_coded
+abbrev pub hand_code : {C X G : Type 0} → Coded Entry → Coded C → Coded X → Coded G → Coded (Hand C X G)
+hand_code {C} {X} {G} entry value fact given =
+    code_by (Desk G × (View TreeState (Event X) × (List Entry × (Option ℕ × (List (HeldCell C) × (ℕ × (ℕ × (Bool × ℕ))))))))
+    (coded× (desk_code given)
     (coded× (view_code tree_code (event_code entry fact))
     (coded× (coded_list entry)
     (coded× (coded_option coded_ℕ) (coded× (coded_list (cell_code value)) (coded× coded_ℕ (coded× coded_ℕ (coded× coded_bool coded_ℕ))))))))

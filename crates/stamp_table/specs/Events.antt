@@ -8,6 +8,7 @@ use Rattle.tree_laws.specs.declared.reply.Reply.TheVariants as reply
 use Rattle.tree_laws.specs.Build.{root_alone}
 use Rattle.stamp_table.specs.declared.event.Event.{Event}
 use Rattle.stamp_table.specs.declared.event.Event.TheVariants.{Called, Told}
+use Rattle.stamp_table.specs.declared.view.View.{View}
 
 module _ {X : Type 0} where
   -- whose an event is
@@ -42,6 +43,34 @@ module _ {X : Type 0} where
   abbrev pub stands_for : {C : Type 0} → (TreeState → List (Event X) → ℕ → C → Type 0) → TreeState → List (Event X) → ℕ → Option C → Type 0
   stands_for stands first log place (Some value) = stands first log place value
   stands_for stands first log place None = ⊥
+
+-- what a seat at a table knows: its first is the tree before the first call, and what was given beside it
+abbrev pub SeatView : Type 0 → Type 0 → Type 0
+SeatView G X = View (TreeState × G) (Event X)
+
+module _ {G X : Type 0} where
+  -- what a core shows of its seat's view: all but what was given
+  abbrev pub tree_view : SeatView G X → View TreeState (Event X)
+  tree_view v = record {
+    gathers = v.gathers;
+    gone = v.gone;
+    first = v.first.0;
+    core = v.core;
+    seen = v.seen;
+    mine = v.mine;
+    held = v.held;
+    cores = v.cores;
+    lists = v.lists;
+    saws = v.saws;
+  }
+
+  -- a history is lawful from a first tree and what was given beside it
+  abbrev pub LawfulFrom : (G → TreeState → List (Event X) → Type 0) → TreeState × G → List (Event X) → Type 0
+  LawfulFrom lawful start log = IsLawful (lawful start.1) start.0 log
+
+  -- and so does a value stand for what the history leaves of a cell
+  abbrev pub StandsFrom : {C : Type 0} → (G → TreeState → List (Event X) → ℕ → C → Type 0) → TreeState × G → List (Event X) → ℕ → Option C → Type 0
+  StandsFrom stands start log place value = stands_for (stands start.1) start.0 log place value
 
 -- an entry that stands where nothing is said of one, and a tree that does
 abbrev pub NO_ENTRY : ℕ → Entry

@@ -14,7 +14,7 @@ LOCKS = 16
 abbrev pub lock_word : ℕ → ℕ
 lock_word place = LOCKS + place
 
--- how many cores there are at most, and how many entries a core has at most: so the stamp word never comes to its end
+-- how many cores there are at most, and how many stamps a core draws at most: so the stamp word never comes to its end
 abbrev pub MOST_TABLE_CORES : ℕ
 MOST_TABLE_CORES = 256
 
@@ -68,31 +68,39 @@ module _ {T E S : Type 0} (core_of : E → ℕ) (draws : E → Bool) (legal : T 
     pub hand : IsHand first core log v
     pub waits : length hub.lists ≤ core
 
-  -- The views: the first gathers, and has the lists of the first cores; the others are the cores', at their numbers. Each cell that a
-  -- core holds has it as its owner.
+  -- a core's view has a cell among those that it holds
+  abbrev pub CoreHolds : ℕ → ℕ → List (View T E) → Type 0
+  CoreHolds core place views = (v : View T E) × (get_elem? views (suc core) ≡ some v) × Has v.held place
+
+  -- The views: the first gathers, and has the lists of the first cores and what these had seen; the others are the cores', at their
+  -- numbers. Each cell that a core holds has it as its owner, and who owns a cell holds it.
   pub record AreViews (first : T) (log : List E) (owner : ℕ → ℕ) (hub : View T E) (views : List (View T E)) : Type 0 where
     pub hub_first : get_elem? views 0 ≡ some hub
     pub gathers : hub.gathers ≡ true
     pub hub_knows : hub.first ≡ first
     pub cores : length views ≡ suc hub.cores
     pub lists : (core : ℕ) (list : List E) → slice_get hub.lists core ≡ Some list → list ≡ entries_by core_of core log
+    pub saws : (core : ℕ) (seen : List E) → slice_get hub.saws core ≡ Some seen → IsPrefix seen log
     pub hands : (core : ℕ) (v : View T E) → get_elem? views (suc core) ≡ some v → IsGone core hub v ⊎ IsAtWork first core log hub v
     pub owned : (core place : ℕ) (v : View T E) → get_elem? views (suc core) ≡ some v → Has v.held place → owner place ≡ suc core
+    pub holders : (core place : ℕ) → owner place ≡ suc core → CoreHolds core place views
 
-  -- The cells: one at home has no owner, and stands for what the history leaves of it; one whose lock word is 0 is at home.
+  -- The cells: one at home has no owner, and stands for what the history leaves of it; one that is out has a core as its owner; one
+  -- whose lock word is 0 is at home.
   pub record AreCells (first : T) (log : List E) (owner : ℕ → ℕ) (words : List ℕ) (homes : List (mathlib.Core.Option.Option S)) : Type 0 where
     pub locks : length words ≡ LOCKS + length homes
     pub home : (place : ℕ) (value : S) → get_elem? homes place ≡ some (some value) → (owner place ≡ 0) × stands first log place value
+    pub out : (place : ℕ) → get_elem? homes place ≡ some none → (core : ℕ) × (owner place ≡ suc core)
     pub free : (place : ℕ) → place < length homes → slice_index words (lock_word place) ≡ 0 → (value : S) × (get_elem? homes place ≡ some (some value))
 
-  -- The history: it is legal, its entries are of cores that there are, none of which has too many, and the stamp
+  -- The history: it is legal, its entries are of cores that there are, none of which drew too many stamps, and the stamp
   -- word counts those that drew a stamp.
   pub record IsLog (first : T) (cores : ℕ) (log : List E) (words : List ℕ) : Type 0 where
     pub count : slice_index words 0 ≡ stamps_in draws log
     pub legal_log : legal first log
     pub many : cores ≤ MOST_TABLE_CORES
     pub known : AreKnown core_of cores log
-    pub few : (core : ℕ) → length (entries_by core_of core log) ≤ MOST_ENTRIES
+    pub few : (core : ℕ) → stamps_in draws (entries_by core_of core log) ≤ MOST_ENTRIES
 
   -- The rule.
   pub record IsKept (first : T) (log : List E) (owner : ℕ → ℕ) (hub : View T E) (s : State S (View T E)) : Type 0 where

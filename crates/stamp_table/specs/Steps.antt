@@ -44,6 +44,19 @@ module _ {T E S : Type 0} (core_of : E → ℕ) (draws : E → Bool) (legal : T 
   abbrev pub Adds : (ℕ → E) → Me S (View T E) → ℕ → Me S (View T E) → Type 0
   Adds entry before number after = (after.1 ≡ before.1) × ((log : List E) × Drew entry before.0 number after.0 log)
 
+  -- A core has seen the history so far, and how many entries drew a stamp in it. What stood for a cell that it holds does so.
+  pub record Sees (before : View T E) (number : ℕ) (after : View T E) : Type 0 where
+    pub frame : record after { seen = before.seen } ≡ before
+    pub number_is : number ≡ stamps_in draws after.seen
+    pub seen : IsPrefix before.seen after.seen
+    pub legal_seen : legal before.first after.seen
+    pub mine : before.mine ≡ entries_by core_of before.core after.seen
+    pub kept : (other : ℕ) (value : S) → Has before.held other → stands before.first before.seen other value → stands before.first after.seen other value
+
+  -- a step by which a core sees the history
+  abbrev pub Looks : Me S (View T E) → ℕ → Me S (View T E) → Type 0
+  Looks before number after = (after.1 ≡ before.1) × Sees before.0 number after.0
+
   -- a history in which a core's next entry may come: it is legal, the core has seen a beginning of it and has all its own entries
   pub record IsPast (v : View T E) (log : List E) : Type 0 where
     pub legal_log : legal v.first log
@@ -64,7 +77,7 @@ module _ {T E S : Type 0} where
 
 -- the view of the seat that gathers, before any core is made
 abbrev pub gatherer : {T E : Type 0} → T → View T E
-gatherer first = record { gathers = true; gone = false; first = first; core = 0; seen = []; mine = []; held = []; cores = 0; lists = [] }
+gatherer first = record { gathers = true; gone = false; first = first; core = 0; seen = []; mine = []; held = []; cores = 0; lists = []; saws = [] }
 
 -- this view once one more core is made
 abbrev pub one_more : {T E : Type 0} → View T E → View T E
@@ -72,12 +85,12 @@ one_more v = record v { cores = v.cores + 1 }
 
 -- the view of the core that is made next: it has seen nothing
 abbrev pub newcomer : {T E : Type 0} → View T E → View T E
-newcomer v = record { gathers = false; gone = false; first = v.first; core = v.cores; seen = []; mine = []; held = []; cores = 0; lists = [] }
+newcomer v = record { gathers = false; gone = false; first = v.first; core = v.cores; seen = []; mine = []; held = []; cores = 0; lists = []; saws = [] }
 
--- the view once the list of the next core is gathered
+-- the view once the list of the next core is gathered, and what it had seen
 abbrev pub gathered : {T E : Type 0} → View T E → View T E → View T E
-gathered v w = record v { lists = v.lists ++ w.mine ∷ [] }
+gathered v w = record v { lists = v.lists ++ w.mine ∷ []; saws = v.saws ++ w.seen ∷ [] }
 
 -- what is left of a core whose list was gathered
 abbrev pub spent : {T E : Type 0} → T → View T E
-spent first = record { gathers = false; gone = true; first = first; core = 0; seen = []; mine = []; held = []; cores = 0; lists = [] }
+spent first = record { gathers = false; gone = true; first = first; core = 0; seen = []; mine = []; held = []; cores = 0; lists = []; saws = [] }

@@ -1,29 +1,28 @@
 // The end of a table: the cores' lists make one history.
-ghost use Rattle.std.specs.Prelude.{◌≡◌, ◌<◌, ◌≤◌, ℕ, [], true, length, map, filter, slice_get, Some};
+ghost use Rattle.std.specs.Prelude.{◌≡◌, ◌<◌, ◌≤◌, ◌++◌, ◌∷◌, ℕ, List, [], true, length, map, filter, slice_get, Some};
 ghost use Rattle.std.specs.Vec.{vec_capacity};
-ghost use Rattle.atomic_table.specs.Seated.{TableId};
 ghost use Rattle.tree_laws.specs.History.{IsLegal};
 ghost use Rattle.tree_laws.specs.Merged.{is_core};
-ghost use Rattle.std.specs.Mem.Slots.{IsFull};
+ghost use Rattle.std.specs.Mem.Slots.{IsFull, slots_items, slots_len};
 ghost use Rattle.std.specs.List.{AllZip};
 ghost use Rattle.stamp_table.specs.Answered.{AreCallsOf};
-ghost use Rattle.stamp_table.specs.Steps.{gathered};
-ghost use Rattle.stamp_table.specs.Hand.{Hand, IsLead};
-ghost use Rattle.stamp_table.specs.Table.{AreAllCores, AreIdleFrom, first_leads, mine_of, answered_entries, IsSameSeat};
+ghost use Rattle.stamp_table.specs.declared.event.Event.{Event};
+ghost use Rattle.stamp_table.specs.Hand.{Desk, Hand, IsLead};
+ghost use Rattle.stamp_table.specs.Table.{AreAllCores, AreIdleFrom, first_leads, mine_of, events_seen, answered_entries, IsSameSeat, IsLogAtEnd, AreAtHome};
 
 use crate::meaning::Gather;
-use crate::shared::CoreSeat;
+use crate::shared::{CoreSeat, Key};
 use crate::{Core, Event, Law, Meaning, Shared, View};
 use atomic_table::{Closed, Table};
 use sfs_tree::Tree;
 use std::alloc::Global;
 use tree_laws::{Entry, History};
 
-impl<C: Drop, X> Core<C, X> {
+impl<C: Drop, X, G> Core<C, X, G> {
     // The seat that gathers, which the first core has.
-    fn take_lead(&mut self) -> CoreSeat<C, X>
+    fn take_lead(&mut self) -> CoreSeat<C, X, G>
         requires { self.old.leads ≡ true }
-        ensures lead { IsLead self.old.table self.old.cores result }
+        ensures lead { IsLead self.old.table.id self.old.cores result }
         ensures same { record self.new { leads = true } ≡ self.old }
     {
         let Some(lead) = self.lead.take() else {
@@ -34,16 +33,18 @@ impl<C: Drop, X> Core<C, X> {
 }
 
 // Gathers the list of the next core.
-fn gather<C: Drop, X, M: Meaning<C, X>>(
-    table: &Table<Option<C>, View<Tree, Event<X>>, Tree, Law<M>, Global>,
-    lead: &mut CoreSeat<C, X>,
-    core: Core<C, X>,
+fn gather<C: Drop, X, G, M: Meaning<C, X, G>>(
+    table: &Table<Option<C>, View<(Tree, G), Event<X>>, Key<G>, Law<M>, Global>,
+    lead: &mut CoreSeat<C, X, G>,
+    core: Core<C, X, G>,
 ) -> Vec<Entry>
     requires words { 0 < table.now.shared.table_id.words }
     requires lead { (lead.old.table_id ≡ table.now.shared.table_id) × (lead.old.me.0.gathers ≡ true) }
-    requires core { (core.table ≡ table.now.shared.table_id) × (core.view.core ≡ length lead.old.me.0.lists) × (core.held ≡ []) }
+    requires core { (core.table.id ≡ table.now.shared.table_id) × (core.view.core ≡ length lead.old.me.0.lists) × (core.held ≡ []) }
     ensures same { IsSameSeat lead.old lead.new }
-    ensures gathered { lead.new.me.0 ≡ gathered lead.old.me.0 core.view }
+    ensures lists { lead.new.me.0.lists ≡ lead.old.me.0.lists ++ core.view.mine ∷ [] }
+    ensures saws { lead.new.me.0.saws ≡ lead.old.me.0.saws ++ core.view.seen ∷ [] }
+    ensures gathers { (lead.new.me.0.gathers ≡ true) × (lead.new.me.0.cores ≡ lead.old.me.0.cores) }
     ensures entries { result.items ≡ core.entries }
     ensures calls { AreCallsOf core.view.mine core.entries }
 {
@@ -54,35 +55,39 @@ fn gather<C: Drop, X, M: Meaning<C, X>>(
         cores: _,
         entries,
         waiting: _,
-        events: _,
         held: _,
+        apart: _,
     } = core;
-    table.shared.join_seat::<Gather>(lead, seat);
+    table.shared.join_seat::<Gather<C, M>>(lead, seat);
     entries
 }
 
 // The seat that gathers, which the first of the cores has.
-fn first_lead<C: Drop, X>(cores: &mut Vec<Core<C, X>>) -> CoreSeat<C, X>
+fn first_lead<C: Drop, X, G>(cores: &mut Vec<Core<C, X, G>>) -> CoreSeat<C, X, G>
     requires { first_leads cores.old.items ≡ true }
-    ensures ready { (table : TableId) (count : ℕ) → AreIdleFrom table count 0 cores.old.items → AreIdleFrom table count 0 cores.new.items × IsLead table count result }
+    ensures ready { (table : Desk G) (count : ℕ) → AreIdleFrom table count 0 cores.old.items
+        → AreIdleFrom table count 0 cores.new.items × IsLead table.id count result }
     ensures mine { map mine_of cores.new.items ≡ map mine_of cores.old.items }
+    ensures seen { map events_seen cores.new.items ≡ map events_seen cores.old.items }
     ensures entries { map answered_entries cores.new.items ≡ map answered_entries cores.old.items }
 {
     cores[0].take_lead()
 }
 
 // Gathers the lists of all cores.
-fn gather_all<C: Drop, X, M: Meaning<C, X>>(
-    table: &Table<Option<C>, View<Tree, Event<X>>, Tree, Law<M>, Global>,
-    mut cores: Vec<Core<C, X>>,
+fn gather_all<C: Drop, X, G, M: Meaning<C, X, G>>(
+    table: &Table<Option<C>, View<(Tree, G), Event<X>>, Key<G>, Law<M>, Global>,
+    mut cores: Vec<Core<C, X, G>>,
     mut parts: Vec<Vec<Entry>>,
-) -> (CoreSeat<C, X>, Vec<Vec<Entry>>)
+) -> (CoreSeat<C, X, G>, Vec<Vec<Entry>>)
     requires words { 0 < table.now.shared.table_id.words }
     requires leads { first_leads cores.items ≡ true }
-    requires ready { AreIdleFrom table.now.shared.table_id (length cores.items) 0 cores.items }
+    requires ready { AreIdleFrom (record { id = table.now.shared.table_id; given = table.now.shared.key.1.value }) (length cores.items) 0 cores.items }
     requires room { (parts.items ≡ []) × (length cores.items ≤ vec_capacity parts) }
     ensures lead { (result.0.table_id ≡ table.now.shared.table_id) × (result.0.me.0.gathers ≡ true) }
+    ensures cores { result.0.me.0.cores ≡ length cores.items }
     ensures lists { result.0.me.0.lists ≡ map mine_of cores.items }
+    ensures saws { result.0.me.0.saws ≡ map events_seen cores.items }
     ensures parts { map (λ part. part.items) result.1.items ≡ map answered_entries cores.items }
     ensures calls { AllZip AreCallsOf (map mine_of cores.items) (map answered_entries cores.items) }
 {
@@ -94,34 +99,46 @@ fn gather_all<C: Drop, X, M: Meaning<C, X>>(
     (lead, parts)
 }
 
-impl<C: Drop, X, M: Meaning<C, X>> Shared<C, X, M> {
-    /// Ends the table, and answers the history: it is legal from the first tree on, and each core's entries stand in it, with their
-    /// answers, once and in their order. It takes all cores of the table, ascending by number, none of which holds a cell. It takes no memory.
-    pub fn close(self, cores: Vec<Core<C, X>>) -> History
+impl<C: Drop, X, G, M: Meaning<C, X, G>> Shared<C, X, G, M> {
+    /// Ends the table, and answers the history and the cells' values. The history is legal from the first tree on, and each core's
+    /// entries stand in it, with their answers, once and in their order. What cores told stands in a log of which the history has the
+    /// calls, and each value, in the order of places, stands for what this log leaves of its cell. It takes all cores of the table,
+    /// ascending by number, none of which holds a cell. It takes no memory.
+    pub fn close(self, cores: Vec<Core<C, X, G>>) -> (History, Vec<C>)
         requires { AreAllCores self cores.items }
-        ensures legal { IsLegal self.first result }
-        ensures own { (core : ℕ) (hand : Hand C X) → slice_get cores.items core ≡ Some hand → filter (is_core core) result ≡ hand.entries }
+        ensures legal { IsLegal self.first result.0 }
+        ensures own { (core : ℕ) (hand : Hand C X G) → slice_get cores.items core ≡ Some hand → filter (is_core core) result.0 ≡ hand.entries }
+        ensures log { (log : List (Event X)) × IsLogAtEnd (M.lawful self.table.given) self.first cores.items result.0 log
+            × AreAtHome (M.stands self.table.given) self.first log self.table.id.slots result.1.items }
     {
         let Shared {
             table,
             cells: _,
             cores: _,
             parts,
+            values,
         } = self;
         let (lead, parts) = gather_all(&table, cores, parts);
-        free(table.close_with(lead));
-        History::from_parts(parts)
+        let values = values_of(table.close_with(lead), values);
+        (History::from_parts(parts), values)
     }
 }
 
-// Lets a table's values and its memory go.
-fn free<C: Drop>(mut closed: Closed<Option<C>, Global>)
-    requires { IsFull closed.slots }
+// The values of a table's cells, all of which lie at home, and lets its memory go.
+fn values_of<C: Drop>(mut closed: Closed<Option<C>, Global>, mut values: Vec<C>) -> Vec<C>
+    requires full { IsFull closed.slots }
+    requires home { (inside : List C) × (slots_items closed.slots ≡ map Some inside) }
+    requires room { (values.items ≡ []) × (slots_len closed.slots ≤ vec_capacity values) }
+    ensures { map Some result.items ≡ slots_items closed.slots }
 {
     let mut place = 0;
     while place < closed.slot_count() {
-        drop(closed.take(place));
+        let Some(value) = closed.take(place) else {
+            unreachable!()
+        };
+        values.push_reserved(value);
         place += 1;
     }
     closed.free();
+    values
 }

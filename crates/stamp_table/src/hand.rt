@@ -4,32 +4,33 @@ ghost use Rattle.tree_laws.specs.History.{IsFsyncReply, is_ok_reply};
 ghost use Rattle.stamp_table.specs.Answered.{waits_for_answer};
 ghost use Rattle.stamp_table.specs.declared.held.HeldCell.{HeldCell};
 ghost use Rattle.stamp_table.specs.Hand.{places_of};
+ghost use Rattle.stamp_table.specs.Events.{calls_in};
 ghost use Rattle.stamp_table.specs.Ascending.{LiesAbove, AreBelow, RiseAbove};
-ghost use Rattle.stamp_table.specs.Table.{HoldsMore, HoldsAll, MayCall, MayTell, Stamps, TellsFact, GivesAnswer, LetsGo, Stands, OfLast, EachFrom, begins_from, left_below};
+ghost use Rattle.stamp_table.specs.Table.{HoldsMore, HoldsAll, Looked, MayCall, MayTell, Stamps, TellsFact, GivesAnswer, LetsGo, Stands, OfLast, EachFrom, begins_from, left_below};
 
 use crate::shared::CoreSeat;
-use crate::{HeldCell, Meaning, Shared};
+use crate::{HeldCell, Meaning, Shared, Telling};
 use sfs_base::{CoreId, NoMemory, Stamp};
 use std::marker::{Brand, Model};
 use std::sync::Wait;
 use tree_laws::{Call, Entry, Reply};
 
-// How many events a core has at most, so that the stamp word never comes to its end.
+// How many stamps a core draws at most, so that the stamp word never comes to its end.
 const MOST_ENTRIES: u64 = 1 << 50;
 
 /// A core's place at a table. It keeps the list of the core's own entries, and the values of the cells that it holds.
 #[derive(Drop)]
-pub struct Core<C, X> {
-    pub(crate) seat: CoreSeat<C, X>,
-    pub(crate) lead: Option<CoreSeat<C, X>>,
+pub struct Core<C, X, G> {
+    pub(crate) seat: CoreSeat<C, X, G>,
+    pub(crate) lead: Option<CoreSeat<C, X, G>>,
     pub(crate) number: CoreId,
     pub(crate) cores: u8,
     pub(crate) entries: Vec<Entry>,
     // The stamp of its last entry, where that is an fsync that waits for its answer.
     pub(crate) waiting: Option<Stamp>,
-    // How many events the core has: its entries, and what it told.
-    pub(crate) events: u64,
     pub(crate) held: Vec<HeldCell<C>>,
+    // The cores lie side by side in a list, and each call writes to its own. So two of them share no line of memory.
+    pub(crate) apart: [u64; 8],
 }
 
 // The stamp, where the entry with it waits for its answer: it is an fsync with want of memory.
@@ -42,33 +43,35 @@ fn waiting_with(call: &Call, reply: &Reply, stamp: Stamp) -> Option<Stamp>
     }
 }
 
-impl<C, X> Model for Core<C, X> {
-    ghost use Rattle.std.specs.Prelude.{◌-◌, is_some, option_map};
+impl<C, X, G> Model for Core<C, X, G> {
+    ghost use Rattle.std.specs.Prelude.{◌-◌, length, is_some, option_map};
     ghost use Rattle.std.specs.Vec.{vec_capacity, vec_len};
     ghost use Rattle.stamp_table.specs.Hand.{Hand, spare_of, IsCore, LeadsWell, WaitsWell};
     ghost use Rattle.stamp_table.specs.Codes.{hand_code};
+    ghost use Rattle.stamp_table.specs.Events.{tree_view};
     ghost use Rattle.tree_laws.specs.contracts.history.Entry as entry;
 
-    ghost Value = { Hand C X };
+    ghost Value = { Hand C X G };
 
-    ghost coded = { hand_code entry.the_row.coded C.code X.code };
+    ghost coded = { hand_code entry.the_row.coded C.code X.code G.code };
 
     ghost view = { λ c. record {
-      table = c.seat.table_id;
-      view = c.seat.me.0;
+      table = record { id = c.seat.table_id; given = c.seat.me.0.first.1 };
+      view = tree_view c.seat.me.0;
       entries = c.entries.items;
       waiting = option_map (λ stamp. stamp.0) c.waiting;
       held = c.held.items;
-      spare = spare_of (vec_capacity c.entries) (vec_len c.entries) c.events;
+      spare = spare_of (vec_capacity c.entries) (length c.entries.items);
       room = vec_capacity c.held - vec_len c.held;
       leads = is_some c.lead;
       cores = c.cores;
     } };
 
-    ghost invariant = { λ c. IsCore c.seat c.number.0 c.entries.items c.events c.held.items × LeadsWell c.seat.table_id c.cores c.lead × WaitsWell c.entries.items c.waiting };
+    ghost invariant = { λ c. IsCore c.seat c.number.0 c.entries.items c.held.items × LeadsWell c.seat.table_id c.cores c.lead
+        × WaitsWell c.entries.items c.waiting };
 }
 
-impl<C: Drop, X> Core<C, X> {
+impl<C: Drop, X, G> Core<C, X, G> {
     /// The core's number.
     pub fn number(&self) -> CoreId
         ensures { result.0 ≡ self.now.view.core }
@@ -76,11 +79,11 @@ impl<C: Drop, X> Core<C, X> {
         self.number
     }
 
-    /// A core has at most 2^50 events: its calls, and what it told.
-    pub fn events_are_few(&self)
-        ensures { length self.now.view.mine ≤ 2 ^ 50 }
+    /// A core has at most 2^50 calls.
+    pub fn calls_are_few(&self)
+        ensures { length (calls_in self.now.view.mine) ≤ 2 ^ 50 }
     {
-        let _events = self.events;
+        let _ = &self.entries;
     }
 
     /// Makes room for so many further entries and cells. Where it is refused, the core is as before.
@@ -89,7 +92,7 @@ impl<C: Drop, X> Core<C, X> {
         ensures cells { OnOk result (cells ≤ self.new.room) }
         ensures same { record self.new { spare = self.old.spare; room = self.old.room } ≡ self.old }
     {
-        if MOST_ENTRIES - self.events < entries as u64 {
+        if MOST_ENTRIES - (self.entries.len() as u64) < entries as u64 {
             return Err(NoMemory);
         }
         self.entries.reserve(entries as usize)?;
@@ -98,17 +101,17 @@ impl<C: Drop, X> Core<C, X> {
     }
 
     /// Holds one cell more, which lies above all that it holds. It waits while another core has the cell.
-    pub fn hold_one<R: Wait, M: Meaning<C, X>>(
+    pub fn hold_one<R: Wait, M: Meaning<C, X, G>>(
         &mut self,
         rt: &R,
-        shared: &Shared<C, X, M>,
+        shared: &Shared<C, X, G, M>,
         place: usize,
     )
         requires table { self.old.table ≡ shared.now.table }
-        requires cell { place < shared.now.table.slots }
+        requires cell { place < shared.now.table.id.slots }
         requires above { LiesAbove place self.old.view.held }
         requires room { 0 < self.old.room }
-        ensures { HoldsMore M.lawful M.stands place self.old self.new }
+        ensures { HoldsMore (M.lawful shared.now.table.given) (M.stands shared.now.table.given) place self.old self.new }
     {
         shared.take(rt, &mut self.seat, place);
         let value = shared.bring(&mut self.seat, place);
@@ -116,17 +119,17 @@ impl<C: Drop, X> Core<C, X> {
     }
 
     /// Holds these cells more, places ascending, each above all that it holds. It waits while another core has one of them.
-    pub fn hold<R: Wait, M: Meaning<C, X>>(
+    pub fn hold<R: Wait, M: Meaning<C, X, G>>(
         &mut self,
         rt: &R,
-        shared: &Shared<C, X, M>,
+        shared: &Shared<C, X, G, M>,
         places: &[usize],
     )
         requires table { self.old.table ≡ shared.now.table }
-        requires cells { AreBelow shared.now.table.slots places.now }
+        requires cells { AreBelow shared.now.table.id.slots places.now }
         requires above { RiseAbove self.old.view.held places.now }
         requires room { length places.now ≤ self.old.room }
-        ensures { HoldsAll M.lawful M.stands places.now self.old self.new }
+        ensures { HoldsAll (M.lawful shared.now.table.given) (M.stands shared.now.table.given) places.now self.old self.new }
     {
         for place in places {
             self.hold_one(rt, shared, *place);
@@ -135,17 +138,17 @@ impl<C: Drop, X> Core<C, X> {
 
     /// Adds the entry of a call with this reply, and answers its stamp. An fsync of a live node has want of memory as its reply, and
     /// waits for its answer; no further call is stamped before it.
-    pub fn stamp<M: Meaning<C, X>>(
+    pub fn stamp<M: Meaning<C, X, G>>(
         &mut self,
-        shared: &Shared<C, X, M>,
+        shared: &Shared<C, X, G, M>,
         call: Call,
         reply: Reply,
     ) -> Stamp
         requires table { self.old.table ≡ shared.now.table }
         requires spare { 0 < self.old.spare }
         requires answered { self.old.waiting ≡ None }
-        requires may { MayCall M.lawful M.stands self.old.view call reply }
-        ensures { Stamps M.lawful M.stands call reply self.old result.0 self.new }
+        requires may { MayCall (M.lawful shared.now.table.given) (M.stands shared.now.table.given) self.old.view call reply }
+        ensures { Stamps (M.lawful shared.now.table.given) (M.stands shared.now.table.given) call reply self.old result.0 self.new }
     {
         let core = self.number;
         let number = shared.draw::<Brand>(&mut self.seat, core, &call, &reply);
@@ -157,7 +160,6 @@ impl<C: Drop, X> Core<C, X> {
             reply,
             ack: None,
         });
-        self.events += 1;
         Stamp(number)
     }
 
@@ -192,15 +194,63 @@ impl<C: Drop, X> Core<C, X> {
         });
     }
 
-    /// Tells a fact: it stands in the history behind all that came before it. It takes no memory.
-    pub fn tell<M: Meaning<C, X>>(&mut self, shared: &Shared<C, X, M>, fact: &X)
+    /// Sees the history so far, and answers how many calls it has.
+    pub fn look<M: Meaning<C, X, G>>(&mut self, shared: &Shared<C, X, G, M>) -> u64
         requires table { self.old.table ≡ shared.now.table }
-        requires spare { 0 < self.old.spare }
-        requires may { MayTell M.lawful M.stands self.old.view fact.now }
-        ensures { TellsFact M.lawful M.stands fact.now self.old self.new }
+        ensures { Looked (M.lawful shared.now.table.given) (M.stands shared.now.table.given) self.old result self.new }
     {
-        shared.tell::<Brand>(&mut self.seat, fact);
-        self.events += 1;
+        shared.look(&mut self.seat)
+    }
+
+    /// Sees a history that has so many calls at least. It waits until there are.
+    pub fn look_for<R: Wait, M: Meaning<C, X, G>>(
+        &mut self,
+        rt: &R,
+        shared: &Shared<C, X, G, M>,
+        count: u64,
+    ) -> u64
+        requires table { self.old.table ≡ shared.now.table }
+        ensures looked { Looked (M.lawful shared.now.table.given) (M.stands shared.now.table.given) self.old result self.new }
+        ensures enough { count ≤ result }
+    {
+        let mut found = self.look(shared);
+        for _ in rt.forever() {
+            if count <= found {
+                return found;
+            }
+            let next = self.look(shared);
+            found = next;
+        }
+        unreachable!()
+    }
+
+    /// Tells a fact: it stands in the history behind all that came before it. It takes no memory, and there is no end to how many.
+    pub fn tell<M: Meaning<C, X, G>>(&mut self, shared: &Shared<C, X, G, M>, fact: &X)
+        requires table { self.old.table ≡ shared.now.table }
+        requires may { MayTell (M.lawful shared.now.table.given) (M.stands shared.now.table.given) self.old.view fact.now }
+        ensures { TellsFact (M.lawful shared.now.table.given) (M.stands shared.now.table.given) fact.now self.old self.new }
+    {
+        self.tell_by::<M, Brand>(shared, fact);
+    }
+
+    // The same, by a ghost that is the fact.
+    fn tell_by<M: Meaning<C, X, G>, J: Telling<X>>(&mut self, shared: &Shared<C, X, G, M>, fact: &X)
+        requires table { self.old.table ≡ shared.now.table }
+        requires picked { J.fact ≡ Some fact.now }
+        requires may { MayTell (M.lawful shared.now.table.given) (M.stands shared.now.table.given) self.old.view fact.now }
+        ensures { TellsFact (M.lawful shared.now.table.given) (M.stands shared.now.table.given) fact.now self.old self.new }
+    {
+        let _fact = fact;
+        self.tell_ghost::<M, J>(shared);
+    }
+
+    /// The same of a fact that is no value at run time: it is told by `J`.
+    pub fn tell_ghost<M: Meaning<C, X, G>, J: Telling<X>>(&mut self, shared: &Shared<C, X, G, M>)
+        requires table { self.old.table ≡ shared.now.table }
+        requires may { (fact : X) × (J.fact ≡ Some fact) × MayTell (M.lawful shared.now.table.given) (M.stands shared.now.table.given) self.old.view fact }
+        ensures { (fact : X) → J.fact ≡ Some fact → TellsFact (M.lawful shared.now.table.given) (M.stands shared.now.table.given) fact self.old self.new }
+    {
+        shared.tell::<J>(&mut self.seat);
     }
 
     // Whether the core holds a cell from a place on.
@@ -215,10 +265,10 @@ impl<C: Drop, X> Core<C, X> {
     }
 
     // Lets go of the last cell.
-    fn give_last<M: Meaning<C, X>>(&mut self, shared: &Shared<C, X, M>)
+    fn give_last<M: Meaning<C, X, G>>(&mut self, shared: &Shared<C, X, G, M>)
         requires table { self.old.table ≡ shared.now.table }
         requires some { 0 < length self.old.held }
-        requires home { OfLast (Stands M.lawful M.stands self.old.view) self.old.held }
+        requires home { OfLast (Stands (M.lawful shared.now.table.given) (M.stands shared.now.table.given) self.old.view) self.old.held }
         ensures lets_go { LetsGo self.old self.new }
         ensures last { (cell : HeldCell C) × (self.old.held ≡ self.new.held ++ cell ∷ []) }
     {
@@ -230,9 +280,9 @@ impl<C: Drop, X> Core<C, X> {
     }
 
     /// Lets go of each cell from a place on, the last one first.
-    pub fn let_go<M: Meaning<C, X>>(&mut self, shared: &Shared<C, X, M>, from: usize)
+    pub fn let_go<M: Meaning<C, X, G>>(&mut self, shared: &Shared<C, X, G, M>, from: usize)
         requires table { self.old.table ≡ shared.now.table }
-        requires home { EachFrom from (Stands M.lawful M.stands self.old.view) self.old.held }
+        requires home { EachFrom from (Stands (M.lawful shared.now.table.given) (M.stands shared.now.table.given) self.old.view) self.old.held }
         ensures lets_go { LetsGo self.old self.new }
         ensures left { self.new.held ≡ left_below from self.old.held }
         ensures places { self.new.view.held ≡ reverse (places_of self.new.held) }

@@ -14,6 +14,6 @@ mod view;
 pub use event::Event;
 pub use hand::Core;
 pub use held::HeldCell;
-pub use meaning::{Law, Meaning};
+pub use meaning::{Law, Meaning, Telling};
 pub use shared::Shared;
 pub use view::View;

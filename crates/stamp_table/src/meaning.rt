@@ -5,22 +5,27 @@ ghost use Rattle.stamp_table.specs.declared.event.Event.{Event};
 ghost use Rattle.stamp_table.specs.declared.event.Event.TheVariants.{Called};
 ghost use Rattle.tree_laws.specs.declared.history.Entry.{Entry};
 ghost use Rattle.stamp_table.specs.Rule.{Kept, lock_word};
-ghost use Rattle.stamp_table.specs.Steps.{gatherer, one_more, newcomer, gathered, spent, MayTake, Gave, Adds};
-ghost use Rattle.stamp_table.specs.Events.{event_core, is_call, IsLawful, stands_for, told_by, NO_ENTRY, NO_TREE};
+ghost use Rattle.stamp_table.specs.Steps.{gatherer, one_more, newcomer, gathered, spent, MayTake, Gave, Adds, Looks};
+ghost use Rattle.stamp_table.specs.Events.{event_core, is_call, LawfulFrom, StandsFrom, told_by, NO_ENTRY, NO_TREE};
 
 use crate::{Event, View};
 use atomic_table::{Join, Play, Split, TableRule};
 use sfs_tree::Tree;
 use std::marker::{Brand, PhantomData};
+use std::snapshot::Snapshot;
 use tree_laws::Entry;
 
-/// What the cells of a table stand for, and what its cores may tell.
-pub trait Meaning<C, X> {
-    /// What was told may stand in a history: of the first tree and the history.
-    ghost lawful: { TreeState → List (Event X) → Type 0 };
+/// What the cells of a table stand for, and what its cores may tell. Both may speak of a value that was given when the table was made.
+pub trait Meaning<C, X, G> {
+    /// What was told may stand in a history: of what was given, the first tree and the history.
+    ghost lawful: { G → TreeState → List (Event X) → Type 0 };
 
-    /// A value stands for what a history leaves of a cell: of the first tree, the history, the cell's place and the value.
-    ghost stands: { TreeState → List (Event X) → ℕ → C → Type 0 };
+    /// A value stands for what a history leaves of a cell: of what was given, the first tree, the history, the cell's place and the
+    /// value.
+    ghost stands: { G → TreeState → List (Event X) → ℕ → C → Type 0 };
+
+    /// Some value that may be given. A seat whose core is gone knows no other.
+    ghost nothing: { G };
 }
 
 /// The rule of a table whose cells have this meaning.
@@ -28,10 +33,14 @@ pub struct Law<M> {
     meaning: PhantomData<M>,
 }
 
-impl<C, X, M: Meaning<C, X>> TableRule<Option<C>, View<Tree, Event<X>>, Tree> for Law<M> {
-    ghost holds = { λ first state. Kept event_core is_call (IsLawful M.lawful) (stands_for M.stands) first state };
+impl<C, X, G, M: Meaning<C, X, G>> TableRule<
+    Option<C>,
+    View<(Tree, G), Event<X>>,
+    (Snapshot<Tree>, Snapshot<G>),
+> for Law<M> {
+    ghost holds = { λ key state. Kept event_core is_call (LawfulFrom M.lawful) (StandsFrom M.stands) (key.0.value, key.1.value) state };
 
-    ghost first = { λ first. gatherer first };
+    ghost first = { λ key. gatherer (key.0.value, key.1.value) };
 }
 
 // A step that takes a cell where its lock word is 0.
@@ -39,14 +48,15 @@ pub(crate) struct Take<M> {
     meaning: PhantomData<M>,
 }
 
-impl<C, X, M: Meaning<C, X>> Play<Option<C>, View<Tree, Event<X>>> for Take<M> {
-    ghost then = { λ step before found after. (place : ℕ) → step.word ≡ lock_word place → MayTake event_core is_call (IsLawful M.lawful) (stands_for M.stands) place before found after };
+impl<C, X, G, M: Meaning<C, X, G>> Play<Option<C>, View<(Tree, G), Event<X>>> for Take<M> {
+    ghost then = { λ step before found after. (place : ℕ) → step.word ≡ lock_word place
+        → MayTake event_core is_call (LawfulFrom M.lawful) (StandsFrom M.stands) place before found after };
 }
 
 // A step that gives the cell back that was taken last.
 pub(crate) struct Give;
 
-impl<C, X> Play<Option<C>, View<Tree, Event<X>>> for Give {
+impl<C, X, G> Play<Option<C>, View<(Tree, G), Event<X>>> for Give {
     ghost then = { λ step before found after. Gave before after };
 }
 
@@ -64,12 +74,14 @@ pub(crate) struct Draw<M, J> {
     drawing: PhantomData<(M, J)>,
 }
 
-impl<C, X, M: Meaning<C, X>, J: Drawing> Play<Option<C>, View<Tree, Event<X>>> for Draw<M, J> {
-    ghost then = { λ step before found after. Adds event_core is_call (IsLawful M.lawful) (stands_for M.stands) (λ number. Called (J.entry number)) before found after };
+impl<C, X, G, M: Meaning<C, X, G>, J: Drawing> Play<Option<C>, View<(Tree, G), Event<X>>>
+    for Draw<M, J> {
+    ghost then = { λ step before found after. Adds event_core is_call (LawfulFrom M.lawful) (StandsFrom M.stands)
+        (λ number. Called (J.entry number)) before found after };
 }
 
-// The fact that a step tells.
-pub(crate) trait Telling<X> {
+/// The fact that a step tells, where it is no value at run time.
+pub trait Telling<X> {
     ghost fact: { Option X };
 }
 
@@ -82,24 +94,37 @@ pub(crate) struct Tell<M, J> {
     telling: PhantomData<(M, J)>,
 }
 
-impl<C, X, M: Meaning<C, X>, J: Telling<X>> Play<Option<C>, View<Tree, Event<X>>> for Tell<M, J> {
-    ghost then = { λ step before found after. (fact : X) → J.fact ≡ Some fact → Adds event_core is_call (IsLawful M.lawful) (stands_for M.stands) (told_by before.0.core fact) before found after };
+impl<C, X, G, M: Meaning<C, X, G>, J: Telling<X>> Play<Option<C>, View<(Tree, G), Event<X>>>
+    for Tell<M, J> {
+    ghost then = { λ step before found after. (fact : X) → J.fact ≡ Some fact
+        → Adds event_core is_call (LawfulFrom M.lawful) (StandsFrom M.stands) (told_by before.0.core fact) before found after };
+}
+
+// A step that looks how many calls there are.
+pub(crate) struct Look<M> {
+    meaning: PhantomData<M>,
+}
+
+impl<C, X, G, M: Meaning<C, X, G>> Play<Option<C>, View<(Tree, G), Event<X>>> for Look<M> {
+    ghost then = { λ step before found after. Looks event_core is_call (LawfulFrom M.lawful) (StandsFrom M.stands) before found after };
 }
 
 // One more core is made.
 pub(crate) struct Make;
 
-impl<X> Split<View<Tree, Event<X>>> for Make {
+impl<X, G> Split<View<(Tree, G), Event<X>>> for Make {
     ghost left = { λ view. one_more view };
 
     ghost right = { λ view. newcomer view };
 }
 
 // The list of the next core is gathered.
-pub(crate) struct Gather;
+pub(crate) struct Gather<C, M> {
+    gathering: PhantomData<(C, M)>,
+}
 
-impl<X> Join<View<Tree, Event<X>>> for Gather {
+impl<C, X, G, M: Meaning<C, X, G>> Join<View<(Tree, G), Event<X>>> for Gather<C, M> {
     ghost both = { λ view other. gathered view other };
 
-    ghost spent = { spent NO_TREE };
+    ghost spent = { spent (NO_TREE, M.nothing) };
 }

@@ -3,16 +3,17 @@ ghost use Rattle.std.specs.Prelude.{◌≡◌, ◌<◌, ◌+◌, ◌∷◌, Some
 ghost use Rattle.atomic_table.specs.Table.{rest};
 ghost use Rattle.stamp_table.specs.Rule.{lock_word};
 ghost use Rattle.stamp_table.specs.Steps.{Gave};
-ghost use Rattle.stamp_table.specs.Table.{IsSeatOf, IsSameSeat, TakesCell, GoesHome, MayDrawEntry, AddsEntry, MayTellNow, TellsNow, entry_numbered};
+ghost use Rattle.stamp_table.specs.Table.{IsSeatOf, IsSameSeat, TakesCell, GoesHome, MayDrawEntry, AddsEntry, MayTellNow, TellsNow, LooksNow, entry_numbered};
 
-use crate::meaning::{Draw, Drawing, Give, Take, Tell, Telling};
-use crate::{Event, Law, Meaning, View};
+use crate::meaning::{Draw, Drawing, Give, Look, Take, Tell};
+use crate::{Event, Law, Meaning, Telling, View};
 use atomic_table::{Seat, Table};
 use sfs_base::CoreId;
 use sfs_tree::Tree;
 use std::alloc::Global;
 use std::hint;
 use std::marker::Model;
+use std::snapshot::Snapshot;
 use std::sync::Wait;
 use tree_laws::{Call, Entry, Reply};
 
@@ -23,40 +24,50 @@ pub(crate) const LOCKS: usize = 16;
 pub(crate) const STAMP: usize = 0;
 
 // How often a core looks again at a lock word before it parks.
-const SPINS: usize = 1000;
+const SPINS: usize = 12000;
+
+// What a table is about: the tree before the first call, and what its caller gave beside it.
+pub(crate) type Key<G> = (Snapshot<Tree>, Snapshot<G>);
 
 /// What a core steps with.
-pub(crate) type CoreSeat<C, X> = Seat<Option<C>, View<Tree, Event<X>>>;
+pub(crate) type CoreSeat<C, X, G> = Seat<Option<C>, View<(Tree, G), Event<X>>>;
 
 /// The table that cores share: cells, each held by one core at a time or at home, and the word from which stamps are drawn.
 #[derive(Drop)]
-pub struct Shared<C, X, M: Meaning<C, X>> {
-    pub(crate) table: Table<Option<C>, View<Tree, Event<X>>, Tree, Law<M>, Global>,
+pub struct Shared<C, X, G, M: Meaning<C, X, G>> {
+    pub(crate) table: Table<Option<C>, View<(Tree, G), Event<X>>, Key<G>, Law<M>, Global>,
     pub(crate) cells: usize,
     pub(crate) cores: u8,
     // Room for the cores' lists at the end.
     pub(crate) parts: Vec<Vec<Entry>>,
+    // Room for the cells' values at the end.
+    pub(crate) values: Vec<C>,
 }
 
-impl<C, X, M: Meaning<C, X>> Model for Shared<C, X, M> {
+impl<C, X, G, M: Meaning<C, X, G>> Model for Shared<C, X, G, M> {
     ghost use Rattle.std.specs.Prelude.{◌≡◌, ◌+◌, ◌<◌, [], ◌≤◌, ◌^◌, length};
     ghost use Rattle.std.specs.Vec.{vec_capacity};
     ghost use Rattle.stamp_table.specs.Table.{TableState, table_code};
 
-    ghost Value = { TableState };
+    ghost Value = { TableState G };
 
-    ghost coded = { table_code };
+    ghost coded = { table_code G.code };
 
-    ghost view = { λ t. record { table = t.table.shared.table_id; first = t.table.shared.key; cores = t.cores } };
+    ghost view = { λ t. record {
+      table = record { id = t.table.shared.table_id; given = t.table.shared.key.1.value };
+      first = t.table.shared.key.0.value;
+      cores = t.cores;
+    } };
 
     ghost invariant = { λ t. (t.table.shared.table_id.words ≡ 16 + t.cells) × (t.table.shared.table_id.slots ≡ t.cells)
-        × (16 + t.cells < 2 ^ 63) × (t.parts.items ≡ []) × (t.cores ≤ vec_capacity t.parts) × (t.cores ≡ length t.table.shared.key.made) };
+        × (16 + t.cells < 2 ^ 63) × (t.parts.items ≡ []) × (t.cores ≤ vec_capacity t.parts) × (t.cores ≡ length t.table.shared.key.0.value.made)
+        × (t.values.items ≡ []) × (t.cells ≤ vec_capacity t.values) };
 }
 
-impl<C: Drop, X, M: Meaning<C, X>> Shared<C, X, M> {
+impl<C: Drop, X, G, M: Meaning<C, X, G>> Shared<C, X, G, M> {
     // The lock word of a cell.
     fn lock_of(&self, place: usize) -> usize
-        requires { place < self.now.table.slots }
+        requires { place < self.now.table.id.slots }
         ensures { result ≡ lock_word place }
     {
         let _last = LOCKS + self.cells;
@@ -64,9 +75,9 @@ impl<C: Drop, X, M: Meaning<C, X>> Shared<C, X, M> {
     }
 
     // Takes a cell where its lock word is 0.
-    fn try_take(&self, seat: &mut CoreSeat<C, X>, place: usize) -> bool
-        requires seat { IsSeatOf self.now.table seat.old }
-        requires cell { place < self.now.table.slots }
+    fn try_take(&self, seat: &mut CoreSeat<C, X, G>, place: usize) -> bool
+        requires seat { IsSeatOf self.now.table.id seat.old }
+        requires cell { place < self.now.table.id.slots }
         ensures same { IsSameSeat seat.old seat.new }
         ensures takes { MatchBool result (TakesCell M.lawful M.stands place seat.old.me seat.new.me) (seat.new.me ≡ seat.old.me) }
     {
@@ -78,9 +89,9 @@ impl<C: Drop, X, M: Meaning<C, X>> Shared<C, X, M> {
     }
 
     // The same, and where it is not taken it has to be told when it is free.
-    fn take_or_wait(&self, seat: &mut CoreSeat<C, X>, place: usize) -> bool
-        requires seat { IsSeatOf self.now.table seat.old }
-        requires cell { place < self.now.table.slots }
+    fn take_or_wait(&self, seat: &mut CoreSeat<C, X, G>, place: usize) -> bool
+        requires seat { IsSeatOf self.now.table.id seat.old }
+        requires cell { place < self.now.table.id.slots }
         ensures same { IsSameSeat seat.old seat.new }
         ensures takes { MatchBool result (TakesCell M.lawful M.stands place seat.old.me seat.new.me) (seat.new.me ≡ seat.old.me) }
     {
@@ -89,9 +100,9 @@ impl<C: Drop, X, M: Meaning<C, X>> Shared<C, X, M> {
     }
 
     // Looks at the lock word for a while, and takes the cell once it is 0.
-    fn spin_for(&self, seat: &mut CoreSeat<C, X>, place: usize) -> bool
-        requires seat { IsSeatOf self.now.table seat.old }
-        requires cell { place < self.now.table.slots }
+    fn spin_for(&self, seat: &mut CoreSeat<C, X, G>, place: usize) -> bool
+        requires seat { IsSeatOf self.now.table.id seat.old }
+        requires cell { place < self.now.table.id.slots }
         ensures same { IsSameSeat seat.old seat.new }
         ensures takes { MatchBool result (TakesCell M.lawful M.stands place seat.old.me seat.new.me) (seat.new.me ≡ seat.old.me) }
     {
@@ -106,9 +117,9 @@ impl<C: Drop, X, M: Meaning<C, X>> Shared<C, X, M> {
     }
 
     // Takes a cell, and waits for it where another core has it. A core that finds it free changes one word once.
-    pub(crate) fn take<R: Wait>(&self, rt: &R, seat: &mut CoreSeat<C, X>, place: usize)
-        requires seat { IsSeatOf self.now.table seat.old }
-        requires cell { place < self.now.table.slots }
+    pub(crate) fn take<R: Wait>(&self, rt: &R, seat: &mut CoreSeat<C, X, G>, place: usize)
+        requires seat { IsSeatOf self.now.table.id seat.old }
+        requires cell { place < self.now.table.id.slots }
         ensures same { IsSameSeat seat.old seat.new }
         ensures takes { TakesCell M.lawful M.stands place seat.old.me seat.new.me }
     {
@@ -126,9 +137,9 @@ impl<C: Drop, X, M: Meaning<C, X>> Shared<C, X, M> {
     }
 
     // Gives back the cell that was taken last, and wakes a core that waits for it. The value is home before the word is 0.
-    pub(crate) fn give(&self, seat: &mut CoreSeat<C, X>, place: usize)
-        requires seat { IsSeatOf self.now.table seat.old }
-        requires cell { place < self.now.table.slots }
+    pub(crate) fn give(&self, seat: &mut CoreSeat<C, X, G>, place: usize)
+        requires seat { IsSeatOf self.now.table.id seat.old }
+        requires cell { place < self.now.table.id.slots }
         requires home { GoesHome M.lawful M.stands place seat.old.me }
         ensures same { IsSameSeat seat.old seat.new }
         ensures gave { Gave seat.old.me seat.new.me }
@@ -140,8 +151,8 @@ impl<C: Drop, X, M: Meaning<C, X>> Shared<C, X, M> {
     }
 
     // Brings out the value of the cell that was taken last.
-    pub(crate) fn bring(&self, seat: &mut CoreSeat<C, X>, place: usize) -> C
-        requires seat { seat.old.table_id ≡ self.now.table }
+    pub(crate) fn bring(&self, seat: &mut CoreSeat<C, X, G>, place: usize) -> C
+        requires seat { seat.old.table_id ≡ self.now.table.id }
         requires top { (value : C) × (seat.old.me.1 ≡ (place, Some value) ∷ rest seat.old.me.1) }
         ensures same { IsSameSeat seat.old seat.new }
         ensures value { seat.old.me.1 ≡ (place, Some result) ∷ rest seat.old.me.1 }
@@ -154,8 +165,8 @@ impl<C: Drop, X, M: Meaning<C, X>> Shared<C, X, M> {
     }
 
     // Puts a value into the slot of the cell that was taken last.
-    pub(crate) fn put(&self, seat: &mut CoreSeat<C, X>, place: usize, value: C)
-        requires seat { seat.old.table_id ≡ self.now.table }
+    pub(crate) fn put(&self, seat: &mut CoreSeat<C, X, G>, place: usize, value: C)
+        requires seat { seat.old.table_id ≡ self.now.table.id }
         requires top { seat.old.me.1 ≡ (place, None) ∷ rest seat.old.me.1 }
         ensures same { IsSameSeat seat.old seat.new }
         ensures full { seat.new.me ≡ (seat.old.me.0, (place, Some value) ∷ rest seat.old.me.1) }
@@ -168,12 +179,12 @@ impl<C: Drop, X, M: Meaning<C, X>> Shared<C, X, M> {
     // Draws a number for the entry of a core's call.
     pub(crate) fn draw<J: Drawing>(
         &self,
-        seat: &mut CoreSeat<C, X>,
+        seat: &mut CoreSeat<C, X, G>,
         core: CoreId,
         call: &Call,
         reply: &Reply,
     ) -> u64
-        requires seat { IsSeatOf self.now.table seat.old }
+        requires seat { IsSeatOf self.now.table.id seat.old }
         requires picked { J.entry ≡ entry_numbered core.0 call.now reply.now }
         requires entry { MayDrawEntry M.lawful M.stands seat.old.me.0 J.entry }
         ensures same { IsSameSeat seat.old seat.new }
@@ -186,14 +197,21 @@ impl<C: Drop, X, M: Meaning<C, X>> Shared<C, X, M> {
     }
 
     // Tells a fact.
-    pub(crate) fn tell<J: Telling<X>>(&self, seat: &mut CoreSeat<C, X>, fact: &X)
-        requires seat { IsSeatOf self.now.table seat.old }
-        requires picked { J.fact ≡ Some fact.now }
-        requires may { MayTellNow M.lawful M.stands seat.old.me.0 fact.now }
+    pub(crate) fn tell<J: Telling<X>>(&self, seat: &mut CoreSeat<C, X, G>)
+        requires seat { IsSeatOf self.now.table.id seat.old }
+        requires may { (fact : X) × (J.fact ≡ Some fact) × MayTellNow M.lawful M.stands seat.old.me.0 fact }
         ensures same { IsSameSeat seat.old seat.new }
-        ensures adds { TellsNow M.lawful M.stands fact.now seat.old.me seat.new.me }
+        ensures adds { (fact : X) → J.fact ≡ Some fact → TellsNow M.lawful M.stands fact seat.old.me seat.new.me }
     {
-        let _fact = fact;
         self.table.shared.load::<Tell<M, J>>(seat, STAMP);
+    }
+
+    // Looks how many calls there are.
+    pub(crate) fn look(&self, seat: &mut CoreSeat<C, X, G>) -> u64
+        requires seat { IsSeatOf self.now.table.id seat.old }
+        ensures same { IsSameSeat seat.old seat.new }
+        ensures looks { LooksNow M.lawful M.stands seat.old.me result seat.new.me }
+    {
+        self.table.shared.load::<Look<M>>(seat, STAMP)
     }
 }

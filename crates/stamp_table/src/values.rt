@@ -1,47 +1,60 @@
 // The values of the cells that a core holds.
 ghost use Rattle.std.specs.Prelude.{◌≡◌, ◌<◌, Some, IsSome, length, slice_get, option_map};
-ghost use Rattle.std.specs.List.{find};
-ghost use Rattle.std.specs.Option.{option_copied};
-ghost use Rattle.stamp_table.specs.Table.{is_at, cell_at, cells_before, with_value};
+ghost use Rattle.keyed_list.specs.Ascending.{AscendBy};
+ghost use Rattle.stamp_table.specs.Hand.{place_in};
+ghost use Rattle.stamp_table.specs.Table.{cell_at, cells_before, with_value, with_values, values_in};
 
 use crate::{Core, HeldCell};
 use std::mem;
 
-// The cell at a place among some.
-fn find_cell<C>(cells: &[HeldCell<C>], place: usize) -> Option<&HeldCell<C>>
-    ensures { option_copied result ≡ cell_at place cells.now }
-{
-    for cell in cells {
-        if cell.place == place {
-            return Some(cell);
-        }
-    }
-    None
-}
-
-// How many cells come before the one at a place.
+// How many cells come before the one at a place. Their places ascend, and it is found by halves.
 fn find_index<C>(cells: &[HeldCell<C>], place: usize) -> usize
-    requires { IsSome (cell_at place cells.now) }
+    requires found { IsSome (cell_at place cells.now) }
+    requires ascend { AscendBy place_in cells.now }
     ensures { result ≡ cells_before place cells.now }
 {
-    for at in 0..cells.len() {
-        if cells[at].place == place {
-            return at;
-        }
-    }
-    unreachable!()
+    let Ok(at) = cells.binary_search_by_key(&place, |cell| cell.place) else {
+        unreachable!()
+    };
+    at
 }
 
-impl<C: Drop, X> Core<C, X> {
+// Exchanges the values of cells for those of a list.
+fn swap_all<C>(cells: &mut [HeldCell<C>], values: &mut [C])
+    requires { length values.old ≡ length cells.old }
+    ensures cells { cells.new ≡ with_values values.old cells.old }
+    ensures values { values.new ≡ values_in cells.old }
+{
+    for at in 0..cells.len() {
+        mem::swap(&mut cells[at].value, &mut values[at]);
+    }
+}
+
+impl<C: Drop, X, G> Core<C, X, G> {
+    /// The value of the cell that stands at a place of the list of those that this core holds.
+    pub fn value_at(&self, at: usize) -> &C
+        requires { at < length self.now.held }
+        ensures { option_map (λ cell. cell.value) (slice_get self.now.held at) ≡ Some result.now }
+    {
+        &self.held[at].value
+    }
+
+    /// Exchanges the values of all cells that this core holds, in their order, for those of a list. It takes no memory.
+    pub fn swap_values(&mut self, values: &mut Vec<C>)
+        requires { length values.old.items ≡ length self.old.held }
+        ensures cells { self.new ≡ record self.old { held = with_values values.old.items self.old.held } }
+        ensures values { values.new.items ≡ values_in self.old.held }
+    {
+        swap_all(self.held.as_mut_slice(), values.as_mut_slice());
+    }
+
     /// The value of a cell that this core holds.
     pub fn cell(&self, place: usize) -> &C
         requires { IsSome (cell_at place self.now.held) }
         ensures { option_map (λ cell. cell.value) (cell_at place self.now.held) ≡ Some result.now }
     {
-        let Some(cell) = find_cell(&self.held, place) else {
-            unreachable!()
-        };
-        &cell.value
+        let at = find_index(&self.held, place);
+        &self.held[at].value
     }
 
     /// Gives a cell that this core holds another value, and answers the one that it had.

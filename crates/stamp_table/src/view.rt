@@ -20,4 +20,6 @@ pub struct View<T, E> {
     pub cores: u64,
     /// The lists that were gathered, that of core 0 first.
     pub lists: LinkedList<LinkedList<E>>,
+    /// What these cores had seen, in the same order.
+    pub saws: LinkedList<LinkedList<E>>,
 }

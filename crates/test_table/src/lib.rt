@@ -8,4 +8,6 @@ mod table;
 #[cfg(test)]
 mod table_calls;
 #[cfg(test)]
+mod table_ends;
+#[cfg(test)]
 mod table_tree;

@@ -9,6 +9,7 @@ use sfs_tree::Tree;
 use stamp_table::{Core, Meaning, Shared};
 use std::alloc::Global;
 use std::process::Abort;
+use std::snapshot::Snapshot;
 use std::sync::Wait;
 use std::sync::atomic::{AtomicU64, Ordering};
 use std::thread;
@@ -16,33 +17,35 @@ use std::thread::{Threads, join};
 use tree_laws::{Call, Entry, History, Reply};
 
 // How often a core looks for the other one while it is inside.
-const TURNS: u64 = 10_000_000;
+pub(crate) const TURNS: u64 = 10_000_000;
 
 // How often all cores together count.
 const CALLS: u64 = 200_000;
 
 // Each value stands for whatever the calls leave.
-struct Anything;
+pub(crate) struct Anything;
 
-impl<C, X> Meaning<C, X> for Anything {
-    ghost lawful = { λ first log. Unit {0} };
+impl<C, X> Meaning<C, X, ()> for Anything {
+    ghost lawful = { λ given first log. Unit {0} };
 
-    ghost stands = { λ first log place value. Unit {0} };
+    ghost stands = { λ given first log place value. Unit {0} };
+
+    ghost nothing = { tt };
 }
 
-type Counters = Shared<u64, (), Anything>;
+pub(crate) type Counters = Shared<u64, (), (), Anything>;
 
-type Counter = Core<u64, ()>;
+pub(crate) type Counter = Core<u64, (), ()>;
 
 // Holds a cell, adds 1 to it, adds an entry, lets go, and answers the entry with what the cell had.
-fn count_once<R: Wait>(
+pub(crate) fn count_once<R: Wait>(
     rt: &R,
     shared: &Counters,
     core: &mut Counter,
     place: usize,
 ) -> Result<(), NoMemory>
     requires core { IsBetweenCalls shared.now core.old }
-    requires cell { place < shared.now.table.slots }
+    requires cell { place < shared.now.table.id.slots }
     ensures same { IsSameCore core.old core.new }
     ensures between { IsBetweenCalls shared.now core.new }
 {
@@ -57,9 +60,15 @@ fn count_once<R: Wait>(
 }
 
 // Does so many times, or until it is refused memory.
-fn count<R: Wait>(rt: &R, shared: &Counters, core: &mut Counter, place: usize, rounds: u32)
+pub(crate) fn count<R: Wait>(
+    rt: &R,
+    shared: &Counters,
+    core: &mut Counter,
+    place: usize,
+    rounds: u32,
+)
     requires core { IsBetweenCalls shared.now core.old }
-    requires cell { place < shared.now.table.slots }
+    requires cell { place < shared.now.table.id.slots }
     ensures same { IsSameCore core.old core.new }
     ensures between { IsBetweenCalls shared.now core.new }
 {
@@ -79,7 +88,7 @@ fn count_all<R: Threads + Wait + Sync>(
     rounds: u32,
 )
     requires cores { All (IsBetweenCalls shared.now) cores.old }
-    requires cells { length cores.old ≤ shared.now.table.slots }
+    requires cells { length cores.old ≤ shared.now.table.id.slots }
     ensures count { length cores.new ≡ length cores.old }
     ensures same { (place : ℕ) (d : _) → place < length cores.old → IsSameCore (slice_index_or cores.old place d) (slice_index_or cores.new place d)
         × IsBetweenCalls shared.now (slice_index_or cores.new place d) }
@@ -89,7 +98,7 @@ fn count_all<R: Threads + Wait + Sync>(
         cores,
         8,
         &|number, core: &mut Counter|
-            requires { IsBetweenCalls shared.now core.now × (number < shared.now.table.slots) }
+            requires { IsBetweenCalls shared.now core.now × (number < shared.now.table.id.slots) }
             ensures { IsSameCore core.entry.now core.exit.now × IsBetweenCalls shared.entry.now core.exit.now }
         {
             let place = if apart { number } else { 0 };
@@ -138,6 +147,25 @@ fn is_right(alloc: Global, history: &History, cores: u8, apart: bool) -> Result<
     Ok(true)
 }
 
+// Whether the values that the table had at its end are what was counted in each cell.
+fn are_counts(values: &[u64], cores: u8, apart: bool, rounds: u32) -> bool {
+    let all = cores as u64 * rounds as u64;
+    let mut right = values.len() == cores as usize;
+    for place in 0..values.len() {
+        let wanted = if apart {
+            rounds as u64
+        } else if place == 0 {
+            all
+        } else {
+            0
+        };
+        if values[place] != wanted {
+            right = false;
+        }
+    }
+    right
+}
+
 // Counts with so many cores, each in a cell of its own or all in the first, and says how many entries there are, none where one is wrong.
 fn counted<R: Threads + Wait + Sync>(
     rt: &R,
@@ -150,10 +178,10 @@ fn counted<R: Threads + Wait + Sync>(
 {
     let first = Tree::empty(alloc, 1, 1, cores)?;
     let cells = vec![in alloc; 0u64; cores as usize]?;
-    let (shared, mut hands) = Counters::make(alloc, &first, cells, cores)?;
+    let (shared, mut hands) = Counters::make(alloc, &first, Snapshot::of(&()), cells, cores)?;
     count_all(rt, &shared, hands.as_mut_slice(), apart, rounds);
-    let history = shared.close(hands);
-    if is_right(alloc, &history, cores, apart)? {
+    let (history, values) = shared.close(hands);
+    if is_right(alloc, &history, cores, apart)? && are_counts(&values, cores, apart, rounds) {
         Ok(history.len())
     } else {
         Ok(0)
@@ -225,7 +253,7 @@ fn meets<R: Wait>(
     gate: &AtomicU64,
 ) -> bool
     requires core { IsBetweenCalls shared.now core.old }
-    requires cell { place < shared.now.table.slots }
+    requires cell { place < shared.now.table.id.slots }
     ensures same { IsSameCore core.old core.new }
     ensures between { IsBetweenCalls shared.now core.new }
 {
@@ -250,7 +278,7 @@ fn meets<R: Wait>(
 fn are_inside_at_once<R: Threads + Wait + Sync>(rt: &R, alloc: Global) -> Result<bool, NoMemory> {
     let first = Tree::empty(alloc, 1, 1, 2)?;
     let cells = vec![in alloc; 0u64, 0u64]?;
-    let (shared, mut hands) = Counters::make(alloc, &first, cells, 2)?;
+    let (shared, mut hands) = Counters::make(alloc, &first, Snapshot::of(&()), cells, 2)?;
     let gate = AtomicU64::new(0);
     let shared_by = &shared;
     let gate_by = &gate;

@@ -19,11 +19,11 @@ mod tasks;
 
 use asked::{Asked, call_of};
 use begun::{FIRST, SHARE, begun_tree};
-use begun_tables::{Files, begun, make_call};
+use begun_tables::{begun, make_call};
 use drawn::Draw;
 use judged::judged;
 use mem_calls::Numbers;
-use mem_values::FileCore;
+use mem_values::{FileCore, FileShared};
 use sfs_base::{CoreId, Gate, NoGate};
 use sfs_tree::Tree;
 use std::alloc::Global;
@@ -41,7 +41,7 @@ const EACH: u32 = 50_000;
 pub(crate) fn ask<R: Wait, G: Gate>(
     rt: &R,
     alloc: Global,
-    shared: &Files,
+    shared: &FileShared,
     core: &mut FileCore,
     nodes: u32,
     asked: Asked,
@@ -64,7 +64,7 @@ pub(crate) fn ask<R: Wait, G: Gate>(
 fn agrees<R: Wait + Abort>(
     rt: &R,
     alloc: Global,
-    shared: &Files,
+    shared: &FileShared,
     core: &mut FileCore,
     tree: &mut Tree,
     asked: Asked,
@@ -92,7 +92,7 @@ fn agrees<R: Wait + Abort>(
 fn make_drawn<R: Wait + Abort>(
     rt: &R,
     alloc: Global,
-    shared: &Files,
+    shared: &FileShared,
     core: &mut FileCore,
     tree: &mut Tree,
     count: u32,
@@ -118,7 +118,7 @@ fn drawn_history<R: Wait + Abort>(rt: &R, alloc: Global, tree: &Tree, count: u32
     let mut plain = got(rt, tree.copy());
     let (shared, mut cores) = got(rt, begun(alloc, tree, FIRST, SHARE, 1));
     make_drawn(rt, alloc, &shared, &mut cores[0], &mut plain, count);
-    let history = shared.close(cores);
+    let (history, _) = shared.close(cores);
     history
 }
 

@@ -2,7 +2,6 @@
 ghost use Rattle.std.specs.Prelude.{◌≡◌, ◌<◌, ℕ, All, length, slice_index_or};
 ghost use Rattle.stamp_table.specs.Table.{IsBetweenCalls, IsSameCore};
 ghost use Rattle.mem_values.specs.Places.{node_count};
-ghost use Rattle.mem_begin.specs.Beginning.{given_in};
 ghost use Rattle.begun_tables.specs.Begun.{IsBuiltTree};
 
 use crate::helpers::{got, holds};
@@ -12,11 +11,10 @@ use fmt_inode::{Inode, Tables};
 use fmt_slots::SlotList;
 use mem_begin::make;
 use mem_files::FileBytes;
-use mem_values::{Cell, CellId, FileCore, FileShared, Given, has_inode, hold_cells, value_of};
+use mem_values::{Cell, CellId, FileCore, FileShared, has_inode, hold_cells, value_of};
 use sfs_base::{Kind, Name, NoMemory, NodeId, bucket_of};
 use sfs_tree::Tree;
 use std::alloc::Global;
-use std::marker::Brand;
 use std::process::Abort;
 use std::sync::Wait;
 
@@ -139,14 +137,9 @@ fn has_bytes(file: &FileBytes, bytes: &[u8]) -> bool {
 }
 
 // Holds the cell that shows it, looks whether it does, and lets go.
-fn look<R: Wait, T: Given>(
-    rt: &R,
-    shared: &FileShared<T>,
-    core: &mut FileCore,
-    shown: &Shown,
-) -> bool
+fn look<R: Wait>(rt: &R, shared: &FileShared, core: &mut FileCore, shown: &Shown) -> bool
     requires core { IsBetweenCalls shared.now core.old }
-    requires places { shared.now.table.slots ≡ PLACES }
+    requires places { shared.now.table.id.slots ≡ PLACES }
     ensures same { IsSameCore core.old core.new }
     ensures between { IsBetweenCalls shared.now core.new }
 {
@@ -161,9 +154,9 @@ fn look<R: Wait, T: Given>(
 }
 
 // Whether a core finds an inode of exactly the file.
-fn finds_inode<R: Wait, T: Given>(rt: &R, shared: &FileShared<T>, core: &mut FileCore) -> bool
+fn finds_inode<R: Wait>(rt: &R, shared: &FileShared, core: &mut FileCore) -> bool
     requires core { IsBetweenCalls shared.now core.old }
-    requires places { shared.now.table.slots ≡ PLACES }
+    requires places { shared.now.table.id.slots ≡ PLACES }
     ensures same { IsSameCore core.old core.new }
     ensures between { IsBetweenCalls shared.now core.new }
 {
@@ -179,14 +172,9 @@ fn finds_inode<R: Wait, T: Given>(rt: &R, shared: &FileShared<T>, core: &mut Fil
 }
 
 // Whether a core is shown all of it.
-fn is_shown<R: Wait, T: Given>(
-    rt: &R,
-    shared: &FileShared<T>,
-    core: &mut FileCore,
-    all: &[Shown],
-) -> bool
+fn is_shown<R: Wait>(rt: &R, shared: &FileShared, core: &mut FileCore, all: &[Shown]) -> bool
     requires core { IsBetweenCalls shared.now core.old }
-    requires places { shared.now.table.slots ≡ PLACES }
+    requires places { shared.now.table.id.slots ≡ PLACES }
     ensures same { IsSameCore core.old core.new }
     ensures between { IsBetweenCalls shared.now core.new }
 {
@@ -199,14 +187,14 @@ fn is_shown<R: Wait, T: Given>(
 }
 
 // Whether each core is.
-fn are_all_shown<R: Wait, T: Given>(
+fn are_all_shown<R: Wait>(
     rt: &R,
-    shared: &FileShared<T>,
+    shared: &FileShared,
     cores: &mut [FileCore],
     all: &[Shown],
 ) -> bool
     requires cores { All (IsBetweenCalls shared.now) cores.old }
-    requires places { shared.now.table.slots ≡ PLACES }
+    requires places { shared.now.table.id.slots ≡ PLACES }
     ensures count { length cores.new ≡ length cores.old }
     ensures same { (place : ℕ) (d : _) → place < length cores.old → IsSameCore (slice_index_or cores.old place d) (slice_index_or cores.new place d)
         × IsBetweenCalls shared.now (slice_index_or cores.new place d) }
@@ -221,7 +209,7 @@ fn are_all_shown<R: Wait, T: Given>(
 }
 
 // Puts a tree on a table and ends it. Says whether each core was shown all of it, and the history is empty.
-fn begins_and_ends<T: Given, R: Wait>(
+fn begins_and_ends<R: Wait>(
     rt: &R,
     alloc: Global,
     tree: &Tree,
@@ -231,11 +219,10 @@ fn begins_and_ends<T: Given, R: Wait>(
     requires built { IsBuiltTree tree.now }
     requires nodes { node_count tree.now ≡ NODES }
     requires cores { length tree.now.made ≡ CORES }
-    requires given { T.given ≡ given_in given.items }
 {
-    let (shared, mut cores) = make::<T>(alloc, tree, given, NODES, CORES)?;
+    let (shared, mut cores) = make(alloc, tree, given, NODES, CORES)?;
     let found = are_all_shown(rt, &shared, cores.as_mut_slice(), all);
-    let history = shared.close(cores);
+    let (history, _) = shared.close(cores);
     Ok(found && history.is_empty())
 }
 
@@ -288,9 +275,6 @@ fn cells_show_what_the_tree_has(rt: HostRuntime) {
     let all = small_cells(&rt, alloc);
     let tree = small_tree(&rt, alloc);
     let given = file_alone(&rt, alloc);
-    let shown = got(
-        &rt,
-        begins_and_ends::<Brand, _>(&rt, alloc, &tree, given, &all),
-    );
+    let shown = got(&rt, begins_and_ends(&rt, alloc, &tree, given, &all));
     holds(&rt, shown);
 }

@@ -7,8 +7,7 @@ use crate::table_calls::ask;
 use crate::table_calls::asked::Asked::{self, Link, Look, Read, Rename, Trunc, Unlink, Write};
 use crate::table_calls::begun::{FIRST, SHARE, begun_tree};
 use crate::table_calls::tasks::{Task, shared_history};
-use begun_tables::Files;
-use mem_values::FileCore;
+use mem_values::{FileCore, FileShared};
 use sfs_base::{CoreId, Gate, Place};
 use std::alloc::Global;
 use std::process::Abort;
@@ -122,7 +121,7 @@ pub(crate) fn comes_to(word: &AtomicU64, value: u64) -> bool {
 fn calls_beside<R: Wait>(
     rt: &R,
     alloc: Global,
-    shared: &Files,
+    shared: &FileShared,
     core: &mut FileCore,
     nodes: u32,
     gate: &Meeting,
@@ -147,7 +146,7 @@ fn calls_beside<R: Wait>(
 pub(crate) fn call_as_due<R: Wait>(
     rt: &R,
     alloc: Global,
-    shared: &Files,
+    shared: &FileShared,
     core: &mut FileCore,
     nodes: u32,
     gate: &Meeting,

@@ -11,8 +11,8 @@ use crate::table_calls::asked::Asked::{self, Link, List, Make, Rename, Stat, Unl
 use crate::table_calls::begun::{FIRST, SHARE};
 use crate::table_calls::judged::is_code;
 use crate::table_calls::listed::make_listed;
-use begun_tables::{Files, begun, put_node, put_row, root_alone};
-use mem_values::FileCore;
+use begun_tables::{begun, put_node, put_row, root_alone};
+use mem_values::{FileCore, FileShared};
 use sfs_base::{Kind, Name, NoMemory, NodeId};
 use sfs_tree::Tree;
 use std::alloc::Global;
@@ -132,7 +132,7 @@ fn full_tree(rt: &impl Abort, alloc: Global) -> Result<Tree, NoMemory>
 fn make_all<R: Wait + Abort>(
     rt: &R,
     alloc: Global,
-    shared: &Files,
+    shared: &FileShared,
     core: &mut FileCore,
     tree: &mut Tree,
 )

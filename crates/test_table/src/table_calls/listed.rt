@@ -11,8 +11,8 @@ use crate::table_calls::asked::Asked::{
 };
 use crate::table_calls::begun::{FIRST, SHARE, begun_tree};
 use crate::table_calls::judged::{is_code, is_listed};
-use begun_tables::{Files, begun};
-use mem_values::FileCore;
+use begun_tables::begun;
+use mem_values::{FileCore, FileShared};
 use sfs_base::Kind;
 use sfs_tree::Tree;
 use std::alloc::Global;
@@ -132,7 +132,7 @@ static LISTED: [(Asked, Option<Code>); 104] = [
 pub(crate) fn make_listed<R: Wait + Abort>(
     rt: &R,
     alloc: Global,
-    shared: &Files,
+    shared: &FileShared,
     core: &mut FileCore,
     tree: &mut Tree,
     listed: &[(Asked, Option<Code>)],
@@ -164,7 +164,7 @@ fn listed_history<R: Wait + Abort>(
     let mut plain = got(rt, tree.copy());
     let (shared, mut cores) = got(rt, begun(alloc, tree, FIRST, SHARE, 1));
     make_listed(rt, alloc, &shared, &mut cores[0], &mut plain, listed);
-    let history = shared.close(cores);
+    let (history, _) = shared.close(cores);
     history
 }
 

@@ -11,8 +11,7 @@ use crate::table_calls::begun::{FIRST, SHARE, begun_tree};
 use crate::table_calls::beside::comes_to;
 use crate::table_calls::judged::{is_code, is_due};
 use crate::table_calls::tasks::{Task, shared_history};
-use begun_tables::Files;
-use mem_values::FileCore;
+use mem_values::{FileCore, FileShared};
 use sfs_base::{CoreId, NoGate, NoMemory};
 use sfs_tree::Tree;
 use std::alloc::Global;
@@ -71,7 +70,7 @@ fn other(core: CoreId) -> CoreId {
 fn move_back<R: Wait>(
     rt: &R,
     alloc: Global,
-    shared: &Files,
+    shared: &FileShared,
     core: &mut FileCore,
     nodes: u32,
     reply: Reply,
@@ -92,7 +91,7 @@ fn move_back<R: Wait>(
 fn move_once<R: Wait>(
     rt: &R,
     alloc: Global,
-    shared: &Files,
+    shared: &FileShared,
     core: &mut FileCore,
     nodes: u32,
     pace: &Pace,
@@ -118,7 +117,7 @@ fn move_once<R: Wait>(
 pub(crate) fn move_often<R: Wait>(
     rt: &R,
     alloc: Global,
-    shared: &Files,
+    shared: &FileShared,
     core: &mut FileCore,
     nodes: u32,
     pace: &Pace,

@@ -8,8 +8,8 @@ use crate::table_calls::begun::{FIRST, SHARE};
 use crate::table_calls::beside::{Meeting, call_as_due};
 use crate::table_calls::drawn::Draw;
 use crate::table_calls::loops::{Pace, move_often};
-use begun_tables::{Files, begun};
-use mem_values::FileCore;
+use begun_tables::begun;
+use mem_values::{FileCore, FileShared};
 use sfs_base::{NoGate, NoMemory};
 use sfs_tree::Tree;
 use std::alloc::Global;
@@ -33,7 +33,7 @@ pub(crate) enum Task<'a> {
 fn draw_often<R: Wait>(
     rt: &R,
     alloc: Global,
-    shared: &Files,
+    shared: &FileShared,
     core: &mut FileCore,
     nodes: u32,
     count: u32,
@@ -56,7 +56,7 @@ fn draw_often<R: Wait>(
 fn work<R: Wait>(
     rt: &R,
     alloc: Global,
-    shared: &Files,
+    shared: &FileShared,
     core: &mut FileCore,
     nodes: u32,
     task: &Task,
@@ -77,7 +77,7 @@ fn work<R: Wait>(
 fn work_all<R: Threads + Wait + Sync>(
     rt: &R,
     alloc: Global,
-    shared: &Files,
+    shared: &FileShared,
     cores: &mut [FileCore],
     nodes: u32,
     task: &Task,
@@ -113,6 +113,6 @@ pub(crate) fn shared_history<R: Threads + Wait + Sync>(
     let nodes = FIRST + SHARE * cores as u32;
     let (shared, mut hands) = begun(alloc, tree, FIRST, SHARE, cores)?;
     work_all(rt, alloc, &shared, hands.as_mut_slice(), nodes, task);
-    let history = shared.close(hands);
+    let (history, _) = shared.close(hands);
     Ok(history)
 }

@@ -1,4 +1,4 @@
-use Rattle.std.proofs.Common.{arith, ◌≡◌, ◌∙◌, sym, ap, subst, ℕ, length, All}
+use Rattle.std.proofs.Common.{arith, ◌∙◌, sym, ap, subst, ℕ, length, All}
 use Rattle.std.proofs.lemmas.List.{length-replicate}
 use Rattle.stamp_table.specs.Table.{IsBetweenCalls, AreNew}
 use Rattle.stamp_table.proofs.Beginning.{new_between}

@@ -1,5 +1,6 @@
 use Rattle.std.proofs.Common.{sym, ap, subst, ◌∙◌}
-use Rattle.mem_begin.specs.Beginning.{given_in, IsFlushedOf}
+use Rattle.mem_values.specs.Start.{given_in}
+use Rattle.mem_begin.specs.Beginning.{IsFlushedOf}
 use Rattle.mem_begin.proofs.Cells.{given_without}
 use Rattle.mem_begin.proofs.cell.take_given.Goals as goal
 

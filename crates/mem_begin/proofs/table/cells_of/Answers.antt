@@ -1,13 +1,14 @@
 use Rattle.std.proofs.Common.{List, ◌≡◌, ℕ, sym, subst, arith}
 use Rattle.std.specs.Prelude.{reverse}
+use Rattle.mem_values.specs.Start.{given_in}
 use Rattle.mem_values.specs.declared.cell.Cell.{Cell}
 use Rattle.mem_begin.proofs.Standing.{StandFrom}
 use Rattle.mem_begin.proofs.Cells.{each_stands}
 use Rattle.mem_begin.proofs.table.cells_of.Goals as goal
 
 pub returns-clause-stand : goal.returns-clause-stand
-returns-clause-stand g c =
-    let given = g.T.Given.given in
+returns-clause-stand c =
+    let given = (given_in c.args.start.now.value.items) in
     let first = c.args.tree.now in
     let none : c.loop-place.place ≡ 0 = (let test = c.loop-place-test.false in omega (arith, test)) in
     let stand : StandFrom given first 0 (reverse c.loop-place.cells.items) = subst

@@ -1,6 +1,7 @@
-use Rattle.std.proofs.Common.{◌≡◌, Some, refl, sym, ap, subst, ◌∙◌, IsSome}
+use Rattle.std.proofs.Common.{rules, ◌≡◌, Some, refl, sym, ap, subst, ◌∙◌, IsSome}
 use Rattle.std.specs.Prelude.{OnOk, OnErr}
 use Rattle.std.specs.FinMap.{get}
+use Rattle.mem_values.specs.Start.{given_by}
 use Rattle.mem_values.specs.declared.cell.Cell.TheVariants as cell
 use Rattle.mem_values.specs.declared.cell_id.CellId.TheVariants as id
 use Rattle.mem_values.specs.declared.bucket.Bucket.{Bucket}
@@ -12,29 +13,30 @@ use Rattle.mem_calls.proofs.ComingBack.{IsBack, works_again, back_again}
 use Rattle.mem_calls.proofs.coming.make_coming.Goals as goal
 
 pub take_bucket-taken-requires : goal.take_bucket-taken-requires
-take_bucket-taken-requires g c =
+take_bucket-taken-requires c =
     subst (λ n. IsSome (bucket_held c.args.nodes c.make_ready.new.core.held c.args.dir n)) (sym c.bucket_of-number.ensures)
     (bucket_there c.args.nodes c.args.core.now c.args.dir c.args.name.now c.requires.free c.requires.part c.in_ok-ready.ready c.make_ready.new.core
     c.in_ok-ready.ensures)
 
 pub with_row-bucket-requires-clause-row : goal.with_row-bucket-requires-clause-row
-with_row-bucket-requires-clause-row g c =
+with_row-bucket-requires-clause-row c =
     let was = subst (λ n. bucket_held c.args.nodes c.make_ready.new.core.held c.args.dir n
     ≡ Some c.take_bucket-taken.result.value) c.bucket_of-number.ensures c.take_bucket-taken.ensures.bucket in
     row_free c.args.nodes c.args.core.now c.args.dir c.args.name.now c.requires.free c.requires.part c.in_ok-ready.ready c.make_ready.new.core
     c.in_ok-ready.ensures c.take_bucket-taken.result.value was
 
 pub with_row-bucket-requires-clause-directory : goal.with_row-bucket-requires-clause-directory
-with_row-bucket-requires-clause-directory g c =
+with_row-bucket-requires-clause-directory c =
     let was = subst (λ n. bucket_held c.args.nodes c.make_ready.new.core.held c.args.dir n
     ≡ Some c.take_bucket-taken.result.value) c.bucket_of-number.ensures c.take_bucket-taken.ensures.bucket in
     ap (λ (b : Bucket). get b.directories c.args.name.now)
     (sym (same_bucket c.args.nodes c.args.core.now c.args.dir c.args.name.now c.requires.free c.requires.part c.in_ok-ready.ready
     c.make_ready.new.core c.in_ok-ready.ensures c.take_bucket-taken.result.value was))
-    ∙ directory_free g.T.Given.given c.args.shared.now c.args.nodes c.args.core.now c.requires.table c.requires.work c.args.dir c.args.name.now c.requires.free
+    ∙ directory_free (given_by c.args.shared.now) c.args.shared.now c.args.nodes c.args.core.now c.requires.table c.requires.work c.args.dir
+    c.args.name.now c.requires.free
 
 pub put_bucket-requires : goal.put_bucket-requires
-put_bucket-requires g c =
+put_bucket-requires c =
     let taken = subst (λ n. PutsValue c.args.nodes
     (id.Bucket c.args.dir n) c.take_bucket-taken.ensures.held.0 c.make_ready.new.core c.take_bucket-taken.new.core)
     c.bucket_of-number.ensures c.take_bucket-taken.ensures.held.1 in
@@ -44,7 +46,7 @@ put_bucket-requires g c =
     c.take_bucket-taken.new.core c.take_bucket-taken.ensures.held.0 taken c.take_bucket-taken.new.core refl)
 
 pub put_part-requires : goal.put_part-requires
-put_part-requires g c =
+put_part-requires c =
     let taken = subst (λ n. PutsValue c.args.nodes
     (id.Bucket c.args.dir n) c.take_bucket-taken.ensures.held.0 c.make_ready.new.core c.take_bucket-taken.new.core)
     c.bucket_of-number.ensures c.take_bucket-taken.ensures.held.1 in
@@ -56,7 +58,7 @@ put_part-requires g c =
     c.take_bucket-taken.new.core c.take_bucket-taken.ensures.held.0 taken (cell.Bucket c.with_row-bucket.result.0) c.put_bucket.new.core puts
 
 pub let_go-requires-clause-home : goal.let_go-requires-clause-home
-let_go-requires-clause-home g c =
+let_go-requires-clause-home c =
     let taken = subst (λ n. PutsValue c.args.nodes
     (id.Bucket c.args.dir n) c.take_bucket-taken.ensures.held.0 c.make_ready.new.core c.take_bucket-taken.new.core)
     c.bucket_of-number.ensures c.take_bucket-taken.ensures.held.1 in
@@ -78,13 +80,14 @@ let_go-requires-clause-home g c =
       is_p = c.put_part.ensures.1;
       puts_p = c.put_part.ensures.2;
     } in
-    known_home g.T.Given.given c.put_part.new.core.view c.put_part.new.core.held
-    (works_again g.T.Given.given c.args.shared.now c.args.nodes c.args.core.now c.requires.table c.requires.work c.args.dir c.args.name.now c.requires.free
+    known_home (given_by c.args.shared.now) c.put_part.new.core.view c.put_part.new.core.held
+    (works_again (given_by c.args.shared.now) c.args.shared.now c.args.nodes c.args.core.now c.requires.table c.requires.work c.args.dir c.args.name.now
+    c.requires.free
     c.requires.part
     c.in_ok-ready.ready c.make_ready.new.core c.in_ok-ready.ensures c.put_part.new.core back).knows
 
 pub returns-in-Err : goal.returns-in-Err
-returns-in-Err g c =
+returns-in-Err c =
     let taken = subst (λ n. PutsValue c.args.nodes
     (id.Bucket c.args.dir n) c.take_bucket-taken.ensures.held.0 c.make_ready.new.core c.take_bucket-taken.new.core)
     c.bucket_of-number.ensures c.take_bucket-taken.ensures.held.1 in
@@ -106,17 +109,19 @@ returns-in-Err g c =
       is_p = c.put_part.ensures.1;
       puts_p = c.put_part.ensures.2;
     } in
-    let works = works_again g.T.Given.given c.args.shared.now c.args.nodes c.args.core.now c.requires.table c.requires.work c.args.dir c.args.name.now
+    let works = works_again (given_by c.args.shared.now) c.args.shared.now c.args.nodes c.args.core.now c.requires.table c.requires.work c.args.dir
+    c.args.name.now
     c.requires.free c.requires.part
     c.in_ok-ready.ready c.make_ready.new.core c.in_ok-ready.ensures c.put_part.new.core back in
-    back_again g.T.Given.given c.args.shared.now c.args.nodes c.args.core.now c.requires.table c.requires.work c.args.dir c.args.name.now c.requires.free
+    back_again (given_by c.args.shared.now) c.args.shared.now c.args.nodes c.args.core.now c.requires.table c.requires.work c.args.dir c.args.name.now
+    c.requires.free
     c.requires.part
     c.in_ok-ready.ready c.make_ready.new.core c.in_ok-ready.ensures c.put_part.new.core back c.let_go.new.self
-    (refused g.T.Given.given c.args.shared.now c.put_part.new.core c.let_go.new.self works c.let_go.ensures.lets_go c.let_go.ensures.left
-    c.let_go.ensures.places)
+    (refused (given_by c.args.shared.now) c.args.shared.now c.put_part.new.core c.let_go.new.self works c.let_go.ensures.lets_go c.let_go.ensures.left
+    c.let_go.ensures.places (search rules))
 
 pub returns-in-Ok : goal.returns-in-Ok
-returns-in-Ok g c =
+returns-in-Ok c =
     let was = subst (λ n. bucket_held c.args.nodes c.make_ready.new.core.held c.args.dir n
     ≡ Some c.take_bucket-taken.result.value) c.bucket_of-number.ensures c.take_bucket-taken.ensures.bucket in
     let same = same_bucket c.args.nodes c.args.core.now c.args.dir c.args.name.now c.requires.free c.requires.part c.in_ok-ready.ready c.make_ready.new.core

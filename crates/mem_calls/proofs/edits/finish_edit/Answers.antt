@@ -1,15 +1,13 @@
-use Rattle.std.proofs.Common.{◌≡◌, Some, refl, sym, ap, subst, IsSome}
+use Rattle.std.proofs.Common.{rules, ◌≡◌, Some, refl, sym, ap, subst, IsSome}
 use Rattle.tree_laws.specs.declared.reply.Reply.TheVariants as reply
 use Rattle.tree_laws.specs.Effect.{Edits}
 use Rattle.tree_laws.specs.Verdict.{done}
-use Rattle.stamp_table.specs.Hand.{Hand}
 use Rattle.stamp_table.specs.Table.{Stamps, MayCall}
-use Rattle.mem_values.specs.declared.cell.Cell.{Cell}
 use Rattle.mem_values.specs.declared.cell.Cell.TheVariants as cell
-use Rattle.mem_values.specs.declared.fact.Fact.{Fact}
 use Rattle.mem_values.specs.Stands.{StandsAt}
 use Rattle.mem_values.specs.Facts.{IsLawfulLog}
 use Rattle.std.specs.Prelude.{IfOk, IfErr}
+use Rattle.mem_values.specs.Start.{FileHand, given_by}
 use Rattle.mem_calls.specs.Edits.{edit_of, edit_call, IsEdited}
 use Rattle.mem_calls.specs.Held.{value_held, as_file}
 use Rattle.mem_values.specs.declared.cell_id.CellId.TheVariants as id
@@ -24,48 +22,59 @@ use Rattle.mem_calls.proofs.Left.{known_home, refused}
 use Rattle.mem_calls.proofs.edits.finish_edit.Goals as goal
 
 pub stamp-stamp-requires-clause-may : goal.stamp-stamp-requires-clause-may
-stamp-stamp-requires-clause-may g c =
-    subst (λ x. MayCall (IsLawfulLog g.T.Given.given) (StandsAt g.T.Given.given) c.take_file.new.core.view x reply.Ok) (sym c.into_call.ensures)
-    (subst (λ (h : Hand Cell Fact). MayCall (IsLawfulLog g.T.Given.given) (StandsAt g.T.Given.given) h.view (edit_call c.args.file c.args.edit) reply.Ok)
+stamp-stamp-requires-clause-may c =
+    subst (λ x. MayCall (IsLawfulLog (given_by c.args.shared.now)) (StandsAt (given_by c.args.shared.now)) c.take_file.new.core.view x reply.Ok)
+    (sym c.into_call.ensures)
+    (subst (λ (h : FileHand). MayCall (IsLawfulLog (given_by c.args.shared.now)) (StandsAt (given_by c.args.shared.now)) h.view
+    (edit_call c.args.file c.args.edit) reply.Ok)
     (sym c.take_file.ensures.held.1)
-    (may_come g.T.Given.given c.args.shared.now c.args.nodes c.args.core.now c.requires.table c.requires.work (edit_call c.args.file c.args.edit)
+    (may_come (given_by c.args.shared.now) c.args.shared.now c.args.nodes c.args.core.now c.requires.table c.requires.work (edit_call c.args.file c.args.edit)
     (done (Edits c.args.file.0 (edit_of c.args.edit))) (not_fsync c.args.file c.args.edit) c.requires.due
-    (keeps g.T.Given.given c.args.shared.now c.args.nodes c.args.core.now c.requires.table c.requires.work c.requires.part c.args.file c.args.edit
+    (keeps (given_by c.args.shared.now) c.args.shared.now c.args.nodes c.args.core.now c.requires.table c.requires.work c.requires.part c.args.file
+    c.args.edit
     c.requires.within c.requires.held c.requires.due)))
 
 pub put-requires : goal.put-requires
-put-requires g c =
-    let drawn = subst (λ x. Stamps (IsLawfulLog g.T.Given.given)
-    (StandsAt g.T.Given.given) x reply.Ok c.take_file.new.core c.stamp-stamp.result.0 c.stamp-stamp.new.self) c.into_call.ensures c.stamp-stamp.ensures in
-    put_may g.T.Given.given c.args.shared.now c.args.nodes c.args.core.now c.requires.table c.requires.work c.requires.part c.args.file c.args.edit
+put-requires c =
+    let drawn = subst (λ x. Stamps (IsLawfulLog (given_by c.args.shared.now))
+    (StandsAt (given_by c.args.shared.now)) x reply.Ok c.take_file.new.core c.stamp-stamp.result.0 c.stamp-stamp.new.self) c.into_call.ensures
+    c.stamp-stamp.ensures in
+    put_may (given_by c.args.shared.now) c.args.shared.now c.args.nodes c.args.core.now c.requires.table c.requires.work c.requires.part c.args.file
+    c.args.edit
     c.requires.within c.requires.held c.requires.due
     c.take_file.ensures.held.0 c.take_file.new.core c.take_file.ensures.held.1 c.stamp-stamp.result.0 c.stamp-stamp.new.self drawn
 
 pub add_entry-requires-clause-part : goal.add_entry-requires-clause-part
-add_entry-requires-clause-part g c =
-    let drawn = subst (λ x. Stamps (IsLawfulLog g.T.Given.given)
-    (StandsAt g.T.Given.given) x reply.Ok c.take_file.new.core c.stamp-stamp.result.0 c.stamp-stamp.new.self) c.into_call.ensures c.stamp-stamp.ensures in
-    part_may g.T.Given.given c.args.shared.now c.args.nodes c.args.core.now c.requires.table c.requires.work c.requires.part c.args.file c.args.edit
+add_entry-requires-clause-part c =
+    let drawn = subst (λ x. Stamps (IsLawfulLog (given_by c.args.shared.now))
+    (StandsAt (given_by c.args.shared.now)) x reply.Ok c.take_file.new.core c.stamp-stamp.result.0 c.stamp-stamp.new.self) c.into_call.ensures
+    c.stamp-stamp.ensures in
+    part_may (given_by c.args.shared.now) c.args.shared.now c.args.nodes c.args.core.now c.requires.table c.requires.work c.requires.part c.args.file
+    c.args.edit
     c.requires.within c.requires.held c.requires.due
     c.take_file.ensures.held.0 c.take_file.new.core c.take_file.ensures.held.1 c.stamp-stamp.result.0 c.stamp-stamp.new.self drawn
     (cell.File c.marked-value.result) c.marked-value.result.value refl c.put.new.core c.put.ensures
 
 pub add_entry-requires-clause-may : goal.add_entry-requires-clause-may
-add_entry-requires-clause-may g c =
-    let drawn = subst (λ x. Stamps (IsLawfulLog g.T.Given.given)
-    (StandsAt g.T.Given.given) x reply.Ok c.take_file.new.core c.stamp-stamp.result.0 c.stamp-stamp.new.self) c.into_call.ensures c.stamp-stamp.ensures in
+add_entry-requires-clause-may c =
+    let drawn = subst (λ x. Stamps (IsLawfulLog (given_by c.args.shared.now))
+    (StandsAt (given_by c.args.shared.now)) x reply.Ok c.take_file.new.core c.stamp-stamp.result.0 c.stamp-stamp.new.self) c.into_call.ensures
+    c.stamp-stamp.ensures in
     subst (λ l. MayTake c.args.nodes l c.put.new.core) (sym (ap (λ r. r.items) c.new.ensures))
-    (room_may g.T.Given.given c.args.shared.now c.args.nodes c.args.core.now c.requires.table c.requires.work c.requires.part c.args.file c.args.edit
+    (room_may (given_by c.args.shared.now) c.args.shared.now c.args.nodes c.args.core.now c.requires.table c.requires.work c.requires.part c.args.file
+    c.args.edit
     c.requires.within c.requires.held c.requires.due
     c.take_file.ensures.held.0 c.take_file.new.core c.take_file.ensures.held.1 c.stamp-stamp.result.0 c.stamp-stamp.new.self drawn
-    (cell.File c.marked-value.result) c.marked-value.result.value refl c.put.new.core c.put.ensures c.events_are_few.ensures)
+    (cell.File c.marked-value.result) c.marked-value.result.value refl c.put.new.core c.put.ensures c.calls_are_few.ensures)
 
 pub let_go-requires-clause-home : goal.let_go-requires-clause-home
-let_go-requires-clause-home g c =
-    let drawn = subst (λ x. Stamps (IsLawfulLog g.T.Given.given)
-    (StandsAt g.T.Given.given) x reply.Ok c.take_file.new.core c.stamp-stamp.result.0 c.stamp-stamp.new.self) c.into_call.ensures c.stamp-stamp.ensures in
+let_go-requires-clause-home c =
+    let drawn = subst (λ x. Stamps (IsLawfulLog (given_by c.args.shared.now))
+    (StandsAt (given_by c.args.shared.now)) x reply.Ok c.take_file.new.core c.stamp-stamp.result.0 c.stamp-stamp.new.self) c.into_call.ensures
+    c.stamp-stamp.ensures in
     let takes = subst (λ l. TakesEntry c.args.nodes l c.put.new.core c.add_entry.new.core) (ap (λ r. r.items) c.new.ensures) c.add_entry.ensures in
-    goes_home g.T.Given.given c.args.shared.now c.args.nodes c.args.core.now c.requires.table c.requires.work c.requires.part c.args.file c.args.edit
+    goes_home (given_by c.args.shared.now) c.args.shared.now c.args.nodes c.args.core.now c.requires.table c.requires.work c.requires.part c.args.file
+    c.args.edit
     c.requires.within c.requires.held c.requires.due
     c.take_file.ensures.held.0 c.take_file.new.core c.take_file.ensures.held.1 c.stamp-stamp.result.0 c.stamp-stamp.new.self drawn
     (cell.File c.marked-value.result) c.marked-value.result.value refl c.put.new.core c.put.ensures c.add_entry.new.core takes
@@ -75,53 +84,62 @@ let_go-requires-clause-home g c =
     c.marked-value.ensures.bytes c.marked-value.ensures.marks
 
 pub returns-in-Ok : goal.returns-in-Ok
-returns-in-Ok g c =
-    let drawn = subst (λ x. Stamps (IsLawfulLog g.T.Given.given)
-    (StandsAt g.T.Given.given) x reply.Ok c.take_file.new.core c.stamp-stamp.result.0 c.stamp-stamp.new.self) c.into_call.ensures c.stamp-stamp.ensures in
+returns-in-Ok c =
+    let drawn = subst (λ x. Stamps (IsLawfulLog (given_by c.args.shared.now))
+    (StandsAt (given_by c.args.shared.now)) x reply.Ok c.take_file.new.core c.stamp-stamp.result.0 c.stamp-stamp.new.self) c.into_call.ensures
+    c.stamp-stamp.ensures in
     let takes = subst (λ l. TakesEntry c.args.nodes l c.put.new.core c.add_entry.new.core) (ap (λ r. r.items) c.new.ensures) c.add_entry.ensures in
-    ends g.T.Given.given c.args.shared.now c.args.nodes c.args.core.now c.requires.table c.requires.work
+    ends (given_by c.args.shared.now) c.args.shared.now c.args.nodes c.args.core.now c.requires.table c.requires.work
     (edit_call c.args.file c.args.edit) reply.Ok c.stamp-stamp.result.0 (record c.stamp-stamp.new.self { held = c.args.core.now.held })
-    (stamps g.T.Given.given c.args.shared.now c.args.nodes c.args.core.now c.requires.table c.requires.work c.requires.part c.args.file c.args.edit
+    (stamps (given_by c.args.shared.now) c.args.shared.now c.args.nodes c.args.core.now c.requires.table c.requires.work c.requires.part c.args.file
+    c.args.edit
     c.requires.within c.requires.held c.requires.due
     c.take_file.ensures.held.0 c.take_file.new.core c.take_file.ensures.held.1 c.stamp-stamp.result.0 c.stamp-stamp.new.self drawn)
     (done (Edits c.args.file.0 (edit_of c.args.edit))) c.add_entry.new.core c.let_go.new.self c.requires.due refl (not_fsync c.args.file c.args.edit)
-    (final_is g.T.Given.given c.args.shared.now c.args.nodes c.args.core.now c.requires.table c.requires.work c.requires.part c.args.file c.args.edit
+    (final_is (given_by c.args.shared.now) c.args.shared.now c.args.nodes c.args.core.now c.requires.table c.requires.work c.requires.part c.args.file
+    c.args.edit
     c.requires.within c.requires.held c.requires.due
     c.take_file.ensures.held.0 c.take_file.new.core c.take_file.ensures.held.1 c.stamp-stamp.result.0 c.stamp-stamp.new.self drawn
     (cell.File c.marked-value.result) c.marked-value.result.value refl c.put.new.core c.put.ensures c.add_entry.new.core takes)
-    (same_count g.T.Given.given c.args.shared.now c.args.nodes c.args.core.now c.requires.table c.requires.work c.requires.part c.args.file c.args.edit
+    (same_count (given_by c.args.shared.now) c.args.shared.now c.args.nodes c.args.core.now c.requires.table c.requires.work c.requires.part c.args.file
+    c.args.edit
     c.requires.within c.requires.held c.requires.due
     c.take_file.ensures.held.0 c.take_file.new.core c.take_file.ensures.held.1 c.stamp-stamp.result.0 c.stamp-stamp.new.self drawn
     (cell.File c.marked-value.result) c.marked-value.result.value refl c.put.new.core c.put.ensures c.add_entry.new.core takes)
     c.let_go.ensures.lets_go c.let_go.ensures.left c.let_go.ensures.places
 
 pub put-requires-in-Err : goal.put-requires-in-Err
-put-requires-in-Err g c =
-    subst (λ (h : Hand Cell Fact). IsSome (value_held c.args.nodes h.held (id.File c.args.file))) (sym c.take_file.ensures.held.1)
+put-requires-in-Err c =
+    subst (λ (h : FileHand). IsSome (value_held c.args.nodes h.held (id.File c.args.file))) (sym c.take_file.ensures.held.1)
     (some_of _ _ (value_with c.args.nodes (id.File c.args.file) c.take_file.ensures.held.0 c.args.core.now.held
     (some_first as_file (value_held c.args.nodes c.args.core.now.held (id.File c.args.file)) c.requires.held)))
 
 pub let_go-requires-in-Err-clause-home : goal.let_go-requires-in-Err-clause-home
-let_go-requires-in-Err-clause-home g c =
+let_go-requires-in-Err-clause-home c =
     let same = subst (λ r. IfErr r (λ fault. c.edited-value.result.0.value ≡ c.take_file.result.value)) c.in-Err.is c.edited-value.ensures.err in
     let works =
-    works_again g.T.Given.given c.args.shared.now c.args.nodes c.args.core.now c.requires.table c.requires.work c.requires.part c.args.file c.args.edit
+    works_again (given_by c.args.shared.now) c.args.shared.now c.args.nodes c.args.core.now c.requires.table c.requires.work c.requires.part c.args.file
+    c.args.edit
     c.requires.within c.requires.held c.requires.due
     c.take_file.ensures.held.0 c.take_file.new.core c.take_file.ensures.held.1 c.take_file.result.value c.take_file.ensures.file
     (cell.File c.edited-value.result.0) (ap (λ v. Some v) same) c.put-in-Err.new.core c.put-in-Err.ensures in
-    known_home g.T.Given.given c.put-in-Err.new.core.view c.put-in-Err.new.core.held works.knows
+    known_home (given_by c.args.shared.now) c.put-in-Err.new.core.view c.put-in-Err.new.core.held works.knows
 
 pub returns-in-Err : goal.returns-in-Err
-returns-in-Err g c =
+returns-in-Err c =
     let same = subst (λ r. IfErr r (λ fault. c.edited-value.result.0.value ≡ c.take_file.result.value)) c.in-Err.is c.edited-value.ensures.err in
     let works =
-    works_again g.T.Given.given c.args.shared.now c.args.nodes c.args.core.now c.requires.table c.requires.work c.requires.part c.args.file c.args.edit
+    works_again (given_by c.args.shared.now) c.args.shared.now c.args.nodes c.args.core.now c.requires.table c.requires.work c.requires.part c.args.file
+    c.args.edit
     c.requires.within c.requires.held c.requires.due
     c.take_file.ensures.held.0 c.take_file.new.core c.take_file.ensures.held.1 c.take_file.result.value c.take_file.ensures.file
     (cell.File c.edited-value.result.0) (ap (λ v. Some v) same) c.put-in-Err.new.core c.put-in-Err.ensures in
-    back_again g.T.Given.given c.args.shared.now c.args.nodes c.args.core.now c.requires.table c.requires.work c.requires.part c.args.file c.args.edit
+    back_again (given_by c.args.shared.now) c.args.shared.now c.args.nodes c.args.core.now c.requires.table c.requires.work c.requires.part c.args.file
+    c.args.edit
     c.requires.within c.requires.held c.requires.due
     c.take_file.ensures.held.0 c.take_file.new.core c.take_file.ensures.held.1 c.take_file.result.value c.take_file.ensures.file
     (cell.File c.edited-value.result.0) (ap (λ v. Some v) same) c.put-in-Err.new.core c.put-in-Err.ensures c.let_go-in-Err.new.self
-    (refused g.T.Given.given c.args.shared.now c.put-in-Err.new.core c.let_go-in-Err.new.self works c.let_go-in-Err.ensures.lets_go c.let_go-in-Err.ensures.left
-    c.let_go-in-Err.ensures.places)
+    (refused (given_by c.args.shared.now) c.args.shared.now c.put-in-Err.new.core c.let_go-in-Err.new.self works c.let_go-in-Err.ensures.lets_go
+    c.let_go-in-Err.ensures.left
+    c.let_go-in-Err.ensures.places
+    (search rules))

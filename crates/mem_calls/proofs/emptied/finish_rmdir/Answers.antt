@@ -8,11 +8,9 @@ use Rattle.tree_laws.specs.Effect.{Removes}
 use Rattle.tree_laws.specs.Logged.{log_entry}
 use Rattle.tree_laws.specs.Verdict.{done}
 use Rattle.mem_cells.specs.Part.{IsAddedTo}
-use Rattle.stamp_table.specs.Hand.{Hand}
 use Rattle.stamp_table.specs.Table.{MayCall, with_value}
-use Rattle.mem_values.specs.declared.cell.Cell.{Cell}
+use Rattle.mem_values.specs.Start.{FileHand, given_by}
 use Rattle.mem_values.specs.declared.cell_id.CellId.TheVariants as id
-use Rattle.mem_values.specs.declared.fact.Fact.{Fact}
 use Rattle.mem_values.specs.Stands.{StandsAt}
 use Rattle.mem_values.specs.Facts.{IsLawfulLog}
 use Rattle.mem_calls.specs.Held.{value_held, bucket_held}
@@ -23,17 +21,20 @@ use Rattle.mem_calls.proofs.Ended.{Removal, keeps, bucket_there, row_there, buck
 use Rattle.mem_calls.proofs.emptied.finish_rmdir.Goals as goal
 
 pub stamp-stamp-requires-clause-may : goal.stamp-stamp-requires-clause-may
-stamp-stamp-requires-clause-may g c =
-    subst (λ (h : Hand Cell Fact). MayCall (IsLawfulLog g.T.Given.given) (StandsAt g.T.Given.given) h.view (call.Rmdir c.args.dir c.args.name) reply.Ok)
+stamp-stamp-requires-clause-may c =
+    subst (λ (h : FileHand). MayCall (IsLawfulLog (given_by c.args.shared.now)) (StandsAt (given_by c.args.shared.now)) h.view
+    (call.Rmdir c.args.dir c.args.name) reply.Ok)
     (sym c.in_ok-ready.ensures.out.1)
-    (may_come g.T.Given.given c.args.shared.now c.args.nodes c.args.core.now c.requires.table c.requires.work (call.Rmdir c.args.dir c.args.name)
+    (may_come (given_by c.args.shared.now) c.args.shared.now c.args.nodes c.args.core.now c.requires.table c.requires.work (call.Rmdir c.args.dir c.args.name)
     (done (Removes c.args.dir.0 c.args.name c.args.child.0)) refl c.requires.due
-    (keeps g.T.Given.given c.args.shared.now c.args.nodes c.args.core.now c.requires.table c.requires.work c.args.dir c.args.name c.args.child c.requires.names
+    (keeps (given_by c.args.shared.now) c.args.shared.now c.args.nodes c.args.core.now c.requires.table c.requires.work c.args.dir c.args.name c.args.child
+    c.requires.names
     c.requires.held.0 c.requires.held.1 c.requires.part c.requires.due))
 
 pub remove_row-requires-clause-held : goal.remove_row-requires-clause-held
-remove_row-requires-clause-held g c =
-    let r : Removal g.T.Given.given c.args.shared.now c.args.nodes c.args.core.now c.args.dir c.args.name c.args.child c.in_ok-ready.ready c.make_ready.new.core
+remove_row-requires-clause-held c =
+    let r : Removal (given_by c.args.shared.now) c.args.shared.now c.args.nodes c.args.core.now c.args.dir c.args.name c.args.child c.in_ok-ready.ready
+    c.make_ready.new.core
     c.stamp-stamp.result.0 c.stamp-stamp.new.self =
     record {
       table = c.requires.table;
@@ -47,12 +48,14 @@ remove_row-requires-clause-held g c =
       drawn = c.stamp-stamp.ensures;
     } in
     subst (λ n. IsSome (bucket_held c.args.nodes c.stamp-stamp.new.self.held c.args.dir n)) (sym c.bucket_of-number.ensures)
-    (bucket_there g.T.Given.given c.args.shared.now c.args.nodes c.args.core.now c.args.dir c.args.name c.args.child c.in_ok-ready.ready c.make_ready.new.core
+    (bucket_there (given_by c.args.shared.now) c.args.shared.now c.args.nodes c.args.core.now c.args.dir c.args.name c.args.child c.in_ok-ready.ready
+    c.make_ready.new.core
     c.stamp-stamp.result.0 c.stamp-stamp.new.self r)
 
 pub remove_row-requires-clause-row : goal.remove_row-requires-clause-row
-remove_row-requires-clause-row g c = λ b is.
-    let r : Removal g.T.Given.given c.args.shared.now c.args.nodes c.args.core.now c.args.dir c.args.name c.args.child c.in_ok-ready.ready c.make_ready.new.core
+remove_row-requires-clause-row c = λ b is.
+    let r : Removal (given_by c.args.shared.now) c.args.shared.now c.args.nodes c.args.core.now c.args.dir c.args.name c.args.child c.in_ok-ready.ready
+    c.make_ready.new.core
     c.stamp-stamp.result.0 c.stamp-stamp.new.self =
     record {
       table = c.requires.table;
@@ -66,13 +69,15 @@ remove_row-requires-clause-row g c = λ b is.
       drawn = c.stamp-stamp.ensures;
     } in
     subst (λ n. IsSome (get b.rows n)) (sym c.in_ok-ready.ensures.name_is)
-    (row_there g.T.Given.given c.args.shared.now c.args.nodes c.args.core.now c.args.dir c.args.name c.args.child c.in_ok-ready.ready c.make_ready.new.core
+    (row_there (given_by c.args.shared.now) c.args.shared.now c.args.nodes c.args.core.now c.args.dir c.args.name c.args.child c.in_ok-ready.ready
+    c.make_ready.new.core
     c.stamp-stamp.result.0 c.stamp-stamp.new.self r b
     (ap (λ n. bucket_held c.args.nodes c.stamp-stamp.new.self.held c.args.dir n) (sym c.bucket_of-number.ensures) ∙ is))
 
 pub place_directory-requires : goal.place_directory-requires
-place_directory-requires g c =
-    let r : Removal g.T.Given.given c.args.shared.now c.args.nodes c.args.core.now c.args.dir c.args.name c.args.child c.in_ok-ready.ready c.make_ready.new.core
+place_directory-requires c =
+    let r : Removal (given_by c.args.shared.now) c.args.shared.now c.args.nodes c.args.core.now c.args.dir c.args.name c.args.child c.in_ok-ready.ready
+    c.make_ready.new.core
     c.stamp-stamp.result.0 c.stamp-stamp.new.self =
     record {
       table = c.requires.table;
@@ -89,12 +94,14 @@ place_directory-requires g c =
     (subst
     (λ n. RemovesRow c.args.nodes c.args.dir c.bucket_of-number.result n c.stamp-stamp.new.self c.remove_row.new.core) c.in_ok-ready.ensures.name_is
     c.remove_row.ensures) in
-    buckets_there g.T.Given.given c.args.shared.now c.args.nodes c.args.core.now c.args.dir c.args.name c.args.child c.in_ok-ready.ready c.make_ready.new.core
+    buckets_there (given_by c.args.shared.now) c.args.shared.now c.args.nodes c.args.core.now c.args.dir c.args.name c.args.child c.in_ok-ready.ready
+    c.make_ready.new.core
     c.stamp-stamp.result.0 c.stamp-stamp.new.self r c.remove_row.new.core gone
 
 pub with_entry-requires : goal.with_entry-requires
-with_entry-requires g c =
-    let r : Removal g.T.Given.given c.args.shared.now c.args.nodes c.args.core.now c.args.dir c.args.name c.args.child c.in_ok-ready.ready c.make_ready.new.core
+with_entry-requires c =
+    let r : Removal (given_by c.args.shared.now) c.args.shared.now c.args.nodes c.args.core.now c.args.dir c.args.name c.args.child c.in_ok-ready.ready
+    c.make_ready.new.core
     c.stamp-stamp.result.0 c.stamp-stamp.new.self =
     record {
       table = c.requires.table;
@@ -110,12 +117,14 @@ with_entry-requires g c =
     let change = c.removed_row-change.ensures
     ∙ ap (λ n. log_entry c.stamp-stamp.result.0 c.args.dir.0 n c.args.child.0 Directory Remove None [] ∷ []) c.in_ok-ready.ensures.name_is in
     subst (λ l. HasRoomFor l c.in_ok-ready.ready.part.value) (sym change)
-    (has_room g.T.Given.given c.args.shared.now c.args.nodes c.args.core.now c.args.dir c.args.name c.args.child c.in_ok-ready.ready c.make_ready.new.core
-    c.stamp-stamp.result.0 c.stamp-stamp.new.self r c.events_are_few.ensures)
+    (has_room (given_by c.args.shared.now) c.args.shared.now c.args.nodes c.args.core.now c.args.dir c.args.name c.args.child c.in_ok-ready.ready
+    c.make_ready.new.core
+    c.stamp-stamp.result.0 c.stamp-stamp.new.self r c.calls_are_few.ensures)
 
 pub put_part-requires : goal.put_part-requires
-put_part-requires g c =
-    let r : Removal g.T.Given.given c.args.shared.now c.args.nodes c.args.core.now c.args.dir c.args.name c.args.child c.in_ok-ready.ready c.make_ready.new.core
+put_part-requires c =
+    let r : Removal (given_by c.args.shared.now) c.args.shared.now c.args.nodes c.args.core.now c.args.dir c.args.name c.args.child c.in_ok-ready.ready
+    c.make_ready.new.core
     c.stamp-stamp.result.0 c.stamp-stamp.new.self =
     record {
       table = c.requires.table;
@@ -134,14 +143,17 @@ put_part-requires g c =
     c.remove_row.ensures) in
     subst (λ (n : ℕ). IsSome (value_held c.args.nodes c.place_directory.new.core.held (id.Part (record { 0 = n }))))
     (sym
-    (core_three g.T.Given.given c.args.shared.now c.args.nodes c.args.core.now c.args.dir c.args.name c.args.child c.in_ok-ready.ready c.make_ready.new.core
+    (core_three (given_by c.args.shared.now) c.args.shared.now c.args.nodes c.args.core.now c.args.dir c.args.name c.args.child c.in_ok-ready.ready
+    c.make_ready.new.core
     c.stamp-stamp.result.0 c.stamp-stamp.new.self r c.remove_row.new.core gone c.place_directory.new.core c.place_directory.ensures))
-    (part_there g.T.Given.given c.args.shared.now c.args.nodes c.args.core.now c.args.dir c.args.name c.args.child c.in_ok-ready.ready c.make_ready.new.core
+    (part_there (given_by c.args.shared.now) c.args.shared.now c.args.nodes c.args.core.now c.args.dir c.args.name c.args.child c.in_ok-ready.ready
+    c.make_ready.new.core
     c.stamp-stamp.result.0 c.stamp-stamp.new.self r c.remove_row.new.core gone c.place_directory.new.core c.place_directory.ensures)
 
 pub let_go-requires-clause-home : goal.let_go-requires-clause-home
-let_go-requires-clause-home g c =
-    let r : Removal g.T.Given.given c.args.shared.now c.args.nodes c.args.core.now c.args.dir c.args.name c.args.child c.in_ok-ready.ready c.make_ready.new.core
+let_go-requires-clause-home c =
+    let r : Removal (given_by c.args.shared.now) c.args.shared.now c.args.nodes c.args.core.now c.args.dir c.args.name c.args.child c.in_ok-ready.ready
+    c.make_ready.new.core
     c.stamp-stamp.result.0 c.stamp-stamp.new.self =
     record {
       table = c.requires.table;
@@ -164,15 +176,18 @@ let_go-requires-clause-home g c =
     let puts = c.put_part.ensures.2
     ∙ ap (λ (n : ℕ). record c.place_directory.new.core
     { held = with_value (32 + 10 * c.args.nodes + 16 * n) c.put_part.ensures.0 c.place_directory.new.core.held })
-    (core_three g.T.Given.given c.args.shared.now c.args.nodes c.args.core.now c.args.dir c.args.name c.args.child c.in_ok-ready.ready c.make_ready.new.core
+    (core_three (given_by c.args.shared.now) c.args.shared.now c.args.nodes c.args.core.now c.args.dir c.args.name c.args.child c.in_ok-ready.ready
+    c.make_ready.new.core
     c.stamp-stamp.result.0 c.stamp-stamp.new.self r c.remove_row.new.core gone c.place_directory.new.core c.place_directory.ensures) in
-    goes_home g.T.Given.given c.args.shared.now c.args.nodes c.args.core.now c.args.dir c.args.name c.args.child c.in_ok-ready.ready c.make_ready.new.core
+    goes_home (given_by c.args.shared.now) c.args.shared.now c.args.nodes c.args.core.now c.args.dir c.args.name c.args.child c.in_ok-ready.ready
+    c.make_ready.new.core
     c.stamp-stamp.result.0 c.stamp-stamp.new.self r c.remove_row.new.core gone c.place_directory.new.core c.place_directory.ensures
     c.with_entry.result.value c.put_part.ensures.0 c.put_part.ensures.1 added c.with_entry.ensures.made c.put_part.new.core puts
 
 pub returns : goal.returns
-returns g c =
-    let r : Removal g.T.Given.given c.args.shared.now c.args.nodes c.args.core.now c.args.dir c.args.name c.args.child c.in_ok-ready.ready c.make_ready.new.core
+returns c =
+    let r : Removal (given_by c.args.shared.now) c.args.shared.now c.args.nodes c.args.core.now c.args.dir c.args.name c.args.child c.in_ok-ready.ready
+    c.make_ready.new.core
     c.stamp-stamp.result.0 c.stamp-stamp.new.self =
     record {
       table = c.requires.table;
@@ -195,9 +210,11 @@ returns g c =
     let puts = c.put_part.ensures.2
     ∙ ap (λ (n : ℕ). record c.place_directory.new.core
     { held = with_value (32 + 10 * c.args.nodes + 16 * n) c.put_part.ensures.0 c.place_directory.new.core.held })
-    (core_three g.T.Given.given c.args.shared.now c.args.nodes c.args.core.now c.args.dir c.args.name c.args.child c.in_ok-ready.ready c.make_ready.new.core
+    (core_three (given_by c.args.shared.now) c.args.shared.now c.args.nodes c.args.core.now c.args.dir c.args.name c.args.child c.in_ok-ready.ready
+    c.make_ready.new.core
     c.stamp-stamp.result.0 c.stamp-stamp.new.self r c.remove_row.new.core gone c.place_directory.new.core c.place_directory.ensures) in
-    answers g.T.Given.given c.args.shared.now c.args.nodes c.args.core.now c.args.dir c.args.name c.args.child c.in_ok-ready.ready c.make_ready.new.core
+    answers (given_by c.args.shared.now) c.args.shared.now c.args.nodes c.args.core.now c.args.dir c.args.name c.args.child c.in_ok-ready.ready
+    c.make_ready.new.core
     c.stamp-stamp.result.0 c.stamp-stamp.new.self r c.remove_row.new.core gone c.place_directory.new.core c.place_directory.ensures
     c.with_entry.result.value c.put_part.ensures.0 c.put_part.ensures.1 added c.with_entry.ensures.made c.put_part.new.core puts c.let_go.new.self
     c.let_go.ensures.lets_go c.let_go.ensures.left c.let_go.ensures.places

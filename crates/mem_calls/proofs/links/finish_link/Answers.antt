@@ -7,12 +7,10 @@ use Rattle.tree_laws.specs.Effect.{Adds}
 use Rattle.tree_laws.specs.Logged.{log_entry}
 use Rattle.tree_laws.specs.Verdict.{done}
 use Rattle.mem_cells.specs.Part.{IsAddedTo}
-use Rattle.stamp_table.specs.Hand.{Hand}
 use Rattle.stamp_table.specs.Table.{MayCall}
-use Rattle.mem_values.specs.declared.cell.Cell.{Cell}
+use Rattle.mem_values.specs.Start.{FileHand, given_by}
 use Rattle.mem_values.specs.declared.cell.Cell.TheVariants as cell
 use Rattle.mem_values.specs.declared.cell_id.CellId.TheVariants as id
-use Rattle.mem_values.specs.declared.fact.Fact.{Fact}
 use Rattle.mem_values.specs.Stands.{StandsAt}
 use Rattle.mem_values.specs.Facts.{IsLawfulLog}
 use Rattle.mem_calls.specs.Held.{value_held}
@@ -24,24 +22,26 @@ use Rattle.mem_calls.proofs.Linked.{linking, keeps, bucket_out, has_room, file_t
 use Rattle.mem_calls.proofs.links.finish_link.Goals as goal
 
 pub stamp-stamp-requires-clause-may : goal.stamp-stamp-requires-clause-may
-stamp-stamp-requires-clause-may g c =
+stamp-stamp-requires-clause-may c =
     let is = c.in_ok-coming.ensures in
-    subst (λ (h : Hand Cell Fact). MayCall (IsLawfulLog g.T.Given.given) (StandsAt g.T.Given.given) h.view
+    subst (λ (h : FileHand). MayCall (IsLawfulLog (given_by c.args.shared.now)) (StandsAt (given_by c.args.shared.now)) h.view
     (call.Link c.args.file c.args.dir c.args.name) reply.Ok)
     (sym (out_is c.args.nodes c.args.core.now c.args.dir c.args.name c.requires.may.place c.requires.part c.in_ok-coming.coming.ready is.mid is.ready
     c.make_coming.new.core is.out.0 is.out.1))
-    (may_come g.T.Given.given c.args.shared.now c.args.nodes c.args.core.now c.requires.table c.requires.work (call.Link c.args.file c.args.dir c.args.name)
+    (may_come (given_by c.args.shared.now) c.args.shared.now c.args.nodes c.args.core.now c.requires.table c.requires.work
+    (call.Link c.args.file c.args.dir c.args.name)
     (done (Adds c.args.dir.0 c.args.name c.args.file.0)) refl c.requires.due
-    (keeps g.T.Given.given c.args.shared.now c.args.nodes c.args.core.now c.requires.table c.requires.work c.args.file c.args.dir c.args.name c.requires.may
+    (keeps (given_by c.args.shared.now) c.args.shared.now c.args.nodes c.args.core.now c.requires.table c.requires.work c.args.file c.args.dir c.args.name
+    c.requires.may
     c.requires.part c.requires.due))
 
 pub put_bucket-requires : goal.put_bucket-requires
-put_bucket-requires g c =
+put_bucket-requires c =
     let r = linking c.requires.table c.requires.work c.requires.may c.requires.part c.requires.due c.in_ok-coming.ensures c.stamp-stamp.ensures in
     subst (λ n. IsSome (value_held c.args.nodes c.stamp-stamp.new.self.held (id.Bucket c.args.dir n))) (sym c.bucket_of-number.ensures) (bucket_out r)
 
 pub raise_links-requires-clause-held : goal.raise_links-requires-clause-held
-raise_links-requires-clause-held g c =
+raise_links-requires-clause-held c =
     let r = linking c.requires.table c.requires.work c.requires.may c.requires.part c.requires.due c.in_ok-coming.ensures c.stamp-stamp.ensures in
     let puts = subst (λ n. PutsValue c.args.nodes (id.Bucket c.args.dir n)
     (cell.Bucket c.in_ok-coming.coming.bucket) c.stamp-stamp.new.self c.put_bucket.new.core)
@@ -49,7 +49,7 @@ raise_links-requires-clause-held g c =
     file_there r (cell.Bucket c.in_ok-coming.coming.bucket) c.put_bucket.new.core puts
 
 pub raise_links-requires-clause-links : goal.raise_links-requires-clause-links
-raise_links-requires-clause-links g c =
+raise_links-requires-clause-links c =
     let r = linking c.requires.table c.requires.work c.requires.may c.requires.part c.requires.due c.in_ok-coming.ensures c.stamp-stamp.ensures in
     let puts = subst (λ n. PutsValue c.args.nodes (id.Bucket c.args.dir n)
     (cell.Bucket c.in_ok-coming.coming.bucket) c.stamp-stamp.new.self c.put_bucket.new.core)
@@ -57,14 +57,14 @@ raise_links-requires-clause-links g c =
     links_few r (cell.Bucket c.in_ok-coming.coming.bucket) c.put_bucket.new.core puts
 
 pub with_entry-requires : goal.with_entry-requires
-with_entry-requires g c =
+with_entry-requires c =
     let r = linking c.requires.table c.requires.work c.requires.may c.requires.part c.requires.due c.in_ok-coming.ensures c.stamp-stamp.ensures in
     let change = c.added_row-change.ensures
     ∙ ap (λ n. log_entry c.stamp-stamp.result.0 c.args.dir.0 n c.args.file.0 File Add None [] ∷ []) c.in_ok-coming.ensures.ready.name_is in
-    subst (λ l. HasRoomFor l c.in_ok-coming.coming.ready.part.value) (sym change) (has_room r c.events_are_few.ensures)
+    subst (λ l. HasRoomFor l c.in_ok-coming.coming.ready.part.value) (sym change) (has_room r c.calls_are_few.ensures)
 
 pub put_part-requires : goal.put_part-requires
-put_part-requires g c =
+put_part-requires c =
     let r = linking c.requires.table c.requires.work c.requires.may c.requires.part c.requires.due c.in_ok-coming.ensures c.stamp-stamp.ensures in
     let puts = subst (λ n. PutsValue c.args.nodes (id.Bucket c.args.dir n)
     (cell.Bucket c.in_ok-coming.coming.bucket) c.stamp-stamp.new.self c.put_bucket.new.core)
@@ -72,7 +72,7 @@ put_part-requires g c =
     part_there r (cell.Bucket c.in_ok-coming.coming.bucket) c.put_bucket.new.core puts c.raise_links.new.core c.raise_links.ensures
 
 pub let_go-requires-clause-home : goal.let_go-requires-clause-home
-let_go-requires-clause-home g c =
+let_go-requires-clause-home c =
     let r = linking c.requires.table c.requires.work c.requires.may c.requires.part c.requires.due c.in_ok-coming.ensures c.stamp-stamp.ensures in
     let puts = subst (λ n. PutsValue c.args.nodes (id.Bucket c.args.dir n)
     (cell.Bucket c.in_ok-coming.coming.bucket) c.stamp-stamp.new.self c.put_bucket.new.core)
@@ -85,7 +85,7 @@ let_go-requires-clause-home g c =
     c.put_part.ensures.0 c.put_part.ensures.1 added c.with_entry.ensures.made c.put_part.new.core c.put_part.ensures.2
 
 pub returns : goal.returns
-returns g c =
+returns c =
     let r = linking c.requires.table c.requires.work c.requires.may c.requires.part c.requires.due c.in_ok-coming.ensures c.stamp-stamp.ensures in
     let puts = subst (λ n. PutsValue c.args.nodes (id.Bucket c.args.dir n)
     (cell.Bucket c.in_ok-coming.coming.bucket) c.stamp-stamp.new.self c.put_bucket.new.core)

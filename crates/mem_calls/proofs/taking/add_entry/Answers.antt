@@ -1,10 +1,8 @@
 use Rattle.std.proofs.Common.{◌≡◌, ◌+◌, ◌*◌, ℕ, sym, ◌∙◌, subst, ap, IsSome, refl}
-use Rattle.stamp_table.specs.Hand.{Hand}
 use Rattle.stamp_table.specs.Table.{with_value}
-use Rattle.mem_values.specs.declared.cell.Cell.{Cell}
+use Rattle.mem_values.specs.Start.{FileHand}
 use Rattle.mem_values.specs.declared.cell.Cell.TheVariants.{Part}
 use Rattle.mem_values.specs.declared.cell_id.CellId.TheVariants as id
-use Rattle.mem_values.specs.declared.fact.Fact.{Fact}
 use Rattle.mem_values.proofs.Basics.{some_of}
 use Rattle.mem_calls.specs.Held.{value_held, as_part}
 use Rattle.mem_calls.proofs.Taken.{some_and_then, value_with, takes_entry}
@@ -18,8 +16,8 @@ put-requires c =
     let old = some_and_then as_part
     (value_held c.args.nodes c.args.core.now.held (id.Part (record { 0 = c.args.core.now.view.core }))) c.take_part.result.value c.take_part.ensures.part in
     let out = value_with c.args.nodes (id.Part (record { 0 = c.args.core.now.view.core })) c.take_part.ensures.held.0 c.args.core.now.held old in
-    let number : c.number.result.0 ≡ c.args.core.now.view.core = c.number.ensures ∙ ap (λ (h : Hand Cell Fact). h.view.core) c.take_part.ensures.held.1 in
-    subst (λ (h : Hand Cell Fact). IsSome (value_held c.args.nodes h.held (id.Part c.number.result))) (sym c.take_part.ensures.held.1)
+    let number : c.number.result.0 ≡ c.args.core.now.view.core = c.number.ensures ∙ ap (λ (h : FileHand). h.view.core) c.take_part.ensures.held.1 in
+    subst (λ (h : FileHand). IsSome (value_held c.args.nodes h.held (id.Part c.number.result))) (sym c.take_part.ensures.held.1)
     (subst (λ (n : ℕ). IsSome (value_held c.args.nodes
     (with_value (32 + 10 * c.args.nodes + 16 * c.args.core.now.view.core) c.take_part.ensures.held.0 c.args.core.now.held) (id.Part (record { 0 = n }))))
     (sym number)

@@ -14,71 +14,77 @@ use Rattle.mem_rename.proofs.Turned.{can_change, may, lock_there, part_locked, t
 use Rattle.mem_rename.proofs.Landed.{goes_home, answers}
 use Rattle.std.specs.Prelude.{[]}
 use Rattle.std.proofs.Common.{cond, Bool}
+use Rattle.mem_values.specs.Start.{given_by}
 use Rattle.mem_calls.specs.Parts.{TakesEntry}
 use Rattle.mem_rename.specs.Shifts.{shift_logged}
 use Rattle.mem_rename.specs.Moving.{SetsLock}
 use Rattle.mem_rename.proofs.moving.move_child.Goals as goal
 
 pub prepare-requires-clause-held : goal.prepare-requires-clause-held
-prepare-requires-clause-held g c = new_there c.args.nodes c.args.core.now c.args.move_ c.args.plan c.requires.ready.cells
+prepare-requires-clause-held c = new_there c.args.nodes c.args.core.now c.args.move_ c.args.plan c.requires.ready.cells
 
 pub change_held-requires-clause-held : goal.change_held-requires-clause-held
-change_held-requires-clause-held g c =
-    can_change g.T.Given.given c.args.shared.now c.args.nodes c.requires.table c.args.move_ c.requires.within c.args.plan c.requires.plan
+change_held-requires-clause-held c =
+    can_change (given_by c.args.shared.now) c.args.shared.now c.args.nodes c.requires.table c.args.move_ c.requires.within c.args.plan c.requires.plan
     (map node_number c.args.above.items) c.args.core.now c.requires.ready c.args.child c.requires.moves c.shift_in-shift.result
     c.in_ok-noted.noted c.prepare.new.core c.in_ok-noted.ensures
 
 pub stamp-stamp-requires-clause-may : goal.stamp-stamp-requires-clause-may
-stamp-stamp-requires-clause-may g c =
-    subst (λ (z : Call). MayCall (IsLawfulLog g.T.Given.given) (StandsAt g.T.Given.given) c.change_held.new.core.view z reply.Ok) (sym c.into_call.ensures)
-    (may g.T.Given.given c.args.shared.now c.args.nodes c.requires.table c.args.move_ c.requires.within c.args.plan c.requires.plan
+stamp-stamp-requires-clause-may c =
+    subst (λ (z : Call). MayCall (IsLawfulLog (given_by c.args.shared.now)) (StandsAt (given_by c.args.shared.now)) c.change_held.new.core.view z reply.Ok)
+    (sym c.into_call.ensures)
+    (may (given_by c.args.shared.now) c.args.shared.now c.args.nodes c.requires.table c.args.move_ c.requires.within c.args.plan c.requires.plan
     (map node_number c.args.above.items) c.args.core.now c.requires.ready c.args.child c.requires.moves c.shift_in-shift.result
     c.in_ok-noted.noted c.prepare.new.core c.in_ok-noted.ensures c.change_held.new.core c.change_held.ensures)
 
 pub set_lock-requires : goal.set_lock-requires
-set_lock-requires g c = λ comes.
-    let stamps = subst (λ (z : Call). Stamps (IsLawfulLog g.T.Given.given)
-    (StandsAt g.T.Given.given) z reply.Ok c.change_held.new.core c.stamp-stamp.result.0 c.stamp-stamp.new.self) c.into_call.ensures c.stamp-stamp.ensures in
-    lock_there g.T.Given.given c.args.shared.now c.args.nodes c.requires.table c.args.move_ c.requires.within c.args.plan c.requires.plan
+set_lock-requires c = λ comes.
+    let stamps = subst (λ (z : Call). Stamps (IsLawfulLog (given_by c.args.shared.now))
+    (StandsAt (given_by c.args.shared.now)) z reply.Ok c.change_held.new.core c.stamp-stamp.result.0 c.stamp-stamp.new.self) c.into_call.ensures
+    c.stamp-stamp.ensures in
+    lock_there (given_by c.args.shared.now) c.args.shared.now c.args.nodes c.requires.table c.args.move_ c.requires.within c.args.plan c.requires.plan
     (map node_number c.args.above.items) c.args.core.now c.requires.ready c.args.child c.requires.moves c.shift_in-shift.result
     c.in_ok-noted.noted c.prepare.new.core c.in_ok-noted.ensures c.change_held.new.core c.change_held.ensures c.stamp-stamp.result.0 c.stamp-stamp.new.self
     stamps
     (sym c.is_some-comes.ensures ∙ comes)
 
 pub add_entry-requires-clause-part : goal.add_entry-requires-clause-part
-add_entry-requires-clause-part g c =
-    let stamps = subst (λ (z : Call). Stamps (IsLawfulLog g.T.Given.given)
-    (StandsAt g.T.Given.given) z reply.Ok c.change_held.new.core c.stamp-stamp.result.0 c.stamp-stamp.new.self) c.into_call.ensures c.stamp-stamp.ensures in
+add_entry-requires-clause-part c =
+    let stamps = subst (λ (z : Call). Stamps (IsLawfulLog (given_by c.args.shared.now))
+    (StandsAt (given_by c.args.shared.now)) z reply.Ok c.change_held.new.core c.stamp-stamp.result.0 c.stamp-stamp.new.self) c.into_call.ensures
+    c.stamp-stamp.ensures in
     some_of (part_held c.args.nodes c.set_lock.new.core.held c.set_lock.new.core.view.core) _
-    (part_locked g.T.Given.given c.args.shared.now c.args.nodes c.requires.table c.args.move_ c.requires.within c.args.plan c.requires.plan
+    (part_locked (given_by c.args.shared.now) c.args.shared.now c.args.nodes c.requires.table c.args.move_ c.requires.within c.args.plan c.requires.plan
     (map node_number c.args.above.items) c.args.core.now c.requires.ready c.args.child c.requires.moves c.shift_in-shift.result
     c.in_ok-noted.noted c.prepare.new.core c.in_ok-noted.ensures c.change_held.new.core c.change_held.ensures c.stamp-stamp.result.0 c.stamp-stamp.new.self
     stamps c.is_some-comes.result c.set_lock.new.core c.set_lock.ensures)
 
 pub add_entry-requires-clause-may : goal.add_entry-requires-clause-may
-add_entry-requires-clause-may g c =
-    let stamps = subst (λ (z : Call). Stamps (IsLawfulLog g.T.Given.given)
-    (StandsAt g.T.Given.given) z reply.Ok c.change_held.new.core c.stamp-stamp.result.0 c.stamp-stamp.new.self) c.into_call.ensures c.stamp-stamp.ensures in
+add_entry-requires-clause-may c =
+    let stamps = subst (λ (z : Call). Stamps (IsLawfulLog (given_by c.args.shared.now))
+    (StandsAt (given_by c.args.shared.now)) z reply.Ok c.change_held.new.core c.stamp-stamp.result.0 c.stamp-stamp.new.self) c.into_call.ensures
+    c.stamp-stamp.ensures in
     let shift = c.shift_in-shift.ensures (map node_number c.args.above.items) in
     subst (λ l. MayTake c.args.nodes l c.set_lock.new.core) (sym c.shifted.ensures)
-    (takes_shift g.T.Given.given c.args.shared.now c.args.nodes c.requires.table c.args.move_ c.requires.within c.args.plan c.requires.plan
+    (takes_shift (given_by c.args.shared.now) c.args.shared.now c.args.nodes c.requires.table c.args.move_ c.requires.within c.args.plan c.requires.plan
     (map node_number c.args.above.items) c.args.core.now c.requires.ready c.args.child c.requires.moves c.shift_in-shift.result
     c.in_ok-noted.noted c.prepare.new.core c.in_ok-noted.ensures c.change_held.new.core c.change_held.ensures c.stamp-stamp.result.0 c.stamp-stamp.new.self
     stamps c.is_some-comes.result c.set_lock.new.core c.set_lock.ensures
     c.in_ok-noted.noted.old c.in_ok-noted.noted.new c.way_of-way.result (ap (λ (s : Shift). s.from) shift)
-    (ap (λ (s : Shift). s.to) shift) c.events_are_few.ensures)
+    (ap (λ (s : Shift). s.to) shift) c.calls_are_few.ensures)
 
 pub let_go-requires-clause-home : goal.let_go-requires-clause-home
-let_go-requires-clause-home g c =
-    let stamps = subst (λ (z : Call). Stamps (IsLawfulLog g.T.Given.given)
-    (StandsAt g.T.Given.given) z reply.Ok c.change_held.new.core c.stamp-stamp.result.0 c.stamp-stamp.new.self) c.into_call.ensures c.stamp-stamp.ensures in
+let_go-requires-clause-home c =
+    let stamps = subst (λ (z : Call). Stamps (IsLawfulLog (given_by c.args.shared.now))
+    (StandsAt (given_by c.args.shared.now)) z reply.Ok c.change_held.new.core c.stamp-stamp.result.0 c.stamp-stamp.new.self) c.into_call.ensures
+    c.stamp-stamp.ensures in
     let lock = subst (λ (b : Bool).
     SetsLock c.args.nodes b c.stamp-stamp.result c.stamp-stamp.new.self c.set_lock.new.core) c.is_some-comes.ensures c.set_lock.ensures in
     let logged = c.shifted.ensures
     ∙ ap (shift_logged c.shift_in-shift.result c.in_ok-noted.noted.old c.in_ok-noted.noted.new c.stamp-stamp.result.0)
     (c.way_of-way.ensures ∙ ap (λ (b : Bool). cond b (map node_number c.args.above.items) []) c.is_some-comes.ensures) in
     let takes = subst (λ l. TakesEntry c.args.nodes l c.set_lock.new.core c.add_entry.new.core) logged c.add_entry.ensures in
-    goes_home g.T.Given.given c.args.shared.now c.args.nodes c.requires.table c.args.move_ c.requires.within c.args.plan c.requires.plan
+    goes_home (given_by c.args.shared.now) c.args.shared.now c.args.nodes c.requires.table c.args.move_ c.requires.within c.args.plan c.requires.plan
     (map node_number c.args.above.items) c.args.core.now c.requires.ready c.args.child c.requires.moves c.shift_in-shift.result
     c.in_ok-noted.noted c.prepare.new.core c.in_ok-noted.ensures c.change_held.new.core c.change_held.ensures c.stamp-stamp.result.0 c.stamp-stamp.new.self
     stamps c.set_lock.new.core lock
@@ -86,16 +92,17 @@ let_go-requires-clause-home g c =
     c.add_entry.new.core takes
 
 pub returns : goal.returns
-returns g c =
-    let stamps = subst (λ (z : Call). Stamps (IsLawfulLog g.T.Given.given)
-    (StandsAt g.T.Given.given) z reply.Ok c.change_held.new.core c.stamp-stamp.result.0 c.stamp-stamp.new.self) c.into_call.ensures c.stamp-stamp.ensures in
+returns c =
+    let stamps = subst (λ (z : Call). Stamps (IsLawfulLog (given_by c.args.shared.now))
+    (StandsAt (given_by c.args.shared.now)) z reply.Ok c.change_held.new.core c.stamp-stamp.result.0 c.stamp-stamp.new.self) c.into_call.ensures
+    c.stamp-stamp.ensures in
     let lock = subst (λ (b : Bool).
     SetsLock c.args.nodes b c.stamp-stamp.result c.stamp-stamp.new.self c.set_lock.new.core) c.is_some-comes.ensures c.set_lock.ensures in
     let logged = c.shifted.ensures
     ∙ ap (shift_logged c.shift_in-shift.result c.in_ok-noted.noted.old c.in_ok-noted.noted.new c.stamp-stamp.result.0)
     (c.way_of-way.ensures ∙ ap (λ (b : Bool). cond b (map node_number c.args.above.items) []) c.is_some-comes.ensures) in
     let takes = subst (λ l. TakesEntry c.args.nodes l c.set_lock.new.core c.add_entry.new.core) logged c.add_entry.ensures in
-    answers g.T.Given.given c.args.shared.now c.args.nodes c.requires.table c.args.move_ c.requires.within c.args.plan c.requires.plan
+    answers (given_by c.args.shared.now) c.args.shared.now c.args.nodes c.requires.table c.args.move_ c.requires.within c.args.plan c.requires.plan
     (map node_number c.args.above.items) c.args.core.now c.requires.ready c.args.child c.requires.moves c.shift_in-shift.result
     c.in_ok-noted.noted c.prepare.new.core c.in_ok-noted.ensures c.change_held.new.core c.change_held.ensures c.stamp-stamp.result.0 c.stamp-stamp.new.self
     stamps c.set_lock.new.core lock

@@ -1,10 +1,8 @@
 use Rattle.std.proofs.Common.{◌≡◌, ◌+◌, ◌*◌, ℕ, refl, sym, ap, subst, ◌∙◌, IsSome}
-use Rattle.stamp_table.specs.Hand.{Hand}
 use Rattle.stamp_table.specs.Table.{with_value}
+use Rattle.mem_values.specs.Start.{FileHand}
 use Rattle.mem_values.specs.declared.cell.Cell.TheVariants as cell
 use Rattle.mem_values.specs.declared.cell_id.CellId.TheVariants as id
-use Rattle.mem_values.specs.declared.fact.Fact.{Fact}
-use Rattle.mem_values.specs.declared.cell.Cell.{Cell}
 use Rattle.mem_calls.specs.Held.{value_held, as_part}
 use Rattle.mem_calls.proofs.Nothing.{some_first}
 use Rattle.mem_calls.proofs.Taken.{put_there, put_twice}
@@ -14,7 +12,7 @@ use Rattle.mem_rename.proofs.readying.reserve_log.Goals as goal
 
 pub put-requires : goal.put-requires
 put-requires c =
-    let number : c.number.result.0 ≡ c.args.core.now.view.core = c.number.ensures ∙ ap (λ (h : Hand Cell Fact). h.view.core) c.take_part.ensures.held.1 in
+    let number : c.number.result.0 ≡ c.args.core.now.view.core = c.number.ensures ∙ ap (λ (h : FileHand). h.view.core) c.take_part.ensures.held.1 in
     subst (λ (n : ℕ). IsSome (value_held c.args.nodes c.take_part.new.core.held (id.Part (record { 0 = n })))) (sym number)
     (put_there c.args.nodes c.args.core.now c.take_part.new.core (id.Part (record { 0 = c.args.core.now.view.core })) c.take_part.ensures.held.0
     (some_first as_part (value_held c.args.nodes c.args.core.now.held
@@ -22,7 +20,7 @@ put-requires c =
 
 pub returns : goal.returns
 returns c =
-    let number : c.number.result.0 ≡ c.args.core.now.view.core = c.number.ensures ∙ ap (λ (h : Hand Cell Fact). h.view.core) c.take_part.ensures.held.1 in
+    let number : c.number.result.0 ≡ c.args.core.now.view.core = c.number.ensures ∙ ap (λ (h : FileHand). h.view.core) c.take_part.ensures.held.1 in
     let puts = put_twice c.args.nodes c.args.core.now c.take_part.new.core c.put.new.core
     (id.Part (record { 0 = c.args.core.now.view.core })) c.take_part.ensures.held.0 (cell.Part c.with_room-part.result.0) c.take_part.ensures.held.1
     (c.put.ensures ∙ ap (λ (n : ℕ). record c.take_part.new.core

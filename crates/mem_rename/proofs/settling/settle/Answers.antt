@@ -1,5 +1,6 @@
 use Rattle.std.proofs.Common.{sym, subst, ◌∙◌, arith, map}
 use Rattle.tree_laws.specs.NameRow.{node_number}
+use Rattle.mem_values.specs.Start.{given_by}
 use Rattle.mem_rename.specs.Rounds.{IsPlanWithin}
 use Rattle.mem_rename.proofs.Settled.{refused_same, none_within, settled}
 use Rattle.mem_rename.proofs.settling.settle.Goals as goal
@@ -15,7 +16,7 @@ hold_round-requires-clause-room g c = let r = c.loop.invariant.again.room in let
 
 pub returns-then-is : goal.returns-then-is
 returns-then-is g c =
-    settled g.T.Given.given c.args.shared.now c.args.nodes c.requires.table c.args.move_.now c.loop.plan c.next_plan-next.result
+    settled (given_by c.args.shared.now) c.args.shared.now c.args.nodes c.requires.table c.args.move_.now c.loop.plan c.next_plan-next.result
     (map node_number c.in-Some-2.above.items) c.loop.core c.hold_round.new.core c.hold_own.new.core
     (rw c.in-Some-2.is at c.in_ok-above.ensures.held) c.hold_own.ensures.work c.hold_own.ensures.on c.hold_own.ensures.still c.hold_own.ensures.legal
     c.args.core.now c.loop.invariant.within c.loop.invariant.again (c.next_plan-next.ensures.asked (map node_number c.in-Some-2.above.items))

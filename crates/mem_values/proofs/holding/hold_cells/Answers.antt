@@ -2,6 +2,7 @@ use Rattle.std.proofs.Common.{◌≡◌, ◌+◌, ◌∷◌, ℕ, List, length, 
 use Rattle.std.proofs.lemmas.List.{drop_more}
 use Rattle.stamp_table.specs.Ascending.{AreBelow, RiseAbove}
 use Rattle.stamp_table.specs.Table.{HoldsAll}
+use Rattle.mem_values.specs.Start.{given_by}
 use Rattle.mem_values.specs.declared.cell_id.CellId.TheVariants.{Lock}
 use Rattle.mem_values.specs.Places.{cell_place}
 use Rattle.mem_values.specs.Stands.{StandsAt}
@@ -21,13 +22,14 @@ loop-cell-preserved g c =
     ∙ ap (λ (p : ℕ). p ∷ map (cell_place c.args.nodes) (drop (c.loop-cell.cell-index + 1) c.args.cells.now)) (sym c.place.ensures) in
     record {
       table = ap (λ x. x.table) h.frame ∙ inv.table;
-      within = (subst (λ (l : List ℕ). AreBelow c.args.shared.now.table.slots l) next inv.within).1;
+      within = (subst (λ (l : List ℕ). AreBelow c.args.shared.now.table.id.slots l) next inv.within).1;
       above =
           subst (λ (l : List ℕ). RiseAbove l (map (cell_place c.args.nodes) (drop (c.loop-cell.cell-index + 1) c.args.cells.now))) (sym h.saw.held)
           (subst (λ (l : List ℕ). RiseAbove c.loop-cell.core.view.held l) next inv.above).1;
       room = (let r = inv.room in let l = ap length first in let less = h.room in omega (arith, r, l, less));
       rest =
           λ after tail. inv.rest after
-          (subst (λ (l : List ℕ). HoldsAll (IsLawfulLog g.G.Given.given) (StandsAt g.G.Given.given) l c.loop-cell.core after) (sym next)
+          (subst (λ (l : List ℕ). HoldsAll (IsLawfulLog (given_by c.args.shared.now)) (StandsAt (given_by c.args.shared.now)) l c.loop-cell.core after)
+          (sym next)
           (c.hold_one.new.self, h, tail));
     }

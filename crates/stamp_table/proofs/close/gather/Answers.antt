@@ -6,9 +6,9 @@ pub join_seat-requires : goal.join_seat-requires
 join_seat-requires g c =
     let none = ap (λ h. h.held) c.core.view_is ∙ c.requires.core.2 in (
       search rules,
-      ap (λ h. h.table) c.core.view_is ∙ c.requires.core.0,
-      (no_slots c.core.inside.seat _ _ _ _ c.core.invariant.0 none).1,
+      ap (λ h. h.table.id) c.core.view_is ∙ c.requires.core.0,
+      (no_slots c.core.inside.seat _ _ _ c.core.invariant.0 none).1,
       search rules,
-      asks_join g.M.Meaning.lawful g.M.Meaning.stands _ _ _ _ c.core.inside.seat _ _ _ _ c.core.invariant.0 none c.requires.lead.1
+      asks_join g.M.Meaning.lawful g.M.Meaning.stands g.M.Meaning.nothing _ _ _ _ c.core.inside.seat _ _ _ c.core.invariant.0 none c.requires.lead.1
           (ap (λ h. h.view.core) c.core.view_is ∙ c.requires.core.1),
     )

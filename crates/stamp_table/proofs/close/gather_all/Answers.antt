@@ -13,17 +13,17 @@ loop-core-preserved g c =
     let inv = c.loop-core.invariant in
     let pushed = c.push_reserved.ensures.items in
     let entries = c.gather-entries.ensures.entries in
-    let gathered = c.gather-entries.ensures.gathered in
     record {
       table = search rules;
       gathers = search rules;
       ready = grind (arith, common_steps);
       lists = grind (arith, common_steps);
+      saws = grind (arith, common_steps);
       parts = grind (arith, common_steps);
       calls =
           subst (λ (z : List (List (Event g.row.X.Denot)) × List (List Entry)). AllZip AreCallsOf z.0 z.1)
           (λ i. (
-            sym (ap (λ v. v.lists) gathered) i,
+            sym c.gather-entries.ensures.lists i,
             sym
                 (ap (map (λ p. p.items)) pushed
                 ∙ (map-append (λ p. p.items) c.loop-core.parts.items (c.gather-entries.result ∷ [])

@@ -1,7 +1,7 @@
-use Rattle.std.proofs.Common.{arith, ◌≡◌, ◌∙◌, sym, ap, subst, ℕ, ◌++◌, length, take, drop, All}
+use Rattle.std.proofs.Common.{refl, arith, ◌≡◌, ◌∙◌, sym, ap, subst, ℕ, ◌++◌, length, take, drop, All}
 use Rattle.stamp_table.specs.Table.{IsBetweenCalls, IsSameCore, AreNew}
 use Rattle.stamp_table.proofs.Beginning.{new_between, all_again}
-use Rattle.test_table.proofs.Written.{written}
+use Rattle.stamp_table.proofs.Exchanging.{written_over}
 use Rattle.test_table.proofs.table.counted.Goals as goal
 
 pub count_all-requires-clause-cores : goal.count_all-requires-clause-cores
@@ -21,7 +21,7 @@ close-history-requires g c =
     let long : length c.count_all.new.cores ≡ length items = c.count_all.ensures.count ∙ ap length value in
     let back : take c.in_ok-shared.hands.len (c.count_all.new.cores ++ drop (length c.count_all.new.cores) items) ≡ c.count_all.new.cores =
     ap (λ k. take k (c.count_all.new.cores ++ drop (length c.count_all.new.cores) items)) c.in_ok-shared.hands.ok.0
-    ∙ written c.count_all.new.cores items long in
+    ∙ written_over items c.count_all.new.cores (length items) refl long in
     subst (λ l. Rattle.stamp_table.specs.Table.AreAllCores c.in_ok-shared.shared l) (sym back)
     (all_again c.in_ok-shared.shared items c.count_all.new.cores long
     (λ place d lt. let s = c.count_all.ensures.same place d (omega (arith, lt, ap length value)) in (

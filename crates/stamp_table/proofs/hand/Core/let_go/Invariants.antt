@@ -4,7 +4,8 @@ use Rattle.stamp_table.proofs.hand.Core.let_go.Given as goal
 
 abbrev pub invariant-loop-self : goal.invariant-loop-self
 invariant-loop-self g l =
-    LetsGo l.initial.self l.self × EachFrom l.from (Stands g.M.Meaning.lawful g.M.Meaning.stands l.initial.self.view) l.self.held
+    LetsGo l.initial.self l.self × EachFrom l.from (Stands (g.M.Meaning.lawful l.shared.table.given) (g.M.Meaning.stands l.shared.table.given)
+    l.initial.self.view) l.self.held
     × (left_below l.from l.self.held ≡ left_below l.from l.initial.self.held)
 
 abbrev pub decreases-loop-self : goal.decreases-loop-self

@@ -1,9 +1,17 @@
 use Rattle.std.proofs.Common.{rules, ◌<◌, length, ◌∙◌, ap, sym, subst, List, reverse, option_map}
+use Rattle.keyed_list.specs.Ascending.{AscendBy}
+use Rattle.stamp_table.specs.Ascending.{Falls}
 use Rattle.stamp_table.specs.declared.held.HeldCell.{HeldCell}
-use Rattle.stamp_table.specs.Hand.{places_of}
+use Rattle.stamp_table.specs.Hand.{places_of, place_in}
 use Rattle.stamp_table.specs.Table.{cells_before}
+use Rattle.stamp_table.proofs.Finding.{ascend}
 use Rattle.stamp_table.proofs.Replacing.{within_found, replaced, same_places}
 use Rattle.stamp_table.proofs.hand.Core.replace.Goals as goal
+
+pub find_index-at-requires-clause-ascend : goal.find_index-at-requires-clause-ascend
+find_index-at-requires-clause-ascend g c =
+    subst (λ (l : List (HeldCell g.row.C.Denot)). AscendBy place_in l) (sym c.deref.ensures.value)
+    (ascend c.self.inside.held.items (subst Falls c.self.invariant.0.places c.self.invariant.0.falls))
 
 pub index_mut-requires : goal.index_mut-requires
 index_mut-requires g c =
@@ -25,7 +33,6 @@ invariant_of-self g c =
         calls = core.calls;
         number_known = core.number_known;
         entries_are = core.entries_are;
-        counted = core.counted;
         few = core.few;
         places =
             core.places ∙ ap (λ (l : List (HeldCell g.row.C.Denot)). reverse (places_of l)) held

@@ -6,9 +6,9 @@ pub load-requires : goal.load-requires
 load-requires g c = (
   search rules,
   search rules,
-  asks_tell_picked g.M.Meaning.lawful g.M.Meaning.stands _ _ _ _ g.J.Telling.fact _ c.requires.seat.lives c.requires.seat.calls c.requires.picked
-      c.requires.may,
+  asks_tell_picked g.M.Meaning.lawful g.M.Meaning.stands _ _ _ _ g.J.Telling.fact c.requires.may.0 c.requires.seat.lives c.requires.seat.calls
+      c.requires.may.1 c.requires.may.2,
 )
 
 pub returns-clause-adds : goal.returns-clause-adds
-returns-clause-adds g c = (c.load.result, c.load.ensures.2 _ c.requires.picked)
+returns-clause-adds g c fact picked = (c.load.result, c.load.ensures.2 fact picked)
