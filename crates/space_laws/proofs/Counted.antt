@@ -112,8 +112,7 @@ module _ (first end : ℕ) (held : ℕ → Type 0) (pool : Pool) (row : IsRowOf 
             | inr f ↦ absurd (let never : Free ≡ Taken = row.held_is_taken (first + k) Free has ((tells (first + k) spans.0 spans.1).0 f) in cc)
           ]
 
-module _ (volume : Volume) (entries : List OldEntry)
-    (ready : IsBetweenCommits volume) (keeps : KeepsEntries volume.num volume.parts entries) where
+module _ (volume : Volume) (entries : List OldEntry) (ready : IsBetweenCommits volume) (keeps : KeepsEntries volume.num volume.parts entries) where
   abbrev image : SeenInodes
   image = inodes_shown volume.layout volume.parts
 
@@ -132,7 +131,8 @@ module _ (volume : Volume) (entries : List OldEntry)
         (entry.0, entry.1, some_same (sym (keeps.each entry.0 entry.1).0 ∙ ap volume.num entry.2 ∙ has))
   ]
 
-  inodes_tell : (i : ℕ) → i < volume.layout.inodes → (is_unused image i ≡ false) ↔ Contains (map entry_number entries) i
+  -- and so the inodes in use are those of the entries
+  pub inodes_tell : (i : ℕ) → i < volume.layout.inodes → (is_unused image i ≡ false) ↔ Contains (map entry_number entries) i
   inodes_tell i low = (found, back)
     where
       found : is_unused image i ≡ false → Contains (map entry_number entries) i

@@ -59,6 +59,7 @@ use Rattle.raise_laws.specs.Next.{IsStorableAtCut}
 use Rattle.raise_laws.proofs.Next.{cut_trees_are_storable}
 use Rattle.flush_laws.specs.Volume.{Volume, tree_held}
 use Rattle.flush_laws.specs.Ready.{IsBetweenCommits, KeepsEntries}
+use Rattle.space_laws.proofs.Holders.{low_number}
 use Rattle.space_laws.specs.Laws.{BringsNames, PlansFillSlots, GrantsServePlans}
 use Rattle.space_laws.proofs.Asked.{enters_counted}
 use Rattle.space_laws.proofs.Holders.{in_front}
@@ -148,9 +149,6 @@ module _ (volume : Volume) (entries : List OldEntry) (plan : CommitPlan) (grant 
   rules : KeepsRules image
   rules = standing_keeps volume.num (tree_held volume) image stored.sound ready.stands stored.storable
 
-  number_low : (entry : OldEntry) → Contains entries entry → entry.old.number < volume.layout.inodes
-  number_low entry there = ready.stands.within entry.node.0 entry.old.number (keeps.each entry there).0
-
   -- the blocks that an entry has fit any net
   old_fits : (net : List NetRow) (entry : OldEntry) → Contains entries entry → (block : List (Option Row)) → Contains entry.old.kept.slots block
       → BlockFits net block
@@ -167,7 +165,7 @@ module _ (volume : Volume) (entries : List OldEntry) (plan : CommitPlan) (grant 
       by true e has = record { count = shows.blocks block has_kept; slots = slots_fit net block each }
         where
           shows : KeepsSeen (kept_of (volume.parts entry.old.number)) (seen_of (volume.parts entry.old.number))
-          shows = kept_parts_show volume.store (volume.parts entry.old.number) (ready.sound.gathered entry.old.number (number_low entry there))
+          shows = kept_parts_show volume.store (volume.parts entry.old.number) (ready.sound.gathered entry.old.number (low_number volume entries ready keeps entry there))
 
           has_kept : Contains (kept_slots (volume.parts entry.old.number)) block
           has_kept = subst (λ (k : Kept). Contains k.slots block) kept_is in_slots
@@ -179,7 +177,7 @@ module _ (volume : Volume) (entries : List OldEntry) (plan : CommitPlan) (grant 
           sound =
               All-contains (λ b. slots_fault b ≡ None) (directory_blocks (volume.parts entry.old.number)) raw.0
               ((slots_say (volume.parts entry.old.number)).0 (good_part volume.layout volume.parts ready.sound.good entry.old.number
-              (number_low entry there)).slots e) raw.1
+              (low_number volume entries ready keeps entry there)).slots e) raw.1
 
           each : (slot : Option Row) → Contains block slot → SlotFits net slot
           each None in_block = tt
@@ -189,7 +187,7 @@ module _ (volume : Volume) (entries : List OldEntry) (plan : CommitPlan) (grant 
               (in_flat (λ (b : List (Option Row)). b) (kept_slots (volume.parts entry.old.number)) block (Some row) has_kept in_block) in
               let may =
               each_of image (image.seen entry.old.number).slots
-              (rules.children entry.old.number (number_low entry there, eqb-true (inode_in (volume.parts entry.old.number)).kind (kind_byte Directory) e))
+              (rules.children entry.old.number (low_number volume entries ready keeps entry there, eqb-true (inode_in (volume.parts entry.old.number)).kind (kind_byte Directory) e))
               (Some row) in_seen in
               record {
                 name = rows_named raw.0 row sound (subst (λ those. Contains those (Some row)) (sym raw.2) in_block);
@@ -233,7 +231,7 @@ module _ (volume : Volume) (entries : List OldEntry) (plan : CommitPlan) (grant 
               begun = begun_old entry.0;
               same = entry.2;
               slots = old_fits (net_of_node plan.nets entry.0.node.0) entry.0 in_entries;
-              low = let within = number_low entry.0 in_entries in let few = ready.sound.ranges.inodes_high in omega (arith, within, few);
+              low = let within = low_number volume entries ready keeps entry.0 in_entries in let few = ready.sound.ranges.inodes_high in omega (arith, within, few);
             }
         | inr enters ↦
             let one = mapped_is_in (seated_entering change.changes) plan.enter seat enters in

@@ -27,6 +27,7 @@ use Rattle.cut_laws.specs.Cut.{tree_at_cut}
 use Rattle.flush_laws.specs.Ready.{IsBetweenCommits, KeepsEntries}
 use Rattle.turn_laws.specs.Books.{least_open}
 use Rattle.turn_laws.specs.Need.{is_unused}
+use Rattle.space_laws.proofs.Counted.{inodes_tell}
 use Rattle.space_laws.specs.Map.{IsRowOf}
 use Rattle.flush_laws.specs.Volume.{Volume}
 use Rattle.turn_ties.specs.Laws.{GrantsAreTheLeast}
@@ -119,34 +120,10 @@ take_as_u32 n numbers few = elim (cases_lt n (2 ^ 32 - 1)) [
   | inr high ↦ take_all (as_u32 n) numbers (omega (arith, few, high)) ∙ sym (take_all n numbers (omega (arith, few, high)))
 ]
 
-module _ (volume : Volume) (entries : List OldEntry) (space : Space)
-    (ready : IsBetweenCommits volume) (keeps : KeepsEntries volume.num volume.parts entries) (resting : IsRestingMap volume entries space) where
+module _ (volume : Volume) (entries : List OldEntry) (space : Space) (ready : IsBetweenCommits volume)
+    (keeps : KeepsEntries volume.num volume.parts entries) (resting : IsRestingMap volume entries space) where
   abbrev image : SeenInodes
   image = inodes_shown volume.layout volume.parts
-
-  -- the inode of an entry is in use
-  in_use : (entry : OldEntry) → Contains entries entry → (image.seen entry.old.number).kind ≢ 0
-  in_use entry there none =
-      not_used (kind_of (tree_at_cut volume.first volume.history volume.cut) entry.node.0)
-      (sym (ready.stands.each entry.node.0 entry.old.number (keeps.each entry there).0).kind ∙ none)
-
-  -- and an inode in use is that of an entry
-  used_entry : (i : ℕ) → i < volume.layout.inodes → (image.seen i).kind ≢ 0 → Contains (map entry_number entries) i
-  used_entry i low used = elim (ready.stands.rest i low) [
-    | inr unused ↦ absurd (used unused.kind)
-    | inl (node, has) ↦
-        let entry = keeps.all node i has in
-        let number : entry.0.old.number ≡ i = some_same (sym (keeps.each entry.0 entry.1).0 ∙ ap volume.num entry.2 ∙ has) in
-        subst (λ n. Contains (map entry_number entries) n) number (in_mapped entry_number entries entry.0 entry.1)
-  ]
-
-  inodes_tell : (i : ℕ) → i < volume.layout.inodes → (is_unused image i ≡ false) ↔ Contains (map entry_number entries) i
-  inodes_tell i low = ((λ used. used_entry i low (eqb-false (image.seen i).kind 0 used)), back)
-    where
-      back : Contains (map entry_number entries) i → is_unused image i ≡ false
-      back there =
-          let entry = mapped_is_in entry_number entries i there in
-          not_same (image.seen i).kind 0 (λ none. in_use entry.0 entry.1 (ap (λ n. (image.seen n).kind) entry.2 ∙ none))
 
   pub some_inodes : 0 < volume.layout.inodes
   some_inodes = let some = ready.sound.ranges.inodes_low in omega (arith, some)
@@ -156,7 +133,7 @@ module _ (volume : Volume) (entries : List OldEntry) (space : Space)
   free_are_open used n =
       take_as_u32 n (free_numbers space.inodes) few
       ∙ ap (take n) (free_numbers_are volume.layout.inodes (Contains (map entry_number entries)) space.inodes resting.right.inodes some_inodes (is_unused image)
-      resting.none.inodes inodes_tell)
+      resting.none.inodes (inodes_tell volume entries ready keeps))
       ∙ (λ i. take n (filter (λ k. sym (and_true (is_unused image k)) i) (range_with_len 0 volume.layout.inodes)))
     where
       few : length (free_numbers space.inodes) ≤ 2 ^ 32 - 1
