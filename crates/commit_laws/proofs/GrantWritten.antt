@@ -83,22 +83,23 @@ pages_ascend pages up i j d lt within =
     let b : (get_or (file_changed pages) j d).block ≡ page_block (get_or pages j one.0) = ap (λ (c : ChangedBlock). c.block) later in
     omega arith
 
+-- what is in a list and passes is found
+pub none_found : {Y : Type 0} (test : Y → Bool) (ys : List Y) (y : Y) → Contains ys y → test y ≡ true → find test ys ≡ None → ⊥
+none_found test [] y (k, within, is) passes none = absurd (omega arith)
+none_found test (first ∷ ys) y (zero, within, is) passes none =
+    none_some (sym none ∙ cond-true (test first) (Some first) (find test ys) (ap test is ∙ passes))
+none_found test (first ∷ ys) y (suc k, within, is) passes none = step (test first) none (λ rest. none_found test ys y (k, omega arith, is) passes rest)
+  where
+    step : (b : Bool) → cond b (Some first) (find test ys) ≡ None → (find test ys ≡ None → ⊥) → ⊥
+    step true e later = none_some (sym e)
+    step false e later = later e
+
 -- an item is found by its number where each number stands once
 pub found_once : {X : Type 0} (key : X → ℕ) (xs : List X) → StandOnce (map key xs) → (x : X) → Contains xs x → find (λ y. nat_eq (key y) (key x)) xs ≡ Some x
 found_once key xs once x there = by (find (λ y. nat_eq (key y) (key x)) xs) refl
   where
     at : (m : ℕ) × (slice_get xs m ≡ Some x)
     at = in_is_there xs x there
-
-    none_found : {Y : Type 0} (test : Y → Bool) (ys : List Y) (y : Y) → Contains ys y → test y ≡ true → find test ys ≡ None → ⊥
-    none_found test [] y (k, within, is) passes none = absurd (omega arith)
-    none_found test (first ∷ ys) y (zero, within, is) passes none =
-        none_some (sym none ∙ cond-true (test first) (Some first) (find test ys) (ap test is ∙ passes))
-    none_found test (first ∷ ys) y (suc k, within, is) passes none = step (test first) none (λ rest. none_found test ys y (k, omega arith, is) passes rest)
-      where
-        step : (b : Bool) → cond b (Some first) (find test ys) ≡ None → (find test ys ≡ None → ⊥) → ⊥
-        step true e later = none_some (sym e)
-        step false e later = later e
 
     by : (o : Option _) → find (λ y. nat_eq (key y) (key x)) xs ≡ o → o ≡ Some x
     by None e = absurd (none_found (λ y. nat_eq (key y) (key x)) xs x there (same_number (key x)) e)

@@ -61,6 +61,11 @@ given_first f x xs y None e has later = let rest = later has in (rest.0, further
 given_first f x xs y (Some w) e (zero, within, is) later = (x, first_in x xs, e ∙ ap Some is)
 given_first f x xs y (Some w) e (suc k, within, is) later = let rest = later (k, omega arith, is) in (rest.0, further_in x rest.0 xs rest.1, rest.2)
 
+-- the places of a block are below their count
+pub low_place : (count k : ℕ) → Contains (range_with_len 0 count) k → k < count
+low_place count k (i, within, is) =
+    let low = length-range_with_len 0 count in let at = get_or-range_with_len 0 count i k (omega (arith, within, low)) in omega (arith, is, at, within, low)
+
 -- what a function gives of a list comes from one of its items
 pub given_by : {X Y : Type 0} (f : X → Option Y) (xs : List X) (y : Y) → Contains (filter_map f xs) y → (x : X) × Contains xs x × (f x ≡ Some y)
 given_by f [] y (k, within, is) = absurd (omega arith)
@@ -168,11 +173,8 @@ module _ (numbers : ℕ → Option ℕ) (net : List NetRow) (number : ℕ) (fres
       (filter_map (table_of_place one_built) (range_with_len 0 TABLES)) written has) [
         | inl data_ ↦ let one = given_by (data_written one_built pages) seat.changed written data_ in data_granted one.0 one.1 written one.2
         | inr table ↦ let one = given_by (table_of_place one_built) (range_with_len 0 TABLES) written table in
-            table_granted one.0 (in_range one.0 one.1) written one.2
+            table_granted one.0 (low_place TABLES one.0 one.1) written one.2
       ]
-    where
-      in_range : (k : ℕ) → Contains (range_with_len 0 16) k → k < 16
-      in_range k (i, within, is) = let low = length-range_with_len 0 16 in let at = get_or-range_with_len 0 16 i k (omega arith) in omega (arith, is, at)
 
 all_granted : (changes : CommitChanges) (numbers : ℕ → Option ℕ) (files : List FileChange) (seats : List Seated) (fresh : List ℕ) (written : TxBlock)
     → Contains (flat_map (fresh_of_node files) (nodes_built changes numbers seats fresh)) written → Contains fresh written.block

@@ -9,7 +9,7 @@ use borrow.Author.Tests.{eqb-true, eq-eqb}
 use Rattle.std.proofs.lemmas.Bool.Decides.{nat_tests}
 use Rattle.std.proofs.lemmas.List.Kept.{IsNonDecreasingBy-filter}
 use Rattle.std.proofs.lemmas.List.Elements.{filter-append, All-head, All-tail}
-use Rattle.sfs_base.proofs.BasicTruth.{true_not_false, and_true, and_false}
+use Rattle.sfs_base.proofs.BasicTruth.{true_not_false, and_true, and_false, and_second}
 use Rattle.sfs_base.proofs.BasicNumbers.{same_number, zero_plus}
 use Rattle.tree_laws.specs.declared.changes.Change.{Change}
 use Rattle.tree_laws.specs.declared.history.Entry.{Entry}
@@ -100,13 +100,9 @@ module _ (first : TreeState) (history : List Entry) (cut : Cut) (logs : Logs) (l
       (pass_both (λ c. is_logged_in directory c && is_from mark c) (is_under (length history)) (core_asks core directory) (λ c. refl) own)
       ∙ pass_both (core_asks core directory) (stands_at place) (λ c. core_asks core directory c && stands_at place c) (λ c. refl) own
       ∙ one_cores core (λ c. core_asks core directory c && stands_at place c) first history 0 (stamp_of place) legal
-      (λ c is. stamped_so place c (second_true (core_asks core directory c) (stands_at place c) is) ∙ sym (zero_plus (stamp_of place)))
+      (λ c is. stamped_so place c (and_second (core_asks core directory c) (stands_at place c) is) ∙ sym (zero_plus (stamp_of place)))
       ∙ same_here (nat_eq (core_at first history (stamp_of place)) core) refl
     where
-      second_true : (a b : Bool) → (a && b) ≡ true → b ≡ true
-      second_true true b is = is
-      second_true false b is = absurd (true_not_false (sym is))
-
       -- the tests agree on what the history logs
       agree : core_at first history (stamp_of place) ≡ core → (c : Change) → IsOneOf logged c
           → (core_asks core directory c && stands_at place c) ≡ (all_ask directory c && stands_at place c)

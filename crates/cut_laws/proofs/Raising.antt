@@ -17,12 +17,12 @@ use Rattle.cut_laws.proofs.Views.{below, Agree}
 use Rattle.cut_laws.proofs.Agree.{stamp_same, leave_same, agrees}
 
 -- answers that are true together are the same, and so are answers that are false together
-true_alike : (a b : Bool) → (a ≡ true → b ≡ true) → (b ≡ true → a ≡ true) → a ≡ b
+pub true_alike : (a b : Bool) → (a ≡ true → b ≡ true) → (b ≡ true → a ≡ true) → a ≡ b
 true_alike true b there back = sym (there refl)
 true_alike false true there back = back refl
 true_alike false false there back = refl
 
-false_alike : (a b : Bool) → (a ≡ false → b ≡ false) → (b ≡ false → a ≡ false) → a ≡ b
+pub false_alike : (a b : Bool) → (a ≡ false → b ≡ false) → (b ≡ false → a ≡ false) → a ≡ b
 false_alike false b there back = sym (there refl)
 false_alike true false there back = back refl
 false_alike true true there back = refl

@@ -19,6 +19,7 @@ use Rattle.disk_change.specs.Nodes.{net_node}
 use Rattle.disk_change.specs.Seated.{net_of_node}
 use Rattle.flush_plan.specs.Concerned.{AreNetsOf}
 use Rattle.flush_plan.specs.Net.{IsNetBy}
+use Rattle.sfs_base.proofs.BasicTruth.{or_false}
 
 -- a number is among those of one node more where it was before or is that node's
 pub listed_more : (nodes : List NodeId) (node : NodeId) (number : ℕ)
@@ -26,11 +27,7 @@ pub listed_more : (nodes : List NodeId) (node : NodeId) (number : ℕ)
 listed_more nodes node number =
     ap (λ l. is_listed l number) (map-append node_number nodes (node ∷ []))
     ∙ list_any-append (λ listed. nat_eq listed number) (map node_number nodes) (node.0 ∷ [])
-    ∙ ap (λ b. is_listed (map node_number nodes) number || b) (alone (nat_eq node.0 number))
-  where
-    alone : (b : Bool) → (b || false) ≡ b
-    alone true = refl
-    alone false = refl
+    ∙ ap (λ b. is_listed (map node_number nodes) number || b) (or_false (nat_eq node.0 number))
 
 -- what is none of two is neither
 neither : (a b : Bool) → (a || b) ≡ false → (a ≡ false) × (b ≡ false)

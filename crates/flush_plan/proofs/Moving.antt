@@ -11,7 +11,7 @@ use Rattle.std.proofs.lemmas.List.Kept.{AllPairs-filter}
 use Rattle.std.proofs.lemmas.List.Elements.{All-map}
 use borrow.Author.Tests.{eqb-true}
 use Rattle.sfs_base.proofs.BasicNumbers.{same_number}
-use Rattle.sfs_base.proofs.BasicTruth.{not_false}
+use Rattle.sfs_base.proofs.BasicTruth.{not_false, and_false}
 use Rattle.sfs_base.specs.declared.numbers.Kind.TheVariants.{Directory}
 use Rattle.sfs_base.specs.declared.numbers.NodeId.{NodeId}
 use Rattle.sfs_base.specs.declared.numbers.Stamp.{Stamp}
@@ -79,11 +79,7 @@ listed_picked test (node ∷ nodes) number = by (test node.0) (nat_eq node.0 num
     by false false passes same rest = rest
     by false true passes same rest =
         let fails : test number ≡ false = subst (λ n. test n ≡ false) (eqb-true node.0 number same) passes in
-        rest ∙ ap (λ b. is_listed (map node_number nodes) number && b) fails ∙ and_no (is_listed (map node_number nodes) number) ∙ sym fails
-      where
-        and_no : (b : Bool) → (b && false) ≡ false
-        and_no true = refl
-        and_no false = refl
+        rest ∙ ap (λ b. is_listed (map node_number nodes) number && b) fails ∙ and_false (is_listed (map node_number nodes) number) ∙ sym fails
 
 -- what enters has the numbers of its nodes
 entered_numbers : (start : NodeId) (is_file : Bool) (facts : Facts) (nodes : List NodeId)

@@ -1,6 +1,7 @@
 -- Which of the first nodes are named, and of one more.
 use Rattle.std.proofs.Common.{◌≡◌, ℕ, Bool, true, false, cond, refl, sym, ap, subst, ◌∙◌, nat_eq}
 use Rattle.std.specs.Prelude.{◌&&◌, ◌||◌}
+use Rattle.sfs_base.proofs.BasicTruth.{and_false}
 use borrow.Author.Tests.{eqb-true}
 
 module _ (key node : ℕ) (listed : Bool) (passes : ℕ → Bool) where
@@ -19,11 +20,7 @@ module _ (key node : ℕ) (listed : Bool) (passes : ℕ → Bool) where
       by false = refl
 
   no_more : (listed && false) ≡ false
-  no_more = by listed
-    where
-      by : (l : Bool) → (l && false) ≡ false
-      by true = refl
-      by false = refl
+  no_more = and_false listed
 
   -- one that passes comes
   pub comes : (was : Bool) → passes key ≡ true → was ≡ (listed && passes node) → cond (nat_eq key node) true was ≡ ((listed || nat_eq key node) && passes node)

@@ -31,7 +31,7 @@ blocks_ascend count i j d lt within =
     let later = get_or-range_with_len 0 count j d (omega (arith, long, within)) in
     omega (arith, first, later, lt)
 
-in_range : (count n : ℕ) → n < count → Contains (range_with_len 0 count) n
+pub in_range : (count n : ℕ) → n < count → Contains (range_with_len 0 count) n
 in_range count n low = (n, (omega (arith, low, length-range_with_len 0 count)), get_or-range_with_len 0 count n n low ∙ zero_plus n)
 
 module _ (from : ℕ) (file : File) where

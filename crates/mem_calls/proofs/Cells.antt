@@ -11,10 +11,7 @@ use Rattle.stamp_table.specs.Rule.{Has}
 use Rattle.stamp_table.specs.Hand.{places_of}
 use Rattle.stamp_table.specs.Ascending.{Falls}
 use Rattle.stamp_table.specs.Table.{is_at, cell_at, with_value, EachFrom}
-
-pub has_left : (places more : List ℕ) (place : ℕ) → Has places place → Has (places ++ more) place
-has_left [] more place has = absurd has
-has_left (p ∷ places) more place has = elim has [ inl here ↦ inl here | inr there ↦ inr (has_left places more place there) ]
+use Rattle.stamp_table.proofs.Finding.{has_left}
 
 pub has_right : (places more : List ℕ) (place : ℕ) → Has more place → Has (places ++ more) place
 has_right [] more place has = has

@@ -11,7 +11,7 @@ use Rattle.sfs_base.proofs.BasicTruth.{or_first, or_second}
 use Rattle.tree_laws.specs.declared.call.Call.{Call}
 use Rattle.tree_laws.specs.declared.call.Call.TheVariants as call
 use Rattle.tree_laws.specs.Tree.{TreeState, row_of, is_directory, is_directory_kind, count_of, bucket_rows, next_number}
-use Rattle.tree_laws.specs.Effect.{Effect, Stays, Adds, Edit, Edits, Puts, Resizes, tree_with}
+use Rattle.tree_laws.specs.Effect.{Effect, Stays, Adds, Edit, Edits, Puts, Resizes, tree_with, Removes}
 use Rattle.tree_laws.specs.Verdict.{verdict, tree_after_call}
 use Rattle.tree_laws.specs.Footprints.{DoesNothing, KeepsRest, own_kind, own_effect, touches_part, touches_bytes, touches_links}
 use Rattle.tree_laws.specs.Laws.{IsSoundTree}
@@ -29,6 +29,7 @@ use Rattle.mem_values.specs.Touches.{touches_standing, makes_node}
 use Rattle.mem_values.proofs.Standing.{standing_stays}
 use Rattle.mem_values.proofs.Pushes.{IsBornBy, none_born}
 use Rattle.mem_values.proofs.Basics.{left_false}
+use Rattle.sfs_base.specs.declared.numbers.NodeId.{NodeId}
 
 -- a call that does nothing leaves the tree
 pub same_tree : (tree : TreeState) (core : ℕ) (c : Call) → DoesNothing (verdict tree core c) → tree_after_call tree core c ≡ tree
@@ -99,6 +100,11 @@ module _ (tree : TreeState) (core : ℕ) (c : Call) (is : IsSoundTree tree) (lt 
   pub links_kept : (node : ℕ) → (touches_links tree core c node && not (is_directory next node)) ≡ false → file_links next node ≡ file_links tree node
   links_kept node apart = links_by node (is_directory tree node) (is_directory next node) refl refl apart
 
+-- a removing is no edit
+no_edit : (d : NodeId) (n : List ℕ) (node : ℕ) (edit : Edit) (row : Option ℕ) → option_map (Removes d.0 n) row ≡ Some (Edits node edit) → ⊥
+no_edit d n node edit None e = cc
+no_edit d n node edit (Some x) e = cc
+
 -- a call that edits a file touches its bytes
 edits_touch : (tree : TreeState) (core : ℕ) (c : Call) (node : ℕ) (edit : Edit) → own_effect tree core c ≡ Some (Edits node edit) → touches_bytes c node ≡ true
 edits_touch tree core (call.Look d n) node edit own = absurd (cc (own))
@@ -110,16 +116,8 @@ edits_touch tree core (call.Make d n k) node edit own = absurd (cc (own))
 edits_touch tree core (call.Link f d n) node edit own = absurd (cc (own))
 edits_touch tree core (call.Write f at bytes) node edit own = let same : f.0 ≡ node = cc (own) in eq-eqb f.0 node same
 edits_touch tree core (call.Trunc f size) node edit own = let same : f.0 ≡ node = cc (own) in eq-eqb f.0 node same
-edits_touch tree core (call.Unlink d n) node edit own = absurd (no_edit (row_of tree d.0 n) own)
-  where
-    no_edit : (row : Option ℕ) → option_map (Rattle.tree_laws.specs.Effect.Removes d.0 n) row ≡ Some (Edits node edit) → ⊥
-    no_edit None e = cc
-    no_edit (Some x) e = cc
-edits_touch tree core (call.Rmdir d n) node edit own = absurd (no_edit (row_of tree d.0 n) own)
-  where
-    no_edit : (row : Option ℕ) → option_map (Rattle.tree_laws.specs.Effect.Removes d.0 n) row ≡ Some (Edits node edit) → ⊥
-    no_edit None e = cc
-    no_edit (Some x) e = cc
+edits_touch tree core (call.Unlink d n) node edit own = absurd (no_edit d n node edit (row_of tree d.0 n) own)
+edits_touch tree core (call.Rmdir d n) node edit own = absurd (no_edit d n node edit (row_of tree d.0 n) own)
 edits_touch tree core (call.Rename p n q m) node edit own = absurd (no_edit (row_of tree p.0 n) own)
   where
     no_edit : (row : Option ℕ) → option_map (Rattle.tree_laws.specs.Effect.Moves p.0 n q.0 m) row ≡ Some (Edits node edit) → ⊥

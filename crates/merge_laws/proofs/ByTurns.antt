@@ -23,12 +23,12 @@ use Rattle.crash_laws.proofs.Fsyncs.{acknowledged_once}
 use Rattle.turn_laws.specs.Books.{flush_at}
 use Rattle.turn_laws.specs.LawsTurns.{durable_by_act}
 use Rattle.image_laws.proofs.Places.{le_true}
-use Rattle.turn_laws.proofs.Behind.{stays_in}
 use Rattle.merge_laws.specs.Laws.{IsFrontUntil, MomentsCutTurns, DurablesAreAcknowledged, DurablesSurvive, DurablesReadBack}
 use Rattle.merge_laws.specs.LeftByTurns.{turns_until, TimesRise, BeginsWithDurables}
 use Rattle.merge_laws.specs.Plays.{durables, PensMerge}
 use Rattle.merge_laws.specs.Tell.{TurnsTell}
 use Rattle.merge_laws.proofs.Told.{merged_tell, none_behind}
+use Rattle.cut_laws.proofs.Listed.{to_filter}
 
 -- A Durable of an fsync is among turns.
 abbrev pub IsDurableAmong : List Turn → Flush → Type 0
@@ -118,7 +118,7 @@ module _ (first : TreeState) (history : List Entry) (legal : IsLegal first histo
       let was = tell.acknowledged flush acked.0 acked.1 in
       subst (IsOneOf (durables (turns_until moment turns))) was.own
       (to_durables (turns_until moment turns) was.turn
-      (stays_in (λ (t : Turn). nat_le t.now moment) turns was.turn was.among
+      (to_filter (λ (t : Turn). nat_le t.now moment) turns was.turn was.among
       (le_true was.turn.now moment (subst (λ (n : ℕ). n ≤ moment) (sym was.now) acked.2))) was.did)
 
   -- the durable fsyncs up to a moment are those acknowledged by it, in their order
@@ -146,7 +146,7 @@ module _ (first : TreeState) (history : List Entry) (legal : IsLegal first histo
       not_again did other one same =
           let is = of_durables back other one in
           subst (λ (l : List Turn). IsOneOf l is.0) (none_behind first history turns legal merge front turn back whole did)
-          (stays_in (λ (t : Turn). nat_eq t.stamp.0 turn.stamp.0) back is.0 is.1
+          (to_filter (λ (t : Turn). nat_eq t.stamp.0 turn.stamp.0) back is.0 is.1
           (subst (λ (n : ℕ). nat_eq n turn.stamp.0 ≡ true) (sym (ap (λ (f : Flush). f.stamp) is.3 ∙ same)) (same_number turn.stamp.0)))
 
       by : (a : TurnAct) → turn.act ≡ a → StampsDiffer (durables back)

@@ -21,10 +21,9 @@ use Rattle.cut_laws.proofs.Basics.{in_left}
 use Rattle.cut_laws.proofs.Entries.{entries_may_come, stamps_are_once}
 use Rattle.turn_laws.specs.Recorded.{IsLiveFsync, IsOfFsync}
 use Rattle.turn_laws.specs.Ways.{own_turns, no_turn, GoesWay}
-use Rattle.turn_laws.proofs.Behind.{stays_in}
 use Rattle.cut_laws.proofs.RunFacts.{event_there}
 use Rattle.merge_laws.specs.Pens.{failed_in, turns_of_core, FsyncTurns, HasTurnsFor, AgreesAll}
-use Rattle.cut_laws.proofs.Listed.{filter_again}
+use Rattle.cut_laws.proofs.Listed.{filter_again, to_filter}
 use Rattle.merge_laws.proofs.Lists.{in_part}
 use Rattle.merge_laws.proofs.Blocks.{pen_turns, AreStamped, has_or_lacks, none_of_pen, own_of_pen}
 
@@ -52,7 +51,7 @@ module _ (first : TreeState) (history : List Entry) (before most : ℕ) (turns :
   penned turn among =
       let pen = event_there pens turn.core.0 (agrees.merges.cores turn among) in
       let own = subst (λ (l : List Turn). IsOneOf l turn) (agrees.merges.own turn.core.0 pen.0 pen.1)
-      (stays_in (λ (t : Turn). nat_eq t.core.0 turn.core.0) turns turn among (same_number turn.core.0)) in
+      (to_filter (λ (t : Turn). nat_eq t.core.0 turn.core.0) turns turn among (same_number turn.core.0)) in
       let part = in_part (λ (one : FsyncTurns). one.turns) pen.0 turn own in
       record { fsyncs = pen.0; pen = pen.1; one = part.x; among = part.among; has = part.has }
 

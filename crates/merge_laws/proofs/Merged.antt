@@ -26,7 +26,6 @@ use Rattle.turn_laws.specs.LawsTurns.{durable_by_act, durable_flush}
 use Rattle.turn_laws.specs.Books.{flush_at}
 use Rattle.turn_laws.specs.Recorded.{IsLiveFsync, last_turn, EndsWith, EndsBy}
 use Rattle.turn_laws.specs.Ways.{Way, no_turn, lacked, returned, committed, at_once, doubted, opened_doubted, halted, granted_halted, begun_halted, opened_halted, acts_of_way, answer_of, own_turns}
-use Rattle.turn_laws.proofs.Behind.{stays_in}
 use Rattle.turn_laws.proofs.Causes.{last_among}
 use Rattle.turn_laws.proofs.Going.{own_both, none_own}
 use Rattle.merge_laws.specs.Laws.{MergedTurns}
@@ -40,6 +39,7 @@ use Rattle.merge_laws.proofs.Fsyncs.{of_fsync, one_core, own_in_core, stamped_pe
 use Rattle.merge_laws.proofs.Playing.{FitsPhases, fits_nothing, FitsPhase, fits_flies}
 use Rattle.merge_laws.proofs.Follows.{failed_more}
 use Rattle.merge_laws.proofs.PlaySteps.{goes_by_turn}
+use Rattle.cut_laws.proofs.Listed.{to_filter}
 
 -- the last of a list
 pub last_of : {X : Type 0} → List X → Option X
@@ -111,7 +111,7 @@ module _ (failed : Option ℕ) (given : Reply) (ack : Option ℕ) where
 last_is_own : (stamp : ℕ) (turns : List Turn) (turn : Turn) → last_turn stamp turns ≡ Some turn → IsOneOf (own_turns stamp turns) turn
 last_is_own stamp turns turn e =
     let there = last_among stamp turns turn e in
-    stays_in (λ (t : Turn). nat_eq t.stamp.0 stamp) turns turn there.0
+    to_filter (λ (t : Turn). nat_eq t.stamp.0 stamp) turns turn there.0
     (subst (λ (n : ℕ). nat_eq turn.stamp.0 n ≡ true) there.1 (same_number turn.stamp.0))
 
 module _ (first : TreeState) (history : List Entry) (before most : ℕ) (turns : List Turn) (pens : List (List FsyncTurns)) (legal : IsLegal first history)

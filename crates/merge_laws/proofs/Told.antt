@@ -27,7 +27,6 @@ use Rattle.crash_laws.proofs.Fsyncs.{listed_live, acknowledged_listed}
 use Rattle.turn_laws.specs.Books.{flush_at}
 use Rattle.turn_laws.specs.Recorded.{IsLiveFsync, IsOfFsync, last_turn, EndsWith, EndsBy}
 use Rattle.turn_laws.specs.Ways.{Way, committed, at_once, doubted, opened_doubted, halted, granted_halted, begun_halted, opened_halted, acts_of_way, answer_of, own_turns, GoesWay, HasCommit}
-use Rattle.turn_laws.proofs.Behind.{stays_in}
 use Rattle.turn_laws.proofs.Causes.{fsync_same, last_among}
 use Rattle.merge_laws.specs.Laws.{MergedTell}
 use Rattle.merge_laws.specs.Phases.{no_turn_yet, goes_from}
@@ -37,6 +36,7 @@ use Rattle.merge_laws.specs.Tell.{WasDurable, Lands}
 use Rattle.merge_laws.proofs.Lists.{StandsAt, stands_at, among_at}
 use Rattle.merge_laws.proofs.Phases.{ways_go, durable_is_last, own_at}
 use Rattle.merge_laws.proofs.Merged.{last_of, last_own, last_behind}
+use Rattle.cut_laws.proofs.Listed.{to_filter}
 
 -- whether an act opens a commit
 opens : TurnAct → Bool
@@ -197,7 +197,7 @@ module _ (first : TreeState) (history : List Entry) (turns : List Turn) (legal :
 
   opened_is_own : (turn : Turn) (one : IsOneOf turns turn) (its : IsOfFsync first history turn) → IsOneOf (own_turns its.entry.stamp.0 turns) turn
   opened_is_own turn one its =
-      stays_in (λ (t : Turn). nat_eq t.stamp.0 its.entry.stamp.0) turns turn one
+      to_filter (λ (t : Turn). nat_eq t.stamp.0 its.entry.stamp.0) turns turn one
       (subst (λ (n : ℕ). nat_eq n its.entry.stamp.0 ≡ true) (sym (stamp_of turn its)) (same_number its.entry.stamp.0))
 
   mapped : (l : List Turn) (turn : Turn) → IsOneOf l turn → IsOneOf (map (λ (t : Turn). t.act) l) turn.act
@@ -241,7 +241,7 @@ module _ (first : TreeState) (history : List Entry) (turns : List Turn) (legal :
 
       landing_own : (landing : Turn) → landing.stamp.0 ≡ turn.stamp.0 → IsOneOf turns landing → IsOneOf (own_turns its.entry.stamp.0 turns) landing
       landing_own landing same among =
-          stays_in (λ (t : Turn). nat_eq t.stamp.0 its.entry.stamp.0) turns landing among
+          to_filter (λ (t : Turn). nat_eq t.stamp.0 its.entry.stamp.0) turns landing among
           (subst (λ (n : ℕ). nat_eq n its.entry.stamp.0 ≡ true) (sym (same ∙ stamp_of turn its)) (same_number its.entry.stamp.0))
 
       ok : its.entry.reply ≡ reply.Ok

@@ -30,7 +30,7 @@ use Rattle.commit_laws.specs.CommitMade.{StandOnce}
 use Rattle.commit_laws.specs.CommitOfPlan.{CommitPlan, change_planned}
 use Rattle.commit_laws.specs.PartsMade.{IsPlanOverParts}
 use Rattle.commit_laws.proofs.AllWritten.{granted_blocks_are_written}
-use Rattle.commit_laws.proofs.Granted.{given_by}
+use Rattle.commit_laws.proofs.Granted.{given_by, low_place}
 use Rattle.commit_laws.proofs.GrantWritten.{each_ascends, grant_for as blocks_granted}
 use Rattle.commit_laws.proofs.OwnInodes.{mapped_is_in}
 
@@ -95,12 +95,8 @@ module _ (one : Built) (pages : List Page) where
   node_held written has =
       elim (Contains-append_cases (filter_map (data_written one pages) one.changed) (filter_map (table_of_place one) (range_with_len 0 16)) written has) [
         | inl data_ ↦ let c = given_by (data_written one pages) one.changed written data_ in data_held c.0 written c.2
-        | inr table ↦ let k = given_by (table_of_place one) (range_with_len 0 16) written table in table_held k.0 (in_range k.0 k.1) written k.2
+        | inr table ↦ let k = given_by (table_of_place one) (range_with_len 0 16) written table in table_held k.0 (low_place 16 k.0 k.1) written k.2
       ]
-    where
-      in_range : (k : ℕ) → Contains (range_with_len 0 16) k → k < 16
-      in_range k (i, within, is) = let low = length-range_with_len 0 16 in let at = get_or-range_with_len 0 16 i k (omega (arith, within, low)) in
-          omega (arith, is, at, within, low)
 
 -- so each block of a grant is held by a node that is built
 pub block_is_used : (num : Numbering) (concerned : List ℕ) (old new : TreeState) (image : SeenInodes) (plan : CommitPlan) (grant : GrantedNumbers)

@@ -14,6 +14,7 @@ use Rattle.tree_laws.specs.declared.reply.Reply.TheVariants as reply
 use Rattle.tree_laws.specs.declared.history.Entry.{Entry}
 use Rattle.stamp_table.specs.Answered.{asks_fsync, is_refusal, is_want, is_served, without_answer, unanswered, IsWellAnswered, AreWellAnswered, waits_for_answer}
 use Rattle.stamp_table.specs.Table.{with_answer}
+use Rattle.sfs_base.proofs.BasicTruth.{and_second}
 
 left_true : (a b : Bool) → (a && b) ≡ true → a ≡ true
 left_true true b is = refl
@@ -77,15 +78,11 @@ refused_flush tree core (call.Stat node) is not = absurd (cc)
 refused_flush tree core (call.List directory) is not = absurd (cc)
 refused_flush tree core (call.Fsync node) is not = rw not refl
 
-right_true : (a b : Bool) → (a && b) ≡ true → b ≡ true
-right_true true b is = is
-right_true false b is = absurd (cc)
-
 -- where its node is not alive an entry that may come was refused
 refused : (tree : TreeState) (stamp : ℕ) (entry : Entry) → MayCome tree stamp entry → flushes tree entry.call ≡ false → is_served entry ≡ true → ⊥
 refused tree stamp entry may is served =
     let asks : asks_fsync entry.call ≡ true = left_true (asks_fsync entry.call) (not (is_refusal entry.reply)) served in
-    let kept : not (is_refusal entry.reply) ≡ true = right_true (asks_fsync entry.call) (not (is_refusal entry.reply)) served in
+    let kept : not (is_refusal entry.reply) ≡ true = and_second (asks_fsync entry.call) (not (is_refusal entry.reply)) served in
     let due : entry.reply ≡ (verdict tree entry.core.0 entry.call).reply =
     subst (λ b. IsDue b (verdict tree entry.core.0 entry.call).reply entry.reply) is may.due in
     both_ways (is_refusal entry.reply) (not-true (is_refusal entry.reply) kept) (ap is_refusal due ∙ refused_flush tree entry.core.0 entry.call asks is)
@@ -205,7 +202,7 @@ pub answered_well : (last : Entry) (reply : Reply) (ack : Option ℕ) → waits_
     → (IsSome ack ↔ IsTrue (is_ok_reply reply)) → IsAnsweredAs last (with_answer last reply ack)
 answered_well last reply ack waits may acknowledged =
     let asks : asks_fsync last.call ≡ true = left_true (asks_fsync last.call) (is_want last.reply) waits in
-    let want : is_want last.reply ≡ true = right_true (asks_fsync last.call) (is_want last.reply) waits in
+    let want : is_want last.reply ≡ true = and_second (asks_fsync last.call) (is_want last.reply) waits in
     let served : is_served last ≡ true = rw (asks, want_serves last.reply want) refl in
     let serves : is_served (with_answer last reply ack) ≡ true = rw (asks, fsync_reply_serves reply may) refl in
     record { same = rw (served, serves) refl; well = λ _. (may, acknowledged) }

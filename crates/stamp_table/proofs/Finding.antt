@@ -30,7 +30,7 @@ falls_last (x ∷ y ∷ places) last place falls has = ⊎_elim
     (λ here. let lower = falls_last (y ∷ places) last y falls.1 (inl refl) in let above = falls.0 in omega (arith, lower, above, here))
     (λ there. falls_last (y ∷ places) last place falls.1 there) has
 
-has_left : (places more : List ℕ) (place : ℕ) → Has places place → Has (places ++ more) place
+pub has_left : (places more : List ℕ) (place : ℕ) → Has places place → Has (places ++ more) place
 has_left [] more place has = absurd has
 has_left (x ∷ places) more place has = ⊎_elim (λ here. inl here) (λ there. inr (has_left places more place there)) has
 

@@ -18,6 +18,7 @@ use Rattle.turn_laws.specs.Need.{ImageState, Amount, free_inodes, free_blocks}
 use Rattle.turn_laws.specs.Books.{Grant, Waiting, Books, books_of, flush_at, waiting_for, reserved, free_in, is_other_waiting, grant_for_turn, CountsFaults, Does, IsTurn, AreTurns, no_turns, one_turn}
 use Rattle.turn_laws.specs.LawsTurns.{HaltsOrGivesBack, ComesBehind, FailuresStopCommits, TakesFree, ReservedIsNotFree, IsTakenUp, GrantsAreTakenUp}
 use Rattle.turn_laws.proofs.Causes.{failure}
+use Rattle.cut_laws.proofs.Listed.{to_filter}
 
 -- once the books have a failure, only these come
 stops : (before most : ℕ) (o : Option ℕ) (failed : ℕ) → o ≡ Some failed → (a : TurnAct) (faults : ℕ) → CountsFaults before most o a faults → HaltsOrGivesBack a
@@ -106,17 +107,6 @@ reserved_is_not_free before most books turn later is did =
           ∙ less_free (free_blocks books.image) (reserved books.grants).blocks does.need.blocks _ does.fits.blocks more.1;
     }
 
--- what passes a test stays
-pub stays_in : {X : Type 0} (test : X → Bool) (xs : List X) (x : X) → IsOneOf xs x → test x ≡ true → IsOneOf (filter test xs) x
-stays_in test [] x one passes = absurd one
-stays_in test (y ∷ xs) x (inl same) passes =
-    subst (λ (b : Bool). IsOneOf (cond b (y ∷ filter test xs) (filter test xs)) x) (sym (ap test same ∙ passes)) (inl same)
-stays_in {X} test (y ∷ xs) x (inr one) passes = by (test y) (stays_in test xs x one passes)
-  where
-    by : (b : Bool) → IsOneOf (filter test xs) x → IsOneOf (cond b (y ∷ filter test xs) (filter test xs)) x
-    by true rest = inr rest
-    by false rest = rest
-
 -- A turn that reserved stands among turns, its fsync waits, and none of its core behind it is of another fsync.
 record WaitsSince (turns : List Turn) (books : Books) (turn : Turn) : Type 0 where
   earlier : List Turn
@@ -181,7 +171,7 @@ module _ (before most : ℕ) (turns : List Turn) (last : Turn) (books later : Bo
     | inr f ↦
         still_waits
         (subst (λ (l : List Waiting). IsOneOf l (waiting_for turn)) (sym e)
-        (stays_in (is_other_waiting last.stamp.0) books.waiting (waiting_for turn) since.waits (ap not f)))
+        (to_filter (is_other_waiting last.stamp.0) books.waiting (waiting_for turn) since.waits (ap not f)))
   ]
 
   by_last : (a : TurnAct) → last.act ≡ a → Does a books last later → WaitsOrTaken (turns ++ last ∷ []) later turn

@@ -20,18 +20,7 @@ use Rattle.beside_laws.proofs.OneCut.{reached_there, dead_there}
 use Rattle.turn_laws.specs.LawsNeed.{NeedsOnce}
 use Rattle.turn_laws.specs.Need.{ImageState, Amount, Made, IsMadeBy, tree_before, tree_made, seen_under, stand_in, rewrite_needed, node_bound, enters_by_made, needs_place, need_of, IsNeed}
 use Rattle.turn_laws.specs.Touched.{is_touched_between}
-
--- answers that are true together are the same
-same_answers : (a b : Bool) → (a ≡ true → b ≡ true) → (b ≡ true → a ≡ true) → a ≡ b
-same_answers true b there back = sym (there refl)
-same_answers false true there back = back refl
-same_answers false false there back = refl
-
--- and so are answers that are false together
-same_denials : (a b : Bool) → (a ≡ false → b ≡ false) → (b ≡ false → a ≡ false) → a ≡ b
-same_denials false b there back = sym (there refl)
-same_denials true false there back = back refl
-same_denials true true there back = refl
+use Rattle.cut_laws.proofs.Raising.{true_alike, false_alike}
 
 -- the tree at stamps that a cut has
 abbrev tree_by : TreeState → List Entry → (ℕ → ℕ) → TreeState
@@ -49,7 +38,7 @@ tree_by first history stamps = record {
 module _ (state : MachineState) (flush : Flush) (made other : Made) (is : IsMadeBy state flush made) (also : IsMadeBy state flush other) where
   pub same_concerns : (node : ℕ) → made.concerns node ≡ other.concerns node
   same_concerns node =
-      same_answers (made.concerns node) (other.concerns node) (λ t. (also.concerned node).1 ((is.concerned node).0 t))
+      true_alike (made.concerns node) (other.concerns node) (λ t. (also.concerned node).1 ((is.concerned node).0 t))
       (λ t. (is.concerned node).1 ((also.concerned node).0 t))
 
   pub same_stamp : (node : ℕ) → cut_of made.raised node ≡ cut_of other.raised node
@@ -75,12 +64,12 @@ module _ (state : MachineState) (flush : Flush) (made other : Made) (is : IsMade
 
   pub same_after : (node : ℕ) → made.after node ≡ other.after node
   same_after node = elim (state.inodes node) as (λ b. state.inodes node ≡ b → made.after node ≡ other.after node) [
-    | true ↦ λ has. same_denials (made.after node) (other.after node)
+    | true ↦ λ has. false_alike (made.after node) (other.after node)
         (λ gone. let now = (is.inodes_after.leaves node has).0 gone in
         (also.inodes_after.leaves node has).1 (now.0, dead_there state.first state.history made.raised other.raised same_stamp node now.1))
         (λ gone. let now = (also.inodes_after.leaves node has).0 gone in
         (is.inodes_after.leaves node has).1 (now.0, dead_there state.first state.history other.raised made.raised (λ x. sym (same_stamp x)) node now.1))
-    | false ↦ λ lacks. same_answers (made.after node) (other.after node)
+    | false ↦ λ lacks. true_alike (made.after node) (other.after node)
         (λ came. let now = (is.inodes_after.enters node lacks).0 came in
         (also.inodes_after.enters node lacks).1 (now.0, reached_there state.first state.history made.raised other.raised same_stamp flush node now.1))
         (λ came. let now = (also.inodes_after.enters node lacks).0 came in

@@ -46,14 +46,14 @@ use Rattle.turn_ties.proofs.Needs.{inodes_needed, needs_are_the_books}
 use Rattle.turn_ties.proofs.Planned.{ready, from}
 use Rattle.turn_ties.proofs.Seats.{once_listed}
 
+at_most_one : (b : Bool) → cond b 1 0 ≤ 1
+at_most_one true = omega arith
+at_most_one false = omega arith
+
 -- no more numbers are counted than there are
 rank_low : (test : ℕ → Bool) (n : ℕ) → rank test n ≤ n
 rank_low test zero = let none = none_counted test in omega (arith, none)
 rank_low test (suc n) = let rest = rank_low test n in let more = rank_more test n in let one = at_most_one (test n) in omega (arith, rest, more, one)
-  where
-    at_most_one : (b : Bool) → cond b 1 0 ≤ 1
-    at_most_one true = omega arith
-    at_most_one false = omega arith
 
 -- and fewer where the first one is not
 rank_lower : (test : ℕ → Bool) → test 0 ≡ false → (n : ℕ) → rank test (suc n) ≤ n
@@ -66,10 +66,6 @@ rank_lower test not_first (suc n) =
     let more = rank_more test (suc n) in
     let one = at_most_one (test (suc n)) in
     omega (arith, rest, more, one)
-  where
-    at_most_one : (b : Bool) → cond b 1 0 ≤ 1
-    at_most_one true = omega arith
-    at_most_one false = omega arith
 
 -- numbers below a count that stand once are no more than it
 module _ (volume : Volume) (numbers : List ℕ) (count : ℕ) (once : StandOnce numbers) (below : (i : ℕ) → Contains numbers i → i < count) where

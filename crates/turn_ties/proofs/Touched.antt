@@ -35,6 +35,8 @@ use Rattle.flush_plan.specs.Touched.{page_of, is_marked_from, pages_from}
 use Rattle.mark_laws.specs.Touched.{touched_by, IsTouchedBetween}
 use Rattle.mark_laws.proofs.Edits.{edits_from}
 use Rattle.turn_ties.specs.Laws.{MarkedPagesAreTouched}
+use Rattle.cut_laws.proofs.Raising.{true_alike}
+use Rattle.mark_laws.proofs.Made.{in_range}
 
 -- each change of a list has a stamp below those of all later ones
 abbrev Rises : List FileChange → Type 0
@@ -255,9 +257,6 @@ blocks_ascend count i j d lt within =
     let later = get_or-range_with_len 0 count j d (omega (arith, long, within)) in
     omega (arith, first, later, lt)
 
-in_range : (count n : ℕ) → n < count → Contains (range_with_len 0 count) n
-in_range count n low = (n, (omega (arith, low, length-range_with_len 0 count)), get_or-range_with_len 0 count n n low ∙ zero_plus n)
-
 -- the pages of a file are those of the blocks with a mark
 module _ (from : ℕ) (file : File) where
   abbrev blocks : List ℕ
@@ -295,16 +294,10 @@ module _ (from : ℕ) (file : File) where
       let kept = kept_in (is_marked_from from file) (range_with_len 0 (room file)) block.0 block.1 in
       ap (is_marked_from from file) (sym own ∙ sym (ap page_block block.2)) ∙ kept.1
 
--- two tests that say the same
-same_truth : (a b : Bool) → (a ≡ true → b ≡ true) → (b ≡ true → a ≡ true) → a ≡ b
-same_truth true b there here = sym (there refl)
-same_truth false true there here = here refl
-same_truth false false there here = refl
-
 pub marked_pages_are_touched : MarkedPagesAreTouched
 marked_pages_are_touched first history node from stamp file change legal at is n =
     ap (λ pages. is_some (item_with page_block n pages)) is.pages
-    ∙ same_truth (is_some (item_with page_block n (pages_from from file))) (is_touched_between first history node.0 from stamp n)
+    ∙ true_alike (is_some (item_with page_block n (pages_from from file))) (is_touched_between first history node.0 from stamp n)
     (λ t. back first history legal node.0 from stamp n
     ((at.marks from n).0 (page_is_marked from file n (item_with page_block n (pages_from from file)) refl t)))
     (λ t. marked_has_page from file n ((at.marks from n).1 (forth first history legal node.0 from stamp n t)))

@@ -17,25 +17,9 @@ use Rattle.commit_laws.proofs.PartsMade.{in_flat}
 use Rattle.commit_laws.proofs.SeatsOfPlan.{in_mapped}
 use Rattle.commit_laws.proofs.Shown.{found_is_in}
 use Rattle.space_laws.proofs.Used.{in_some}
-
--- what is in a list and passes is found
-missed : {X : Type 0} (test : X → Bool) (xs : List X) (x : X) → Contains xs x → test x ≡ true → find test xs ≡ None → ⊥
-missed test [] x (k, within, is) passes none = absurd (omega arith)
-missed test (y ∷ xs) x (zero, within, is) passes none = none_some (sym none ∙ cond-true (test y) (Some y) (find test xs) (ap test is ∙ passes))
-missed test (y ∷ xs) x (suc k, within, is) passes none = step (test y) none (λ rest. missed test xs x (k, omega arith, is) passes rest)
-  where
-    step : (b : Bool) → cond b (Some y) (find test xs) ≡ None → (find test xs ≡ None → ⊥) → ⊥
-    step true e later = none_some (sym e)
-    step false e later = later e
-
-ranged : (n i : ℕ) → i < n → Contains (range_with_len 0 n) i
-ranged n i low = (i, subst (λ m. i < m) (sym (length-range_with_len 0 n)) low, get_or-range_with_len 0 n i i low ∙ zero_plus i)
-
-in_range : (n i : ℕ) → Contains (range_with_len 0 n) i → i < n
-in_range n i (k, within, at) =
-    let low = length-range_with_len 0 n in
-    let e = get_or-range_with_len 0 n k i (omega (arith, within, low)) in
-    omega (arith, at, e, within, low)
+use Rattle.mark_laws.proofs.Made.{in_range}
+use Rattle.commit_laws.proofs.Granted.{low_place}
+use Rattle.commit_laws.proofs.GrantWritten.{none_found}
 
 module _ (count places : ℕ) (pointer : ℕ → ℕ → ℕ) (content : ℕ → ℕ → List ℕ) where
   abbrev pub block_at : ℕ → ℕ → FreshBlock
@@ -58,15 +42,15 @@ module _ (count places : ℕ) (pointer : ℕ → ℕ → ℕ) (content : ℕ →
   pub in_all : (i place : ℕ) → i < count → place < places → Contains all_blocks (block_at i place)
   unfolding all_blocks
   in_all i place low within =
-      in_flat (λ i. map (block_at i) (range_with_len 0 places)) (range_with_len 0 count) i (block_at i place) (ranged count i low)
-      (in_mapped (block_at i) (range_with_len 0 places) place (ranged places place within))
+      in_flat (λ i. map (block_at i) (range_with_len 0 places)) (range_with_len 0 count) i (block_at i place) (in_range count i low)
+      (in_mapped (block_at i) (range_with_len 0 places) place (in_range places place within))
 
   of_all : (one : FreshBlock) → Contains all_blocks one → StandsAt one
   unfolding all_blocks
   of_all one there =
       let i = in_some (λ i. map (block_at i) (range_with_len 0 places)) (range_with_len 0 count) one there in
       let place = mapped_is_in (block_at i.0) (range_with_len 0 places) one i.2 in
-      record { i = i.0; place = place.0; low = in_range count i.0 i.1; within = in_range places place.0 place.1; same = place.2 }
+      record { i = i.0; place = place.0; low = low_place count i.0 i.1; within = low_place places place.0 place.1; same = place.2 }
 
   module _ (apart : (i place j other : ℕ) → i < count → j < count → place < places → other < places → (pointer i place ≡ 0 → ⊥)
       → pointer i place ≡ pointer j other → (i ≡ j) × (place ≡ other))
@@ -79,7 +63,7 @@ module _ (count places : ℕ) (pointer : ℕ → ℕ → ℕ) (content : ℕ →
         by : (o : Option FreshBlock) → find (λ (one : FreshBlock). nat_eq one.block (pointer i place)) all_blocks ≡ o
             → option_map_or (λ (one : FreshBlock). one.bytes) o (zeros 4096) ≡ content i place
         by None e = absurd
-            (missed (λ (one : FreshBlock). nat_eq one.block (pointer i place)) all_blocks (block_at i place) (in_all i place low within)
+            (none_found (λ (one : FreshBlock). nat_eq one.block (pointer i place)) all_blocks (block_at i place) (in_all i place low within)
             (same_number (pointer i place)) e)
         by (Some one) e =
             let at = of_all one (found_is_in (λ (one : FreshBlock). nat_eq one.block (pointer i place)) all_blocks one e) in

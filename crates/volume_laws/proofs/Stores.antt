@@ -22,7 +22,7 @@ use Rattle.commit_laws.specs.CommitOfPlan.{change_planned}
 use Rattle.commit_laws.specs.PartsMade.{blocks_planned, store_planned, IsPlanOverParts}
 use Rattle.commit_laws.specs.Ranked.{fresh_cut}
 use Rattle.commit_laws.proofs.FilesMade.{length_block}
-use Rattle.commit_laws.proofs.Granted.{given_by}
+use Rattle.commit_laws.proofs.Granted.{given_by, low_place}
 use Rattle.commit_laws.proofs.GrantWritten.{each_once, held_is_old, found_once}
 use Rattle.commit_laws.proofs.OwnInodes.{mapped_is_in}
 use Rattle.commit_laws.proofs.PlanShown.{IsBuiltNode, node_built}
@@ -89,10 +89,6 @@ module _ (volume : Volume) (one : OneFsync) (is : IsPlannedFsync volume one) whe
       let node = in_some (fresh_of_node one.plan.files) (nodes_with_grant (change_planned one.plan) one.grant) tx.0 tx.1 in
       ap (λ (b : FreshBlock). length b.bytes) (sym tx.2) ∙ of_node node.0 node.1 tx.0 node.2
     where
-      in_range : (k : ℕ) → Contains (range_with_len 0 16) k → k < 16
-      in_range k (i, within, at) = let low = length-range_with_len 0 16 in let e = get_or-range_with_len 0 16 i k (omega (arith, within, low)) in
-          omega (arith, at, e, within, low)
-
       of_node : (made : Built) → Contains (nodes_with_grant (change_planned one.plan) one.grant) made → (tx : TxBlock)
           → Contains (fresh_of_node one.plan.files made) tx → length tx.bytes ≡ 4096
       of_node made there_made tx has =
@@ -108,7 +104,7 @@ module _ (volume : Volume) (one : OneFsync) (is : IsPlannedFsync volume one) whe
                 node_built volume.num one.nodes old new image one.plan one.grant over.full made there_made in
                 table_long (numbers_with (change_planned one.plan) one.grant.inodes) (net_of_node one.plan.nets node.seat.node)
                 (unwrap_or (numbers_with (change_planned one.plan) one.grant.inodes node.seat.node) 0)
-                (fresh_cut (change_planned one.plan).seats one.grant.blocks node.m node.seat) node.seat k.0 (in_range k.0 k.1) tx
+                (fresh_cut (change_planned one.plan).seats one.grant.blocks node.m node.seat) node.seat k.0 (low_place 16 k.0 k.1) tx
                 (subst (λ (b : Built). table_of_place b k.0 ≡ Some tx) node.is k.2)
           ]
 

@@ -25,18 +25,7 @@ use Rattle.commit_laws.proofs.KnownDirectories.{given_is_in}
 use Rattle.commit_laws.proofs.SeatsOfPlan.{in_is_among, among_is_in}
 use Rattle.flush_laws.specs.Planned.{HasOldEntries}
 use Rattle.volume_one.specs.Entries.{KeptNodes, old_in, old_at, disk_entry_with, entry_at, disk_entries_at, disk_entries_in, HasSameEntries}
-
--- what a function gives of a list is given of one of its items
-given_step : {X Y : Type 0} (f : X → Option Y) (x : X) (xs : List X) (y : Y) (o : Option Y) → f x ≡ o
-    → (Contains (filter_map f xs) y → (z : X) × Contains xs z × (f z ≡ Some y)) → Contains (cons_option o (filter_map f xs)) y
-    → (z : X) × Contains (x ∷ xs) z × (f z ≡ Some y)
-given_step f x xs y None e rest there = let own = rest there in (own.0, (suc own.1.0, omega (arith, own.1.1), own.1.2), own.2)
-given_step f x xs y (Some w) e rest (zero, within, is) = (x, (zero, omega arith, refl), e ∙ ap Some is)
-given_step f x xs y (Some w) e rest (suc k, within, is) = let own = rest (k, omega arith, is) in (own.0, (suc own.1.0, omega (arith, own.1.1), own.1.2), own.2)
-
-pub given_from : {X Y : Type 0} (f : X → Option Y) (xs : List X) (y : Y) → Contains (filter_map f xs) y → (x : X) × Contains xs x × (f x ≡ Some y)
-given_from f [] y (k, within, is) = absurd (omega arith)
-given_from f (x ∷ xs) y there = given_step f x xs y (f x) refl (given_from f xs y) there
+use Rattle.commit_laws.proofs.Granted.{given_by}
 
 -- what a function gives of items that ascend does so too, where it keeps their numbers
 module _ {X Y : Type 0} (number : X → ℕ) (key : Y → ℕ) (f : X → Option Y) (own : (x : X) (y : Y) → f x ≡ Some y → key y ≡ number x) where
@@ -111,7 +100,7 @@ module _ (nodes : KeptNodes) (ordered : IsOrdered nat_cmp nodes) where
   -- an entry is there exactly where that is kept of its node
   pub entry_there : (entry : OldEntry) → Contains (disk_entries_in nodes) entry → old_at nodes entry.node.0 ≡ Some entry.old
   entry_there entry there =
-      let from = given_from (λ (place : ℕ × Option OldKept). disk_entry_with place.0 place.1) nodes.entries entry there in
+      let from = given_by (λ (place : ℕ × Option OldKept). disk_entry_with place.0 place.1) nodes.entries entry there in
       let own = entry_own from.0.0 from.0.1 entry from.2 in
       let found : get nat_cmp nodes from.0.0 ≡ Some from.0.1 = (btree_map_get_iff nat_cmp_total exact_unsigned nodes ordered from.0.0 from.0.1).1 from.1 in
       ap (old_at nodes) own.1 ∙ ap old_in found ∙ own.0
@@ -130,7 +119,7 @@ module _ (nodes : KeptNodes) (ordered : IsOrdered nat_cmp nodes) where
   old_entries numbers up = record {
     ascend = entries_ascend nodes numbers up;
     own = λ entry there.
-        let from = given_from (entry_at nodes) numbers entry there in
+        let from = given_by (entry_at nodes) numbers entry there in
         let own = entry_own from.0 (old_at nodes from.0) entry from.2 in
         (entry_kept entry (ap (old_at nodes) own.1 ∙ own.0), ap (is_among numbers) own.1 ∙ in_is_among numbers from.0 from.1);
     all = λ entry there among.

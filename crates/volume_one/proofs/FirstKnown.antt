@@ -23,24 +23,18 @@ use Rattle.flush_laws.specs.Ready.{KeepsEntries}
 use Rattle.node_lists.specs.Known.{Known}
 use Rattle.volume_one.specs.Begins.{node_of_old}
 use Rattle.volume_one.specs.Memory.{KnowsNodes}
+use Rattle.cut_laws.proofs.Raising.{true_alike}
 
 -- the numbers of the nodes of entries
 pub numbers_are : (entries : List OldEntry) → map node_number (map node_of_old entries) ≡ map entry_node entries
 numbers_are [] = refl
 numbers_are (entry ∷ entries) = ap (λ (l : List ℕ). entry_node entry ∷ l) (numbers_are entries)
 
--- two truths of which each follows from the other are one
-same_truth : (a b : Bool) → (a ≡ true → b ≡ true) → (b ≡ true → a ≡ true) → a ≡ b
-same_truth true true to from = refl
-same_truth false false to from = refl
-same_truth true false to from = absurd (true_not_false (sym (to refl)))
-same_truth false true to from = absurd (true_not_false (sym (from refl)))
-
 module _ (num : Numbering) (inodes : ℕ → Bool) (parts : ℕ → Part) (entries : List OldEntry)
     (numbers : NumbersInodes num inodes) (keeps : KeepsEntries num parts entries) where
   -- the nodes of which memory keeps an entry are those with an inode
   pub listed_have_inodes : (node : ℕ) → is_listed (map entry_node entries) node ≡ inodes node
-  listed_have_inodes node = same_truth (is_listed (map entry_node entries) node) (inodes node)
+  listed_have_inodes node = true_alike (is_listed (map entry_node entries) node) (inodes node)
       (λ listed.
       let from = mapped_is_in entry_node entries node (among_is_in (map entry_node entries) node listed) in
       let has : num node ≡ Some from.0.old.number = sym (ap num from.2) ∙ (keeps.each from.0 from.1).0 in

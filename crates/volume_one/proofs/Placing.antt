@@ -15,7 +15,7 @@ use Rattle.disk_nodes.specs.declared.old.OldEntry.{OldEntry}
 use Rattle.volume_one.specs.Entries.{KeptNodes, old_at, kept_in, entry_at, disk_entries_at}
 use Rattle.std.proofs.lemmas.List.Kept.{AllPairs-from_increasing}
 use borrow.Author.Tests.{eqb-true, eq-eqb}
-use Rattle.sfs_base.proofs.BasicTruth.{true_not_false}
+use Rattle.sfs_base.proofs.BasicTruth.{true_not_false, or_false}
 use Rattle.sfs_base.specs.Listed.{is_listed}
 use Rattle.keyed_list.specs.Ascending.{item_with, without}
 
@@ -35,11 +35,7 @@ without_other key (item ∷ items) m n differ = by (nat_eq (key item) m) refl (w
 
 -- a number at the end of a list
 listed_last : (numbers : List ℕ) (m n : ℕ) → is_listed (numbers ++ m ∷ []) n ≡ (is_listed numbers n || nat_eq m n)
-listed_last [] m n = by (nat_eq m n)
-  where
-    by : (b : Bool) → (b || false) ≡ b
-    by true = refl
-    by false = refl
+listed_last [] m n = or_false (nat_eq m n)
 listed_last (k ∷ numbers) m n = by (nat_eq k n) (listed_last numbers m n)
   where
     by : (b : Bool) → is_listed (numbers ++ m ∷ []) n ≡ (is_listed numbers n || nat_eq m n)
