@@ -29,7 +29,7 @@ pub struct Core<C, X, G> {
     // The stamp of its last entry, where that is an fsync that waits for its answer.
     pub(crate) waiting: Option<Stamp>,
     pub(crate) held: Vec<HeldCell<C>>,
-    // The cores lie side by side in a list, and each call writes to its own. So two of them share no line of memory.
+    // The cores lie side by side in a list, and each call writes to its own. So they lie a line of memory further apart.
     pub(crate) apart: [u64; 8],
 }
 
