@@ -1,16 +1,8 @@
--- Lists taken apart: what stands at a place, what passes a test, and what was joined of parts.
-use Rattle.std.specs.Prelude.{filter, flat_map}
-use Rattle.std.proofs.Common.{◌≡◌, ◌∷◌, ◌++◌, ◌⊎◌, ◌∙◌, Bool, true, false, cond, List, [], inl, inr, refl, sym, ap}
+-- Lists taken apart: what stands at a place, and what was joined of parts.
+use Rattle.std.specs.Prelude.{flat_map}
+use Rattle.std.proofs.Common.{◌≡◌, ◌∷◌, ◌++◌, ◌⊎◌, ◌∙◌, List, [], inl, inr, refl, sym, ap}
 use Rattle.cut_laws.specs.Rules.{IsOneOf}
 use Rattle.cut_laws.proofs.Basics.{in_left, in_right, in_either}
-
-pub filter_both : {X : Type 0} (test : X → Bool) (xs ys : List X) → filter test (xs ++ ys) ≡ filter test xs ++ filter test ys
-filter_both test [] ys = refl
-filter_both test (x ∷ xs) ys = elim (test x) as
-    (λ b. cond b (x ∷ filter test (xs ++ ys)) (filter test (xs ++ ys)) ≡ cond b (x ∷ filter test xs) (filter test xs) ++ filter test ys) [
-      | true ↦ ap (λ l. x ∷ l) (filter_both test xs ys)
-      | false ↦ filter_both test xs ys
-    ]
 
 -- One of the parts has it.
 pub record IsInPart {X Y : Type 0} (part : X → List Y) (xs : List X) (y : Y) : Type 0 where

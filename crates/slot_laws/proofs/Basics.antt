@@ -1,6 +1,6 @@
 -- Something at a place, and the others as they were.
 use Rattle.std.specs.Prelude.{option_map}
-use Rattle.std.proofs.Common.{◌≡◌, ◌≢◌, ◌∙◌, ℕ, Bool, true, false, cond, Option, Some, None, inl, inr, refl, sym, ap, nat_eq}
+use Rattle.std.proofs.Common.{◌≡◌, ◌≢◌, ◌∙◌, ◌||◌, ◌⊎◌, ℕ, Bool, true, false, cond, Option, Some, None, inl, inr, refl, sym, ap, nat_eq}
 use Rattle.std.proofs.Math.Path.{fun_ext}
 use Rattle.sfs_base.proofs.BasicNumbers.{same_number, not_same}
 use Rattle.merge_laws.proofs.Blocks.{same_or_not}
@@ -42,3 +42,8 @@ none_there e = cc
 pub mapped_some : {X Y : Type 0} (f : X → Y) (o : Option X) (y : Y) → option_map f o ≡ Some y → (x : X) × (o ≡ Some x) × (f x ≡ y)
 mapped_some f None y e = none_there e
 mapped_some f (Some x) y e = (x, refl, cc)
+
+-- of two that one is true
+pub either_true : (a b : Bool) → (a || b) ≡ true → (a ≡ true) ⊎ (b ≡ true)
+either_true true b e = inl refl
+either_true false b e = inr e

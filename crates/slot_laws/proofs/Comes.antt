@@ -1,15 +1,16 @@
 -- Commits of slots behind labels of which none begins one.
-use Rattle.std.proofs.Common.{◌≡◌, ◌∷◌, ◌++◌, ◌∙◌, ℕ, Bool, true, false, List, [], refl}
+use Rattle.std.proofs.Common.{◌≡◌, ◌∷◌, ◌++◌, ◌∙◌, ℕ, Bool, true, false, List, []}
+use Rattle.sfs_base.proofs.BasicTruth.{true_not_false}
 use Rattle.sfs_image.specs.Super.{Layout}
 use Rattle.stamp_table.specs.declared.event.Event.{Event}
 use Rattle.stamp_table.specs.declared.event.Event.TheVariants.{Called, Told}
 use Rattle.slot_laws.specs.Rings.{BeginsApart, BeginApart}
 use Rattle.slot_laws.specs.declared.label.Label.{Label}
 use Rattle.slot_laws.specs.declared.label.Label.TheVariants as label
-use Rattle.slot_laws.specs.Slots.{Slots, knowing, known_filled, known_placed, known_gated, settled_work, open_gate, shut_gate}
+use Rattle.slot_laws.specs.Slots.{Slots, known_filled, known_placed, known_gated, open_gate, shut_gate}
 use Rattle.slot_laws.specs.Labels.{BoxPast, after_event, past_from}
 use Rattle.slot_laws.specs.Rules.{MayFrom}
-use Rattle.slot_laws.proofs.Numbers.{SlotsCome, changed_come, synced_come, idled_come, slots_come}
+use Rattle.slot_laws.proofs.Numbers.{SlotsCome, known_come, settled_come, synced_come, idled_come, slots_come}
 
 -- one history behind another may be told
 pub may_both : (layout : Layout) (before : ℕ) (log more : List (Event Label)) (past : BoxPast) → MayFrom layout before log past
@@ -27,7 +28,11 @@ pub come_on : {slots middle later : Slots} → SlotsCome slots middle → SlotsC
 come_on first second k new there =
     let was = second k new there in
     let had = first k was.work was.there in
-    record { work = had.work; there = had.there; job = was.job ∙ had.job; commit = was.commit ∙ had.commit }
+    record {
+      work = had.work;
+      there = had.there;
+      stays = record { job = was.stays.job ∙ had.stays.job; commit = was.stays.commit ∙ had.stays.commit };
+    }
 
 -- where none begins, each commit was there before
 pub event_comes : (layout : Layout) (event : Event Label) (past : BoxPast) → begins event ≡ false → SlotsCome past.slots (after_event layout event past).slots
@@ -37,21 +42,14 @@ event_comes layout (Told core label.Gave) past none = slots_come past.slots
 event_comes layout (Told core (label.Noted turn)) past none = slots_come past.slots
 event_comes layout (Told core (label.Reserved commit)) past none = slots_come past.slots
 event_comes layout (Told core (label.Returned commit)) past none = slots_come past.slots
-event_comes layout (Told core (label.Began filling commit node stamp)) past none = absurd (true_is_not none)
-  where
-    true_is_not : true ≡ false → ⊥
-    true_is_not e = cc
-event_comes layout (Told core (label.Filled k piece done)) past none =
-    changed_come past.slots k (knowing (known_filled done piece)) (λ work. record { job = refl; commit = refl })
+event_comes layout (Told core (label.Began filling commit node stamp)) past none = absurd (true_not_false none)
+event_comes layout (Told core (label.Filled k piece done)) past none = known_come past.slots k (known_filled done piece)
 event_comes layout (Told core label.Synced) past none = synced_come past.slots
-event_comes layout (Told core (label.Opened k done cut opened)) past none =
-    changed_come past.slots k (knowing (known_gated done open_gate)) (λ work. record { job = refl; commit = refl })
-event_comes layout (Told core (label.Settled k turn)) past none = changed_come past.slots k settled_work (λ work. record { job = refl; commit = refl })
+event_comes layout (Told core (label.Opened k done cut opened)) past none = known_come past.slots k (known_gated done open_gate)
+event_comes layout (Told core (label.Settled k turn)) past none = settled_come past.slots k
 event_comes layout (Told core (label.Looked turn)) past none = slots_come past.slots
-event_comes layout (Told core (label.Placed k n done)) past none =
-    changed_come past.slots k (knowing (known_placed done n)) (λ work. record { job = refl; commit = refl })
-event_comes layout (Told core (label.Shut k done)) past none =
-    changed_come past.slots k (knowing (known_gated done shut_gate)) (λ work. record { job = refl; commit = refl })
+event_comes layout (Told core (label.Placed k n done)) past none = known_come past.slots k (known_placed done n)
+event_comes layout (Told core (label.Shut k done)) past none = known_come past.slots k (known_gated done shut_gate)
 event_comes layout (Told core (label.Idled k)) past none = idled_come past.slots k
 event_comes layout (Told core (label.Empty commit cut opened durable)) past none = slots_come past.slots
 
@@ -75,10 +73,7 @@ none_apart layout (event ∷ log) past none = (asks_nothing event none.0, none_a
     asks_nothing (Told core (label.Noted turn)) quiet = tt
     asks_nothing (Told core (label.Reserved commit)) quiet = tt
     asks_nothing (Told core (label.Returned commit)) quiet = tt
-    asks_nothing (Told core (label.Began filling commit node stamp)) quiet = absurd (begins_one quiet)
-      where
-        begins_one : true ≡ false → ⊥
-        begins_one e = cc
+    asks_nothing (Told core (label.Began filling commit node stamp)) quiet = absurd (true_not_false quiet)
     asks_nothing (Told core (label.Filled k piece done)) quiet = tt
     asks_nothing (Told core label.Synced) quiet = tt
     asks_nothing (Told core (label.Opened k done cut opened)) quiet = tt

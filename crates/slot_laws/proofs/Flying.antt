@@ -11,14 +11,12 @@ use Rattle.merge_laws.proofs.Blocks.{same_or_not}
 use Rattle.slot_laws.specs.Slots.{may_be_open, known_synced, SlotWork, begun_work, knowing, Slots, with_at, changed_slot, synced_slots}
 use Rattle.slot_laws.specs.Labels.{owner, SlotFlight}
 use Rattle.slot_laws.specs.Fits.{IsFlying, FlightFits, FlightsFit}
-use Rattle.slot_laws.proofs.Basics.{at_here, at_same, at_other, none_there, mapped_some}
+use Rattle.slot_laws.proofs.Basics.{at_here, at_same, at_other, none_there}
+use Rattle.slot_laws.proofs.Came.{KeepsTold, Came, knowing_told, told_itself, changed_came, synced_came}
 
 -- Of a commit the same is told, but for what is known; and while it is not durable, its gate is known to be open, or not, as it was.
 pub record Keeps (work new : SlotWork) : Type 0 where
-  pub job : new.job ≡ work.job
-  pub commit : new.commit ≡ work.commit
-  pub flush : new.flush ≡ work.flush
-  pub settled : new.settled ≡ work.settled
+  pub told : KeepsTold work new
   pub gates : work.settled ≡ false → (opened : Bool) → may_be_open work.known.gate_left ≡ opened → may_be_open work.known.gate_read ≡ opened
       → (may_be_open new.known.gate_left ≡ opened) × (may_be_open new.known.gate_read ≡ opened)
 
@@ -28,18 +26,13 @@ pub record IsKept (slots : Slots) (k : ℕ) (work : SlotWork) : Type 0 where
   pub there : slots k ≡ Some other
   pub keeps : Keeps work other
 
-pub record WasKept (slots : Slots) (k : ℕ) (new : SlotWork) : Type 0 where
-  pub work : SlotWork
-  pub there : slots k ≡ Some work
-  pub keeps : Keeps work new
-
 -- Slots have the same commits, of which something else may be known.
 pub record SlotsKeep (slots later : Slots) : Type 0 where
   pub forth : (k : ℕ) (work : SlotWork) → slots k ≡ Some work → IsKept later k work
-  pub back : (k : ℕ) (new : SlotWork) → later k ≡ Some new → WasKept slots k new
+  pub back : (k : ℕ) (new : SlotWork) → later k ≡ Some new → Came (λ (j : ℕ). Keeps) slots k new
 
-pub keeps_itself : (work : SlotWork) → Keeps work work
-keeps_itself work = record { job = refl; commit = refl; flush = refl; settled = refl; gates = λ aloft opened left read. (left, read) }
+keeps_itself : (work : SlotWork) → Keeps work work
+keeps_itself work = record { told = told_itself work; gates = λ aloft opened left read. (left, read) }
 
 -- one slot's commit is another, of which the same is told
 pub changed_keeps : (slots : Slots) (k : ℕ) (change : SlotWork → SlotWork) → ((work : SlotWork) → slots k ≡ Some work → Keeps work (change work))
@@ -59,29 +52,21 @@ changed_keeps slots k change keeps = record {
       keeps = keeps_itself work;
     }
   ];
-  back = λ j new there. elim (same_or_not j k) [
-    | inl same ↦
-        let was = mapped_some change (slots k) new (sym (at_same slots k (option_map change (slots k)) j same) ∙ there) in
-        record { work = was.0; there = ap slots same ∙ was.1; keeps = subst (Keeps was.0) was.2 (keeps was.0 was.1) }
-    | inr apart ↦ record { work = new; there = sym (at_other slots k (option_map change (slots k)) j apart) ∙ there; keeps = keeps_itself new }
-  ];
+  back = changed_came (λ (j : ℕ). Keeps) slots (λ j. keeps_itself) k change keeps;
 }
+
+-- once nothing is pending, the images have what a read gives
+keeps_synced : (work : SlotWork) → Keeps work (knowing known_synced work)
+keeps_synced work = record { told = knowing_told known_synced work; gates = λ aloft opened left read. (read, read) }
 
 pub synced_keep : (slots : Slots) → SlotsKeep slots (synced_slots slots)
 synced_keep slots = record {
   forth = λ j work there. record {
     other = knowing known_synced work;
     there = ap (option_map (knowing known_synced)) there;
-    keeps = record { job = refl; commit = refl; flush = refl; settled = refl; gates = λ aloft opened left read. (read, read) };
+    keeps = keeps_synced work;
   };
-  back = λ j new there.
-      let was = mapped_some (knowing known_synced) (slots j) new there in
-      record {
-        work = was.0;
-        there = was.1;
-        keeps = subst (Keeps was.0) was.2
-            (record { job = refl; commit = refl; flush = refl; settled = refl; gates = λ aloft opened left read. (read, read) });
-      };
+  back = synced_came (λ (j : ℕ). Keeps) slots (λ j. keeps_synced);
 }
 
 module _ (layout : Layout) (slots : Slots) (waits : ℕ → Option Turn) (flights : ℕ → Option SlotFlight) (fits : FlightsFit layout slots waits flights) where
@@ -93,9 +78,9 @@ module _ (layout : Layout) (slots : Slots) (waits : ℕ → Option Turn) (flight
       record {
         work = new.other;
         there = new.there;
-        commit = new.keeps.commit ∙ is.commit;
-        flush = new.keeps.flush ∙ is.flush;
-        aloft = new.keeps.settled ∙ is.aloft;
+        commit = new.keeps.told.numbers.commit ∙ is.commit;
+        flush = new.keeps.told.flush ∙ is.flush;
+        aloft = new.keeps.told.settled ∙ is.aloft;
         left = gates.0;
         read = gates.1;
         none = is.none;
@@ -108,7 +93,7 @@ module _ (layout : Layout) (slots : Slots) (waits : ℕ → Option Turn) (flight
         record { own = was.own; is = elim was.is [ inl flies ↦ inl (flies_kept later keep core flight flies) | inr landed ↦ inr landed ] };
     aloft = λ k new there aloft.
         let old = keep.back k new there in
-        let was = fits.aloft k old.work old.there (sym old.keeps.settled ∙ aloft) in
+        let was = fits.aloft k old.work old.there (sym old.stays.told.settled ∙ aloft) in
         record { flight = was.flight; flies_is = was.flies_is; slot_is = was.slot_is; flies = flies_kept later keep (owner layout k) was.flight was.flies };
     idle = fits.idle;
   }
@@ -133,12 +118,6 @@ module _ (layout : Layout) (slots : Slots) (waits : ℕ → Option Turn) (flight
 
   -- a commit begins in an idle slot
   module _ (core k : ℕ) (job : Job) (commit : ℕ) (flush : Flush) (idle : slots k ≡ None) (rests : flights core ≡ None) (own : owner layout k ≡ core) where
-    new_work : Option SlotWork
-    new_work = Some (begun_work job commit flush)
-
-    new_flight : SlotFlight
-    new_flight = record { slot = k; commit = commit; flush = flush; opened = false }
-
     begun_flies : IsFlying (with_at slots k (Some (begun_work job commit flush))) waits core
         (record { slot = k; commit = commit; flush = flush; opened = false })
     begun_flies = record {

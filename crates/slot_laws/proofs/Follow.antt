@@ -1,5 +1,4 @@
 -- Of commits that share an inode the one with the greater stamp became durable later.
-use Rattle.std.specs.Prelude.{option_map}
 use Rattle.std.proofs.Common.{◌≡◌, ◌≢◌, ◌<◌, ◌∷◌, ◌++◌, ◌∙◌, ℕ, true, false, List, [], Some, None, inl, inr, refl, sym, ap, subst, arith}
 use Rattle.std.proofs.lemmas.List.{append-nil, append_assoc}
 use Rattle.sfs_base.proofs.BasicOptions.{some_same}
@@ -20,10 +19,11 @@ use Rattle.slot_laws.specs.Labels.{fsync_told, BoxPast, first_past, after_label,
 use Rattle.slot_laws.specs.Rules.{MayLabel, MayFrom}
 use Rattle.slot_laws.specs.Fits.{PastFits}
 use Rattle.slot_laws.specs.Rings.{ShareInode, BeginApart, RingsFit, IsSettling, WasSettled, WasSettledBefore, StampsFollow, GreaterStampsAreNewer, AreInSlots}
-use Rattle.slot_laws.proofs.Basics.{at_same, at_other, none_there, mapped_some}
+use Rattle.slot_laws.proofs.Basics.{at_same, at_other, none_there}
+use Rattle.slot_laws.proofs.Came.{KeepsTold, Came, knowing_told, told_itself, same_came, changed_came, synced_came, idled_came}
 use Rattle.slot_laws.proofs.Labels.{label_fits}
 use Rattle.slot_laws.proofs.Lawful.{first_fits}
-use Rattle.slot_laws.proofs.Rings.{share_back, rings_label, first_rings, in_slots}
+use Rattle.slot_laws.proofs.Rings.{before_settled, is_settled, share_back, rings_label, first_rings, in_slots}
 
 -- What became durable did so by its turn, and in the order of the stamps.
 record TurnsFollow (slots : Slots) (turns : List Turn) : Type 0 where
@@ -32,13 +32,8 @@ record TurnsFollow (slots : Slots) (turns : List Turn) : Type 0 where
       → WasSettledBefore turns one other
 
 -- A commit was in the same slot before, and is told the same but for what is known.
-record CameWith (slots : Slots) (k : ℕ) (new : SlotWork) : Type 0 where
-  work : SlotWork
-  there : slots k ≡ Some work
-  job : new.job ≡ work.job
-  commit : new.commit ≡ work.commit
-  flush : new.flush ≡ work.flush
-  settled : new.settled ≡ work.settled
+abbrev CameWith : Slots → ℕ → SlotWork → Type 0
+CameWith = Came (λ (k : ℕ). KeepsTold)
 
 settling_of : (turn : Turn) (work new : SlotWork) → new.commit ≡ work.commit → new.flush ≡ work.flush → IsSettling turn work → IsSettling turn new
 settling_of turn work new commit flush is = record { did = is.did; number = is.number ∙ sym commit; own = is.own ∙ sym flush }
@@ -67,7 +62,7 @@ follow_on slots later turns more follows come = record {
   settled = λ k new there durable.
       let was = come k new there in
       settled_still turns more new
-      (settled_of turns was.work new was.commit was.flush (follows.settled k was.work was.there (sym was.settled ∙ durable)));
+      (settled_of turns was.work new was.stays.numbers.commit was.stays.flush (follows.settled k was.work was.there (sym was.stays.settled ∙ durable)));
   order = λ j k one other pair shares low.
       let away = pair.away in
       let here = pair.here in
@@ -76,48 +71,39 @@ follow_on slots later turns more follows come = record {
       let too = pair.other_is in
       let was = come j one here in
       let had = come k other there in
-      let shared = subst (λ (job : Job). ShareInode job had.work.job) was.job (subst (ShareInode one.job) had.job shares) in
-      let less = subst (λ (job : Job). job.stamp < had.work.job.stamp) was.job (subst (λ (job : Job). one.job.stamp < job.stamp) had.job low) in
-      let before = follows.order j k was.work had.work (in_slots away was.there had.there (sym was.settled ∙ durable) (sym had.settled ∙ too)) shared less in
+      let shared = subst (λ (job : Job). ShareInode job had.work.job) was.stays.numbers.job (subst (ShareInode one.job) had.stays.numbers.job shares) in
+      let less = subst (λ (job : Job). job.stamp < had.work.job.stamp) was.stays.numbers.job
+      (subst (λ (job : Job). one.job.stamp < job.stamp) had.stays.numbers.job low) in
+      let before = follows.order j k was.work had.work
+      (in_slots away was.there had.there (sym was.stays.settled ∙ durable) (sym had.stays.settled ∙ too)) shared less in
       before_still turns more one other (record {
         front = before.front;
         turn = before.turn;
         back = before.back;
         whole = before.whole;
-        settles = settling_of before.turn had.work other had.commit had.flush before.settles;
-        earlier = settled_of before.front was.work one was.commit was.flush before.earlier;
+        settles = settling_of before.turn had.work other had.stays.numbers.commit had.stays.flush before.settles;
+        earlier = settled_of before.front was.work one was.stays.numbers.commit was.stays.flush before.earlier;
       });
 }
 
-follow_same : (slots : Slots) (turns : List Turn) (k : ℕ) (new : SlotWork) → slots k ≡ Some new → CameWith slots k new
-follow_same slots turns k new there = record { work = new; there = there; job = refl; commit = refl; flush = refl; settled = refl }
+follow_same : (slots : Slots) (k : ℕ) (new : SlotWork) → slots k ≡ Some new → CameWith slots k new
+follow_same slots = same_came (λ (j : ℕ). KeepsTold) slots (λ j. told_itself)
 
 -- where no turn is told
 no_more : (slots : Slots) (turns : List Turn) → TurnsFollow slots (turns ++ []) → TurnsFollow slots turns
 no_more slots turns = subst (TurnsFollow slots) (append-nil turns)
 
 -- one slot's commit of which something else is known
-module _ (slots : Slots) (k : ℕ) (change : SlotKnown → SlotKnown) where
-  changed_with : (j : ℕ) (new : SlotWork) → changed_slot slots k (knowing change) j ≡ Some new → CameWith slots j new
-  changed_with j new there = elim (same_or_not j k) [
-    | inl same ↦
-        let was = mapped_some (knowing change) (slots k) new (sym (at_same slots k (option_map (knowing change) (slots k)) j same) ∙ there) in
-        subst (λ (w : SlotWork). CameWith slots j w) was.2
-        (record { work = was.0; there = ap slots same ∙ was.1; job = refl; commit = refl; flush = refl; settled = refl })
-    | inr apart ↦ follow_same slots [] j new (sym (at_other slots k (option_map (knowing change) (slots k)) j apart) ∙ there)
-  ]
+changed_with : (slots : Slots) (k : ℕ) (change : SlotKnown → SlotKnown) (j : ℕ) (new : SlotWork) → changed_slot slots k (knowing change) j ≡ Some new
+    → CameWith slots j new
+changed_with slots k change =
+    changed_came (λ (j : ℕ). KeepsTold) slots (λ j. told_itself) k (knowing change) (λ work there. knowing_told change work)
 
 synced_with : (slots : Slots) (k : ℕ) (new : SlotWork) → synced_slots slots k ≡ Some new → CameWith slots k new
-synced_with slots k new there =
-    let was = mapped_some (knowing known_synced) (slots k) new there in
-    subst (λ (w : SlotWork). CameWith slots k w) was.2
-    (record { work = was.0; there = was.1; job = refl; commit = refl; flush = refl; settled = refl })
+synced_with slots = synced_came (λ (j : ℕ). KeepsTold) slots (λ j. knowing_told known_synced)
 
 idled_with : (slots : Slots) (k j : ℕ) (new : SlotWork) → with_at slots k None j ≡ Some new → CameWith slots j new
-idled_with slots k j new there = elim (same_or_not j k) [
-  | inl same ↦ none_there (sym (at_same slots k None j same) ∙ there)
-  | inr apart ↦ follow_same slots [] j new (sym (at_other slots k None j apart) ∙ there)
-]
+idled_with slots = idled_came (λ (j : ℕ). KeepsTold) slots (λ j. told_itself)
 
 -- a commit that begins is not durable
 begun_follows : (slots : Slots) (turns : List Turn) (k : ℕ) (job : Job) (commit : ℕ) (flush : Flush) → TurnsFollow slots turns
@@ -147,12 +133,12 @@ settled_follows : (slots : Slots) (turns : List Turn) (k : ℕ) (turn : Turn) (w
     → slots k ≡ Some work × (work.settled ≡ false) → IsSettling turn work → TurnsFollow (changed_slot slots k settled_work) (turns ++ turn ∷ [])
 settled_follows slots turns k turn work fits at settles = record {
   settled = λ j other there durable. elim (same_or_not j k) [
-    | inl same ↦ subst (WasSettled (turns ++ turn ∷ [])) (is j other there same) (record {
+    | inl same ↦ subst (WasSettled (turns ++ turn ∷ [])) (is_settled slots k work at.0 j other there same) (record {
       turn = turn;
       among = among_at turns turn [];
       settles = settling_of turn work (settled_work work) refl refl settles;
     })
-    | inr apart ↦ settled_still turns (turn ∷ []) other (fits.1.settled j other (before j other there apart) durable)
+    | inr apart ↦ settled_still turns (turn ∷ []) other (fits.1.settled j other (before_settled slots k j other there apart) durable)
   ];
   order = λ j i one other pair shares low.
       let away = pair.away in
@@ -162,33 +148,28 @@ settled_follows slots turns k turn work fits at settles = record {
       let too = pair.other_is in elim (same_or_not i k) [
         | inl at_i ↦
             let off : j ≢ k = λ same. away (same ∙ sym at_i) in
-            subst (WasSettledBefore (turns ++ turn ∷ []) one) (is i other there at_i) (record {
+            subst (WasSettledBefore (turns ++ turn ∷ []) one) (is_settled slots k work at.0 i other there at_i) (record {
               front = turns;
               turn = turn;
               back = [];
               whole = refl;
               settles = settling_of turn work (settled_work work) refl refl settles;
-              earlier = fits.1.settled j one (before j one here off) durable;
+              earlier = fits.1.settled j one (before_settled slots k j one here off) durable;
             })
         | inr out ↦ elim (same_or_not j k) [
           | inl at_j ↦
-              let later = fits.0.later i k other work (in_slots out (before i other there out) at.0 too at.1)
-              (share_back work.job other.job (subst (λ (w : SlotWork). ShareInode w.job other.job) (sym (is j one here at_j)) shares)) in
-              let first = subst (λ (w : SlotWork). w.job.stamp < other.job.stamp) (sym (is j one here at_j)) low in
+              let later = fits.0.later i k other work (in_slots out (before_settled slots k i other there out) at.0 too at.1)
+              (share_back work.job other.job
+              (subst (λ (w : SlotWork). ShareInode w.job other.job) (sym (is_settled slots k work at.0 j one here at_j)) shares)) in
+              let first = subst (λ (w : SlotWork). w.job.stamp < other.job.stamp) (sym (is_settled slots k work at.0 j one here at_j)) low in
               absurd (omega (arith, later, first))
           | inr off ↦
               before_still turns (turn ∷ []) one other
-              (fits.1.order j i one other (in_slots away (before j one here off) (before i other there out) durable too) shares low)
+              (fits.1.order j i one other
+              (in_slots away (before_settled slots k j one here off) (before_settled slots k i other there out) durable too) shares low)
         ]
       ];
 }
-  where
-    before : (j : ℕ) (other : SlotWork) → changed_slot slots k settled_work j ≡ Some other → j ≢ k → slots j ≡ Some other
-    before j other there apart = sym (at_other slots k (option_map settled_work (slots k)) j apart) ∙ there
-
-    is : (j : ℕ) (other : SlotWork) → changed_slot slots k settled_work j ≡ Some other → j ≡ k → settled_work work ≡ other
-    is j other there same =
-        some_same (sym (at_same slots k (option_map settled_work (slots k)) j same ∙ ap (option_map settled_work) at.0) ∙ there)
 
 module _ (layout : Layout) (before : ℕ) where
   -- each label leaves what follows
@@ -197,7 +178,7 @@ module _ (layout : Layout) (before : ℕ) where
   follow_label core past rings follows label.Took rule = follows
   follow_label core past rings follows label.Gave rule = follows
   follow_label core past rings follows (label.Noted turn) rule =
-      follow_on past.slots past.slots past.turns (turn ∷ []) follows (follow_same past.slots past.turns)
+      follow_on past.slots past.slots past.turns (turn ∷ []) follows (follow_same past.slots)
   follow_label core past rings follows (label.Reserved commit) rule = follows
   follow_label core past rings follows (label.Returned commit) rule = follows
   follow_label core past rings follows (label.Began filling commit node stamp) rule =
@@ -227,7 +208,7 @@ module _ (layout : Layout) (before : ℕ) where
       no_more (with_at past.slots k None) past.turns
       (follow_on past.slots (with_at past.slots k None) past.turns [] follows (idled_with past.slots k))
   follow_label core past rings follows (label.Empty commit cut opened durable) rule =
-      follow_on past.slots past.slots past.turns (cut ∷ opened ∷ durable ∷ []) follows (follow_same past.slots past.turns)
+      follow_on past.slots past.slots past.turns (cut ∷ opened ∷ durable ∷ []) follows (follow_same past.slots)
 
   follow_all : (log : List (Event Label)) (past : BoxPast) → PastFits layout before past → RingsFit past.slots → TurnsFollow past.slots past.turns
       → MayFrom layout before log past → BeginApart layout log past

@@ -6,7 +6,7 @@ use Rattle.std.proofs.Math.Path.{fun_ext}
 use Rattle.std.proofs.lemmas.List.{append_assoc}
 use Rattle.sfs_base.specs.declared.numbers.NodeId.{NodeId}
 use Rattle.sfs_base.specs.declared.numbers.Stamp.{Stamp}
-use Rattle.sfs_base.proofs.BasicOptions.{some_same}
+use Rattle.sfs_base.proofs.BasicOptions.{some_same, some_not_none}
 use Rattle.sfs_base.proofs.BasicTruth.{not_both}
 use Rattle.sfs_image.specs.Super.{Layout}
 use Rattle.journal_one.specs.declared.slot.Filling.{Filling}
@@ -20,12 +20,13 @@ use Rattle.slot_laws.specs.Slots.{open_gate, shut_gate, known_filled, known_plac
 use Rattle.slot_laws.specs.Labels.{owner, fsync_told, SlotFlight, OwnTold, ends_all, opened_flight, own_label, BoxPast, box_label, after_label}
 use Rattle.slot_laws.specs.Rules.{NotedRule, ReservedRule, BeganRule, OpenedRule, SettledRule, ShutRule, IdledRule, LookedRule, EmptyRule, MayLabel}
 use Rattle.slot_laws.specs.Fits.{FlightsFit, TurnsFit, NumbersFit, TimesFit, PastFits}
-use Rattle.slot_laws.proofs.Basics.{at_same, at_other, parts, own_put, own_same}
+use Rattle.slot_laws.proofs.Basics.{at_same, at_other, parts, own_put, own_same, either_true}
+use Rattle.slot_laws.proofs.Came.{knowing_told}
 use Rattle.slot_laws.proofs.Flying.{SlotsKeep, changed_keeps, synced_keep, kept_fit, begun_fit, idled_fit}
 use Rattle.slot_laws.proofs.Landing.{opened_fit, none_waits, owner_waits, settled_fit, looked_fit}
-use Rattle.slot_laws.proofs.Numbers.{SlotsCome, changed_come, synced_come, idled_come, slots_come, numbers_stay, numbers_back, numbers_reserve, numbers_begin}
-use Rattle.slot_laws.proofs.Quiet.{ends_failed, either_true, or_some, counts_calm, cut_not_fail, opened_not_fail, durable_not_fail, quiet_more}
-use Rattle.slot_laws.proofs.Turns.{turns_told, turns_wait, turns_looked, times_more}
+use Rattle.slot_laws.proofs.Numbers.{SlotsCome, known_come, settled_come, synced_come, idled_come, slots_come, numbers_stay, numbers_back, numbers_reserve, numbers_begin}
+use Rattle.slot_laws.proofs.Quiet.{ends_failed, or_some, counts_calm, cut_not_fail, opened_not_fail, durable_not_fail, quiet_more}
+use Rattle.slot_laws.proofs.Turns.{only_own, turns_told, turns_wait, turns_looked, times_more}
 
 -- a core that tells nothing new of itself
 owns_same : (owns : ℕ → OwnTold) (core : ℕ) → with_at owns core (owns core) ≡ owns
@@ -49,9 +50,6 @@ over_of own = own.over
 
 module _ (layout : Layout) (before core : ℕ) (past : BoxPast) (fits : PastFits layout before past) where
   -- the same with what the core tells of itself
-  Flights : OwnTold → Slots → (ℕ → Option Turn) → Type 0
-  Flights own slots waits = FlightsFit layout slots waits (parts flight_of (with_at past.owns core own))
-
   flights_same : (own : OwnTold) (slots : Slots) (waits : ℕ → Option Turn) → own.flight ≡ (past.owns core).flight
       → FlightsFit layout slots waits (parts flight_of past.owns) → FlightsFit layout slots waits (parts flight_of (with_at past.owns core own))
   flights_same own slots waits same = subst (FlightsFit layout slots waits) (sym (own_same flight_of past.owns core own same))
@@ -67,6 +65,14 @@ module _ (layout : Layout) (before core : ℕ) (past : BoxPast) (fits : PastFits
   told_put : (own : OwnTold) (turns : List Turn) (waits : ℕ → Option Turn) → TurnsFit turns waits (with_at (parts told_of past.owns) core own.told)
       → TurnsFit turns waits (parts told_of (with_at past.owns core own))
   told_put own turns waits = subst (TurnsFit turns waits) (sym (own_put told_of past.owns core own))
+
+  -- no flight is where there was none
+  still_rests : (own : OwnTold) → ((past.owns core).flight ≡ None → own.flight ≡ None) → (c : ℕ) → flight_of (past.owns c) ≡ None
+      → flight_of (with_at past.owns core own c) ≡ None
+  still_rests own rest c none = elim (same_or_not c core) [
+    | inl same ↦ ap flight_of (at_same past.owns core own c same) ∙ rest (ap (λ (n : ℕ). flight_of (past.owns n)) (sym same) ∙ none)
+    | inr apart ↦ ap flight_of (at_other past.owns core own c apart) ∙ none
+  ]
 
   -- while none has failed, none is over
   calm_over : past.failed ≡ None → (own : OwnTold) → own.over ≡ (past.owns core).over → {P : Type 0} → (c : ℕ)
@@ -104,16 +110,16 @@ module _ (layout : Layout) (before core : ℕ) (past : BoxPast) (fits : PastFits
       unchanged (label.Filled k piece done) refl
       (fits_kept (changed_slot past.slots k (knowing (known_filled done piece)))
       (changed_keeps past.slots k (knowing (known_filled done piece))
-      (λ work there. record { job = refl; commit = refl; flush = refl; settled = refl; gates = λ aloft opened left read. (left, read) }))
-      (changed_come past.slots k (knowing (known_filled done piece)) (λ work. record { job = refl; commit = refl })))
+      (λ work there. record { told = knowing_told (known_filled done piece) work; gates = λ aloft opened left read. (left, read) }))
+      (known_come past.slots k (known_filled done piece)))
 
   placed : (k n : ℕ) (done : Bool) → PastFits layout before (after_label layout core (label.Placed k n done) past)
   placed k n done =
       unchanged (label.Placed k n done) refl
       (fits_kept (changed_slot past.slots k (knowing (known_placed done n)))
       (changed_keeps past.slots k (knowing (known_placed done n))
-      (λ work there. record { job = refl; commit = refl; flush = refl; settled = refl; gates = λ aloft opened left read. (left, read) }))
-      (changed_come past.slots k (knowing (known_placed done n)) (λ work. record { job = refl; commit = refl })))
+      (λ work there. record { told = knowing_told (known_placed done n) work; gates = λ aloft opened left read. (left, read) }))
+      (known_come past.slots k (known_placed done n)))
 
   synced : PastFits layout before (after_label layout core label.Synced past)
   synced = unchanged label.Synced refl (fits_kept (synced_slots past.slots) (synced_keep past.slots) (synced_come past.slots))
@@ -124,14 +130,11 @@ module _ (layout : Layout) (before core : ℕ) (past : BoxPast) (fits : PastFits
       (fits_kept (changed_slot past.slots k (knowing (known_gated done shut_gate)))
       (changed_keeps past.slots k (knowing (known_gated done shut_gate))
       (λ work there. record {
-        job = refl;
-        commit = refl;
-        flush = refl;
-        settled = refl;
+        told = knowing_told (known_gated done shut_gate) work;
         gates = λ aloft. absurd
             (not_both (ap (λ (w : SlotWork). w.settled) (some_same (sym there ∙ rule.has.there)) ∙ rule.has.aloft) aloft);
       }))
-      (changed_come past.slots k (knowing (known_gated done shut_gate)) (λ work. record { job = refl; commit = refl })))
+      (known_come past.slots k (known_gated done shut_gate)))
 
   idled : (k : ℕ) → IdledRule k past → PastFits layout before (after_label layout core (label.Idled k) past)
   idled k rule = unchanged (label.Idled k) refl (record {
@@ -151,8 +154,7 @@ module _ (layout : Layout) (before core : ℕ) (past : BoxPast) (fits : PastFits
         (owner_waits layout past.slots past.waits
         (parts flight_of past.owns) fits.flights k turn rule.has.work rule.has.there rule.has.aloft rule.has.gate_is rule.is);
     numbers = numbers_stay layout past.slots (parts reserved_of past.owns) (parts flight_of past.owns) past.commits past.stamps fits.numbers
-        (changed_slot past.slots k settled_work) (parts flight_of past.owns)
-        (changed_come past.slots k settled_work (λ work. record { job = refl; commit = refl })) (λ c e. e);
+        (changed_slot past.slots k settled_work) (parts flight_of past.owns) (settled_come past.slots k) (λ c e. e);
     over = λ c e. absurd ((fits.over c e).1 rule.calm);
     times = quiet_more before past.turns past.moment past.failed fits.times turn (λ e. durable_not_fail (sym rule.is.did_is
         ∙ e)) rule.now.rises rule.now.counts;
@@ -162,7 +164,7 @@ module _ (layout : Layout) (before core : ℕ) (past : BoxPast) (fits : PastFits
   noted turn rule = record {
     flights = flights_same own past.slots past.waits refl fits.flights;
     turns = told_put own (past.turns ++ turn ∷ []) past.waits
-        (turns_told past.turns past.waits (parts told_of past.owns) fits.turns core (turn ∷ []) its rule.looked);
+        (turns_told past.turns past.waits (parts told_of past.owns) fits.turns core (turn ∷ []) (only_own core turn rule.own) rule.looked);
     numbers = subst (λ (f : ℕ → Option SlotFlight). NumbersFit layout past.slots (parts reserved_of (with_at past.owns core own)) f past.commits past.stamps)
         (sym (own_same flight_of past.owns core own refl))
         (subst (λ (r : ℕ → Option ℕ). NumbersFit layout past.slots r (parts flight_of past.owns) past.commits past.stamps)
@@ -173,9 +175,6 @@ module _ (layout : Layout) (before core : ℕ) (past : BoxPast) (fits : PastFits
     where
       own : OwnTold
       own = own_label (label.Noted turn) (past.owns core)
-
-      its : (t : Turn) → IsOneOf (turn ∷ []) t → t.core.0 ≡ core
-      its t one = elim one [ inl same ↦ ap (λ (u : Turn). u.core.0) (sym same) ∙ rule.own | inr nothing ↦ absurd nothing ]
 
       over_then : (c : ℕ) → over_of (with_at past.owns core own c) ≡ true
           → (past.waits c ≡ None) × (option_or past.failed (failure_by turn.act turn.faults) ≢ None)
@@ -263,7 +262,7 @@ module _ (layout : Layout) (before core : ℕ) (past : BoxPast) (fits : PastFits
     numbers = subst (λ (r : ℕ → Option ℕ). NumbersFit layout past.slots r (parts flight_of (with_at past.owns core own)) past.commits past.stamps)
         (sym (own_same reserved_of past.owns core own refl))
         (numbers_stay layout past.slots (parts reserved_of past.owns) (parts flight_of past.owns) past.commits past.stamps fits.numbers past.slots
-        (parts flight_of (with_at past.owns core own)) (slots_come past.slots) rests);
+        (parts flight_of (with_at past.owns core own)) (slots_come past.slots) (still_rests own (λ none. refl)));
     over = over_then;
     times = fits.times;
   }
@@ -271,20 +270,11 @@ module _ (layout : Layout) (before core : ℕ) (past : BoxPast) (fits : PastFits
       own : OwnTold
       own = own_label (label.Looked turn) (past.owns core)
 
-      rests : (c : ℕ) → flight_of (past.owns c) ≡ None → flight_of (with_at past.owns core own c) ≡ None
-      rests c none = elim (same_or_not c core) [
-        | inl same ↦ ap flight_of (at_same past.owns core own c same)
-        | inr apart ↦ ap flight_of (at_other past.owns core own c apart) ∙ none
-      ]
-
-      waiting_still : {turn : Turn} → Some turn ≡ None → ⊥
-      waiting_still e = cc
-
       over_then : (c : ℕ) → over_of (with_at past.owns core own c) ≡ true → (with_at past.waits core None c ≡ None) × (past.failed ≢ None)
       over_then c e =
           let had = fits.over c (sym (ap (λ (f : ℕ → Bool). f c) (own_same over_of past.owns core own refl)) ∙ e) in
           elim (same_or_not c core) [
-            | inl same ↦ absurd (waiting_still (sym rule.waits ∙ ap past.waits (sym same) ∙ had.0))
+            | inl same ↦ absurd (some_not_none (sym rule.waits ∙ ap past.waits (sym same) ∙ had.0))
             | inr apart ↦ (at_other past.waits core None c apart ∙ had.0, had.1)
           ]
 
@@ -300,7 +290,7 @@ module _ (layout : Layout) (before core : ℕ) (past : BoxPast) (fits : PastFits
         (sym (own_same reserved_of past.owns core own refl))
         (numbers_stay layout past.slots (parts reserved_of past.owns) (parts flight_of past.owns) past.commits past.stamps fits.numbers later
         (parts flight_of (with_at past.owns core own))
-        (changed_come past.slots k (knowing (known_gated done open_gate)) (λ work. record { job = refl; commit = refl })) rests);
+        (known_come past.slots k (known_gated done open_gate)) (still_rests own (ap (option_map opened_flight))));
     over = λ c e. calm_over rule.calm own refl c e;
     times = subst (λ (l : List Turn). TimesFit before l opened.now past.failed) (append_assoc past.turns (cut ∷ []) (opened ∷ []))
         (quiet_more before (past.turns ++ cut ∷ []) cut.now past.failed
@@ -323,13 +313,6 @@ module _ (layout : Layout) (before core : ℕ) (past : BoxPast) (fits : PastFits
           | inl same ↦ ap (λ (u : Turn). u.core.0) (sym same) ∙ rule.opened_is.core_is
           | inr nothing ↦ absurd nothing
         ]
-      ]
-
-      rests : (c : ℕ) → flight_of (past.owns c) ≡ None → flight_of (with_at past.owns core own c) ≡ None
-      rests c none = elim (same_or_not c core) [
-        | inl same ↦
-            ap flight_of (at_same past.owns core own c same) ∙ ap (option_map opened_flight) (ap (λ (n : ℕ). flight_of (past.owns n)) (sym same) ∙ none)
-        | inr apart ↦ ap flight_of (at_other past.owns core own c apart) ∙ none
       ]
 
   empty_label : (commit : ℕ) (cut opened durable : Turn)

@@ -15,14 +15,6 @@ use Rattle.slot_laws.proofs.Basics.{at_here, at_same, at_other, none_there, mapp
 use Rattle.slot_laws.proofs.Flying.{flies_beside, flight_owner}
 
 module _ (layout : Layout) (slots : Slots) (waits : ℕ → Option Turn) (flights : ℕ → Option SlotFlight) (fits : FlightsFit layout slots waits flights) where
-  -- what flies in a slot flies where another slot is another, and its core is the slot's owner
-  flying_beside : (k : ℕ) (one : Option SlotWork) (core : ℕ) (flight : SlotFlight) → flight.slot ≢ k → IsFlying slots waits core flight
-      → IsFlying (with_at slots k one) waits core flight
-  flying_beside = flies_beside layout slots waits flights fits
-
-  owner_of : (k core : ℕ) (flight : SlotFlight) → flights core ≡ Some flight → flight.slot ≡ k → owner layout k ≡ core
-  owner_of = flight_owner layout slots waits flights fits
-
   -- the gate of a slot is written open
   module _ (core k : ℕ) (done : Bool) (work : SlotWork) (there : slots k ≡ Some work) (aloft : work.settled ≡ false) (own : owner layout k ≡ core) where
     was_aloft : IsAloftBy layout slots waits flights k
@@ -75,8 +67,8 @@ module _ (layout : Layout) (slots : Slots) (waits : ℕ → Option Turn) (flight
               is = elim was.is [
                 | inl flies ↦
                     inl
-                    (flying_beside k (option_map (knowing (known_gated done open_gate)) (slots k)) other flight
-                    (λ same. apart (sym (owner_of k other flight flying same) ∙ own)) flies)
+                    (flies_beside layout slots waits flights fits k (option_map (knowing (known_gated done open_gate)) (slots k)) other flight
+                    (λ same. apart (sym (flight_owner layout slots waits flights fits k other flight flying same) ∙ own)) flies)
                 | inr landed ↦ inr landed
               ];
             }
@@ -99,7 +91,7 @@ module _ (layout : Layout) (slots : Slots) (waits : ℕ → Option Turn) (flight
               flight = was.flight;
               flies_is = at_other flights core (option_map opened_flight (flights core)) (owner layout j) away ∙ was.flies_is;
               slot_is = was.slot_is;
-              flies = flying_beside k (option_map (knowing (known_gated done open_gate)) (slots k)) (owner layout j) was.flight
+              flies = flies_beside layout slots waits flights fits k (option_map (knowing (known_gated done open_gate)) (slots k)) (owner layout j) was.flight
                   (λ same. apart (sym was.slot_is ∙ same)) was.flies;
             }
       ];
@@ -141,7 +133,8 @@ module _ (layout : Layout) (slots : Slots) (waits : ℕ → Option Turn) (flight
     settled_beside : (other : ℕ) (flight : SlotFlight) → other ≢ owner layout k → flights other ≡ Some flight → IsFlying slots waits other flight
         → IsFlying (changed_slot slots k settled_work) (with_at waits (owner layout k) (Some turn)) other flight
     settled_beside other flight apart flying flies =
-        let beside = flying_beside k (option_map settled_work (slots k)) other flight (λ same. apart (sym (owner_of k other flight flying same))) flies in
+        let beside = flies_beside layout slots waits flights fits k (option_map settled_work (slots k)) other flight
+        (λ same. apart (sym (flight_owner layout slots waits flights fits k other flight flying same))) flies in
         record {
           work = beside.work;
           there = beside.there;

@@ -1,4 +1,5 @@
 pub mod Basics
+pub mod Came
 pub mod Flying
 pub mod Landing
 pub mod Numbers

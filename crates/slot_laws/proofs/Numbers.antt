@@ -1,5 +1,4 @@
 -- Numbers and commit stamps go on to fit.
-use Rattle.std.specs.Prelude.{option_map}
 use Rattle.std.proofs.Common.{◌≡◌, ◌≢◌, ◌+◌, ◌<◌, ◌≤◌, ◌∙◌, ℕ, Option, Some, None, inl, inr, refl, sym, ap, subst, arith}
 use Rattle.sfs_base.proofs.BasicOptions.{some_same}
 use Rattle.sfs_image.specs.Super.{Layout}
@@ -7,58 +6,39 @@ use Rattle.sfs_image.specs.Settled.{slot_count}
 use Rattle.journal_one.specs.Job.{Job}
 use Rattle.cut_laws.specs.Closure.{Flush}
 use Rattle.merge_laws.proofs.Blocks.{same_or_not}
-use Rattle.slot_laws.specs.Slots.{SlotWork, begun_work, Slots, with_at, changed_slot, synced_slots, knowing, known_synced, place_at}
+use Rattle.slot_laws.specs.Slots.{SlotKnown, SlotWork, settled_work, begun_work, Slots, with_at, changed_slot, synced_slots, knowing, known_synced, place_at}
 use Rattle.slot_laws.specs.Labels.{SlotFlight}
 use Rattle.slot_laws.specs.Fits.{NumbersFit}
-use Rattle.slot_laws.proofs.Basics.{at_same, at_other, none_there, mapped_some}
+use Rattle.slot_laws.proofs.Basics.{at_same, at_other, none_there}
+use Rattle.slot_laws.proofs.Came.{KeepsNumbers, Came, knowing_told, told_itself, same_came, changed_came, synced_came, idled_came}
 
 -- A commit of slots was in the same slot before, with the same job and number.
-pub record CameFrom (slots : Slots) (k : ℕ) (new : SlotWork) : Type 0 where
-  pub work : SlotWork
-  pub there : slots k ≡ Some work
-  pub job : new.job ≡ work.job
-  pub commit : new.commit ≡ work.commit
+abbrev pub CameFrom : Slots → ℕ → SlotWork → Type 0
+CameFrom = Came (λ (k : ℕ). KeepsNumbers)
 
 abbrev pub SlotsCome : Slots → Slots → Type 0
 SlotsCome slots later = (k : ℕ) (new : SlotWork) → later k ≡ Some new → CameFrom slots k new
 
--- Of a commit the job and the number stay.
-pub record KeepsNumbers (work new : SlotWork) : Type 0 where
-  pub job : new.job ≡ work.job
-  pub commit : new.commit ≡ work.commit
+same_numbers : (k : ℕ) (work : SlotWork) → KeepsNumbers work work
+same_numbers k work = (told_itself work).numbers
 
-pub changed_come : (slots : Slots) (k : ℕ) (change : SlotWork → SlotWork) → ((work : SlotWork) → KeepsNumbers work (change work))
-    → SlotsCome slots (changed_slot slots k change)
-changed_come slots k change keeps j new there = elim (same_or_not j k) [
-  | inl same ↦
-      let was = mapped_some change (slots k) new (sym (at_same slots k (option_map change (slots k)) j same) ∙ there) in
-      record {
-        work = was.0;
-        there = ap slots same ∙ was.1;
-        job = ap (λ (w : SlotWork). w.job) (sym was.2) ∙ (keeps was.0).job;
-        commit = ap (λ (w : SlotWork). w.commit) (sym was.2) ∙ (keeps was.0).commit;
-      }
-  | inr apart ↦ record { work = new; there = sym (at_other slots k (option_map change (slots k)) j apart) ∙ there; job = refl; commit = refl }
-]
+-- of one slot's commit something else is known
+pub known_come : (slots : Slots) (k : ℕ) (change : SlotKnown → SlotKnown) → SlotsCome slots (changed_slot slots k (knowing change))
+known_come slots k change =
+    changed_came (λ (j : ℕ). KeepsNumbers) slots same_numbers k (knowing change) (λ work there. (knowing_told change work).numbers)
+
+pub settled_come : (slots : Slots) (k : ℕ) → SlotsCome slots (changed_slot slots k settled_work)
+settled_come slots k =
+    changed_came (λ (j : ℕ). KeepsNumbers) slots same_numbers k settled_work (λ work there. record { job = refl; commit = refl })
 
 pub synced_come : (slots : Slots) → SlotsCome slots (synced_slots slots)
-synced_come slots j new there =
-    let was = mapped_some (knowing known_synced) (slots j) new there in
-    record {
-      work = was.0;
-      there = was.1;
-      job = ap (λ (w : SlotWork). w.job) (sym was.2);
-      commit = ap (λ (w : SlotWork). w.commit) (sym was.2);
-    }
+synced_come slots = synced_came (λ (j : ℕ). KeepsNumbers) slots (λ j work. (knowing_told known_synced work).numbers)
 
 pub idled_come : (slots : Slots) (k : ℕ) → SlotsCome slots (with_at slots k None)
-idled_come slots k j new there = elim (same_or_not j k) [
-  | inl same ↦ none_there (sym (at_same slots k None j same) ∙ there)
-  | inr apart ↦ record { work = new; there = sym (at_other slots k None j apart) ∙ there; job = refl; commit = refl }
-]
+idled_come slots = idled_came (λ (j : ℕ). KeepsNumbers) slots same_numbers
 
 pub slots_come : (slots : Slots) → SlotsCome slots slots
-slots_come slots j new there = record { work = new; there = there; job = refl; commit = refl }
+slots_come slots = same_came (λ (j : ℕ). KeepsNumbers) slots same_numbers
 
 -- nothing is where nothing may be
 nothing_at : {X : Type 0} (o : Option X) → ((x : X) → o ≡ Some x → ⊥) → o ≡ None
@@ -71,25 +51,25 @@ module _ (layout : Layout) (slots : Slots) (reserved : ℕ → Option ℕ) (flig
   pub numbers_stay : (later : Slots) (flying : ℕ → Option SlotFlight) → SlotsCome slots later → ((core : ℕ) → flights core ≡ None → flying core ≡ None)
       → NumbersFit layout later reserved flying commits stamps
   numbers_stay later flying come rest = record {
-    below = λ k new there. let was = come k new there in subst (λ (n : ℕ). n ≤ commits) (sym was.commit) (fits.below k was.work was.there);
-    stamped = λ k new there. let was = come k new there in subst (λ (job : Job). job.stamp ≤ stamps) (sym was.job) (fits.stamped k was.work was.there);
+    below = λ k new there. let was = come k new there in subst (λ (n : ℕ). n ≤ commits) (sym was.stays.commit) (fits.below k was.work was.there);
+    stamped = λ k new there. let was = come k new there in subst (λ (job : Job). job.stamp ≤ stamps) (sym was.stays.job) (fits.stamped k was.work was.there);
     given = fits.given;
     once = fits.once;
     unused = λ core number k new is there.
         let was = come k new there in
-        λ same. fits.unused core number k was.work is was.there (sym was.commit ∙ same);
+        λ same. fits.unused core number k was.work is was.there (sym was.stays.commit ∙ same);
     rests = λ core number is. rest core (fits.rests core number is);
     beyond = λ k above. nothing_at (later k) (λ new there. let was = come k new there in none_there (sym (fits.beyond k above) ∙ was.there));
     numbered = λ j k one other here there same.
         let was = come j one here in
         let had = come k other there in
-        fits.numbered j k was.work had.work was.there had.there (sym was.commit ∙ same ∙ had.commit);
+        fits.numbered j k was.work had.work was.there had.there (sym was.stays.commit ∙ same ∙ had.stays.commit);
     drawn = λ j k one other here there same.
         let was = come j one here in
         let had = come k other there in
         fits.drawn j k was.work had.work was.there had.there
-        (ap (λ (job : Job). job.stamp) (sym was.job) ∙ same ∙ ap (λ (job : Job). job.stamp) had.job);
-    place = λ k new there. let was = come k new there in ap (λ (job : Job). job.place) was.job ∙ fits.place k was.work was.there;
+        (ap (λ (job : Job). job.stamp) (sym was.stays.job) ∙ same ∙ ap (λ (job : Job). job.stamp) had.stays.job);
+    place = λ k new there. let was = come k new there in ap (λ (job : Job). job.place) was.stays.job ∙ fits.place k was.work was.there;
   }
 
   -- a number is given back, or has served
@@ -165,9 +145,6 @@ module _ (layout : Layout) (slots : Slots) (reserved : ℕ → Option ℕ) (flig
   -- a commit begins with a number reserved and the next commit stamp
   module _ (core k : ℕ) (job : Job) (number : ℕ) (flush : Flush) (had : reserved core ≡ Some number) (next : job.stamp ≡ stamps + 1)
       (within : k < slot_count layout) (at : job.place ≡ place_at layout k) where
-    begun_slots : Slots
-    begun_slots = with_at slots k (Some (begun_work job number flush))
-
     before_begun : (j : ℕ) (work : SlotWork) → with_at slots k (Some (begun_work job number flush)) j ≡ Some work → j ≢ k → slots j ≡ Some work
     before_begun j work is apart = sym (at_other slots k (Some (begun_work job number flush)) j apart) ∙ is
 

@@ -1,6 +1,7 @@
 -- Turns that fail no commit.
 use Rattle.std.specs.Option.{option_or}
-use Rattle.std.proofs.Common.{◌≡◌, ◌≢◌, ◌⊎◌, ◌≤◌, ◌∷◌, ◌++◌, ◌||◌, ℕ, List, [], Option, Some, None, inl, inr, refl, sym, subst, Bool, true, false}
+use Rattle.std.proofs.Common.{◌≡◌, ◌≢◌, ◌⊎◌, ◌≤◌, ◌∷◌, ◌++◌, ℕ, List, [], Option, Some, None, inl, inr, refl, sym, subst, true}
+use Rattle.sfs_base.proofs.BasicOptions.{some_not_none}
 use Rattle.sfs_base.proofs.BasicTruth.{false_not_true}
 use Rattle.tree_laws.specs.declared.turns.Turn.{Turn}
 use Rattle.tree_laws.specs.declared.turns.TurnAct.{TurnAct}
@@ -57,14 +58,11 @@ module _ (before : ℕ) (turns : List Turn) (moment : ℕ) (failed : Option ℕ)
       subst (TimesFit before (turns ++ turn ∷ []) turn.now) (or_nothing failed (failure_by turn.act turn.faults) (quiet_act turn.act turn.faults quiet))
       (times_more before turns moment failed fits turn rises right)
 
-some_there : {n : ℕ} → ◌≡◌ {A = Option ℕ} (Some n) None → ⊥
-some_there e = cc
-
 -- a turn that ends all stands behind a failure, or is one
 pub ends_failed : (before faults : ℕ) (a : TurnAct) (failed : Option ℕ) → CountsFaults before faults failed a faults → ends_all a ≡ true
     → option_or failed (failure_by a faults) ≢ None
-ends_failed before faults a (Some n) counts e none = some_there none
-ends_failed before faults act.Fail None counts e none = some_there none
+ends_failed before faults a (Some n) counts e none = some_not_none none
+ends_failed before faults act.Fail None counts e none = some_not_none none
 ends_failed before faults act.Halted None counts e none = absurd counts
 ends_failed before faults act.Granted None counts e none = false_not_true e
 ends_failed before faults act.GivenBack None counts e none = false_not_true e
@@ -72,7 +70,3 @@ ends_failed before faults (act.Short kind need free) None counts e none = false_
 ends_failed before faults act.CutAt None counts e none = false_not_true e
 ends_failed before faults act.Opened None counts e none = false_not_true e
 ends_failed before faults act.Durable None counts e none = false_not_true e
-
-pub either_true : (a b : Bool) → (a || b) ≡ true → (a ≡ true) ⊎ (b ≡ true)
-either_true true b e = inl refl
-either_true false b e = inr e

@@ -13,12 +13,13 @@ use Rattle.stamp_table.specs.declared.event.Event.{Event}
 use Rattle.stamp_table.specs.declared.event.Event.TheVariants.{Called, Told}
 use Rattle.slot_laws.specs.declared.label.Label.{Label}
 use Rattle.slot_laws.specs.declared.label.Label.TheVariants as label
-use Rattle.slot_laws.specs.Slots.{SlotWork, begun_work, knowing, known_synced, known_filled, known_placed, known_gated, settled_work, open_gate, shut_gate, Slots, with_at, with_number, without_number, changed_slot, synced_slots}
+use Rattle.slot_laws.specs.Slots.{SlotKnown, SlotWork, begun_work, knowing, known_synced, known_filled, known_placed, known_gated, settled_work, open_gate, shut_gate, Slots, with_at, with_number, without_number, changed_slot, synced_slots}
 use Rattle.slot_laws.specs.Labels.{BoxPast, first_past, after_label, past_from, fsync_told}
 use Rattle.slot_laws.specs.Rules.{inode_of_nth, HasRecordOf, IsOldestOf, MayLabel, MayFrom, ShutRule}
 use Rattle.slot_laws.specs.Fits.{PastFits}
 use Rattle.slot_laws.specs.Rings.{ShareInode, BeginsApart, BeginApart, is_started, RingsFit, ClosesInOrder, SlotsCloseInOrder, AreInSlots}
-use Rattle.slot_laws.proofs.Basics.{at_same, at_other, none_there, mapped_some}
+use Rattle.slot_laws.proofs.Basics.{at_same, at_other, none_there, either_true}
+use Rattle.slot_laws.proofs.Came.{KeepsTold, Came, knowing_told, told_itself, changed_came, synced_came, idled_came}
 use Rattle.slot_laws.proofs.Labels.{label_fits}
 use Rattle.slot_laws.proofs.Lawful.{first_fits}
 
@@ -30,17 +31,17 @@ module _ {slots : Slots} {j k : ℕ} {one other : SlotWork} {durable too : Bool}
 pub share_back : (one other : Job) → ShareInode one other → ShareInode other one
 share_back one other shares = (shares.2.0, shares.2.1, (shares.0, shares.1, sym shares.2.2))
 
--- A commit was in the same slot before, with the same job, durable or not as it was; and each record that was placed was so, or is the oldest of
--- its inode.
-record CameAs (slots : Slots) (k : ℕ) (new : SlotWork) : Type 0 where
-  work : SlotWork
-  there : slots k ≡ Some work
-  job : new.job ≡ work.job
-  settled : new.settled ≡ work.settled
+-- Of a commit the same is told, durable or not as it was; and each record that was placed was so, or is the oldest of its inode.
+record KeepsMarks (slots : Slots) (k : ℕ) (work new : SlotWork) : Type 0 where
+  told : KeepsTold work new
   marks : (n : ℕ) → is_started new n ≡ true → (is_started work n ≡ true) ⊎ ((work.settled ≡ true) × IsOldestOf slots k work n)
 
-came_itself : (slots : Slots) (k : ℕ) (work : SlotWork) → slots k ≡ Some work → CameAs slots k work
-came_itself slots k work there = record { work = work; there = there; job = refl; settled = refl; marks = λ n started. inl started }
+-- so came a commit of slots
+abbrev CameAs : Slots → ℕ → SlotWork → Type 0
+CameAs slots = Came (KeepsMarks slots) slots
+
+same_marks : (slots : Slots) (k : ℕ) (work : SlotWork) → KeepsMarks slots k work work
+same_marks slots k work = record { told = told_itself work; marks = λ n started. inl started }
 
 rings_move : (slots later : Slots) → RingsFit slots → ((k : ℕ) (new : SlotWork) → later k ≡ Some new → CameAs slots k new) → RingsFit later
 rings_move slots later fits come = record {
@@ -52,7 +53,8 @@ rings_move slots later fits come = record {
       let flying = pair.other_is in
       let was = come j one here in
       let had = come k other there in
-      fits.apart j k was.work had.work (in_slots away was.there had.there (sym was.settled ∙ aloft) (sym had.settled ∙ flying)) (shares_before was had shares);
+      fits.apart j k was.work had.work
+      (in_slots away was.there had.there (sym was.stays.told.settled ∙ aloft) (sym had.stays.told.settled ∙ flying)) (shares_before was had shares);
   later = λ j k one other pair shares.
       let away = pair.away in
       let here = pair.here in
@@ -62,7 +64,7 @@ rings_move slots later fits come = record {
       let was = come j one here in
       let had = come k other there in
       stamps was had
-      (fits.later j k was.work had.work (in_slots away was.there had.there (sym was.settled ∙ durable) (sym had.settled
+      (fits.later j k was.work had.work (in_slots away was.there had.there (sym was.stays.told.settled ∙ durable) (sym had.stays.told.settled
       ∙ flying)) (shares_before was had shares));
   started = λ j k one other pair begun_placing.
       let away = pair.away in
@@ -76,13 +78,13 @@ rings_move slots later fits come = record {
       let shares = begun_placing.shared in
       let was = come j one here in
       let had = come k other there in
-      let shared = subst (λ (i : ℕ). HasRecordOf had.work.job i) (ap (λ (job : Job). inode_of_nth job n) was.job)
-      (subst (λ (job : Job). HasRecordOf job (inode_of_nth one.job n)) had.job shares) in
-      stamps was had (elim (was.marks n mark) [
+      let shared = subst (λ (i : ℕ). HasRecordOf had.work.job i) (ap (λ (job : Job). inode_of_nth job n) was.stays.told.numbers.job)
+      (subst (λ (job : Job). HasRecordOf job (inode_of_nth one.job n)) had.stays.told.numbers.job shares) in
+      stamps was had (elim (was.stays.marks n mark) [
         | inl before ↦
-            fits.started j k was.work had.work (in_slots away was.there had.there (sym was.settled ∙ durable) (sym had.settled ∙ too))
-            (record { n = n; placed = before; within = (subst (λ (job : Job). n < length job.entries) was.job low); shared = shared })
-        | inr oldest ↦ oldest.1 k had.work (λ same. away (sym same)) had.there (sym had.settled ∙ too) shared
+            fits.started j k was.work had.work (in_slots away was.there had.there (sym was.stays.told.settled ∙ durable) (sym had.stays.told.settled ∙ too))
+            (record { n = n; placed = before; within = (subst (λ (job : Job). n < length job.entries) was.stays.told.numbers.job low); shared = shared })
+        | inr oldest ↦ oldest.1 k had.work (λ same. away (sym same)) had.there (sym had.stays.told.settled ∙ too) shared
       ]);
   unplaced = λ k work there aloft n. unplaced_then k work there aloft n (true_or_false (is_started work n));
 }
@@ -90,32 +92,28 @@ rings_move slots later fits come = record {
     shares_before : {j k : ℕ} {one other : SlotWork} (was : CameAs slots j one) (had : CameAs slots k other) → ShareInode one.job other.job
         → ShareInode was.work.job had.work.job
     shares_before {j} {k} {one} {other} was had shares =
-        subst (λ (job : Job). ShareInode job had.work.job) was.job (subst (ShareInode one.job) had.job shares)
+        subst (λ (job : Job). ShareInode job had.work.job) was.stays.told.numbers.job (subst (ShareInode one.job) had.stays.told.numbers.job shares)
 
     stamps : {j k : ℕ} {one other : SlotWork} (was : CameAs slots j one) (had : CameAs slots k other) → was.work.job.stamp < had.work.job.stamp
         → one.job.stamp < other.job.stamp
     stamps {j} {k} {one} {other} was had low =
-        subst (λ (job : Job). job.stamp < other.job.stamp) (sym was.job) (subst (λ (job : Job). was.work.job.stamp < job.stamp) (sym had.job) low)
+        subst (λ (job : Job). job.stamp < other.job.stamp) (sym was.stays.told.numbers.job)
+        (subst (λ (job : Job). was.work.job.stamp < job.stamp) (sym had.stays.told.numbers.job) low)
 
     unplaced_then : (k : ℕ) (work : SlotWork) → later k ≡ Some work → work.settled ≡ false → (n : ℕ)
         → (is_started work n ≡ true) ⊎ (is_started work n ≡ false) → is_started work n ≡ false
     unplaced_then k work there aloft n (inr none) = none
     unplaced_then k work there aloft n (inl mark) =
         let was = come k work there in
-        elim (was.marks n mark) [
-          | inl before ↦ absurd (not_both before (fits.unplaced k was.work was.there (sym was.settled ∙ aloft) n))
-          | inr oldest ↦ absurd (not_both oldest.0 (sym was.settled ∙ aloft))
+        elim (was.stays.marks n mark) [
+          | inl before ↦ absurd (not_both before (fits.unplaced k was.work was.there (sym was.stays.told.settled ∙ aloft) n))
+          | inr oldest ↦ absurd (not_both oldest.0 (sym was.stays.told.settled ∙ aloft))
         ]
 
--- one slot's commit is another, that came so
-changed_as : (slots : Slots) (k : ℕ) (change : SlotWork → SlotWork) → ((work : SlotWork) → slots k ≡ Some work → CameAs slots k (change work)) → (j : ℕ)
-    (new : SlotWork) → changed_slot slots k change j ≡ Some new → CameAs slots j new
-changed_as slots k change came j new there = elim (same_or_not j k) [
-  | inl same ↦
-      let was = mapped_some change (slots k) new (sym (at_same slots k (option_map change (slots k)) j same) ∙ there) in
-      subst (λ (n : ℕ). CameAs slots n new) (sym same) (subst (CameAs slots k) was.2 (came was.0 was.1))
-  | inr apart ↦ came_itself slots j new (sym (at_other slots k (option_map change (slots k)) j apart) ∙ there)
-]
+-- one slot's commit is another, of which so much stays
+changed_as : (slots : Slots) (k : ℕ) (change : SlotWork → SlotWork) → ((work : SlotWork) → slots k ≡ Some work → KeepsMarks slots k work (change work))
+    → (j : ℕ) (new : SlotWork) → changed_slot slots k change j ≡ Some new → CameAs slots j new
+changed_as slots = changed_came (KeepsMarks slots) slots (same_marks slots)
 
 -- what was marked by one mark more, or one less
 marked_with : (marks : ℕ → Bool) (n m : ℕ) → with_number marks n m ≡ true → (m ≡ n) ⊎ (marks m ≡ true)
@@ -128,10 +126,6 @@ marked_with marks n m e = by (nat_eq m n) refl e
 marked_without : (marks : ℕ → Bool) (n m : ℕ) → without_number marks n m ≡ true → marks m ≡ true
 marked_without marks n m e = and_second (not (nat_eq m n)) (marks m) e
 
-either : (a b : Bool) → (a || b) ≡ true → (a ≡ true) ⊎ (b ≡ true)
-either true b e = inl refl
-either false b e = inr e
-
 first_or : (a b : Bool) → a ≡ true → (a || b) ≡ true
 first_or a b e = ap (λ (c : Bool). c || b) e
 
@@ -139,14 +133,11 @@ second_or : (a b : Bool) → b ≡ true → (a || b) ≡ true
 second_or a b e = ap (λ (c : Bool). a || c) e ∙ or_true a
 
 -- a record placed in a slot is the oldest of its inode, or was placed before
-placed_as : (slots : Slots) (k n : ℕ) (done : Bool) (work : SlotWork) → slots k ≡ Some work → work.settled ≡ true → IsOldestOf slots k work n
-    → CameAs slots k (knowing (known_placed done n) work)
-placed_as slots k n done work there durable oldest = record {
-  work = work;
-  there = there;
-  job = refl;
-  settled = refl;
-  marks = λ m mark. elim (either (without_number work.known.table_left n m) _ mark) [
+placed_as : (slots : Slots) (k n : ℕ) (done : Bool) (work : SlotWork) → work.settled ≡ true → IsOldestOf slots k work n
+    → KeepsMarks slots k work (knowing (known_placed done n) work)
+placed_as slots k n done work durable oldest = record {
+  told = knowing_told (known_placed done n) work;
+  marks = λ m mark. elim (either_true (without_number work.known.table_left n m) _ mark) [
     | inl left ↦ inl (first_or (work.known.table_left m) (work.known.table_read m) (marked_without work.known.table_left n m left))
     | inr read ↦ by done m read
   ];
@@ -160,25 +151,14 @@ placed_as slots k n done work there durable oldest = record {
     ]
     by false m read = inl (second_or (work.known.table_left m) (work.known.table_read m) (marked_without work.known.table_read n m read))
 
-synced_as : (slots : Slots) (k : ℕ) (new : SlotWork) → synced_slots slots k ≡ Some new → CameAs slots k new
-synced_as slots k new there =
-    let was = mapped_some (knowing known_synced) (slots k) new there in
-    subst (CameAs slots k) was.2 (record {
-      work = was.0;
-      there = was.1;
-      job = refl;
-      settled = refl;
-      marks = λ n mark. elim (either (was.0.known.table_read n) (was.0.known.table_read n) mark) [
-        | inl read ↦ inl (second_or (was.0.known.table_left n) (was.0.known.table_read n) read)
-        | inr read ↦ inl (second_or (was.0.known.table_left n) (was.0.known.table_read n) read)
-      ];
-    })
-
-idled_as : (slots : Slots) (k j : ℕ) (new : SlotWork) → with_at slots k None j ≡ Some new → CameAs slots j new
-idled_as slots k j new there = elim (same_or_not j k) [
-  | inl same ↦ none_there (sym (at_same slots k None j same) ∙ there)
-  | inr apart ↦ came_itself slots j new (sym (at_other slots k None j apart) ∙ there)
-]
+synced_as : (slots : Slots) (k : ℕ) (work : SlotWork) → KeepsMarks slots k work (knowing known_synced work)
+synced_as slots k work = record {
+  told = knowing_told known_synced work;
+  marks = λ n mark. elim (either_true (work.known.table_read n) (work.known.table_read n) mark) [
+    | inl read ↦ inl (second_or (work.known.table_left n) (work.known.table_read n) read)
+    | inr read ↦ inl (second_or (work.known.table_left n) (work.known.table_read n) read)
+  ];
+}
 
 -- a commit begins in an idle slot, with the greatest stamp, apart from the others that are not durable
 begun_fits : (slots : Slots) (k : ℕ) (job : Job) (commit : ℕ) (flush : Flush) → RingsFit slots
@@ -243,6 +223,15 @@ begun_fits slots k job commit flush fits greatest apart_begun = record {
     begun : (j : ℕ) (work : SlotWork) → with_at slots k (Some (begun_work job commit flush)) j ≡ Some work → j ≡ k → begun_work job commit flush ≡ work
     begun j work is same = some_same (sym (at_same slots k (Some (begun_work job commit flush)) j same) ∙ is)
 
+-- of a slot whose commit is durable from now on
+pub before_settled : (slots : Slots) (k j : ℕ) (other : SlotWork) → changed_slot slots k settled_work j ≡ Some other → j ≢ k → slots j ≡ Some other
+before_settled slots k j other is apart = sym (at_other slots k (option_map settled_work (slots k)) j apart) ∙ is
+
+pub is_settled : (slots : Slots) (k : ℕ) (work : SlotWork) → slots k ≡ Some work → (j : ℕ) (other : SlotWork)
+    → changed_slot slots k settled_work j ≡ Some other → j ≡ k → settled_work work ≡ other
+is_settled slots k work there j other is same =
+    some_same (sym (at_same slots k (option_map settled_work (slots k)) j same ∙ ap (option_map settled_work) there) ∙ is)
+
 -- a commit is durable from now on
 settled_fits : (slots : Slots) (k : ℕ) (work : SlotWork) → RingsFit slots → slots k ≡ Some work → work.settled ≡ false
     → RingsFit (changed_slot slots k settled_work)
@@ -255,7 +244,7 @@ settled_fits slots k work fits there aloft = record {
       let too = pair.other_is in
       let off_j = off j one here flying in
       let off_i = off i other at too in
-      fits.apart j i one other (in_slots away (before j one here off_j) (before i other at off_i) flying too) shares;
+      fits.apart j i one other (in_slots away (before_settled slots k j one here off_j) (before_settled slots k i other at off_i) flying too) shares;
   later = λ j i one other pair shares.
       let away = pair.away in
       let here = pair.here in
@@ -266,9 +255,10 @@ settled_fits slots k work fits there aloft = record {
       elim (same_or_not j k) [
         | inl at_j ↦
             absurd
-            (fits.apart k i work other (in_slots (λ same. out (sym same)) there (before i other at out) aloft flying)
-            (subst (λ (w : SlotWork). ShareInode w.job other.job) (sym (settled_is j one here at_j)) shares))
-        | inr away_j ↦ fits.later j i one other (in_slots away (before j one here away_j) (before i other at out) durable flying) shares
+            (fits.apart k i work other (in_slots (λ same. out (sym same)) there (before_settled slots k i other at out) aloft flying)
+            (subst (λ (w : SlotWork). ShareInode w.job other.job) (sym (is_settled slots k work there j one here at_j)) shares))
+        | inr away_j ↦ fits.later j i one other
+            (in_slots away (before_settled slots k j one here away_j) (before_settled slots k i other at out) durable flying) shares
       ];
   started = λ j i one other pair begun_placing.
       let away = pair.away in
@@ -282,36 +272,32 @@ settled_fits slots k work fits there aloft = record {
       let shares = begun_placing.shared in elim (same_or_not j k) [
         | inl at_j ↦
             absurd
-            (not_both (subst (λ (w : SlotWork). is_started w n ≡ true) (sym (settled_is j one here at_j)) mark) (fits.unplaced k work there aloft n))
+            (not_both (subst (λ (w : SlotWork). is_started w n ≡ true) (sym (is_settled slots k work there j one here at_j)) mark)
+            (fits.unplaced k work there aloft n))
         | inr away_j ↦ elim (same_or_not i k) [
           | inl at_i ↦
-              subst (λ (w : SlotWork). one.job.stamp < w.job.stamp) (settled_is i other at at_i)
-              (fits.later j k one work (in_slots away_j (before j one here away_j) there durable aloft)
-              (n, low, subst (λ (w : SlotWork). HasRecordOf w.job (inode_of_nth one.job n)) (sym (settled_is i other at at_i)) shares))
-          | inr away_i ↦ fits.started j i one other (in_slots away (before j one here away_j) (before i other at away_i) durable too)
+              subst (λ (w : SlotWork). one.job.stamp < w.job.stamp) (is_settled slots k work there i other at at_i)
+              (fits.later j k one work (in_slots away_j (before_settled slots k j one here away_j) there durable aloft)
+              (n, low, subst (λ (w : SlotWork). HasRecordOf w.job (inode_of_nth one.job n)) (sym (is_settled slots k work there i other at at_i)) shares))
+          | inr away_i ↦ fits.started j i one other
+              (in_slots away (before_settled slots k j one here away_j) (before_settled slots k i other at away_i) durable too)
               (record { n = n; placed = mark; within = low; shared = shares })
         ]
       ];
   unplaced = λ j other at flying n.
       let out = off j other at flying in
-      fits.unplaced j other (before j other at out) flying n;
+      fits.unplaced j other (before_settled slots k j other at out) flying n;
 }
   where
-    before : (j : ℕ) (other : SlotWork) → changed_slot slots k settled_work j ≡ Some other → j ≢ k → slots j ≡ Some other
-    before j other is apart = sym (at_other slots k (option_map settled_work (slots k)) j apart) ∙ is
-
-    settled_is : (j : ℕ) (other : SlotWork) → changed_slot slots k settled_work j ≡ Some other → j ≡ k → settled_work work ≡ other
-    settled_is j other is same =
-        some_same (sym (at_same slots k (option_map settled_work (slots k)) j same ∙ ap (option_map settled_work) there) ∙ is)
-
     off : (j : ℕ) (other : SlotWork) → changed_slot slots k settled_work j ≡ Some other → other.settled ≡ false → j ≢ k
-    off j other is flying same = not_both (ap (λ (w : SlotWork). w.settled) (sym (settled_is j other is same))) flying
+    off j other is flying same = not_both (ap (λ (w : SlotWork). w.settled) (sym (is_settled slots k work there j other is same))) flying
 
 -- what is known of the pieces that fill a slot, or of its gate, tells nothing of records
-kept_as : (slots : Slots) (k : ℕ) (work new : SlotWork) → slots k ≡ Some work → new.job ≡ work.job → new.settled ≡ work.settled
-    → ((n : ℕ) → is_started new n ≡ true → is_started work n ≡ true) → CameAs slots k new
-kept_as slots k work new there job settled marks =
-    record { work = work; there = there; job = job; settled = settled; marks = λ n mark. inl (marks n mark) }
+marks_as : (slots : Slots) (k : ℕ) (change : SlotKnown → SlotKnown)
+    → ((work : SlotWork) (n : ℕ) → is_started (knowing change work) n ≡ true → is_started work n ≡ true) → (j : ℕ) (new : SlotWork)
+    → changed_slot slots k (knowing change) j ≡ Some new → CameAs slots j new
+marks_as slots k change marks =
+    changed_as slots k (knowing change) (λ work there. record { told = knowing_told change work; marks = λ n mark. inl (marks work n mark) })
 
 module _ (layout : Layout) (before : ℕ) where
   -- each label that may be told, where a commit begins apart, leaves what fits
@@ -327,13 +313,13 @@ module _ (layout : Layout) (before : ℕ) where
       (λ j other there. let low = all.numbers.stamped j other there in let next = rule.stamp in omega (arith, low, next)) apart
   rings_label core teller past all fits (label.Filled k piece done) rule apart =
       rings_move past.slots (changed_slot past.slots k (knowing (known_filled done piece))) fits
-      (changed_as past.slots k (knowing (known_filled done piece))
-      (λ work there. kept_as past.slots k work (knowing (known_filled done piece) work) there refl refl (λ n mark. mark)))
-  rings_label core teller past all fits label.Synced rule apart = rings_move past.slots (synced_slots past.slots) fits (synced_as past.slots)
+      (marks_as past.slots k (known_filled done piece) (λ work n mark. mark))
+  rings_label core teller past all fits label.Synced rule apart =
+      rings_move past.slots (synced_slots past.slots) fits
+      (synced_came (KeepsMarks past.slots) past.slots (synced_as past.slots))
   rings_label core teller past all fits (label.Opened k done cut opened) rule apart =
       rings_move past.slots (changed_slot past.slots k (knowing (known_gated done open_gate))) fits
-      (changed_as past.slots k (knowing (known_gated done open_gate))
-      (λ work there. kept_as past.slots k work (knowing (known_gated done open_gate) work) there refl refl (λ n mark. mark)))
+      (marks_as past.slots k (known_gated done open_gate) (λ work n mark. mark))
   rings_label core teller past all fits (label.Settled k turn) rule apart =
       settled_fits past.slots k rule.has.work fits rule.has.there rule.has.aloft
   rings_label core teller past all fits (label.Looked turn) rule apart = fits
@@ -342,14 +328,14 @@ module _ (layout : Layout) (before : ℕ) where
       (changed_as past.slots k (knowing (known_placed done n))
       (λ work there.
       let same = some_same (sym rule.has.there ∙ there) in
-      placed_as past.slots k n done work there (ap (λ (w : SlotWork). w.settled) (sym same) ∙ rule.has.aloft)
+      placed_as past.slots k n done work (ap (λ (w : SlotWork). w.settled) (sym same) ∙ rule.has.aloft)
       (subst (λ (w : SlotWork). IsOldestOf past.slots k w n) same rule.oldest)))
   rings_label core teller past all fits (label.Shut k done) rule apart =
       rings_move past.slots (changed_slot past.slots k (knowing (known_gated done shut_gate))) fits
-      (changed_as past.slots k (knowing (known_gated done shut_gate))
-      (λ work there. kept_as past.slots k work (knowing (known_gated done shut_gate) work) there refl refl (λ n mark. mark)))
+      (marks_as past.slots k (known_gated done shut_gate) (λ work n mark. mark))
   rings_label core teller past all fits (label.Idled k) rule apart =
-      rings_move past.slots (with_at past.slots k None) fits (idled_as past.slots k)
+      rings_move past.slots (with_at past.slots k None) fits
+      (idled_came (KeepsMarks past.slots) past.slots (same_marks past.slots) k)
   rings_label core teller past all fits (label.Empty commit cut opened durable) rule apart = fits
 
   -- where a gate is written shut, all records of its commit were placed

@@ -34,6 +34,10 @@ others_more core other turns more own apart =
     (λ turn one. not_same turn.core.0 other (λ same. apart (sym same ∙ own turn one))))
     ∙ append-nil (turns_of_core other turns)
 
+-- of one turn that is a core's each is the core's
+pub only_own : (core : ℕ) (turn : Turn) → turn.core.0 ≡ core → (t : Turn) → IsOneOf (turn ∷ []) t → t.core.0 ≡ core
+only_own core turn own t one = elim one [ inl same ↦ ap (λ (u : Turn). u.core.0) (sym same) ∙ own | inr nothing ↦ absurd nothing ]
+
 module _ (turns : List Turn) (waits : ℕ → Option Turn) (told : ℕ → List Turn) (fits : TurnsFit turns waits told) where
   -- a core tells turns of its own, while none waits for it
   pub turns_told : (core : ℕ) (more : List Turn) → ((turn : Turn) → IsOneOf more turn → turn.core.0 ≡ core) → waits core ≡ None
@@ -57,16 +61,13 @@ module _ (turns : List Turn) (waits : ℕ → Option Turn) (told : ℕ → List 
   turns_wait core turn own none other = elim (same_or_not other core) [
     | inl same ↦
         subst (λ (c : ℕ). turns_of_core c (turns ++ turn ∷ []) ≡ told c ++ waiting_turns (with_at waits core (Some turn) c)) (sym same)
-        (own_more core turns (turn ∷ []) its
+        (own_more core turns (turn ∷ []) (only_own core turn own)
         ∙ ap (λ (l : List Turn). l ++ turn ∷ []) (fits core ∙ ap (λ (o : Option Turn). told core ++ waiting_turns o) none ∙ append-nil (told core))
         ∙ ap (λ (o : Option Turn). told core ++ waiting_turns o) (sym (at_here waits core (Some turn))))
     | inr apart ↦
-        others_more core other turns (turn ∷ []) its apart ∙ fits other
+        others_more core other turns (turn ∷ []) (only_own core turn own) apart ∙ fits other
         ∙ ap (λ (o : Option Turn). told other ++ waiting_turns o) (sym (at_other waits core (Some turn) other apart))
   ]
-    where
-      its : (t : Turn) → IsOneOf (turn ∷ []) t → t.core.0 ≡ core
-      its t one = elim one [ inl same ↦ ap (λ (u : Turn). u.core.0) (sym same) ∙ own | inr nothing ↦ absurd nothing ]
 
   -- and is looked at
   pub turns_looked : (core : ℕ) (turn : Turn) → waits core ≡ Some turn

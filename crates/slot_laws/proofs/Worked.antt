@@ -262,7 +262,7 @@ module _ (own other : Filling) (own_is : BeginsIn own 0 1) (other_is : BeginsIn 
           let same = some_same (sym (at_same (own_begun own 0 1).slots 2 (Some (begun_work other.job 2 (record { node = 0; stamp = 1 }))) k second)
           ∙ was.there) in
           let drawn : work.job.stamp ≡ 2 =
-          ap (λ (job : Job). job.stamp) was.job ∙ ap (λ (w : SlotWork). w.job.stamp) (sym same) ∙ other_is.stamp in
+          ap (λ (job : Job). job.stamp) was.stays.job ∙ ap (λ (w : SlotWork). w.job.stamp) (sym same) ∙ other_is.stamp in
           let first = own_is.stamp in
           omega (arith, drawn, first)
       by (inr away) =
