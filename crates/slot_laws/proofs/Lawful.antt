@@ -10,7 +10,7 @@ use Rattle.tree_laws.specs.declared.turns.TurnAct.TheVariants as act
 use Rattle.cut_laws.specs.Rules.{IsOneOf}
 use Rattle.cut_laws.proofs.Basics.{below_or}
 use Rattle.turn_laws.specs.Books.{CountsFaults}
-use Rattle.turn_laws.proofs.Behind.{stays_in}
+use Rattle.cut_laws.proofs.Listed.{to_filter}
 use Rattle.merge_laws.specs.Pens.{failed_in, turns_of_core}
 use Rattle.merge_laws.proofs.Blocks.{same_or_not}
 use Rattle.merge_laws.proofs.Lists.{among_at, nothing_there}
@@ -144,6 +144,6 @@ labels_merge_pens layout before log moment pens may all have = record {
         ∙ ap (λ (l : List (Event Label)). (own_from l nothing_told).told) silent in
         absurd
         (subst (λ (l : List Turn). IsOneOf l turn) none
-        (stays_in (λ (t : Turn). nat_eq t.core.0 turn.core.0) (past_from layout log (first_past moment)).turns turn among (same_number turn.core.0)))
+        (to_filter (λ (t : Turn). nat_eq t.core.0 turn.core.0) (past_from layout log (first_past moment)).turns turn among (same_number turn.core.0)))
   ];
 }
