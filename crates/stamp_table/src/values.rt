@@ -7,12 +7,31 @@ ghost use Rattle.stamp_table.specs.Table.{cell_at, cells_before, with_value, wit
 use crate::{Core, HeldCell};
 use std::mem;
 
-// How many cells come before the one at a place. Their places ascend, and it is found by halves.
+// Up to how many cells one is found by looking at each, which then takes less time than halves.
+const FEW: usize = 16;
+
+// How many cells come before the one at a place, found by looking at each.
+fn find_few<C>(cells: &[HeldCell<C>], place: usize) -> usize
+    requires { IsSome (cell_at place cells.now) }
+    ensures { result ≡ cells_before place cells.now }
+{
+    for at in 0..cells.len() {
+        if cells[at].place == place {
+            return at;
+        }
+    }
+    unreachable!()
+}
+
+// How many cells come before the one at a place. Their places ascend, and among many it is found by halves.
 fn find_index<C>(cells: &[HeldCell<C>], place: usize) -> usize
     requires found { IsSome (cell_at place cells.now) }
     requires ascend { AscendBy place_in cells.now }
     ensures { result ≡ cells_before place cells.now }
 {
+    if cells.len() <= FEW {
+        return find_few(cells, place);
+    }
     let Ok(at) = cells.binary_search_by_key(&place, |cell| cell.place) else {
         unreachable!()
     };
