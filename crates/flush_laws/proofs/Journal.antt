@@ -206,8 +206,11 @@ module _ (volume : Volume) (fsync : OneFsync) (job : Job) (is : IsPlannedFsync (
       → map entry_of_part (map (λ (one : TxRecord). record { inode = one.inode; part = next one.inode }) those) ≡ map record_entry those
   records_are [] all = refl
   records_are (one ∷ those) all =
-      λ j. record { inode = one.inode; bytes = plans_write_parts volume.num fsync.nodes old new image fsync.plan fsync.grant volume.store volume.parts over
-          one (all one (first_in one those)) j }
+      λ j. record {
+        inode = one.inode;
+        bytes = plans_write_parts volume.num fsync.nodes old new image fsync.plan fsync.grant volume.store volume.parts over
+            one (all one (first_in one those)) j;
+      }
       ∷ records_are those (λ other there. all other (further_in one other those there)) j
 
   -- what holds of the part of each record holds of each part that is given
@@ -232,10 +235,10 @@ module _ (volume : Volume) (fsync : OneFsync) (job : Job) (is : IsPlannedFsync (
     free = λ i place k low below some. elim (cases_lt place PLACES) [
       | inl within ↦
           subst (λ (fresh : List FreshBlock). k < length fresh → (slice_index_or fresh k no_block).block ≢ pointer_at (volume.parts i) place)
-              (sym writes.fresh)
+          (sym writes.fresh)
           (λ few. apart.free i place k low within few) below
       | inr past ↦ absurd (some (ap (λ p. pointer_at p place) (sym (is.ready.sound.gathered i low)) ∙ none_past_places volume.store (volume.parts i).raw
-      place past))
+          place past))
     ];
   }
     where
@@ -252,15 +255,15 @@ module _ (volume : Volume) (fsync : OneFsync) (job : Job) (is : IsPlannedFsync (
       reached : part_of (store_planned volume.store fsync.plan fsync.grant) (volume.parts i).raw ≡ part_of volume.store (volume.parts i).raw
       reached = gather_same volume.store (store_planned volume.store fsync.plan fsync.grant) (volume.parts i).raw
           (λ place some. elim (cases_lt place PLACES) [
-        | inl within ↦
-            let here : pointer_at (part_of volume.store (volume.parts i).raw) place ≡ pointer_at (volume.parts i) place =
-            ap (λ p. pointer_at p place) (is.ready.sound.gathered i low) in
-            ap (store_planned volume.store fsync.plan fsync.grant) here
-            ∙ ap (λ (o : Option FreshBlock). option_map_or (λ (one : FreshBlock). one.bytes) o (volume.store (pointer_at (volume.parts i) place)))
-            (held_is_old volume.num fsync.nodes old new image fsync.plan fsync.grant volume.store volume.parts over i place low within)
-            ∙ ap volume.store (sym here)
-        | inr past ↦ absurd (some (none_past_places volume.store (volume.parts i).raw place past))
-      ])
+            | inl within ↦
+                let here : pointer_at (part_of volume.store (volume.parts i).raw) place ≡ pointer_at (volume.parts i) place =
+                ap (λ p. pointer_at p place) (is.ready.sound.gathered i low) in
+                ap (store_planned volume.store fsync.plan fsync.grant) here
+                ∙ ap (λ (o : Option FreshBlock). option_map_or (λ (one : FreshBlock). one.bytes) o (volume.store (pointer_at (volume.parts i) place)))
+                (held_is_old volume.num fsync.nodes old new image fsync.plan fsync.grant volume.store volume.parts over i place low within)
+                ∙ ap volume.store (sym here)
+            | inr past ↦ absurd (some (none_past_places volume.store (volume.parts i).raw place past))
+          ])
 
       stand_fresh : StandIn (store_planned volume.store fsync.plan fsync.grant) (blocks_planned fsync.plan fsync.grant)
       stand_fresh = λ k d low.
@@ -341,7 +344,7 @@ module _ (volume : Volume) (fsync : OneFsync) (job : Job) (is : IsPlannedFsync (
           let kept = is.keeps.each entry (is.plans.old.own entry there_old).0 in
           let same_node : node.of.begun.node ≡ entry.node.0 =
           sym (one_node volume.num fsync.nodes old new image fsync.plan fsync.grant volume.store volume.parts over one there node).seat_is
-              ∙ ap (λ (s : Seated). s.node) (sym is_seat)
+          ∙ ap (λ (s : Seated). s.node) (sym is_seat)
           ∙ planned_node change.changes (begun_old entry) (begun_old entry).kind in
           let number : entry.old.number ≡ one.number =
           seen_old volume.num fsync.nodes old new image fsync.plan fsync.grant volume.store volume.parts over one there node entry.old.number
@@ -381,13 +384,13 @@ module _ (volume : Volume) (fsync : OneFsync) (job : Job) (is : IsPlannedFsync (
       by : (o : Option Built) → find (λ (one : Built). nat_eq one.number i) (nodes_with_grant change fsync.grant) ≡ o → (next i).raw ≡ (volume.parts i).raw
       by None e =
           ap (λ (o : Option Built). (option_map_or (part_made volume.store fsync.plan fsync.grant) o (rest (is_among (map entry_number change.gone) i))).raw)
-              e
+          e
           ∙ by_gone (is_among (map entry_number change.gone) i) refl
       by (Some one) e =
           let there = found_is_in (λ (one : Built). nat_eq one.number i) (nodes_with_grant change fsync.grant) one e in
           let number = eqb-true one.number i (found_passes (λ (one : Built). nat_eq one.number i) (nodes_with_grant change fsync.grant) one e) in
           ap (λ (o : Option Built). (option_map_or (part_made volume.store fsync.plan fsync.grant) o (rest (is_among (map entry_number change.gone) i))).raw)
-              e
+          e
           ∙ elim (cases_Bool (same_inode one.before one.meta)) [
             | inl same ↦ before_is one there same
             | inr other ↦

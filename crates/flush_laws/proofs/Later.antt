@@ -132,12 +132,12 @@ module _ (volume : Volume) (fsync : OneFsync) (is : IsPlannedFsync volume fsync)
       by : (o : Option Built) → find (λ (one : Built). nat_eq one.number i) (nodes_with_grant change fsync.grant) ≡ o → next i ≡ volume.parts i
       by None e =
           ap (λ (o : Option Built). option_map_or (part_made volume.store fsync.plan fsync.grant) o (rest (is_among (map entry_number change.gone) i))) e
-              ∙ ap rest no_gone
+          ∙ ap rest no_gone
       by (Some one) e =
           let there = found_is_in (λ (one : Built). nat_eq one.number i) (nodes_with_grant change fsync.grant) one e in
           let number = eqb-true one.number i (found_passes (λ (one : Built). nat_eq one.number i) (nodes_with_grant change fsync.grant) one e) in
           let built : IsBuiltNode volume.num fsync.nodes old new image fsync.plan fsync.grant over.full one = node_built volume.num fsync.nodes old new image
-              fsync.plan fsync.grant over.full one there in
+          fsync.plan fsync.grant over.full one there in
           let stands_next = next_stands volume fsync is in
           absurd
           (other built.of.begun.node built.of.among
@@ -148,11 +148,11 @@ module _ (volume : Volume) (fsync : OneFsync) (is : IsPlannedFsync volume fsync)
       → one.node ≡ twin.node → one ≡ twin
   built_once one there twin also same =
       let first_built : IsBuiltNode volume.num fsync.nodes old new image fsync.plan fsync.grant over.full one = node_built volume.num fsync.nodes old new
-          image fsync.plan fsync.grant over.full one there in
+      image fsync.plan fsync.grant over.full one there in
       let other_built : IsBuiltNode volume.num fsync.nodes old new image fsync.plan fsync.grant over.full twin = node_built volume.num fsync.nodes old new
-          image fsync.plan fsync.grant over.full twin also in
+      image fsync.plan fsync.grant over.full twin also in
       let places : first_built.m ≡ other_built.m = nodes_once volume.num fsync.nodes old new image fsync.plan fsync.grant over.full.sound.whole first_built.m
-          other_built.m one.node
+      other_built.m one.node
       (node_there change first_built.m first_built.seat first_built.at ∙ ap Some (sym (ap (λ (b : Built). b.node) first_built.is)))
       (node_there change other_built.m other_built.seat other_built.at ∙ ap Some (sym (ap (λ (b : Built). b.node) other_built.is) ∙ sym same)) in
       first_built.is
@@ -193,7 +193,7 @@ module _ (volume : Volume) (fsync : OneFsync) (is : IsPlannedFsync volume fsync)
             let seat = node_seated volume.num fsync.nodes old new image fsync.plan fsync.grant over.full.sound.whole node i has among in
             let built_at = nodes_are_built_by_rank change fsync.grant seat.0 seat.1 seat.2 in
             let one : Built = built_by change.changes (numbers_with change fsync.grant.inodes) (fresh_cut change.seats fsync.grant.blocks seat.0 seat.1)
-                seat.1 in
+            seat.1 in
             let there = there_is_in (nodes_with_grant change fsync.grant) seat.0 one built_at.built in
             (entry_after one, (those.each (entry_after one)).1 (inl (built_is_kept one there)), seat.3)
         | inr aside ↦

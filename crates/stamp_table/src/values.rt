@@ -7,7 +7,7 @@ ghost use Rattle.stamp_table.specs.Table.{cell_at, cells_before, with_value, wit
 use crate::{Core, HeldCell};
 use std::mem;
 
-// Up to how many cells one is found by looking at each, which then takes less time than halves.
+// Up to how many held cells one is found by looking at each.
 const FEW: usize = 16;
 
 // How many cells come before the one at a place, found by looking at each.
