@@ -1,0 +1,5 @@
+pub mod Brings
+pub mod Pairs
+pub mod Midway
+pub mod Walk
+pub mod Laws

@@ -1,0 +1,80 @@
+-- Commits of cores with what they bring, side by side along a record.
+use Rattle.std.specs.Prelude.{◌≡◌, ◌≢◌, ℕ, List, [], ◌∷◌, map, Contains}
+use Rattle.sfs_image.specs.Part.{Part}
+use Rattle.disk_change.specs.Directory.{is_among}
+use Rattle.image_laws.specs.Renamed.{Numbering}
+use Rattle.commit_laws.specs.CommitOfPlan.{numbers_planned}
+use Rattle.commit_laws.specs.PartsMade.{store_planned}
+use Rattle.commit_laws.specs.PartsStand.{part_next}
+use Rattle.cut_laws.specs.Rules.{IsOneOf}
+use Rattle.beside_laws.specs.Commits.{CoreCommit, commit_fsync, IsByItsLook, Share}
+use Rattle.beside_laws.specs.Laws.{KnowsRun, FindsAlways}
+use Rattle.beside_laws.specs.Progress.{Progress, Standing, IsLater}
+use Rattle.flush_laws.specs.Volume.{Volume}
+use Rattle.walk_laws.specs.Brings.{Bringing, Brings}
+
+-- The commit of a core with what it brings.
+pub record Pair : Type 0 where
+  pub commit : CoreCommit
+  pub one : Bringing
+
+-- the commits, and what they bring, by the stamps of their fsyncs
+abbrev pub commit_by : (ℕ → Pair) → ℕ → CoreCommit
+commit_by pairs stamp = (pairs stamp).commit
+
+abbrev pub bringing_by : (ℕ → Pair) → ℕ → Bringing
+bringing_by pairs stamp = (pairs stamp).one
+
+-- the run so far where these commits are done and the disk is that of a volume
+abbrev pub run_with : Volume → List CoreCommit → Progress
+run_with volume done = record { first = volume.first; history = volume.history; done = done; cut = volume.cut; inodes = volume.inodes }
+
+-- A pair is open beside a volume: both are of one fsync and hold the same nodes; the commit is made by its look, knows enough, finds what is so and
+-- is later than those that are done; and what it brings it brings to this volume.
+pub record IsOpenBeside (volume : Volume) (done : List CoreCommit) (pair : Pair) : Type 0 where
+  pub flush : commit_fsync pair.commit ≡ pair.one.flush
+  pub nodes : (node : ℕ) → is_among pair.one.nodes node ≡ pair.commit.holds node
+  pub made : IsByItsLook pair.commit
+  pub knows : KnowsRun (run_with volume done) pair.commit
+  pub finds : FindsAlways volume.first volume.history pair.commit
+  pub later : IsLater done pair.commit
+  pub brings : Brings volume pair.one
+
+-- Two pairs have other numbers, share no node, and no inode and no block that they were granted.
+pub record ArePairsApart (mine theirs : Pair) : Type 0 where
+  pub numbers : theirs.commit.number ≢ mine.commit.number
+  pub nodes : Share mine.commit theirs.commit → ⊥
+  pub inodes : (i : ℕ) → Contains mine.one.grant.inodes i → Contains theirs.one.grant.inodes i → ⊥
+  pub blocks : (block : ℕ) → Contains mine.one.grant.blocks block → Contains theirs.one.grant.blocks block → ⊥
+
+-- What stands beside a volume where the fsyncs with some stamps are done and those with some others are open.
+pub record PairsBeside (pairs : ℕ → Pair) (done open_ones : List ℕ) (volume : Volume) : Type 0 where
+  pub standing : Standing (run_with volume (map (commit_by pairs) done))
+  pub opens : (stamp : ℕ) → IsOneOf open_ones stamp → IsOpenBeside volume (map (commit_by pairs) done) (pairs stamp)
+  pub apart : (stamp other : ℕ) → IsOneOf open_ones stamp → IsOneOf open_ones other → stamp ≢ other → ArePairsApart (pairs stamp) (pairs other)
+
+-- An fsync may be open beside those that are: so is its pair, and it is apart from theirs.
+pub record PairReserves (pairs : ℕ → Pair) (volume : Volume) (done open_ones : List ℕ) (stamp : ℕ) : Type 0 where
+  pub opens : IsOpenBeside volume (map (commit_by pairs) done) (pairs stamp)
+  pub apart : (other : ℕ) → IsOneOf open_ones other → ArePairsApart (pairs stamp) (pairs other)
+
+-- What of a volume is told by those that are done alone: the numbers of its nodes, its blocks and its parts.
+pub record OnDisk : Type 0 where
+  pub num : Numbering
+  pub store : ℕ → List ℕ
+  pub parts : ℕ → Part
+
+abbrev pub on_disk : Volume → OnDisk
+on_disk volume = record { num = volume.num; store = volume.store; parts = volume.parts }
+
+-- the same once something was brought, and once some fsyncs have brought theirs, one after another
+abbrev pub with_brought : Bringing → OnDisk → OnDisk
+with_brought one was = record {
+  num = numbers_planned was.num one.plan one.grant.inodes;
+  store = store_planned was.store one.plan one.grant;
+  parts = part_next was.store was.parts one.plan one.grant;
+}
+
+abbrev pub all_brought : (ℕ → Pair) → List ℕ → OnDisk → OnDisk
+all_brought pairs [] was = was
+all_brought pairs (stamp ∷ done) was = all_brought pairs done (with_brought (bringing_by pairs stamp) was)
