@@ -1,1 +1,3 @@
 pub mod Played
+pub mod Beside
+pub mod Ended

@@ -1,0 +1,149 @@
+-- A commit ends beside others: what stands beside the volume goes on beside the one that it leaves.
+use Rattle.std.proofs.Common.{◌≡◌, ◌≢◌, ◌∷◌, ◌++◌, ◌∙◌, ℕ, Bool, true, false, List, [], map, inl, inr, refl, sym, ap, subst}
+use Rattle.std.proofs.lemmas.List.{map-append}
+use Rattle.cut_laws.specs.Closure.{every_entry, Flush, IsRaised, AreInodesAfter}
+use Rattle.cut_laws.specs.Rules.{IsOneOf}
+use Rattle.disk_change.specs.Directory.{is_among}
+use Rattle.commit_laws.specs.PartsMade.{store_planned}
+use Rattle.beside_laws.specs.Commits.{CoreCommit, Share}
+use Rattle.beside_laws.specs.Laws.{IsReadyToEnd, RaisesTo, IsDoneWith}
+use Rattle.beside_laws.specs.Progress.{Progress, Standing, IsLater}
+use Rattle.beside_laws.proofs.Boxes.{last_or}
+use Rattle.beside_laws.proofs.Raising.{knowing_raise}
+use Rattle.flush_laws.specs.Laws.{IsStoreLeft}
+use Rattle.flush_laws.specs.Volume.{Volume, OneFsync, volume_left}
+use Rattle.mark_laws.specs.Changed.{HasShortFiles}
+use Rattle.volume_laws.specs.Volume.{IsVolumeStanding}
+use Rattle.volume_laws.proofs.Stores.{store_left, commits_stay_standing}
+use Rattle.walk_laws.specs.Brings.{BringingsStay, AreApart, Brings, brought_by}
+use Rattle.walk_laws.specs.Pairs.{Pair, commit_by, bringing_by, run_with, PairsBeside, ArePairsApart, IsOpenBeside, OnDisk, on_disk, with_brought, all_brought}
+
+-- what one more has brought
+pub brought_more : (pairs : ℕ → Pair) (done : List ℕ) (stamp : ℕ) (was : OnDisk)
+    → all_brought pairs (done ++ stamp ∷ []) was ≡ with_brought (bringing_by pairs stamp) (all_brought pairs done was)
+brought_more pairs [] stamp was = refl
+brought_more pairs (first ∷ done) stamp was = brought_more pairs done stamp (with_brought (bringing_by pairs first) was)
+
+-- pairs that are apart bring what is apart
+pub bring_apart : (mine theirs : Pair) → ((node : ℕ) → is_among mine.one.nodes node ≡ mine.commit.holds node)
+    → ((node : ℕ) → is_among theirs.one.nodes node ≡ theirs.commit.holds node) → ArePairsApart mine theirs → AreApart mine.one theirs.one
+bring_apart mine theirs my_nodes their_nodes apart = record {
+  nodes = λ node one. by node one (is_among theirs.one.nodes node) refl;
+  inodes = apart.inodes;
+  blocks = apart.blocks;
+}
+  where
+    by : (node : ℕ) → is_among mine.one.nodes node ≡ true → (b : Bool) → is_among theirs.one.nodes node ≡ b → is_among theirs.one.nodes node ≡ false
+    by node one false e = e
+    by node one true e = absurd (apart.nodes (record { node = node; one = sym (my_nodes node) ∙ one; two = sym (their_nodes node) ∙ e }))
+
+module _ (stay : BringingsStay) (pairs : ℕ → Pair) (volume : Volume) (done opens : List ℕ) (own : ℕ) (among : IsOneOf opens own)
+    (stands : IsVolumeStanding volume) (short : HasShortFiles volume.first) (beside : PairsBeside pairs done opens volume) where
+  abbrev run : Progress
+  run = run_with volume (map (commit_by pairs) done)
+
+  abbrev commit : CoreCommit
+  commit = commit_by pairs own
+
+  its : IsOpenBeside volume (map (commit_by pairs) done) (pairs own)
+  its = beside.opens own among
+
+  -- the fsync that brings it
+  abbrev pub ended_one : OneFsync
+  ended_one = brought_by (bringing_by pairs own) (beside.opens own among).brings
+
+  abbrev blocks : ℕ → List ℕ
+  blocks = store_planned volume.store (bringing_by pairs own).plan (bringing_by pairs own).grant
+
+  -- the volume that it leaves
+  abbrev pub ended : Volume
+  ended = volume_left volume ended_one blocks
+
+  pub left_blocks : IsStoreLeft volume ended_one blocks
+  left_blocks = store_left volume ended_one (beside.opens own among).brings.planned
+
+  pub raises : RaisesTo run commit ended.cut ended.inodes
+  raises = record {
+    raises =
+        subst (λ (f : Flush). IsRaised volume.first volume.history every_entry volume.cut volume.inodes f ended.cut) (sym its.flush)
+        (beside.opens own among).brings.planned.raises;
+    inodes_after =
+        subst (λ (f : Flush). AreInodesAfter volume.first volume.history every_entry volume.cut volume.inodes f ended.cut ended.inodes) (sym its.flush)
+        (beside.opens own among).brings.planned.inodes_after;
+  }
+
+  is_ready : IsReadyToEnd run commit
+  is_ready = record {
+    made = its.made;
+    knows = its.knows;
+    finds = its.finds (map (commit_by pairs) done) volume.cut volume.inodes beside.standing its.knows;
+    later = its.later;
+  }
+
+  is_done : IsDoneWith run commit ended.cut ended.inodes
+  is_done =
+      (knowing_raise run commit stands.between.history_is.sound stands.between.history_is.legal beside.standing is_ready).done ended.cut ended.inodes raises
+
+  done_more : map (commit_by pairs) (done ++ own ∷ []) ≡ map (commit_by pairs) done ++ commit ∷ []
+  done_more = map-append (commit_by pairs) done (own ∷ [])
+
+  later_still : (other : ℕ) → IsOneOf opens other → other ≢ own → IsLater (map (commit_by pairs) done ++ commit ∷ []) (commit_by pairs other)
+  later_still other one differ = record {
+    other_number = λ third there same. elim (last_or (map (commit_by pairs) done) commit third there) [
+      | inl before ↦ was.other_number third before same
+      | inr last ↦ apart.numbers (sym (ap (λ (c : CoreCommit). c.number) last) ∙ same)
+    ];
+    greater = λ third there share. elim (last_or (map (commit_by pairs) done) commit third there) [
+      | inl before ↦ was.greater third before share
+      | inr last ↦ absurd (apart.nodes (subst (Share (commit_by pairs other)) last share))
+    ];
+  }
+    where
+      was : IsLater (map (commit_by pairs) done) (commit_by pairs other)
+      was = (beside.opens other one).later
+
+      apart : ArePairsApart (pairs other) (pairs own)
+      apart = beside.apart other own one among differ
+
+  stays_open : (other : ℕ) → IsOneOf opens other → other ≢ own → IsOpenBeside ended (map (commit_by pairs) (done ++ own ∷ [])) (pairs other)
+  stays_open other one differ =
+      subst (λ (l : List CoreCommit). IsOpenBeside ended l (pairs other)) (sym done_more) (record {
+        flush = was.flush;
+        nodes = was.nodes;
+        made = was.made;
+        knows =
+            is_done.others (commit_by pairs other) was.made (λ share. apart.nodes (record { node = share.node; one = share.two; two = share.one }))
+            was.knows;
+        finds = was.finds;
+        later = later_still other one differ;
+        brings = stay volume (bringing_by pairs other) (bringing_by pairs own) blocks (record {
+          stands = stands;
+          short = short;
+          stays = was.brings;
+          ends = (beside.opens own among).brings;
+          apart = bring_apart (pairs other) (pairs own) was.nodes its.nodes apart;
+          left = left_blocks;
+        });
+      })
+    where
+      was : IsOpenBeside volume (map (commit_by pairs) done) (pairs other)
+      was = beside.opens other one
+
+      apart : ArePairsApart (pairs other) (pairs own)
+      apart = beside.apart other own one among differ
+
+  -- what stands beside the volume that it leaves
+  pub ended_beside : (rest : List ℕ) → ((stamp : ℕ) → IsOneOf rest stamp → IsOneOf opens stamp × (stamp ≢ own))
+      → PairsBeside pairs (done ++ own ∷ []) rest ended
+  ended_beside rest within = record {
+    standing = subst (λ (l : List CoreCommit). Standing (run_with ended l)) (sym done_more) is_done.stands;
+    opens = λ stamp one. stays_open stamp (within stamp one).0 (within stamp one).1;
+    apart = λ stamp other one two. beside.apart stamp other (within stamp one).0 (within other two).0;
+  }
+
+  pub ended_stands : IsVolumeStanding ended
+  ended_stands =
+      commits_stay_standing volume ended_one blocks stands (beside.opens own among).brings.planned (beside.opens own among).brings.comes left_blocks
+
+  pub ended_disk : (was : OnDisk) → on_disk volume ≡ all_brought pairs done was → on_disk ended ≡ all_brought pairs (done ++ own ∷ []) was
+  ended_disk was e = ap (with_brought (bringing_by pairs own)) e ∙ sym (brought_more pairs done own was)
