@@ -1,3 +1,5 @@
 pub mod Played
 pub mod Beside
 pub mod Ended
+pub mod Plans
+pub mod Machine
