@@ -3,3 +3,4 @@ pub mod Beside
 pub mod Ended
 pub mod Plans
 pub mod Machine
+pub mod Grants
