@@ -4,3 +4,4 @@ pub mod Ended
 pub mod Plans
 pub mod Machine
 pub mod Grants
+pub mod Calm

@@ -28,13 +28,6 @@ module _ (midway : Midway) (planning : Planning) (turn : Turn) (plans : PlansTur
     counted = sym (needs_are_the_books midway.volume [] planning plans.has plans.touched);
   }
 
-  pub reserves_there : FitsFree (amount_planned planning.plan) (free_in (books_granted midway.volume midway.grants))
-      → Reserves (books_beside midway) turn (books_beside (record midway {
-        grants = midway.grants ++ grant_for_turn (books_beside midway) turn (amount_planned planning.plan) ∷ [];
-        waiting = midway.waiting ++ waiting_for turn ∷ [];
-      }))
-  reserves_there fits = record { need = amount_planned planning.plan; needs = need_there; fits = fits; later_is = refl }
-
   pub lacks_there : (kind : SpaceKind) (asked have : ℕ)
       → IsShortOf (amount_planned planning.plan) (free_in (books_granted midway.volume midway.grants)) kind asked have
       → LacksRoom kind asked have (books_beside midway) turn (books_beside midway)
