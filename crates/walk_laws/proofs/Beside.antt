@@ -19,7 +19,7 @@ use Rattle.walk_laws.specs.Pairs.{Pair, commit_by, run_with, PairsBeside, PairRe
 use Rattle.walk_laws.specs.Walk.{open_stamps, flown_by}
 
 -- two lists without a stamp in common, in each of which none stands twice, have none twice together
-differ_both : {X : Type 0} (key : X → ℕ) (stamps : List ℕ) (xs : List X) → KeysDiffer (λ stamp. stamp) stamps → KeysDiffer key xs
+pub differ_both : {X : Type 0} (key : X → ℕ) (stamps : List ℕ) (xs : List X) → KeysDiffer (λ stamp. stamp) stamps → KeysDiffer key xs
     → ((stamp : ℕ) (x : X) → IsOneOf stamps stamp → IsOneOf xs x → key x ≢ stamp) → KeysDiffer (λ stamp. stamp) (stamps ++ map key xs)
 differ_both key [] [] once differ apart = tt
 differ_both key [] (x ∷ xs) once differ apart = (

@@ -5,3 +5,5 @@ pub mod Plans
 pub mod Machine
 pub mod Grants
 pub mod Calm
+pub mod Commits
+pub mod Landing
