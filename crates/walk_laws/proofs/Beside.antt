@@ -1,5 +1,5 @@
 -- Where commits with what they bring stand beside a volume, it is the midst of a record.
-use Rattle.std.proofs.Common.{◌≡◌, ◌≢◌, ◌⊎◌, ◌∷◌, ◌++◌, ◌∙◌, ℕ, ◌≤◌, Bool, true, false, List, [], length, map, None, inl, inr, refl, sym, ap, subst}
+use Rattle.std.proofs.Common.{◌≡◌, ◌≢◌, ◌⊎◌, ◌∷◌, ◌++◌, ◌∙◌, ℕ, ◌≤◌, List, [], length, map, inl, inr, refl, sym, ap, subst}
 use Rattle.std.proofs.lemmas.List.{map-append}
 use Rattle.sfs_base.proofs.BasicTruth.{false_not_true}
 use Rattle.cut_laws.specs.Closure.{Flush}
@@ -8,12 +8,11 @@ use Rattle.cut_laws.proofs.Basics.{in_left, in_right, in_either}
 use Rattle.cut_laws.proofs.Listed.{from_map, to_map}
 use Rattle.beside_laws.specs.Commits.{CoreCommit, commit_fsync, Share}
 use Rattle.beside_laws.specs.Laws.{HaveOtherNumbers, AreReady}
-use Rattle.beside_laws.specs.Steps.{Flown, RecordPlace, commits_of, open_at, IsMidst, IsLegalRun}
+use Rattle.beside_laws.specs.Steps.{RecordPlace, commits_of, open_at, IsMidst, IsLegalRun}
 use Rattle.flush_laws.specs.Volume.{Volume}
 use Rattle.volume_laws.specs.Volume.{IsVolumeStanding}
-use Rattle.merge_laws.specs.Phases.{Phase, phase_of, has_reserved, flies_in}
+use Rattle.merge_laws.specs.Phases.{Phase, flies_in}
 use Rattle.merge_laws.specs.Plays.{Aloft, PlayState}
-use Rattle.merge_laws.proofs.Blocks.{same_or_not}
 use Rattle.merge_laws.proofs.Playing.{KeysDiffer, FitsPhases, fits_flies}
 use Rattle.walk_laws.specs.Pairs.{Pair, commit_by, run_with, PairsBeside, PairReserves, ArePairsApart, IsOpenBeside}
 use Rattle.walk_laws.specs.Walk.{open_stamps, flown_by}
@@ -80,8 +79,8 @@ module _ (pairs : ℕ → Pair) (volume : Volume) (done : List ℕ) where
   numbers_once [] once apart = tt
   numbers_once (stamp ∷ stamps) once apart = (
     λ other one same.
-    let from = from_map (commit_by pairs) stamps other one in
-    (apart stamp from.0 (inl refl) (inr from.1) (λ e. once.0 from.0 from.1 (sym e))).numbers (ap (λ (c : CoreCommit). c.number) from.2 ∙ same),
+        let from = from_map (commit_by pairs) stamps other one in
+        (apart stamp from.0 (inl refl) (inr from.1) (λ e. once.0 from.0 from.1 (sym e))).numbers (ap (λ (c : CoreCommit). c.number) from.2 ∙ same),
     numbers_once stamps once.1 (λ one other there here. apart one other (inr there) (inr here)),
   )
 

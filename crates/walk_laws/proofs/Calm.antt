@@ -1,5 +1,5 @@
 -- What is known at a place where no commit has failed, and turns there that reserve, lack or give back.
-use Rattle.std.proofs.Common.{◌≡◌, ◌≢◌, ◌⊎◌, ◌∷◌, ◌++◌, ◌∙◌, ℕ, Bool, true, false, cond, not, nat_eq, List, [], map, filter, inl, inr, refl, sym, ap, subst}
+use Rattle.std.proofs.Common.{◌≡◌, ◌≢◌, ◌⊎◌, ◌∷◌, ◌++◌, ◌∙◌, ℕ, Bool, cond, not, List, [], map, filter, inl, inr, refl, sym, ap, subst}
 use Rattle.std.proofs.lemmas.List.{map-append}
 use Rattle.sfs_base.specs.declared.numbers.SpaceKind.{SpaceKind}
 use Rattle.sfs_base.proofs.BasicNumbers.{same_number, not_same}
@@ -14,16 +14,16 @@ use Rattle.flush_laws.specs.Volume.{Volume}
 use Rattle.turn_laws.specs.Books.{Grant, Waiting, flush_at, waiting_for, is_other_grant, is_other_waiting, Does}
 use Rattle.turn_ties.specs.Plans.{planning_of, amount_planned}
 use Rattle.merge_laws.specs.Phases.{phase_of, flies_in}
-use Rattle.merge_laws.specs.Plays.{Aloft, PlayState, StandsOnce, StopsWaiting, PlaysGrant, PlaysShort, PlaysBack}
+use Rattle.merge_laws.specs.Plays.{Aloft, PlayState, StopsWaiting, PlaysGrant, PlaysShort, PlaysBack}
 use Rattle.merge_laws.proofs.Blocks.{same_or_not}
 use Rattle.merge_laws.proofs.Lists.{among_at, with_one}
-use Rattle.merge_laws.proofs.Playing.{KeysDiffer, fits_flies}
+use Rattle.merge_laws.proofs.Playing.{fits_flies}
 use Rattle.walk_laws.specs.Brings.{brought_by}
 use Rattle.walk_laws.specs.Midway.{Midway, books_beside}
-use Rattle.walk_laws.specs.Pairs.{Pair, bringing_by, PairsBeside}
+use Rattle.walk_laws.specs.Pairs.{bringing_by}
 use Rattle.walk_laws.specs.Walk.{Bookkeeping, open_stamps, flights_by, waits_at, grant_at, grants_in, IsVolumeAt, ReservesThere, LacksThere}
 use Rattle.walk_laws.proofs.Played.{PlayFits}
-use Rattle.walk_laws.proofs.Beside.{UsedBy, open_once, fewer_beside, more_beside}
+use Rattle.walk_laws.proofs.Beside.{UsedBy, fewer_beside, more_beside}
 use Rattle.walk_laws.proofs.Grants.{GrantsFit, fits_same, fits_granted, fits_taken}
 use Rattle.walk_laws.proofs.Plans.{need_there, lacks_there, planned_has}
 
@@ -194,24 +194,24 @@ module _ (kept : Bookkeeping) (front : List Turn) (turn : Turn) (at : PlayState)
       → StepsTo kept front turn at calm (act.Short kind asked have) later
   lacks_step kind asked have later plays fit grants_are =
       subst (StepsTo kept front turn at calm (act.Short kind asked have)) (sym plays.later_is) (
-        let does = lacks_there mid fit.planning turn fit.plans kind asked have fit.short in
-        record {
-          next = record {
-            volume = calm.volume;
-            imagined = calm.imagined;
-            used = calm.used;
-            used_by = calm.used_by;
-            grants =
-                subst (GrantsFit kept.pairs (front ++ turn ∷ []) opens) (sym grants_are)
-                (fits_same kept.pairs front turn opens grants_now calm.grants opens (λ stamp one. one));
-          };
-          does = record {
-            need = does.need;
-            needs = does.needs;
-            short = does.short;
-            later_is = λ i. books_beside (record mid { grants = grants_are i });
-          };
-        })
+      let does = lacks_there mid fit.planning turn fit.plans kind asked have fit.short in
+      record {
+        next = record {
+          volume = calm.volume;
+          imagined = calm.imagined;
+          used = calm.used;
+          used_by = calm.used_by;
+          grants =
+              subst (GrantsFit kept.pairs (front ++ turn ∷ []) opens) (sym grants_are)
+              (fits_same kept.pairs front turn opens grants_now calm.grants opens (λ stamp one. one));
+        };
+        does = record {
+          need = does.need;
+          needs = does.needs;
+          short = does.short;
+          later_is = λ i. books_beside (record mid { grants = grants_are i });
+        };
+      })
 
   -- It gives back.
   module _ (left : List ℕ) (stops : StopsWaiting at own left) where
@@ -226,8 +226,8 @@ module _ (kept : Bookkeeping) (front : List Turn) (turn : Turn) (at : PlayState)
       | inr flies ↦ (
         in_right at.waiting (map (λ (flight : Aloft). flight.stamp) at.aloft) stamp flies,
         λ e.
-        waits_not_aloft front at so own (waited_there at own left stops)
-        (subst (IsOneOf (map (λ (flight : Aloft). flight.stamp) at.aloft)) e flies),
+            waits_not_aloft front at so own (waited_there at own left stops)
+            (subst (IsOneOf (map (λ (flight : Aloft). flight.stamp) at.aloft)) e flies),
       )
     ]
 

@@ -1,38 +1,32 @@
 -- Turns of a commit that begins, is opened, ends or fails, at a place where none has failed.
-use Rattle.std.proofs.Common.{◌≡◌, ◌≢◌, ◌⊎◌, ◌∷◌, ◌++◌, ◌∙◌, ℕ, Bool, true, false, List, [], length, map, filter, Option, Some, None, inl, inr, refl, sym, ap, subst}
+use Rattle.std.proofs.Common.{◌≡◌, ◌≢◌, ◌⊎◌, ◌∷◌, ◌++◌, ◌∙◌, ℕ, false, List, [], map, inl, inr, refl, sym, ap, subst}
 use Rattle.std.proofs.lemmas.List.{map-append, nil_from_length}
-use Rattle.sfs_base.proofs.BasicTruth.{false_not_true}
 use Rattle.tree_laws.specs.declared.turns.Turn.{Turn}
 use Rattle.tree_laws.specs.declared.turns.TurnAct.TheVariants as act
-use Rattle.cut_laws.specs.Machine.{Flight, MachineState, flight_of, Accepts}
+use Rattle.cut_laws.specs.Machine.{Accepts}
 use Rattle.cut_laws.specs.Rules.{IsOneOf}
 use Rattle.cut_laws.specs.declared.event.Event.{Event}
-use Rattle.cut_laws.specs.declared.event.Event.TheVariants as event
 use Rattle.cut_laws.proofs.Basics.{in_left, in_right, in_either}
 use Rattle.cut_laws.proofs.Listed.{from_map}
-use Rattle.beside_laws.specs.Steps.{flight_of_flown, IsMidst, machine_amid}
-use Rattle.mark_laws.specs.Changed.{HasShortFiles}
+use Rattle.beside_laws.specs.Steps.{IsMidst}
 use Rattle.space_laws.proofs.Asked.{enters_counted}
-use Rattle.tree_laws.specs.Tree.{TreeState}
-use Rattle.turn_laws.specs.Books.{Grant, Waiting, Books, flush_at, waiting_for, is_other_grant, is_other_waiting, FliesFor, FailsCommit, Leaves}
+use Rattle.turn_laws.specs.Books.{Grant, flush_at}
 use Rattle.turn_laws.specs.Need.{Amount, nothing, IsNeed}
-use Rattle.turn_ties.specs.Plans.{image_held, image_once_left, planning_of, made_of, amount_planned}
-use Rattle.merge_laws.specs.Phases.{phase_of, flies_in}
-use Rattle.merge_laws.specs.Plays.{Aloft, PlayState, StandsOnce, StopsWaiting, FliesOnce, PlaysBegin, PlaysOpen, PlaysEnd, PlaysFail}
-use Rattle.merge_laws.proofs.Lists.{among_at, with_one}
+use Rattle.turn_ties.specs.Plans.{image_held, planning_of}
+use Rattle.merge_laws.specs.Phases.{phase_of}
+use Rattle.merge_laws.specs.Plays.{Aloft, PlayState, StopsWaiting, PlaysBegin}
 use Rattle.merge_laws.proofs.Playing.{KeysDiffer, differ_more}
 use Rattle.turn_laws.specs.Ways.{own_turns}
-use Rattle.walk_laws.specs.Brings.{BringingsStay, Brings, brought_by}
-use Rattle.walk_laws.specs.Midway.{Midway, machine_beside, books_beside, PlansTurn}
-use Rattle.walk_laws.specs.Pairs.{Pair, commit_by, bringing_by, run_with, PairsBeside, IsOpenBeside, on_disk}
-use Rattle.walk_laws.specs.Walk.{Bookkeeping, open_stamps, flights_by, waits_at, grants_in, IsVolumeAt, BeginsThere}
+use Rattle.walk_laws.specs.Brings.{brought_by}
+use Rattle.walk_laws.specs.Midway.{Midway, machine_beside, books_beside}
+use Rattle.walk_laws.specs.Pairs.{Pair, commit_by, bringing_by, PairsBeside, IsOpenBeside}
+use Rattle.walk_laws.specs.Walk.{Bookkeeping, open_stamps, grants_in, BeginsThere}
 use Rattle.walk_laws.proofs.Played.{PlayFits}
 use Rattle.walk_laws.proofs.Beside.{UsedBy, place_by, open_once, differ_both, legal_run, fewer_beside, more_beside, amid}
-use Rattle.walk_laws.proofs.Calm.{CalmSo, midway_of, StepsTo, waiting_same, waiting_left, left_within, waited_there, waits_not_aloft, waits_turn, waits_here}
-use Rattle.walk_laws.proofs.Ended.{ended, ended_one, raises, ended_beside, ended_stands, ended_disk}
-use Rattle.walk_laws.proofs.Grants.{GrantsFit, fits_same, fits_at_once, fits_taken}
-use Rattle.walk_laws.proofs.Machine.{TellsCommit, begins_event, begin_taken, open_taken, end_taken, flight_found, fail_taken}
-use Rattle.walk_laws.proofs.Plans.{made_there, need_there, leaves_there, planned_has}
+use Rattle.walk_laws.proofs.Calm.{CalmSo, midway_of, StepsTo, waiting_same, waiting_left, left_within, waited_there, waits_not_aloft, waits_here}
+use Rattle.walk_laws.proofs.Grants.{GrantsFit, fits_same, fits_at_once}
+use Rattle.walk_laws.proofs.Machine.{TellsCommit, begins_event, begin_taken}
+use Rattle.walk_laws.proofs.Plans.{need_there, planned_has}
 
 -- the stamps of commits aloft
 abbrev pub stamps_of : List Aloft → List ℕ

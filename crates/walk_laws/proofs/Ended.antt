@@ -15,7 +15,7 @@ use Rattle.flush_laws.specs.Volume.{Volume, OneFsync, volume_left}
 use Rattle.mark_laws.specs.Changed.{HasShortFiles}
 use Rattle.volume_laws.specs.Volume.{IsVolumeStanding}
 use Rattle.volume_laws.proofs.Stores.{store_left, commits_stay_standing}
-use Rattle.walk_laws.specs.Brings.{BringingsStay, AreApart, Brings, brought_by}
+use Rattle.walk_laws.specs.Brings.{BringingsStay, AreApart, brought_by}
 use Rattle.walk_laws.specs.Pairs.{Pair, commit_by, bringing_by, run_with, PairsBeside, ArePairsApart, IsOpenBeside, OnDisk, on_disk, with_brought, all_brought}
 
 -- what one more has brought

@@ -2,7 +2,7 @@
 use borrow.Author.Tests.{eqb-true}
 use Rattle.std.specs.List.{find}
 use Rattle.std.specs.Option.{option_map_or}
-use Rattle.std.proofs.Common.{◌≡◌, ◌≢◌, ◌⊎◌, ◌∷◌, ◌++◌, ◌∙◌, ℕ, Bool, true, false, cond, not, nat_eq, List, [], Option, Some, None, filter, inl, inr, refl, sym, ap, subst}
+use Rattle.std.proofs.Common.{◌≡◌, ◌≢◌, ◌⊎◌, ◌∷◌, ◌++◌, ◌∙◌, ℕ, Bool, true, false, cond, not, nat_eq, List, [], Option, Some, None, filter, inl, inr, refl, sym, ap}
 use Rattle.sfs_base.proofs.BasicNumbers.{same_number, not_same}
 use Rattle.sfs_base.proofs.BasicTruth.{false_not_true}
 use Rattle.tree_laws.specs.declared.turns.Turn.{Turn}
@@ -10,9 +10,8 @@ use Rattle.cut_laws.specs.Rules.{IsOneOf}
 use Rattle.turn_laws.specs.Books.{Grant, is_other_grant}
 use Rattle.turn_laws.specs.Ways.{own_turns}
 use Rattle.turn_laws.proofs.Going.{own_both}
-use Rattle.merge_laws.proofs.Blocks.{same_or_not}
 use Rattle.walk_laws.specs.Pairs.{Pair, bringing_by}
-use Rattle.walk_laws.specs.Walk.{grant_at, grants_by, grants_after, grants_in}
+use Rattle.walk_laws.specs.Walk.{grant_at, grants_by, grants_after}
 
 module _ {X : Type 0} (test : X → Bool) where
   found_last : (xs : List X) (last : X) → find test xs ≡ None → test last ≡ true → find test (xs ++ last ∷ []) ≡ Some last
@@ -74,8 +73,8 @@ none_before front turn stamp e =
     let parts = parts_none (own_turns stamp front) (own_turns stamp (turn ∷ [])) (sym (own_both stamp front (turn ∷ [])) ∙ e) in (
       parts.0,
       λ same.
-      let never : turn ∷ [] ≡ [] =
-      sym (ap (λ (b : Bool). cond b (turn ∷ []) []) (ap (λ (n : ℕ). nat_eq turn.stamp.0 n) same ∙ same_number turn.stamp.0)) ∙ parts.1 in cc,
+          let never : turn ∷ [] ≡ [] =
+          sym (ap (λ (b : Bool). cond b (turn ∷ []) []) (ap (λ (n : ℕ). nat_eq turn.stamp.0 n) same ∙ same_number turn.stamp.0)) ∙ parts.1 in cc,
     )
 
 module _ (pairs : ℕ → Pair) (front : List Turn) (turn : Turn) (opens : List ℕ) (grants : List Grant) (fit : GrantsFit pairs front opens grants) where

@@ -1,9 +1,8 @@
 -- Turns of a commit aloft, which is opened, becomes durable or fails, at a place where none has failed.
-use Rattle.std.proofs.Common.{◌≡◌, ◌≢◌, ◌⊎◌, ◌∷◌, ◌++◌, ◌∙◌, ℕ, Bool, true, false, List, [], map, filter, Option, Some, None, inl, inr, refl, sym, ap, subst}
+use Rattle.std.proofs.Common.{◌≡◌, ◌≢◌, ◌∷◌, ◌++◌, ◌∙◌, ℕ, Bool, true, false, List, [], map, filter, Some, inl, inr, refl, sym, ap, subst}
 use Rattle.std.proofs.lemmas.List.{map-append}
 use Rattle.tree_laws.specs.declared.turns.Turn.{Turn}
 use Rattle.tree_laws.specs.declared.turns.TurnAct.TheVariants as act
-use Rattle.tree_laws.specs.Tree.{TreeState}
 use Rattle.cut_laws.specs.Machine.{flight_of, Accepts}
 use Rattle.cut_laws.specs.Rules.{IsOneOf}
 use Rattle.cut_laws.specs.declared.event.Event.TheVariants as event
@@ -182,7 +181,7 @@ module _ (kept : Bookkeeping) (front : List Turn) (turn : Turn) (at : PlayState)
       | inr others ↦
           let from = from_map (λ (flight : Aloft). flight.stamp) (before ++ behind) stamp others in (
             in_right at.waiting (stamps_of at.aloft) stamp
-            (subst (IsOneOf (stamps_of at.aloft)) from.2 (other_flies before behind true flies number_is from.0 from.1)),
+                (subst (IsOneOf (stamps_of at.aloft)) from.2 (other_flies before behind true flies number_is from.0 from.1)),
             λ e. flies.once from.0 from.1 (from.2 ∙ e),
           )
     ]

@@ -7,3 +7,4 @@ pub mod Grants
 pub mod Calm
 pub mod Commits
 pub mod Landing
+pub mod Walk

@@ -1,29 +1,27 @@
 -- The machine in the midst of a record takes what a commit does there.
 use Rattle.std.specs.List.{find}
 use Rattle.std.specs.Option.{option_map_or}
-use Rattle.std.proofs.Common.{◌≡◌, ◌≢◌, ◌∷◌, ◌++◌, ◌∙◌, ℕ, Bool, true, false, cond, not, nat_eq, List, [], map, Option, Some, None, is_some, inl, inr, refl, sym, ap, subst}
+use Rattle.std.proofs.Common.{◌≡◌, ◌≢◌, ◌∷◌, ◌++◌, ◌∙◌, ℕ, Bool, true, false, cond, not, nat_eq, List, [], map, Option, Some, None, is_some, sym, ap, subst}
 use Rattle.std.proofs.lemmas.List.{map-append}
 use Rattle.sfs_base.proofs.BasicTruth.{false_not_true}
 use Rattle.tree_laws.specs.declared.turns.Turn.{Turn}
-use Rattle.cut_laws.specs.Closure.{Flush}
 use Rattle.cut_laws.specs.Cut.{Cut}
 use Rattle.cut_laws.specs.Machine.{Flight, MachineState, flight_of, is_flying, Refuses, Accepts}
 use Rattle.cut_laws.specs.Rules.{IsOneOf}
-use Rattle.cut_laws.specs.declared.event.Event.{Event}
 use Rattle.cut_laws.specs.declared.event.Event.TheVariants as event
 use Rattle.cut_laws.specs.declared.event.Refused.{Refused}
 use Rattle.cut_laws.specs.declared.event.Refused.TheVariants as refused
 use Rattle.cut_laws.proofs.Listed.{from_map}
 use Rattle.beside_laws.specs.Commits.{CoreCommit, commit_fsync}
-use Rattle.beside_laws.specs.Laws.{RaisesTo, with_done}
-use Rattle.beside_laws.specs.Steps.{Flown, flight_of_flown, commits_of, RecordPlace, machine_amid, IsMidst, IsLegalRun, begins}
+use Rattle.beside_laws.specs.Laws.{RaisesTo}
+use Rattle.beside_laws.specs.Steps.{Flown, flight_of_flown, commits_of, machine_amid, IsMidst, IsLegalRun, begins}
 use Rattle.beside_laws.proofs.Numbered.{NoneHas, found_flight}
 use Rattle.beside_laws.proofs.Stepping.{commits_begin, commits_open, commits_end}
 use Rattle.flush_laws.specs.Volume.{Volume}
-use Rattle.turn_laws.specs.Books.{FliesFor, flush_at}
+use Rattle.turn_laws.specs.Books.{flush_at}
 use Rattle.merge_laws.specs.Plays.{Aloft, PlayState, FliesOnce}
-use Rattle.walk_laws.specs.Pairs.{Pair, commit_by, run_with, PairsBeside}
-use Rattle.walk_laws.specs.Walk.{open_stamps, flown_by}
+use Rattle.walk_laws.specs.Pairs.{Pair, commit_by, run_with}
+use Rattle.walk_laws.specs.Walk.{flown_by}
 use Rattle.walk_laws.proofs.Beside.{place_by, commits_aloft}
 
 -- Turns tell of the commit of their fsync: under its number, and of its fsync.

@@ -1,13 +1,13 @@
 -- What a plan says of a turn in the midst of a record: its need, what it reserves or lacks, and what its commit leaves.
-use Rattle.std.proofs.Common.{◌≡◌, ◌∷◌, ◌++◌, ℕ, List, [], refl, sym, subst}
+use Rattle.std.proofs.Common.{◌≡◌, ℕ, [], refl, sym, subst}
 use Rattle.sfs_base.specs.declared.numbers.SpaceKind.{SpaceKind}
 use Rattle.cut_laws.specs.Closure.{Flush}
 use Rattle.flush_laws.specs.Planned.{IsPlannedFsync}
 use Rattle.flush_laws.specs.Volume.{OneFsync}
 use Rattle.tree_laws.specs.declared.turns.Turn.{Turn}
-use Rattle.turn_laws.specs.Books.{free_in, FitsFree, IsShortOf, grant_for_turn, waiting_for, flush_at, Reserves, LacksRoom, GivesGranted, Leaves}
+use Rattle.turn_laws.specs.Books.{free_in, IsShortOf, flush_at, LacksRoom, Leaves}
 use Rattle.turn_laws.specs.Need.{IsMadeBy, IsNeed}
-use Rattle.turn_ties.specs.Plans.{image_held, image_once_left, Planning, planning_of, made_of, amount_planned, HasTouchedPages, HasPlan}
+use Rattle.turn_ties.specs.Plans.{image_held, image_once_left, Planning, planning_of, made_of, amount_planned, HasTouchedPages}
 use Rattle.turn_ties.proofs.Leaves.{leaves}
 use Rattle.turn_ties.proofs.Made.{plans_are_made}
 use Rattle.turn_ties.proofs.Needs.{needs_are_the_books}

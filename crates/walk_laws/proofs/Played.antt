@@ -1,18 +1,16 @@
 -- What a play tells of the phases of fsyncs: those that wait have reserved, those aloft have begun, and none stands twice.
 use Rattle.std.specs.Option.{option_or}
-use Rattle.std.proofs.Common.{◌≡◌, ◌≢◌, ◌⊎◌, ◌∷◌, ◌++◌, ◌∙◌, ℕ, Bool, true, false, List, [], map, Option, Some, None, inl, inr, refl, sym, ap, subst}
+use Rattle.std.proofs.Common.{◌≡◌, ◌≢◌, ◌⊎◌, ◌∷◌, ◌++◌, ◌∙◌, ℕ, Bool, true, false, List, [], map, Option, Some, inl, inr, refl, sym, ap, subst}
 use Rattle.sfs_base.proofs.BasicTruth.{false_not_true}
 use Rattle.sfs_base.proofs.BasicOptions.{or_none}
 use Rattle.tree_laws.specs.declared.turns.Turn.{Turn}
 use Rattle.tree_laws.specs.declared.turns.TurnAct.{TurnAct}
 use Rattle.tree_laws.specs.declared.turns.TurnAct.TheVariants as act
 use Rattle.cut_laws.specs.Rules.{IsOneOf}
-use Rattle.cut_laws.proofs.Listed.{from_map}
-use Rattle.cut_laws.proofs.Basics.{in_either}
 use Rattle.turn_laws.specs.Ways.{own_turns}
 use Rattle.merge_laws.specs.Phases.{Phase, no_turn_yet, has_reserved, has_begun, has_opened, is_durable, has_ended, is_stuck, flies_in, after_halt, next_phase, phase_after, phase_of}
 use Rattle.merge_laws.specs.Pens.{failure_by, failed_in}
-use Rattle.merge_laws.specs.Plays.{Aloft, PlayState, nothing_played, FliesOnce, StopsWaiting, PlaysAct, Plays, no_play, one_play}
+use Rattle.merge_laws.specs.Plays.{Aloft, PlayState, FliesOnce, StopsWaiting, PlaysAct, Plays, no_play, one_play}
 use Rattle.merge_laws.proofs.Lists.{among_at, stands_at}
 use Rattle.merge_laws.proofs.Phases.{phase_on, phase_stays}
 use Rattle.merge_laws.proofs.Follows.{failed_more}

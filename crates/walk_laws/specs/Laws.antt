@@ -1,5 +1,5 @@
 -- The laws of the walk of the books, each of which a function of the module laws proves.
-use Rattle.std.specs.Prelude.{◌≡◌, ◌≤◌, ◌++◌, ℕ, List}
+use Rattle.std.specs.Prelude.{◌≤◌, ◌++◌, ℕ, List}
 use Rattle.tree_laws.specs.declared.turns.Turn.{Turn}
 use Rattle.turn_laws.specs.Recorded.{IsRecorded}
 use Rattle.turn_ties.specs.Plans.{image_held}

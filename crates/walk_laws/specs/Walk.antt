@@ -1,6 +1,6 @@
 -- The walk of the books along a record: what is known at each place of it, and what is asked of each turn.
 use Rattle.std.specs.FinMap.{get, empty}
-use Rattle.std.specs.Prelude.{◌≡◌, ◌∷◌, ◌++◌, ℕ, Bool, List, [], filter, map, None, is_some}
+use Rattle.std.specs.Prelude.{◌≡◌, ◌∷◌, ◌++◌, ℕ, List, [], filter, map, None, is_some}
 use Rattle.sfs_base.specs.declared.numbers.SpaceKind.{SpaceKind}
 use Rattle.cut_laws.specs.Machine.{Flight}
 use Rattle.cut_laws.specs.Rules.{IsOneOf}
@@ -16,7 +16,7 @@ use Rattle.turn_laws.specs.Need.{nothing}
 use Rattle.turn_laws.specs.Ways.{HasCommit}
 use Rattle.turn_ties.specs.Plans.{image_held, Planning, amount_planned}
 use Rattle.merge_laws.specs.Plays.{Aloft, PlayState, Plays}
-use Rattle.walk_laws.specs.Midway.{Midway, books_beside, books_granted, PlansTurn}
+use Rattle.walk_laws.specs.Midway.{books_beside, books_granted, PlansTurn}
 use Rattle.walk_laws.specs.Pairs.{Pair, bringing_by, PairsBeside, PairReserves, on_disk, all_brought}
 
 -- What the books of a record are kept from: the volume that it begins with, and by the stamp of each fsync its commit with what it brings, and its
