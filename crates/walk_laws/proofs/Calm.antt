@@ -152,6 +152,8 @@ module _ (kept : Bookkeeping) (front : List Turn) (turn : Turn) (at : PlayState)
         stands = calm.imagined.stands;
         first = calm.imagined.first;
         history = calm.imagined.history;
+        layout = calm.imagined.layout;
+        flushes = calm.imagined.flushes;
         beside = more_beside kept.pairs calm.volume at.done opens (open_stamps reserved) own within fit.pair calm.imagined.beside;
         disk = calm.imagined.disk;
       };
@@ -244,6 +246,8 @@ module _ (kept : Bookkeeping) (front : List Turn) (turn : Turn) (at : PlayState)
           stands = calm.imagined.stands;
           first = calm.imagined.first;
           history = calm.imagined.history;
+          layout = calm.imagined.layout;
+          flushes = calm.imagined.flushes;
           beside =
               fewer_beside kept.pairs calm.volume at.done opens (open_stamps given) (λ stamp one. (back_within stamp one).0) calm.imagined.beside;
           disk = calm.imagined.disk;

@@ -105,6 +105,8 @@ module _ (kept : Bookkeeping) (front : List Turn) (turn : Turn) (at : PlayState)
       stands = calm.imagined.stands;
       first = calm.imagined.first;
       history = calm.imagined.history;
+      layout = calm.imagined.layout;
+      flushes = calm.imagined.flushes;
       beside = beside;
       disk = calm.imagined.disk;
     };

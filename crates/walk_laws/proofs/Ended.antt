@@ -1,6 +1,6 @@
 -- A commit ends beside others: what stands beside the volume goes on beside the one that it leaves.
 use Rattle.std.proofs.Common.{◌≡◌, ◌≢◌, ◌∷◌, ◌++◌, ◌∙◌, ℕ, Bool, true, false, List, [], map, inl, inr, refl, sym, ap, subst}
-use Rattle.std.proofs.lemmas.List.{map-append}
+use Rattle.std.proofs.lemmas.List.{append_assoc, map-append}
 use Rattle.cut_laws.specs.Closure.{every_entry, Flush, IsRaised, AreInodesAfter}
 use Rattle.cut_laws.specs.Rules.{IsOneOf}
 use Rattle.disk_change.specs.Directory.{is_among}
@@ -16,7 +16,7 @@ use Rattle.mark_laws.specs.Changed.{HasShortFiles}
 use Rattle.volume_laws.specs.Volume.{IsVolumeStanding}
 use Rattle.volume_laws.proofs.Stores.{store_left, commits_stay_standing}
 use Rattle.walk_laws.specs.Brings.{BringingsStay, AreApart, brought_by}
-use Rattle.walk_laws.specs.Pairs.{Pair, commit_by, bringing_by, run_with, PairsBeside, ArePairsApart, IsOpenBeside, OnDisk, on_disk, with_brought, all_brought}
+use Rattle.walk_laws.specs.Pairs.{Pair, commit_by, bringing_by, flush_by, run_with, PairsBeside, ArePairsApart, IsOpenBeside, OnDisk, on_disk, with_brought, all_brought}
 
 -- what one more has brought
 pub brought_more : (pairs : ℕ → Pair) (done : List ℕ) (stamp : ℕ) (was : OnDisk)
@@ -147,3 +147,9 @@ module _ (stay : BringingsStay) (pairs : ℕ → Pair) (volume : Volume) (done o
 
   pub ended_disk : (was : OnDisk) → on_disk volume ≡ all_brought pairs done was → on_disk ended ≡ all_brought pairs (done ++ own ∷ []) was
   ended_disk was e = ap (with_brought (bringing_by pairs own)) e ∙ sym (brought_more pairs done own was)
+
+  pub ended_flushes : (first : List Flush) → volume.flushes ≡ first ++ map (flush_by pairs) done
+      → ended.flushes ≡ first ++ map (flush_by pairs) (done ++ own ∷ [])
+  ended_flushes first e =
+      ap (λ (l : List Flush). l ++ flush_by pairs own ∷ []) e ∙ append_assoc first (map (flush_by pairs) done) (flush_by pairs own ∷ [])
+      ∙ ap (λ (l : List Flush). first ++ l) (sym (map-append (flush_by pairs) done (own ∷ [])))

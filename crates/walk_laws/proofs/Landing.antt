@@ -23,7 +23,7 @@ use Rattle.walk_laws.proofs.Played.{PlayFits}
 use Rattle.walk_laws.proofs.Beside.{UsedBy, place_by, open_once, legal_run, amid}
 use Rattle.walk_laws.proofs.Calm.{CalmSo, midway_of, StepsTo, waits_not_aloft}
 use Rattle.walk_laws.proofs.Commits.{stamps_of}
-use Rattle.walk_laws.proofs.Ended.{ended, ended_one, raises, ended_beside, ended_stands, ended_disk}
+use Rattle.walk_laws.proofs.Ended.{ended, ended_one, raises, ended_beside, ended_stands, ended_flushes, ended_disk}
 use Rattle.walk_laws.proofs.Grants.{GrantsFit, fits_same, fits_taken}
 use Rattle.walk_laws.proofs.Machine.{open_taken, end_taken, flight_found, fail_taken}
 use Rattle.walk_laws.proofs.Plans.{made_there, leaves_there, planned_has}
@@ -130,6 +130,8 @@ module _ (kept : Bookkeeping) (front : List Turn) (turn : Turn) (at : PlayState)
         stands = calm.imagined.stands;
         first = calm.imagined.first;
         history = calm.imagined.history;
+        layout = calm.imagined.layout;
+        flushes = calm.imagined.flushes;
         beside = subst (λ (l : List ℕ). PairsBeside pairs at.done (at.waiting ++ l) calm.volume) same_stamps calm.imagined.beside;
         disk = calm.imagined.disk;
       };
@@ -219,6 +221,10 @@ module _ (kept : Bookkeeping) (front : List Turn) (turn : Turn) (at : PlayState)
         stands = ended_stands stay pairs calm.volume at.done opens own here calm.imagined.stands short calm.imagined.beside;
         first = calm.imagined.first;
         history = calm.imagined.history;
+        layout = calm.imagined.layout;
+        flushes =
+            ended_flushes stay pairs calm.volume at.done opens own here calm.imagined.stands short calm.imagined.beside kept.start.flushes
+            calm.imagined.flushes;
         beside =
             ended_beside stay pairs calm.volume at.done opens own here calm.imagined.stands short calm.imagined.beside (open_stamps landed) landed_within;
         disk =

@@ -288,6 +288,8 @@ module _ (stay : BringingsStay) (kept : Bookkeeping) (before most : ℕ) (turns 
       stands = may.begins.stands;
       first = refl;
       history = refl;
+      layout = refl;
+      flushes = sym (append-nil kept.start.flushes);
       beside = record { standing = standing_first; opens = λ stamp one. absurd one; apart = λ stamp other one. absurd one };
       disk = refl;
     };

@@ -6,6 +6,7 @@ use Rattle.image_laws.specs.Renamed.{Numbering}
 use Rattle.commit_laws.specs.CommitOfPlan.{numbers_planned}
 use Rattle.commit_laws.specs.PartsMade.{store_planned}
 use Rattle.commit_laws.specs.PartsStand.{part_next}
+use Rattle.cut_laws.specs.Closure.{Flush}
 use Rattle.cut_laws.specs.Rules.{IsOneOf}
 use Rattle.beside_laws.specs.Commits.{CoreCommit, commit_fsync, IsByItsLook, Share}
 use Rattle.beside_laws.specs.Laws.{KnowsRun, FindsAlways}
@@ -18,12 +19,15 @@ pub record Pair : Type 0 where
   pub commit : CoreCommit
   pub one : Bringing
 
--- the commits, and what they bring, by the stamps of their fsyncs
+-- the commits, what they bring, and their fsyncs, by the stamps of these
 abbrev pub commit_by : (ℕ → Pair) → ℕ → CoreCommit
 commit_by pairs stamp = (pairs stamp).commit
 
 abbrev pub bringing_by : (ℕ → Pair) → ℕ → Bringing
 bringing_by pairs stamp = (pairs stamp).one
+
+abbrev pub flush_by : (ℕ → Pair) → ℕ → Flush
+flush_by pairs stamp = (bringing_by pairs stamp).flush
 
 -- the run so far where these commits are done and the disk is that of a volume
 abbrev pub run_with : Volume → List CoreCommit → Progress

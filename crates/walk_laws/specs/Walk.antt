@@ -17,7 +17,7 @@ use Rattle.turn_laws.specs.Ways.{HasCommit}
 use Rattle.turn_ties.specs.Plans.{image_held, Planning, amount_planned}
 use Rattle.merge_laws.specs.Plays.{Aloft, PlayState, Plays}
 use Rattle.walk_laws.specs.Midway.{books_beside, books_granted, PlansTurn}
-use Rattle.walk_laws.specs.Pairs.{Pair, bringing_by, PairsBeside, PairReserves, on_disk, all_brought}
+use Rattle.walk_laws.specs.Pairs.{Pair, bringing_by, flush_by, PairsBeside, PairReserves, on_disk, all_brought}
 
 -- What the books of a record are kept from: the volume that it begins with, and by the stamp of each fsync its commit with what it brings, and its
 -- core.
@@ -61,12 +61,15 @@ grants_after pairs grants (turn ∷ turns) = grants_after pairs (grants_by pairs
 abbrev pub grants_in : (ℕ → Pair) → List Turn → List Grant
 grants_in pairs turns = grants_after pairs [] turns
 
--- A volume is the one imagined where fsyncs have done this, of which none has failed: it stands, it is of the same mount and history as the first
--- one, the commits that are done and open stand beside it, and its disk is the first one's with what those that are done have brought.
+-- A volume is the one imagined where fsyncs have done this, of which none has failed: it stands; it is of the same mount, history and layout as the
+-- first one; its fsyncs are the first one's and those that are done, in their order; the commits that are done and open stand beside it; and its disk
+-- is the first one's with what those that are done have brought.
 pub record IsVolumeAt (kept : Bookkeeping) (at : PlayState) (volume : Volume) : Type 0 where
   pub stands : IsVolumeStanding volume
   pub first : volume.first ≡ kept.start.first
   pub history : volume.history ≡ kept.start.history
+  pub layout : volume.layout ≡ kept.start.layout
+  pub flushes : volume.flushes ≡ kept.start.flushes ++ map (flush_by kept.pairs) at.done
   pub beside : PairsBeside kept.pairs at.done (open_stamps at) volume
   pub disk : on_disk volume ≡ all_brought kept.pairs at.done (on_disk kept.start)
 
