@@ -37,8 +37,39 @@ bring_apart mine theirs my_nodes their_nodes apart = record {
     by node one false e = e
     by node one true e = absurd (apart.nodes (record { node = node; one = sym (my_nodes node) ∙ one; two = sym (their_nodes node) ∙ e }))
 
-module _ (stay : BringingsStay) (pairs : ℕ → Pair) (volume : Volume) (done opens : List ℕ) (own : ℕ) (among : IsOneOf opens own)
-    (stands : IsVolumeStanding volume) (short : HasShortFiles volume.first) (beside : PairsBeside pairs done opens volume) where
+-- A commit that is to end, at a place of a record: the volume, the stamps of those that are done and open, its own, and what stands beside.
+pub record Ending (pairs : ℕ → Pair) : Type 0 where
+  pub volume : Volume
+  pub done : List ℕ
+  pub opens : List ℕ
+  pub own : ℕ
+  pub among : IsOneOf opens own
+  pub stands : IsVolumeStanding volume
+  pub short : HasShortFiles volume.first
+  pub beside : PairsBeside pairs done opens volume
+
+module _ (stay : BringingsStay) (pairs : ℕ → Pair) (ending : Ending pairs) where
+  abbrev volume : Volume
+  volume = ending.volume
+
+  abbrev done : List ℕ
+  done = ending.done
+
+  abbrev opens : List ℕ
+  opens = ending.opens
+
+  abbrev own : ℕ
+  own = ending.own
+
+  abbrev among : IsOneOf opens own
+  among = ending.among
+
+  abbrev stands : IsVolumeStanding volume
+  stands = ending.stands
+
+  abbrev beside : PairsBeside pairs done opens volume
+  beside = ending.beside
+
   abbrev run : Progress
   run = run_with volume (map (commit_by pairs) done)
 
@@ -118,7 +149,7 @@ module _ (stay : BringingsStay) (pairs : ℕ → Pair) (volume : Volume) (done o
         later = later_still other one differ;
         brings = stay volume (bringing_by pairs other) (bringing_by pairs own) blocks (record {
           stands = stands;
-          short = short;
+          short = ending.short;
           stays = was.brings;
           ends = (beside.opens own among).brings;
           apart = bring_apart (pairs other) (pairs own) was.nodes its.nodes apart;

@@ -23,7 +23,7 @@ use Rattle.walk_laws.proofs.Played.{PlayFits}
 use Rattle.walk_laws.proofs.Beside.{UsedBy, place_by, open_once, legal_run, amid}
 use Rattle.walk_laws.proofs.Calm.{CalmSo, midway_of, StepsTo, waits_not_aloft}
 use Rattle.walk_laws.proofs.Commits.{stamps_of}
-use Rattle.walk_laws.proofs.Ended.{ended, ended_one, raises, ended_beside, ended_stands, ended_flushes, ended_disk}
+use Rattle.walk_laws.proofs.Ended.{Ending, ended, ended_one, raises, ended_beside, ended_stands, ended_flushes, ended_disk}
 use Rattle.walk_laws.proofs.Grants.{GrantsFit, fits_same, fits_taken}
 use Rattle.walk_laws.proofs.Machine.{open_taken, end_taken, flight_found, fail_taken}
 use Rattle.walk_laws.proofs.Plans.{made_there, leaves_there, planned_has}
@@ -174,6 +174,18 @@ module _ (kept : Bookkeeping) (front : List Turn) (turn : Turn) (at : PlayState)
     abbrev here : IsOneOf opens own
     here = own_open before behind true flies number_is
 
+    abbrev ending : Ending pairs
+    ending = record {
+      volume = calm.volume;
+      done = at.done;
+      opens = opens;
+      own = own;
+      among = here;
+      stands = calm.imagined.stands;
+      short = short;
+      beside = calm.imagined.beside;
+    }
+
     landed_within : (stamp : ℕ) → IsOneOf (open_stamps landed) stamp → IsOneOf opens stamp × (stamp ≢ own)
     landed_within stamp one = elim (in_either at.waiting (stamps_of (before ++ behind)) stamp one) [
       | inl waits ↦ (
@@ -216,19 +228,19 @@ module _ (kept : Bookkeeping) (front : List Turn) (turn : Turn) (at : PlayState)
 
     abbrev landed_next : CalmSo kept (front ++ turn ∷ []) landed
     landed_next = record {
-      volume = ended stay pairs calm.volume at.done opens own here calm.imagined.stands short calm.imagined.beside;
+      volume = ended stay pairs ending;
       imagined = record {
-        stands = ended_stands stay pairs calm.volume at.done opens own here calm.imagined.stands short calm.imagined.beside;
+        stands = ended_stands stay pairs ending;
         first = calm.imagined.first;
         history = calm.imagined.history;
         layout = calm.imagined.layout;
         flushes =
-            ended_flushes stay pairs calm.volume at.done opens own here calm.imagined.stands short calm.imagined.beside kept.start.flushes
+            ended_flushes stay pairs ending kept.start.flushes
             calm.imagined.flushes;
         beside =
-            ended_beside stay pairs calm.volume at.done opens own here calm.imagined.stands short calm.imagined.beside (open_stamps landed) landed_within;
+            ended_beside stay pairs ending (open_stamps landed) landed_within;
         disk =
-            ended_disk stay pairs calm.volume at.done opens own here calm.imagined.stands short calm.imagined.beside (on_disk kept.start)
+            ended_disk stay pairs ending (on_disk kept.start)
             calm.imagined.disk;
       };
       used = calm.used;
@@ -239,7 +251,7 @@ module _ (kept : Bookkeeping) (front : List Turn) (turn : Turn) (at : PlayState)
     }
 
     abbrev brought : Rattle.flush_laws.specs.Volume.OneFsync
-    brought = ended_one stay pairs calm.volume at.done opens own here calm.imagined.stands short calm.imagined.beside
+    brought = ended_one stay pairs ending
 
     plans_there : PlansTurn calm.volume (planning_of brought) turn
     plans_there =
@@ -260,7 +272,7 @@ module _ (kept : Bookkeeping) (front : List Turn) (turn : Turn) (at : PlayState)
                 (sym number_is)
                 (end_taken pairs calm.volume at calm.used own midst before behind landed_next.volume.cut landed_next.volume.inodes
                 (legal_run calm.volume (map (commit_by pairs) at.done) calm.imagined.stands)
-                (raises stay pairs calm.volume at.done opens own here calm.imagined.stands short calm.imagined.beside) flies.whole);
+                (raises stay pairs ending) flies.whole);
             made = made_of (planning_of brought);
             is_made = made_there mid (planning_of brought) turn plans_there;
             image = image_once_left calm.volume brought;

@@ -8,3 +8,4 @@ pub mod Calm
 pub mod Commits
 pub mod Landing
 pub mod Walk
+pub mod Worked

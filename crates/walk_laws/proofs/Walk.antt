@@ -333,8 +333,8 @@ booked kept before most front at (inr walked) = record {
 }
 
 pub walks_are_booked : WalksAreBooked
-walks_are_booked stay kept before most front back at may plays =
-    booked kept before most front at (walk stay kept before most (front ++ back) may front at plays back refl)
+walks_are_booked stay kept before most turns may front at leads =
+    booked kept before most front at (walk stay kept before most turns may front at leads.plays leads.back leads.whole)
 
 pub records_are_kept : RecordsAreKept
 records_are_kept stay kept entry_faults before exit_faults turns pens agrees =

@@ -1,5 +1,5 @@
 -- The laws of the walk of the books, each of which a function of the module laws proves.
-use Rattle.std.specs.Prelude.{◌≤◌, ◌++◌, ℕ, List}
+use Rattle.std.specs.Prelude.{◌≡◌, ◌≤◌, ◌++◌, ℕ, List}
 use Rattle.tree_laws.specs.declared.turns.Turn.{Turn}
 use Rattle.turn_laws.specs.Recorded.{IsRecorded}
 use Rattle.turn_ties.specs.Plans.{image_held}
@@ -16,10 +16,20 @@ pub record MayBeWalked (kept : Bookkeeping) (before most : ℕ) (turns : List Tu
   pub counts : CountAll before most turns
   pub own : OwnWaits turns
 
--- Where what fsyncs bring stays, the books of such a record are kept up to each place, by what fsyncs have done there.
+-- A play leads to a place of some turns: they go on from a front, which is a play.
+pub record LeadsTo (turns front : List Turn) (at : PlayState) : Type 0 where
+  pub back : List Turn
+  pub whole : turns ≡ front ++ back
+  pub plays : Plays front at
+
+-- The books are kept up to each place of some turns, by what fsyncs have done there.
+abbrev pub AreBooked : Bookkeeping → ℕ → ℕ → List Turn → Type 0
+AreBooked kept before most turns = (front : List Turn) (at : PlayState) → LeadsTo turns front at → IsBooked kept before most front at
+
+-- So they are along such a record, where what fsyncs bring stays.
 abbrev pub WalksAreBooked : Type 0
-WalksAreBooked = BringingsStay → (kept : Bookkeeping) (before most : ℕ) (front back : List Turn) (at : PlayState)
-    → MayBeWalked kept before most (front ++ back) → Plays front at → IsBooked kept before most front at
+WalksAreBooked = BringingsStay → (kept : Bookkeeping) (before most : ℕ) (turns : List Turn) → MayBeWalked kept before most turns
+    → AreBooked kept before most turns
 
 -- All cores agree with their pens over the history of a volume that may begin a walk, and the record fits what its books are kept from. The counts of
 -- faults go on from that at the entry.
