@@ -11,6 +11,7 @@ use Rattle.cut_laws.specs.Rules.{IsOneOf}
 use Rattle.cut_laws.proofs.Basics.{in_left, in_right, in_either}
 use Rattle.cut_laws.proofs.Listed.{from_map, to_map}
 use Rattle.flush_laws.specs.Volume.{Volume}
+use Rattle.mark_laws.specs.Changed.{HasShortFiles}
 use Rattle.turn_laws.specs.Books.{Grant, Waiting, flush_at, waiting_for, is_other_grant, is_other_waiting, Does}
 use Rattle.turn_ties.specs.Plans.{planning_of, amount_planned}
 use Rattle.merge_laws.specs.Phases.{phase_of, flies_in}
@@ -46,7 +47,8 @@ midway_of kept front at calm = record {
 }
 
 -- A turn does its act there, and it is calm behind it.
-pub record StepsTo (kept : Bookkeeping) (front : List Turn) (turn : Turn) (at : PlayState) (calm : CalmSo kept front at) (did : TurnAct) (later : PlayState) : Type 0 where
+pub record StepsTo (kept : Bookkeeping) (front : List Turn) (turn : Turn) (at : PlayState) (calm : CalmSo kept front at) (did : TurnAct)
+    (later : PlayState) : Type 0 where
   pub next : CalmSo kept (front ++ turn ∷ []) later
   pub does : Does did (books_beside (midway_of kept front at calm)) turn (books_beside (midway_of kept (front ++ turn ∷ []) later next))
 
@@ -104,8 +106,39 @@ waits_not_aloft front at so stamp waits flies =
     (sym (ap flies_in (so.fits.waits stamp waits)) ∙ ap (λ (n : ℕ). flies_in (phase_of n front)) (sym from.2)
     ∙ fits_flies from.0.opened (phase_of from.0.stamp front) (so.fits.flies from.0 from.1))
 
-module _ (kept : Bookkeeping) (front : List Turn) (turn : Turn) (at : PlayState) (so : PlayFits front at) (calm : CalmSo kept front at)
-    (core_is : turn.core.0 ≡ kept.cores turn.stamp.0) (flush_is : (bringing_by kept.pairs turn.stamp.0).flush ≡ flush_at turn) where
+-- A turn at a place where none has failed, of its fsync and its core.
+pub record TurnAt (kept : Bookkeeping) : Type 0 where
+  pub front : List Turn
+  pub turn : Turn
+  pub at : PlayState
+  pub so : PlayFits front at
+  pub calm : CalmSo kept front at
+  pub short : HasShortFiles calm.volume.first
+  pub core_is : turn.core.0 ≡ kept.cores turn.stamp.0
+  pub flush_is : (bringing_by kept.pairs turn.stamp.0).flush ≡ flush_at turn
+
+module _ (kept : Bookkeeping) (place : TurnAt kept) where
+  abbrev front : List Turn
+  front = place.front
+
+  abbrev turn : Turn
+  turn = place.turn
+
+  abbrev at : PlayState
+  at = place.at
+
+  abbrev so : PlayFits front at
+  so = place.so
+
+  abbrev calm : CalmSo kept front at
+  calm = place.calm
+
+  abbrev core_is : turn.core.0 ≡ kept.cores turn.stamp.0
+  core_is = place.core_is
+
+  abbrev flush_is : (bringing_by kept.pairs turn.stamp.0).flush ≡ flush_at turn
+  flush_is = place.flush_is
+
   abbrev own : ℕ
   own = turn.stamp.0
 

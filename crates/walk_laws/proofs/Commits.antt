@@ -23,7 +23,7 @@ use Rattle.walk_laws.specs.Pairs.{Pair, commit_by, bringing_by, PairsBeside, IsO
 use Rattle.walk_laws.specs.Walk.{Bookkeeping, open_stamps, grants_in, BeginsThere}
 use Rattle.walk_laws.proofs.Played.{PlayFits}
 use Rattle.walk_laws.proofs.Beside.{UsedBy, place_by, open_once, differ_both, legal_run, fewer_beside, more_beside, amid}
-use Rattle.walk_laws.proofs.Calm.{CalmSo, midway_of, StepsTo, waiting_same, waiting_left, left_within, waited_there, waits_not_aloft, waits_here}
+use Rattle.walk_laws.proofs.Calm.{CalmSo, TurnAt, midway_of, StepsTo, waiting_same, waiting_left, left_within, waited_there, waits_not_aloft, waits_here}
 use Rattle.walk_laws.proofs.Grants.{GrantsFit, fits_same, fits_at_once}
 use Rattle.walk_laws.proofs.Machine.{TellsCommit, begins_event, begin_taken}
 use Rattle.walk_laws.proofs.Plans.{need_there, planned_has}
@@ -32,8 +32,28 @@ use Rattle.walk_laws.proofs.Plans.{need_there, planned_has}
 abbrev pub stamps_of : List Aloft → List ℕ
 stamps_of aloft = map (λ flight. flight.stamp) aloft
 
-module _ (kept : Bookkeeping) (front : List Turn) (turn : Turn) (at : PlayState) (so : PlayFits front at) (calm : CalmSo kept front at)
-    (core_is : turn.core.0 ≡ kept.cores turn.stamp.0) (flush_is : (bringing_by kept.pairs turn.stamp.0).flush ≡ flush_at turn) where
+module _ (kept : Bookkeeping) (place : TurnAt kept) where
+  abbrev front : List Turn
+  front = place.front
+
+  abbrev turn : Turn
+  turn = place.turn
+
+  abbrev at : PlayState
+  at = place.at
+
+  abbrev so : PlayFits front at
+  so = place.so
+
+  abbrev calm : CalmSo kept front at
+  calm = place.calm
+
+  abbrev core_is : turn.core.0 ≡ kept.cores turn.stamp.0
+  core_is = place.core_is
+
+  abbrev flush_is : (bringing_by kept.pairs turn.stamp.0).flush ≡ flush_at turn
+  flush_is = place.flush_is
+
   abbrev own : ℕ
   own = turn.stamp.0
 
@@ -143,7 +163,7 @@ module _ (kept : Bookkeeping) (front : List Turn) (turn : Turn) (at : PlayState)
       begins_waited = record {
         next = waited_next;
         does = record {
-          may = inl (waits_here kept front turn at so calm core_is flush_is left stops);
+          may = inl (waits_here kept place left stops);
           machine = machine_beside (midway_of kept (front ++ turn ∷ []) (begun left) waited_next);
           taken =
               subst

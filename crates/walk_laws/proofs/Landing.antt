@@ -9,7 +9,6 @@ use Rattle.cut_laws.specs.declared.event.Event.TheVariants as event
 use Rattle.cut_laws.proofs.Basics.{in_left, in_right, in_either}
 use Rattle.cut_laws.proofs.Listed.{from_map, to_map}
 use Rattle.beside_laws.specs.Steps.{flight_of_flown, IsMidst}
-use Rattle.mark_laws.specs.Changed.{HasShortFiles}
 use Rattle.turn_laws.specs.Books.{Grant, Books, flush_at, is_other_grant, FliesFor, FailsCommit, Leaves}
 use Rattle.turn_ties.specs.Plans.{image_held, image_once_left, planning_of, made_of}
 use Rattle.merge_laws.specs.Phases.{phase_of}
@@ -21,7 +20,7 @@ use Rattle.walk_laws.specs.Pairs.{Pair, commit_by, bringing_by, PairsBeside, IsO
 use Rattle.walk_laws.specs.Walk.{Bookkeeping, open_stamps, grants_in}
 use Rattle.walk_laws.proofs.Played.{PlayFits}
 use Rattle.walk_laws.proofs.Beside.{UsedBy, place_by, open_once, legal_run, amid}
-use Rattle.walk_laws.proofs.Calm.{CalmSo, midway_of, StepsTo, waits_not_aloft}
+use Rattle.walk_laws.proofs.Calm.{CalmSo, TurnAt, midway_of, StepsTo, waits_not_aloft}
 use Rattle.walk_laws.proofs.Commits.{stamps_of}
 use Rattle.walk_laws.proofs.Ended.{Ending, ended, ended_one, raises, ended_beside, ended_stands, ended_flushes, ended_disk}
 use Rattle.walk_laws.proofs.Grants.{GrantsFit, fits_same, fits_taken}
@@ -35,8 +34,25 @@ stamps_marked before behind own opened mark =
     map-append (λ (flight : Aloft). flight.stamp) before (record { stamp = own; opened = opened } ∷ behind)
     ∙ sym (map-append (λ (flight : Aloft). flight.stamp) before (record { stamp = own; opened = mark } ∷ behind))
 
-module _ (kept : Bookkeeping) (front : List Turn) (turn : Turn) (at : PlayState) (so : PlayFits front at) (calm : CalmSo kept front at)
-    (flush_is : (bringing_by kept.pairs turn.stamp.0).flush ≡ flush_at turn) where
+module _ (kept : Bookkeeping) (place : TurnAt kept) where
+  abbrev front : List Turn
+  front = place.front
+
+  abbrev turn : Turn
+  turn = place.turn
+
+  abbrev at : PlayState
+  at = place.at
+
+  abbrev so : PlayFits front at
+  so = place.so
+
+  abbrev calm : CalmSo kept front at
+  calm = place.calm
+
+  abbrev flush_is : (bringing_by kept.pairs turn.stamp.0).flush ≡ flush_at turn
+  flush_is = place.flush_is
+
   abbrev own : ℕ
   own = turn.stamp.0
 
@@ -165,7 +181,7 @@ module _ (kept : Bookkeeping) (front : List Turn) (turn : Turn) (at : PlayState)
       (opens_now plays.before plays.behind plays.flies number_is grants_are)
 
   -- it becomes durable
-  module _ (stay : BringingsStay) (short : HasShortFiles calm.volume.first) (before behind : List Aloft)
+  module _ (stay : BringingsStay) (before behind : List Aloft)
       (flies : FliesOnce at.aloft before behind (record { stamp = own; opened = true }))
       (number_is : turn.commit ≡ (commit_by pairs own).number) (grants_are : grants_then ≡ filter (is_other_grant own) grants_now) where
     abbrev landed : PlayState
@@ -182,7 +198,7 @@ module _ (kept : Bookkeeping) (front : List Turn) (turn : Turn) (at : PlayState)
       own = own;
       among = here;
       stands = calm.imagined.stands;
-      short = short;
+      short = place.short;
       beside = calm.imagined.beside;
     }
 
@@ -284,9 +300,9 @@ module _ (kept : Bookkeeping) (front : List Turn) (turn : Turn) (at : PlayState)
           };
         }
 
-  pub ends_step : BringingsStay → HasShortFiles calm.volume.first → (later : PlayState) → PlaysEnd at own later
+  pub ends_step : BringingsStay → (later : PlayState) → PlaysEnd at own later
       → turn.commit ≡ (commit_by pairs own).number → grants_then ≡ filter (is_other_grant own) grants_now
       → StepsTo kept front turn at calm act.Durable later
-  ends_step stay short later plays number_is grants_are =
+  ends_step stay later plays number_is grants_are =
       subst (StepsTo kept front turn at calm act.Durable) (sym plays.later_is)
-      (ends_now stay short plays.before plays.behind plays.flies number_is grants_are)
+      (ends_now stay plays.before plays.behind plays.flies number_is grants_are)

@@ -30,7 +30,7 @@ use Rattle.walk_laws.specs.Laws.{MayBeWalked, WalksAreBooked, RecordsAreKept}
 use Rattle.walk_laws.specs.Midway.{books_beside}
 use Rattle.walk_laws.specs.Pairs.{run_with, bringing_by}
 use Rattle.walk_laws.specs.Walk.{Bookkeeping, FitsAct, books_begun, grants_in, grants_by, waits_at, IsBooked}
-use Rattle.walk_laws.proofs.Calm.{CalmSo, midway_of, StepsTo, waiting_same, waiting_left, waits_here, reserves_step, lacks_step, gives_step}
+use Rattle.walk_laws.proofs.Calm.{CalmSo, TurnAt, midway_of, StepsTo, waiting_same, waiting_left, waits_here, reserves_step, lacks_step, gives_step}
 use Rattle.walk_laws.proofs.Commits.{begins_step}
 use Rattle.walk_laws.proofs.Grants.{grants_more}
 use Rattle.walk_laws.proofs.Landing.{fails_now, failed_books, failed_waiting, failed_failed, opens_step, ends_step}
@@ -73,8 +73,80 @@ record FailsTo (kept : Bookkeeping) (turn : Turn) (did : TurnAct) (books : Books
   waiting : next.waiting ≡ map (waits_at kept.cores) later.waiting
   failed : next.failed ≡ Some faults
 
-module _ (stay : BringingsStay) (kept : Bookkeeping) (before most : ℕ) (turns : List Turn) (may : MayBeWalked kept before most turns) where
-  module _ (front back : List Turn) (turn : Turn) (whole : turns ≡ front ++ turn ∷ back) (at : PlayState) (plays : Plays front at) where
+-- So the books are kept.
+pub booked : (kept : Bookkeeping) (before most : ℕ) (front : List Turn) (at : PlayState) → Walked kept before most front at
+    → IsBooked kept before most front at
+booked kept before most front at (inl walked) = record {
+  books = books_beside (midway_of kept front at walked.calm);
+  are = walked.are;
+  waiting = refl;
+  failed = sym walked.quiet;
+  calm = λ e. record { volume = walked.calm.volume; imagined = walked.calm.imagined; used = walked.calm.used; books_are = refl };
+}
+booked kept before most front at (inr walked) = record {
+  books = walked.books;
+  are = walked.are;
+  waiting = walked.waiting;
+  failed = walked.failed ∙ sym walked.stopped;
+  calm = λ e. absurd (none_some (sym e ∙ walked.stopped));
+}
+
+-- What a walk goes by.
+pub record Walking : Type 0 where
+  pub stay : BringingsStay
+  pub kept : Bookkeeping
+  pub before : ℕ
+  pub most : ℕ
+  pub turns : List Turn
+  pub may : MayBeWalked kept before most turns
+
+-- A turn of the record, and what fsyncs had done before it.
+pub record TurnOf (turns : List Turn) : Type 0 where
+  pub front : List Turn
+  pub back : List Turn
+  pub turn : Turn
+  pub whole : turns ≡ front ++ turn ∷ back
+  pub at : PlayState
+  pub plays : Plays front at
+
+module _ (walking : Walking) where
+  abbrev stay : BringingsStay
+  stay = walking.stay
+
+  abbrev kept : Bookkeeping
+  kept = walking.kept
+
+  abbrev before : ℕ
+  before = walking.before
+
+  abbrev most : ℕ
+  most = walking.most
+
+  abbrev turns : List Turn
+  turns = walking.turns
+
+  abbrev may : MayBeWalked kept before most turns
+  may = walking.may
+
+  module _ (there : TurnOf turns) where
+    abbrev front : List Turn
+    front = there.front
+
+    abbrev back : List Turn
+    back = there.back
+
+    abbrev turn : Turn
+    turn = there.turn
+
+    abbrev whole : turns ≡ front ++ turn ∷ back
+    whole = there.whole
+
+    abbrev at : PlayState
+    at = there.at
+
+    abbrev plays : Plays front at
+    plays = there.plays
+
     so : PlayFits front at
     so = fits_play front at plays
 
@@ -114,6 +186,10 @@ module _ (stay : BringingsStay) (kept : Bookkeeping) (before most : ℕ) (turns 
       short_there : HasShortFiles calm.volume.first
       short_there = subst HasShortFiles (sym calm.imagined.first) may.begins.short
 
+      abbrev place : TurnAt kept
+      place =
+          record { front = front; turn = turn; at = at; so = so; calm = calm; short = short_there; core_is = core_is; flush_is = flush_is }
+
       calm_by : (did : TurnAct) (later : PlayState) → PlaysAct did front at turn later
           → FitsAct did kept (grants_in kept.pairs front) at calm.volume turn → HasCommit (kept.pairs own).commit.number did turn.commit
           → CountsFaults before most None did turn.faults
@@ -123,43 +199,43 @@ module _ (stay : BringingsStay) (kept : Bookkeeping) (before most : ℕ) (turns 
       calm_by act.Granted later did fit number counts grants_are =
           inl (
             ap (λ (s : PlayState). s.failed) did.later_is ∙ walked.quiet,
-            reserves_step kept front turn at so calm core_is flush_is later did fit grants_are,
+            reserves_step kept place later did fit grants_are,
           )
       calm_by act.GivenBack later did fit number counts grants_are =
           inl (
             ap (λ (s : PlayState). s.failed) did.later_is ∙ walked.quiet,
-            gives_step kept front turn at so calm core_is flush_is later did grants_are,
+            gives_step kept place later did grants_are,
           )
       calm_by (act.Short kind asked have) later did fit number counts grants_are =
           inl (
             ap (λ (s : PlayState). s.failed) did.later_is ∙ walked.quiet,
-            lacks_step kept front turn at so calm core_is flush_is kind asked have later did fit grants_are,
+            lacks_step kept place kind asked have later did fit grants_are,
           )
       calm_by act.Halted later did fit number counts grants_are = absurd counts
       calm_by act.CutAt later did fit number counts grants_are =
           inl (
             ap (λ (s : PlayState). s.failed) did.later_is ∙ walked.quiet,
-            begins_step kept front turn at so calm core_is flush_is number grants_are later did fit,
+            begins_step kept place number grants_are later did fit,
           )
       calm_by act.Opened later did fit number counts grants_are =
           inl (
             ap (λ (s : PlayState). s.failed) did.later_is ∙ walked.quiet,
-            opens_step kept front turn at so calm flush_is later did number grants_are,
+            opens_step kept place later did number grants_are,
           )
       calm_by act.Durable later did fit number counts grants_are =
           inl (
             ap (λ (s : PlayState). s.failed) did.later_is ∙ walked.quiet,
-            ends_step kept front turn at so calm flush_is stay short_there later did number grants_are,
+            ends_step kept place stay later did number grants_are,
           )
       calm_by act.Fail later did fit number counts grants_are = inr (record {
         faults = turn.faults;
         stopped = ap (λ (s : PlayState). s.failed) did.later_is;
-        next = failed_books kept front turn at so calm flush_is did.before did.behind did.opened did.flies number;
-        does = fails_now kept front turn at so calm flush_is did.before did.behind did.opened did.flies number;
+        next = failed_books kept place did.before did.behind did.opened did.flies number;
+        does = fails_now kept place did.before did.behind did.opened did.flies number;
         waiting =
-            failed_waiting kept front turn at so calm flush_is did.before did.behind did.opened did.flies number
+            failed_waiting kept place did.before did.behind did.opened did.flies number
             ∙ ap (λ (s : PlayState). map (waits_at kept.cores) s.waiting) (sym did.later_is);
-        failed = failed_failed kept front turn at so calm flush_is did.before did.behind did.opened did.flies number;
+        failed = failed_failed kept place did.before did.behind did.opened did.flies number;
       })
 
       calm_on : (later : PlayState) → PlaysAct turn.act front at turn later → Walked kept before most (front ++ turn ∷ []) later
@@ -310,39 +386,29 @@ module _ (stay : BringingsStay) (kept : Bookkeeping) (before most : ℕ) (turns 
   })
 
   pub walk : (front : List Turn) (at : PlayState) → Plays front at → (back : List Turn) → turns ≡ front ++ back → Walked kept before most front at
-  walk _ _ no_play back whole = walked_first
+  walk _ _ no_play _ _ = walked_first
   walk _ _ (one_play front turn at later plays did) back whole =
       let here : turns ≡ front ++ turn ∷ back = whole ∙ append_assoc front (turn ∷ []) back in
-      walked_on front back turn here at plays later did (walk front at plays (turn ∷ back) here)
-
-pub booked : (kept : Bookkeeping) (before most : ℕ) (front : List Turn) (at : PlayState) → Walked kept before most front at
-    → IsBooked kept before most front at
-booked kept before most front at (inl walked) = record {
-  books = books_beside (midway_of kept front at walked.calm);
-  are = walked.are;
-  waiting = refl;
-  failed = sym walked.quiet;
-  calm = λ e. record { volume = walked.calm.volume; imagined = walked.calm.imagined; used = walked.calm.used; books_are = refl };
-}
-booked kept before most front at (inr walked) = record {
-  books = walked.books;
-  are = walked.are;
-  waiting = walked.waiting;
-  failed = walked.failed ∙ sym walked.stopped;
-  calm = λ e. absurd (none_some (sym e ∙ walked.stopped));
-}
+      walked_on (record { front = front; back = back; turn = turn; whole = here; at = at; plays = plays }) later did (walk front at plays (turn ∷ back) here)
 
 pub walks_are_booked : WalksAreBooked
 walks_are_booked stay kept before most turns may front at leads =
-    booked kept before most front at (walk stay kept before most turns may front at leads.plays leads.back leads.whole)
+    booked kept before most front at
+    (walk (record { stay = stay; kept = kept; before = before; most = most; turns = turns; may = may }) front at leads.plays leads.back leads.whole)
 
 pub records_are_kept : RecordsAreKept
 records_are_kept stay kept entry_faults before exit_faults turns pens agrees =
     let merged : PensMerge kept.start.first kept.start.history turns =
     merged_turns kept.start.first kept.start.history before exit_faults turns pens agrees.begins.stands.between.history_is.legal agrees.agrees in
     let is = booked kept before exit_faults turns merged.plays.at
-    (walk stay kept before exit_faults turns
-    (record { begins = agrees.begins; fits = agrees.fits; counts = agrees.agrees.counts; own = merged.own }) turns merged.plays.at merged.plays.plays []
+    (walk (record {
+      stay = stay;
+      kept = kept;
+      before = before;
+      most = exit_faults;
+      turns = turns;
+      may = record { begins = agrees.begins; fits = agrees.fits; counts = agrees.agrees.counts; own = merged.own };
+    }) turns merged.plays.at merged.plays.plays []
     (sym (append-nil turns))) in
     record {
       before = before;
