@@ -7,5 +7,6 @@ pub mod Grants
 pub mod Calm
 pub mod Commits
 pub mod Landing
+pub mod Walked
 pub mod Walk
 pub mod Worked

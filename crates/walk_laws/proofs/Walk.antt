@@ -1,26 +1,19 @@
 -- The books are kept along a record, turn by turn, and the turns of cores that agree with their pens are recorded.
 use borrow.Author.Tests.{eqb-true}
-use Rattle.std.specs.Option.{unwrap_or}
-use Rattle.std.specs.FinMap.{empty, get-empty}
-use Rattle.std.proofs.Common.{◌≡◌, ◌⊎◌, ◌<◌, ◌∷◌, ◌++◌, ◌∙◌, ℕ, Bool, List, [], map, filter, nat_eq, Option, Some, None, arith, inl, inr, refl, sym, ap, subst, nat_cmp}
+use Rattle.std.proofs.Common.{◌≡◌, ◌⊎◌, ◌∷◌, ◌++◌, ◌∙◌, ℕ, List, [], map, filter, nat_eq, Option, Some, None, inl, inr, refl, sym, ap, subst}
 use Rattle.std.proofs.lemmas.List.{append-nil, append_assoc}
-use Rattle.sfs_base.proofs.BasicOptions.{none_some}
 use Rattle.tree_laws.specs.declared.turns.Turn.{Turn}
 use Rattle.tree_laws.specs.declared.turns.TurnAct.{TurnAct}
 use Rattle.tree_laws.specs.declared.turns.TurnAct.TheVariants as act
-use Rattle.cut_laws.specs.Closure.{every_entry, AreFlushed, none}
-use Rattle.cut_laws.specs.Cut.{Cut, cut_of}
 use Rattle.cut_laws.specs.Rules.{IsOneOf}
 use Rattle.cut_laws.proofs.Listed.{from_map}
 use Rattle.cut_laws.proofs.RunFacts.{in_filter}
-use Rattle.beside_laws.specs.Progress.{Standing, nobody}
-use Rattle.flush_laws.specs.Volume.{Volume}
 use Rattle.mark_laws.specs.Changed.{HasShortFiles}
 use Rattle.turn_laws.specs.Books.{Waiting, Books, flush_at, waiting_for, without_waiting, without_grant, CountsFaults, Does, IsTurn, AreTurns, no_turns, one_turn}
 use Rattle.turn_laws.specs.Recorded.{EachEnds}
 use Rattle.turn_laws.specs.Ways.{own_turns, HasCommit}
 use Rattle.merge_laws.specs.Phases.{phase_of, has_reserved, no_turn_yet, phase_after}
-use Rattle.merge_laws.specs.Plays.{PlayState, nothing_played, PlaysAct, Plays, no_play, one_play, PensMerge, StopsWaiting}
+use Rattle.merge_laws.specs.Plays.{PlayState, PlaysAct, Plays, no_play, one_play, PensMerge, StopsWaiting}
 use Rattle.merge_laws.proofs.Lists.{among_at}
 use Rattle.merge_laws.proofs.Merged.{merged_turns}
 use Rattle.merge_laws.proofs.Phases.{first_waits}
@@ -28,31 +21,14 @@ use Rattle.cut_laws.proofs.Basics.{in_left}
 use Rattle.walk_laws.specs.Brings.{BringingsStay}
 use Rattle.walk_laws.specs.Laws.{MayBeWalked, WalksAreBooked, RecordsAreKept}
 use Rattle.walk_laws.specs.Midway.{books_beside}
-use Rattle.walk_laws.specs.Pairs.{run_with, bringing_by}
-use Rattle.walk_laws.specs.Walk.{Bookkeeping, FitsAct, books_begun, grants_in, grants_by, waits_at, IsBooked}
+use Rattle.walk_laws.specs.Pairs.{bringing_by}
+use Rattle.walk_laws.specs.Walk.{Bookkeeping, FitsAct, grants_in, grants_by, waits_at}
 use Rattle.walk_laws.proofs.Calm.{CalmSo, TurnAt, midway_of, StepsTo, waiting_same, waiting_left, waits_here, reserves_step, lacks_step, gives_step}
 use Rattle.walk_laws.proofs.Commits.{begins_step}
 use Rattle.walk_laws.proofs.Grants.{grants_more}
 use Rattle.walk_laws.proofs.Landing.{fails_now, failed_books, failed_waiting, failed_failed, opens_step, ends_step}
 use Rattle.walk_laws.proofs.Played.{PlayFits, fits_play}
-
--- It is calm behind these turns, with these books.
-pub record WalkedCalm (kept : Bookkeeping) (before most : ℕ) (front : List Turn) (at : PlayState) : Type 0 where
-  pub quiet : at.failed ≡ None
-  pub calm : CalmSo kept front at
-  pub are : AreTurns before most (books_begun kept.start) front (books_beside (midway_of kept front at calm))
-
--- One of these turns has failed.
-pub record WalkedFailed (kept : Bookkeeping) (before most : ℕ) (front : List Turn) (at : PlayState) : Type 0 where
-  pub faults : ℕ
-  pub stopped : at.failed ≡ Some faults
-  pub books : Books
-  pub are : AreTurns before most (books_begun kept.start) front books
-  pub waiting : books.waiting ≡ map (waits_at kept.cores) at.waiting
-  pub failed : books.failed ≡ Some faults
-
-abbrev pub Walked : Bookkeeping → ℕ → ℕ → List Turn → PlayState → Type 0
-Walked kept before most front at = WalkedCalm kept before most front at ⊎ WalkedFailed kept before most front at
+use Rattle.walk_laws.proofs.Walked.{WalkedCalm, WalkedFailed, Walked, booked, walked_first}
 
 -- an fsync that has reserved has a turn
 turn_of_waiting : (front : List Turn) (stamp : ℕ) → phase_of stamp front ≡ has_reserved → (turn : Turn) × IsOneOf front turn × (turn.stamp.0 ≡ stamp)
@@ -72,24 +48,6 @@ record FailsTo (kept : Bookkeeping) (turn : Turn) (did : TurnAct) (books : Books
   does : Does did books turn next
   waiting : next.waiting ≡ map (waits_at kept.cores) later.waiting
   failed : next.failed ≡ Some faults
-
--- So the books are kept.
-pub booked : (kept : Bookkeeping) (before most : ℕ) (front : List Turn) (at : PlayState) → Walked kept before most front at
-    → IsBooked kept before most front at
-booked kept before most front at (inl walked) = record {
-  books = books_beside (midway_of kept front at walked.calm);
-  are = walked.are;
-  waiting = refl;
-  failed = sym walked.quiet;
-  calm = λ e. record { volume = walked.calm.volume; imagined = walked.calm.imagined; used = walked.calm.used; books_are = refl };
-}
-booked kept before most front at (inr walked) = record {
-  books = walked.books;
-  are = walked.are;
-  waiting = walked.waiting;
-  failed = walked.failed ∙ sym walked.stopped;
-  calm = λ e. absurd (none_some (sym e ∙ walked.stopped));
-}
 
 -- What a walk goes by.
 pub record Walking : Type 0 where
@@ -336,57 +294,8 @@ module _ (walking : Walking) where
         → Walked kept before most (front ++ turn ∷ []) later
     walked_on later did walked = elim walked [ inl calm ↦ calm_on calm later did | inr failed ↦ failed_on failed later did ]
 
-  -- before the first turn
-  abbrev start : Volume
-  start = kept.start
-
-  standing_first : Standing (run_with start [])
-  standing_first = record {
-    flushed =
-        subst (λ (c : Cut). AreFlushed start.first start.history every_entry [] c start.inodes) (sym may.begins.cut)
-        (subst (AreFlushed start.first start.history every_entry [] empty) (sym may.begins.inodes) none);
-    left = λ node. nobody (λ other one. absurd one) (cut_first node) (ap (λ (f : ℕ → Bool). f node) may.begins.inodes);
-    passed = λ change one within. absurd (none_within change.stamp (subst (λ (n : ℕ). change.stamp < n) (cut_first change.directory) within));
-    members = λ commit node one. absurd one;
-    numbered = λ one two here. absurd here;
-  }
-    where
-      cut_first : (node : ℕ) → cut_of start.cut node ≡ 0
-      cut_first node = ap (λ (c : Cut). cut_of c node) may.begins.cut ∙ ap (λ (o : Option ℕ). unwrap_or o 0) (get-empty nat_cmp node)
-
-      none_within : (stamp : ℕ) → stamp < 0 → ⊥
-      none_within stamp low = omega (arith, low)
-
-  calm_first : CalmSo kept [] nothing_played
-  calm_first = record {
-    volume = start;
-    imagined = record {
-      stands = may.begins.stands;
-      first = refl;
-      history = refl;
-      layout = refl;
-      flushes = sym (append-nil kept.start.flushes);
-      beside = record { standing = standing_first; opens = λ stamp one. absurd one; apart = λ stamp other one. absurd one };
-      disk = refl;
-    };
-    used = [];
-    used_by = λ number one. absurd one;
-    grants = record { own = λ stamp one. absurd one; none = λ stamp e. refl };
-  }
-
-  walked_first : Walked kept before most [] nothing_played
-  unfolding calm_first
-  walked_first = inl (record {
-    quiet = refl;
-    calm = calm_first;
-    are =
-        subst (AreTurns before most (books_begun start) []) (λ i. record (books_begun start) {
-          machine = record (books_begun start).machine { cut = (sym may.begins.cut) i; inodes = (sym may.begins.inodes) i };
-        }) no_turns;
-  })
-
   pub walk : (front : List Turn) (at : PlayState) → Plays front at → (back : List Turn) → turns ≡ front ++ back → Walked kept before most front at
-  walk _ _ no_play _ _ = walked_first
+  walk _ _ no_play _ _ = walked_first kept before most may.begins
   walk _ _ (one_play front turn at later plays did) back whole =
       let here : turns ≡ front ++ turn ∷ back = whole ∙ append_assoc front (turn ∷ []) back in
       walked_on (record { front = front; back = back; turn = turn; whole = here; at = at; plays = plays }) later did (walk front at plays (turn ∷ back) here)
