@@ -14,7 +14,7 @@ use Rattle.volume_laws.specs.Volume.{IsVolumeStanding}
 use Rattle.merge_laws.specs.Phases.{Phase, flies_in}
 use Rattle.merge_laws.specs.Plays.{Aloft, PlayState}
 use Rattle.merge_laws.proofs.Playing.{KeysDiffer, FitsPhases, fits_flies}
-use Rattle.walk_laws.specs.Pairs.{Pair, commit_by, run_with, PairsBeside, PairReserves, ArePairsApart, IsOpenBeside}
+use Rattle.walk_laws.specs.Pairs.{Pair, commit_under, run_with, PairsBeside, PairReserves, ArePairsApart, IsOpenBeside}
 use Rattle.walk_laws.specs.Walk.{open_stamps, flown_by}
 
 -- two lists without a stamp in common, in each of which none stands twice, have none twice together
@@ -44,24 +44,24 @@ open_once phase at fits =
 
 -- those that are open are those that wait and those that fly
 pub commits_aloft : (pairs : ℕ → Pair) (aloft : List Aloft)
-    → commits_of (map (flown_by pairs) aloft) ≡ map (commit_by pairs) (map (λ flight. flight.stamp) aloft)
+    → commits_of (map (flown_by pairs) aloft) ≡ map (commit_under pairs) (map (λ flight. flight.stamp) aloft)
 commits_aloft pairs [] = refl
-commits_aloft pairs (flight ∷ aloft) = ap (λ (l : List CoreCommit). commit_by pairs flight.stamp ∷ l) (commits_aloft pairs aloft)
+commits_aloft pairs (flight ∷ aloft) = ap (λ (l : List CoreCommit). commit_under pairs flight.stamp ∷ l) (commits_aloft pairs aloft)
 
 -- the place of the record of commits
 abbrev pub place_by : (ℕ → Pair) → Volume → PlayState → List ℕ → RecordPlace
 place_by pairs volume at used = record {
-  run = run_with volume (map (commit_by pairs) at.done);
-  waiting = map (commit_by pairs) at.waiting;
+  run = run_with volume (map (commit_under pairs) at.done);
+  waiting = map (commit_under pairs) at.waiting;
   flying = map (flown_by pairs) at.aloft;
   used = used;
 }
 
 pub open_are : (pairs : ℕ → Pair) (volume : Volume) (at : PlayState) (used : List ℕ)
-    → open_at (place_by pairs volume at used) ≡ map (commit_by pairs) (open_stamps at)
+    → open_at (place_by pairs volume at used) ≡ map (commit_under pairs) (open_stamps at)
 open_are pairs volume at used =
-    ap (λ (l : List CoreCommit). map (commit_by pairs) at.waiting ++ l) (commits_aloft pairs at.aloft)
-    ∙ sym (map-append (commit_by pairs) at.waiting (map (λ (flight : Aloft). flight.stamp) at.aloft))
+    ap (λ (l : List CoreCommit). map (commit_under pairs) at.waiting ++ l) (commits_aloft pairs at.aloft)
+    ∙ sym (map-append (commit_under pairs) at.waiting (map (λ (flight : Aloft). flight.stamp) at.aloft))
 
 -- Each number that was used is that of a commit that is done or aloft.
 abbrev pub UsedBy : (ℕ → Pair) → PlayState → List ℕ → Type 0
@@ -75,33 +75,33 @@ legal_run volume done stands = record { sound = stands.between.history_is.sound;
 module _ (pairs : ℕ → Pair) (volume : Volume) (done : List ℕ) where
   numbers_once : (stamps : List ℕ) → KeysDiffer (λ stamp. stamp) stamps
       → ((stamp other : ℕ) → IsOneOf stamps stamp → IsOneOf stamps other → stamp ≢ other → ArePairsApart (pairs stamp) (pairs other))
-      → HaveOtherNumbers (map (commit_by pairs) stamps)
+      → HaveOtherNumbers (map (commit_under pairs) stamps)
   numbers_once [] once apart = tt
   numbers_once (stamp ∷ stamps) once apart = (
     λ other one same.
-        let from = from_map (commit_by pairs) stamps other one in
+        let from = from_map (commit_under pairs) stamps other one in
         (apart stamp from.0 (inl refl) (inr from.1) (λ e. once.0 from.0 from.1 (sym e))).numbers (ap (λ (c : CoreCommit). c.number) from.2 ∙ same),
     numbers_once stamps once.1 (λ one other there here. apart one other (inr there) (inr here)),
   )
 
   -- the open ones are ready beside one another
   pub open_ready : (stamps : List ℕ) → KeysDiffer (λ stamp. stamp) stamps → PairsBeside pairs done stamps volume
-      → AreReady (run_with volume (map (commit_by pairs) done)) (map (commit_by pairs) stamps)
+      → AreReady (run_with volume (map (commit_under pairs) done)) (map (commit_under pairs) stamps)
   open_ready stamps once beside = record {
-    made = λ commit one. let from = from_map (commit_by pairs) stamps commit one in
+    made = λ commit one. let from = from_map (commit_under pairs) stamps commit one in
         subst Rattle.beside_laws.specs.Commits.IsByItsLook from.2 (beside.opens from.0 from.1).made;
-    knows = λ commit one. let from = from_map (commit_by pairs) stamps commit one in
-        subst (Rattle.beside_laws.specs.Laws.KnowsRun (run_with volume (map (commit_by pairs) done))) from.2 (beside.opens from.0 from.1).knows;
-    finds = λ commit one. let from = from_map (commit_by pairs) stamps commit one in
+    knows = λ commit one. let from = from_map (commit_under pairs) stamps commit one in
+        subst (Rattle.beside_laws.specs.Laws.KnowsRun (run_with volume (map (commit_under pairs) done))) from.2 (beside.opens from.0 from.1).knows;
+    finds = λ commit one. let from = from_map (commit_under pairs) stamps commit one in
         subst (Rattle.beside_laws.specs.Laws.FindsAlways volume.first volume.history) from.2 (beside.opens from.0 from.1).finds;
-    later = λ commit one. let from = from_map (commit_by pairs) stamps commit one in
-        subst (Rattle.beside_laws.specs.Progress.IsLater (map (commit_by pairs) done)) from.2 (beside.opens from.0 from.1).later;
+    later = λ commit one. let from = from_map (commit_under pairs) stamps commit one in
+        subst (Rattle.beside_laws.specs.Progress.IsLater (map (commit_under pairs) done)) from.2 (beside.opens from.0 from.1).later;
     apart = λ commit other one two differ share.
-        let mine = from_map (commit_by pairs) stamps commit one in
-        let theirs = from_map (commit_by pairs) stamps other two in
+        let mine = from_map (commit_under pairs) stamps commit one in
+        let theirs = from_map (commit_under pairs) stamps other two in
         (beside.apart mine.0 theirs.0 mine.1 theirs.1
-        (λ e. differ (ap (λ (c : CoreCommit). c.number) (sym mine.2 ∙ ap (commit_by pairs) e ∙ theirs.2)))).nodes
-        (subst (λ (c : CoreCommit). Share c (commit_by pairs theirs.0)) (sym mine.2) (subst (Share commit) (sym theirs.2) share));
+        (λ e. differ (ap (λ (c : CoreCommit). c.number) (sym mine.2 ∙ ap (commit_under pairs) e ∙ theirs.2)))).nodes
+        (subst (λ (c : CoreCommit). Share c (commit_under pairs theirs.0)) (sym mine.2) (subst (Share commit) (sym theirs.2) share));
     once = numbers_once stamps once beside.apart;
   }
 
@@ -120,7 +120,7 @@ module _ (pairs : ℕ → Pair) (volume : Volume) (done : List ℕ) where
   more_beside stamps more own within reserves beside = record {
     standing = beside.standing;
     opens = λ stamp one. elim (within stamp one) [
-      | inl e ↦ subst (λ (n : ℕ). IsOpenBeside volume (map (commit_by pairs) done) (pairs n)) (sym e) reserves.opens
+      | inl e ↦ subst (λ (n : ℕ). IsOpenBeside volume (map (commit_under pairs) done) (pairs n)) (sym e) reserves.opens
       | inr there ↦ beside.opens stamp there
     ];
     apart = λ stamp other one two differ. elim (within stamp one) [
@@ -149,25 +149,25 @@ pub amid : (pairs : ℕ → Pair) (volume : Volume) (at : PlayState) (used : Lis
 amid pairs volume at used once beside used_by = record {
   standing = beside.standing;
   ready =
-      subst (AreReady (run_with volume (map (commit_by pairs) at.done))) (sym (open_are pairs volume at used))
+      subst (AreReady (run_with volume (map (commit_under pairs) at.done))) (sym (open_are pairs volume at used))
       (open_ready pairs volume at.done (open_stamps at) once beside);
   low = λ commit one.
-      let from = from_map (commit_by pairs) (open_stamps at) commit
+      let from = from_map (commit_under pairs) (open_stamps at) commit
       (subst (λ (l : List CoreCommit). IsOneOf l commit) (open_are pairs volume at used) one) in
       let its = beside.opens from.0 from.1 in
       subst (λ (c : CoreCommit). (commit_fsync c).stamp ≤ length volume.history) from.2
       (subst (λ (f : Flush). f.stamp ≤ length volume.history) (sym its.flush) its.brings.comes.low);
   used_by = λ number one.
       let found = used_by number one in (
-        commit_by pairs found.0,
+        commit_under pairs found.0,
         elim (in_either at.done (map (λ (flight : Aloft). flight.stamp) at.aloft) found.0 found.1) [
           | inl done ↦
-              in_left (map (commit_by pairs) at.done) (commits_of (map (flown_by pairs) at.aloft)) (commit_by pairs found.0)
-              (to_map (commit_by pairs) at.done found.0 done)
+              in_left (map (commit_under pairs) at.done) (commits_of (map (flown_by pairs) at.aloft)) (commit_under pairs found.0)
+              (to_map (commit_under pairs) at.done found.0 done)
           | inr flies ↦
-              in_right (map (commit_by pairs) at.done) (commits_of (map (flown_by pairs) at.aloft)) (commit_by pairs found.0)
-              (subst (λ (l : List CoreCommit). IsOneOf l (commit_by pairs found.0)) (sym (commits_aloft pairs at.aloft))
-              (to_map (commit_by pairs) (map (λ (flight : Aloft). flight.stamp) at.aloft) found.0 flies))
+              in_right (map (commit_under pairs) at.done) (commits_of (map (flown_by pairs) at.aloft)) (commit_under pairs found.0)
+              (subst (λ (l : List CoreCommit). IsOneOf l (commit_under pairs found.0)) (sym (commits_aloft pairs at.aloft))
+              (to_map (commit_under pairs) (map (λ (flight : Aloft). flight.stamp) at.aloft) found.0 flies))
         ],
         found.2,
       );

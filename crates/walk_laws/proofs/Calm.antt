@@ -21,7 +21,7 @@ use Rattle.merge_laws.proofs.Lists.{among_at, with_one}
 use Rattle.merge_laws.proofs.Playing.{fits_flies}
 use Rattle.walk_laws.specs.Brings.{brought_by}
 use Rattle.walk_laws.specs.Midway.{Midway, books_beside}
-use Rattle.walk_laws.specs.Pairs.{bringing_by}
+use Rattle.walk_laws.specs.Pairs.{bringing_under}
 use Rattle.walk_laws.specs.Walk.{Bookkeeping, open_stamps, flights_by, waits_at, grant_at, grants_in, IsVolumeAt, ReservesThere, LacksThere}
 use Rattle.walk_laws.proofs.Played.{PlayFits}
 use Rattle.walk_laws.proofs.Beside.{UsedBy, fewer_beside, more_beside}
@@ -115,7 +115,7 @@ pub record TurnAt (kept : Bookkeeping) : Type 0 where
   pub calm : CalmSo kept front at
   pub short : HasShortFiles calm.volume.first
   pub core_is : turn.core.0 ≡ kept.cores turn.stamp.0
-  pub flush_is : (bringing_by kept.pairs turn.stamp.0).flush ≡ flush_at turn
+  pub flush_is : (bringing_under kept.pairs turn.stamp.0).flush ≡ flush_at turn
 
 module _ (kept : Bookkeeping) (place : TurnAt kept) where
   abbrev front : List Turn
@@ -136,7 +136,7 @@ module _ (kept : Bookkeeping) (place : TurnAt kept) where
   abbrev core_is : turn.core.0 ≡ kept.cores turn.stamp.0
   core_is = place.core_is
 
-  abbrev flush_is : (bringing_by kept.pairs turn.stamp.0).flush ≡ flush_at turn
+  abbrev flush_is : (bringing_under kept.pairs turn.stamp.0).flush ≡ flush_at turn
   flush_is = place.flush_is
 
   abbrev own : ℕ
@@ -201,12 +201,12 @@ module _ (kept : Bookkeeping) (place : TurnAt kept) where
     unfolding calm_reserved
     reserves_now =
         let brings = fit.pair.opens.brings in
-        let one = brought_by (bringing_by kept.pairs own) brings in
+        let one = brought_by (bringing_under kept.pairs own) brings in
         let plans = planned_has mid one turn calm.imagined.stands brings.planned brings.touched flush_is in
         record {
           next = calm_reserved;
           does = record {
-            need = amount_planned (bringing_by kept.pairs own).plan;
+            need = amount_planned (bringing_under kept.pairs own).plan;
             needs = need_there mid (planning_of one) turn plans;
             fits = fit.fits;
             later_is = λ i. books_beside (record mid {

@@ -19,7 +19,7 @@ use Rattle.merge_laws.proofs.Playing.{KeysDiffer, differ_more}
 use Rattle.turn_laws.specs.Ways.{own_turns}
 use Rattle.walk_laws.specs.Brings.{brought_by}
 use Rattle.walk_laws.specs.Midway.{Midway, machine_beside, books_beside}
-use Rattle.walk_laws.specs.Pairs.{Pair, commit_by, bringing_by, PairsBeside, IsOpenBeside}
+use Rattle.walk_laws.specs.Pairs.{Pair, commit_under, bringing_under, PairsBeside, IsOpenBeside}
 use Rattle.walk_laws.specs.Walk.{Bookkeeping, open_stamps, grants_in, BeginsThere}
 use Rattle.walk_laws.proofs.Played.{PlayFits}
 use Rattle.walk_laws.proofs.Beside.{UsedBy, place_by, open_once, differ_both, legal_run, fewer_beside, more_beside, amid}
@@ -51,7 +51,7 @@ module _ (kept : Bookkeeping) (place : TurnAt kept) where
   abbrev core_is : turn.core.0 ≡ kept.cores turn.stamp.0
   core_is = place.core_is
 
-  abbrev flush_is : (bringing_by kept.pairs turn.stamp.0).flush ≡ flush_at turn
+  abbrev flush_is : (bringing_under kept.pairs turn.stamp.0).flush ≡ flush_at turn
   flush_is = place.flush_is
 
   abbrev own : ℕ
@@ -93,8 +93,8 @@ module _ (kept : Bookkeeping) (place : TurnAt kept) where
             ]
       ]
 
-  begun_used : UsedBy pairs (begun []) (calm.used ++ (commit_by pairs own).number ∷ [])
-  begun_used number one = elim (in_either calm.used ((commit_by pairs own).number ∷ []) number one) [
+  begun_used : UsedBy pairs (begun []) (calm.used ++ (commit_under pairs own).number ∷ [])
+  begun_used number one = elim (in_either calm.used ((commit_under pairs own).number ∷ []) number one) [
     | inl before ↦
         let was = calm.used_by number before in (
           was.0,
@@ -130,13 +130,13 @@ module _ (kept : Bookkeeping) (place : TurnAt kept) where
       beside = beside;
       disk = calm.imagined.disk;
     };
-    used = calm.used ++ (commit_by pairs own).number ∷ [];
+    used = calm.used ++ (commit_under pairs own).number ∷ [];
     used_by = begun_used;
     grants = grants;
   }
 
-  module _ (number_is : turn.commit ≡ (commit_by pairs own).number) (grants_are : grants_then ≡ grants_now) where
-    tells : IsOpenBeside calm.volume (map (commit_by pairs) at.done) (pairs own) → TellsCommit pairs turn
+  module _ (number_is : turn.commit ≡ (commit_under pairs own).number) (grants_are : grants_then ≡ grants_now) where
+    tells : IsOpenBeside calm.volume (map (commit_under pairs) at.done) (pairs own) → TellsCommit pairs turn
     tells its = record { number = number_is; own = its.flush ∙ flush_is }
 
     -- an fsync that waited begins its commit
@@ -170,7 +170,7 @@ module _ (kept : Bookkeeping) (place : TurnAt kept) where
               (λ (e : Event). Accepts (machine_beside mid) e (machine_beside (midway_of kept (front ++ turn ∷ []) (begun left) waited_next)))
               (begins_event pairs turn (tells (calm.imagined.beside.opens own own_open)))
               (begin_taken pairs calm.volume at calm.used own midst stops.before stops.behind
-              (legal_run calm.volume (map (commit_by pairs) at.done) calm.imagined.stands) stops.waits.whole);
+              (legal_run calm.volume (map (commit_under pairs) at.done) calm.imagined.stands) stops.waits.whole);
           later_is = λ i. record (books_beside (midway_of kept (front ++ turn ∷ []) (begun left) waited_next)) {
             grants = grants_are i;
             waiting = (sym (waiting_left kept.cores at own left stops)) i;
@@ -220,10 +220,10 @@ module _ (kept : Bookkeeping) (place : TurnAt kept) where
           amid pairs calm.volume waiting_on calm.used on_once
           (more_beside pairs calm.volume at.done opens (open_stamps waiting_on) own on_within fit.pair calm.imagined.beside) calm.used_by
 
-      no_inodes : (bringing_by pairs own).grant.inodes ≡ []
+      no_inodes : (bringing_under pairs own).grant.inodes ≡ []
       no_inodes =
-          nil_from_length (bringing_by pairs own).grant.inodes
-          (fit.pair.opens.brings.planned.grants.serves.inodes.enough ∙ sym (enters_counted (bringing_by pairs own).plan)
+          nil_from_length (bringing_under pairs own).grant.inodes
+          (fit.pair.opens.brings.planned.grants.serves.inodes.enough ∙ sym (enters_counted (bringing_under pairs own).plan)
           ∙ ap (λ (a : Amount). a.inodes) fit.no_need)
 
       abbrev once_next : CalmSo kept (front ++ turn ∷ []) (begun at.waiting)
@@ -236,7 +236,7 @@ module _ (kept : Bookkeeping) (place : TurnAt kept) where
       needs_nothing : IsNeed (machine_beside mid) (image_held calm.volume) (flush_at turn) nothing
       needs_nothing =
           let brings = fit.pair.opens.brings in
-          let one = brought_by (bringing_by pairs own) brings in
+          let one = brought_by (bringing_under pairs own) brings in
           subst (IsNeed (machine_beside mid) (image_held calm.volume) (flush_at turn)) fit.no_need
           (need_there mid (planning_of one) turn (planned_has mid one turn calm.imagined.stands brings.planned brings.touched flush_is))
 
@@ -252,7 +252,7 @@ module _ (kept : Bookkeeping) (place : TurnAt kept) where
               (λ (e : Event). Accepts (machine_beside mid) e (machine_beside (midway_of kept (front ++ turn ∷ []) (begun at.waiting) once_next)))
               (begins_event pairs turn (tells fit.pair.opens))
               (begin_taken pairs calm.volume waiting_on calm.used own on_midst at.waiting []
-              (legal_run calm.volume (map (commit_by pairs) at.done) calm.imagined.stands) refl);
+              (legal_run calm.volume (map (commit_under pairs) at.done) calm.imagined.stands) refl);
           later_is = λ i. record (books_beside (midway_of kept (front ++ turn ∷ []) (begun at.waiting) once_next)) {
             grants = grants_are i;
             waiting = (sym (waiting_same kept.cores own at.waiting away)) i;

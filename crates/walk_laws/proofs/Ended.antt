@@ -15,18 +15,18 @@ use Rattle.flush_laws.specs.Volume.{Volume, OneFsync, volume_left}
 use Rattle.mark_laws.specs.Changed.{HasShortFiles}
 use Rattle.volume_laws.specs.Volume.{IsVolumeStanding}
 use Rattle.volume_laws.proofs.Stores.{store_left, commits_stay_standing}
-use Rattle.walk_laws.specs.Brings.{BringingsStay, AreApart, brought_by}
-use Rattle.walk_laws.specs.Pairs.{Pair, commit_by, bringing_by, flush_by, run_with, PairsBeside, ArePairsApart, IsOpenBeside, OnDisk, on_disk, with_brought, all_brought}
+use Rattle.walk_laws.specs.Brings.{BringingsStay, BringApart, brought_by}
+use Rattle.walk_laws.specs.Pairs.{Pair, commit_under, bringing_under, flush_under, run_with, PairsBeside, ArePairsApart, IsOpenBeside, OnDisk, on_disk, with_brought, all_brought}
 
 -- what one more has brought
 pub brought_more : (pairs : ℕ → Pair) (done : List ℕ) (stamp : ℕ) (was : OnDisk)
-    → all_brought pairs (done ++ stamp ∷ []) was ≡ with_brought (bringing_by pairs stamp) (all_brought pairs done was)
+    → all_brought pairs (done ++ stamp ∷ []) was ≡ with_brought (bringing_under pairs stamp) (all_brought pairs done was)
 brought_more pairs [] stamp was = refl
-brought_more pairs (first ∷ done) stamp was = brought_more pairs done stamp (with_brought (bringing_by pairs first) was)
+brought_more pairs (first ∷ done) stamp was = brought_more pairs done stamp (with_brought (bringing_under pairs first) was)
 
 -- pairs that are apart bring what is apart
 pub bring_apart : (mine theirs : Pair) → ((node : ℕ) → is_among mine.one.nodes node ≡ mine.commit.holds node)
-    → ((node : ℕ) → is_among theirs.one.nodes node ≡ theirs.commit.holds node) → ArePairsApart mine theirs → AreApart mine.one theirs.one
+    → ((node : ℕ) → is_among theirs.one.nodes node ≡ theirs.commit.holds node) → ArePairsApart mine theirs → BringApart mine.one theirs.one
 bring_apart mine theirs my_nodes their_nodes apart = record {
   nodes = λ node one. by node one (is_among theirs.one.nodes node) refl;
   inodes = apart.inodes;
@@ -71,20 +71,20 @@ module _ (stay : BringingsStay) (pairs : ℕ → Pair) (ending : Ending pairs) w
   beside = ending.beside
 
   abbrev run : Progress
-  run = run_with volume (map (commit_by pairs) done)
+  run = run_with volume (map (commit_under pairs) done)
 
   abbrev commit : CoreCommit
-  commit = commit_by pairs own
+  commit = commit_under pairs own
 
-  its : IsOpenBeside volume (map (commit_by pairs) done) (pairs own)
+  its : IsOpenBeside volume (map (commit_under pairs) done) (pairs own)
   its = beside.opens own among
 
   -- the fsync that brings it
   abbrev pub ended_one : OneFsync
-  ended_one = brought_by (bringing_by pairs own) (beside.opens own among).brings
+  ended_one = brought_by (bringing_under pairs own) (beside.opens own among).brings
 
   abbrev blocks : ℕ → List ℕ
-  blocks = store_planned volume.store (bringing_by pairs own).plan (bringing_by pairs own).grant
+  blocks = store_planned volume.store (bringing_under pairs own).plan (bringing_under pairs own).grant
 
   -- the volume that it leaves
   abbrev pub ended : Volume
@@ -107,7 +107,7 @@ module _ (stay : BringingsStay) (pairs : ℕ → Pair) (ending : Ending pairs) w
   is_ready = record {
     made = its.made;
     knows = its.knows;
-    finds = its.finds (map (commit_by pairs) done) volume.cut volume.inodes beside.standing its.knows;
+    finds = its.finds (map (commit_under pairs) done) volume.cut volume.inodes beside.standing its.knows;
     later = its.later;
   }
 
@@ -115,39 +115,39 @@ module _ (stay : BringingsStay) (pairs : ℕ → Pair) (ending : Ending pairs) w
   is_done =
       (knowing_raise run commit stands.between.history_is.sound stands.between.history_is.legal beside.standing is_ready).done ended.cut ended.inodes raises
 
-  done_more : map (commit_by pairs) (done ++ own ∷ []) ≡ map (commit_by pairs) done ++ commit ∷ []
-  done_more = map-append (commit_by pairs) done (own ∷ [])
+  done_more : map (commit_under pairs) (done ++ own ∷ []) ≡ map (commit_under pairs) done ++ commit ∷ []
+  done_more = map-append (commit_under pairs) done (own ∷ [])
 
-  later_still : (other : ℕ) → IsOneOf opens other → other ≢ own → IsLater (map (commit_by pairs) done ++ commit ∷ []) (commit_by pairs other)
+  later_still : (other : ℕ) → IsOneOf opens other → other ≢ own → IsLater (map (commit_under pairs) done ++ commit ∷ []) (commit_under pairs other)
   later_still other one differ = record {
-    other_number = λ third there same. elim (last_or (map (commit_by pairs) done) commit third there) [
+    other_number = λ third there same. elim (last_or (map (commit_under pairs) done) commit third there) [
       | inl before ↦ was.other_number third before same
       | inr last ↦ apart.numbers (sym (ap (λ (c : CoreCommit). c.number) last) ∙ same)
     ];
-    greater = λ third there share. elim (last_or (map (commit_by pairs) done) commit third there) [
+    greater = λ third there share. elim (last_or (map (commit_under pairs) done) commit third there) [
       | inl before ↦ was.greater third before share
-      | inr last ↦ absurd (apart.nodes (subst (Share (commit_by pairs other)) last share))
+      | inr last ↦ absurd (apart.nodes (subst (Share (commit_under pairs other)) last share))
     ];
   }
     where
-      was : IsLater (map (commit_by pairs) done) (commit_by pairs other)
+      was : IsLater (map (commit_under pairs) done) (commit_under pairs other)
       was = (beside.opens other one).later
 
       apart : ArePairsApart (pairs other) (pairs own)
       apart = beside.apart other own one among differ
 
-  stays_open : (other : ℕ) → IsOneOf opens other → other ≢ own → IsOpenBeside ended (map (commit_by pairs) (done ++ own ∷ [])) (pairs other)
+  stays_open : (other : ℕ) → IsOneOf opens other → other ≢ own → IsOpenBeside ended (map (commit_under pairs) (done ++ own ∷ [])) (pairs other)
   stays_open other one differ =
       subst (λ (l : List CoreCommit). IsOpenBeside ended l (pairs other)) (sym done_more) (record {
         flush = was.flush;
         nodes = was.nodes;
         made = was.made;
         knows =
-            is_done.others (commit_by pairs other) was.made (λ share. apart.nodes (record { node = share.node; one = share.two; two = share.one }))
+            is_done.others (commit_under pairs other) was.made (λ share. apart.nodes (record { node = share.node; one = share.two; two = share.one }))
             was.knows;
         finds = was.finds;
         later = later_still other one differ;
-        brings = stay volume (bringing_by pairs other) (bringing_by pairs own) blocks (record {
+        brings = stay volume (bringing_under pairs other) (bringing_under pairs own) blocks (record {
           stands = stands;
           short = ending.short;
           stays = was.brings;
@@ -157,7 +157,7 @@ module _ (stay : BringingsStay) (pairs : ℕ → Pair) (ending : Ending pairs) w
         });
       })
     where
-      was : IsOpenBeside volume (map (commit_by pairs) done) (pairs other)
+      was : IsOpenBeside volume (map (commit_under pairs) done) (pairs other)
       was = beside.opens other one
 
       apart : ArePairsApart (pairs other) (pairs own)
@@ -177,10 +177,10 @@ module _ (stay : BringingsStay) (pairs : ℕ → Pair) (ending : Ending pairs) w
       commits_stay_standing volume ended_one blocks stands (beside.opens own among).brings.planned (beside.opens own among).brings.comes left_blocks
 
   pub ended_disk : (was : OnDisk) → on_disk volume ≡ all_brought pairs done was → on_disk ended ≡ all_brought pairs (done ++ own ∷ []) was
-  ended_disk was e = ap (with_brought (bringing_by pairs own)) e ∙ sym (brought_more pairs done own was)
+  ended_disk was e = ap (with_brought (bringing_under pairs own)) e ∙ sym (brought_more pairs done own was)
 
-  pub ended_flushes : (first : List Flush) → volume.flushes ≡ first ++ map (flush_by pairs) done
-      → ended.flushes ≡ first ++ map (flush_by pairs) (done ++ own ∷ [])
+  pub ended_flushes : (first : List Flush) → volume.flushes ≡ first ++ map (flush_under pairs) done
+      → ended.flushes ≡ first ++ map (flush_under pairs) (done ++ own ∷ [])
   ended_flushes first e =
-      ap (λ (l : List Flush). l ++ flush_by pairs own ∷ []) e ∙ append_assoc first (map (flush_by pairs) done) (flush_by pairs own ∷ [])
-      ∙ ap (λ (l : List Flush). first ++ l) (sym (map-append (flush_by pairs) done (own ∷ [])))
+      ap (λ (l : List Flush). l ++ flush_under pairs own ∷ []) e ∙ append_assoc first (map (flush_under pairs) done) (flush_under pairs own ∷ [])
+      ∙ ap (λ (l : List Flush). first ++ l) (sym (map-append (flush_under pairs) done (own ∷ [])))

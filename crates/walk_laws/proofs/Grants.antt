@@ -10,7 +10,7 @@ use Rattle.cut_laws.specs.Rules.{IsOneOf}
 use Rattle.turn_laws.specs.Books.{Grant, is_other_grant}
 use Rattle.turn_laws.specs.Ways.{own_turns}
 use Rattle.turn_laws.proofs.Going.{own_both}
-use Rattle.walk_laws.specs.Pairs.{Pair, bringing_by}
+use Rattle.walk_laws.specs.Pairs.{Pair, bringing_under}
 use Rattle.walk_laws.specs.Walk.{grant_at, grants_by, grants_after}
 
 module _ {X : Type 0} (test : X → Bool) where
@@ -58,7 +58,7 @@ grants_more pairs (first ∷ front) turn grants = grants_more pairs front turn (
 
 -- What is reserved fits the open fsyncs.
 pub record GrantsFit (pairs : ℕ → Pair) (turns : List Turn) (opens : List ℕ) (grants : List Grant) : Type 0 where
-  pub own : (stamp : ℕ) → IsOneOf opens stamp → inodes_found stamp grants ≡ (bringing_by pairs stamp).grant.inodes
+  pub own : (stamp : ℕ) → IsOneOf opens stamp → inodes_found stamp grants ≡ (bringing_under pairs stamp).grant.inodes
   pub none : (stamp : ℕ) → own_turns stamp turns ≡ [] → find (has_stamp_of stamp) grants ≡ None
 
 -- what has no part has none of its parts
@@ -87,13 +87,13 @@ module _ (pairs : ℕ → Pair) (front : List Turn) (turn : Turn) (opens : List 
 
   -- an fsync with its first turn, to which nothing is granted
   pub fits_at_once : (more : List ℕ) → ((stamp : ℕ) → IsOneOf more stamp → (stamp ≡ turn.stamp.0) ⊎ IsOneOf opens stamp)
-      → own_turns turn.stamp.0 front ≡ [] → (bringing_by pairs turn.stamp.0).grant.inodes ≡ [] → GrantsFit pairs (front ++ turn ∷ []) more grants
+      → own_turns turn.stamp.0 front ≡ [] → (bringing_under pairs turn.stamp.0).grant.inodes ≡ [] → GrantsFit pairs (front ++ turn ∷ []) more grants
   fits_at_once more within first nothing = record {
     own = λ stamp one. elim (within stamp one) [
       | inl e ↦
           ap (λ (n : ℕ). inodes_found n grants) e
           ∙ ap (λ (o : Option Grant). option_map_or (λ (grant : Grant). grant.inodes) o []) (fit.none turn.stamp.0 first) ∙ sym nothing
-          ∙ ap (λ (n : ℕ). (bringing_by pairs n).grant.inodes) (sym e)
+          ∙ ap (λ (n : ℕ). (bringing_under pairs n).grant.inodes) (sym e)
       | inr there ↦ fit.own stamp there
     ];
     none = λ stamp e. fit.none stamp (none_before front turn stamp e).0;
@@ -108,7 +108,7 @@ module _ (pairs : ℕ → Pair) (front : List Turn) (turn : Turn) (opens : List 
           ap (λ (n : ℕ). inodes_found n (grants ++ grant_at pairs turn.stamp.0 ∷ [])) e
           ∙ ap (λ (o : Option Grant). option_map_or (λ (grant : Grant). grant.inodes) o [])
           (found_last (has_stamp_of turn.stamp.0) grants (grant_at pairs turn.stamp.0) (fit.none turn.stamp.0 first) (same_number turn.stamp.0))
-          ∙ ap (λ (n : ℕ). (bringing_by pairs n).grant.inodes) (sym e)
+          ∙ ap (λ (n : ℕ). (bringing_under pairs n).grant.inodes) (sym e)
       | inr there ↦
           ap (λ (o : Option Grant). option_map_or (λ (grant : Grant). grant.inodes) o []) (still stamp there.1) ∙ fit.own stamp there.0
     ];

@@ -16,7 +16,7 @@ use Rattle.merge_laws.specs.Plays.{Aloft, PlayState, FliesOnce, PlaysOpen, Plays
 use Rattle.merge_laws.proofs.Lists.{among_at, with_one}
 use Rattle.walk_laws.specs.Brings.{BringingsStay}
 use Rattle.walk_laws.specs.Midway.{Midway, machine_beside, books_beside, PlansTurn}
-use Rattle.walk_laws.specs.Pairs.{Pair, commit_by, bringing_by, PairsBeside, IsOpenBeside, on_disk}
+use Rattle.walk_laws.specs.Pairs.{Pair, commit_under, bringing_under, PairsBeside, IsOpenBeside, on_disk}
 use Rattle.walk_laws.specs.Walk.{Bookkeeping, open_stamps, grants_in}
 use Rattle.walk_laws.proofs.Played.{PlayFits}
 use Rattle.walk_laws.proofs.Beside.{UsedBy, place_by, open_once, legal_run, amid}
@@ -50,7 +50,7 @@ module _ (kept : Bookkeeping) (place : TurnAt kept) where
   abbrev calm : CalmSo kept front at
   calm = place.calm
 
-  abbrev flush_is : (bringing_by kept.pairs turn.stamp.0).flush ≡ flush_at turn
+  abbrev flush_is : (bringing_under kept.pairs turn.stamp.0).flush ≡ flush_at turn
   flush_is = place.flush_is
 
   abbrev own : ℕ
@@ -76,7 +76,7 @@ module _ (kept : Bookkeeping) (place : TurnAt kept) where
 
   -- its commit is aloft
   module _ (before behind : List Aloft) (opened : Bool) (flies : FliesOnce at.aloft before behind (record { stamp = own; opened = opened }))
-      (number_is : turn.commit ≡ (commit_by pairs own).number) where
+      (number_is : turn.commit ≡ (commit_under pairs own).number) where
     own_flies : IsOneOf (stamps_of at.aloft) own
     own_flies =
         to_map (λ (flight : Aloft). flight.stamp) at.aloft (record { stamp = own; opened = opened })
@@ -86,7 +86,7 @@ module _ (kept : Bookkeeping) (place : TurnAt kept) where
     own_open : IsOneOf opens own
     own_open = in_right at.waiting (stamps_of at.aloft) own own_flies
 
-    its : IsOpenBeside calm.volume (map (commit_by pairs) at.done) (pairs own)
+    its : IsOpenBeside calm.volume (map (commit_under pairs) at.done) (pairs own)
     its = calm.imagined.beside.opens own own_open
 
     other_flies : (other : Aloft) → IsOneOf (before ++ behind) other → IsOneOf (stamps_of at.aloft) other.stamp
@@ -96,7 +96,7 @@ module _ (kept : Bookkeeping) (place : TurnAt kept) where
 
     pub flies_there : FliesFor (machine_beside mid) turn
     flies_there = record {
-      flight = flight_of_flown (record { commit = commit_by pairs own; opened = opened });
+      flight = flight_of_flown (record { commit = commit_under pairs own; opened = opened });
       flies =
           ap (flight_of (machine_beside mid)) number_is
           ∙ flight_found pairs calm.volume at calm.used own midst before behind opened flies (λ other one differ.
@@ -132,7 +132,7 @@ module _ (kept : Bookkeeping) (place : TurnAt kept) where
 
   -- it is opened
   module _ (before behind : List Aloft) (flies : FliesOnce at.aloft before behind (record { stamp = own; opened = false }))
-      (number_is : turn.commit ≡ (commit_by pairs own).number) (grants_are : grants_then ≡ grants_now) where
+      (number_is : turn.commit ≡ (commit_under pairs own).number) (grants_are : grants_then ≡ grants_now) where
     abbrev open_now : PlayState
     open_now = record at { aloft = before ++ record { stamp = own; opened = true } ∷ behind }
 
@@ -174,7 +174,7 @@ module _ (kept : Bookkeeping) (place : TurnAt kept) where
       };
     }
 
-  pub opens_step : (later : PlayState) → PlaysOpen at own later → turn.commit ≡ (commit_by pairs own).number → grants_then ≡ grants_now
+  pub opens_step : (later : PlayState) → PlaysOpen at own later → turn.commit ≡ (commit_under pairs own).number → grants_then ≡ grants_now
       → StepsTo kept front turn at calm act.Opened later
   opens_step later plays number_is grants_are =
       subst (StepsTo kept front turn at calm act.Opened) (sym plays.later_is)
@@ -183,7 +183,7 @@ module _ (kept : Bookkeeping) (place : TurnAt kept) where
   -- it becomes durable
   module _ (stay : BringingsStay) (before behind : List Aloft)
       (flies : FliesOnce at.aloft before behind (record { stamp = own; opened = true }))
-      (number_is : turn.commit ≡ (commit_by pairs own).number) (grants_are : grants_then ≡ filter (is_other_grant own) grants_now) where
+      (number_is : turn.commit ≡ (commit_under pairs own).number) (grants_are : grants_then ≡ filter (is_other_grant own) grants_now) where
     abbrev landed : PlayState
     landed = record at { done = at.done ++ own ∷ []; aloft = before ++ behind }
 
@@ -287,7 +287,7 @@ module _ (kept : Bookkeeping) (place : TurnAt kept) where
                 (λ (n : ℕ). Accepts (machine_beside mid) (event.Durable n) (machine_beside (midway_of kept (front ++ turn ∷ []) landed landed_next)))
                 (sym number_is)
                 (end_taken pairs calm.volume at calm.used own midst before behind landed_next.volume.cut landed_next.volume.inodes
-                (legal_run calm.volume (map (commit_by pairs) at.done) calm.imagined.stands)
+                (legal_run calm.volume (map (commit_under pairs) at.done) calm.imagined.stands)
                 (raises stay pairs ending) flies.whole);
             made = made_of (planning_of brought);
             is_made = made_there mid (planning_of brought) turn plans_there;
@@ -301,7 +301,7 @@ module _ (kept : Bookkeeping) (place : TurnAt kept) where
         }
 
   pub ends_step : BringingsStay → (later : PlayState) → PlaysEnd at own later
-      → turn.commit ≡ (commit_by pairs own).number → grants_then ≡ filter (is_other_grant own) grants_now
+      → turn.commit ≡ (commit_under pairs own).number → grants_then ≡ filter (is_other_grant own) grants_now
       → StepsTo kept front turn at calm act.Durable later
   ends_step stay later plays number_is grants_are =
       subst (StepsTo kept front turn at calm act.Durable) (sym plays.later_is)

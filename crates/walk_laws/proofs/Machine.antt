@@ -20,29 +20,29 @@ use Rattle.beside_laws.proofs.Stepping.{commits_begin, commits_open, commits_end
 use Rattle.flush_laws.specs.Volume.{Volume}
 use Rattle.turn_laws.specs.Books.{flush_at}
 use Rattle.merge_laws.specs.Plays.{Aloft, PlayState, FliesOnce}
-use Rattle.walk_laws.specs.Pairs.{Pair, commit_by, run_with}
+use Rattle.walk_laws.specs.Pairs.{Pair, commit_under, run_with}
 use Rattle.walk_laws.specs.Walk.{flown_by}
 use Rattle.walk_laws.proofs.Beside.{place_by, commits_aloft}
 
 -- Turns tell of the commit of their fsync: under its number, and of its fsync.
 pub record TellsCommit (pairs : ℕ → Pair) (turn : Turn) : Type 0 where
-  pub number : turn.commit ≡ (commit_by pairs turn.stamp.0).number
-  pub own : commit_fsync (commit_by pairs turn.stamp.0) ≡ flush_at turn
+  pub number : turn.commit ≡ (commit_under pairs turn.stamp.0).number
+  pub own : commit_fsync (commit_under pairs turn.stamp.0) ≡ flush_at turn
 
 pub begins_event : (pairs : ℕ → Pair) (turn : Turn) → TellsCommit pairs turn
-    → begins (commit_by pairs turn.stamp.0) ≡ event.CutAt turn.commit turn.node turn.stamp
+    → begins (commit_under pairs turn.stamp.0) ≡ event.CutAt turn.commit turn.node turn.stamp
 begins_event pairs turn tells =
     λ i. event.CutAt ((sym tells.number) i) (record { 0 = (tells.own i).node }) (record { 0 = (tells.own i).stamp })
 
 module _ (pairs : ℕ → Pair) (volume : Volume) (at : PlayState) (used : List ℕ) (own : ℕ) (midst : IsMidst (place_by pairs volume at used)) where
   abbrev commit : CoreCommit
-  commit = commit_by pairs own
+  commit = commit_under pairs own
 
   -- a machine of the volume with these commits in flight
   abbrev flying_so : MachineState → List Flown → MachineState
   flying_so machine flying = record machine { flights = map flight_of_flown flying }
 
-  pub begin_taken : (before behind : List ℕ) → IsLegalRun (run_with volume (map (commit_by pairs) at.done)) → at.waiting ≡ before ++ own ∷ behind
+  pub begin_taken : (before behind : List ℕ) → IsLegalRun (run_with volume (map (commit_under pairs) at.done)) → at.waiting ≡ before ++ own ∷ behind
       → Accepts (machine_amid (place_by pairs volume at used)) (begins commit)
       (machine_amid (place_by pairs volume (record at { aloft = at.aloft ++ record { stamp = own; opened = false } ∷ [] }) (used ++ commit.number ∷ [])))
   begin_taken before behind legal whole =
@@ -50,8 +50,8 @@ module _ (pairs : ℕ → Pair) (volume : Volume) (at : PlayState) (used : List 
       (λ (l : List Flown). Accepts (machine_amid (place_by pairs volume at used)) (begins commit)
       (flying_so (machine_amid (place_by pairs volume at (used ++ commit.number ∷ []))) l))
       (sym (map-append (flown_by pairs) at.aloft (record { stamp = own; opened = false } ∷ [])))
-      (commits_begin (place_by pairs volume at used) (map (commit_by pairs) before) (map (commit_by pairs) behind) commit legal
-      (ap (map (commit_by pairs)) whole ∙ map-append (commit_by pairs) before (own ∷ behind)) midst).taken
+      (commits_begin (place_by pairs volume at used) (map (commit_under pairs) before) (map (commit_under pairs) behind) commit legal
+      (ap (map (commit_under pairs)) whole ∙ map-append (commit_under pairs) before (own ∷ behind)) midst).taken
 
   flown_there : (before behind : List Aloft) (opened : Bool) → at.aloft ≡ before ++ record { stamp = own; opened = opened } ∷ behind
       → map (flown_by pairs) at.aloft
@@ -70,8 +70,8 @@ module _ (pairs : ℕ → Pair) (volume : Volume) (at : PlayState) (used : List 
       (commits_open (place_by pairs volume at used) (map (flown_by pairs) before) (map (flown_by pairs) behind) commit
       (flown_there before behind false whole) midst).taken
 
-  pub end_taken : (before behind : List Aloft) (raised : Cut) (after : ℕ → Bool) → IsLegalRun (run_with volume (map (commit_by pairs) at.done))
-      → RaisesTo (run_with volume (map (commit_by pairs) at.done)) commit raised after
+  pub end_taken : (before behind : List Aloft) (raised : Cut) (after : ℕ → Bool) → IsLegalRun (run_with volume (map (commit_under pairs) at.done))
+      → RaisesTo (run_with volume (map (commit_under pairs) at.done)) commit raised after
       → at.aloft ≡ before ++ record { stamp = own; opened = true } ∷ behind
       → Accepts (machine_amid (place_by pairs volume at used)) (event.Durable commit.number)
       (record (machine_amid (place_by pairs volume (record at { aloft = before ++ behind }) used)) { cut = raised; inodes = after })
@@ -85,7 +85,7 @@ module _ (pairs : ℕ → Pair) (volume : Volume) (at : PlayState) (used : List 
 
   -- its flight is found by its number
   pub flight_found : (before behind : List Aloft) (opened : Bool) → FliesOnce at.aloft before behind (record { stamp = own; opened = opened })
-      → ((other : ℕ) → IsOneOf (map (λ flight. flight.stamp) before) other → other ≢ own → (commit_by pairs other).number ≢ commit.number)
+      → ((other : ℕ) → IsOneOf (map (λ flight. flight.stamp) before) other → other ≢ own → (commit_under pairs other).number ≢ commit.number)
       → flight_of (machine_amid (place_by pairs volume at used)) commit.number ≡ Some (flight_of_flown (record { commit = commit; opened = opened }))
   flight_found before behind opened flies numbers =
       ap (λ (l : List Flown). find (λ (flight : Flight). nat_eq flight.commit commit.number) (map flight_of_flown l))
@@ -94,7 +94,7 @@ module _ (pairs : ℕ → Pair) (volume : Volume) (at : PlayState) (used : List 
     where
       others : NoneHas (commits_of (map (flown_by pairs) before)) commit.number
       others other one same =
-          let stamps = from_map (commit_by pairs) (map (λ (flight : Aloft). flight.stamp) before) other
+          let stamps = from_map (commit_under pairs) (map (λ (flight : Aloft). flight.stamp) before) other
           (subst (λ (l : List CoreCommit). IsOneOf l other) (commits_aloft pairs before) one) in
           let flight = from_map (λ (flight : Aloft). flight.stamp) before stamps.0 stamps.1 in
           numbers stamps.0 stamps.1

@@ -21,7 +21,7 @@ use Rattle.cut_laws.proofs.Basics.{in_left}
 use Rattle.walk_laws.specs.Brings.{BringingsStay}
 use Rattle.walk_laws.specs.Laws.{MayBeWalked, WalksAreBooked, RecordsAreKept}
 use Rattle.walk_laws.specs.Midway.{books_beside}
-use Rattle.walk_laws.specs.Pairs.{bringing_by}
+use Rattle.walk_laws.specs.Pairs.{bringing_under}
 use Rattle.walk_laws.specs.Walk.{Bookkeeping, FitsAct, grants_in, grants_by, waits_at}
 use Rattle.walk_laws.proofs.Calm.{CalmSo, TurnAt, midway_of, StepsTo, waiting_same, waiting_left, waits_here, reserves_step, lacks_step, gives_step}
 use Rattle.walk_laws.proofs.Commits.{begins_step}
@@ -117,7 +117,7 @@ module _ (walking : Walking) where
     core_is : turn.core.0 ≡ kept.cores own
     core_is = may.fits.core turn among
 
-    flush_is : (bringing_by kept.pairs own).flush ≡ flush_at turn
+    flush_is : (bringing_under kept.pairs own).flush ≡ flush_at turn
     flush_is = may.fits.flush turn among
 
     -- one that waits has its core for itself

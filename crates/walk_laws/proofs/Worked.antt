@@ -17,7 +17,7 @@ use Rattle.merge_laws.specs.Plays.{PlayState, nothing_played, Plays, no_play, on
 use Rattle.merge_laws.specs.Worked.{BOTH_HISTORY, BOTH_TURNS, BOTH_PENS, own_turn, other_turn}
 use Rattle.merge_laws.proofs.Lists.{heads_are, nothing_there}
 use Rattle.merge_laws.proofs.Worked.{of_each, two_pens_agree}
-use Rattle.walk_laws.specs.Pairs.{OnDisk, bringing_by}
+use Rattle.walk_laws.specs.Pairs.{OnDisk, bringing_under}
 use Rattle.walk_laws.specs.Walk.{Bookkeeping, FitsAct, FitsRecord, IsVolumeAt, ReservesThere, grant_at, grants_in}
 use Rattle.walk_laws.specs.Worked.{TwoReserve, TwoPensAreKept}
 use Rattle.walk_laws.proofs.Played.{fits_play}
@@ -29,7 +29,7 @@ first_volume kept at volume begins empty_yet is = λ i. record {
   first = is.first i;
   history = is.history i;
   flushes =
-      (is.flushes ∙ ap (λ (l : List ℕ). kept.start.flushes ++ map (Rattle.walk_laws.specs.Pairs.flush_by kept.pairs) l) empty_yet
+      (is.flushes ∙ ap (λ (l : List ℕ). kept.start.flushes ++ map (Rattle.walk_laws.specs.Pairs.flush_under kept.pairs) l) empty_yet
       ∙ append-nil kept.start.flushes) i;
   cut = (sym raised.0 ∙ sym begins.cut) i;
   inodes = (sym raised.1 ∙ ap (λ (t : TreeState). (λ node. is_some (get t.nodes node))) is.first ∙ sym begins.inodes) i;
@@ -47,7 +47,7 @@ first_volume kept at volume begins empty_yet is = λ i. record {
     raised : (empty ≡ volume.cut) × ((λ node. is_some (get volume.first.nodes node)) ≡ volume.inodes)
     raised =
         nothing_raised volume.first volume.history every_entry empty (λ node. is_some (get volume.first.nodes node)) is.beside.standing.flushed
-        (ap (λ (l : List ℕ). map Rattle.beside_laws.specs.Commits.commit_fsync (map (Rattle.walk_laws.specs.Pairs.commit_by kept.pairs) l)) empty_yet)
+        (ap (λ (l : List ℕ). map Rattle.beside_laws.specs.Commits.commit_fsync (map (Rattle.walk_laws.specs.Pairs.commit_under kept.pairs) l)) empty_yet)
 
 -- The last turn of a play, with what fsyncs had done before it.
 record LastPlayed (front : List Turn) (turn : Turn) (later : PlayState) : Type 0 where
@@ -114,7 +114,7 @@ module _ (kept : Bookkeeping) where
     record_fits = record {
       core = of_each (λ (t : Turn). t.core.0 ≡ kept.cores t.stamp.0) BOTH_TURNS
           (own_core, (other_core, (own_core, (other_core, (other_core, (own_core, (other_core, (own_core, tt))))))));
-      flush = of_each (λ (t : Turn). (bringing_by kept.pairs t.stamp.0).flush ≡ flush_at t) BOTH_TURNS
+      flush = of_each (λ (t : Turn). (bringing_under kept.pairs t.stamp.0).flush ≡ flush_at t) BOTH_TURNS
           (own_flush, (other_flush, (own_flush, (other_flush, (other_flush, (own_flush, (other_flush, (own_flush, tt))))))));
       commit = of_each (λ (t : Turn). HasCommit (kept.pairs t.stamp.0).commit.number t.act t.commit) BOTH_TURNS
           (inl own_number, (inl other_number, (own_number, (other_number, (other_number, (own_number, (other_number, (own_number, tt))))))));
@@ -143,10 +143,10 @@ module _ (kept : Bookkeeping) where
         other_core : 1 ≡ kept.cores 1
         other_core = sym two.other.core_is
 
-        own_flush : (bringing_by kept.pairs 0).flush ≡ record { node = 1; stamp = 0 }
+        own_flush : (bringing_under kept.pairs 0).flush ≡ record { node = 1; stamp = 0 }
         own_flush = two.own.flush_is
 
-        other_flush : (bringing_by kept.pairs 1).flush ≡ record { node = 0; stamp = 1 }
+        other_flush : (bringing_under kept.pairs 1).flush ≡ record { node = 0; stamp = 1 }
         other_flush = two.other.flush_is
 
         own_number : 1 ≡ (kept.pairs 0).commit.number

@@ -55,7 +55,7 @@ abbrev pub brought_by : {volume : Volume} (bringing : Bringing) → Brings volum
 brought_by bringing brings = one_of bringing brings.raised brings.after brings.entries
 
 -- Two fsyncs share no node that they concern, and no inode and no block that they were granted.
-pub record AreApart (mine theirs : Bringing) : Type 0 where
+pub record BringApart (mine theirs : Bringing) : Type 0 where
   pub nodes : (node : ℕ) → is_among mine.nodes node ≡ true → is_among theirs.nodes node ≡ false
   pub inodes : (i : ℕ) → Contains mine.grant.inodes i → Contains theirs.grant.inodes i → ⊥
   pub blocks : (block : ℕ) → Contains mine.grant.blocks block → Contains theirs.grant.blocks block → ⊥
@@ -66,7 +66,7 @@ pub record EndsBeside (volume : Volume) (mine theirs : Bringing) (later : ℕ �
   pub short : HasShortFiles volume.first
   pub stays : Brings volume mine
   pub ends : Brings volume theirs
-  pub apart : AreApart mine theirs
+  pub apart : BringApart mine theirs
   pub left : IsStoreLeft volume (brought_by theirs ends) later
 
 -- What an fsync brings to a volume it brings to it also once such another one is on the disk.

@@ -19,15 +19,17 @@ pub record Pair : Type 0 where
   pub commit : CoreCommit
   pub one : Bringing
 
--- the commits, what they bring, and their fsyncs, by the stamps of these
-abbrev pub commit_by : (ℕ → Pair) → ℕ → CoreCommit
-commit_by pairs stamp = (pairs stamp).commit
+-- the commit under a stamp, that of its fsync
+abbrev pub commit_under : (ℕ → Pair) → ℕ → CoreCommit
+commit_under pairs stamp = (pairs stamp).commit
 
-abbrev pub bringing_by : (ℕ → Pair) → ℕ → Bringing
-bringing_by pairs stamp = (pairs stamp).one
+-- what it brings
+abbrev pub bringing_under : (ℕ → Pair) → ℕ → Bringing
+bringing_under pairs stamp = (pairs stamp).one
 
-abbrev pub flush_by : (ℕ → Pair) → ℕ → Flush
-flush_by pairs stamp = (bringing_by pairs stamp).flush
+-- its fsync
+abbrev pub flush_under : (ℕ → Pair) → ℕ → Flush
+flush_under pairs stamp = (bringing_under pairs stamp).flush
 
 -- the run so far where these commits are done and the disk is that of a volume
 abbrev pub run_with : Volume → List CoreCommit → Progress
@@ -53,13 +55,13 @@ pub record ArePairsApart (mine theirs : Pair) : Type 0 where
 
 -- What stands beside a volume where the fsyncs with some stamps are done and those with some others are open.
 pub record PairsBeside (pairs : ℕ → Pair) (done open_ones : List ℕ) (volume : Volume) : Type 0 where
-  pub standing : Standing (run_with volume (map (commit_by pairs) done))
-  pub opens : (stamp : ℕ) → IsOneOf open_ones stamp → IsOpenBeside volume (map (commit_by pairs) done) (pairs stamp)
+  pub standing : Standing (run_with volume (map (commit_under pairs) done))
+  pub opens : (stamp : ℕ) → IsOneOf open_ones stamp → IsOpenBeside volume (map (commit_under pairs) done) (pairs stamp)
   pub apart : (stamp other : ℕ) → IsOneOf open_ones stamp → IsOneOf open_ones other → stamp ≢ other → ArePairsApart (pairs stamp) (pairs other)
 
 -- An fsync may be open beside those that are: so is its pair, and it is apart from theirs.
 pub record PairReserves (pairs : ℕ → Pair) (volume : Volume) (done open_ones : List ℕ) (stamp : ℕ) : Type 0 where
-  pub opens : IsOpenBeside volume (map (commit_by pairs) done) (pairs stamp)
+  pub opens : IsOpenBeside volume (map (commit_under pairs) done) (pairs stamp)
   pub apart : (other : ℕ) → IsOneOf open_ones other → ArePairsApart (pairs stamp) (pairs other)
 
 -- What of a volume is told by those that are done alone: the numbers of its nodes, its blocks and its parts.
@@ -68,10 +70,11 @@ pub record OnDisk : Type 0 where
   pub store : ℕ → List ℕ
   pub parts : ℕ → Part
 
+-- what a volume has of it
 abbrev pub on_disk : Volume → OnDisk
 on_disk volume = record { num = volume.num; store = volume.store; parts = volume.parts }
 
--- the same once something was brought, and once some fsyncs have brought theirs, one after another
+-- the same once something was brought
 abbrev pub with_brought : Bringing → OnDisk → OnDisk
 with_brought one was = record {
   num = numbers_planned was.num one.plan one.grant.inodes;
@@ -79,6 +82,7 @@ with_brought one was = record {
   parts = part_next was.store was.parts one.plan one.grant;
 }
 
+-- and once the fsyncs with these stamps have brought theirs, one after another
 abbrev pub all_brought : (ℕ → Pair) → List ℕ → OnDisk → OnDisk
 all_brought pairs [] was = was
-all_brought pairs (stamp ∷ done) was = all_brought pairs done (with_brought (bringing_by pairs stamp) was)
+all_brought pairs (stamp ∷ done) was = all_brought pairs done (with_brought (bringing_under pairs stamp) was)

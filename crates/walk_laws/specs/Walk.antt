@@ -17,7 +17,7 @@ use Rattle.turn_laws.specs.Ways.{HasCommit}
 use Rattle.turn_ties.specs.Plans.{image_held, Planning, amount_planned}
 use Rattle.merge_laws.specs.Plays.{Aloft, PlayState, Plays}
 use Rattle.walk_laws.specs.Midway.{books_beside, books_granted, PlansTurn}
-use Rattle.walk_laws.specs.Pairs.{Pair, bringing_by, flush_by, PairsBeside, PairReserves, on_disk, all_brought}
+use Rattle.walk_laws.specs.Pairs.{Pair, bringing_under, flush_under, PairsBeside, PairReserves, on_disk, all_brought}
 
 -- What the books of a record are kept from: the volume that it begins with, and by the stamp of each fsync its commit with what it brings, and its
 -- core.
@@ -30,10 +30,11 @@ pub record Bookkeeping : Type 0 where
 abbrev pub open_stamps : PlayState → List ℕ
 open_stamps at = at.waiting ++ map (λ flight. flight.stamp) at.aloft
 
--- the commits aloft, as they fly
+-- a commit aloft, as it flies
 abbrev pub flown_by : (ℕ → Pair) → Aloft → Flown
 flown_by pairs one = record { commit = (pairs one.stamp).commit; opened = one.opened }
 
+-- the flights of those aloft
 abbrev pub flights_by : (ℕ → Pair) → List Aloft → List Flight
 flights_by pairs aloft = map flight_of_flown (map (flown_by pairs) aloft)
 
@@ -44,7 +45,7 @@ waits_at cores stamp = record { core = cores stamp; stamp = stamp }
 -- what is reserved for the fsync with a stamp: what its plan needs, and the inodes that it was granted
 abbrev pub grant_at : (ℕ → Pair) → ℕ → Grant
 grant_at pairs stamp =
-    record { stamp = stamp; need = amount_planned (bringing_by pairs stamp).plan; inodes = (bringing_by pairs stamp).grant.inodes }
+    record { stamp = stamp; need = amount_planned (bringing_under pairs stamp).plan; inodes = (bringing_under pairs stamp).grant.inodes }
 
 -- what is reserved behind an act of an fsync: one that reserves adds its own, one that gives back or is durable takes it away
 abbrev pub grants_by : (ℕ → Pair) → TurnAct → ℕ → List Grant → List Grant
@@ -53,11 +54,12 @@ grants_by pairs act.GivenBack stamp grants = filter (is_other_grant stamp) grant
 grants_by pairs act.Durable stamp grants = filter (is_other_grant stamp) grants
 grants_by pairs _ stamp grants = grants
 
--- what is reserved behind turns
+-- what is reserved behind turns, from what was before them
 abbrev pub grants_after : (ℕ → Pair) → List Grant → List Turn → List Grant
 grants_after pairs grants [] = grants
 grants_after pairs grants (turn ∷ turns) = grants_after pairs (grants_by pairs turn.act turn.stamp.0 grants) turns
 
+-- what is reserved behind the first turns of a record
 abbrev pub grants_in : (ℕ → Pair) → List Turn → List Grant
 grants_in pairs turns = grants_after pairs [] turns
 
@@ -69,16 +71,16 @@ pub record IsVolumeAt (kept : Bookkeeping) (at : PlayState) (volume : Volume) : 
   pub first : volume.first ≡ kept.start.first
   pub history : volume.history ≡ kept.start.history
   pub layout : volume.layout ≡ kept.start.layout
-  pub flushes : volume.flushes ≡ kept.start.flushes ++ map (flush_by kept.pairs) at.done
+  pub flushes : volume.flushes ≡ kept.start.flushes ++ map (flush_under kept.pairs) at.done
   pub beside : PairsBeside kept.pairs at.done (open_stamps at) volume
   pub disk : on_disk volume ≡ all_brought kept.pairs at.done (on_disk kept.start)
 
 -- A turn may reserve there: its fsync may be open beside those that are, what its plan needs fits, and its inodes are the least ones.
 pub record ReservesThere (kept : Bookkeeping) (grants : List Grant) (at : PlayState) (volume : Volume) (turn : Turn) : Type 0 where
   pub pair : PairReserves kept.pairs volume at.done (open_stamps at) turn.stamp.0
-  pub fits : FitsFree (amount_planned (bringing_by kept.pairs turn.stamp.0).plan) (free_in (books_granted volume grants))
-  pub least : (bringing_by kept.pairs turn.stamp.0).grant.inodes
-      ≡ least_open (books_granted volume grants) (amount_planned (bringing_by kept.pairs turn.stamp.0).plan).inodes
+  pub fits : FitsFree (amount_planned (bringing_under kept.pairs turn.stamp.0).plan) (free_in (books_granted volume grants))
+  pub least : (bringing_under kept.pairs turn.stamp.0).grant.inodes
+      ≡ least_open (books_granted volume grants) (amount_planned (bringing_under kept.pairs turn.stamp.0).plan).inodes
 
 -- A turn lacks room there: its fsync has a plan, which needs more than is free.
 pub record LacksThere (grants : List Grant) (volume : Volume) (turn : Turn) (kind : SpaceKind) (asked have : ℕ) : Type 0 where
@@ -89,7 +91,7 @@ pub record LacksThere (grants : List Grant) (volume : Volume) (turn : Turn) (kin
 -- A turn may begin a commit there with nothing reserved: its fsync may be open beside those that are, and its plan needs nothing.
 pub record BeginsThere (kept : Bookkeeping) (at : PlayState) (volume : Volume) (turn : Turn) : Type 0 where
   pub pair : PairReserves kept.pairs volume at.done (open_stamps at) turn.stamp.0
-  pub no_need : amount_planned (bringing_by kept.pairs turn.stamp.0).plan ≡ nothing
+  pub no_need : amount_planned (bringing_under kept.pairs turn.stamp.0).plan ≡ nothing
 
 -- what a turn asks of a place, by its act: one that waits begins its commit as it reserved it, and all others but these ask nothing
 abbrev pub FitsAct : TurnAct → Bookkeeping → List Grant → PlayState → Volume → Turn → Type 0
@@ -99,7 +101,7 @@ FitsAct act.CutAt kept grants at volume turn = (IsOneOf at.waiting turn.stamp.0 
 FitsAct _ kept grants at volume turn = Unit {0}
 
 -- A place of a record before a turn, while none has failed: what fsyncs have done up to there, and the volume imagined.
-pub record IsPlaceOf (kept : Bookkeeping) (turns front : List Turn) (turn : Turn) (at : PlayState) (volume : Volume) : Type 0 where
+pub record IsCalmPlace (kept : Bookkeeping) (turns front : List Turn) (turn : Turn) (at : PlayState) (volume : Volume) : Type 0 where
   pub back : List Turn
   pub whole : turns ≡ front ++ turn ∷ back
   pub plays : Plays front at
@@ -110,9 +112,9 @@ pub record IsPlaceOf (kept : Bookkeeping) (turns front : List Turn) (turn : Turn
 -- commit's number; and each asks what holds at its place.
 pub record FitsRecord (kept : Bookkeeping) (turns : List Turn) : Type 0 where
   pub core : (turn : Turn) → IsOneOf turns turn → turn.core.0 ≡ kept.cores turn.stamp.0
-  pub flush : (turn : Turn) → IsOneOf turns turn → (bringing_by kept.pairs turn.stamp.0).flush ≡ flush_at turn
+  pub flush : (turn : Turn) → IsOneOf turns turn → (bringing_under kept.pairs turn.stamp.0).flush ≡ flush_at turn
   pub commit : (turn : Turn) → IsOneOf turns turn → HasCommit (kept.pairs turn.stamp.0).commit.number turn.act turn.commit
-  pub fits : (front : List Turn) (turn : Turn) (at : PlayState) (volume : Volume) → IsPlaceOf kept turns front turn at volume
+  pub fits : (front : List Turn) (turn : Turn) (at : PlayState) (volume : Volume) → IsCalmPlace kept turns front turn at volume
       → FitsAct turn.act kept (grants_in kept.pairs front) at volume turn
 
 -- A walk may begin with a volume: it stands, no file of its mount's tree is too long, its cut is 0, and the nodes of its mount's tree have an inode.
