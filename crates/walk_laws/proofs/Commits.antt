@@ -48,9 +48,6 @@ module _ (kept : Bookkeeping) (place : TurnAt kept) where
   abbrev calm : CalmSo kept front at
   calm = place.calm
 
-  abbrev core_is : turn.core.0 ≡ kept.cores turn.stamp.0
-  core_is = place.core_is
-
   abbrev flush_is : (bringing_under kept.pairs turn.stamp.0).flush ≡ flush_at turn
   flush_is = place.flush_is
 
