@@ -314,7 +314,7 @@ module _ (layout : Layout) (before : ℕ) where
   rings_label core teller past all fits (label.Filled k piece done) rule apart =
       rings_move past.slots (changed_slot past.slots k (knowing (known_filled done piece))) fits
       (marks_as past.slots k (known_filled done piece) (λ work n mark. mark))
-  rings_label core teller past all fits label.Synced rule apart =
+  rings_label core teller past all fits (label.Synced now) rule apart =
       rings_move past.slots (synced_slots past.slots) fits
       (synced_came (KeepsMarks past.slots) past.slots (synced_as past.slots))
   rings_label core teller past all fits (label.Opened k done cut opened) rule apart =
