@@ -1,0 +1,1 @@
+//! What is proved of images: each function's contract is a law.
