@@ -66,9 +66,12 @@ pub record RunStart : Type 0 where
   pub parts : ℕ → Part
   pub gives : ℕ → List InodePart
 
--- what turns say of a disk from the start of a run on
+-- what turns say of a disk at the start of a run, and from it on
+abbrev pub first_books : RunStart → DiskBooks
+first_books run = record { base = run.parts; flying = [] }
+
 abbrev pub disk_books : RunStart → List Turn → DiskBooks
-disk_books run turns = books_from run.gives turns (record { base = run.parts; flying = [] })
+disk_books run turns = books_from run.gives turns (first_books run)
 
 -- the parts once some of these commits are done too
 abbrev pub parts_kept : (ℕ → List InodePart) → (ℕ → Bool) → List ℕ → (ℕ → Part) → ℕ → Part

@@ -1,3 +1,4 @@
 pub mod Commits
 pub mod Images
 pub mod Run
+pub mod Laws

@@ -1,1 +1,19 @@
 //! What is proved of images: each function's contract is a law.
+ghost use Rattle.slot_image_laws.specs.Laws.{EmptyCommitsKeep, QuietTurnsKeep, RunsStart};
+
+use sfs_dev::Disk;
+
+/// A run begins where no slot is open and no turn was told.
+pub fn runs_start<D: Disk>(disk: &D)
+    ensures { RunsStart (D.view disk.now) }
+{}
+
+/// A turn keeps a run that neither opens a commit nor makes one durable.
+pub fn quiet_turns_keep<D: Disk>(disk: &D)
+    ensures { QuietTurnsKeep (D.view disk.now) }
+{}
+
+/// So do the turns of a commit that gives nothing.
+pub fn empty_commits_keep<D: Disk>(disk: &D)
+    ensures { EmptyCommitsKeep (D.view disk.now) }
+{}
