@@ -1,12 +1,16 @@
 -- The laws of steps over images, each of which a function of the module laws proves.
-use Rattle.std.specs.Prelude.{◌≤◌, ◌≡◌, ◌≢◌, ◌++◌, ◌∷◌, [], None, List, ℕ, Some}
+use Rattle.std.specs.Prelude.{◌≤◌, ◌≡◌, ◌≢◌, ◌++◌, ◌∷◌, ◌<◌, [], None, List, ℕ, Some, true, false}
+use Rattle.sfs_image.specs.Super.{Layout}
+use Rattle.sfs_image.specs.Settled.{slot_count}
 use Rattle.sfs_dev.specs.Disk.{View}
+use Rattle.journal_one.specs.Job.{IsJob}
 use Rattle.tree_laws.specs.declared.turns.Turn.{Turn}
 use Rattle.tree_laws.specs.declared.turns.TurnAct.TheVariants as act
-use Rattle.slot_laws.specs.Slots.{Slots, SlotWork}
-use Rattle.slot_laws.specs.Rules.{EmptyTurns}
-use Rattle.slot_image_laws.specs.Images.{RunStart}
-use Rattle.slot_image_laws.specs.Run.{BeganWith, KeepsLaws, IsRun, RisesFrom}
+use Rattle.slot_laws.specs.Slots.{Slots, SlotWork, synced_slots, shut_gate, with_at, begun_work, place_at}
+use Rattle.slot_laws.specs.Rules.{EmptyTurns, HasWork}
+use Rattle.slot_image_laws.specs.Images.{RunStart, disk_books}
+use Rattle.slot_image_laws.specs.Run.{BeganWith, KeepsLaws, IsRun, RisesFrom, Syncs}
+use Rattle.slot_image_laws.specs.Commits.{IsCommitAt}
 
 -- A run begins where no slot is open and no turn was told.
 abbrev pub RunsStart : View → Type 0
@@ -34,3 +38,35 @@ EmptyCommitsKeep disk = (run : RunStart) (turns : List Turn) (slots : Slots) (th
     → ((k : ℕ) (work : SlotWork) → slots k ≡ Some work → work.commit ≢ commit)
     → (three.cut.now ≡ disk.now) × (three.opened.now ≡ disk.now) × (three.durable.now ≡ disk.now)
     → IsRun run turns slots disk → IsRun run (turns ++ three.cut ∷ three.opened ∷ three.durable ∷ []) slots disk
+
+-- A sync that answered Ok makes known of each image what is known of a read, for every slot.
+abbrev pub SyncsKeep : View → View → Type 0
+SyncsKeep old new = (run : RunStart) (turns : List Turn) (slots : Slots) → RisesFrom run.moment turns old.now → KeepsLaws old → Syncs true old new
+    → IsRun run turns slots old → IsRun run turns (synced_slots slots) new
+
+-- A sync that failed leaves a run as it is.
+abbrev pub FailedSyncsKeep : View → View → Type 0
+FailedSyncsKeep old new = (run : RunStart) (turns : List Turn) (slots : Slots) → RisesFrom run.moment turns old.now → KeepsLaws old
+    → Syncs false old new → IsRun run turns slots old → IsRun run turns slots new
+
+-- A slot whose commit is durable and whose gate is shut in each image may be idle again.
+abbrev pub IdlesKeep : View → Type 0
+IdlesKeep disk = (run : RunStart) (turns : List Turn) (slots : Slots) (k : ℕ) → HasWork slots k true shut_gate
+    → IsRun run turns slots disk → IsRun run turns (with_at slots k None) disk
+
+-- A slot is idle, and a commit begins there as the first with its number and with the greatest stamp.
+pub record MayBeginIn (layout : Layout) (slots : Slots) (k : ℕ) (work : SlotWork) : Type 0 where
+  pub begins : work ≡ begun_work work.job work.commit work.flush
+  pub idle : slots k ≡ None
+  pub within : k < slot_count layout
+  pub place : work.job.place ≡ place_at layout k
+  pub is : IsJob work.job
+  pub stamp : (j : ℕ) (other : SlotWork) → slots j ≡ Some other → other.job.stamp < work.job.stamp
+  pub number : (j : ℕ) (other : SlotWork) → slots j ≡ Some other → other.commit ≢ work.commit
+
+-- A commit may begin in an idle slot, with a number that none in a slot has and a greater stamp than theirs, where it fits what the disk stands
+-- for.
+abbrev pub BeginsKeep : View → Type 0
+BeginsKeep disk = (run : RunStart) (turns : List Turn) (slots : Slots) (k : ℕ) (work : SlotWork) → MayBeginIn run.layout slots k work
+    → IsCommitAt run.gives run.layout (disk_books run turns).base slots work → KeepsLaws disk
+    → IsRun run turns slots disk → IsRun run turns (with_at slots k (Some work)) disk

@@ -1,5 +1,5 @@
 //! What is proved of images: each function's contract is a law.
-ghost use Rattle.slot_image_laws.specs.Laws.{EmptyCommitsKeep, QuietTurnsKeep, RunsStart};
+ghost use Rattle.slot_image_laws.specs.Laws.{EmptyCommitsKeep, FailedSyncsKeep, QuietTurnsKeep, RunsStart, SyncsKeep};
 
 use sfs_dev::Disk;
 
@@ -16,4 +16,14 @@ pub fn quiet_turns_keep<D: Disk>(disk: &D)
 /// So do the turns of a commit that gives nothing.
 pub fn empty_commits_keep<D: Disk>(disk: &D)
     ensures { EmptyCommitsKeep (D.view disk.now) }
+{}
+
+/// A sync that answered Ok keeps a run, and serves every slot.
+pub fn syncs_keep<D: Disk>(old: &D, new: &D)
+    ensures { SyncsKeep (D.view old.now) (D.view new.now) }
+{}
+
+/// A sync that failed keeps a run.
+pub fn failed_syncs_keep<D: Disk>(old: &D, new: &D)
+    ensures { FailedSyncsKeep (D.view old.now) (D.view new.now) }
 {}
