@@ -4,3 +4,4 @@ pub mod Anew
 pub mod Synced
 pub mod Records
 pub mod Idled
+pub mod Begun

@@ -3,9 +3,10 @@ use Rattle.std.specs.Prelude.{◌≤◌, ◌≡◌, ◌≢◌, ◌++◌, ◌∷�
 use Rattle.sfs_image.specs.Super.{Layout}
 use Rattle.sfs_image.specs.Settled.{slot_count}
 use Rattle.sfs_dev.specs.Disk.{View}
-use Rattle.journal_one.specs.Job.{IsJob}
+use Rattle.journal_one.specs.Job.{IsJob, Job}
 use Rattle.tree_laws.specs.declared.turns.Turn.{Turn}
 use Rattle.tree_laws.specs.declared.turns.TurnAct.TheVariants as act
+use Rattle.cut_laws.specs.Closure.{Flush}
 use Rattle.slot_laws.specs.Slots.{Slots, SlotWork, synced_slots, shut_gate, with_at, begun_work, place_at}
 use Rattle.slot_laws.specs.Rules.{EmptyTurns, HasWork}
 use Rattle.slot_image_laws.specs.Images.{RunStart, disk_books}
@@ -55,18 +56,17 @@ IdlesKeep disk = (run : RunStart) (turns : List Turn) (slots : Slots) (k : ℕ) 
     → IsRun run turns slots disk → IsRun run turns (with_at slots k None) disk
 
 -- A slot is idle, and a commit begins there as the first with its number and with the greatest stamp.
-pub record MayBeginIn (layout : Layout) (slots : Slots) (k : ℕ) (work : SlotWork) : Type 0 where
-  pub begins : work ≡ begun_work work.job work.commit work.flush
+pub record MayBeginIn (layout : Layout) (slots : Slots) (k : ℕ) (job : Job) (commit : ℕ) : Type 0 where
   pub idle : slots k ≡ None
   pub within : k < slot_count layout
-  pub place : work.job.place ≡ place_at layout k
-  pub is : IsJob work.job
-  pub stamp : (j : ℕ) (other : SlotWork) → slots j ≡ Some other → other.job.stamp < work.job.stamp
-  pub number : (j : ℕ) (other : SlotWork) → slots j ≡ Some other → other.commit ≢ work.commit
+  pub place : job.place ≡ place_at layout k
+  pub is : IsJob job
+  pub stamp : (j : ℕ) (other : SlotWork) → slots j ≡ Some other → other.job.stamp < job.stamp
+  pub number : (j : ℕ) (other : SlotWork) → slots j ≡ Some other → other.commit ≢ commit
 
--- A commit may begin in an idle slot, with a number that none in a slot has and a greater stamp than theirs, where it fits what the disk stands
--- for.
+-- Such a commit keeps a run that fits what the disk stands for.
 abbrev pub BeginsKeep : View → Type 0
-BeginsKeep disk = (run : RunStart) (turns : List Turn) (slots : Slots) (k : ℕ) (work : SlotWork) → MayBeginIn run.layout slots k work
-    → IsCommitAt run.gives run.layout (disk_books run turns).base slots work → KeepsLaws disk
-    → IsRun run turns slots disk → IsRun run turns (with_at slots k (Some work)) disk
+BeginsKeep disk = (run : RunStart) (turns : List Turn) (slots : Slots) (k : ℕ) (job : Job) (commit : ℕ) (flush : Flush)
+    → MayBeginIn run.layout slots k job commit
+    → IsCommitAt run.gives run.layout (disk_books run turns).base slots (begun_work job commit flush) → KeepsLaws disk
+    → IsRun run turns slots disk → IsRun run turns (with_at slots k (Some (begun_work job commit flush))) disk

@@ -1,5 +1,5 @@
 //! What is proved of images: each function's contract is a law.
-ghost use Rattle.slot_image_laws.specs.Laws.{EmptyCommitsKeep, FailedSyncsKeep, QuietTurnsKeep, RunsStart, SyncsKeep};
+ghost use Rattle.slot_image_laws.specs.Laws.{BeginsKeep, EmptyCommitsKeep, FailedSyncsKeep, IdlesKeep, QuietTurnsKeep, RunsStart, SyncsKeep};
 
 use sfs_dev::Disk;
 
@@ -26,4 +26,14 @@ pub fn syncs_keep<D: Disk>(old: &D, new: &D)
 /// A sync that failed keeps a run.
 pub fn failed_syncs_keep<D: Disk>(old: &D, new: &D)
     ensures { FailedSyncsKeep (D.view old.now) (D.view new.now) }
+{}
+
+/// A slot with a durable commit and a shut gate may be idle again.
+pub fn idles_keep<D: Disk>(disk: &D)
+    ensures { IdlesKeep (D.view disk.now) }
+{}
+
+/// A commit that fits what the disk stands for may begin in an idle slot.
+pub fn begins_keep<D: Disk>(disk: &D)
+    ensures { BeginsKeep (D.view disk.now) }
 {}
