@@ -5,3 +5,5 @@ pub mod Synced
 pub mod Records
 pub mod Idled
 pub mod Begun
+pub mod Given
+pub mod Shown
