@@ -7,3 +7,4 @@ pub mod Idled
 pub mod Begun
 pub mod Given
 pub mod Shown
+pub mod Settled

@@ -7,7 +7,7 @@ use Rattle.journal_one.specs.Job.{IsJob, Job}
 use Rattle.tree_laws.specs.declared.turns.Turn.{Turn}
 use Rattle.tree_laws.specs.declared.turns.TurnAct.TheVariants as act
 use Rattle.cut_laws.specs.Closure.{Flush}
-use Rattle.slot_laws.specs.Slots.{Slots, SlotWork, synced_slots, shut_gate, with_at, begun_work, place_at}
+use Rattle.slot_laws.specs.Slots.{Slots, SlotWork, synced_slots, shut_gate, with_at, begun_work, place_at, open_gate, changed_slot, settled_work}
 use Rattle.slot_laws.specs.Rules.{EmptyTurns, HasWork}
 use Rattle.slot_image_laws.specs.Images.{RunStart, disk_books}
 use Rattle.slot_image_laws.specs.Run.{BeganWith, KeepsLaws, IsRun, RisesFrom, Syncs}
@@ -70,3 +70,9 @@ BeginsKeep disk = (run : RunStart) (turns : List Turn) (slots : Slots) (k : ℕ)
     → MayBeginIn run.layout slots k job commit
     → IsCommitAt run.gives run.layout (disk_books run turns).base slots (begun_work job commit flush) → KeepsLaws disk
     → IsRun run turns slots disk → IsRun run turns (with_at slots k (Some (begun_work job commit flush))) disk
+
+-- A commit whose gate is open in each image is durable from now on: its turn says so, and the disk stands for the parts that it gives.
+abbrev pub SettlesKeep : View → Type 0
+SettlesKeep disk = (run : RunStart) (turns : List Turn) (slots : Slots) (k : ℕ) (turn : Turn) → (has : HasWork slots k false open_gate)
+    → turn.act ≡ act.Durable → turn.commit ≡ has.work.commit → turn.now ≡ disk.now
+    → IsRun run turns slots disk → IsRun run (turns ++ turn ∷ []) (changed_slot slots k settled_work) disk

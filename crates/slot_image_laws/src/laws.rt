@@ -1,5 +1,5 @@
 //! What is proved of images: each function's contract is a law.
-ghost use Rattle.slot_image_laws.specs.Laws.{BeginsKeep, EmptyCommitsKeep, FailedSyncsKeep, IdlesKeep, QuietTurnsKeep, RunsStart, SyncsKeep};
+ghost use Rattle.slot_image_laws.specs.Laws.{BeginsKeep, EmptyCommitsKeep, FailedSyncsKeep, IdlesKeep, QuietTurnsKeep, RunsStart, SettlesKeep, SyncsKeep};
 
 use sfs_dev::Disk;
 
@@ -36,4 +36,9 @@ pub fn idles_keep<D: Disk>(disk: &D)
 /// A commit that fits what the disk stands for may begin in an idle slot.
 pub fn begins_keep<D: Disk>(disk: &D)
     ensures { BeginsKeep (D.view disk.now) }
+{}
+
+/// A commit whose gate is open in each image is durable from now on.
+pub fn settles_keep<D: Disk>(disk: &D)
+    ensures { SettlesKeep (D.view disk.now) }
 {}
