@@ -8,3 +8,5 @@ pub mod Begun
 pub mod Given
 pub mod Shown
 pub mod Settled
+pub mod Regions
+pub mod Aside
