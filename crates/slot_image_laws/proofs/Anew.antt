@@ -130,25 +130,25 @@ module _ (gives : ℕ → List InodePart) (layout : Layout) (base : ℕ → Part
 abbrev pub only_at : ℕ → (SlotKnown → SlotKnown) → ℕ → SlotKnown → SlotKnown
 only_at k change j = if j == k then change else (λ known. known)
 
+pub only_here : (k : ℕ) (change : SlotKnown → SlotKnown) (j : ℕ) → j ≡ k → only_at k change j ≡ change
+only_here k change j same =
+    ap (λ (n : ℕ). only_at k change n) same ∙ ap (λ (b : Bool). cond b change (λ known. known)) (same_number k)
+
+pub only_off : (k : ℕ) (change : SlotKnown → SlotKnown) (j : ℕ) → j ≢ k → only_at k change j ≡ (λ known. known)
+only_off k change j away = ap (λ (b : Bool). cond b change (λ known. known)) (not_same j k away)
+
 pub changed_is : (slots : Slots) (k : ℕ) (change : SlotKnown → SlotKnown) → changed_slot slots k (knowing change) ≡ known_anew slots (only_at k change)
 changed_is slots k change = fun_ext (λ j. elim (same_or_not j k) [
   | inl same ↦
       at_same slots k (option_map (knowing change) (slots k)) j same
-      ∙ ap (λ (f : SlotKnown → SlotKnown). option_map (knowing f) (slots k)) (sym (here j same))
+      ∙ ap (λ (f : SlotKnown → SlotKnown). option_map (knowing f) (slots k)) (sym (only_here k change j same))
       ∙ ap (λ (n : ℕ). option_map (knowing (only_at k change j)) (slots n)) (sym same)
   | inr away ↦
       at_other slots k (option_map (knowing change) (slots k)) j away
       ∙ sym (itself (slots j))
-      ∙ ap (λ (f : SlotKnown → SlotKnown). option_map (knowing f) (slots j)) (sym (off j away))
+      ∙ ap (λ (f : SlotKnown → SlotKnown). option_map (knowing f) (slots j)) (sym (only_off k change j away))
 ])
   where
-    here : (j : ℕ) → j ≡ k → only_at k change j ≡ change
-    here j same =
-        ap (λ (n : ℕ). only_at k change n) same ∙ ap (λ (b : Bool). cond b change (λ known. known)) (same_number k)
-
-    off : (j : ℕ) → j ≢ k → only_at k change j ≡ (λ known. known)
-    off j away = ap (λ (b : Bool). cond b change (λ known. known)) (not_same j k away)
-
     itself : (o : Option SlotWork) → option_map (knowing (λ known. known)) o ≡ o
     itself None = refl
     itself (Some work) = refl

@@ -10,3 +10,5 @@ pub mod Shown
 pub mod Settled
 pub mod Regions
 pub mod Aside
+pub mod Changed
+pub mod Written
