@@ -12,3 +12,5 @@ pub mod Regions
 pub mod Aside
 pub mod Changed
 pub mod Written
+pub mod Filled
+pub mod Placed

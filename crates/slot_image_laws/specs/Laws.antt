@@ -1,16 +1,16 @@
 -- The laws of steps over images, each of which a function of the module laws proves.
-use Rattle.std.specs.Prelude.{◌≤◌, ◌≡◌, ◌≢◌, ◌++◌, ◌∷◌, ◌<◌, [], None, List, ℕ, Some, true, false}
+use Rattle.std.specs.Prelude.{◌≤◌, ◌≡◌, ◌≢◌, ◌++◌, ◌∷◌, ◌<◌, [], None, List, ℕ, Some, true, false, Bool, length}
 use Rattle.sfs_image.specs.Super.{Layout}
 use Rattle.sfs_image.specs.Settled.{slot_count}
 use Rattle.sfs_dev.specs.Disk.{View}
-use Rattle.journal_one.specs.Job.{IsJob, Job}
+use Rattle.journal_one.specs.Job.{IsJob, Job, fill_count, fill_piece, table_piece}
 use Rattle.tree_laws.specs.declared.turns.Turn.{Turn}
 use Rattle.tree_laws.specs.declared.turns.TurnAct.TheVariants as act
 use Rattle.cut_laws.specs.Closure.{Flush}
-use Rattle.slot_laws.specs.Slots.{Slots, SlotWork, synced_slots, shut_gate, with_at, begun_work, place_at, open_gate, changed_slot, settled_work}
-use Rattle.slot_laws.specs.Rules.{EmptyTurns, HasWork}
+use Rattle.slot_laws.specs.Slots.{Slots, SlotWork, synced_slots, shut_gate, with_at, begun_work, place_at, open_gate, changed_slot, settled_work, knowing, known_filled, known_placed}
+use Rattle.slot_laws.specs.Rules.{EmptyTurns, HasWork, IsOldestOf}
 use Rattle.slot_image_laws.specs.Images.{RunStart, disk_books}
-use Rattle.slot_image_laws.specs.Run.{BeganWith, KeepsLaws, IsRun, RisesFrom, Syncs}
+use Rattle.slot_image_laws.specs.Run.{BeganWith, KeepsLaws, IsRun, RisesFrom, Syncs, Writes}
 use Rattle.slot_image_laws.specs.Commits.{IsCommitAt}
 
 -- A run begins where no slot is open and no turn was told.
@@ -76,3 +76,15 @@ abbrev pub SettlesKeep : View → Type 0
 SettlesKeep disk = (run : RunStart) (turns : List Turn) (slots : Slots) (k : ℕ) (turn : Turn) → (has : HasWork slots k false open_gate)
     → turn.act ≡ act.Durable → turn.commit ≡ has.work.commit → turn.now ≡ disk.now
     → IsRun run turns slots disk → IsRun run (turns ++ turn ∷ []) (changed_slot slots k settled_work) disk
+
+-- A piece that fills a slot of a commit that is not durable, behind its shut gate, is written, or that failed.
+abbrev pub FillsKeep : View → View → Type 0
+FillsKeep old new = (run : RunStart) (turns : List Turn) (slots : Slots) (k n : ℕ) (done : Bool) → (has : HasWork slots k false shut_gate)
+    → n < fill_count has.work.job → KeepsLaws old → Writes done (fill_piece has.work.job n) old new
+    → IsRun run turns slots old → IsRun run turns (changed_slot slots k (knowing (known_filled done n))) new
+
+-- A record of a durable commit with an open gate is placed, the oldest of its inode, or that failed.
+abbrev pub PlacesKeep : View → View → Type 0
+PlacesKeep old new = (run : RunStart) (turns : List Turn) (slots : Slots) (k n : ℕ) (done : Bool) → (has : HasWork slots k true open_gate)
+    → n < length has.work.job.entries → IsOldestOf slots k has.work n → KeepsLaws old → Writes done (table_piece has.work.job n) old new
+    → IsRun run turns slots old → IsRun run turns (changed_slot slots k (knowing (known_placed done n))) new

@@ -1,5 +1,5 @@
 //! What is proved of images: each function's contract is a law.
-ghost use Rattle.slot_image_laws.specs.Laws.{BeginsKeep, EmptyCommitsKeep, FailedSyncsKeep, IdlesKeep, QuietTurnsKeep, RunsStart, SettlesKeep, SyncsKeep};
+ghost use Rattle.slot_image_laws.specs.Laws.{BeginsKeep, EmptyCommitsKeep, FailedSyncsKeep, FillsKeep, IdlesKeep, PlacesKeep, QuietTurnsKeep, RunsStart, SettlesKeep, SyncsKeep};
 
 use sfs_dev::Disk;
 
@@ -41,4 +41,14 @@ pub fn begins_keep<D: Disk>(disk: &D)
 /// A commit whose gate is open in each image is durable from now on.
 pub fn settles_keep<D: Disk>(disk: &D)
     ensures { SettlesKeep (D.view disk.now) }
+{}
+
+/// A piece that fills a slot is written, or that failed, behind the shut gate.
+pub fn fills_keep<D: Disk>(old: &D, new: &D)
+    ensures { FillsKeep (D.view old.now) (D.view new.now) }
+{}
+
+/// A record of a durable commit is placed, the oldest of its inode, or that failed.
+pub fn places_keep<D: Disk>(old: &D, new: &D)
+    ensures { PlacesKeep (D.view old.now) (D.view new.now) }
 {}
