@@ -11,6 +11,7 @@ use Rattle.sfs_image.specs.Settled.{slot_count}
 use Rattle.sfs_dev.specs.Disk.{View}
 use Rattle.journal_one.specs.Job.{Piece, gate_piece}
 use Rattle.journal_one.proofs.Kept.{Touches}
+use Rattle.journal_one.proofs.Apart.{AreApart}
 use Rattle.merge_laws.proofs.Blocks.{same_or_not}
 use Rattle.slot_laws.specs.Slots.{Slots, SlotWork, SlotKnown, changed_slot, knowing, may_be_open, place_at, without_number, with_number}
 use Rattle.slot_laws.specs.Rings.{RingsFit}
@@ -20,7 +21,6 @@ use Rattle.slot_image_laws.specs.Run.{Matches}
 use Rattle.slot_image_laws.specs.Images.{KnowsWork, KnowsSlot}
 use Rattle.slot_image_laws.proofs.Anew.{StillFits, changed_is, works_anew, only_at, only_here, only_off, matches_anew, gate_in}
 use Rattle.slot_image_laws.proofs.Aside.{IsAside, shut_aside, knows_aside}
-use Rattle.journal_one.proofs.Apart.{AreApart}
 
 module _ (gives : ℕ → List InodePart) (layout : Layout) (base : ℕ → Part) (slots : Slots) (k : ℕ) (work : SlotWork) (there : slots k ≡ Some work)
     (change : SlotKnown → SlotKnown) where
@@ -86,11 +86,11 @@ module _ (gives : ℕ → List InodePart) (layout : Layout) (base : ℕ → Part
         by away None at knew = shut_aside piece old new touches (place_at layout j) (gates j low away) knew
         by away (Some other) at knew = knows_aside piece old new touches other (works.each j other at).known (aside j other away at) knew
 
--- the same slots are open where no gate of a commit was changed
-pub opened_still : (gives : ℕ → List InodePart) (layout : Layout) (slots : Slots) (was image : List ℕ)
-    → ((k : ℕ) (work : SlotWork) → slots k ≡ Some work → gate_in layout image k ≡ gate_in layout was k)
-    → opened_in gives layout slots image ≡ opened_in gives layout slots was
-opened_still gives layout slots was image same = fun_ext (λ k. by k (slots k) refl)
+-- a slot is open as before whose gate was not changed, where it has a commit
+pub opened_still_at : (gives : ℕ → List InodePart) (layout : Layout) (slots : Slots) (was image : List ℕ) (k : ℕ)
+    → ((work : SlotWork) → slots k ≡ Some work → gate_in layout image k ≡ gate_in layout was k)
+    → opened_in gives layout slots image k ≡ opened_in gives layout slots was k
+opened_still_at gives layout slots was image k same = by (slots k) refl
   where
     none_both : (b c : Bool) → cond {A = Option Transaction} b None None ≡ cond c None None
     none_both true true = refl
@@ -98,13 +98,19 @@ opened_still gives layout slots was image same = fun_ext (λ k. by k (slots k) r
     none_both false true = refl
     none_both false false = refl
 
-    by : (k : ℕ) (o : Option SlotWork) → slots k ≡ o
+    by : (o : Option SlotWork) → slots k ≡ o
         → cond (gate_in layout image k) (may_have gives (slots k)) None ≡ cond (gate_in layout was k) (may_have gives (slots k)) None
-    by k None at =
+    by None at =
         ap (λ (o : Option SlotWork). cond (gate_in layout image k) (may_have gives o) None) at
         ∙ none_both (gate_in layout image k) (gate_in layout was k)
         ∙ sym (ap (λ (o : Option SlotWork). cond (gate_in layout was k) (may_have gives o) None) at)
-    by k (Some work) at = ap (λ (b : Bool). cond b (may_have gives (slots k)) None) (same k work at)
+    by (Some work) at = ap (λ (b : Bool). cond b (may_have gives (slots k)) None) (same work at)
+
+-- and so are all
+pub opened_still : (gives : ℕ → List InodePart) (layout : Layout) (slots : Slots) (was image : List ℕ)
+    → ((k : ℕ) (work : SlotWork) → slots k ≡ Some work → gate_in layout image k ≡ gate_in layout was k)
+    → opened_in gives layout slots image ≡ opened_in gives layout slots was
+opened_still gives layout slots was image same = fun_ext (λ k. opened_still_at gives layout slots was image k (same k))
 
 -- marks with a number less, and more
 pub less_marked : (marks : ℕ → Bool) (n m : ℕ) → without_number marks n m ≡ true → (m ≢ n) × (marks m ≡ true)

@@ -45,7 +45,7 @@ pub record BaseStays (gives : ℕ → List InodePart) (layout : Layout) (base : 
   pub whole : with_opened layout (opened_in gives layout slots image) base i ≡ base i
   pub none : (k : ℕ) (work : SlotWork) (part : Part) → IsOpenFlight layout slots image k work → GivesPart gives work i part → ⊥
 
-stamped_is : (one : Stamped Part) (n : ℕ) (part : Part) → one.stamp ≡ n → one.value ≡ part → one ≡ record { stamp = n; value = part }
+pub stamped_is : (one : Stamped Part) (n : ℕ) (part : Part) → one.stamp ≡ n → one.value ≡ part → one ≡ record { stamp = n; value = part }
 stamped_is one n part stamp value =
     ap (λ (m : ℕ). record { stamp = m; value = one.value }) stamp ∙ ap (λ (p : Part). record { stamp = n; value = p }) value
 

@@ -14,3 +14,4 @@ pub mod Changed
 pub mod Written
 pub mod Filled
 pub mod Placed
+pub mod Gated

@@ -51,6 +51,14 @@ whole_front : (run : RunStart) (turns : List Turn) (moment : ℕ) (image : List 
 whole_front run turns moment image shows =
     record { front = turns; back = []; split = sym (append-nil turns); later = All-nil (λ (turn : Turn). moment < turn.now); shows = shows }
 
+-- turns of a moment come after each earlier one
+all_after : (t now : ℕ) (list : List Turn) → All (λ (turn : Turn). turn.now ≡ now) list → t < now → All (λ (turn : Turn). t < turn.now) list
+all_after t now [] same lt = All-nil (λ (turn : Turn). t < turn.now)
+all_after t now (turn ∷ list) same lt =
+    let is = All-head (λ (turn : Turn). turn.now ≡ now) turn list same in
+    All-cons (λ (turn : Turn). t < turn.now) turn list (omega arith)
+    (all_after t now list (All-tail (λ (turn : Turn). turn.now ≡ now) turn list same) lt)
+
 module _ (run : RunStart) (turns : List Turn) (old : View) where
   -- what the trail says of now is said of all turns, since none is later
   pub now_shown : RisesFrom run.moment turns old.now → LeavesPrefixes run turns old → (content : List ℕ) → old.content ≡ Some content → CountsOn old
@@ -83,6 +91,33 @@ module _ (run : RunStart) (turns : List Turn) (old : View) where
             whole_front run turns t image (here content told counted_on image (subst (λ (n : ℕ). new.crash_images n image) now left.3))
       ]
 
+  -- one device call later, with some turns more of its moment
+  pub trail_more : (more : List Turn) (new : View) → Elapses old new → All (λ (turn : Turn). turn.now ≡ new.now) more
+      → ((content : List ℕ) → new.content ≡ Some content → (was : List ℕ) × (old.content ≡ Some was)) → LeavesPrefixes run turns old
+      → ((content : List ℕ) → new.content ≡ Some content → (image : List ℕ) → images new image
+      → Shows run.gives run.layout (disk_books run (turns ++ more)) image)
+      → LeavesPrefixes run (turns ++ more) new
+  trail_more more new time moments before trail here content told counts t image from left =
+      let counted = time.counted in
+      let counted_on : CountsOn old = omega arith in
+      elim (cases_lt left.0 new.now) [
+        | inl past ↦
+            let was = before content told in
+            let low = left.1 in
+            let shown = trail was.0 was.1 counted_on t image from (left.0, low, omega arith, (time.past left.0 image past).0 left.3) in
+            record {
+              front = shown.front;
+              back = shown.back ++ more;
+              split = ap (λ (l : List Turn). l ++ more) shown.split ∙ append_assoc shown.front shown.back more;
+              later = All-append (λ (turn : Turn). t < turn.now) shown.back more shown.later (all_after t new.now more moments (omega arith));
+              shows = shown.shows;
+            }
+        | inr late ↦
+            let high = left.2 in
+            let now : left.0 ≡ new.now = omega arith in
+            whole_front run (turns ++ more) t image (here content told image (subst (λ (n : ℕ). new.crash_images n image) now left.3))
+      ]
+
   -- some turns more, at the moment of now
   pub trail_turns : (more : List Turn) → All (λ (turn : Turn). turn.now ≡ old.now) more → LeavesPrefixes run turns old
       → ((content : List ℕ) → old.content ≡ Some content → CountsOn old → (image : List ℕ) → images old image
@@ -97,7 +132,7 @@ module _ (run : RunStart) (turns : List Turn) (old : View) where
               front = shown.front;
               back = shown.back ++ more;
               split = ap (λ (l : List Turn). l ++ more) shown.split ∙ append_assoc shown.front shown.back more;
-              later = All-append (λ (turn : Turn). t < turn.now) shown.back more shown.later (all_later more moments (omega arith));
+              later = All-append (λ (turn : Turn). t < turn.now) shown.back more shown.later (all_after t old.now more moments (omega arith));
               shows = shown.shows;
             }
         | inr late ↦
@@ -105,10 +140,3 @@ module _ (run : RunStart) (turns : List Turn) (old : View) where
             let now : left.0 ≡ old.now = omega arith in
             whole_front run (turns ++ more) t image (here content told counts image (subst (λ (n : ℕ). old.crash_images n image) now left.3))
       ]
-    where
-      all_later : (list : List Turn) → All (λ (turn : Turn). turn.now ≡ old.now) list → t < old.now → All (λ (turn : Turn). t < turn.now) list
-      all_later [] same lt = All-nil (λ (turn : Turn). t < turn.now)
-      all_later (turn ∷ list) same lt =
-          let is = All-head (λ (turn : Turn). turn.now ≡ old.now) turn list same in
-          All-cons (λ (turn : Turn). t < turn.now) turn list (omega arith)
-          (all_later list (All-tail (λ (turn : Turn). turn.now ≡ old.now) turn list same) lt)

@@ -3,11 +3,11 @@ use Rattle.std.specs.Prelude.{◌≤◌, ◌≡◌, ◌≢◌, ◌++◌, ◌∷�
 use Rattle.sfs_image.specs.Super.{Layout}
 use Rattle.sfs_image.specs.Settled.{slot_count}
 use Rattle.sfs_dev.specs.Disk.{View}
-use Rattle.journal_one.specs.Job.{IsJob, Job, fill_count, fill_piece, table_piece}
+use Rattle.journal_one.specs.Job.{IsJob, Job, fill_count, fill_piece, table_piece, gate_piece}
 use Rattle.tree_laws.specs.declared.turns.Turn.{Turn}
 use Rattle.tree_laws.specs.declared.turns.TurnAct.TheVariants as act
 use Rattle.cut_laws.specs.Closure.{Flush}
-use Rattle.slot_laws.specs.Slots.{Slots, SlotWork, synced_slots, shut_gate, with_at, begun_work, place_at, open_gate, changed_slot, settled_work, knowing, known_filled, known_placed}
+use Rattle.slot_laws.specs.Slots.{Slots, SlotWork, synced_slots, shut_gate, with_at, begun_work, place_at, open_gate, changed_slot, settled_work, knowing, known_filled, known_placed, known_gated}
 use Rattle.slot_laws.specs.Rules.{EmptyTurns, HasWork, IsOldestOf}
 use Rattle.slot_image_laws.specs.Images.{RunStart, disk_books}
 use Rattle.slot_image_laws.specs.Run.{BeganWith, KeepsLaws, IsRun, RisesFrom, Syncs, Writes}
@@ -88,3 +88,25 @@ abbrev pub PlacesKeep : View → View → Type 0
 PlacesKeep old new = (run : RunStart) (turns : List Turn) (slots : Slots) (k n : ℕ) (done : Bool) → (has : HasWork slots k true open_gate)
     → n < length has.work.job.entries → IsOldestOf slots k has.work n → KeepsLaws old → Writes done (table_piece has.work.job n) old new
     → IsRun run turns slots old → IsRun run turns (changed_slot slots k (knowing (known_placed done n))) new
+
+-- These are the turns of a commit with this number at this moment: it begins and is opened.
+pub record AreOpenTurns (cut opened : Turn) (commit moment : ℕ) : Type 0 where
+  pub cut_is : cut.act ≡ act.CutAt
+  pub opened_is : opened.act ≡ act.Opened
+  pub opened_commit : opened.commit ≡ commit
+  pub cut_now : cut.now ≡ moment
+  pub opened_now : opened.now ≡ moment
+
+-- The gate of a commit that is not durable is written open, once all that fills its slot stands in each image, or that failed.
+abbrev pub OpensKeep : View → View → Type 0
+OpensKeep old new = (run : RunStart) (turns : List Turn) (slots : Slots) (k : ℕ) (done : Bool) (cut opened : Turn)
+    → (has : HasWork slots k false shut_gate) → ((n : ℕ) → n < fill_count has.work.job → has.work.known.fill_left n ≡ true)
+    → AreOpenTurns cut opened has.work.commit new.now → KeepsLaws old → Writes done (gate_piece has.work.job.place 1) old new
+    → IsRun run turns slots old → IsRun run (turns ++ cut ∷ opened ∷ []) (changed_slot slots k (knowing (known_gated done open_gate))) new
+
+-- The gate of a durable commit is written shut, once all its records stand in each image, or that failed.
+abbrev pub ShutsKeep : View → View → Type 0
+ShutsKeep old new = (run : RunStart) (turns : List Turn) (slots : Slots) (k : ℕ) (done : Bool) → (has : HasWork slots k true open_gate)
+    → ((n : ℕ) → n < length has.work.job.entries → has.work.known.table_left n ≡ true)
+    → KeepsLaws old → Writes done (gate_piece has.work.job.place 0) old new
+    → IsRun run turns slots old → IsRun run turns (changed_slot slots k (knowing (known_gated done shut_gate))) new
