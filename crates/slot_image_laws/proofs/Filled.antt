@@ -121,7 +121,7 @@ module _ (gives : ℕ → List InodePart) (layout : Layout) (books : DiskBooks) 
   own_fits : WorkFits gives layout books.base k has.work
   own_fits = box.works.each k has.work has.there
 
-  is_shut : (image : List ℕ) → opened_in gives layout slots image k ≡ None
+  pub is_shut : (image : List ℕ) → opened_in gives layout slots image k ≡ None
   is_shut image =
       ap (λ (o : Option SlotWork). cond (gate_in layout image k) (may_have gives o) None) has.there
       ∙ ap (λ (gate : KnownGate). cond (gate_in layout image k) (cond (may_be_open gate) (Some (work_transaction gives has.work)) None) None) has.gate_is

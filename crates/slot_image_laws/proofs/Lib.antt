@@ -15,3 +15,5 @@ pub mod Written
 pub mod Filled
 pub mod Placed
 pub mod Gated
+pub mod Opened
+pub mod Shut

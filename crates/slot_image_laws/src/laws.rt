@@ -1,5 +1,5 @@
 //! What is proved of images: each function's contract is a law.
-ghost use Rattle.slot_image_laws.specs.Laws.{BeginsKeep, EmptyCommitsKeep, FailedSyncsKeep, FillsKeep, IdlesKeep, PlacesKeep, QuietTurnsKeep, RunsStart, SettlesKeep, SyncsKeep};
+ghost use Rattle.slot_image_laws.specs.Laws.{BeginsKeep, EmptyCommitsKeep, FailedSyncsKeep, FillsKeep, IdlesKeep, OpensKeep, PlacesKeep, QuietTurnsKeep, RunsStart, SettlesKeep, ShutsKeep, SyncsKeep};
 
 use sfs_dev::Disk;
 
@@ -51,4 +51,14 @@ pub fn fills_keep<D: Disk>(old: &D, new: &D)
 /// A record of a durable commit is placed, the oldest of its inode, or that failed.
 pub fn places_keep<D: Disk>(old: &D, new: &D)
     ensures { PlacesKeep (D.view old.now) (D.view new.now) }
+{}
+
+/// The gate of a commit whose slot is filled is written open, or that failed.
+pub fn opens_keep<D: Disk>(old: &D, new: &D)
+    ensures { OpensKeep (D.view old.now) (D.view new.now) }
+{}
+
+/// The gate of a durable commit whose records are placed is written shut, or that failed.
+pub fn shuts_keep<D: Disk>(old: &D, new: &D)
+    ensures { ShutsKeep (D.view old.now) (D.view new.now) }
 {}
