@@ -17,3 +17,4 @@ pub mod Placed
 pub mod Gated
 pub mod Opened
 pub mod Shut
+pub mod Running

@@ -2,3 +2,4 @@ pub mod Commits
 pub mod Images
 pub mod Run
 pub mod Laws
+pub mod Labels

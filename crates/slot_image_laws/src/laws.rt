@@ -1,4 +1,5 @@
 //! What is proved of images: each function's contract is a law.
+ghost use Rattle.slot_image_laws.specs.Labels.{DoneLabelsFit, FailedSyncsFit, FirstRunsFit, RecordsAreLeft, ToldLabelsFit};
 ghost use Rattle.slot_image_laws.specs.Laws.{BeginsKeep, EmptyCommitsKeep, FailedSyncsKeep, FillsKeep, IdlesKeep, OpensKeep, PlacesKeep, QuietTurnsKeep, RunsStart, SettlesKeep, ShutsKeep, SyncsKeep};
 
 use sfs_dev::Disk;
@@ -61,4 +62,29 @@ pub fn opens_keep<D: Disk>(old: &D, new: &D)
 /// The gate of a durable commit whose records are placed is written shut, or that failed.
 pub fn shuts_keep<D: Disk>(old: &D, new: &D)
     ensures { ShutsKeep (D.view old.now) (D.view new.now) }
+{}
+
+/// Before the first label a disk is in the run that none tell.
+pub fn first_runs_fit<D: Disk>(disk: &D)
+    ensures { FirstRunsFit (D.view disk.now) }
+{}
+
+/// A label that is told by the rules of the disk as it is goes on with the run.
+pub fn told_labels_fit<D: Disk>(disk: &D)
+    ensures { ToldLabelsFit (D.view disk.now) }
+{}
+
+/// So does one that tells of a device call.
+pub fn done_labels_fit<D: Disk>(old: &D, new: &D)
+    ensures { DoneLabelsFit (D.view old.now) (D.view new.now) }
+{}
+
+/// So does a sync that failed.
+pub fn failed_syncs_fit<D: Disk>(old: &D, new: &D)
+    ensures { FailedSyncsFit (D.view old.now) (D.view new.now) }
+{}
+
+/// Each image since the start shows a front of the record that labels make.
+pub fn records_are_left<D: Disk>(disk: &D)
+    ensures { RecordsAreLeft (D.view disk.now) }
 {}
