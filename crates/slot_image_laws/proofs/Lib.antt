@@ -18,3 +18,4 @@ pub mod Gated
 pub mod Opened
 pub mod Shut
 pub mod Running
+pub mod Held

@@ -3,3 +3,4 @@ pub mod Images
 pub mod Run
 pub mod Laws
 pub mod Labels
+pub mod Held

@@ -1,4 +1,5 @@
 //! What is proved of images: each function's contract is a law.
+ghost use Rattle.slot_image_laws.specs.Held.{DurableCommitsStand, FirstImagesHaveTheParts};
 ghost use Rattle.slot_image_laws.specs.Labels.{DoneLabelsFit, FailedSyncsFit, FirstRunsFit, RecordsAreLeft, ToldLabelsFit};
 ghost use Rattle.slot_image_laws.specs.Laws.{BeginsKeep, EmptyCommitsKeep, FailedSyncsKeep, FillsKeep, IdlesKeep, OpensKeep, PlacesKeep, QuietTurnsKeep, RunsStart, SettlesKeep, ShutsKeep, SyncsKeep};
 
@@ -87,4 +88,14 @@ pub fn failed_syncs_fit<D: Disk>(old: &D, new: &D)
 /// Each image since the start shows a front of the record that labels make.
 pub fn records_are_left<D: Disk>(disk: &D)
     ensures { RecordsAreLeft (D.view disk.now) }
+{}
+
+/// Before the first turn an image shows the parts that the run began with.
+pub fn first_images_have_the_parts()
+    ensures { FirstImagesHaveTheParts }
+{}
+
+/// Behind a commit that is durable an image shows the parts that it gives.
+pub fn durable_commits_stand()
+    ensures { DurableCommitsStand }
 {}
