@@ -1,5 +1,5 @@
 -- The run that labels tell, through each label.
-use Rattle.std.proofs.Common.{◌++◌, ◌∷◌, ◌≤◌, ◌≡◌, ◌<◌, ◌∙◌, List, All, [], ℕ, arith, subst, None, sym, refl, false}
+use Rattle.std.proofs.Common.{◌++◌, ◌∷◌, ◌≤◌, ◌≡◌, ◌<◌, ◌∙◌, List, All, [], ℕ, arith, subst, sym, refl, false}
 use Rattle.std.proofs.lemmas.List.Elements.{All-nil, All-cons, All-head, All-tail}
 use Rattle.sfs_image.specs.Super.{Layout}
 use Rattle.sfs_image.specs.Part.{Part}
@@ -51,12 +51,12 @@ now_later : (old new : View) → KeepsLaws old → Elapses old new → old.now �
 now_later old new lawful time = let counted = time.counted in let fits = lawful.now_fits in omega arith
 
 pub first_runs_fit : (disk : View) → FirstRunsFit disk
-first_runs_fit disk layout large lawful = record {
+first_runs_fit disk layout large = record {
   rises = omega arith;
   runs = λ run same moment began well.
       runs_start disk run (subst (λ (l : Layout). l.blocks ≤ disk.size) (sym same) large) (sym moment)
       (subst (λ (l : Layout). BeganWith l run.parts run.moment disk) (sym same)
-      (subst (λ (n : ℕ). BeganWith layout run.parts n disk) (sym moment) began)) lawful;
+      (subst (λ (n : ℕ). BeganWith layout run.parts n disk) (sym moment) began));
 }
 
 pub records_are_left : (disk : View) → RecordsAreLeft disk
@@ -93,7 +93,7 @@ module _ (disk : View) (layout : Layout) (before core start : ℕ) (past : BoxPa
   told_fits (label.Noted turn) rule told = record {
     rises = rises_turn start past.turns disk.now fits.rises turn told;
     runs = λ run same moment began well.
-        quiet_turns_keep disk run past.turns past.slots turn (subst (λ (n : ℕ). RisesFrom n past.turns disk.now) (sym moment) fits.rises) rule.no_open
+        quiet_turns_keep disk run past.turns past.slots turn rule.no_open
         rule.no_durable told (fits.runs run same moment began (record { begun = well.begun; empties = well.empties }));
   }
   told_fits (label.Began filling commit node stamp) rule told = record {
@@ -133,7 +133,7 @@ module _ (disk : View) (layout : Layout) (before core start : ℕ) (past : BoxPa
         rises = rises_on start past.turns (cut ∷ opened ∷ durable ∷ []) disk.now fits.rises (omega arith, (omega arith, (omega arith, omega arith)));
         runs = λ run same moment began well.
             empty_commits_keep disk run past.turns past.slots (record { cut = cut; opened = opened; durable = durable }) commit
-            (subst (λ (n : ℕ). RisesFrom n past.turns disk.now) (sym moment) fits.rises) (record {
+            (record {
               cut_is = rule.cut_is.did_is;
               opened_is = rule.opened_is.did_is;
               opened_commit = rule.opened_is.commit_is;
@@ -164,9 +164,6 @@ module _ (old new : View) (layout : Layout) (start : ℕ) (past : BoxPast) (lawf
   rises_then : Elapses old new → RisesFrom start past.turns new.now
   rises_then time = rises_later start past.turns old.now new.now fits.rises (now_later old new lawful time)
 
-  rises_run : (run : RunStart) → run.moment ≡ start → RisesFrom run.moment past.turns old.now
-  rises_run run moment = subst (λ (n : ℕ). RisesFrom n past.turns old.now) (sym moment) fits.rises
-
   well_same : (run : RunStart) (later : BoxPast) → later.begun ≡ past.begun → later.empties ≡ past.empties → BeginWell run later → BeginWell run past
   well_same run later begun empties well = record {
     begun = subst (All (λ (one : Begun). IsCommitAt run.gives run.layout (disk_books run one.turns).base one.slots one.work)) begun well.begun;
@@ -177,7 +174,7 @@ module _ (old new : View) (layout : Layout) (start : ℕ) (past : BoxPast) (lawf
   failed_fits is = record {
     rises = rises_then is.time;
     runs = λ run same moment began well.
-        failed_syncs_keep old new run past.turns past.slots (rises_run run moment) lawful is (run_before is.time run same moment began well);
+        failed_syncs_keep old new run past.turns past.slots lawful is (run_before is.time run same moment began well);
   }
 
   module _ (before core : ℕ) where
@@ -194,7 +191,7 @@ module _ (old new : View) (layout : Layout) (start : ℕ) (past : BoxPast) (lawf
     done_fits (label.Synced now) rule is = record {
       rises = rises_then is.1.time;
       runs = λ run same moment began well.
-          syncs_keep old new run past.turns past.slots (rises_run run moment) lawful is.1
+          syncs_keep old new run past.turns past.slots lawful is.1
           (run_before is.1.time run same moment began (well_same run _ refl refl well));
     }
     done_fits (label.Opened slot done cut opened) rule is =

@@ -2,11 +2,13 @@
 use Rattle.std.proofs.Common.{◌≡◌, ◌++◌, ◌≢◌, ◌∷◌, ◌∙◌, ◌<◌, List, subst, sym, All, ℕ, refl, [], ap, Bool, not, nat_eq, filter, cond, append-nil, None, Option, true, false, arith}
 use Rattle.std.proofs.lemmas.List.Elements.{All-cons, All-nil, filter-append}
 use Rattle.std.proofs.Math.Path.{fun_ext}
+use Rattle.sfs_base.proofs.BasicNumbers.{same_number, not_same}
 use Rattle.sfs_image.specs.ImageOf.{InodePart, with_opened, Transaction, IsImageOf}
 use Rattle.sfs_image.specs.Super.{Layout}
 use Rattle.sfs_image.specs.Part.{Part}
 use Rattle.sfs_image.specs.Journal.{head_of}
 use Rattle.sfs_image.specs.Settled.{journal_slot}
+use Rattle.sfs_image.specs.Bytes.{part}
 use Rattle.sfs_dev.specs.Disk.{View, images}
 use Rattle.journal_one.specs.Job.{Job}
 use Rattle.commit_one.specs.Change.{nothing_open}
@@ -18,14 +20,13 @@ use Rattle.cut_laws.specs.Rules.{IsOneOf}
 use Rattle.cut_laws.proofs.Basics.{filter_all}
 use Rattle.slot_laws.specs.Slots.{Slots, place_at}
 use Rattle.slot_laws.specs.Rules.{EmptyTurns}
+use Rattle.slot_laws.proofs.Basics.{none_there}
 use Rattle.slot_image_laws.specs.Images.{RunStart, disk_books, LeavesPrefixes, DiskBooks, IsBox, Shows, book_act, first_books, books_from}
-use Rattle.slot_image_laws.specs.Run.{IsRun, Matches, RisesFrom}
+use Rattle.slot_image_laws.specs.Run.{IsRun, Matches}
 use Rattle.slot_image_laws.specs.Laws.{QuietTurnsKeep, AreEmptyTurns, EmptyCommitsKeep, RunsStart}
 use Rattle.slot_image_laws.specs.Commits.{parts_over, opened_in, WorksFit}
-use Rattle.slot_image_laws.proofs.Trails.{trail_turns, now_shown, books_more}
-use Rattle.sfs_base.proofs.BasicNumbers.{same_number, not_same}
-use Rattle.sfs_image.specs.Bytes.{part}
-use Rattle.slot_laws.proofs.Basics.{none_there}
+use Rattle.slot_image_laws.proofs.Trails.{trail_turns, books_more}
+use Rattle.slot_image_laws.proofs.Shown.{shown}
 
 -- two records of what turns say that are the same
 pub run_with : (run : RunStart) (turns later : List Turn) (slots : Slots) (disk : View) → disk_books run later ≡ disk_books run turns
@@ -37,14 +38,14 @@ run_with run turns later slots disk same runs trail = record {
 }
 
 -- turns that move nothing, at the moment of now
-pub more_turns : (run : RunStart) (turns more : List Turn) (slots : Slots) (disk : View) → RisesFrom run.moment turns disk.now
+pub more_turns : (run : RunStart) (turns more : List Turn) (slots : Slots) (disk : View)
     → disk_books run (turns ++ more) ≡ disk_books run turns → All (λ (turn : Turn). turn.now ≡ disk.now) more
     → IsRun run turns slots disk → IsRun run (turns ++ more) slots disk
-more_turns run turns more slots disk rises same moments runs =
+more_turns run turns more slots disk same moments runs =
     run_with run turns (turns ++ more) slots disk same runs
     (trail_turns run turns disk more moments runs.trail
     (λ content told counts image left.
-    subst (λ (books : DiskBooks). Shows run.gives run.layout books image) (sym same) (now_shown run turns disk rises runs.trail content told counts image left)))
+    subst (λ (books : DiskBooks). Shows run.gives run.layout books image) (sym same) (shown run.gives run.layout (disk_books run turns) slots disk runs.box content told runs.matches image left)))
 
 -- an act that neither opens a commit nor makes one durable
 quiet_act : (gives : ℕ → List InodePart) (did : TurnAct) (commit : ℕ) (books : DiskBooks) → did ≢ act.Opened → did ≢ act.Durable
@@ -63,8 +64,8 @@ only_now : (turn : Turn) (now : ℕ) → turn.now ≡ now → All (λ (turn : Tu
 only_now turn now is = All-cons (λ (turn : Turn). turn.now ≡ now) turn [] is (All-nil (λ (turn : Turn). turn.now ≡ now))
 
 pub quiet_turns_keep : (disk : View) → QuietTurnsKeep disk
-quiet_turns_keep disk run turns slots turn rises no_open no_durable now runs =
-    more_turns run turns (turn ∷ []) slots disk rises
+quiet_turns_keep disk run turns slots turn no_open no_durable now runs =
+    more_turns run turns (turn ∷ []) slots disk
     (books_more run.gives turns (turn ∷ []) (first_books run) ∙ quiet_act run.gives turn.act turn.commit (disk_books run turns) no_open no_durable)
     (only_now turn disk.now now) runs
 
@@ -110,9 +111,9 @@ module _ (run : RunStart) (books : DiskBooks) (three : EmptyTurns) (commit : ℕ
           ∙ ap (λ (l : List ℕ). record { base = books.base; flying = l }) flying_same
 
 pub empty_commits_keep : (disk : View) → EmptyCommitsKeep disk
-empty_commits_keep disk run turns slots three commit rises are nothing apart now runs =
+empty_commits_keep disk run turns slots three commit are nothing apart now runs =
     let flying = (disk_books run turns).flying in
-    more_turns run turns (three.cut ∷ three.opened ∷ three.durable ∷ []) slots disk rises
+    more_turns run turns (three.cut ∷ three.opened ∷ three.durable ∷ []) slots disk
     (books_more run.gives turns (three.cut ∷ three.opened ∷ three.durable ∷ []) (first_books run)
     ∙ empty_books run (disk_books run turns) three commit are nothing
       (λ other one same.
@@ -154,7 +155,7 @@ nothing_fits gives layout base = record {
 }
 
 pub runs_start : (disk : View) → RunsStart disk
-runs_start disk run large now began lawful = record {
+runs_start disk run large now began = record {
   box = record {
     large = large;
     fits = began.fits;

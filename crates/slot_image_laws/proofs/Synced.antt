@@ -18,7 +18,8 @@ use Rattle.slot_image_laws.specs.Images.{KnowsSlot, HasGate, disk_books, KnowsWo
 use Rattle.slot_image_laws.specs.Commits.{GateFits, WorkFits, StandsOpen, may_have, work_transaction}
 use Rattle.slot_image_laws.specs.Laws.{FailedSyncsKeep, SyncsKeep}
 use Rattle.slot_image_laws.proofs.Anew.{gate_in, StillFits, works_anew, opened_same, matches_anew, within}
-use Rattle.slot_image_laws.proofs.Trails.{trail_goes, now_shown}
+use Rattle.slot_image_laws.proofs.Trails.{trail_goes}
+use Rattle.slot_image_laws.proofs.Shown.{shown}
 
 rests_by : (done : Bool) (old new : View) → KeepsLaws old → Syncs done old new → Rests old new
 rests_by true old new lawful is = record {
@@ -94,7 +95,7 @@ still_synced gives layout base k work fits = record {
     itself any_gate = tt
 
 pub failed_syncs_keep : (old new : View) → FailedSyncsKeep old new
-failed_syncs_keep old new run turns slots rises lawful is runs =
+failed_syncs_keep old new run turns slots lawful is runs =
     let rests = rests_by false old new lawful is in
     let told_before = λ (content : List ℕ) (told : new.content ≡ Some content). sym is.content ∙ told in
     record {
@@ -108,11 +109,12 @@ failed_syncs_keep old new run turns slots rises lawful is runs =
       matches = runs.matches;
       trail = trail_goes run turns old new is.time (λ content told. (content, told_before content told)) runs.trail
           (λ content told counts image left.
-          now_shown run turns old rises runs.trail content (told_before content told) counts image (rests.left content told image left));
+          shown run.gives run.layout (disk_books run turns) slots old runs.box content (told_before content told) runs.matches image
+          (rests.left content told image left));
     }
 
 pub syncs_keep : (old new : View) → SyncsKeep old new
-syncs_keep old new run turns slots rises lawful is runs =
+syncs_keep old new run turns slots lawful is runs =
     record {
       box = record {
         large = omega (arith, runs.box.large, is.size);
@@ -131,7 +133,8 @@ syncs_keep old new run turns slots rises lawful is runs =
           (λ k work there aloft. (runs.box.works.each k work there).gate aloft);
       trail = trail_goes run turns old new is.time (λ content told. (content, told_before content told)) runs.trail
           (λ content told counts image left.
-          now_shown run turns old rises runs.trail content (told_before content told) counts image (rests.left content told image left));
+          shown run.gives run.layout (disk_books run turns) slots old runs.box content (told_before content told) runs.matches image
+          (rests.left content told image left));
     }
   where
     base : ℕ → Part

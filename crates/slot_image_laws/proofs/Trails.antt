@@ -14,18 +14,6 @@ pub rises_within : (from : ℕ) (turns : List Turn) (to : ℕ) → RisesFrom fro
 rises_within from [] to rises = rises
 rises_within from (turn ∷ turns) to rises = let first = rises.0 in let rest = rises_within turn.now turns to rises.1 in omega arith
 
-rises_behind : (from : ℕ) (front back : List Turn) (to : ℕ) → RisesFrom from (front ++ back) to → (first : ℕ) × RisesFrom first back to
-rises_behind from [] back to rises = (from, rises)
-rises_behind from (turn ∷ front) back to rises = rises_behind turn.now front back to rises.1
-
--- and none is behind the last
-none_behind : (from : ℕ) (back : List Turn) (to : ℕ) → RisesFrom from back to → All (λ (turn : Turn). to < turn.now) back → back ≡ []
-none_behind from [] to rises later = refl
-none_behind from (turn ∷ back) to rises later =
-    let high = All-head (λ (t : Turn). to < t.now) turn back later in
-    let low = rises_within turn.now back to rises.1 in
-    absurd (omega arith)
-
 -- a longer record that goes on rising
 pub rises_on : (from : ℕ) (turns more : List Turn) (to : ℕ) → RisesFrom from turns to → RisesFrom to more to → RisesFrom from (turns ++ more) to
 rises_on from [] more to rises goes = rises_from from more to rises goes
@@ -60,17 +48,6 @@ all_after t now (turn ∷ list) same lt =
     (all_after t now list (All-tail (λ (turn : Turn). turn.now ≡ now) turn list same) lt)
 
 module _ (run : RunStart) (turns : List Turn) (old : View) where
-  -- what the trail says of now is said of all turns, since none is later
-  pub now_shown : RisesFrom run.moment turns old.now → LeavesPrefixes run turns old → (content : List ℕ) → old.content ≡ Some content → CountsOn old
-      → (image : List ℕ) → images old image → Shows run.gives run.layout (disk_books run turns) image
-  now_shown rises trail content told counts image left =
-      let from = rises_within run.moment turns old.now rises in
-      let shown = trail content told counts old.now image from (old.now, omega arith, omega arith, left) in
-      let behind = rises_behind run.moment shown.front shown.back old.now (subst (λ (l : List Turn). RisesFrom run.moment l old.now) shown.split rises) in
-      let none = none_behind behind.0 shown.back old.now behind.1 shown.later in
-      let whole : turns ≡ shown.front = shown.split ∙ ap (λ (l : List Turn). shown.front ++ l) none ∙ append-nil shown.front in
-      subst (λ (l : List Turn). Shows run.gives run.layout (disk_books run l) image) (sym whole) shown.shows
-
   -- one device call later
   pub trail_goes : (new : View) → Elapses old new
       → ((content : List ℕ) → new.content ≡ Some content → (was : List ℕ) × (old.content ≡ Some was)) → LeavesPrefixes run turns old

@@ -41,7 +41,7 @@ IsDoneBy _ slots old new = ⊥
 
 -- No label has been told yet of a disk.
 abbrev pub FirstRunsFit : View → Type 0
-FirstRunsFit disk = (layout : Layout) → layout.blocks ≤ disk.size → KeepsLaws disk → RunFits layout disk.now (first_past disk.now) disk
+FirstRunsFit disk = (layout : Layout) → layout.blocks ≤ disk.size → RunFits layout disk.now (first_past disk.now) disk
 
 -- A label that is told by the rules of the disk as it is goes on with the run.
 abbrev pub ToldLabelsFit : View → Type 0

@@ -10,17 +10,17 @@ use Rattle.cut_laws.specs.Closure.{Flush}
 use Rattle.slot_laws.specs.Slots.{Slots, SlotWork, synced_slots, shut_gate, with_at, begun_work, place_at, open_gate, changed_slot, settled_work, knowing, known_filled, known_placed, known_gated}
 use Rattle.slot_laws.specs.Rules.{EmptyTurns, HasWork, IsOldestOf}
 use Rattle.slot_image_laws.specs.Images.{RunStart, disk_books}
-use Rattle.slot_image_laws.specs.Run.{BeganWith, KeepsLaws, IsRun, RisesFrom, Syncs, Writes}
+use Rattle.slot_image_laws.specs.Run.{BeganWith, KeepsLaws, IsRun, Syncs, Writes}
 use Rattle.slot_image_laws.specs.Commits.{IsCommitAt}
 
 -- A run begins where no slot is open and no turn was told.
 abbrev pub RunsStart : View → Type 0
 RunsStart disk = (run : RunStart) → run.layout.blocks ≤ disk.size → disk.now ≡ run.moment
-    → BeganWith run.layout run.parts run.moment disk → KeepsLaws disk → IsRun run [] (λ _. None) disk
+    → BeganWith run.layout run.parts run.moment disk → IsRun run [] (λ _. None) disk
 
 -- A turn keeps a run, at the moment of now, that neither opens a commit nor makes one durable.
 abbrev pub QuietTurnsKeep : View → Type 0
-QuietTurnsKeep disk = (run : RunStart) (turns : List Turn) (slots : Slots) (turn : Turn) → RisesFrom run.moment turns disk.now
+QuietTurnsKeep disk = (run : RunStart) (turns : List Turn) (slots : Slots) (turn : Turn)
     → turn.act ≢ act.Opened → turn.act ≢ act.Durable → turn.now ≡ disk.now
     → IsRun run turns slots disk → IsRun run (turns ++ turn ∷ []) slots disk
 
@@ -35,19 +35,19 @@ pub record AreEmptyTurns (three : EmptyTurns) (commit : ℕ) : Type 0 where
 -- So do the turns of a commit that gives nothing, with a number that none in a slot has.
 abbrev pub EmptyCommitsKeep : View → Type 0
 EmptyCommitsKeep disk = (run : RunStart) (turns : List Turn) (slots : Slots) (three : EmptyTurns) (commit : ℕ)
-    → RisesFrom run.moment turns disk.now → AreEmptyTurns three commit → run.gives commit ≡ []
+    → AreEmptyTurns three commit → run.gives commit ≡ []
     → ((k : ℕ) (work : SlotWork) → slots k ≡ Some work → work.commit ≢ commit)
     → (three.cut.now ≡ disk.now) × (three.opened.now ≡ disk.now) × (three.durable.now ≡ disk.now)
     → IsRun run turns slots disk → IsRun run (turns ++ three.cut ∷ three.opened ∷ three.durable ∷ []) slots disk
 
 -- A sync that answered Ok makes known of each image what is known of a read, for every slot.
 abbrev pub SyncsKeep : View → View → Type 0
-SyncsKeep old new = (run : RunStart) (turns : List Turn) (slots : Slots) → RisesFrom run.moment turns old.now → KeepsLaws old → Syncs true old new
+SyncsKeep old new = (run : RunStart) (turns : List Turn) (slots : Slots) → KeepsLaws old → Syncs true old new
     → IsRun run turns slots old → IsRun run turns (synced_slots slots) new
 
 -- A sync that failed leaves a run as it is.
 abbrev pub FailedSyncsKeep : View → View → Type 0
-FailedSyncsKeep old new = (run : RunStart) (turns : List Turn) (slots : Slots) → RisesFrom run.moment turns old.now → KeepsLaws old
+FailedSyncsKeep old new = (run : RunStart) (turns : List Turn) (slots : Slots) → KeepsLaws old
     → Syncs false old new → IsRun run turns slots old → IsRun run turns slots new
 
 -- A slot whose commit is durable and whose gate is shut in each image may be idle again.
