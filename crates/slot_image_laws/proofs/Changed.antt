@@ -114,11 +114,10 @@ opened_still gives layout slots was image same = fun_ext (λ k. opened_still_at 
 
 -- marks with a number less, and more
 pub less_marked : (marks : ℕ → Bool) (n m : ℕ) → without_number marks n m ≡ true → (m ≢ n) × (marks m ≡ true)
-less_marked marks n m marked =
-    (
-      λ same. not_both (ap (λ (j : ℕ). nat_eq j n) same ∙ same_number n) (not_true (nat_eq m n) (and_first (not (nat_eq m n)) (marks m) marked)),
-      and_second (not (nat_eq m n)) (marks m) marked,
-    )
+less_marked marks n m marked = (
+  λ same. not_both (ap (λ (j : ℕ). nat_eq j n) same ∙ same_number n) (not_true (nat_eq m n) (and_first (not (nat_eq m n)) (marks m) marked)),
+  and_second (not (nat_eq m n)) (marks m) marked,
+)
 
 pub more_marked : (marks : ℕ → Bool) (n m : ℕ) → with_number marks n m ≡ true → (m ≡ n) ⊎ (marks m ≡ true)
 more_marked marks n m marked = elim (either_true (nat_eq m n) (marks m) marked) [

@@ -204,9 +204,9 @@ module _ (gives : ℕ → List InodePart) (layout : Layout) (books : DiskBooks) 
           | inl few ↦ elim (fill_lies gives layout books.base k has.work own_fits n) [
             | inl slot ↦ data_keeps few (record {
               low = (subst (λ (l : Layout). LiesInData l (get_or has.work.job.fresh n no_block))
-                    (ap (λ (place : Place). place.layout) own_fits.place) (in_data has.work.job own_fits.is n few)).low;
+                  (ap (λ (place : Place). place.layout) own_fits.place) (in_data has.work.job own_fits.is n few)).low;
               high = (subst (λ (l : Layout). LiesInData l (get_or has.work.job.fresh n no_block))
-                    (ap (λ (place : Place). place.layout) own_fits.place) (in_data has.work.job own_fits.is n few)).high;
+                  (ap (λ (place : Place). place.layout) own_fits.place) (in_data has.work.job own_fits.is n few)).high;
               at = ap (λ (p : Piece). p.at) (fresh_is has.work.job own_fits.is n few);
               long = own_fits.commit.whole n few;
             })

@@ -89,7 +89,7 @@ opened_but gives layout slots k piece change was image opened low apart same her
   | inr away ↦
       ap (λ (o : Option SlotWork). cond (gate_in layout image j) (may_have gives o) None) (at_other slots k (option_map change (slots k)) j away)
       ∙ opened_still_at gives layout slots was image j
-        (λ work there. gate_stays (place_at layout j) piece 1 was image (apart.gates j (low j work there) away) same)
+      (λ work there. gate_stays (place_at layout j) piece 1 was image (apart.gates j (low j work there) away) same)
       ∙ sym (others j away)
 ])
 

@@ -150,7 +150,7 @@ module _ (gives : ℕ → List InodePart) (layout : Layout) (base : ℕ → Part
               | inl durable ↦ inr (record {
                 whole = whole
                     ∙ sym (works.newest giver.0 i own.work part own.there durable given_is
-                      (last_of i giver.0 giver.1 own.work part giver.2 stamp own.there durable given_is));
+                    (last_of i giver.0 giver.1 own.work part giver.2 stamp own.there durable given_is));
                 none = none_newer i giver.0 giver.1 own.work part giver.2 stamp own.there durable given_is;
               })
               | inr aloft ↦ inl (record {

@@ -60,4 +60,4 @@ durable_commits_stand run opened durable moment image is shown =
         ∙ ap (λ (did : TurnAct). book_act run.gives did durable.commit (record { base = run.parts; flying = opened.commit ∷ [] })) is.durable_is
         ∙ ap (λ (commit : ℕ). record { base = parts_over (run.gives commit) run.parts; flying = others commit }) is.same
         ∙ ap (λ (b : Bool). record { base = parts_over (run.gives opened.commit) run.parts; flying = cond (not b) (opened.commit ∷ []) [] })
-          (same_number opened.commit)
+        (same_number opened.commit)

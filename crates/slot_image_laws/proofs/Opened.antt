@@ -204,7 +204,7 @@ module _ (gives : ℕ → List InodePart) (layout : Layout) (books : DiskBooks) 
               written = same_gate_byte gives layout books.base k 1 has.work own_fits was image same;
               gate = gate
                   ∙ sym (subst (λ (o : Option Transaction). IsSlotOf layout.inodes o (journal_slot layout was k))
-                    (is_shut gives layout books slots old box k 0 has was) (stood.slots k low));
+                  (is_shut gives layout books slots old box k 0 has was) (stood.slots k low));
             }))
 
   -- the commit flies from now on

@@ -207,7 +207,7 @@ places_keep old new run turns slots k n done has low oldest lawful is runs =
         omega (
           arith,
           table_within run.layout runs.box.fits (table_piece has.work.job n) (inode_of_nth has.work.job n)
-            (table_lies run.gives run.layout (disk_books run turns).base k has.work fits n low),
+              (table_lies run.gives run.layout (disk_books run turns).base k has.work fits n low),
           runs.box.large,
         )
 

@@ -90,12 +90,15 @@ module _ (gives : ℕ → List InodePart) (layout : Layout) (base : ℕ → Part
   fill_lies n = elim (cases_lt n (length work.job.fresh)) [
     | inl lt ↦
         let lies = subst (λ (l : Layout). LiesInData l (get_or work.job.fresh n no_block)) layout_is (in_data work.job fits.is n lt) in
-        inr (lt, record {
-          low = lies.low;
-          high = lies.high;
-          at = ap (λ (p : Piece). p.at) (fresh_is work.job fits.is n lt);
-          long = fits.commit.whole n lt;
-        })
+        inr (
+          lt,
+          record {
+            low = lies.low;
+            high = lies.high;
+            at = ap (λ (p : Piece). p.at) (fresh_is work.job fits.is n lt);
+            long = fits.commit.whole n lt;
+          },
+        )
     | inr le ↦
         let lies = lies_own (body_piece work.job (n - length work.job.fresh)) (body_lies work.job fits.is (n - length work.job.fresh)) in
         inl (subst (SlotPiece layout k) (sym (body_is work.job fits.is n le))

@@ -178,7 +178,7 @@ module _ (gives : ℕ → List InodePart) (layout : Layout) (base : ℕ → Part
             absurd (omega arith)
         | inr still ↦ still
             ∙ works.newest j i one part there durable given_is
-              (λ m other part_too out here settled gave. last m other part_too out (at_other slots k (option_map settled_work (slots k)) m (not_here m other here settled) ∙ here) settled gave)
+            (λ m other part_too out here settled gave. last m other part_too out (at_other slots k (option_map settled_work (slots k)) m (not_here m other here settled) ∙ here) settled gave)
       ]
         where
           not_here : (m : ℕ) (other : SlotWork) → slots m ≡ Some other → other.settled ≡ true → m ≢ k

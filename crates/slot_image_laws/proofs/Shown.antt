@@ -160,10 +160,10 @@ module _ (gives : ℕ → List InodePart) (layout : Layout) (books : DiskBooks) 
     parts = λ i low. elim (given_so gives layout books.base slots image box.works (gates_open image left) (box.stands content told image left) i) [
       | inl flight ↦ flight.whole
           ∙ sym (part_comes gives kept i flight.part books.flying books.base flight.work.commit (leaves_flight i flight)
-            (matches.flies flight.slot flight.work flight.flight.there flight.flight.aloft flight.flight.may)
-            (there_kept layout slots image (slot_count layout) flight.slot flight.work
-            (within gives layout books.base slots box.works flight.slot flight.work flight.flight.there) flight.flight)
-            (λ base. over_given gives flight.work i flight.part base flight.given_is))
+          (matches.flies flight.slot flight.work flight.flight.there flight.flight.aloft flight.flight.may)
+          (there_kept layout slots image (slot_count layout) flight.slot flight.work
+          (within gives layout books.base slots box.works flight.slot flight.work flight.flight.there) flight.flight)
+          (λ base. over_given gives flight.work i flight.part base flight.given_is))
       | inr base ↦ base.whole ∙ sym (part_stays gives kept i (books.base i) books.flying books.base (leaves_base i base) refl)
     ];
   }

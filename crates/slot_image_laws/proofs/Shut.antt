@@ -118,8 +118,8 @@ module _ (gives : ℕ → List InodePart) (layout : Layout) (books : DiskBooks) 
               none_there
               (sym nothing
               ∙ ap (part_given i)
-                (with_slot-other (opened_in gives layout slots was) k None flight.slot away
-                ∙ open_there gives layout books.base slots was flight.slot flight.work flight.flight.there flight.flight.gate flight.flight.may)
+              (with_slot-other (opened_in gives layout slots was) k None flight.slot away
+              ∙ open_there gives layout books.base slots was flight.slot flight.work flight.flight.there flight.flight.gate flight.flight.may)
               ∙ flight.given_is)
         ]
 

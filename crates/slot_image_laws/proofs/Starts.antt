@@ -75,7 +75,7 @@ module _ (run : RunStart) (books : DiskBooks) (three : EmptyTurns) (commit : ℕ
       → books_from run.gives (three.cut ∷ three.opened ∷ three.durable ∷ []) books ≡ books
   empty_books are nothing apart =
       let cut : books_from run.gives (three.cut ∷ three.opened ∷ three.durable ∷ []) books
-          ≡ books_from run.gives (three.opened ∷ three.durable ∷ []) books =
+      ≡ books_from run.gives (three.opened ∷ three.durable ∷ []) books =
       ap (λ (did : TurnAct). books_from run.gives (three.opened ∷ three.durable ∷ []) (book_act run.gives did three.cut.commit books)) are.cut_is in
       let opened : books_from run.gives (three.opened ∷ three.durable ∷ []) books ≡ books_from run.gives (three.durable ∷ []) (opened_books commit) =
       ap (λ (did : TurnAct). books_from run.gives (three.durable ∷ []) (book_act run.gives did three.opened.commit books)) are.opened_is
@@ -101,7 +101,7 @@ module _ (run : RunStart) (books : DiskBooks) (three : EmptyTurns) (commit : ℕ
       flying_same =
           filter-append (others commit) books.flying (commit ∷ [])
           ∙ ap (λ (l : List ℕ). l ++ filter (others commit) (commit ∷ []))
-            (filter_all (others commit) books.flying (λ other one. ap not (not_same other commit (apart other one))))
+          (filter_all (others commit) books.flying (λ other one. ap not (not_same other commit (apart other one))))
           ∙ ap (λ (l : List ℕ). books.flying ++ l) last_goes
           ∙ append-nil books.flying
 
@@ -116,9 +116,9 @@ empty_commits_keep disk run turns slots three commit are nothing apart now runs 
     more_turns run turns (three.cut ∷ three.opened ∷ three.durable ∷ []) slots disk
     (books_more run.gives turns (three.cut ∷ three.opened ∷ three.durable ∷ []) (first_books run)
     ∙ empty_books run (disk_books run turns) three commit are nothing
-      (λ other one same.
-      let flight = runs.matches.flown other one in
-      apart flight.slot flight.work flight.there (flight.number ∙ same)))
+    (λ other one same.
+    let flight = runs.matches.flown other one in
+    apart flight.slot flight.work flight.there (flight.number ∙ same)))
     (All-cons (λ (turn : Turn). turn.now ≡ disk.now) three.cut (three.opened ∷ three.durable ∷ []) now.0
     (All-cons (λ (turn : Turn). turn.now ≡ disk.now) three.opened (three.durable ∷ []) now.1 (only_now three.durable disk.now now.2)))
     runs
