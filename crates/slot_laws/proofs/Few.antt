@@ -144,7 +144,7 @@ module _ (layout : Layout) (before core : ℕ) (past : BoxPast) (all : PastFits 
         );
   }
   begun_label (label.Filled k piece done) rule = keeps (label.Filled k piece done) refl refl (inl refl)
-  begun_label label.Synced rule = keeps label.Synced refl refl (inl refl)
+  begun_label (label.Synced now) rule = keeps (label.Synced now) refl refl (inl refl)
   begun_label (label.Opened k done cut opened) rule = keeps (label.Opened k done cut opened) refl refl (inl refl)
   begun_label (label.Settled k turn) rule = keeps (label.Settled k turn) refl refl (inl refl)
   begun_label (label.Looked turn) rule = keeps (label.Looked turn) refl refl (inl refl)

@@ -187,7 +187,7 @@ module _ (layout : Layout) (before : ℕ) where
       no_more (changed_slot past.slots k (knowing (known_filled done piece))) past.turns
       (follow_on past.slots (changed_slot past.slots k (knowing (known_filled done piece))) past.turns [] follows
       (changed_with past.slots k (known_filled done piece)))
-  follow_label core past rings follows label.Synced rule =
+  follow_label core past rings follows (label.Synced now) rule =
       no_more (synced_slots past.slots) past.turns (follow_on past.slots (synced_slots past.slots) past.turns [] follows (synced_with past.slots))
   follow_label core past rings follows (label.Opened k done cut opened) rule =
       follow_on past.slots (changed_slot past.slots k (knowing (known_gated done open_gate))) past.turns (cut ∷ opened ∷ []) follows

@@ -121,8 +121,11 @@ module _ (layout : Layout) (before core : ℕ) (past : BoxPast) (fits : PastFits
       (λ work there. record { told = knowing_told (known_placed done n) work; gates = λ aloft opened left read. (left, read) }))
       (known_come past.slots k (known_placed done n)))
 
-  synced : PastFits layout before (after_label layout core label.Synced past)
-  synced = unchanged label.Synced refl (fits_kept (synced_slots past.slots) (synced_keep past.slots) (synced_come past.slots))
+  synced : (now : ℕ) → PastFits layout before (after_label layout core (label.Synced now) past)
+  synced now =
+      let kept = fits_kept (synced_slots past.slots) (synced_keep past.slots) (synced_come past.slots) in
+      unchanged (label.Synced now) refl
+      (record { flights = kept.flights; turns = kept.turns; numbers = kept.numbers; over = kept.over; times = kept.times })
 
   shut : (k : ℕ) (done : Bool) → ShutRule k past → PastFits layout before (after_label layout core (label.Shut k done) past)
   shut k done rule =
@@ -366,7 +369,7 @@ module _ (layout : Layout) (before core : ℕ) (past : BoxPast) (fits : PastFits
   label_fits (label.Returned commit) rule = returns commit
   label_fits (label.Began filling commit node stamp) rule = began filling commit node stamp rule
   label_fits (label.Filled k piece done) rule = filled k piece done
-  label_fits label.Synced rule = synced
+  label_fits (label.Synced now) rule = synced now
   label_fits (label.Opened k done cut opened) rule = opened_label k done cut opened rule
   label_fits (label.Settled k turn) rule = settled k turn rule
   label_fits (label.Looked turn) rule = looked turn rule

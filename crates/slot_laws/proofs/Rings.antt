@@ -32,18 +32,18 @@ pub share_back : (one other : Job) → ShareInode one other → ShareInode other
 share_back one other shares = (shares.2.0, shares.2.1, (shares.0, shares.1, sym shares.2.2))
 
 -- Of a commit the same is told, durable or not as it was; and each record that was placed was so, or is the oldest of its inode.
-record KeepsMarks (slots : Slots) (k : ℕ) (work new : SlotWork) : Type 0 where
-  told : KeepsTold work new
-  marks : (n : ℕ) → is_started new n ≡ true → (is_started work n ≡ true) ⊎ ((work.settled ≡ true) × IsOldestOf slots k work n)
+pub record KeepsMarks (slots : Slots) (k : ℕ) (work new : SlotWork) : Type 0 where
+  pub told : KeepsTold work new
+  pub marks : (n : ℕ) → is_started new n ≡ true → (is_started work n ≡ true) ⊎ ((work.settled ≡ true) × IsOldestOf slots k work n)
 
 -- so came a commit of slots
-abbrev CameAs : Slots → ℕ → SlotWork → Type 0
+abbrev pub CameAs : Slots → ℕ → SlotWork → Type 0
 CameAs slots = Came (KeepsMarks slots) slots
 
-same_marks : (slots : Slots) (k : ℕ) (work : SlotWork) → KeepsMarks slots k work work
+pub same_marks : (slots : Slots) (k : ℕ) (work : SlotWork) → KeepsMarks slots k work work
 same_marks slots k work = record { told = told_itself work; marks = λ n started. inl started }
 
-rings_move : (slots later : Slots) → RingsFit slots → ((k : ℕ) (new : SlotWork) → later k ≡ Some new → CameAs slots k new) → RingsFit later
+pub rings_move : (slots later : Slots) → RingsFit slots → ((k : ℕ) (new : SlotWork) → later k ≡ Some new → CameAs slots k new) → RingsFit later
 rings_move slots later fits come = record {
   apart = λ j k one other pair shares.
       let away = pair.away in
@@ -111,7 +111,7 @@ rings_move slots later fits come = record {
         ]
 
 -- one slot's commit is another, of which so much stays
-changed_as : (slots : Slots) (k : ℕ) (change : SlotWork → SlotWork) → ((work : SlotWork) → slots k ≡ Some work → KeepsMarks slots k work (change work))
+pub changed_as : (slots : Slots) (k : ℕ) (change : SlotWork → SlotWork) → ((work : SlotWork) → slots k ≡ Some work → KeepsMarks slots k work (change work))
     → (j : ℕ) (new : SlotWork) → changed_slot slots k change j ≡ Some new → CameAs slots j new
 changed_as slots = changed_came (KeepsMarks slots) slots (same_marks slots)
 
@@ -133,7 +133,7 @@ second_or : (a b : Bool) → b ≡ true → (a || b) ≡ true
 second_or a b e = ap (λ (c : Bool). a || c) e ∙ or_true a
 
 -- a record placed in a slot is the oldest of its inode, or was placed before
-placed_as : (slots : Slots) (k n : ℕ) (done : Bool) (work : SlotWork) → work.settled ≡ true → IsOldestOf slots k work n
+pub placed_as : (slots : Slots) (k n : ℕ) (done : Bool) (work : SlotWork) → work.settled ≡ true → IsOldestOf slots k work n
     → KeepsMarks slots k work (knowing (known_placed done n) work)
 placed_as slots k n done work durable oldest = record {
   told = knowing_told (known_placed done n) work;
@@ -151,7 +151,7 @@ placed_as slots k n done work durable oldest = record {
     ]
     by false m read = inl (second_or (work.known.table_left m) (work.known.table_read m) (marked_without work.known.table_read n m read))
 
-synced_as : (slots : Slots) (k : ℕ) (work : SlotWork) → KeepsMarks slots k work (knowing known_synced work)
+pub synced_as : (slots : Slots) (k : ℕ) (work : SlotWork) → KeepsMarks slots k work (knowing known_synced work)
 synced_as slots k work = record {
   told = knowing_told known_synced work;
   marks = λ n mark. elim (either_true (work.known.table_read n) (work.known.table_read n) mark) [
@@ -161,7 +161,7 @@ synced_as slots k work = record {
 }
 
 -- a commit begins in an idle slot, with the greatest stamp, apart from the others that are not durable
-begun_fits : (slots : Slots) (k : ℕ) (job : Job) (commit : ℕ) (flush : Flush) → RingsFit slots
+pub begun_fits : (slots : Slots) (k : ℕ) (job : Job) (commit : ℕ) (flush : Flush) → RingsFit slots
     → ((j : ℕ) (other : SlotWork) → slots j ≡ Some other → other.job.stamp < job.stamp)
     → ((j : ℕ) (other : SlotWork) → slots j ≡ Some other → other.settled ≡ false → ShareInode job other.job → ⊥)
     → RingsFit (with_at slots k (Some (begun_work job commit flush)))
@@ -233,7 +233,7 @@ is_settled slots k work there j other is same =
     some_same (sym (at_same slots k (option_map settled_work (slots k)) j same ∙ ap (option_map settled_work) there) ∙ is)
 
 -- a commit is durable from now on
-settled_fits : (slots : Slots) (k : ℕ) (work : SlotWork) → RingsFit slots → slots k ≡ Some work → work.settled ≡ false
+pub settled_fits : (slots : Slots) (k : ℕ) (work : SlotWork) → RingsFit slots → slots k ≡ Some work → work.settled ≡ false
     → RingsFit (changed_slot slots k settled_work)
 settled_fits slots k work fits there aloft = record {
   apart = λ j i one other pair shares.
@@ -293,7 +293,7 @@ settled_fits slots k work fits there aloft = record {
     off j other is flying same = not_both (ap (λ (w : SlotWork). w.settled) (sym (is_settled slots k work there j other is same))) flying
 
 -- what is known of the pieces that fill a slot, or of its gate, tells nothing of records
-marks_as : (slots : Slots) (k : ℕ) (change : SlotKnown → SlotKnown)
+pub marks_as : (slots : Slots) (k : ℕ) (change : SlotKnown → SlotKnown)
     → ((work : SlotWork) (n : ℕ) → is_started (knowing change work) n ≡ true → is_started work n ≡ true) → (j : ℕ) (new : SlotWork)
     → changed_slot slots k (knowing change) j ≡ Some new → CameAs slots j new
 marks_as slots k change marks =
@@ -314,7 +314,7 @@ module _ (layout : Layout) (before : ℕ) where
   rings_label core teller past all fits (label.Filled k piece done) rule apart =
       rings_move past.slots (changed_slot past.slots k (knowing (known_filled done piece))) fits
       (marks_as past.slots k (known_filled done piece) (λ work n mark. mark))
-  rings_label core teller past all fits label.Synced rule apart =
+  rings_label core teller past all fits (label.Synced now) rule apart =
       rings_move past.slots (synced_slots past.slots) fits
       (synced_came (KeepsMarks past.slots) past.slots (synced_as past.slots))
   rings_label core teller past all fits (label.Opened k done cut opened) rule apart =

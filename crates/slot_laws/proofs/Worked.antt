@@ -151,6 +151,7 @@ module _ (own other : Filling) (own_is : BeginsIn own 0 1) (other_is : BeginsIn 
                         calm = refl;
                         has = record { work = _; there = refl; aloft = refl; gate_is = refl };
                         is = record { did_is = refl; core_is = refl; commit_is = refl; flush_is = refl };
+                        moment = refl;
                         now = record { rises = omega arith; counts = refl };
                       },
                     ),
@@ -161,6 +162,7 @@ module _ (own other : Filling) (own_is : BeginsIn own 0 1) (other_is : BeginsIn 
                           calm = refl;
                           has = record { work = _; there = refl; aloft = refl; gate_is = refl };
                           is = record { did_is = refl; core_is = refl; commit_is = refl; flush_is = refl };
+                          moment = refl;
                           now = record { rises = omega arith; counts = refl };
                         },
                       ),

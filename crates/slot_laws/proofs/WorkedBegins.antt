@@ -1,5 +1,5 @@
 -- The worked history up to where both commits have begun.
-use Rattle.std.proofs.Common.{◌≡◌, ◌<◌, ◌∙◌, ℕ, zero, suc, true, false, List, Some, None, refl, sym, ap, subst, arith}
+use Rattle.std.proofs.Common.{◌≡◌, ◌<◌, ◌∙◌, ◌∷◌, ◌++◌, ℕ, zero, suc, true, false, List, [], Some, None, refl, sym, ap, subst, arith}
 use Rattle.journal_one.specs.Job.{Place}
 use Rattle.journal_one.specs.declared.slot.Filling.{Filling}
 use Rattle.cut_laws.specs.Closure.{Flush}
@@ -27,6 +27,7 @@ abbrev pub begun_past : BoxPast → ℕ → Filling → ℕ → Flush → ℕ �
 begun_past past core filling commit flush k drawn = record past {
   slots = with_at past.slots k (Some (begun_work filling.job commit flush));
   stamps = drawn;
+  begun = past.begun ++ record { turns = past.turns; slots = past.slots; work = begun_work filling.job commit flush } ∷ [];
   owns = with_at past.owns core (record (past.owns core) {
     reserved = None;
     flight = Some (record { slot = k; commit = commit; flush = flush; opened = false });

@@ -13,7 +13,7 @@ use Rattle.stamp_table.specs.declared.event.Event.{Event}
 use Rattle.stamp_table.specs.declared.event.Event.TheVariants.{Called, Told}
 use Rattle.slot_laws.specs.declared.label.Label.{Label}
 use Rattle.slot_laws.specs.declared.label.Label.TheVariants as label
-use Rattle.slot_laws.specs.Slots.{open_gate, shut_gate, known_filled, known_placed, known_gated, begun_work, knowing, settled_work, Slots, with_at, changed_slot, synced_slots}
+use Rattle.slot_laws.specs.Slots.{open_gate, shut_gate, known_filled, known_placed, known_gated, SlotWork, begun_work, knowing, settled_work, Slots, with_at, changed_slot, synced_slots}
 
 -- whose a slot is
 abbrev pub owner : Layout → ℕ → ℕ
@@ -66,9 +66,15 @@ own_label (label.Looked turn) own = record own { flight = None; told = own.told 
 own_label (label.Empty commit cut opened durable) own = record own { reserved = None; told = own.told ++ cut ∷ opened ∷ durable ∷ [] }
 own_label _ own = own
 
+-- A commit as it began: the record of turns and the slots that it found, and what it is.
+pub record Begun : Type 0 where
+  pub turns : List Turn
+  pub slots : Slots
+  pub work : SlotWork
+
 -- What all labels come to: the record of turns; the slots; for each core the turn that made its commit durable, where it has not looked yet, and
 -- what it told; how many numbers and commit stamps were given; the count of faults of the failure, where there was one; the core that has the
--- box; and the moment of the last turn.
+-- box; the moment of the last turn, and that of the last sync; the commits that began in slots, as they began; and those that wrote nothing.
 pub record BoxPast : Type 0 where
   pub turns : List Turn
   pub slots : Slots
@@ -79,6 +85,9 @@ pub record BoxPast : Type 0 where
   pub failed : Option ℕ
   pub busy : Option ℕ
   pub moment : ℕ
+  pub synced : ℕ
+  pub begun : List Begun
+  pub empties : List ℕ
 
 -- before the first label
 abbrev pub first_past : ℕ → BoxPast
@@ -92,6 +101,9 @@ first_past moment = record {
   failed = None;
   busy = None;
   moment = moment;
+  synced = moment;
+  begun = [];
+  empties = [];
 }
 
 -- what a label of a core makes of all but the cores' own
@@ -105,9 +117,10 @@ box_label layout core (label.Returned commit) past = past
 box_label layout core (label.Began filling commit node stamp) past = record past {
   slots = with_at past.slots filling.job.place.slot (Some (begun_work filling.job commit (fsync_told node stamp)));
   stamps = filling.job.stamp;
+  begun = past.begun ++ record { turns = past.turns; slots = past.slots; work = begun_work filling.job commit (fsync_told node stamp) } ∷ [];
 }
 box_label layout core (label.Filled slot piece done) past = record past { slots = changed_slot past.slots slot (knowing (known_filled done piece)) }
-box_label layout core label.Synced past = record past { slots = synced_slots past.slots }
+box_label layout core (label.Synced now) past = record past { slots = synced_slots past.slots; synced = now }
 box_label layout core (label.Opened slot done cut opened) past = record past {
   turns = past.turns ++ cut ∷ opened ∷ [];
   slots = changed_slot past.slots slot (knowing (known_gated done open_gate));
@@ -124,7 +137,7 @@ box_label layout core (label.Placed slot n done) past = record past { slots = ch
 box_label layout core (label.Shut slot done) past = record past { slots = changed_slot past.slots slot (knowing (known_gated done shut_gate)) }
 box_label layout core (label.Idled slot) past = record past { slots = with_at past.slots slot None }
 box_label layout core (label.Empty commit cut opened durable) past =
-    record past { turns = past.turns ++ cut ∷ opened ∷ durable ∷ []; moment = durable.now }
+    record past { turns = past.turns ++ cut ∷ opened ∷ durable ∷ []; moment = durable.now; empties = past.empties ++ commit ∷ [] }
 
 -- and of all
 abbrev pub after_label : Layout → ℕ → Label → BoxPast → BoxPast

@@ -79,11 +79,12 @@ pub record OpenedRule (layout : Layout) (before core k : ℕ) (cut opened : Turn
   pub cut_now : IsNextTurn before past cut
   pub opened_now : (opened.now ≡ cut.now) × (opened.faults ≡ before)
 
--- A commit is durable whose gate is open in each image, whoever tells it.
+-- A commit is durable whose gate is open in each image, whoever tells it, from the moment of the last sync on.
 pub record SettledRule (layout : Layout) (before k : ℕ) (turn : Turn) (past : BoxPast) : Type 0 where
   pub calm : past.failed ≡ None
   pub has : HasWork past.slots k false open_gate
   pub is : IsTurnBy turn act.Durable (owner layout k) has.work.commit has.work.flush
+  pub moment : turn.now ≡ past.synced
   pub now : IsNextTurn before past turn
 
 -- the inode of the n-th record of a job, and whether it has a record of an inode
@@ -148,7 +149,7 @@ MayLabel layout before core (label.Reserved commit) past = ReservedRule core com
 MayLabel layout before core (label.Returned commit) past = (past.owns core).reserved ≡ Some commit
 MayLabel layout before core (label.Began filling commit node stamp) past = BeganRule layout core filling.job commit past
 MayLabel layout before core (label.Filled slot piece done) past = FilledRule layout core slot piece past
-MayLabel layout before core label.Synced past = past.failed ≡ None
+MayLabel layout before core (label.Synced now) past = past.failed ≡ None
 MayLabel layout before core (label.Opened slot done cut opened) past = OpenedRule layout before core slot cut opened past
 MayLabel layout before core (label.Settled slot turn) past = SettledRule layout before slot turn past
 MayLabel layout before core (label.Looked turn) past = LookedRule core turn past

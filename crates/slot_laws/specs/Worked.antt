@@ -50,7 +50,7 @@ both_reserve =
 abbrev pub both_fill : List (Event Label)
 both_fill =
     own_hold (label.Took ∷ label.Filled 0 0 true ∷ label.Filled 0 1 true ∷ label.Filled 0 2 true ∷ [])
-    ++ other_hold (label.Took ∷ label.Filled 2 0 true ∷ label.Filled 2 1 true ∷ label.Filled 2 2 true ∷ label.Synced ∷ [])
+    ++ other_hold (label.Took ∷ label.Filled 2 0 true ∷ label.Filled 2 1 true ∷ label.Filled 2 2 true ∷ label.Synced 2 ∷ [])
 
 -- both gates are opened, and one sync makes both commits durable
 abbrev pub both_land : List (Event Label)
@@ -59,14 +59,14 @@ both_land =
     ++ own_hold (label.Took ∷ label.Opened 0 true (own_turn 4 0 act.CutAt) (own_turn 4 0 act.Opened) ∷ [])
     ++ other_hold
     (label.Took
-    ∷ label.Synced
+    ∷ label.Synced 5
     ∷ label.Settled 2 (other_turn 5 0 act.Durable)
     ∷ label.Settled 0 (own_turn 5 0 act.Durable) ∷ label.Looked (other_turn 5 0 act.Durable) ∷ [])
     ++ own_hold (label.Took ∷ label.Looked (own_turn 5 0 act.Durable) ∷ [])
 
 -- the record of the older one is placed, and its slot is shut
 abbrev pub one_goes_home : List (Event Label)
-one_goes_home = own_hold (label.Took ∷ label.Placed 0 0 true ∷ label.Synced ∷ label.Shut 0 true ∷ label.Synced ∷ label.Idled 0 ∷ [])
+one_goes_home = own_hold (label.Took ∷ label.Placed 0 0 true ∷ label.Synced 6 ∷ label.Shut 0 true ∷ label.Synced 7 ∷ label.Idled 0 ∷ [])
 
 -- both commits begin
 abbrev pub own_begins : Filling → List (Event Label)

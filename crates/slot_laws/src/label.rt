@@ -33,8 +33,10 @@ pub enum Label {
         piece: usize,
         done: bool,
     },
-    /// The disk was synced.
-    Synced,
+    /// The disk was synced, and this many device calls were made by then.
+    Synced {
+        now: u64,
+    },
     /// The gate of a slot was written open, or failed to be: its commit's two turns.
     Opened {
         slot: usize,

@@ -1,0 +1,5 @@
+use Rattle.slot_image_laws.proofs.Starts.{empty_commits_keep as law}
+use Rattle.slot_image_laws.proofs.laws.empty_commits_keep.Goals as goal
+
+pub returns : goal.returns
+returns g c = law (g.D.Disk.view c.args.disk.now)

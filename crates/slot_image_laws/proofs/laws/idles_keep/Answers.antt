@@ -1,0 +1,5 @@
+use Rattle.slot_image_laws.proofs.Idled.{idles_keep as law}
+use Rattle.slot_image_laws.proofs.laws.idles_keep.Goals as goal
+
+pub returns : goal.returns
+returns g c = law (g.D.Disk.view c.args.disk.now)

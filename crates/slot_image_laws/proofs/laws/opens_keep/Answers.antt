@@ -1,0 +1,5 @@
+use Rattle.slot_image_laws.proofs.Opened.{opens_keep as law}
+use Rattle.slot_image_laws.proofs.laws.opens_keep.Goals as goal
+
+pub returns : goal.returns
+returns g c = law (g.D.Disk.view c.args.old.now) (g.D.Disk.view c.args.new.now)

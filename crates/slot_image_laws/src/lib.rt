@@ -1,0 +1,4 @@
+//! What the images of a disk with journal slots show.
+#![tactic(auto)]
+
+pub mod laws;
