@@ -174,7 +174,7 @@ module _ (old new : View) (layout : Layout) (start : ℕ) (past : BoxPast) (lawf
   failed_fits is = record {
     rises = rises_then is.time;
     runs = λ run same moment began well.
-        failed_syncs_keep old new run past.turns past.slots lawful is (run_before is.time run same moment began well);
+        failed_syncs_keep old new run past.turns past.slots is (run_before is.time run same moment began well);
   }
 
   module _ (before core : ℕ) where

@@ -47,7 +47,7 @@ SyncsKeep old new = (run : RunStart) (turns : List Turn) (slots : Slots) → Kee
 
 -- A sync that failed leaves a run as it is.
 abbrev pub FailedSyncsKeep : View → View → Type 0
-FailedSyncsKeep old new = (run : RunStart) (turns : List Turn) (slots : Slots) → KeepsLaws old
+FailedSyncsKeep old new = (run : RunStart) (turns : List Turn) (slots : Slots)
     → Syncs false old new → IsDiskRun run turns slots old → IsDiskRun run turns slots new
 
 -- A slot whose commit is durable and whose gate is shut in each image may be idle again.
