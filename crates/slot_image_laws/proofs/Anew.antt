@@ -36,6 +36,11 @@ pub record StillFits (work : SlotWork) : Type 0 where
   pub gate : work.settled ≡ false → may_be_open work.known.gate_read ≡ may_be_open work.known.gate_left
   pub landed : work.settled ≡ true → IsLanded work
 
+-- nothing, whatever is asked
+pub none_either : (b : Bool) → cond {A = Option Transaction} b None None ≡ None
+none_either true = refl
+none_either false = refl
+
 -- a slot is open or not, by its gate in an image
 abbrev pub gate_in : Layout → List ℕ → ℕ → Bool
 gate_in layout image k = (head_of (part 0 4096 (journal_slot layout image k))).gate

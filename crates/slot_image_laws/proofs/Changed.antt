@@ -1,10 +1,10 @@
 -- Of one slot's commit something else is known.
-use Rattle.std.proofs.Common.{◌≡◌, ◌∙◌, ◌<◌, ◌≢◌, ◌⊎◌, ℕ, List, Some, sym, ap, subst, inl, inr, option_map, Bool, cond, None, Option, refl, true, false, nat_eq, not, eqb-true}
+use Rattle.std.proofs.Common.{◌≡◌, ◌∙◌, ◌<◌, ◌≢◌, ◌⊎◌, ℕ, List, Some, sym, ap, subst, inl, inr, option_map, Bool, cond, None, Option, refl, true, nat_eq, not, eqb-true}
 use Rattle.std.proofs.Math.Path.{fun_ext}
 use Rattle.sfs_base.proofs.BasicOptions.{some_same}
 use Rattle.sfs_base.proofs.BasicTruth.{not_both, not_true, and_first, and_second}
 use Rattle.sfs_base.proofs.BasicNumbers.{same_number}
-use Rattle.sfs_image.specs.ImageOf.{InodePart, Transaction}
+use Rattle.sfs_image.specs.ImageOf.{InodePart}
 use Rattle.sfs_image.specs.Super.{Layout}
 use Rattle.sfs_image.specs.Part.{Part}
 use Rattle.sfs_image.specs.Settled.{slot_count}
@@ -19,7 +19,7 @@ use Rattle.slot_laws.proofs.Basics.{at_same, at_other, either_true}
 use Rattle.slot_image_laws.specs.Commits.{WorksFit, may_have, work_transaction, opened_in}
 use Rattle.slot_image_laws.specs.Run.{Matches}
 use Rattle.slot_image_laws.specs.Images.{KnowsWork, KnowsSlot}
-use Rattle.slot_image_laws.proofs.Anew.{StillFits, changed_is, works_anew, only_at, only_here, only_off, matches_anew, gate_in}
+use Rattle.slot_image_laws.proofs.Anew.{StillFits, changed_is, works_anew, only_at, only_here, only_off, matches_anew, gate_in, none_either}
 use Rattle.slot_image_laws.proofs.Aside.{IsAside, shut_aside, knows_aside}
 
 module _ (gives : ℕ → List InodePart) (layout : Layout) (base : ℕ → Part) (slots : Slots) (k : ℕ) (work : SlotWork) (there : slots k ≡ Some work)
@@ -92,17 +92,12 @@ pub opened_still_at : (gives : ℕ → List InodePart) (layout : Layout) (slots 
     → opened_in gives layout slots image k ≡ opened_in gives layout slots was k
 opened_still_at gives layout slots was image k same = by (slots k) refl
   where
-    none_both : (b c : Bool) → cond {A = Option Transaction} b None None ≡ cond c None None
-    none_both true true = refl
-    none_both true false = refl
-    none_both false true = refl
-    none_both false false = refl
-
     by : (o : Option SlotWork) → slots k ≡ o
         → cond (gate_in layout image k) (may_have gives (slots k)) None ≡ cond (gate_in layout was k) (may_have gives (slots k)) None
     by None at =
         ap (λ (o : Option SlotWork). cond (gate_in layout image k) (may_have gives o) None) at
-        ∙ none_both (gate_in layout image k) (gate_in layout was k)
+        ∙ none_either (gate_in layout image k)
+        ∙ sym (none_either (gate_in layout was k))
         ∙ sym (ap (λ (o : Option SlotWork). cond (gate_in layout was k) (may_have gives o) None) at)
     by (Some work) at = ap (λ (b : Bool). cond b (may_have gives (slots k)) None) (same work at)
 

@@ -26,7 +26,7 @@ use Rattle.slot_image_laws.specs.Images.{KnowsWork, DiskBooks, IsBox, KnowsSlot,
 use Rattle.slot_image_laws.specs.Laws.{FillsKeep}
 use Rattle.slot_image_laws.proofs.Changed.{more_marked, less_marked, opened_still}
 use Rattle.slot_image_laws.proofs.Aside.{IsAside, knows_aside, touches_by}
-use Rattle.slot_image_laws.proofs.Anew.{StillFits, gate_in, within}
+use Rattle.slot_image_laws.proofs.Anew.{StillFits, gate_in, within, none_either}
 use Rattle.slot_image_laws.proofs.Given.{given_so}
 use Rattle.slot_image_laws.proofs.Shown.{gates_open}
 use Rattle.slot_image_laws.proofs.Regions.{DataPiece, low_slot, fill_lies, slot_within, data_within}
@@ -115,21 +115,20 @@ module _ (gives : ℕ → List InodePart) (layout : Layout) (base : ℕ → Part
 agrees : (at n : ℕ) (old new : List ℕ) → SameOutside at n old new → AgreesOutside at n old new
 agrees at n old new same = record { before = same.before; behind = same.after; size = same.size }
 
+-- the slot of a commit with a shut gate is open in no image
+module _ (gives : ℕ → List InodePart) (layout : Layout) (books : DiskBooks) (slots : Slots) (old : View) (box : IsBox gives layout books.base slots old)
+    (k : ℕ) (has : HasWork slots k false shut_gate) where
+  pub is_shut : (image : List ℕ) → opened_in gives layout slots image k ≡ None
+  is_shut image =
+      ap (λ (o : Option SlotWork). cond (gate_in layout image k) (may_have gives o) None) has.there
+      ∙ ap (λ (gate : KnownGate). cond (gate_in layout image k) (cond (may_be_open gate) (Some (work_transaction gives has.work)) None) None) has.gate_is
+      ∙ none_either (gate_in layout image k)
+
 -- an image keeps what it stands for
 module _ (gives : ℕ → List InodePart) (layout : Layout) (books : DiskBooks) (slots : Slots) (old : View) (box : IsBox gives layout books.base slots old)
     (k n : ℕ) (has : HasWork slots k false shut_gate) where
   own_fits : WorkFits gives layout books.base k has.work
   own_fits = box.works.each k has.work has.there
-
-  pub is_shut : (image : List ℕ) → opened_in gives layout slots image k ≡ None
-  is_shut image =
-      ap (λ (o : Option SlotWork). cond (gate_in layout image k) (may_have gives o) None) has.there
-      ∙ ap (λ (gate : KnownGate). cond (gate_in layout image k) (cond (may_be_open gate) (Some (work_transaction gives has.work)) None) None) has.gate_is
-      ∙ none_both (gate_in layout image k)
-    where
-      none_both : (b : Bool) → cond {A = Option Transaction} b None None ≡ None
-      none_both true = refl
-      none_both false = refl
 
   module _ (content : List ℕ) (told : old.content ≡ Some content) (was image : List ℕ) (left : images old was)
       (same : SameOutside (fill_piece has.work.job n).at (length (fill_piece has.work.job n).bytes) was image) where
@@ -193,7 +192,7 @@ module _ (gives : ℕ → List InodePart) (layout : Layout) (books : DiskBooks) 
           within = low_slot gives layout books.base k has.work own_fits;
           fits = lies.fits;
           behind = omega (arith, lies.behind);
-          shut = is_shut was;
+          shut = is_shut gives layout books slots old box k has was;
         })
 
     filled_stands : (elsewhere : IsElsewhere layout slots k (fill_piece has.work.job n)) → StandsOpen gives layout books.base slots image

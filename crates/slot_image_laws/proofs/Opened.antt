@@ -59,7 +59,7 @@ module _ (gives : ℕ → List InodePart) (layout : Layout) (books : DiskBooks) 
   -- an open commit is elsewhere
   open_away : (image : List ℕ) (j : ℕ) (one : Transaction) → opened_in gives layout slots image j ≡ Some one → j ≢ k
   open_away image j one is same =
-      none_there (sym (is_shut gives layout books slots old box k 0 has image) ∙ ap (opened_in gives layout slots image) (sym same) ∙ is)
+      none_there (sym (is_shut gives layout books slots old box k has image) ∙ ap (opened_in gives layout slots image) (sym same) ∙ is)
 
   module _ (filled : (n : ℕ) → n < fill_count has.work.job → has.work.known.fill_left n ≡ true) (content : List ℕ) (told : old.content ≡ Some content)
       (was image : List ℕ) (left : images old was) where
@@ -191,20 +191,20 @@ module _ (gives : ℕ → List InodePart) (layout : Layout) (books : DiskBooks) 
             (record {
               within = low;
               written = same_gate_byte gives layout books.base k 1 has.work own_fits was image same;
-              shut = is_shut gives layout books slots old box k 0 has was;
+              shut = is_shut gives layout books slots old box k has was;
               whole = body_whole;
               may = may_open;
               gate = gate;
             }))
         by false gate =
-            whole (opened_in gives layout slots was) (here false gate ∙ sym (is_shut gives layout books slots old box k 0 has was)) (λ j away. refl)
+            whole (opened_in gives layout slots was) (here false gate ∙ sym (is_shut gives layout books slots old box k has was)) (λ j away. refl)
             (gate_written layout (opened_in gives layout slots was) books.base k was image stood
             (record {
               within = low;
               written = same_gate_byte gives layout books.base k 1 has.work own_fits was image same;
               gate = gate
                   ∙ sym (subst (λ (o : Option Transaction). IsSlotOf layout.inodes o (journal_slot layout was k))
-                  (is_shut gives layout books slots old box k 0 has was) (stood.slots k low));
+                  (is_shut gives layout books slots old box k has was) (stood.slots k low));
             }))
 
   -- the commit flies from now on
@@ -278,13 +278,13 @@ opened_books run books cut opened commit moment are =
     ∙ ap (λ (c : ℕ). record { base = books.base; flying = books.flying ++ c ∷ [] }) are.opened_commit
 
 pub opens_keep : (old new : View) → OpensKeep old new
-opens_keep old new run turns slots k done cut opened has filled are lawful is runs =
+opens_keep old new run turns slots k done two has filled are lawful is runs =
     record {
       box = subst (λ (b : DiskBooks). IsBox run.gives run.layout b.base later new) (sym booked) box;
       matches = subst (λ (b : DiskBooks). Matches b.flying later) (sym booked) matches;
-      trail = trail_more run turns old (cut ∷ opened ∷ []) new is.time
-          (All-cons (λ (turn : Turn). turn.now ≡ new.now) cut (opened ∷ []) are.cut_now
-          (All-cons (λ (turn : Turn). turn.now ≡ new.now) opened [] are.opened_now (All-nil (λ (turn : Turn). turn.now ≡ new.now))))
+      trail = trail_more run turns old (two.cut ∷ two.opened ∷ []) new is.time
+          (All-cons (λ (turn : Turn). turn.now ≡ new.now) two.cut (two.opened ∷ []) are.cut_now
+          (All-cons (λ (turn : Turn). turn.now ≡ new.now) two.opened [] are.opened_now (All-nil (λ (turn : Turn). turn.now ≡ new.now))))
           (λ content told. (let was = touches.read content told in (was.0, was.1))) runs.trail
           (λ content told image left.
           subst (λ (b : DiskBooks). Shows run.gives run.layout b image) (sym booked)
@@ -300,9 +300,9 @@ opens_keep old new run turns slots k done cut opened has filled are lawful is ru
     next : DiskBooks
     next = record { base = books.base; flying = books.flying ++ has.work.commit ∷ [] }
 
-    booked : disk_books run (turns ++ cut ∷ opened ∷ []) ≡ next
+    booked : disk_books run (turns ++ two.cut ∷ two.opened ∷ []) ≡ next
     booked =
-        books_more run.gives turns (cut ∷ opened ∷ []) (first_books run) ∙ opened_books run books cut opened has.work.commit new.now are
+        books_more run.gives turns (two.cut ∷ two.opened ∷ []) (first_books run) ∙ opened_books run books two.cut two.opened has.work.commit new.now are
 
     fits : WorkFits run.gives run.layout books.base k has.work
     fits = runs.box.works.each k has.work has.there

@@ -6,13 +6,13 @@ use Rattle.sfs_image.specs.Part.{Part}
 use Rattle.sfs_image.specs.Settled.{slot_count}
 use Rattle.sfs_dev.specs.Disk.{View, Elapses}
 use Rattle.tree_laws.specs.declared.turns.Turn.{Turn}
-use Rattle.slot_laws.specs.Labels.{BoxPast, Begun, after_label, fsync_told}
+use Rattle.slot_laws.specs.Labels.{BoxPast, BegunCommit, after_label, fsync_told}
 use Rattle.slot_laws.specs.Fits.{PastFits}
 use Rattle.slot_laws.specs.Slots.{Slots, place_at}
 use Rattle.slot_laws.specs.declared.label.Label.{Label}
 use Rattle.slot_laws.specs.Rules.{MayLabel}
 use Rattle.slot_laws.specs.declared.label.Label.TheVariants as label
-use Rattle.slot_image_laws.specs.Run.{BeganWith, KeepsLaws, IsRun, RisesFrom, RunFits, BeginWell, Syncs}
+use Rattle.slot_image_laws.specs.Run.{BeganWith, KeepsLaws, IsDiskRun, RisesFrom, RunFits, BeginWell, Syncs}
 use Rattle.slot_image_laws.specs.Labels.{FirstRunsFit, RecordsAreLeft, IsToldOf, ToldLabelsFit, IsDoneBy, DoneLabelsFit, FailedSyncsFit}
 use Rattle.slot_image_laws.specs.Commits.{IsCommitAt}
 use Rattle.slot_image_laws.specs.Images.{disk_books, RunStart}
@@ -75,11 +75,11 @@ module _ (disk : View) (layout : Layout) (before core start : ℕ) (past : BoxPa
   same_run later turns slots begun empties = record {
     rises = subst (λ (l : List Turn). RisesFrom start l disk.now) (sym turns) fits.rises;
     runs = λ run same moment began well.
-        subst (λ (l : List Turn). IsRun run l later.slots disk) (sym turns)
-        (subst (λ (s : Slots). IsRun run past.turns s disk) (sym slots)
+        subst (λ (l : List Turn). IsDiskRun run l later.slots disk) (sym turns)
+        (subst (λ (s : Slots). IsDiskRun run past.turns s disk) (sym slots)
         (fits.runs run same moment began
         (record {
-          begun = subst (All (λ (one : Begun). IsCommitAt run.gives run.layout (disk_books run one.turns).base one.slots one.work)) begun well.begun;
+          begun = subst (All (λ (one : BegunCommit). IsCommitAt run.gives run.layout (disk_books run one.turns).base one.slots one.work)) begun well.begun;
           empties = subst (All (λ (commit : ℕ). run.gives commit ≡ [])) empties well.empties;
         })));
   }
@@ -100,7 +100,7 @@ module _ (disk : View) (layout : Layout) (before core start : ℕ) (past : BoxPa
     rises = fits.rises;
     runs = λ run same moment began well.
         let old_well : BeginWell run past = record {
-          begun = all_left (λ (one : Begun). IsCommitAt run.gives run.layout (disk_books run one.turns).base one.slots one.work) past.begun _ well.begun;
+          begun = all_left (λ (one : BegunCommit). IsCommitAt run.gives run.layout (disk_books run one.turns).base one.slots one.work) past.begun _ well.begun;
           empties = well.empties;
         } in
         begins_keep disk run past.turns past.slots filling.job.place.slot filling.job commit (fsync_told node stamp) (record {
@@ -111,7 +111,7 @@ module _ (disk : View) (layout : Layout) (before core start : ℕ) (past : BoxPa
           stamp = λ j other there. (let low = all.numbers.stamped j other there in let next = rule.stamp in omega arith);
           number = λ j other there. all.numbers.unused core commit j other rule.number there;
         })
-        (all_last (λ (one : Begun). IsCommitAt run.gives run.layout (disk_books run one.turns).base one.slots one.work) past.begun _ well.begun) lawful
+        (all_last (λ (one : BegunCommit). IsCommitAt run.gives run.layout (disk_books run one.turns).base one.slots one.work) past.begun _ well.begun) lawful
         (fits.runs run same moment began old_well);
   }
   told_fits (label.Settled slot turn) rule told = record {
@@ -157,7 +157,7 @@ told_labels_fit disk layout before core start fact past all rule told lawful fit
 module _ (old new : View) (layout : Layout) (start : ℕ) (past : BoxPast) (lawful : KeepsLaws old) (fits : RunFits layout start past old) where
   -- the run before a device call
   run_before : Elapses old new → (run : RunStart) → run.layout ≡ layout → run.moment ≡ start → BeganWith layout run.parts start new → BeginWell run past
-      → IsRun run past.turns past.slots old
+      → IsDiskRun run past.turns past.slots old
   run_before time run same moment began well =
       fits.runs run same moment (began_before layout run.parts start old new (rises_within start past.turns old.now fits.rises) time began) well
 
@@ -166,7 +166,7 @@ module _ (old new : View) (layout : Layout) (start : ℕ) (past : BoxPast) (lawf
 
   well_same : (run : RunStart) (later : BoxPast) → later.begun ≡ past.begun → later.empties ≡ past.empties → BeginWell run later → BeginWell run past
   well_same run later begun empties well = record {
-    begun = subst (All (λ (one : Begun). IsCommitAt run.gives run.layout (disk_books run one.turns).base one.slots one.work)) begun well.begun;
+    begun = subst (All (λ (one : BegunCommit). IsCommitAt run.gives run.layout (disk_books run one.turns).base one.slots one.work)) begun well.begun;
     empties = subst (All (λ (commit : ℕ). run.gives commit ≡ [])) empties well.empties;
   }
 
@@ -174,7 +174,7 @@ module _ (old new : View) (layout : Layout) (start : ℕ) (past : BoxPast) (lawf
   failed_fits is = record {
     rises = rises_then is.time;
     runs = λ run same moment began well.
-        failed_syncs_keep old new run past.turns past.slots lawful is (run_before is.time run same moment began well);
+        failed_syncs_keep old new run past.turns past.slots is (run_before is.time run same moment began well);
   }
 
   module _ (before core : ℕ) where
@@ -201,7 +201,7 @@ module _ (old new : View) (layout : Layout) (start : ℕ) (past : BoxPast) (lawf
         record {
           rises = rises_on start past.turns (cut ∷ opened ∷ []) new.now (rises_then wrote.time) (omega arith, (omega arith, omega arith));
           runs = λ run same moment began well.
-              opens_keep old new run past.turns past.slots slot done cut opened rule.has rule.filled (record {
+              opens_keep old new run past.turns past.slots slot done (record { cut = cut; opened = opened }) rule.has rule.filled (record {
                 cut_is = rule.cut_is.did_is;
                 opened_is = rule.opened_is.did_is;
                 opened_commit = rule.opened_is.commit_is;

@@ -1,5 +1,5 @@
 -- A run begins, and turns are told that move no part.
-use Rattle.std.proofs.Common.{◌≡◌, ◌++◌, ◌≢◌, ◌∷◌, ◌∙◌, ◌<◌, List, subst, sym, All, ℕ, refl, [], ap, Bool, not, nat_eq, filter, cond, append-nil, None, Option, true, false, arith}
+use Rattle.std.proofs.Common.{◌≡◌, ◌++◌, ◌≢◌, ◌∷◌, ◌∙◌, ◌<◌, List, subst, sym, All, ℕ, refl, [], ap, Bool, not, nat_eq, filter, cond, append-nil, None, Option, false, arith}
 use Rattle.std.proofs.lemmas.List.Elements.{All-cons, All-nil, filter-append}
 use Rattle.std.proofs.Math.Path.{fun_ext}
 use Rattle.sfs_base.proofs.BasicNumbers.{same_number, not_same}
@@ -22,15 +22,16 @@ use Rattle.slot_laws.specs.Slots.{Slots, place_at}
 use Rattle.slot_laws.specs.Rules.{EmptyTurns}
 use Rattle.slot_laws.proofs.Basics.{none_there}
 use Rattle.slot_image_laws.specs.Images.{RunStart, disk_books, LeavesPrefixes, DiskBooks, IsBox, Shows, book_act, first_books, books_from}
-use Rattle.slot_image_laws.specs.Run.{IsRun, Matches}
+use Rattle.slot_image_laws.specs.Run.{IsDiskRun, Matches}
 use Rattle.slot_image_laws.specs.Laws.{QuietTurnsKeep, AreEmptyTurns, EmptyCommitsKeep, RunsStart}
 use Rattle.slot_image_laws.specs.Commits.{parts_over, opened_in, WorksFit}
 use Rattle.slot_image_laws.proofs.Trails.{trail_turns, books_more}
 use Rattle.slot_image_laws.proofs.Shown.{shown}
+use Rattle.slot_image_laws.proofs.Anew.{none_either}
 
 -- two records of what turns say that are the same
 pub run_with : (run : RunStart) (turns later : List Turn) (slots : Slots) (disk : View) → disk_books run later ≡ disk_books run turns
-    → IsRun run turns slots disk → LeavesPrefixes run later disk → IsRun run later slots disk
+    → IsDiskRun run turns slots disk → LeavesPrefixes run later disk → IsDiskRun run later slots disk
 run_with run turns later slots disk same runs trail = record {
   box = subst (λ (books : DiskBooks). IsBox run.gives run.layout books.base slots disk) (sym same) runs.box;
   matches = subst (λ (books : DiskBooks). Matches books.flying slots) (sym same) runs.matches;
@@ -40,7 +41,7 @@ run_with run turns later slots disk same runs trail = record {
 -- turns that move nothing, at the moment of now
 pub more_turns : (run : RunStart) (turns more : List Turn) (slots : Slots) (disk : View)
     → disk_books run (turns ++ more) ≡ disk_books run turns → All (λ (turn : Turn). turn.now ≡ disk.now) more
-    → IsRun run turns slots disk → IsRun run (turns ++ more) slots disk
+    → IsDiskRun run turns slots disk → IsDiskRun run (turns ++ more) slots disk
 more_turns run turns more slots disk same moments runs =
     run_with run turns (turns ++ more) slots disk same runs
     (trail_turns run turns disk more moments runs.trail
@@ -132,11 +133,7 @@ module _ (layout : Layout) (parts : ℕ → Part) where
   nothing_given = own_part any_job parts
 
   pub nothing_opened : (gives : ℕ → List InodePart) (image : List ℕ) → opened_in gives layout (λ _. None) image ≡ nothing_open
-  nothing_opened gives image = fun_ext (λ k. same_both (head_of (part 0 4096 (journal_slot layout image k))).gate)
-    where
-      same_both : (b : Bool) → cond {A = Option Transaction} b None None ≡ None
-      same_both true = refl
-      same_both false = refl
+  nothing_opened gives image = fun_ext (λ k. none_either (head_of (part 0 4096 (journal_slot layout image k))).gate)
 
 -- no commit is in a slot
 nothing_fits : (gives : ℕ → List InodePart) (layout : Layout) (base : ℕ → Part) → WorksFit gives layout base (λ _. None)

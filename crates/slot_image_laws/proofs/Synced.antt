@@ -21,14 +21,16 @@ use Rattle.slot_image_laws.proofs.Anew.{gate_in, StillFits, works_anew, opened_s
 use Rattle.slot_image_laws.proofs.Trails.{trail_goes}
 use Rattle.slot_image_laws.proofs.Shown.{shown}
 
-rests_by : (done : Bool) (old new : View) → KeepsLaws old → Syncs done old new → Rests old new
-rests_by true old new lawful is = record {
+rests_failed : (old new : View) → Syncs false old new → Rests old new
+rests_failed old new is = record { content = is.content; left = λ content told image left. (is.err refl image).0 left }
+
+rests_synced : (old new : View) → KeepsLaws old → Syncs true old new → Rests old new
+rests_synced old new lawful is = record {
   content = is.content;
   left = λ content told image left.
       let sole = subst (λ (t : Option (List ℕ)). OnlyTold t (images new)) told (is.ok refl) in
       subst (images old) (sym (sole image left)) (lawful.read_is_left content (sym is.content ∙ told));
 }
-rests_by false old new lawful is = record { content = is.content; left = λ content told image left. (is.err refl image).0 left }
 
 -- what is known of a slot goes on where nothing was written
 module _ (layout : Layout) (old new : View) (rests : Rests old new) where
@@ -95,8 +97,8 @@ still_synced gives layout base k work fits = record {
     itself any_gate = tt
 
 pub failed_syncs_keep : (old new : View) → FailedSyncsKeep old new
-failed_syncs_keep old new run turns slots lawful is runs =
-    let rests = rests_by false old new lawful is in
+failed_syncs_keep old new run turns slots is runs =
+    let rests = rests_failed old new is in
     let told_before = λ (content : List ℕ) (told : new.content ≡ Some content). sym is.content ∙ told in
     record {
       box = record {
@@ -141,7 +143,7 @@ syncs_keep old new run turns slots lawful is runs =
     base = (disk_books run turns).base
 
     rests : Rests old new
-    rests = rests_by true old new lawful is
+    rests = rests_synced old new lawful is
 
     told_before : (content : List ℕ) → new.content ≡ Some content → old.content ≡ Some content
     told_before content told = sym is.content ∙ told

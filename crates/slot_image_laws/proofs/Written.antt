@@ -17,7 +17,7 @@ use Rattle.slot_laws.specs.Rings.{RingsFit}
 use Rattle.slot_laws.proofs.Rings.{in_slots}
 use Rattle.slot_image_laws.specs.Commits.{WorksFit, WorkFits, nth_block, StandsOpen}
 use Rattle.slot_image_laws.specs.Images.{KnowsWork, RunStart, disk_books, DiskBooks, IsBox}
-use Rattle.slot_image_laws.specs.Run.{IsRun, Matches}
+use Rattle.slot_image_laws.specs.Run.{IsDiskRun, Matches}
 use Rattle.slot_image_laws.proofs.Aside.{IsAside}
 use Rattle.slot_image_laws.proofs.Regions.{SlotPiece, gate_lies, slots_apart, fill_lies, slot_data, slot_table, table_lies, TablePiece, table_data, tables_apart, DataPiece, blocks_apart}
 use Rattle.slot_image_laws.proofs.Anew.{StillFits, opened_same}
@@ -122,7 +122,7 @@ pub plain_run : (run : RunStart) (turns : List Turn) (slots : Slots) (k : ℕ) (
     → StepFits slots k has.0 change new → IsElsewhere run.layout slots k piece
     → ((content : List ℕ) → old.content ≡ Some content → (was image : List ℕ) → images old was
     → SameOutside piece.at (length piece.bytes) was image → StandsOpen run.gives run.layout (disk_books run turns).base slots image)
-    → IsRun run turns slots old → IsRun run turns (changed_slot slots k (knowing change)) new
+    → IsDiskRun run turns slots old → IsDiskRun run turns (changed_slot slots k (knowing change)) new
 plain_run run turns slots k has change piece old new time size touches same_gate step elsewhere stays runs =
     record {
       box = box;

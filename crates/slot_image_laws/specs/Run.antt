@@ -11,7 +11,7 @@ use Rattle.commit_one.specs.Change.{nothing_open}
 use Rattle.tree_laws.specs.declared.turns.Turn.{Turn}
 use Rattle.cut_laws.specs.Rules.{IsOneOf}
 use Rattle.slot_laws.specs.Slots.{Slots, SlotWork, may_be_open}
-use Rattle.slot_laws.specs.Labels.{BoxPast, Begun}
+use Rattle.slot_laws.specs.Labels.{BoxPast, BegunCommit}
 use Rattle.slot_image_laws.specs.Images.{RunStart, IsBox, disk_books, LeavesPrefixes}
 use Rattle.slot_image_laws.specs.Commits.{IsCommitAt}
 
@@ -33,7 +33,7 @@ pub record Matches (flying : List ℕ) (slots : Slots) : Type 0 where
 
 -- A disk is in a run with these turns and slots: each image stands for the parts that the turns say, with the slots that are open there, and
 -- each since the start shows a front of the turns.
-pub record IsRun (run : RunStart) (turns : List Turn) (slots : Slots) (disk : View) : Type 0 where
+pub record IsDiskRun (run : RunStart) (turns : List Turn) (slots : Slots) (disk : View) : Type 0 where
   pub box : IsBox run.gives run.layout (disk_books run turns).base slots disk
   pub matches : Matches (disk_books run turns).flying slots
   pub trail : LeavesPrefixes run turns disk
@@ -73,11 +73,11 @@ RisesFrom from (turn ∷ turns) to = (from ≤ turn.now) × RisesFrom turn.now t
 
 -- Each commit of a history might begin where it did, and those that wrote nothing give nothing.
 pub record BeginWell (run : RunStart) (past : BoxPast) : Type 0 where
-  pub begun : All (λ (one : Begun). IsCommitAt run.gives run.layout (disk_books run one.turns).base one.slots one.work) past.begun
+  pub begun : All (λ (one : BegunCommit). IsCommitAt run.gives run.layout (disk_books run one.turns).base one.slots one.work) past.begun
   pub empties : All (λ (commit : ℕ). run.gives commit ≡ []) past.empties
 
 -- A disk is in the run that labels tell, for all parts that it began with and that commits give.
 pub record RunFits (layout : Layout) (start : ℕ) (past : BoxPast) (disk : View) : Type 0 where
   pub rises : RisesFrom start past.turns disk.now
   pub runs : (run : RunStart) → run.layout ≡ layout → run.moment ≡ start → BeganWith layout run.parts start disk → BeginWell run past
-      → IsRun run past.turns past.slots disk
+      → IsDiskRun run past.turns past.slots disk

@@ -67,7 +67,7 @@ own_label (label.Empty commit cut opened durable) own = record own { reserved = 
 own_label _ own = own
 
 -- A commit as it began: the record of turns and the slots that it found, and what it is.
-pub record Begun : Type 0 where
+pub record BegunCommit : Type 0 where
   pub turns : List Turn
   pub slots : Slots
   pub work : SlotWork
@@ -86,7 +86,7 @@ pub record BoxPast : Type 0 where
   pub busy : Option ℕ
   pub moment : ℕ
   pub synced : ℕ
-  pub begun : List Begun
+  pub begun : List BegunCommit
   pub empties : List ℕ
 
 -- before the first label
