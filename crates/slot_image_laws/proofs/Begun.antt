@@ -2,8 +2,7 @@
 use Rattle.std.proofs.Common.{◌≢◌, ◌≡◌, ◌∙◌, List, ℕ, Some, sym, ap, inl, arith, inr, subst, refl, Option}
 use Rattle.sfs_base.proofs.BasicOptions.{some_same}
 use Rattle.sfs_base.proofs.BasicTruth.{not_both}
-use Rattle.sfs_image.specs.ImageOf.{InodePart, Transaction, IsImageOf}
-use Rattle.sfs_image.specs.Part.{Part}
+use Rattle.sfs_image.specs.ImageOf.{Transaction, IsImageOf}
 use Rattle.sfs_dev.specs.Disk.{View}
 use Rattle.journal_one.specs.Job.{Job, Place}
 use Rattle.journal_one.specs.Known.{EachLeft, IsShutIn}
@@ -22,12 +21,6 @@ use Rattle.slot_image_laws.proofs.Anew.{opened_same}
 
 module _ (run : RunStart) (turns : List Turn) (slots : Slots) (k : ℕ) (job : Job) (commit : ℕ) (flush : Flush)
     (may : MayBeginIn run.layout slots k job commit) where
-  abbrev gives : ℕ → List InodePart
-  gives = run.gives
-
-  abbrev base : ℕ → Part
-  base = (disk_books run turns).base
-
   abbrev work : SlotWork
   work = begun_work job commit flush
 
@@ -52,7 +45,7 @@ module _ (run : RunStart) (turns : List Turn) (slots : Slots) (k : ℕ) (job : J
         | inr away ↦ at_other slots k (Some work) j away ∙ works.beyond j high
       ];
       each = λ j one there. elim (same_or_not j k) [
-        | inl same ↦ subst (WorkFits gives run.layout base j) (begun j one same there) (record {
+        | inl same ↦ subst (WorkFits run.gives run.layout (disk_books run turns).base j) (begun j one same there) (record {
           place = may.place ∙ ap (place_at run.layout) (sym same);
           is = may.is;
           commit = fits.commit;
@@ -83,11 +76,11 @@ module _ (run : RunStart) (turns : List Turn) (slots : Slots) (k : ℕ) (job : J
       apart = λ i j one other pair. elim (same_or_not i k) [
         | inl at_i ↦
             let off_j : j ≢ k = λ same. pair.away (at_i ∙ sym same) in
-            subst (λ (w : SlotWork). BlocksApart gives w other) (begun i one at_i pair.here)
+            subst (λ (w : SlotWork). BlocksApart run.gives w other) (begun i one at_i pair.here)
             (fits.blocks j other (before j other off_j pair.there) pair.other_is).0
         | inr off_i ↦ elim (same_or_not j k) [
           | inl at_j ↦
-              subst (BlocksApart gives one) (begun j other at_j pair.there) (fits.blocks i one (before i one off_i pair.here) pair.one_is).1
+              subst (BlocksApart run.gives one) (begun j other at_j pair.there) (fits.blocks i one (before i one off_i pair.here) pair.one_is).1
           | inr off_j ↦
               works.apart i j one other (in_slots pair.away (before i one off_i pair.here) (before j other off_j pair.there) pair.one_is pair.other_is)
         ]
@@ -113,10 +106,10 @@ module _ (run : RunStart) (turns : List Turn) (slots : Slots) (k : ℕ) (job : J
           table_read = λ n low marked. absurd (not_both marked refl);
         }
 
-    same_may : (j : ℕ) → may_have gives (later j) ≡ may_have gives (slots j)
+    same_may : (j : ℕ) → may_have run.gives (later j) ≡ may_have run.gives (slots j)
     same_may j = elim (same_or_not j k) [
-      | inl same ↦ ap (may_have gives) (at_same slots k (Some work) j same) ∙ sym (ap (may_have gives) (ap slots same ∙ may.idle))
-      | inr away ↦ ap (may_have gives) (at_other slots k (Some work) j away)
+      | inl same ↦ ap (may_have run.gives) (at_same slots k (Some work) j same) ∙ sym (ap (may_have run.gives) (ap slots same ∙ may.idle))
+      | inr away ↦ ap (may_have run.gives) (at_other slots k (Some work) j away)
     ]
 
     begun_matches : Matches (disk_books run turns).flying slots → Matches (disk_books run turns).flying (with_at slots k (Some (begun_work job commit flush)))

@@ -1,5 +1,5 @@
 -- Of one slot's commit something else is known.
-use Rattle.std.proofs.Common.{◌≡◌, ◌∙◌, ◌<◌, ◌≢◌, ◌⊎◌, ℕ, List, Some, sym, ap, subst, inl, inr, option_map, Bool, cond, None, Option, refl, true, nat_eq, not, eqb-true}
+use Rattle.std.proofs.Common.{◌≡◌, ◌∙◌, ◌<◌, ◌≢◌, ℕ, List, Some, sym, ap, subst, inl, inr, option_map, Bool, cond, None, Option, refl, true, nat_eq, not}
 use Rattle.std.proofs.Math.Path.{fun_ext}
 use Rattle.sfs_base.proofs.BasicOptions.{some_same}
 use Rattle.sfs_base.proofs.BasicTruth.{not_both, not_true, and_first, and_second}
@@ -13,9 +13,9 @@ use Rattle.journal_one.specs.Job.{Piece, gate_piece}
 use Rattle.journal_one.proofs.Kept.{Touches}
 use Rattle.journal_one.proofs.Apart.{AreApart}
 use Rattle.merge_laws.proofs.Blocks.{same_or_not}
-use Rattle.slot_laws.specs.Slots.{Slots, SlotWork, SlotKnown, changed_slot, knowing, may_be_open, place_at, without_number, with_number}
+use Rattle.slot_laws.specs.Slots.{Slots, SlotWork, SlotKnown, changed_slot, knowing, may_be_open, place_at, without_number}
 use Rattle.slot_laws.specs.Rings.{RingsFit}
-use Rattle.slot_laws.proofs.Basics.{at_same, at_other, either_true}
+use Rattle.slot_laws.proofs.Basics.{at_same, at_other}
 use Rattle.slot_image_laws.specs.Commits.{WorksFit, may_have, work_transaction, opened_in}
 use Rattle.slot_image_laws.specs.Run.{Matches}
 use Rattle.slot_image_laws.specs.Images.{KnowsWork, KnowsSlot}
@@ -107,15 +107,9 @@ pub opened_still : (gives : ℕ → List InodePart) (layout : Layout) (slots : S
     → opened_in gives layout slots image ≡ opened_in gives layout slots was
 opened_still gives layout slots was image same = fun_ext (λ k. opened_still_at gives layout slots was image k (same k))
 
--- marks with a number less, and more
+-- marks with a number less
 pub less_marked : (marks : ℕ → Bool) (n m : ℕ) → without_number marks n m ≡ true → (m ≢ n) × (marks m ≡ true)
 less_marked marks n m marked = (
   λ same. not_both (ap (λ (j : ℕ). nat_eq j n) same ∙ same_number n) (not_true (nat_eq m n) (and_first (not (nat_eq m n)) (marks m) marked)),
   and_second (not (nat_eq m n)) (marks m) marked,
 )
-
-pub more_marked : (marks : ℕ → Bool) (n m : ℕ) → with_number marks n m ≡ true → (m ≡ n) ⊎ (marks m ≡ true)
-more_marked marks n m marked = elim (either_true (nat_eq m n) (marks m) marked) [
-  | inl here ↦ inl (eqb-true m n here)
-  | inr before ↦ inr before
-]

@@ -15,22 +15,22 @@ use Rattle.sfs_dev.specs.Ranges.{SameOutside}
 use Rattle.journal_one.specs.Job.{fill_count, fill_piece, table_piece, body_piece, Place, Piece, LiesInData, no_block}
 use Rattle.journal_one.specs.Known.{Reads, IsWrittenIn}
 use Rattle.journal_one.proofs.Apart.{apart_from_gate, fills_apart, AreApart-swap, table_from_fill}
-use Rattle.journal_one.proofs.Kept.{Touches, gate_stays, written_stands}
+use Rattle.journal_one.proofs.Kept.{Touches, written_stands}
 use Rattle.journal_one.proofs.Places.{LiesInSlot, body_lies, body_is, in_data, fresh_is}
 use Rattle.merge_laws.proofs.Blocks.{same_or_not}
 use Rattle.slot_laws.specs.Slots.{without_number, with_number, SlotWork, knowing, known_filled, Slots, shut_gate, KnownGate, may_be_open, place_at, changed_slot}
 use Rattle.slot_laws.specs.Rules.{HasWork}
-use Rattle.slot_laws.proofs.Rings.{in_slots, rings_move, marks_as}
+use Rattle.slot_laws.proofs.Rings.{in_slots, rings_move, marks_as, marked_with}
 use Rattle.slot_image_laws.specs.Commits.{WorkFits, KnownFits, opened_in, may_have, work_transaction, StandsOpen, nth_block}
 use Rattle.slot_image_laws.specs.Images.{KnowsWork, DiskBooks, IsBox, KnowsSlot, disk_books}
 use Rattle.slot_image_laws.specs.Laws.{FillsKeep}
-use Rattle.slot_image_laws.proofs.Changed.{more_marked, less_marked, opened_still}
+use Rattle.slot_image_laws.proofs.Changed.{less_marked}
 use Rattle.slot_image_laws.proofs.Aside.{IsAside, knows_aside, touches_by}
-use Rattle.slot_image_laws.proofs.Anew.{StillFits, gate_in, within, none_either}
+use Rattle.slot_image_laws.proofs.Anew.{StillFits, gate_in, none_either}
 use Rattle.slot_image_laws.proofs.Given.{given_so}
 use Rattle.slot_image_laws.proofs.Shown.{gates_open}
 use Rattle.slot_image_laws.proofs.Regions.{DataPiece, low_slot, fill_lies, slot_within, data_within}
-use Rattle.slot_image_laws.proofs.Written.{IsElsewhere, plain_run, slot_elsewhere, data_elsewhere}
+use Rattle.slot_image_laws.proofs.Written.{IsElsewhere, plain_run, slot_elsewhere, data_elsewhere, opened_elsewhere}
 
 pub mark_kept : (marks : ℕ → Bool) (n m : ℕ) → m ≢ n → marks m ≡ true → without_number marks n m ≡ true
 mark_kept marks n m away marked = ap (λ (b : Bool). not b && marks m) (not_same m n away) ∙ marked
@@ -45,7 +45,7 @@ pub marked_after : (done : Bool) (marks : ℕ → Bool) (n m : ℕ) → cond don
     → ((m ≡ n) × (done ≡ true)) ⊎ ((m ≢ n) × (marks m ≡ true))
 marked_after true marks n m marked = elim (same_or_not m n) [
   | inl same ↦ inl (same, refl)
-  | inr away ↦ elim (more_marked marks n m marked) [
+  | inr away ↦ elim (marked_with marks n m marked) [
     | inl same ↦ absurd (away same)
     | inr before ↦ inr (away, before)
   ]
@@ -143,10 +143,10 @@ module _ (gives : ℕ → List InodePart) (layout : Layout) (books : DiskBooks) 
         elim (given_so gives layout books.base slots was box.works (gates_open gives layout books slots old box content told was left) stood i) [
           | inl flight ↦
               let away : k ≢ flight.slot = λ at.
-              not_both flight.flight.may
-              (ap (λ (w : SlotWork). may_be_open w.known.gate_left) (some_same (sym flight.flight.there ∙ ap slots (sym at) ∙ has.there))
+              not_both flight.flight.is_open.may
+              (ap (λ (w : SlotWork). may_be_open w.known.gate_left) (some_same (sym flight.flight.is_open.there ∙ ap slots (sym at) ∙ has.there))
               ∙ ap may_be_open has.gate_is) in
-              let apart = box.works.apart k flight.slot has.work flight.work (in_slots away has.there flight.flight.there has.aloft flight.flight.aloft) in
+              let apart = box.works.apart k flight.slot has.work flight.work (in_slots away has.there flight.flight.is_open.there has.aloft flight.flight.aloft) in
               subst (λ (p : Part). nth_block has.work n ≢ pointer_at p place) (sym flight.whole)
               (apart.reached n i place flight.part few flight.given_is (subst (λ (p : Part). pointer_at p place ≢ 0) flight.whole points))
           | inr stays ↦
@@ -198,7 +198,8 @@ module _ (gives : ℕ → List InodePart) (layout : Layout) (books : DiskBooks) 
     filled_stands : (elsewhere : IsElsewhere layout slots k (fill_piece has.work.job n)) → StandsOpen gives layout books.base slots image
     filled_stands elsewhere =
         subst (λ (opened : ℕ → Option Transaction). IsImageOf layout opened books.base image)
-        (sym (opened_still gives layout slots was image same_gates))
+        (sym (opened_elsewhere gives layout books.base slots box.works k has.work has.there (fill_piece has.work.job n) elsewhere
+        (apart_from_gate has.work.job own_fits.is n 1) was image same))
         (elim (cases_lt n (length has.work.job.fresh)) [
           | inl few ↦ elim (fill_lies gives layout books.base k has.work own_fits n) [
             | inl slot ↦ data_keeps few (record {
@@ -213,22 +214,18 @@ module _ (gives : ℕ → List InodePart) (layout : Layout) (books : DiskBooks) 
           ]
           | inr many ↦ body_keeps many
         ])
-      where
-        same_gates : (j : ℕ) (other : SlotWork) → slots j ≡ Some other → gate_in layout image j ≡ gate_in layout was j
-        same_gates j other at = elim (same_or_not j k) [
-          | inl here ↦
-              subst (λ (place : Place). gate_in place.layout image place.slot ≡ gate_in place.layout was place.slot)
-              (own_fits.place ∙ ap (place_at layout) (sym here))
-              (gate_stays has.work.job.place (fill_piece has.work.job n) 1 was image (apart_from_gate has.work.job own_fits.is n 1) same)
-          | inr away ↦
-              gate_stays (place_at layout j) (fill_piece has.work.job n) 1 was image
-              (elsewhere.gates j (within gives layout books.base slots box.works j other at) away) same
-        ]
 
 pub fills_keep : (old new : View) → FillsKeep old new
 fills_keep old new run turns slots k n done has low lawful is runs =
-    plain_run run turns slots k (has.work, has.there) (known_filled done n) piece old new is.time is.size touches refl
+    plain_run run turns slots k (known_filled done n) old new
     (record {
+      piece = piece;
+      work = has.work;
+      there = has.there;
+      time = is.time;
+      size = is.size;
+      touches = touches;
+      same_gate = refl;
       rings = rings_move slots (changed_slot slots k (knowing (known_filled done n))) runs.box.works.rings
           (marks_as slots k (known_filled done n) (λ work m mark. mark));
       still = filled_still run.gives run.layout books.base k n has.work fits low done has.aloft;
@@ -236,9 +233,10 @@ fills_keep old new run turns slots k n done has low lawful is runs =
           (λ ok. written_stands piece old new large (record { whole = lawful.whole; read_is_left = lawful.read_is_left }) (is.ok ok))
           (subst (λ (o : Option SlotWork). KnowsSlot run.layout k o old) has.there
           (runs.box.knows k (low_slot run.gives run.layout books.base k has.work fits)));
+      elsewhere = elsewhere;
+      stays = λ content told was image left same. filled_stands run.gives run.layout books slots old runs.box k n has content told was image left same elsewhere;
     })
-    elsewhere
-    (λ content told was image left same. filled_stands run.gives run.layout books slots old runs.box k n has content told was image left same elsewhere) runs
+    runs
   where
     books : DiskBooks
     books = disk_books run turns

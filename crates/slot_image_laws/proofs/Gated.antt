@@ -76,21 +76,26 @@ module _ (gives : ℕ → List InodePart) (layout : Layout) (base : ℕ → Part
         large,
       )
 
--- the slots that are open, where one gate was written
-pub opened_but : (gives : ℕ → List InodePart) (layout : Layout) (slots : Slots) (k : ℕ) (piece : Piece) (change : SlotWork → SlotWork)
-    (was image : List ℕ) (opened : ℕ → Option Transaction)
-    → ((j : ℕ) (work : SlotWork) → slots j ≡ Some work → j < slot_count layout)
-    → IsElsewhere layout slots k piece → SameOutside piece.at (length piece.bytes) was image
-    → opened_in gives layout (changed_slot slots k change) image k ≡ opened k
-    → ((j : ℕ) → j ≢ k → opened j ≡ opened_in gives layout slots was j)
+-- One gate was written, and these are open then: what its slot has, and the others as before.
+pub record IsOpenedBut (gives : ℕ → List InodePart) (layout : Layout) (slots : Slots) (k : ℕ) (change : SlotWork → SlotWork) (was image : List ℕ)
+    (opened : ℕ → Option Transaction) : Type 0 where
+  pub piece : Piece
+  pub low : (j : ℕ) (work : SlotWork) → slots j ≡ Some work → j < slot_count layout
+  pub apart : IsElsewhere layout slots k piece
+  pub same : SameOutside piece.at (length piece.bytes) was image
+  pub here : opened_in gives layout (changed_slot slots k change) image k ≡ opened k
+  pub others : (j : ℕ) → j ≢ k → opened j ≡ opened_in gives layout slots was j
+
+pub opened_but : (gives : ℕ → List InodePart) (layout : Layout) (slots : Slots) (k : ℕ) (change : SlotWork → SlotWork) (was image : List ℕ)
+    (opened : ℕ → Option Transaction) → IsOpenedBut gives layout slots k change was image opened
     → opened_in gives layout (changed_slot slots k change) image ≡ opened
-opened_but gives layout slots k piece change was image opened low apart same here others = fun_ext (λ j. elim (same_or_not j k) [
-  | inl at ↦ ap (opened_in gives layout (changed_slot slots k change) image) at ∙ here ∙ ap opened (sym at)
+opened_but gives layout slots k change was image opened but = fun_ext (λ j. elim (same_or_not j k) [
+  | inl at ↦ ap (opened_in gives layout (changed_slot slots k change) image) at ∙ but.here ∙ ap opened (sym at)
   | inr away ↦
       ap (λ (o : Option SlotWork). cond (gate_in layout image j) (may_have gives o) None) (at_other slots k (option_map change (slots k)) j away)
       ∙ opened_still_at gives layout slots was image j
-      (λ work there. gate_stays (place_at layout j) piece 1 was image (apart.gates j (low j work there) away) same)
-      ∙ sym (others j away)
+      (λ work there. gate_stays (place_at layout j) but.piece 1 was image (but.apart.gates j (but.low j work there) away) but.same)
+      ∙ sym (but.others j away)
 ])
 
 -- whatever is given by a commit in a slot is a part that it gives

@@ -16,20 +16,22 @@ use Rattle.slot_image_laws.specs.Commits.{work_transaction, GivesPart, opened_in
 use Rattle.slot_image_laws.proofs.Anew.{gate_in, within}
 use Rattle.slot_image_laws.proofs.Records.{share_given}
 
--- A slot is open in an image, with the commit that it has.
-pub record OpenWork (gives : ℕ → List InodePart) (layout : Layout) (slots : Slots) (image : List ℕ) (k : ℕ) (one : Transaction) : Type 0 where
-  pub work : SlotWork
+-- A commit is in a slot that is open in an image.
+pub record IsOpen (layout : Layout) (slots : Slots) (image : List ℕ) (k : ℕ) (work : SlotWork) : Type 0 where
   pub there : slots k ≡ Some work
-  pub is : work_transaction gives work ≡ one
   pub gate : gate_in layout image k ≡ true
   pub may : may_be_open work.known.gate_left ≡ true
 
+-- A slot is open in an image, with the commit that it has.
+pub record OpenWork (gives : ℕ → List InodePart) (layout : Layout) (slots : Slots) (image : List ℕ) (k : ℕ) (one : Transaction) : Type 0 where
+  pub work : SlotWork
+  pub is_open : IsOpen layout slots image k work
+  pub is : work_transaction gives work ≡ one
+
 -- A commit that is not durable is open in an image.
 pub record IsOpenFlight (layout : Layout) (slots : Slots) (image : List ℕ) (k : ℕ) (work : SlotWork) : Type 0 where
-  pub there : slots k ≡ Some work
+  pub is_open : IsOpen layout slots image k work
   pub aloft : work.settled ≡ false
-  pub gate : gate_in layout image k ≡ true
-  pub may : may_be_open work.known.gate_left ≡ true
 
 -- an open commit that is not durable gives an inode the part that it has
 pub record FlightGives (gives : ℕ → List InodePart) (layout : Layout) (base : ℕ → Part) (slots : Slots) (image : List ℕ) (i : ℕ) : Type 0 where
@@ -45,6 +47,16 @@ pub record BaseStays (gives : ℕ → List InodePart) (layout : Layout) (base : 
   pub whole : with_opened layout (opened_in gives layout slots image) base i ≡ base i
   pub none : (k : ℕ) (work : SlotWork) (part : Part) → IsOpenFlight layout slots image k work → GivesPart gives work i part → ⊥
 
+-- a durable commit gives an inode the part that it has
+record IsDurableGiver (gives : ℕ → List InodePart) (layout : Layout) (slots : Slots) (image : List ℕ) (i k : ℕ) (work : SlotWork) : Type 0 where
+  ours : Stamped Part
+  part : Part
+  giver : IsGiver layout (opened_in gives layout slots image) i k ours
+  stamp : ours.stamp ≡ work.job.stamp
+  there : slots k ≡ Some work
+  durable : work.settled ≡ true
+  given_is : GivesPart gives work i part
+
 pub stamped_is : (one : Stamped Part) (n : ℕ) (part : Part) → one.stamp ≡ n → one.value ≡ part → one ≡ record { stamp = n; value = part }
 stamped_is one n part stamp value =
     ap (λ (m : ℕ). record { stamp = m; value = one.value }) stamp ∙ ap (λ (p : Part). record { stamp = n; value = p }) value
@@ -55,7 +67,7 @@ module _ (gives : ℕ → List InodePart) (layout : Layout) (base : ℕ → Part
     where
       known : (work : SlotWork) → slots k ≡ Some work → gate_in layout image k ≡ true → (m : Bool) → may_be_open work.known.gate_left ≡ m
           → cond m (Some (work_transaction gives work)) None ≡ Some one → OpenWork gives layout slots image k one
-      known work there gate true may same = record { work = work; there = there; is = some_same same; gate = gate; may = may }
+      known work there gate true may same = record { work = work; is_open = record { there = there; gate = gate; may = may }; is = some_same same }
       known work there gate false may same = none_there same
 
       go : (b : Bool) → gate_in layout image k ≡ b → (o : Option SlotWork) → slots k ≡ o → cond b (may_have gives o) None ≡ Some one
@@ -64,45 +76,43 @@ module _ (gives : ℕ → List InodePart) (layout : Layout) (base : ℕ → Part
       go true gate None there same = none_there same
       go true gate (Some work) there same = known work there gate (may_be_open work.known.gate_left) refl same
 
-  pub open_there : (k : ℕ) (work : SlotWork) → slots k ≡ Some work → gate_in layout image k ≡ true → may_be_open work.known.gate_left ≡ true
-      → opened_in gives layout slots image k ≡ Some (work_transaction gives work)
-  open_there k work there gate may =
-      ap (λ (b : Bool). cond b (may_have gives (slots k)) None) gate
-      ∙ ap (may_have gives) there
-      ∙ ap (λ (b : Bool). cond b (Some (work_transaction gives work)) None) may
+  pub open_there : (k : ℕ) (work : SlotWork) → IsOpen layout slots image k work → opened_in gives layout slots image k ≡ Some (work_transaction gives work)
+  open_there k work opened =
+      ap (λ (b : Bool). cond b (may_have gives (slots k)) None) opened.gate
+      ∙ ap (may_have gives) opened.there
+      ∙ ap (λ (b : Bool). cond b (Some (work_transaction gives work)) None) opened.may
 
   module _ (works : WorksFit gives layout base slots)
       (gates : (k : ℕ) (work : SlotWork) → slots k ≡ Some work → work.known.gate_left ≡ open_gate → gate_in layout image k ≡ true)
       (stands : StandsOpen gives layout base slots image) where
-    given_there : (k : ℕ) (work : SlotWork) (i : ℕ) (part : Part) → slots k ≡ Some work → gate_in layout image k ≡ true
-        → may_be_open work.known.gate_left ≡ true → GivesPart gives work i part
+    given_there : (k : ℕ) (work : SlotWork) (i : ℕ) (part : Part) → IsOpen layout slots image k work → GivesPart gives work i part
         → part_given i (opened_in gives layout slots image k) ≡ Some (record { stamp = work.job.stamp; value = part })
-    given_there k work i part there gate may given_is = ap (part_given i) (open_there k work there gate may) ∙ given_is
+    given_there k work i part opened given_is = ap (part_given i) (open_there k work opened) ∙ given_is
 
     pub none_given : (i : ℕ) → given layout (opened_in gives layout slots image) i ≡ None → (k : ℕ) (work : SlotWork) (part : Part)
-        → slots k ≡ Some work → gate_in layout image k ≡ true → may_be_open work.known.gate_left ≡ true → GivesPart gives work i part → ⊥
-    none_given i none k work part there gate may given_is =
-        let low = within gives layout base slots works k work there in
+        → IsOpen layout slots image k work → GivesPart gives work i part → ⊥
+    none_given i none k work part opened given_is =
+        let low = within gives layout base slots works k work opened.there in
         let nothing =
         newest_none (λ j. part_given i (opened_in gives layout slots image j)) 0 (slot_count layout)
         (None-option_map (λ (newest : Stamped Part). newest.value) _ none) k (omega arith) (omega arith) in
-        none_there (sym nothing ∙ given_there k work i part there gate may given_is)
+        none_there (sym nothing ∙ given_there k work i part opened given_is)
 
     -- of durable commits the giver is the last
-    last_of : (i k : ℕ) (ours : Stamped Part) (work : SlotWork) (part : Part) → IsGiver layout (opened_in gives layout slots image) i k ours
-        → ours.stamp ≡ work.job.stamp → slots k ≡ Some work → work.settled ≡ true → GivesPart gives work i part → IsLastGiver gives slots k work i
-    last_of i k ours work part giver stamp there durable given_is j other part_too away here settled gave =
+    last_of : (i k : ℕ) (work : SlotWork) → IsDurableGiver gives layout slots image i k work → IsLastGiver gives slots k work i
+    last_of i k work lasting j other part_too away here settled gave =
         let its = works.each j other here in
-        let own = works.each k work there in
+        let own = works.each k work lasting.there in
         elim (its.landed settled).opens [
           | inl gated ↦
               let low = within gives layout base slots works j other here in
-              let below = giver.newest j (record { stamp = other.job.stamp; value = part_too }) low away
-              (given_there j other i part_too here (gates j other here gated) (ap may_be_open gated) gave) in
+              let below = lasting.giver.newest j (record { stamp = other.job.stamp; value = part_too }) low away
+              (given_there j other i part_too (record { there = here; gate = gates j other here gated; may = ap may_be_open gated }) gave) in
+              let stamp = lasting.stamp in
               omega arith
           | inr placed ↦
-              let shares = share_given gives other work i part_too part its.commit.records own.commit.records gave given_is in
-              works.rings.started j k other work (in_slots away here there settled durable) (record {
+              let shares = share_given gives other work i part_too lasting.part its.commit.records own.commit.records gave lasting.given_is in
+              works.rings.started j k other work (in_slots away here lasting.there settled lasting.durable) (record {
                 n = shares.0;
                 placed = ap (λ (b : Bool). b || other.known.table_read shares.0) (placed shares.0 shares.1);
                 within = shares.1;
@@ -111,18 +121,17 @@ module _ (gives : ℕ → List InodePart) (layout : Layout) (base : ℕ → Part
         ]
 
     -- and no open commit that is not durable gives the inode too
-    none_newer : (i k : ℕ) (ours : Stamped Part) (work : SlotWork) (part : Part) → IsGiver layout (opened_in gives layout slots image) i k ours
-        → ours.stamp ≡ work.job.stamp → slots k ≡ Some work → work.settled ≡ true → GivesPart gives work i part
-        → (j : ℕ) (other : SlotWork) (part_too : Part) → IsOpenFlight layout slots image j other → GivesPart gives other i part_too → ⊥
-    none_newer i k ours work part giver stamp there durable given_is j other part_too flight gave =
+    none_newer : (i k : ℕ) (work : SlotWork) → IsDurableGiver gives layout slots image i k work → (j : ℕ) (other : SlotWork) (part_too : Part) → IsOpenFlight layout slots image j other → GivesPart gives other i part_too → ⊥
+    none_newer i k work lasting j other part_too flight gave =
         let away : j ≢ k = λ same.
-        not_both (ap (λ (w : SlotWork). w.settled) (some_same (sym flight.there ∙ ap slots same ∙ there)) ∙ durable) flight.aloft in
-        let low = within gives layout base slots works j other flight.there in
-        let below = giver.newest j (record { stamp = other.job.stamp; value = part_too }) low away
-        (given_there j other i part_too flight.there flight.gate flight.may gave) in
-        let shares = share_given gives work other i part part_too (works.each k work there).commit.records
-        (works.each j other flight.there).commit.records given_is gave in
-        let above = works.rings.later k j work other (in_slots (λ same. away (sym same)) there flight.there durable flight.aloft) shares in
+        not_both (ap (λ (w : SlotWork). w.settled) (some_same (sym flight.is_open.there ∙ ap slots same ∙ lasting.there)) ∙ lasting.durable) flight.aloft in
+        let low = within gives layout base slots works j other flight.is_open.there in
+        let below = lasting.giver.newest j (record { stamp = other.job.stamp; value = part_too }) low away
+        (given_there j other i part_too flight.is_open gave) in
+        let shares = share_given gives work other i lasting.part part_too (works.each k work lasting.there).commit.records
+        (works.each j other flight.is_open.there).commit.records lasting.given_is gave in
+        let above = works.rings.later k j work other (in_slots (λ same. away (sym same)) lasting.there flight.is_open.there lasting.durable flight.aloft) shares in
+        let stamp = lasting.stamp in
         omega arith
 
     pub given_so : (i : ℕ) → FlightGives gives layout base slots image i ⊎ BaseStays gives layout base slots image i
@@ -132,7 +141,7 @@ module _ (gives : ℕ → List InodePart) (layout : Layout) (base : ℕ → Part
             → FlightGives gives layout base slots image i ⊎ BaseStays gives layout base slots image i
         go None none = inr (record {
           whole = ap (λ (o : Option Part). unwrap_or o (base i)) none;
-          none = λ k work part flight given_is. none_given i none k work part flight.there flight.gate flight.may given_is;
+          none = λ k work part flight given_is. none_given i none k work part flight.is_open given_is;
         })
         go (Some part) some =
             let giver = giver_of layout (opened_in gives layout slots image) i part stands.stamps some in
@@ -147,16 +156,26 @@ module _ (gives : ℕ → List InodePart) (layout : Layout) (base : ℕ → Part
             let whole : with_opened layout (opened_in gives layout slots image) base i ≡ part =
             ap (λ (o : Option Part). unwrap_or o (base i)) some in
             elim (true_or_false own.work.settled) [
-              | inl durable ↦ inr (record {
-                whole = whole
-                    ∙ sym (works.newest giver.0 i own.work part own.there durable given_is
-                    (last_of i giver.0 giver.1 own.work part giver.2 stamp own.there durable given_is));
-                none = none_newer i giver.0 giver.1 own.work part giver.2 stamp own.there durable given_is;
-              })
+              | inl durable ↦
+                  let lasting : IsDurableGiver gives layout slots image i giver.0 own.work = record {
+                    ours = giver.1;
+                    part = part;
+                    giver = giver.2;
+                    stamp = stamp;
+                    there = own.is_open.there;
+                    durable = durable;
+                    given_is = given_is;
+                  } in
+                  inr (record {
+                    whole = whole
+                        ∙ sym (works.newest giver.0 i own.work part own.is_open.there durable given_is
+                        (last_of i giver.0 own.work lasting));
+                    none = none_newer i giver.0 own.work lasting;
+                  })
               | inr aloft ↦ inl (record {
                 slot = giver.0;
                 work = own.work;
-                flight = record { there = own.there; aloft = aloft; gate = own.gate; may = own.may };
+                flight = record { is_open = own.is_open; aloft = aloft };
                 part = part;
                 given_is = given_is;
                 whole = whole;

@@ -1,9 +1,10 @@
 -- What the fronts of worked records show.
-use Rattle.std.proofs.Common.{◌≡◌, ◌++◌, ◌∷◌, ◌≤◌, ◌<◌, ◌∙◌, List, [], refl, ℕ, All, sym, ap, append-nil, subst, arith, filter, not, nat_eq, Bool, cond}
+use Rattle.std.proofs.Common.{◌≡◌, ◌++◌, ◌∷◌, ◌≤◌, ◌<◌, ◌∙◌, List, [], refl, ℕ, All, sym, ap, append-nil, subst, arith, not, Bool, cond}
 use Rattle.std.proofs.lemmas.List.Elements.{All-tail, All-head, All-cons, All-nil}
 use Rattle.sfs_base.proofs.BasicNumbers.{same_number}
 use Rattle.tree_laws.specs.declared.turns.Turn.{Turn}
 use Rattle.tree_laws.specs.declared.turns.TurnAct.{TurnAct}
+use Rattle.tree_laws.specs.declared.turns.TurnAct.TheVariants as act
 use Rattle.slot_image_laws.specs.Held.{FirstImagesHaveTheParts, DurableCommitsStand}
 use Rattle.slot_image_laws.specs.Images.{Shows, first_books, disk_books, DiskBooks, books_from, book_act}
 use Rattle.slot_image_laws.specs.Commits.{parts_over}
@@ -51,13 +52,10 @@ durable_commits_stand run opened durable moment image is shown =
     landed : DiskBooks
     landed = record { base = parts_over (run.gives opened.commit) run.parts; flying = [] }
 
-    others : ℕ → List ℕ
-    others commit = filter (λ other. not (nat_eq other commit)) (opened.commit ∷ [])
-
     books_are : disk_books run (opened ∷ durable ∷ []) ≡ landed
     books_are =
         ap (λ (did : TurnAct). books_from run.gives (durable ∷ []) (book_act run.gives did opened.commit (first_books run))) is.opened_is
         ∙ ap (λ (did : TurnAct). book_act run.gives did durable.commit (record { base = run.parts; flying = opened.commit ∷ [] })) is.durable_is
-        ∙ ap (λ (commit : ℕ). record { base = parts_over (run.gives commit) run.parts; flying = others commit }) is.same
+        ∙ ap (λ (commit : ℕ). book_act run.gives act.Durable commit (record { base = run.parts; flying = opened.commit ∷ [] })) is.same
         ∙ ap (λ (b : Bool). record { base = parts_over (run.gives opened.commit) run.parts; flying = cond (not b) (opened.commit ∷ []) [] })
         (same_number opened.commit)

@@ -22,13 +22,14 @@ use Rattle.slot_image_laws.specs.Run.{IsFlight}
 use Rattle.slot_image_laws.proofs.Records.{share_given}
 use Rattle.slot_image_laws.proofs.Anew.{opened_same}
 
-module _ (gives : ℕ → List InodePart) (layout : Layout) (base : ℕ → Part) (slots : Slots) (k : ℕ) (has : HasWork slots k true shut_gate) where
+module _ (slots : Slots) (k : ℕ) where
   away_from : (j : ℕ) (work : SlotWork) → with_at slots k None j ≡ Some work → j ≢ k
   away_from j work there same = none_there (sym (at_same slots k None j same) ∙ there)
 
   before : (j : ℕ) (work : SlotWork) → with_at slots k None j ≡ Some work → slots j ≡ Some work
   before j work there = sym (at_other slots k None j (away_from j work there)) ∙ there
 
+module _ (gives : ℕ → List InodePart) (layout : Layout) (base : ℕ → Part) (slots : Slots) (k : ℕ) (has : HasWork slots k true shut_gate) where
   -- the commit that goes is no last giver, since its records are in the table
   not_last : WorksFit gives layout base slots → (j i : ℕ) (work : SlotWork) (part part_too : Part) → j ≢ k → slots j ≡ Some work → work.settled ≡ true
       → GivesPart gives has.work i part → GivesPart gives work i part_too → has.work.job.stamp < work.job.stamp
@@ -55,18 +56,18 @@ module _ (gives : ℕ → List InodePart) (layout : Layout) (base : ℕ → Part
       | inl same ↦ at_same slots k None j same
       | inr away ↦ at_other slots k None j away ∙ works.beyond j high
     ];
-    each = λ j work there. works.each j work (before j work there);
-    stamps = λ i j one other here there same. works.stamps i j one other (before i one here) (before j other there) same;
+    each = λ j work there. works.each j work (before slots k j work there);
+    stamps = λ i j one other here there same. works.stamps i j one other (before slots k i one here) (before slots k j other there) same;
     rings = rings_move slots (with_at slots k None) works.rings (idled_came (KeepsMarks slots) slots (same_marks slots) k);
     apart = λ i j one other pair.
-        works.apart i j one other (in_slots pair.away (before i one pair.here) (before j other pair.there) pair.one_is pair.other_is);
+        works.apart i j one other (in_slots pair.away (before slots k i one pair.here) (before slots k j other pair.there) pair.one_is pair.other_is);
     newest = λ j i work part there durable given last.
-        works.newest j i work part (before j work there) durable given
+        works.newest j i work part (before slots k j work there) durable given
         (λ m other part_too away here settled gave. elim (same_or_not m k) [
           | inl same ↦
               let gone : has.work ≡ other = some_same (sym has.there ∙ ap slots (sym same) ∙ here) in
               subst (λ (w : SlotWork). w.job.stamp < work.job.stamp) gone
-              (not_last works j i work part_too part (away_from j work there) (before j work there) durable
+              (not_last works j i work part_too part (away_from slots k j work there) (before slots k j work there) durable
               (subst (λ (w : SlotWork). GivesPart gives w i part_too) (sym gone) gave) given)
           | inr off ↦ last m other part_too away (at_other slots k None m off ∙ here) settled gave
         ]);
@@ -88,8 +89,8 @@ idles_keep disk run turns slots k has runs = record {
         (runs.box.stands content told image left);
   };
   matches = record {
-    once = λ i j one other here there same. runs.matches.once i j one other (was i one here) (was j other there) same;
-    flies = λ j work there aloft may. runs.matches.flies j work (was j work there) aloft may;
+    once = λ i j one other here there same. runs.matches.once i j one other (before slots k i one here) (before slots k j other there) same;
+    flies = λ j work there aloft may. runs.matches.flies j work (before slots k j work there) aloft may;
     flown = λ commit one.
         let flight = runs.matches.flown commit one in
         record {
@@ -104,9 +105,6 @@ idles_keep disk run turns slots k has runs = record {
   trail = runs.trail;
 }
   where
-    was : (j : ℕ) (work : SlotWork) → with_at slots k None j ≡ Some work → slots j ≡ Some work
-    was = before run.gives run.layout (disk_books run turns).base slots k has
-
     off : {commit : ℕ} (flight : IsFlight slots commit) → flight.slot ≢ k
     off {commit} flight same =
         let is : has.work ≡ flight.work = some_same (sym has.there ∙ ap slots (sym same) ∙ flight.there) in

@@ -99,13 +99,13 @@ module _ (gives : ℕ → List InodePart) (layout : Layout) (books : DiskBooks) 
         elim (given_so gives layout books.base slots was box.works (gates_open gives layout books slots old box content told was left) stood i) [
           | inl flight ↦
               let away : k ≢ flight.slot = λ at.
-              not_both flight.flight.may
-              (ap (λ (w : SlotWork). may_be_open w.known.gate_left) (some_same (sym flight.flight.there ∙ ap slots (sym at) ∙ has.there))
+              not_both flight.flight.is_open.may
+              (ap (λ (w : SlotWork). may_be_open w.known.gate_left) (some_same (sym flight.flight.is_open.there ∙ ap slots (sym at) ∙ has.there))
               ∙ ap may_be_open has.gate_is) in
               absurd
-              (box.works.rings.apart k flight.slot has.work flight.work (in_slots away has.there flight.flight.there has.aloft flight.flight.aloft)
+              (box.works.rings.apart k flight.slot has.work flight.work (in_slots away has.there flight.flight.is_open.there has.aloft flight.flight.aloft)
               (share_given gives has.work flight.work i part flight.part own_fits.commit.records
-              (box.works.each flight.slot flight.work flight.flight.there).commit.records given_is flight.given_is))
+              (box.works.each flight.slot flight.work flight.flight.is_open.there).commit.records given_is flight.given_is))
           | inr stays ↦ stays.whole
         ]
 
@@ -132,22 +132,22 @@ module _ (gives : ℕ → List InodePart) (layout : Layout) (books : DiskBooks) 
       own = λ j other low opened same.
           let its = open_work gives layout books.base slots was j other opened in
           open_away was j other opened
-          (box.works.stamps j k its.work has.work its.there has.there (ap (λ (t : Transaction). t.stamp) its.is ∙ same));
+          (box.works.stamps j k its.work has.work its.is_open.there has.there (ap (λ (t : Transaction). t.stamp) its.is ∙ same));
       newer = λ i j other ours low gave mine.
           let by = given_by i (opened_in gives layout slots was j) other gave in
           let its = open_work gives layout books.base slots was j by.0 by.1 in
           let away = open_away was j by.0 by.1 in
           let gave_it : part_given i (Some (work_transaction gives its.work)) ≡ Some other =
           ap (λ (t : Transaction). part_given i (Some t)) its.is ∙ sym (ap (part_given i) by.1) ∙ gave in
-          let shares = share_given gives its.work has.work i other.value ours.value (box.works.each j its.work its.there).commit.records
+          let shares = share_given gives its.work has.work i other.value ours.value (box.works.each j its.work its.is_open.there).commit.records
           own_fits.commit.records (given_part gives its.work i other gave_it) (given_part gives has.work i ours mine) in
           let theirs : other.stamp ≡ its.work.job.stamp = stamp_given i (work_transaction gives its.work) other gave_it in
           let own : ours.stamp ≡ has.work.job.stamp = stamp_given i (work_transaction gives has.work) ours mine in
           elim (true_or_false its.work.settled) [
             | inl settled ↦
-                let below = box.works.rings.later j k its.work has.work (in_slots away its.there has.there settled has.aloft) shares in
+                let below = box.works.rings.later j k its.work has.work (in_slots away its.is_open.there has.there settled has.aloft) shares in
                 omega arith
-            | inr aloft ↦ absurd (box.works.rings.apart j k its.work has.work (in_slots away its.there has.there aloft has.aloft) shares)
+            | inr aloft ↦ absurd (box.works.rings.apart j k its.work has.work (in_slots away its.is_open.there has.there aloft has.aloft) shares)
           ];
       gathered = parts_gathered;
       pointers = own_fits.commit.pointers;
@@ -178,8 +178,15 @@ module _ (gives : ℕ → List InodePart) (layout : Layout) (books : DiskBooks) 
             → StandsOpen gives layout books.base (changed_slot slots k (knowing (known_gated done open_gate))) image
         whole opened at others stands =
             subst (λ (f : ℕ → Option Transaction). IsImageOf layout f books.base image)
-            (sym (opened_but gives layout slots k (gate_piece has.work.job.place 1) (knowing (known_gated done open_gate)) was image opened
-            (λ j work there. within gives layout books.base slots box.works j work there) apart same at others)) stands
+            (sym (opened_but gives layout slots k (knowing (known_gated done open_gate)) was image opened
+            (record {
+              piece = gate_piece has.work.job.place 1;
+              low = λ j work there. within gives layout books.base slots box.works j work there;
+              apart = apart;
+              same = same;
+              here = at;
+              others = others;
+            }))) stands
 
         by : (b : Bool) → gate_in layout image k ≡ b
             → StandsOpen gives layout books.base (changed_slot slots k (knowing (known_gated done open_gate))) image

@@ -11,14 +11,13 @@ use Rattle.sfs_image.specs.Settled.{table_byte}
 use Rattle.sfs_image.proofs.WrittenLaws.{table_written}
 use Rattle.sfs_dev.specs.Disk.{View, images}
 use Rattle.sfs_dev.specs.Ranges.{SameOutside}
-use Rattle.journal_one.specs.Job.{no_entry, table_piece, Place, Piece}
+use Rattle.journal_one.specs.Job.{no_entry, table_piece, Piece}
 use Rattle.journal_one.specs.Known.{Reads, IsWrittenIn}
 use Rattle.journal_one.proofs.Apart.{tables_apart as apart_tables}
 use Rattle.journal_one.proofs.Apart.{table_from_gate, table_from_fill}
-use Rattle.journal_one.proofs.Kept.{Touches, gate_stays, written_stands}
+use Rattle.journal_one.proofs.Kept.{Touches, written_stands}
 use Rattle.commit_one.specs.Change.{entry_of_part}
-use Rattle.merge_laws.proofs.Blocks.{same_or_not}
-use Rattle.slot_laws.specs.Slots.{SlotWork, knowing, known_placed, Slots, open_gate, may_be_open, place_at, changed_slot}
+use Rattle.slot_laws.specs.Slots.{SlotWork, knowing, known_placed, Slots, open_gate, may_be_open, changed_slot}
 use Rattle.slot_laws.specs.Rules.{inode_of_nth, HasWork, IsOldestOf}
 use Rattle.slot_laws.specs.Rings.{is_started}
 use Rattle.slot_laws.proofs.Rings.{in_slots, rings_move, changed_as, KeepsMarks, placed_as}
@@ -27,13 +26,12 @@ use Rattle.slot_image_laws.specs.Images.{KnowsWork, DiskBooks, IsBox, KnowsSlot,
 use Rattle.slot_image_laws.specs.Laws.{PlacesKeep}
 use Rattle.slot_image_laws.proofs.Shown.{over_or, found_given, gates_open}
 use Rattle.slot_image_laws.proofs.Records.{no_record}
-use Rattle.slot_image_laws.proofs.Changed.{less_marked, opened_still}
+use Rattle.slot_image_laws.proofs.Changed.{less_marked}
 use Rattle.slot_image_laws.proofs.Filled.{read_after, marked_after, mark_kept}
 use Rattle.slot_image_laws.proofs.Aside.{IsAside, knows_aside, touches_by}
 use Rattle.slot_image_laws.proofs.Regions.{TablePiece, table_lies, low_slot, table_within}
-use Rattle.slot_image_laws.proofs.Written.{IsElsewhere, table_elsewhere, plain_run}
+use Rattle.slot_image_laws.proofs.Written.{IsElsewhere, table_elsewhere, plain_run, opened_elsewhere}
 use Rattle.slot_image_laws.proofs.Given.{none_given}
-use Rattle.slot_image_laws.proofs.Anew.{gate_in, within}
 
 -- no part, where there is none
 abbrev pub no_inode_part : InodePart
@@ -148,30 +146,32 @@ module _ (gives : ℕ → List InodePart) (layout : Layout) (books : DiskBooks) 
               let here : inode ≡ i = omega arith in
               let gave = gives_nth gives has.work own_fits.commit.records n low in
               none_given gives layout books.base slots was box.works (gates_open gives layout books slots old box content told was left) stood i none k has.work
-              gave.0 has.there (gates_open gives layout books slots old box content told was left k has.work has.there has.gate_is)
-              (ap may_be_open has.gate_is) (subst (λ (m : ℕ). GivesPart gives has.work m gave.0) here gave.1);
+              gave.0
+              (record {
+                there = has.there;
+                gate = gates_open gives layout books slots old box content told was left k has.work has.there has.gate_is;
+                may = ap may_be_open has.gate_is;
+              })
+              (subst (λ (m : ℕ). GivesPart gives has.work m gave.0) here gave.1);
         })
 
     placed_stands : IsElsewhere layout slots k (table_piece has.work.job n) → StandsOpen gives layout books.base slots image
     placed_stands apart =
-        subst (λ (opened : ℕ → Option Transaction). IsImageOf layout opened books.base image) (sym (opened_still gives layout slots was image same_gates))
+        subst (λ (opened : ℕ → Option Transaction). IsImageOf layout opened books.base image) (sym (opened_elsewhere gives layout books.base slots box.works k has.work has.there (table_piece has.work.job n) apart
+        (table_from_gate has.work.job own_fits.is n 1) was image same))
         table_keeps
-      where
-        same_gates : (j : ℕ) (other : SlotWork) → slots j ≡ Some other → gate_in layout image j ≡ gate_in layout was j
-        same_gates j other at = elim (same_or_not j k) [
-          | inl here ↦
-              subst (λ (place : Place). gate_in place.layout image place.slot ≡ gate_in place.layout was place.slot)
-              (own_fits.place ∙ ap (place_at layout) (sym here))
-              (gate_stays has.work.job.place (table_piece has.work.job n) 1 was image (table_from_gate has.work.job own_fits.is n 1) same)
-          | inr away ↦
-              gate_stays (place_at layout j) (table_piece has.work.job n) 1 was image
-              (apart.gates j (within gives layout books.base slots box.works j other at) away) same
-        ]
 
 pub places_keep : (old new : View) → PlacesKeep old new
 places_keep old new run turns slots k n done has low oldest lawful is runs =
-    plain_run run turns slots k (has.work, has.there) (known_placed done n) piece old new is.time is.size touches refl
+    plain_run run turns slots k (known_placed done n) old new
     (record {
+      piece = piece;
+      work = has.work;
+      there = has.there;
+      time = is.time;
+      size = is.size;
+      touches = touches;
+      same_gate = refl;
       rings = rings_move slots (changed_slot slots k (knowing (known_placed done n))) runs.box.works.rings
           (changed_as slots k (knowing (known_placed done n))
           (λ work there.
@@ -186,9 +186,10 @@ places_keep old new run turns slots k n done has low oldest lawful is runs =
           (λ ok. written_stands piece old new large (record { whole = lawful.whole; read_is_left = lawful.read_is_left }) (is.ok ok))
           (subst (λ (o : Option SlotWork). KnowsSlot run.layout k o old) has.there
           (runs.box.knows k (low_slot run.gives run.layout books.base k has.work fits)));
+      elsewhere = apart;
+      stays = λ content told was image left same. placed_stands run.gives run.layout books slots old runs.box k n has low content told was image left same apart;
     })
-    apart
-    (λ content told was image left same. placed_stands run.gives run.layout books slots old runs.box k n has low content told was image left same apart) runs
+    runs
   where
     books : DiskBooks
     books = disk_books run turns

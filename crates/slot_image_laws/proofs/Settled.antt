@@ -18,7 +18,7 @@ use Rattle.merge_laws.proofs.Blocks.{same_or_not}
 use Rattle.slot_laws.specs.Slots.{Slots, open_gate, SlotWork, changed_slot, settled_work, place_at, may_be_open}
 use Rattle.slot_laws.specs.Rules.{HasWork}
 use Rattle.slot_laws.specs.Rings.{ShareInode}
-use Rattle.slot_laws.proofs.Rings.{in_slots, before_settled, is_settled, settled_fits, share_back}
+use Rattle.slot_laws.proofs.Rings.{in_slots, before_settled, is_settled, settled_fits, share_back, aloft_elsewhere}
 use Rattle.slot_laws.proofs.Basics.{none_there, at_other, at_same}
 use Rattle.slot_image_laws.specs.Commits.{WorksFit, parts_over, GivesPart, TurnsParts, WorkFits, IsLastGiver, may_have, opened_in}
 use Rattle.slot_image_laws.specs.Run.{Matches}
@@ -107,10 +107,6 @@ module _ (gives : ℕ → List InodePart) (layout : Layout) (base : ℕ → Part
   settled_one : (j : ℕ) (other : SlotWork) → j ≡ k → changed_slot slots k settled_work j ≡ Some other → settled_work has.work ≡ other
   settled_one j other same there = is_settled slots k work has.there j other there same
 
-  -- one that is not durable is elsewhere
-  off : (j : ℕ) (other : SlotWork) → changed_slot slots k settled_work j ≡ Some other → other.settled ≡ false → j ≢ k
-  off j other there aloft same = not_both (ap (λ (w : SlotWork). w.settled) (sym (settled_one j other same there))) aloft
-
   pub settled_works : WorksFit gives layout (parts_over (gives has.work.commit) base) (changed_slot slots k settled_work)
   settled_works = record {
     beyond = λ j high. elim (same_or_not j k) [
@@ -149,7 +145,7 @@ module _ (gives : ℕ → List InodePart) (layout : Layout) (base : ℕ → Part
     rings = settled_fits slots k work works.rings has.there has.aloft;
     apart = λ i j one other pair.
         works.apart i j one other
-        (in_slots pair.away (before i one (off i one pair.here pair.one_is) pair.here) (before j other (off j other pair.there pair.other_is) pair.there)
+        (in_slots pair.away (before i one (aloft_elsewhere slots k work has.there i one pair.here pair.one_is) pair.here) (before j other (aloft_elsewhere slots k work has.there j other pair.there pair.other_is) pair.there)
         pair.one_is pair.other_is);
     newest = λ j i one part there durable given_is last. elim (same_or_not j k) [
       | inl same ↦
@@ -201,7 +197,7 @@ module _ (gives : ℕ → List InodePart) (layout : Layout) (base : ℕ → Part
         let had = numbered j other there in
         matches.once i j was.0 had.0 was.1 had.1 (was.2 ∙ same ∙ sym had.2);
     flies = λ j other there aloft may.
-        let away = off j other there aloft in
+        let away = aloft_elsewhere slots k work has.there j other there aloft in
         let at = before j other away there in
         to_filter (λ (other : ℕ). not (nat_eq other work.commit)) flying other.commit (matches.flies j other at aloft may)
         (ap not (not_same other.commit work.commit (λ same. away (matches.once j k other work at has.there same))));
@@ -250,18 +246,15 @@ module _ (gives : ℕ → List InodePart) (layout : Layout) (base : ℕ → Part
 pub settles_keep : (disk : View) → SettlesKeep disk
 settles_keep disk run turns slots k turn has did number now runs =
     record {
-      box = subst (λ (b : DiskBooks). IsBox gives run.layout b.base later disk) (sym booked) box;
+      box = subst (λ (b : DiskBooks). IsBox run.gives run.layout b.base later disk) (sym booked) box;
       matches = subst (λ (b : DiskBooks). Matches b.flying later) (sym booked) matches;
       trail = trail_turns run turns disk (turn ∷ [])
           (All-cons (λ (turn : Turn). turn.now ≡ disk.now) turn [] now (All-nil (λ (turn : Turn). turn.now ≡ disk.now))) runs.trail
           (λ content told counts image left.
-          subst (λ (b : DiskBooks). Shows gives run.layout b image) (sym booked)
-          (shown gives run.layout next later disk box content told matches image left));
+          subst (λ (b : DiskBooks). Shows run.gives run.layout b image) (sym booked)
+          (shown run.gives run.layout next later disk box content told matches image left));
     }
   where
-    gives : ℕ → List InodePart
-    gives = run.gives
-
     books : DiskBooks
     books = disk_books run turns
 
@@ -269,32 +262,37 @@ settles_keep disk run turns slots k turn has did number now runs =
     later = changed_slot slots k settled_work
 
     next : DiskBooks
-    next = record { base = parts_over (gives has.work.commit) books.base; flying = filter (λ other. not (nat_eq other has.work.commit)) books.flying }
+    next = record { base = parts_over (run.gives has.work.commit) books.base; flying = filter (λ other. not (nat_eq other has.work.commit)) books.flying }
 
     booked : disk_books run (turns ++ turn ∷ []) ≡ next
     booked =
-        books_more gives turns (turn ∷ []) (first_books run)
-        ∙ ap (λ (d : TurnAct). book_act gives d turn.commit books) did
-        ∙ ap (λ (c : ℕ). book_act gives act.Durable c books) number
+        books_more run.gives turns (turn ∷ []) (first_books run)
+        ∙ ap (λ (d : TurnAct). book_act run.gives d turn.commit books) did
+        ∙ ap (λ (c : ℕ). book_act run.gives act.Durable c books) number
 
     matches : Matches next.flying later
-    matches = settled_matches gives run.layout books.base slots k has runs.box.works books.flying runs.matches
+    matches = settled_matches run.gives run.layout books.base slots k has runs.box.works books.flying runs.matches
 
-    box : IsBox gives run.layout next.base later disk
+    box : IsBox run.gives run.layout next.base later disk
     box = record {
       large = runs.box.large;
       fits = runs.box.fits;
-      works = settled_works gives run.layout books.base slots k has runs.box.works;
-      knows = λ j low. settled_knows gives run.layout books.base slots k has runs.box.works disk j (runs.box.knows j low);
+      works = settled_works run.gives run.layout books.base slots k has runs.box.works;
+      knows = λ j low. settled_knows run.gives run.layout books.base slots k has runs.box.works disk j (runs.box.knows j low);
       stands = λ content told image left.
           subst (λ (opened : ℕ → Option Transaction). IsImageOf run.layout opened next.base image)
-          (sym (opened_same gives run.layout slots later image (λ j gated. settled_may gives run.layout books.base slots k has runs.box.works j)))
-          (parts_instead run.layout (opened_in gives run.layout slots image) books.base next.base image
+          (sym (opened_same run.gives run.layout slots later image (λ j gated. settled_may run.gives run.layout books.base slots k has runs.box.works j)))
+          (parts_instead run.layout (opened_in run.gives run.layout slots image) books.base next.base image
           (λ i low none.
-          base_stays gives run.layout books.base slots k has runs.box.works i
+          base_stays run.gives run.layout books.base slots k has runs.box.works i
           (λ part given_is.
-          none_given gives run.layout books.base slots image runs.box.works (gates_open gives run.layout books slots disk runs.box content told image left)
-          (runs.box.stands content told image left) i none k has.work part has.there
-          (gates_open gives run.layout books slots disk runs.box content told image left k has.work has.there has.gate_is) (ap may_be_open has.gate_is) given_is))
+          none_given run.gives run.layout books.base slots image runs.box.works (gates_open run.gives run.layout books slots disk runs.box content told image left)
+          (runs.box.stands content told image left) i none k has.work part
+          (record {
+            there = has.there;
+            gate = gates_open run.gives run.layout books slots disk runs.box content told image left k has.work has.there has.gate_is;
+            may = ap may_be_open has.gate_is;
+          })
+          given_is))
           (runs.box.stands content told image left));
     }

@@ -58,10 +58,12 @@ module _ (layout : Layout) (slots : Slots) (image : List ℕ) where
             slot = n;
             work = work;
             flight = record {
-              there = there;
+              is_open = record {
+                there = there;
+                gate = and_first (gate_in layout image n) _ is;
+                may = and_first (may_be_open work.known.gate_left) _ rest;
+              };
               aloft = not_true work.settled (and_first (not work.settled) _ last);
-              gate = and_first (gate_in layout image n) _ is;
-              may = and_first (may_be_open work.known.gate_left) _ rest;
             };
             number = eqb-true work.commit commit (and_second (not work.settled) _ last);
           }
@@ -72,7 +74,7 @@ module _ (layout : Layout) (slots : Slots) (image : List ℕ) where
     | inl same ↦
         ap (λ (b : Bool). b || is_kept_below layout slots image n work.commit)
         (ap (λ (m : ℕ). is_kept_at (slots m) (gate_in layout image m) work.commit) (sym same)
-        ∙ ap (λ (o : Option SlotWork). is_kept_at o (gate_in layout image k) work.commit) flight.there
+        ∙ ap (λ (o : Option SlotWork). is_kept_at o (gate_in layout image k) work.commit) flight.is_open.there
         ∙ all_true flight)
     | inr away ↦
         ap (λ (b : Bool). is_kept_at (slots n) (gate_in layout image n) work.commit || b) (there_kept n k work (omega arith) flight)
@@ -81,8 +83,8 @@ module _ (layout : Layout) (slots : Slots) (image : List ℕ) where
     where
       all_true : IsOpenFlight layout slots image k work → is_kept_at (Some work) (gate_in layout image k) work.commit ≡ true
       all_true flight =
-          ap (λ (b : Bool). b && (may_be_open work.known.gate_left && (not work.settled && nat_eq work.commit work.commit))) flight.gate
-          ∙ ap (λ (b : Bool). b && (not work.settled && nat_eq work.commit work.commit)) flight.may
+          ap (λ (b : Bool). b && (may_be_open work.known.gate_left && (not work.settled && nat_eq work.commit work.commit))) flight.is_open.gate
+          ∙ ap (λ (b : Bool). b && (not work.settled && nat_eq work.commit work.commit)) flight.is_open.may
           ∙ ap (λ (b : Bool). not b && nat_eq work.commit work.commit) flight.aloft
           ∙ same_number work.commit
 
@@ -160,9 +162,9 @@ module _ (gives : ℕ → List InodePart) (layout : Layout) (books : DiskBooks) 
     parts = λ i low. elim (given_so gives layout books.base slots image box.works (gates_open image left) (box.stands content told image left) i) [
       | inl flight ↦ flight.whole
           ∙ sym (part_comes gives kept i flight.part books.flying books.base flight.work.commit (leaves_flight i flight)
-          (matches.flies flight.slot flight.work flight.flight.there flight.flight.aloft flight.flight.may)
+          (matches.flies flight.slot flight.work flight.flight.is_open.there flight.flight.aloft flight.flight.is_open.may)
           (there_kept layout slots image (slot_count layout) flight.slot flight.work
-          (within gives layout books.base slots box.works flight.slot flight.work flight.flight.there) flight.flight)
+          (within gives layout books.base slots box.works flight.slot flight.work flight.flight.is_open.there) flight.flight)
           (λ base. over_given gives flight.work i flight.part base flight.given_is))
       | inr base ↦ base.whole ∙ sym (part_stays gives kept i (books.base i) books.flying books.base (leaves_base i base) refl)
     ];
@@ -192,15 +194,15 @@ module _ (gives : ℕ → List InodePart) (layout : Layout) (books : DiskBooks) 
                 found_given gives its.work i some.0 (ap (λ (c : ℕ). find (λ own. nat_eq own.inode i) (gives c)) its.number ∙ some.1) in
                 elim (same_or_not its.slot flight.slot) [
                   | inl same ↦
-                      let work : its.work ≡ flight.work = some_same (sym its.flight.there ∙ ap slots same ∙ flight.flight.there) in
+                      let work : its.work ≡ flight.work = some_same (sym its.flight.is_open.there ∙ ap slots same ∙ flight.flight.is_open.there) in
                       some.2
                       ∙ sym (over_given gives its.work i some.0.part base gave)
                       ∙ over_given gives its.work i flight.part base (subst (λ (w : SlotWork). GivesPart gives w i flight.part) (sym work) flight.given_is)
                   | inr away ↦
                       absurd
                       (box.works.rings.apart its.slot flight.slot its.work flight.work
-                      (in_slots away its.flight.there flight.flight.there its.flight.aloft flight.flight.aloft)
-                      (share_given gives its.work flight.work i some.0.part flight.part (box.works.each its.slot its.work its.flight.there).commit.records
-                      (box.works.each flight.slot flight.work flight.flight.there).commit.records gave flight.given_is))
+                      (in_slots away its.flight.is_open.there flight.flight.is_open.there its.flight.aloft flight.flight.aloft)
+                      (share_given gives its.work flight.work i some.0.part flight.part (box.works.each its.slot its.work its.flight.is_open.there).commit.records
+                      (box.works.each flight.slot flight.work flight.flight.is_open.there).commit.records gave flight.given_is))
                 ]
           ]

@@ -69,7 +69,7 @@ module _ (gives : ℕ → List InodePart) (layout : Layout) (books : DiskBooks) 
     gated = gates_open gives layout books slots old box content told was left k has.work has.there has.gate_is
 
     is_open : opened_in gives layout slots was k ≡ Some (work_transaction gives has.work)
-    is_open = open_there gives layout books.base slots was k has.work has.there gated (ap may_be_open has.gate_is)
+    is_open = open_there gives layout books.base slots was k has.work (record { there = has.there; gate = gated; may = ap may_be_open has.gate_is })
 
     low : k < slot_count layout
     low = low_slot gives layout books.base k has.work own_fits
@@ -95,7 +95,7 @@ module _ (gives : ℕ → List InodePart) (layout : Layout) (books : DiskBooks) 
         let gave_it : part_given i (Some (work_transaction gives its.work)) ≡ Some other =
         ap (λ (t : Transaction). part_given i (Some t)) its.is ∙ sym (ap (part_given i) by.1) ∙ gave in
         let mine_it : part_given i (Some (work_transaction gives has.work)) ≡ Some ours = sym (ap (part_given i) is_open) ∙ mine in
-        let order = oldest j i its.work ours.value other.value away its.there (given_part gives has.work i ours mine_it)
+        let order = oldest j i its.work ours.value other.value away its.is_open.there (given_part gives has.work i ours mine_it)
         (given_part gives its.work i other gave_it) in
         let theirs : other.stamp ≡ its.work.job.stamp = stamp_given i (work_transaction gives its.work) other gave_it in
         let own : ours.stamp ≡ has.work.job.stamp = stamp_given i (work_transaction gives has.work) ours mine_it in
@@ -110,8 +110,8 @@ module _ (gives : ℕ → List InodePart) (layout : Layout) (books : DiskBooks) 
           | inr stays ↦ sym stays.whole
           | inl flight ↦
               let away : flight.slot ≢ k = λ at.
-              not_both (ap (λ (w : SlotWork). w.settled) (some_same (sym flight.flight.there ∙ ap slots at ∙ has.there)) ∙ has.aloft) flight.flight.aloft in
-              let below = within gives layout books.base slots box.works flight.slot flight.work flight.flight.there in
+              not_both (ap (λ (w : SlotWork). w.settled) (some_same (sym flight.flight.is_open.there ∙ ap slots at ∙ has.there)) ∙ has.aloft) flight.flight.aloft in
+              let below = within gives layout books.base slots box.works flight.slot flight.work flight.flight.is_open.there in
               let nothing =
               newest_none (λ j. part_given i (with_slot (opened_in gives layout slots was) k None j)) 0 (slot_count layout)
               (None-option_map (λ (newest : Stamped Part). newest.value) _ none) flight.slot (omega arith) (omega arith) in
@@ -119,7 +119,7 @@ module _ (gives : ℕ → List InodePart) (layout : Layout) (books : DiskBooks) 
               (sym nothing
               ∙ ap (part_given i)
               (with_slot-other (opened_in gives layout slots was) k None flight.slot away
-              ∙ open_there gives layout books.base slots was flight.slot flight.work flight.flight.there flight.flight.gate flight.flight.may)
+              ∙ open_there gives layout books.base slots was flight.slot flight.work flight.flight.is_open)
               ∙ flight.given_is)
         ]
 
@@ -145,8 +145,15 @@ module _ (gives : ℕ → List InodePart) (layout : Layout) (books : DiskBooks) 
             → StandsOpen gives layout books.base (changed_slot slots k (knowing (known_gated done shut_gate))) image
         whole others_open at others stands =
             subst (λ (f : ℕ → Option Transaction). IsImageOf layout f books.base image)
-            (sym (opened_but gives layout slots k (gate_piece has.work.job.place 0) (knowing (known_gated done shut_gate)) was image others_open
-            (λ j work there. within gives layout books.base slots box.works j work there) apart same at others)) stands
+            (sym (opened_but gives layout slots k (knowing (known_gated done shut_gate)) was image others_open
+            (record {
+              piece = gate_piece has.work.job.place 0;
+              low = λ j work there. within gives layout books.base slots box.works j work there;
+              apart = apart;
+              same = same;
+              here = at;
+              others = others;
+            }))) stands
 
         by : (b : Bool) → gate_in layout image k ≡ b
             → StandsOpen gives layout books.base (changed_slot slots k (knowing (known_gated done shut_gate))) image

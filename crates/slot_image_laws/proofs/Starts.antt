@@ -78,37 +78,34 @@ module _ (run : RunStart) (books : DiskBooks) (three : EmptyTurns) (commit : ℕ
       let cut : books_from run.gives (three.cut ∷ three.opened ∷ three.durable ∷ []) books
       ≡ books_from run.gives (three.opened ∷ three.durable ∷ []) books =
       ap (λ (did : TurnAct). books_from run.gives (three.opened ∷ three.durable ∷ []) (book_act run.gives did three.cut.commit books)) are.cut_is in
-      let opened : books_from run.gives (three.opened ∷ three.durable ∷ []) books ≡ books_from run.gives (three.durable ∷ []) (opened_books commit) =
+      let opens : books_from run.gives (three.opened ∷ three.durable ∷ []) books ≡ books_from run.gives (three.durable ∷ []) opened =
       ap (λ (did : TurnAct). books_from run.gives (three.durable ∷ []) (book_act run.gives did three.opened.commit books)) are.opened_is
-      ∙ ap (λ (c : ℕ). books_from run.gives (three.durable ∷ []) (opened_books c)) are.opened_commit in
-      let durable : books_from run.gives (three.durable ∷ []) (opened_books commit) ≡ durable_books commit =
-      ap (λ (did : TurnAct). book_act run.gives did three.durable.commit (opened_books commit)) are.durable_is
-      ∙ ap durable_books are.durable_commit in
-      cut ∙ opened ∙ durable ∙ both_same
+      ∙ ap (λ (c : ℕ). books_from run.gives (three.durable ∷ []) (book_act run.gives act.Opened c books)) are.opened_commit in
+      let settles : books_from run.gives (three.durable ∷ []) opened ≡ durable =
+      ap (λ (did : TurnAct). book_act run.gives did three.durable.commit opened) are.durable_is
+      ∙ ap (λ (c : ℕ). book_act run.gives act.Durable c opened) are.durable_commit in
+      cut ∙ opens ∙ settles ∙ both_same
     where
-      opened_books : ℕ → DiskBooks
-      opened_books c = record books { flying = books.flying ++ c ∷ [] }
+      opened : DiskBooks
+      opened = book_act run.gives act.Opened commit books
 
-      others : ℕ → ℕ → Bool
-      others c other = not (nat_eq other c)
+      durable : DiskBooks
+      durable = book_act run.gives act.Durable commit opened
 
-      durable_books : ℕ → DiskBooks
-      durable_books c = record { base = parts_over (run.gives c) books.base; flying = filter (others c) (books.flying ++ commit ∷ []) }
-
-      last_goes : filter (others commit) (commit ∷ []) ≡ []
+      last_goes : filter (λ (other : ℕ). not (nat_eq other commit)) (commit ∷ []) ≡ []
       last_goes = ap (λ (b : Bool). cond (not b) (commit ∷ []) []) (same_number commit)
 
-      flying_same : filter (others commit) (books.flying ++ commit ∷ []) ≡ books.flying
+      flying_same : filter (λ (other : ℕ). not (nat_eq other commit)) (books.flying ++ commit ∷ []) ≡ books.flying
       flying_same =
-          filter-append (others commit) books.flying (commit ∷ [])
-          ∙ ap (λ (l : List ℕ). l ++ filter (others commit) (commit ∷ []))
-          (filter_all (others commit) books.flying (λ other one. ap not (not_same other commit (apart other one))))
+          filter-append (λ (other : ℕ). not (nat_eq other commit)) books.flying (commit ∷ [])
+          ∙ ap (λ (l : List ℕ). l ++ filter (λ (other : ℕ). not (nat_eq other commit)) (commit ∷ []))
+          (filter_all (λ (other : ℕ). not (nat_eq other commit)) books.flying (λ other one. ap not (not_same other commit (apart other one))))
           ∙ ap (λ (l : List ℕ). books.flying ++ l) last_goes
           ∙ append-nil books.flying
 
-      both_same : durable_books commit ≡ books
+      both_same : durable ≡ books
       both_same =
-          ap (λ (l : List InodePart). record { base = parts_over l books.base; flying = filter (others commit) (books.flying ++ commit ∷ []) }) nothing
+          ap (λ (l : List InodePart). record { base = parts_over l books.base; flying = filter (λ (other : ℕ). not (nat_eq other commit)) (books.flying ++ commit ∷ []) }) nothing
           ∙ ap (λ (l : List ℕ). record { base = books.base; flying = l }) flying_same
 
 pub empty_commits_keep : (disk : View) → EmptyCommitsKeep disk

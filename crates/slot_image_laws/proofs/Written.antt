@@ -1,5 +1,6 @@
 -- A piece is written, and the gate of its slot may be open as before.
-use Rattle.std.proofs.Common.{◌<◌, ◌≢◌, ◌≡◌, ◌+◌, ◌≤◌, ◌*◌, ℕ, Some, List, subst, arith, sym, inr, inl, length, true, false, Option}
+use Rattle.merge_laws.proofs.Blocks.{same_or_not}
+use Rattle.std.proofs.Common.{◌<◌, ◌≢◌, ◌≡◌, ◌+◌, ◌≤◌, ◌*◌, ℕ, Some, List, subst, arith, sym, inr, inl, length, true, false, Option, ◌∙◌, ap}
 use Rattle.sfs_base.proofs.BasicTruth.{true_or_false, not_both}
 use Rattle.sfs_image.specs.Super.{Layout, slot_blocks}
 use Rattle.sfs_image.specs.Settled.{slot_count, slot_byte}
@@ -9,21 +10,21 @@ use Rattle.sfs_dev.specs.Disk.{View, Elapses, images}
 use Rattle.sfs_dev.specs.Ranges.{SameOutside}
 use Rattle.journal_one.specs.Job.{Piece, gate_piece, Place, fill_piece, table_piece}
 use Rattle.journal_one.proofs.Apart.{AreApart-swap, AreApart}
-use Rattle.journal_one.proofs.Kept.{Touches}
+use Rattle.journal_one.proofs.Kept.{Touches, gate_stays}
 use Rattle.tree_laws.specs.declared.turns.Turn.{Turn}
 use Rattle.slot_laws.specs.Slots.{Slots, place_at, SlotWork, SlotKnown, changed_slot, knowing, may_be_open}
 use Rattle.slot_laws.specs.Rules.{inode_of_nth}
 use Rattle.slot_laws.specs.Rings.{RingsFit}
 use Rattle.slot_laws.proofs.Rings.{in_slots}
-use Rattle.slot_image_laws.specs.Commits.{WorksFit, WorkFits, nth_block, StandsOpen}
+use Rattle.slot_image_laws.specs.Commits.{WorksFit, WorkFits, nth_block, StandsOpen, opened_in}
 use Rattle.slot_image_laws.specs.Images.{KnowsWork, RunStart, disk_books, DiskBooks, IsBox}
 use Rattle.slot_image_laws.specs.Run.{IsDiskRun, Matches}
 use Rattle.slot_image_laws.proofs.Aside.{IsAside}
 use Rattle.slot_image_laws.proofs.Regions.{SlotPiece, gate_lies, slots_apart, fill_lies, slot_data, slot_table, table_lies, TablePiece, table_data, tables_apart, DataPiece, blocks_apart}
-use Rattle.slot_image_laws.proofs.Anew.{StillFits, opened_same}
+use Rattle.slot_image_laws.proofs.Anew.{StillFits, opened_same, gate_in, within}
 use Rattle.slot_image_laws.proofs.Trails.{trail_goes}
 use Rattle.slot_image_laws.proofs.Shown.{shown}
-use Rattle.slot_image_laws.proofs.Changed.{changed_matches, changed_works, changed_knows, changed_may}
+use Rattle.slot_image_laws.proofs.Changed.{changed_matches, changed_works, changed_knows, changed_may, opened_still}
 
 -- A piece lies apart from what is known of the other slots.
 pub record IsElsewhere (layout : Layout) (slots : Slots) (k : ℕ) (piece : Piece) : Type 0 where
@@ -109,25 +110,40 @@ module _ (gives : ℕ → List InodePart) (layout : Layout) (base : ℕ → Part
         | inr aloft ↦ aloft
       ]
 
--- What a step makes of one slot's commit.
-pub record StepFits (slots : Slots) (k : ℕ) (work : SlotWork) (change : SlotKnown → SlotKnown) (new : View) : Type 0 where
+  -- the same slots are open, where the piece lies apart from the slot's own gate too
+  pub opened_elsewhere : IsElsewhere layout slots k piece → AreApart piece (gate_piece work.job.place 1) → (was image : List ℕ)
+      → SameOutside piece.at (length piece.bytes) was image → opened_in gives layout slots image ≡ opened_in gives layout slots was
+  opened_elsewhere elsewhere own was image same = opened_still gives layout slots was image (λ j other at. elim (same_or_not j k) [
+    | inl here ↦
+        subst (λ (place : Place). gate_in place.layout image place.slot ≡ gate_in place.layout was place.slot)
+        (own_fits.place ∙ ap (place_at layout) (sym here)) (gate_stays work.job.place piece 1 was image own same)
+    | inr away ↦
+        gate_stays (place_at layout j) piece 1 was image (elsewhere.gates j (within gives layout base slots works j other at) away) same
+  ])
+
+-- A piece is written that opens and shuts no gate, and of one slot's commit something else is known.
+pub record IsPlainWrite (run : RunStart) (turns : List Turn) (slots : Slots) (k : ℕ) (change : SlotKnown → SlotKnown) (old new : View) : Type 0 where
+  pub piece : Piece
+  pub work : SlotWork
+  pub there : slots k ≡ Some work
+  pub time : Elapses old new
+  pub size : new.size ≡ old.size
+  pub touches : Touches piece old new
+  pub same_gate : may_be_open (change work.known).gate_left ≡ may_be_open work.known.gate_left
   pub rings : RingsFit (changed_slot slots k (knowing change))
   pub still : StillFits (knowing change work)
   pub own : KnowsWork (knowing change work) new
+  pub elsewhere : IsElsewhere run.layout slots k piece
+  pub stays : (content : List ℕ) → old.content ≡ Some content → (was image : List ℕ) → images old was
+      → SameOutside piece.at (length piece.bytes) was image → StandsOpen run.gives run.layout (disk_books run turns).base slots image
 
--- a piece is written that opens and shuts no gate
-pub plain_run : (run : RunStart) (turns : List Turn) (slots : Slots) (k : ℕ) (has : (work : SlotWork) × (slots k ≡ Some work))
-    (change : SlotKnown → SlotKnown) (piece : Piece) (old new : View) → Elapses old new → new.size ≡ old.size → Touches piece old new
-    → may_be_open (change has.0.known).gate_left ≡ may_be_open has.0.known.gate_left
-    → StepFits slots k has.0 change new → IsElsewhere run.layout slots k piece
-    → ((content : List ℕ) → old.content ≡ Some content → (was image : List ℕ) → images old was
-    → SameOutside piece.at (length piece.bytes) was image → StandsOpen run.gives run.layout (disk_books run turns).base slots image)
-    → IsDiskRun run turns slots old → IsDiskRun run turns (changed_slot slots k (knowing change)) new
-plain_run run turns slots k has change piece old new time size touches same_gate step elsewhere stays runs =
+pub plain_run : (run : RunStart) (turns : List Turn) (slots : Slots) (k : ℕ) (change : SlotKnown → SlotKnown) (old new : View)
+    → IsPlainWrite run turns slots k change old new → IsDiskRun run turns slots old → IsDiskRun run turns (changed_slot slots k (knowing change)) new
+plain_run run turns slots k change old new plain runs =
     record {
       box = box;
       matches = matches;
-      trail = trail_goes run turns old new time (λ content told. (let was = touches.read content told in (was.0, was.1))) runs.trail
+      trail = trail_goes run turns old new plain.time (λ content told. (let was = plain.touches.read content told in (was.0, was.1))) runs.trail
           (λ content told counts image left. shown run.gives run.layout books later new box content told matches image left);
     }
   where
@@ -138,20 +154,20 @@ plain_run run turns slots k has change piece old new time size touches same_gate
     later = changed_slot slots k (knowing change)
 
     matches : Matches books.flying later
-    matches = changed_matches run.gives run.layout books.base slots k has.0 has.1 change same_gate books.flying runs.matches
+    matches = changed_matches run.gives run.layout books.base slots k plain.work plain.there change plain.same_gate books.flying runs.matches
 
     box : IsBox run.gives run.layout books.base later new
     box = record {
-      large = omega (arith, runs.box.large, size);
+      large = omega (arith, runs.box.large, plain.size);
       fits = runs.box.fits;
-      works = changed_works run.gives run.layout books.base slots k has.0 has.1 change runs.box.works step.rings step.still;
-      knows = changed_knows run.gives run.layout books.base slots k has.0 has.1 change piece old new touches runs.box.works step.own elsewhere.gates
-          elsewhere.others runs.box.knows;
+      works = changed_works run.gives run.layout books.base slots k plain.work plain.there change runs.box.works plain.rings plain.still;
+      knows = changed_knows run.gives run.layout books.base slots k plain.work plain.there change plain.piece old new plain.touches runs.box.works plain.own plain.elsewhere.gates
+          plain.elsewhere.others runs.box.knows;
       stands = λ content told image left.
-          let was = touches.read content told in
-          let before = touches.left image left in
+          let was = plain.touches.read content told in
+          let before = plain.touches.left image left in
           subst (λ (opened : ℕ → Option Transaction). IsImageOf run.layout opened books.base image)
           (sym (opened_same run.gives run.layout slots later image
-          (λ j gated. changed_may run.gives run.layout books.base slots k has.0 has.1 change same_gate j)))
-          (stays was.0 was.1 before.0 image before.1 before.2);
+          (λ j gated. changed_may run.gives run.layout books.base slots k plain.work plain.there change plain.same_gate j)))
+          (plain.stays was.0 was.1 before.0 image before.1 before.2);
     }

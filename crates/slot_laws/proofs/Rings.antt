@@ -116,7 +116,7 @@ pub changed_as : (slots : Slots) (k : ℕ) (change : SlotWork → SlotWork) → 
 changed_as slots = changed_came (KeepsMarks slots) slots (same_marks slots)
 
 -- what was marked by one mark more, or one less
-marked_with : (marks : ℕ → Bool) (n m : ℕ) → with_number marks n m ≡ true → (m ≡ n) ⊎ (marks m ≡ true)
+pub marked_with : (marks : ℕ → Bool) (n m : ℕ) → with_number marks n m ≡ true → (m ≡ n) ⊎ (marks m ≡ true)
 marked_with marks n m e = by (nat_eq m n) refl e
   where
     by : (b : Bool) → nat_eq m n ≡ b → (b || marks m) ≡ true → (m ≡ n) ⊎ (marks m ≡ true)
@@ -232,6 +232,12 @@ pub is_settled : (slots : Slots) (k : ℕ) (work : SlotWork) → slots k ≡ Som
 is_settled slots k work there j other is same =
     some_same (sym (at_same slots k (option_map settled_work (slots k)) j same ∙ ap (option_map settled_work) there) ∙ is)
 
+-- one that is not durable is elsewhere
+pub aloft_elsewhere : (slots : Slots) (k : ℕ) (work : SlotWork) → slots k ≡ Some work → (j : ℕ) (other : SlotWork)
+    → changed_slot slots k settled_work j ≡ Some other → other.settled ≡ false → j ≢ k
+aloft_elsewhere slots k work there j other is flying same =
+    not_both (ap (λ (w : SlotWork). w.settled) (sym (is_settled slots k work there j other is same))) flying
+
 -- a commit is durable from now on
 pub settled_fits : (slots : Slots) (k : ℕ) (work : SlotWork) → RingsFit slots → slots k ≡ Some work → work.settled ≡ false
     → RingsFit (changed_slot slots k settled_work)
@@ -242,8 +248,8 @@ settled_fits slots k work fits there aloft = record {
       let at = pair.there in
       let flying = pair.one_is in
       let too = pair.other_is in
-      let off_j = off j one here flying in
-      let off_i = off i other at too in
+      let off_j = aloft_elsewhere slots k work there j one here flying in
+      let off_i = aloft_elsewhere slots k work there i other at too in
       fits.apart j i one other (in_slots away (before_settled slots k j one here off_j) (before_settled slots k i other at off_i) flying too) shares;
   later = λ j i one other pair shares.
       let away = pair.away in
@@ -251,7 +257,7 @@ settled_fits slots k work fits there aloft = record {
       let at = pair.there in
       let durable = pair.one_is in
       let flying = pair.other_is in
-      let out = off i other at flying in
+      let out = aloft_elsewhere slots k work there i other at flying in
       elim (same_or_not j k) [
         | inl at_j ↦
             absurd
@@ -285,12 +291,9 @@ settled_fits slots k work fits there aloft = record {
         ]
       ];
   unplaced = λ j other at flying n.
-      let out = off j other at flying in
+      let out = aloft_elsewhere slots k work there j other at flying in
       fits.unplaced j other (before_settled slots k j other at out) flying n;
 }
-  where
-    off : (j : ℕ) (other : SlotWork) → changed_slot slots k settled_work j ≡ Some other → other.settled ≡ false → j ≢ k
-    off j other is flying same = not_both (ap (λ (w : SlotWork). w.settled) (sym (is_settled slots k work there j other is same))) flying
 
 -- what is known of the pieces that fill a slot, or of its gate, tells nothing of records
 pub marks_as : (slots : Slots) (k : ℕ) (change : SlotKnown → SlotKnown)
