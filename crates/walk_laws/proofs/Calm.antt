@@ -133,12 +133,6 @@ module _ (kept : Bookkeeping) (place : TurnAt kept) where
   abbrev calm : CalmSo kept front at
   calm = place.calm
 
-  abbrev core_is : turn.core.0 ≡ kept.cores turn.stamp.0
-  core_is = place.core_is
-
-  abbrev flush_is : (bringing_under kept.pairs turn.stamp.0).flush ≡ flush_at turn
-  flush_is = place.flush_is
-
   abbrev own : ℕ
   own = turn.stamp.0
 
@@ -155,7 +149,7 @@ module _ (kept : Bookkeeping) (place : TurnAt kept) where
   grants_then = grants_in kept.pairs (front ++ turn ∷ [])
 
   pub waits_turn : waits_at kept.cores own ≡ waiting_for turn
-  waits_turn = λ i. record { core = (sym core_is) i; stamp = own }
+  waits_turn = λ i. record { core = (sym place.core_is) i; stamp = own }
 
   -- It reserves.
   module _ (fit : ReservesThere kept grants_now at calm.volume turn) (first : Rattle.turn_laws.specs.Ways.own_turns own front ≡ [])
@@ -202,7 +196,7 @@ module _ (kept : Bookkeeping) (place : TurnAt kept) where
     reserves_now =
         let brings = fit.pair.opens.brings in
         let one = brought_by (bringing_under kept.pairs own) brings in
-        let plans = planned_has mid one turn calm.imagined.stands brings.planned brings.touched flush_is in
+        let plans = planned_has mid one turn calm.imagined.stands brings.planned brings.touched place.flush_is in
         record {
           next = calm_reserved;
           does = record {

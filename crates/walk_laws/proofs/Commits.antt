@@ -19,7 +19,7 @@ use Rattle.merge_laws.proofs.Playing.{KeysDiffer, differ_more}
 use Rattle.turn_laws.specs.Ways.{own_turns}
 use Rattle.walk_laws.specs.Brings.{brought_by}
 use Rattle.walk_laws.specs.Midway.{Midway, machine_beside, books_beside}
-use Rattle.walk_laws.specs.Pairs.{Pair, commit_under, bringing_under, PairsBeside, IsOpenBeside}
+use Rattle.walk_laws.specs.Pairs.{commit_under, bringing_under, PairsBeside, IsOpenBeside}
 use Rattle.walk_laws.specs.Walk.{Bookkeeping, open_stamps, grants_in, BeginsThere}
 use Rattle.walk_laws.proofs.Played.{PlayFits}
 use Rattle.walk_laws.proofs.Beside.{UsedBy, place_by, open_once, differ_both, legal_run, fewer_beside, more_beside, amid}
@@ -48,14 +48,8 @@ module _ (kept : Bookkeeping) (place : TurnAt kept) where
   abbrev calm : CalmSo kept front at
   calm = place.calm
 
-  abbrev flush_is : (bringing_under kept.pairs turn.stamp.0).flush ≡ flush_at turn
-  flush_is = place.flush_is
-
   abbrev own : ℕ
   own = turn.stamp.0
-
-  abbrev pairs : ℕ → Pair
-  pairs = kept.pairs
 
   abbrev opens : List ℕ
   opens = open_stamps at
@@ -64,13 +58,13 @@ module _ (kept : Bookkeeping) (place : TurnAt kept) where
   mid = midway_of kept front at calm
 
   abbrev grants_now : List Grant
-  grants_now = grants_in pairs front
+  grants_now = grants_in kept.pairs front
 
   abbrev grants_then : List Grant
-  grants_then = grants_in pairs (front ++ turn ∷ [])
+  grants_then = grants_in kept.pairs (front ++ turn ∷ [])
 
-  midst : IsMidst (place_by pairs calm.volume at calm.used)
-  midst = amid pairs calm.volume at calm.used (open_once (λ stamp. phase_of stamp front) at so.fits) calm.imagined.beside calm.used_by
+  midst : IsMidst (place_by kept.pairs calm.volume at calm.used)
+  midst = amid kept.pairs calm.volume at calm.used (open_once (λ stamp. phase_of stamp front) at so.fits) calm.imagined.beside calm.used_by
 
   -- a commit begins: it flies behind the others
   abbrev begun : List ℕ → PlayState
@@ -90,8 +84,8 @@ module _ (kept : Bookkeeping) (place : TurnAt kept) where
             ]
       ]
 
-  begun_used : UsedBy pairs (begun []) (calm.used ++ (commit_under pairs own).number ∷ [])
-  begun_used number one = elim (in_either calm.used ((commit_under pairs own).number ∷ []) number one) [
+  begun_used : UsedBy kept.pairs (begun []) (calm.used ++ (commit_under kept.pairs own).number ∷ [])
+  begun_used number one = elim (in_either calm.used ((commit_under kept.pairs own).number ∷ []) number one) [
     | inl before ↦
         let was = calm.used_by number before in (
           was.0,
@@ -114,8 +108,8 @@ module _ (kept : Bookkeeping) (place : TurnAt kept) where
           (sym (map-append (λ (flight : Aloft). flight.stamp) at.aloft (record { stamp = own; opened = false } ∷ []))) there)
 
   -- what is known there then
-  calm_begun : (left : List ℕ) → PairsBeside pairs at.done (open_stamps (begun left)) calm.volume
-      → GrantsFit pairs (front ++ turn ∷ []) (open_stamps (begun left)) grants_then → CalmSo kept (front ++ turn ∷ []) (begun left)
+  calm_begun : (left : List ℕ) → PairsBeside kept.pairs at.done (open_stamps (begun left)) calm.volume
+      → GrantsFit kept.pairs (front ++ turn ∷ []) (open_stamps (begun left)) grants_then → CalmSo kept (front ++ turn ∷ []) (begun left)
   calm_begun left beside grants = record {
     volume = calm.volume;
     imagined = record {
@@ -127,14 +121,14 @@ module _ (kept : Bookkeeping) (place : TurnAt kept) where
       beside = beside;
       disk = calm.imagined.disk;
     };
-    used = calm.used ++ (commit_under pairs own).number ∷ [];
+    used = calm.used ++ (commit_under kept.pairs own).number ∷ [];
     used_by = begun_used;
     grants = grants;
   }
 
-  module _ (number_is : turn.commit ≡ (commit_under pairs own).number) (grants_are : grants_then ≡ grants_now) where
-    tells : IsOpenBeside calm.volume (map (commit_under pairs) at.done) (pairs own) → TellsCommit pairs turn
-    tells its = record { number = number_is; own = its.flush ∙ flush_is }
+  module _ (number_is : turn.commit ≡ (commit_under kept.pairs own).number) (grants_are : grants_then ≡ grants_now) where
+    tells : IsOpenBeside calm.volume (map (commit_under kept.pairs) at.done) (kept.pairs own) → TellsCommit kept.pairs turn
+    tells its = record { number = number_is; own = its.flush ∙ place.flush_is }
 
     -- an fsync that waited begins its commit
     module _ (left : List ℕ) (stops : StopsWaiting at own left) where
@@ -151,9 +145,9 @@ module _ (kept : Bookkeeping) (place : TurnAt kept) where
       ]
 
       abbrev waited_next : CalmSo kept (front ++ turn ∷ []) (begun left)
-      waited_next = calm_begun left (fewer_beside pairs calm.volume at.done opens (open_stamps (begun left)) begun_within calm.imagined.beside)
-          (subst (GrantsFit pairs (front ++ turn ∷ []) (open_stamps (begun left))) (sym grants_are)
-          (fits_same pairs front turn opens grants_now calm.grants (open_stamps (begun left)) begun_within))
+      waited_next = calm_begun left (fewer_beside kept.pairs calm.volume at.done opens (open_stamps (begun left)) begun_within calm.imagined.beside)
+          (subst (GrantsFit kept.pairs (front ++ turn ∷ []) (open_stamps (begun left))) (sym grants_are)
+          (fits_same kept.pairs front turn opens grants_now calm.grants (open_stamps (begun left)) begun_within))
 
       begins_waited : StepsTo kept front turn at calm act.CutAt (begun left)
       unfolding calm_begun
@@ -165,9 +159,9 @@ module _ (kept : Bookkeeping) (place : TurnAt kept) where
           taken =
               subst
               (λ (e : Event). Accepts (machine_beside mid) e (machine_beside (midway_of kept (front ++ turn ∷ []) (begun left) waited_next)))
-              (begins_event pairs turn (tells (calm.imagined.beside.opens own own_open)))
-              (begin_taken pairs calm.volume at calm.used own midst stops.before stops.behind
-              (legal_run calm.volume (map (commit_under pairs) at.done) calm.imagined.stands) stops.waits.whole);
+              (begins_event kept.pairs turn (tells (calm.imagined.beside.opens own own_open)))
+              (begin_taken kept.pairs calm.volume at calm.used own midst stops.before stops.behind
+              (legal_run calm.volume (map (commit_under kept.pairs) at.done) calm.imagined.stands) stops.waits.whole);
           later_is = λ i. record (books_beside (midway_of kept (front ++ turn ∷ []) (begun left) waited_next)) {
             grants = grants_are i;
             waiting = (sym (waiting_left kept.cores at own left stops)) i;
@@ -212,30 +206,30 @@ module _ (kept : Bookkeeping) (place : TurnAt kept) where
             | inr last ↦ elim last [ inl e ↦ fresh flight flies (same ∙ sym e) | inr none ↦ absurd none ]
           ])
 
-      on_midst : IsMidst (place_by pairs calm.volume waiting_on calm.used)
+      on_midst : IsMidst (place_by kept.pairs calm.volume waiting_on calm.used)
       on_midst =
-          amid pairs calm.volume waiting_on calm.used on_once
-          (more_beside pairs calm.volume at.done opens (open_stamps waiting_on) own on_within fit.pair calm.imagined.beside) calm.used_by
+          amid kept.pairs calm.volume waiting_on calm.used on_once
+          (more_beside kept.pairs calm.volume at.done opens (open_stamps waiting_on) own on_within fit.pair calm.imagined.beside) calm.used_by
 
-      no_inodes : (bringing_under pairs own).grant.inodes ≡ []
+      no_inodes : (bringing_under kept.pairs own).grant.inodes ≡ []
       no_inodes =
-          nil_from_length (bringing_under pairs own).grant.inodes
-          (fit.pair.opens.brings.planned.grants.serves.inodes.enough ∙ sym (enters_counted (bringing_under pairs own).plan)
+          nil_from_length (bringing_under kept.pairs own).grant.inodes
+          (fit.pair.opens.brings.planned.grants.serves.inodes.enough ∙ sym (enters_counted (bringing_under kept.pairs own).plan)
           ∙ ap (λ (a : Amount). a.inodes) fit.no_need)
 
       abbrev once_next : CalmSo kept (front ++ turn ∷ []) (begun at.waiting)
       once_next =
           calm_begun at.waiting
-          (more_beside pairs calm.volume at.done opens (open_stamps (begun at.waiting)) own once_within fit.pair calm.imagined.beside)
-          (subst (GrantsFit pairs (front ++ turn ∷ []) (open_stamps (begun at.waiting))) (sym grants_are)
-          (fits_at_once pairs front turn opens grants_now calm.grants (open_stamps (begun at.waiting)) once_within first no_inodes))
+          (more_beside kept.pairs calm.volume at.done opens (open_stamps (begun at.waiting)) own once_within fit.pair calm.imagined.beside)
+          (subst (GrantsFit kept.pairs (front ++ turn ∷ []) (open_stamps (begun at.waiting))) (sym grants_are)
+          (fits_at_once kept.pairs front turn opens grants_now calm.grants (open_stamps (begun at.waiting)) once_within first no_inodes))
 
       needs_nothing : IsNeed (machine_beside mid) (image_held calm.volume) (flush_at turn) nothing
       needs_nothing =
           let brings = fit.pair.opens.brings in
-          let one = brought_by (bringing_under pairs own) brings in
+          let one = brought_by (bringing_under kept.pairs own) brings in
           subst (IsNeed (machine_beside mid) (image_held calm.volume) (flush_at turn)) fit.no_need
-          (need_there mid (planning_of one) turn (planned_has mid one turn calm.imagined.stands brings.planned brings.touched flush_is))
+          (need_there mid (planning_of one) turn (planned_has mid one turn calm.imagined.stands brings.planned brings.touched place.flush_is))
 
       begins_at_once : StepsTo kept front turn at calm act.CutAt (begun at.waiting)
       unfolding calm_begun
@@ -247,9 +241,9 @@ module _ (kept : Bookkeeping) (place : TurnAt kept) where
           taken =
               subst
               (λ (e : Event). Accepts (machine_beside mid) e (machine_beside (midway_of kept (front ++ turn ∷ []) (begun at.waiting) once_next)))
-              (begins_event pairs turn (tells fit.pair.opens))
-              (begin_taken pairs calm.volume waiting_on calm.used own on_midst at.waiting []
-              (legal_run calm.volume (map (commit_under pairs) at.done) calm.imagined.stands) refl);
+              (begins_event kept.pairs turn (tells fit.pair.opens))
+              (begin_taken kept.pairs calm.volume waiting_on calm.used own on_midst at.waiting []
+              (legal_run calm.volume (map (commit_under kept.pairs) at.done) calm.imagined.stands) refl);
           later_is = λ i. record (books_beside (midway_of kept (front ++ turn ∷ []) (begun at.waiting) once_next)) {
             grants = grants_are i;
             waiting = (sym (waiting_same kept.cores own at.waiting away)) i;

@@ -9,14 +9,14 @@ use Rattle.cut_laws.specs.declared.event.Event.TheVariants as event
 use Rattle.cut_laws.proofs.Basics.{in_left, in_right, in_either}
 use Rattle.cut_laws.proofs.Listed.{from_map, to_map}
 use Rattle.beside_laws.specs.Steps.{flight_of_flown, IsMidst}
-use Rattle.turn_laws.specs.Books.{Grant, Books, flush_at, is_other_grant, FliesFor, FailsCommit, Leaves}
+use Rattle.turn_laws.specs.Books.{Grant, Books, is_other_grant, FliesFor, FailsCommit, Leaves}
 use Rattle.turn_ties.specs.Plans.{image_held, image_once_left, planning_of, made_of}
 use Rattle.merge_laws.specs.Phases.{phase_of}
 use Rattle.merge_laws.specs.Plays.{Aloft, PlayState, FliesOnce, PlaysOpen, PlaysEnd}
 use Rattle.merge_laws.proofs.Lists.{among_at, with_one}
 use Rattle.walk_laws.specs.Brings.{BringingsStay}
 use Rattle.walk_laws.specs.Midway.{Midway, machine_beside, books_beside, PlansTurn}
-use Rattle.walk_laws.specs.Pairs.{Pair, commit_under, bringing_under, PairsBeside, IsOpenBeside, on_disk}
+use Rattle.walk_laws.specs.Pairs.{commit_under, PairsBeside, IsOpenBeside, on_disk}
 use Rattle.walk_laws.specs.Walk.{Bookkeeping, open_stamps, grants_in}
 use Rattle.walk_laws.proofs.Played.{PlayFits}
 use Rattle.walk_laws.proofs.Beside.{UsedBy, place_by, open_once, legal_run, amid}
@@ -50,14 +50,8 @@ module _ (kept : Bookkeeping) (place : TurnAt kept) where
   abbrev calm : CalmSo kept front at
   calm = place.calm
 
-  abbrev flush_is : (bringing_under kept.pairs turn.stamp.0).flush ≡ flush_at turn
-  flush_is = place.flush_is
-
   abbrev own : ℕ
   own = turn.stamp.0
-
-  abbrev pairs : ℕ → Pair
-  pairs = kept.pairs
 
   abbrev opens : List ℕ
   opens = open_stamps at
@@ -66,17 +60,17 @@ module _ (kept : Bookkeeping) (place : TurnAt kept) where
   mid = midway_of kept front at calm
 
   abbrev grants_now : List Grant
-  grants_now = grants_in pairs front
+  grants_now = grants_in kept.pairs front
 
   abbrev grants_then : List Grant
-  grants_then = grants_in pairs (front ++ turn ∷ [])
+  grants_then = grants_in kept.pairs (front ++ turn ∷ [])
 
-  midst : IsMidst (place_by pairs calm.volume at calm.used)
-  midst = amid pairs calm.volume at calm.used (open_once (λ stamp. phase_of stamp front) at so.fits) calm.imagined.beside calm.used_by
+  midst : IsMidst (place_by kept.pairs calm.volume at calm.used)
+  midst = amid kept.pairs calm.volume at calm.used (open_once (λ stamp. phase_of stamp front) at so.fits) calm.imagined.beside calm.used_by
 
   -- its commit is aloft
   module _ (before behind : List Aloft) (opened : Bool) (flies : FliesOnce at.aloft before behind (record { stamp = own; opened = opened }))
-      (number_is : turn.commit ≡ (commit_under pairs own).number) where
+      (number_is : turn.commit ≡ (commit_under kept.pairs own).number) where
     own_flies : IsOneOf (stamps_of at.aloft) own
     own_flies =
         to_map (λ (flight : Aloft). flight.stamp) at.aloft (record { stamp = own; opened = opened })
@@ -86,7 +80,7 @@ module _ (kept : Bookkeeping) (place : TurnAt kept) where
     own_open : IsOneOf opens own
     own_open = in_right at.waiting (stamps_of at.aloft) own own_flies
 
-    its : IsOpenBeside calm.volume (map (commit_under pairs) at.done) (pairs own)
+    its : IsOpenBeside calm.volume (map (commit_under kept.pairs) at.done) (kept.pairs own)
     its = calm.imagined.beside.opens own own_open
 
     other_flies : (other : Aloft) → IsOneOf (before ++ behind) other → IsOneOf (stamps_of at.aloft) other.stamp
@@ -96,16 +90,16 @@ module _ (kept : Bookkeeping) (place : TurnAt kept) where
 
     pub flies_there : FliesFor (machine_beside mid) turn
     flies_there = record {
-      flight = flight_of_flown (record { commit = commit_under pairs own; opened = opened });
+      flight = flight_of_flown (record { commit = commit_under kept.pairs own; opened = opened });
       flies =
           ap (flight_of (machine_beside mid)) number_is
-          ∙ flight_found pairs calm.volume at calm.used own midst before behind opened flies (λ other one differ.
+          ∙ flight_found kept.pairs calm.volume at calm.used own midst before behind opened flies (λ other one differ.
           let from = from_map (λ (flight : Aloft). flight.stamp) before other one in
           (calm.imagined.beside.apart own other own_open
           (in_right at.waiting (stamps_of at.aloft) other
           (subst (IsOneOf (stamps_of at.aloft)) from.2 (other_flies from.0 (in_left before behind from.0 from.1))))
           (λ e. differ (sym e))).numbers);
-      own = its.flush ∙ flush_is;
+      own = its.flush ∙ place.flush_is;
     }
 
     -- it fails
@@ -132,7 +126,7 @@ module _ (kept : Bookkeeping) (place : TurnAt kept) where
 
   -- it is opened
   module _ (before behind : List Aloft) (flies : FliesOnce at.aloft before behind (record { stamp = own; opened = false }))
-      (number_is : turn.commit ≡ (commit_under pairs own).number) (grants_are : grants_then ≡ grants_now) where
+      (number_is : turn.commit ≡ (commit_under kept.pairs own).number) (grants_are : grants_then ≡ grants_now) where
     abbrev open_now : PlayState
     open_now = record at { aloft = before ++ record { stamp = own; opened = true } ∷ behind }
 
@@ -148,15 +142,15 @@ module _ (kept : Bookkeeping) (place : TurnAt kept) where
         history = calm.imagined.history;
         layout = calm.imagined.layout;
         flushes = calm.imagined.flushes;
-        beside = subst (λ (l : List ℕ). PairsBeside pairs at.done (at.waiting ++ l) calm.volume) same_stamps calm.imagined.beside;
+        beside = subst (λ (l : List ℕ). PairsBeside kept.pairs at.done (at.waiting ++ l) calm.volume) same_stamps calm.imagined.beside;
         disk = calm.imagined.disk;
       };
       used = calm.used;
       used_by = λ number one.
           let was = calm.used_by number one in (was.0, subst (λ (l : List ℕ). IsOneOf (at.done ++ l) was.0) same_stamps was.1, was.2);
       grants =
-          subst (GrantsFit pairs (front ++ turn ∷ []) (open_stamps open_now)) (sym grants_are)
-          (fits_same pairs front turn opens grants_now calm.grants (open_stamps open_now)
+          subst (GrantsFit kept.pairs (front ++ turn ∷ []) (open_stamps open_now)) (sym grants_are)
+          (fits_same kept.pairs front turn opens grants_now calm.grants (open_stamps open_now)
           (λ stamp one. subst (λ (l : List ℕ). IsOneOf (at.waiting ++ l) stamp) (sym same_stamps) one));
     }
 
@@ -169,12 +163,12 @@ module _ (kept : Bookkeeping) (place : TurnAt kept) where
         taken =
             subst
             (λ (n : ℕ). Accepts (machine_beside mid) (event.Opened n) (machine_beside (midway_of kept (front ++ turn ∷ []) open_now opened_next)))
-            (sym number_is) (open_taken pairs calm.volume at calm.used own midst before behind flies.whole);
+            (sym number_is) (open_taken kept.pairs calm.volume at calm.used own midst before behind flies.whole);
         later_is = λ i. record (books_beside (midway_of kept (front ++ turn ∷ []) open_now opened_next)) { grants = grants_are i };
       };
     }
 
-  pub opens_step : (later : PlayState) → PlaysOpen at own later → turn.commit ≡ (commit_under pairs own).number → grants_then ≡ grants_now
+  pub opens_step : (later : PlayState) → PlaysOpen at own later → turn.commit ≡ (commit_under kept.pairs own).number → grants_then ≡ grants_now
       → StepsTo kept front turn at calm act.Opened later
   opens_step later plays number_is grants_are =
       subst (StepsTo kept front turn at calm act.Opened) (sym plays.later_is)
@@ -183,14 +177,14 @@ module _ (kept : Bookkeeping) (place : TurnAt kept) where
   -- it becomes durable
   module _ (stay : BringingsStay) (before behind : List Aloft)
       (flies : FliesOnce at.aloft before behind (record { stamp = own; opened = true }))
-      (number_is : turn.commit ≡ (commit_under pairs own).number) (grants_are : grants_then ≡ filter (is_other_grant own) grants_now) where
+      (number_is : turn.commit ≡ (commit_under kept.pairs own).number) (grants_are : grants_then ≡ filter (is_other_grant own) grants_now) where
     abbrev landed : PlayState
     landed = record at { done = at.done ++ own ∷ []; aloft = before ++ behind }
 
     abbrev here : IsOneOf opens own
     here = own_open before behind true flies number_is
 
-    abbrev ending : Ending pairs
+    abbrev ending : Ending kept.pairs
     ending = record {
       volume = calm.volume;
       done = at.done;
@@ -216,7 +210,7 @@ module _ (kept : Bookkeeping) (place : TurnAt kept) where
           )
     ]
 
-    landed_used : UsedBy pairs landed calm.used
+    landed_used : UsedBy kept.pairs landed calm.used
     landed_used number one =
         let was = calm.used_by number one in (
           was.0,
@@ -244,35 +238,35 @@ module _ (kept : Bookkeeping) (place : TurnAt kept) where
 
     abbrev landed_next : CalmSo kept (front ++ turn ∷ []) landed
     landed_next = record {
-      volume = ended stay pairs ending;
+      volume = ended stay kept.pairs ending;
       imagined = record {
-        stands = ended_stands stay pairs ending;
+        stands = ended_stands stay kept.pairs ending;
         first = calm.imagined.first;
         history = calm.imagined.history;
         layout = calm.imagined.layout;
         flushes =
-            ended_flushes stay pairs ending kept.start.flushes
+            ended_flushes stay kept.pairs ending kept.start.flushes
             calm.imagined.flushes;
         beside =
-            ended_beside stay pairs ending (open_stamps landed) landed_within;
+            ended_beside stay kept.pairs ending (open_stamps landed) landed_within;
         disk =
-            ended_disk stay pairs ending (on_disk kept.start)
+            ended_disk stay kept.pairs ending (on_disk kept.start)
             calm.imagined.disk;
       };
       used = calm.used;
       used_by = landed_used;
       grants =
-          subst (GrantsFit pairs (front ++ turn ∷ []) (open_stamps landed)) (sym grants_are)
-          (fits_taken pairs front turn opens grants_now calm.grants (open_stamps landed) landed_within);
+          subst (GrantsFit kept.pairs (front ++ turn ∷ []) (open_stamps landed)) (sym grants_are)
+          (fits_taken kept.pairs front turn opens grants_now calm.grants (open_stamps landed) landed_within);
     }
 
     abbrev brought : Rattle.flush_laws.specs.Volume.OneFsync
-    brought = ended_one stay pairs ending
+    brought = ended_one stay kept.pairs ending
 
     plans_there : PlansTurn calm.volume (planning_of brought) turn
     plans_there =
         let brings = (calm.imagined.beside.opens own here).brings in
-        planned_has mid brought turn calm.imagined.stands brings.planned brings.touched flush_is
+        planned_has mid brought turn calm.imagined.stands brings.planned brings.touched place.flush_is
 
     ends_now : StepsTo kept front turn at calm act.Durable landed
     ends_now =
@@ -286,9 +280,9 @@ module _ (kept : Bookkeeping) (place : TurnAt kept) where
                 subst
                 (λ (n : ℕ). Accepts (machine_beside mid) (event.Durable n) (machine_beside (midway_of kept (front ++ turn ∷ []) landed landed_next)))
                 (sym number_is)
-                (end_taken pairs calm.volume at calm.used own midst before behind landed_next.volume.cut landed_next.volume.inodes
-                (legal_run calm.volume (map (commit_under pairs) at.done) calm.imagined.stands)
-                (raises stay pairs ending) flies.whole);
+                (end_taken kept.pairs calm.volume at calm.used own midst before behind landed_next.volume.cut landed_next.volume.inodes
+                (legal_run calm.volume (map (commit_under kept.pairs) at.done) calm.imagined.stands)
+                (raises stay kept.pairs ending) flies.whole);
             made = made_of (planning_of brought);
             is_made = made_there mid (planning_of brought) turn plans_there;
             image = image_once_left calm.volume brought;
@@ -301,7 +295,7 @@ module _ (kept : Bookkeeping) (place : TurnAt kept) where
         }
 
   pub ends_step : BringingsStay → (later : PlayState) → PlaysEnd at own later
-      → turn.commit ≡ (commit_under pairs own).number → grants_then ≡ filter (is_other_grant own) grants_now
+      → turn.commit ≡ (commit_under kept.pairs own).number → grants_then ≡ filter (is_other_grant own) grants_now
       → StepsTo kept front turn at calm act.Durable later
   ends_step stay later plays number_is grants_are =
       subst (StepsTo kept front turn at calm act.Durable) (sym plays.later_is)
