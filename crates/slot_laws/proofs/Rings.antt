@@ -43,6 +43,27 @@ CameAs slots = Came (KeepsMarks slots) slots
 pub same_marks : (slots : Slots) (k : ℕ) (work : SlotWork) → KeepsMarks slots k work work
 same_marks slots k work = record { told = told_itself work; marks = λ n started. inl started }
 
+-- where all its records are placed in each image, a durable commit has a lower stamp than another that shares an inode
+pub placed_older : (slots : Slots) (k j : ℕ) (one other : SlotWork) → RingsFit slots → AreInSlots slots k j one other true true
+    → ((n : ℕ) → n < length one.job.entries → one.known.table_left n ≡ true) → ShareInode one.job other.job → one.job.stamp < other.job.stamp
+placed_older slots k j one other fits pair placed shares =
+    fits.started k j one other pair
+    (record {
+      n = shares.0;
+      placed = ap (λ (b : Bool). b || one.known.table_read shares.0) (placed shares.0 shares.1);
+      within = shares.1;
+      shared = shares.2;
+    })
+
+-- durable or not
+pub each_older : (slots : Slots) (k j : ℕ) (one other : SlotWork) → RingsFit slots → j ≢ k → slots k ≡ Some one → slots j ≡ Some other
+    → one.settled ≡ true → ((n : ℕ) → n < length one.job.entries → one.known.table_left n ≡ true) → ShareInode one.job other.job
+    → one.job.stamp < other.job.stamp
+each_older slots k j one other fits away here there durable placed shares = elim (true_or_false other.settled) [
+  | inl settled ↦ placed_older slots k j one other fits (in_slots (λ same. away (sym same)) here there durable settled) placed shares
+  | inr aloft ↦ fits.later k j one other (in_slots (λ same. away (sym same)) here there durable aloft) shares
+]
+
 pub rings_move : (slots later : Slots) → RingsFit slots → ((k : ℕ) (new : SlotWork) → later k ≡ Some new → CameAs slots k new) → RingsFit later
 rings_move slots later fits come = record {
   apart = λ j k one other pair shares.
@@ -346,22 +367,9 @@ module _ (layout : Layout) (before : ℕ) where
   shut_closes past k fits rule = record {
     work = rule.has.work;
     there = rule.has.there;
-    order = λ j other away at shares. by j other away at shares (true_or_false other.settled);
+    order = λ j other away at shares.
+        each_older past.slots k j rule.has.work other fits away rule.has.there at rule.has.aloft rule.placed shares;
   }
-    where
-      by : (j : ℕ) (other : SlotWork) → j ≢ k → past.slots j ≡ Some other → ShareInode rule.has.work.job other.job
-          → (other.settled ≡ true) ⊎ (other.settled ≡ false) → rule.has.work.job.stamp < other.job.stamp
-      by j other away at shares (inl durable) =
-          fits.started k j rule.has.work other (in_slots (λ same. away (sym same)) rule.has.there at rule.has.aloft durable)
-          (record {
-            n = shares.0;
-            placed = (first_or (rule.has.work.known.table_left shares.0) (rule.has.work.known.table_read shares.0)
-                (rule.placed shares.0 shares.1));
-            within = shares.1;
-            shared = shares.2;
-          })
-      by j other away at shares (inr flying) =
-          fits.later k j rule.has.work other (in_slots (λ same. away (sym same)) rule.has.there at rule.has.aloft flying) shares
 
   module _ (back : List (Event Label)) (core : CoreId) (k : ℕ) (done : Bool) where
     closes_at : (front : List (Event Label)) (past : BoxPast) → PastFits layout before past → RingsFit past.slots
