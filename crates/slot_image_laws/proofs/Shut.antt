@@ -50,7 +50,7 @@ module _ (gives : ℕ → List InodePart) (layout : Layout) (books : DiskBooks) 
       → GivesPart gives other i part_too → has.work.job.stamp < other.job.stamp
   oldest j i other part part_too away there given_is gave =
       let shares = share_given gives has.work other i part part_too own_fits.commit.records (box.works.each j other there).commit.records given_is gave in
-      each_older slots k j has.work other box.works.rings away has.there there has.aloft placed shares
+      each_older slots k box.works.rings has placed j other away there shares
 
   module _ (content : List ℕ) (told : old.content ≡ Some content) (was image : List ℕ) (left : images old was) where
     stood : StandsOpen gives layout books.base slots was

@@ -15,7 +15,7 @@ use Rattle.slot_laws.specs.declared.label.Label.{Label}
 use Rattle.slot_laws.specs.declared.label.Label.TheVariants as label
 use Rattle.slot_laws.specs.Slots.{SlotKnown, SlotWork, begun_work, knowing, known_synced, known_filled, known_placed, known_gated, settled_work, open_gate, shut_gate, Slots, with_at, with_number, without_number, changed_slot, synced_slots}
 use Rattle.slot_laws.specs.Labels.{BoxPast, first_past, after_label, past_from, fsync_told}
-use Rattle.slot_laws.specs.Rules.{inode_of_nth, HasRecordOf, IsOldestOf, MayLabel, MayFrom, ShutRule}
+use Rattle.slot_laws.specs.Rules.{inode_of_nth, HasRecordOf, IsOldestOf, MayLabel, MayFrom, ShutRule, HasWork}
 use Rattle.slot_laws.specs.Fits.{PastFits}
 use Rattle.slot_laws.specs.Rings.{ShareInode, BeginsApart, BeginApart, is_started, RingsFit, ClosesInOrder, SlotsCloseInOrder, AreInSlots}
 use Rattle.slot_laws.proofs.Basics.{at_same, at_other, none_there, either_true}
@@ -55,14 +55,14 @@ placed_older slots k j one other fits pair placed shares =
       shared = shares.2;
     })
 
--- durable or not
-pub each_older : (slots : Slots) (k j : ℕ) (one other : SlotWork) → RingsFit slots → j ≢ k → slots k ≡ Some one → slots j ≡ Some other
-    → one.settled ≡ true → ((n : ℕ) → n < length one.job.entries → one.known.table_left n ≡ true) → ShareInode one.job other.job
-    → one.job.stamp < other.job.stamp
-each_older slots k j one other fits away here there durable placed shares = elim (true_or_false other.settled) [
-  | inl settled ↦ placed_older slots k j one other fits (in_slots (λ same. away (sym same)) here there durable settled) placed shares
-  | inr aloft ↦ fits.later k j one other (in_slots (λ same. away (sym same)) here there durable aloft) shares
-]
+-- and so where the gate is open, whether the other is durable or not
+module _ (slots : Slots) (k : ℕ) (fits : RingsFit slots) (has : HasWork slots k true open_gate)
+    (placed : (n : ℕ) → n < length has.work.job.entries → has.work.known.table_left n ≡ true) where
+  pub each_older : (j : ℕ) (other : SlotWork) → j ≢ k → slots j ≡ Some other → ShareInode has.work.job other.job → has.work.job.stamp < other.job.stamp
+  each_older j other away there shares = elim (true_or_false other.settled) [
+    | inl settled ↦ placed_older slots k j has.work other fits (in_slots (λ same. away (sym same)) has.there there has.aloft settled) placed shares
+    | inr aloft ↦ fits.later k j has.work other (in_slots (λ same. away (sym same)) has.there there has.aloft aloft) shares
+  ]
 
 pub rings_move : (slots later : Slots) → RingsFit slots → ((k : ℕ) (new : SlotWork) → later k ≡ Some new → CameAs slots k new) → RingsFit later
 rings_move slots later fits come = record {
@@ -367,8 +367,7 @@ module _ (layout : Layout) (before : ℕ) where
   shut_closes past k fits rule = record {
     work = rule.has.work;
     there = rule.has.there;
-    order = λ j other away at shares.
-        each_older past.slots k j rule.has.work other fits away rule.has.there at rule.has.aloft rule.placed shares;
+    order = each_older past.slots k fits rule.has rule.placed;
   }
 
   module _ (back : List (Event Label)) (core : CoreId) (k : ℕ) (done : Bool) where
