@@ -7,7 +7,7 @@ use Rattle.sfs_base.proofs.BasicOptions.{some_same}
 use Rattle.sfs_image.specs.ImageOf.{InodePart, Transaction, with_opened, IsImageOf}
 use Rattle.sfs_image.specs.Super.{Layout}
 use Rattle.sfs_image.specs.Part.{Part, pointer_at}
-use Rattle.sfs_image.specs.ImageWrites.{AgreesOutside, LiesApart}
+use Rattle.sfs_image.specs.ImageWrites.{LiesApart}
 use Rattle.sfs_image.specs.Settled.{slot_byte}
 use Rattle.sfs_image.proofs.WrittenLaws.{data_written, body_written}
 use Rattle.sfs_dev.specs.Disk.{View, images}
@@ -30,7 +30,7 @@ use Rattle.slot_image_laws.proofs.Anew.{StillFits, gate_in, none_either}
 use Rattle.slot_image_laws.proofs.Given.{given_so}
 use Rattle.slot_image_laws.proofs.Shown.{gates_open}
 use Rattle.slot_image_laws.proofs.Regions.{DataPiece, low_slot, fill_lies, slot_within, data_within}
-use Rattle.slot_image_laws.proofs.Written.{IsElsewhere, plain_run, slot_elsewhere, data_elsewhere, opened_elsewhere}
+use Rattle.slot_image_laws.proofs.Written.{IsElsewhere, plain_run, slot_elsewhere, data_elsewhere, opened_elsewhere, agrees}
 
 pub mark_kept : (marks : ℕ → Bool) (n m : ℕ) → m ≢ n → marks m ≡ true → without_number marks n m ≡ true
 mark_kept marks n m away marked = ap (λ (b : Bool). not b && marks m) (not_same m n away) ∙ marked
@@ -111,9 +111,6 @@ module _ (gives : ℕ → List InodePart) (layout : Layout) (base : ℕ → Part
     gate = fits.gate;
     landed = λ settled. absurd (not_both settled aloft);
   }
-
-agrees : (at n : ℕ) (old new : List ℕ) → SameOutside at n old new → AgreesOutside at n old new
-agrees at n old new same = record { before = same.before; behind = same.after; size = same.size }
 
 -- the slot of a commit with a shut gate is open in no image
 module _ (gives : ℕ → List InodePart) (layout : Layout) (books : DiskBooks) (slots : Slots) (old : View) (box : IsBox gives layout books.base slots old)
@@ -220,8 +217,7 @@ fills_keep old new run turns slots k n done has low lawful is runs =
     plain_run run turns slots k (known_filled done n) old new
     (record {
       piece = piece;
-      work = has.work;
-      there = has.there;
+      has = (has.work, has.there);
       time = is.time;
       size = is.size;
       touches = touches;

@@ -20,7 +20,7 @@ use Rattle.slot_image_laws.specs.Commits.{WorkFits, opened_in, may_have, work_tr
 use Rattle.slot_image_laws.specs.Images.{HasGate, KnowsWork}
 use Rattle.slot_image_laws.proofs.Aside.{IsAside, knows_aside}
 use Rattle.slot_image_laws.proofs.Regions.{slot_within, gate_lies}
-use Rattle.slot_image_laws.proofs.Written.{IsElsewhere}
+use Rattle.slot_image_laws.proofs.Written.{IsElsewhere, agrees}
 use Rattle.slot_image_laws.proofs.Anew.{gate_in}
 use Rattle.slot_image_laws.proofs.Changed.{opened_still_at}
 use Rattle.slot_image_laws.proofs.Given.{stamped_is}
@@ -63,9 +63,8 @@ module _ (gives : ℕ → List InodePart) (layout : Layout) (base : ℕ → Part
       → SameOutside (gate_piece work.job.place byte).at (length (gate_piece work.job.place byte).bytes) was image
       → AgreesOutside (slot_byte layout k) 1 was image
   same_gate_byte was image same =
-      let own : SameOutside (slot_byte layout k) 1 was image =
-      subst (λ (place : Place). SameOutside (slot_byte place.layout place.slot) 1 was image) fits.place same in
-      record { before = own.before; behind = own.after; size = own.size }
+      agrees (slot_byte layout k) 1 was image
+      (subst (λ (place : Place). SameOutside (slot_byte place.layout place.slot) 1 was image) fits.place same)
 
   pub gate_large : (disk : View) → layout.blocks ≤ disk.size → IsLayout layout.blocks layout
       → (gate_piece work.job.place byte).at + length (gate_piece work.job.place byte).bytes ≤ 4096 * disk.size

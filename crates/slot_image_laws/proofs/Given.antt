@@ -1,5 +1,5 @@
 -- Which part an inode has in an image: that of the one open commit that gives it and is not durable, or the one that the disk stands for.
-use Rattle.std.proofs.Common.{◌≡◌, ◌∙◌, ◌||◌, ◌≢◌, ◌⊎◌, ℕ, List, Some, true, false, ap, refl, Bool, cond, None, Option, arith, sym, inl, inr, unwrap_or}
+use Rattle.std.proofs.Common.{◌≡◌, ◌∙◌, ◌≢◌, ◌⊎◌, ℕ, List, Some, true, false, ap, refl, Bool, cond, None, Option, arith, sym, inl, inr, unwrap_or}
 use Rattle.sfs_base.proofs.BasicOptions.{some_same}
 use Rattle.sfs_base.proofs.BasicTruth.{not_both, true_or_false}
 use Rattle.sfs_image.specs.ImageOf.{InodePart, Transaction, with_opened, part_given, given, IsGiver}
@@ -11,7 +11,7 @@ use Rattle.sfs_image.proofs.BytesLaws.{None-option_map}
 use Rattle.sfs_image.proofs.GivenLaws.{giver_of, given_by}
 use Rattle.slot_laws.specs.Slots.{Slots, SlotWork, may_be_open, open_gate}
 use Rattle.slot_laws.proofs.Basics.{none_there}
-use Rattle.slot_laws.proofs.Rings.{in_slots}
+use Rattle.slot_laws.proofs.Rings.{in_slots, placed_older}
 use Rattle.slot_image_laws.specs.Commits.{work_transaction, GivesPart, opened_in, may_have, WorksFit, StandsOpen, IsLastGiver}
 use Rattle.slot_image_laws.proofs.Anew.{gate_in, within}
 use Rattle.slot_image_laws.proofs.Records.{share_given}
@@ -53,7 +53,7 @@ record IsDurableGiver (gives : ℕ → List InodePart) (layout : Layout) (slots 
   part : Part
   giver : IsGiver layout (opened_in gives layout slots image) i k ours
   stamp : ours.stamp ≡ work.job.stamp
-  there : slots k ≡ Some work
+  is_open : IsOpen layout slots image k work
   durable : work.settled ≡ true
   given_is : GivesPart gives work i part
 
@@ -102,7 +102,7 @@ module _ (gives : ℕ → List InodePart) (layout : Layout) (base : ℕ → Part
     last_of : (i k : ℕ) (work : SlotWork) → IsDurableGiver gives layout slots image i k work → IsLastGiver gives slots k work i
     last_of i k work lasting j other part_too away here settled gave =
         let its = works.each j other here in
-        let own = works.each k work lasting.there in
+        let own = works.each k work lasting.is_open.there in
         elim (its.landed settled).opens [
           | inl gated ↦
               let low = within gives layout base slots works j other here in
@@ -112,25 +112,23 @@ module _ (gives : ℕ → List InodePart) (layout : Layout) (base : ℕ → Part
               omega arith
           | inr placed ↦
               let shares = share_given gives other work i part_too lasting.part its.commit.records own.commit.records gave lasting.given_is in
-              works.rings.started j k other work (in_slots away here lasting.there settled lasting.durable) (record {
-                n = shares.0;
-                placed = ap (λ (b : Bool). b || other.known.table_read shares.0) (placed shares.0 shares.1);
-                within = shares.1;
-                shared = shares.2;
-              })
+              placed_older slots j k other work works.rings (in_slots away here lasting.is_open.there settled lasting.durable) placed shares
         ]
 
     -- and no open commit that is not durable gives the inode too
-    none_newer : (i k : ℕ) (work : SlotWork) → IsDurableGiver gives layout slots image i k work → (j : ℕ) (other : SlotWork) (part_too : Part) → IsOpenFlight layout slots image j other → GivesPart gives other i part_too → ⊥
+    none_newer : (i k : ℕ) (work : SlotWork) → IsDurableGiver gives layout slots image i k work → (j : ℕ) (other : SlotWork)
+        (part_too : Part) → IsOpenFlight layout slots image j other → GivesPart gives other i part_too → ⊥
     none_newer i k work lasting j other part_too flight gave =
         let away : j ≢ k = λ same.
-        not_both (ap (λ (w : SlotWork). w.settled) (some_same (sym flight.is_open.there ∙ ap slots same ∙ lasting.there)) ∙ lasting.durable) flight.aloft in
+        not_both (ap (λ (w : SlotWork). w.settled) (some_same (sym flight.is_open.there ∙ ap slots same ∙ lasting.is_open.there)) ∙ lasting.durable)
+        flight.aloft in
         let low = within gives layout base slots works j other flight.is_open.there in
         let below = lasting.giver.newest j (record { stamp = other.job.stamp; value = part_too }) low away
         (given_there j other i part_too flight.is_open gave) in
-        let shares = share_given gives work other i lasting.part part_too (works.each k work lasting.there).commit.records
+        let shares = share_given gives work other i lasting.part part_too (works.each k work lasting.is_open.there).commit.records
         (works.each j other flight.is_open.there).commit.records lasting.given_is gave in
-        let above = works.rings.later k j work other (in_slots (λ same. away (sym same)) lasting.there flight.is_open.there lasting.durable flight.aloft) shares in
+        let above = works.rings.later k j work other
+        (in_slots (λ same. away (sym same)) lasting.is_open.there flight.is_open.there lasting.durable flight.aloft) shares in
         let stamp = lasting.stamp in
         omega arith
 
@@ -162,7 +160,7 @@ module _ (gives : ℕ → List InodePart) (layout : Layout) (base : ℕ → Part
                     part = part;
                     giver = giver.2;
                     stamp = stamp;
-                    there = own.is_open.there;
+                    is_open = own.is_open;
                     durable = durable;
                     given_is = given_is;
                   } in

@@ -1,5 +1,5 @@
 -- A slot is idle again, and a commit begins in one.
-use Rattle.std.proofs.Common.{◌≡◌, ◌≢◌, ◌∙◌, ◌<◌, ◌||◌, ℕ, List, true, None, Some, sym, ap, Bool, length, inl, inr, subst, Option, cond}
+use Rattle.std.proofs.Common.{◌≡◌, ◌≢◌, ◌∙◌, ◌<◌, ℕ, List, true, None, Some, sym, ap, length, inl, inr, subst, Option, cond}
 use Rattle.sfs_base.proofs.BasicOptions.{some_same}
 use Rattle.sfs_base.proofs.BasicTruth.{not_both}
 use Rattle.sfs_image.specs.ImageOf.{InodePart, Transaction, IsImageOf}
@@ -13,7 +13,7 @@ use Rattle.merge_laws.proofs.Blocks.{same_or_not}
 use Rattle.slot_laws.specs.Slots.{Slots, shut_gate, SlotWork, with_at, open_gate, place_at, KnownGate, may_be_open}
 use Rattle.slot_laws.specs.Rules.{HasWork}
 use Rattle.slot_laws.proofs.Basics.{none_there, at_same, at_other}
-use Rattle.slot_laws.proofs.Rings.{in_slots, rings_move, KeepsMarks, same_marks}
+use Rattle.slot_laws.proofs.Rings.{in_slots, rings_move, KeepsMarks, same_marks, placed_older}
 use Rattle.slot_laws.proofs.Came.{idled_came}
 use Rattle.slot_image_laws.specs.Commits.{WorksFit, GivesPart, IsLanded, may_have, work_transaction}
 use Rattle.slot_image_laws.specs.Laws.{IdlesKeep}
@@ -37,12 +37,8 @@ module _ (gives : ℕ → List InodePart) (layout : Layout) (base : ℕ → Part
       let fits = works.each k has.work has.there in
       let its = works.each j work there in
       let shares = share_given gives has.work work i part part_too fits.commit.records its.commit.records given given_too in
-      works.rings.started k j has.work work (in_slots (λ same. away (sym same)) has.there there has.aloft durable) (record {
-        n = shares.0;
-        placed = ap (λ (b : Bool). b || has.work.known.table_read shares.0) (all_placed (fits.landed has.aloft) shares.0 shares.1);
-        within = shares.1;
-        shared = shares.2;
-      })
+      placed_older slots k j has.work work works.rings (in_slots (λ same. away (sym same)) has.there there has.aloft durable)
+      (all_placed (fits.landed has.aloft)) shares
     where
       all_placed : IsLanded has.work → (n : ℕ) → n < length has.work.job.entries → has.work.known.table_left n ≡ true
       all_placed landed n low = elim landed.opens [

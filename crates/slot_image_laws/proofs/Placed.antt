@@ -30,7 +30,7 @@ use Rattle.slot_image_laws.proofs.Changed.{less_marked}
 use Rattle.slot_image_laws.proofs.Filled.{read_after, marked_after, mark_kept}
 use Rattle.slot_image_laws.proofs.Aside.{IsAside, knows_aside, touches_by}
 use Rattle.slot_image_laws.proofs.Regions.{TablePiece, table_lies, low_slot, table_within}
-use Rattle.slot_image_laws.proofs.Written.{IsElsewhere, table_elsewhere, plain_run, opened_elsewhere}
+use Rattle.slot_image_laws.proofs.Written.{IsElsewhere, table_elsewhere, plain_run, opened_elsewhere, agrees}
 use Rattle.slot_image_laws.proofs.Given.{none_given}
 
 -- no part, where there is none
@@ -139,7 +139,7 @@ module _ (gives : ℕ → List InodePart) (layout : Layout) (books : DiskBooks) 
         (record {
           from = 0;
           n = length (table_piece has.work.job n).bytes;
-          written = record { before = same_at.before; behind = same_at.after; size = same_at.size };
+          written = agrees (table_byte layout inode + 0) (length (table_piece has.work.job n).bytes) was image same_at;
           within = let below = own_lies.below in omega arith;
           fits = omega (arith, own_lies.long);
           taken = λ i from high none.
@@ -157,7 +157,8 @@ module _ (gives : ℕ → List InodePart) (layout : Layout) (books : DiskBooks) 
 
     placed_stands : IsElsewhere layout slots k (table_piece has.work.job n) → StandsOpen gives layout books.base slots image
     placed_stands apart =
-        subst (λ (opened : ℕ → Option Transaction). IsImageOf layout opened books.base image) (sym (opened_elsewhere gives layout books.base slots box.works k has.work has.there (table_piece has.work.job n) apart
+        subst (λ (opened : ℕ → Option Transaction). IsImageOf layout opened books.base image)
+        (sym (opened_elsewhere gives layout books.base slots box.works k has.work has.there (table_piece has.work.job n) apart
         (table_from_gate has.work.job own_fits.is n 1) was image same))
         table_keeps
 
@@ -166,8 +167,7 @@ places_keep old new run turns slots k n done has low oldest lawful is runs =
     plain_run run turns slots k (known_placed done n) old new
     (record {
       piece = piece;
-      work = has.work;
-      there = has.there;
+      has = (has.work, has.there);
       time = is.time;
       size = is.size;
       touches = touches;

@@ -38,9 +38,6 @@ module _ (gives : ℕ → List InodePart) (layout : Layout) (base : ℕ → Part
   abbrev later : Slots
   later = changed_slot slots k settled_work
 
-  abbrev new_base : ℕ → Part
-  new_base = parts_over (gives work.commit) base
-
   -- the part of an inode that the commit does not give stays
   pub base_stays : (i : ℕ) → ((part : Part) → GivesPart gives has.work i part → ⊥) → parts_over (gives has.work.commit) base i ≡ base i
   base_stays i none = elim (over_or (gives work.commit) base i) [
@@ -73,7 +70,7 @@ module _ (gives : ℕ → List InodePart) (layout : Layout) (base : ℕ → Part
   parts_still : (j : ℕ) (other : SlotWork) → j ≢ k → slots j ≡ Some other → other.settled ≡ false → TurnsParts gives layout base other
       → TurnsParts gives layout (parts_over (gives has.work.commit) base) other
   parts_still j other away there aloft turns = record {
-    turns = All-from_get_or (λ (own : InodePart). TurnsInto other.job.fresh (new_base own.inode) own.part) (gives other.commit) no_part
+    turns = All-from_get_or (λ (own : InodePart). TurnsInto other.job.fresh (parts_over (gives work.commit) base own.inode) own.part) (gives other.commit) no_part
         (λ n low.
         let own = get_or (gives other.commit) n no_part in
         subst (λ (p : Part). TurnsInto other.job.fresh p own.part) (sym (stays own.inode (gave_some n low)))
@@ -116,7 +113,7 @@ module _ (gives : ℕ → List InodePart) (layout : Layout) (base : ℕ → Part
     each = λ j other there. elim (same_or_not j k) [
       | inl same ↦
           let own = works.each k work has.there in
-          subst (WorkFits gives layout new_base j) (settled_one j other same there) (record {
+          subst (WorkFits gives layout (parts_over (gives work.commit) base) j) (settled_one j other same there) (record {
             place = own.place ∙ ap (place_at layout) (sym same);
             is = own.is;
             commit = record { records = own.commit.records; pointers = own.commit.pointers; whole = own.commit.whole; own = own.commit.own };
@@ -145,8 +142,8 @@ module _ (gives : ℕ → List InodePart) (layout : Layout) (base : ℕ → Part
     rings = settled_fits slots k work works.rings has.there has.aloft;
     apart = λ i j one other pair.
         works.apart i j one other
-        (in_slots pair.away (before i one (aloft_elsewhere slots k work has.there i one pair.here pair.one_is) pair.here) (before j other (aloft_elsewhere slots k work has.there j other pair.there pair.other_is) pair.there)
-        pair.one_is pair.other_is);
+        (in_slots pair.away (before i one (aloft_elsewhere slots k work has.there i one pair.here pair.one_is) pair.here)
+        (before j other (aloft_elsewhere slots k work has.there j other pair.there pair.other_is) pair.there) pair.one_is pair.other_is);
     newest = λ j i one part there durable given_is last. elim (same_or_not j k) [
       | inl same ↦
           over_given gives work i part base (subst (λ (w : SlotWork). GivesPart gives w i part) (sym (settled_one j one same there)) given_is)

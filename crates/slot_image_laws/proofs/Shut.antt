@@ -1,7 +1,7 @@
 -- The gate of a slot is written shut, or that failed.
-use Rattle.std.proofs.Common.{◌<◌, ◌≡◌, ◌≢◌, ◌||◌, ◌∙◌, ◌+◌, ◌≤◌, ◌*◌, ℕ, List, true, length, Some, inl, sym, ap, Bool, inr, arith, subst, Option, get_or, None, refl, option_map, cond, false}
+use Rattle.std.proofs.Common.{◌<◌, ◌≡◌, ◌≢◌, ◌∙◌, ◌+◌, ◌≤◌, ◌*◌, ℕ, List, true, length, Some, inl, sym, ap, Bool, inr, arith, subst, Option, get_or, None, refl, option_map, cond, false}
 use Rattle.std.proofs.lemmas.List.Elements.{All-from_get_or}
-use Rattle.sfs_base.proofs.BasicTruth.{true_or_false, not_both}
+use Rattle.sfs_base.proofs.BasicTruth.{not_both}
 use Rattle.sfs_base.proofs.BasicOptions.{some_same}
 use Rattle.sfs_image.specs.ImageOf.{InodePart, part_given, Transaction, given, with_slot, with_opened, IsImageOf}
 use Rattle.sfs_image.specs.Super.{Layout}
@@ -22,7 +22,7 @@ use Rattle.journal_one.proofs.Bodies.{placed_in_table}
 use Rattle.journal_one.proofs.Kept.{Touches, gate_put, written_stands}
 use Rattle.slot_laws.specs.Slots.{Slots, open_gate, SlotWork, may_be_open, changed_slot, knowing, known_gated, shut_gate}
 use Rattle.slot_laws.specs.Rules.{HasWork}
-use Rattle.slot_laws.proofs.Rings.{in_slots, rings_move, marks_as}
+use Rattle.slot_laws.proofs.Rings.{rings_move, marks_as, each_older}
 use Rattle.slot_laws.proofs.Basics.{none_there, at_same}
 use Rattle.slot_image_laws.specs.Images.{DiskBooks, IsBox, KnowsWork, KnowsSlot, disk_books}
 use Rattle.slot_image_laws.specs.Commits.{WorkFits, GivesPart, StandsOpen, opened_in, work_transaction, may_have}
@@ -50,16 +50,7 @@ module _ (gives : ℕ → List InodePart) (layout : Layout) (books : DiskBooks) 
       → GivesPart gives other i part_too → has.work.job.stamp < other.job.stamp
   oldest j i other part part_too away there given_is gave =
       let shares = share_given gives has.work other i part part_too own_fits.commit.records (box.works.each j other there).commit.records given_is gave in
-      elim (true_or_false other.settled) [
-        | inl settled ↦
-            box.works.rings.started k j has.work other (in_slots (λ same. away (sym same)) has.there there has.aloft settled) (record {
-              n = shares.0;
-              placed = ap (λ (b : Bool). b || has.work.known.table_read shares.0) (placed shares.0 shares.1);
-              within = shares.1;
-              shared = shares.2;
-            })
-        | inr aloft ↦ box.works.rings.later k j has.work other (in_slots (λ same. away (sym same)) has.there there has.aloft aloft) shares
-      ]
+      each_older slots k box.works.rings has placed j other away there shares
 
   module _ (content : List ℕ) (told : old.content ≡ Some content) (was image : List ℕ) (left : images old was) where
     stood : StandsOpen gives layout books.base slots was

@@ -105,7 +105,7 @@ module _ (run : RunStart) (books : DiskBooks) (three : EmptyTurns) (commit : ℕ
 
       both_same : durable ≡ books
       both_same =
-          ap (λ (l : List InodePart). record { base = parts_over l books.base; flying = filter (λ (other : ℕ). not (nat_eq other commit)) (books.flying ++ commit ∷ []) }) nothing
+          ap (λ (l : List InodePart). record { base = parts_over l books.base; flying = durable.flying }) nothing
           ∙ ap (λ (l : List ℕ). record { base = books.base; flying = l }) flying_same
 
 pub empty_commits_keep : (disk : View) → EmptyCommitsKeep disk

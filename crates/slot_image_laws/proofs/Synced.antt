@@ -121,17 +121,17 @@ syncs_keep old new run turns slots lawful is runs =
       box = record {
         large = omega (arith, runs.box.large, is.size);
         fits = runs.box.fits;
-        works = works_anew run.gives run.layout base slots (λ _. known_synced) runs.box.works
+        works = works_anew run.gives run.layout (disk_books run turns).base slots (λ _. known_synced) runs.box.works
             (rings_move slots (synced_slots slots) runs.box.works.rings (synced_came (KeepsMarks slots) slots (synced_as slots)))
-            (λ k work there. still_synced run.gives run.layout base k work (runs.box.works.each k work there));
+            (λ k work there. still_synced run.gives run.layout (disk_books run turns).base k work (runs.box.works.each k work there));
         knows = λ k low. knows_synced run.layout old new rests (is.ok refl) k (slots k) (runs.box.knows k low);
         stands = λ content told image left.
-            subst (λ (opened : ℕ → Option Transaction). IsImageOf run.layout opened base image)
+            subst (λ (opened : ℕ → Option Transaction). IsImageOf run.layout opened (disk_books run turns).base image)
             (sym (opened_same run.gives run.layout slots (synced_slots slots) image
             (λ k gated. stays k (slots k) refl content told image left gated)))
             (runs.box.stands content (told_before content told) image (rests.left content told image left));
       };
-      matches = matches_anew run.gives run.layout base slots (λ _. known_synced) (disk_books run turns).flying runs.matches
+      matches = matches_anew run.gives run.layout (disk_books run turns).base slots (λ _. known_synced) (disk_books run turns).flying runs.matches
           (λ k work there aloft. (runs.box.works.each k work there).gate aloft);
       trail = trail_goes run turns old new is.time (λ content told. (content, told_before content told)) runs.trail
           (λ content told counts image left.
@@ -139,9 +139,6 @@ syncs_keep old new run turns slots lawful is runs =
           (rests.left content told image left));
     }
   where
-    base : ℕ → Part
-    base = (disk_books run turns).base
-
     rests : Rests old new
     rests = rests_synced old new lawful is
 
@@ -154,7 +151,7 @@ syncs_keep old new run turns slots lawful is runs =
     stays k None there content told image left gated = refl
     stays k (Some work) there content told image left gated =
         let fits = runs.box.works.each k work there in
-        let low : k < slot_count run.layout = within run.gives run.layout base slots runs.box.works k work there in
+        let low : k < slot_count run.layout = within run.gives run.layout (disk_books run turns).base slots runs.box.works k work there in
         let knows : KnowsWork work old = subst (λ (o : Option SlotWork). KnowsSlot run.layout k o old) there (runs.box.knows k low) in
         let has = leaves_from_reads new (HasGate work.known.gate_read work.job.place) (is.ok refl)
         (reads_rest old new (HasGate work.known.gate_read work.job.place) rests knows.gate_read) content told image left in

@@ -1,4 +1,5 @@
 -- A piece is written, and the gate of its slot may be open as before.
+use Rattle.sfs_image.specs.ImageWrites.{AgreesOutside}
 use Rattle.merge_laws.proofs.Blocks.{same_or_not}
 use Rattle.std.proofs.Common.{◌<◌, ◌≢◌, ◌≡◌, ◌+◌, ◌≤◌, ◌*◌, ℕ, Some, List, subst, arith, sym, inr, inl, length, true, false, Option, ◌∙◌, ap}
 use Rattle.sfs_base.proofs.BasicTruth.{true_or_false, not_both}
@@ -25,6 +26,10 @@ use Rattle.slot_image_laws.proofs.Anew.{StillFits, opened_same, gate_in, within}
 use Rattle.slot_image_laws.proofs.Trails.{trail_goes}
 use Rattle.slot_image_laws.proofs.Shown.{shown}
 use Rattle.slot_image_laws.proofs.Changed.{changed_matches, changed_works, changed_knows, changed_may, opened_still}
+
+-- the same of two lists of bytes, in the words of images
+pub agrees : (at n : ℕ) (old new : List ℕ) → SameOutside at n old new → AgreesOutside at n old new
+agrees at n old new same = record { before = same.before; behind = same.after; size = same.size }
 
 -- A piece lies apart from what is known of the other slots.
 pub record IsElsewhere (layout : Layout) (slots : Slots) (k : ℕ) (piece : Piece) : Type 0 where
@@ -124,15 +129,14 @@ module _ (gives : ℕ → List InodePart) (layout : Layout) (base : ℕ → Part
 -- A piece is written that opens and shuts no gate, and of one slot's commit something else is known.
 pub record IsPlainWrite (run : RunStart) (turns : List Turn) (slots : Slots) (k : ℕ) (change : SlotKnown → SlotKnown) (old new : View) : Type 0 where
   pub piece : Piece
-  pub work : SlotWork
-  pub there : slots k ≡ Some work
+  pub has : (work : SlotWork) × (slots k ≡ Some work)
   pub time : Elapses old new
   pub size : new.size ≡ old.size
   pub touches : Touches piece old new
-  pub same_gate : may_be_open (change work.known).gate_left ≡ may_be_open work.known.gate_left
+  pub same_gate : may_be_open (change has.0.known).gate_left ≡ may_be_open has.0.known.gate_left
   pub rings : RingsFit (changed_slot slots k (knowing change))
-  pub still : StillFits (knowing change work)
-  pub own : KnowsWork (knowing change work) new
+  pub still : StillFits (knowing change has.0)
+  pub own : KnowsWork (knowing change has.0) new
   pub elsewhere : IsElsewhere run.layout slots k piece
   pub stays : (content : List ℕ) → old.content ≡ Some content → (was image : List ℕ) → images old was
       → SameOutside piece.at (length piece.bytes) was image → StandsOpen run.gives run.layout (disk_books run turns).base slots image
@@ -154,20 +158,20 @@ plain_run run turns slots k change old new plain runs =
     later = changed_slot slots k (knowing change)
 
     matches : Matches books.flying later
-    matches = changed_matches run.gives run.layout books.base slots k plain.work plain.there change plain.same_gate books.flying runs.matches
+    matches = changed_matches run.gives run.layout books.base slots k plain.has.0 plain.has.1 change plain.same_gate books.flying runs.matches
 
     box : IsBox run.gives run.layout books.base later new
     box = record {
       large = omega (arith, runs.box.large, plain.size);
       fits = runs.box.fits;
-      works = changed_works run.gives run.layout books.base slots k plain.work plain.there change runs.box.works plain.rings plain.still;
-      knows = changed_knows run.gives run.layout books.base slots k plain.work plain.there change plain.piece old new plain.touches runs.box.works plain.own plain.elsewhere.gates
-          plain.elsewhere.others runs.box.knows;
+      works = changed_works run.gives run.layout books.base slots k plain.has.0 plain.has.1 change runs.box.works plain.rings plain.still;
+      knows = changed_knows run.gives run.layout books.base slots k plain.has.0 plain.has.1 change plain.piece old new plain.touches
+          runs.box.works plain.own plain.elsewhere.gates plain.elsewhere.others runs.box.knows;
       stands = λ content told image left.
           let was = plain.touches.read content told in
           let before = plain.touches.left image left in
           subst (λ (opened : ℕ → Option Transaction). IsImageOf run.layout opened books.base image)
           (sym (opened_same run.gives run.layout slots later image
-          (λ j gated. changed_may run.gives run.layout books.base slots k plain.work plain.there change plain.same_gate j)))
+          (λ j gated. changed_may run.gives run.layout books.base slots k plain.has.0 plain.has.1 change plain.same_gate j)))
           (plain.stays was.0 was.1 before.0 image before.1 before.2);
     }

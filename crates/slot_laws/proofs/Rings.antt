@@ -15,7 +15,7 @@ use Rattle.slot_laws.specs.declared.label.Label.{Label}
 use Rattle.slot_laws.specs.declared.label.Label.TheVariants as label
 use Rattle.slot_laws.specs.Slots.{SlotKnown, SlotWork, begun_work, knowing, known_synced, known_filled, known_placed, known_gated, settled_work, open_gate, shut_gate, Slots, with_at, with_number, without_number, changed_slot, synced_slots}
 use Rattle.slot_laws.specs.Labels.{BoxPast, first_past, after_label, past_from, fsync_told}
-use Rattle.slot_laws.specs.Rules.{inode_of_nth, HasRecordOf, IsOldestOf, MayLabel, MayFrom, ShutRule}
+use Rattle.slot_laws.specs.Rules.{inode_of_nth, HasRecordOf, IsOldestOf, MayLabel, MayFrom, ShutRule, HasWork}
 use Rattle.slot_laws.specs.Fits.{PastFits}
 use Rattle.slot_laws.specs.Rings.{ShareInode, BeginsApart, BeginApart, is_started, RingsFit, ClosesInOrder, SlotsCloseInOrder, AreInSlots}
 use Rattle.slot_laws.proofs.Basics.{at_same, at_other, none_there, either_true}
@@ -42,6 +42,27 @@ CameAs slots = Came (KeepsMarks slots) slots
 
 pub same_marks : (slots : Slots) (k : ℕ) (work : SlotWork) → KeepsMarks slots k work work
 same_marks slots k work = record { told = told_itself work; marks = λ n started. inl started }
+
+-- where all its records are placed in each image, a durable commit has a lower stamp than another that shares an inode
+pub placed_older : (slots : Slots) (k j : ℕ) (one other : SlotWork) → RingsFit slots → AreInSlots slots k j one other true true
+    → ((n : ℕ) → n < length one.job.entries → one.known.table_left n ≡ true) → ShareInode one.job other.job → one.job.stamp < other.job.stamp
+placed_older slots k j one other fits pair placed shares =
+    fits.started k j one other pair
+    (record {
+      n = shares.0;
+      placed = ap (λ (b : Bool). b || one.known.table_read shares.0) (placed shares.0 shares.1);
+      within = shares.1;
+      shared = shares.2;
+    })
+
+-- and so where the gate is open, whether the other is durable or not
+module _ (slots : Slots) (k : ℕ) (fits : RingsFit slots) (has : HasWork slots k true open_gate)
+    (placed : (n : ℕ) → n < length has.work.job.entries → has.work.known.table_left n ≡ true) where
+  pub each_older : (j : ℕ) (other : SlotWork) → j ≢ k → slots j ≡ Some other → ShareInode has.work.job other.job → has.work.job.stamp < other.job.stamp
+  each_older j other away there shares = elim (true_or_false other.settled) [
+    | inl settled ↦ placed_older slots k j has.work other fits (in_slots (λ same. away (sym same)) has.there there has.aloft settled) placed shares
+    | inr aloft ↦ fits.later k j has.work other (in_slots (λ same. away (sym same)) has.there there has.aloft aloft) shares
+  ]
 
 pub rings_move : (slots later : Slots) → RingsFit slots → ((k : ℕ) (new : SlotWork) → later k ≡ Some new → CameAs slots k new) → RingsFit later
 rings_move slots later fits come = record {
@@ -346,22 +367,8 @@ module _ (layout : Layout) (before : ℕ) where
   shut_closes past k fits rule = record {
     work = rule.has.work;
     there = rule.has.there;
-    order = λ j other away at shares. by j other away at shares (true_or_false other.settled);
+    order = each_older past.slots k fits rule.has rule.placed;
   }
-    where
-      by : (j : ℕ) (other : SlotWork) → j ≢ k → past.slots j ≡ Some other → ShareInode rule.has.work.job other.job
-          → (other.settled ≡ true) ⊎ (other.settled ≡ false) → rule.has.work.job.stamp < other.job.stamp
-      by j other away at shares (inl durable) =
-          fits.started k j rule.has.work other (in_slots (λ same. away (sym same)) rule.has.there at rule.has.aloft durable)
-          (record {
-            n = shares.0;
-            placed = (first_or (rule.has.work.known.table_left shares.0) (rule.has.work.known.table_read shares.0)
-                (rule.placed shares.0 shares.1));
-            within = shares.1;
-            shared = shares.2;
-          })
-      by j other away at shares (inr flying) =
-          fits.later k j rule.has.work other (in_slots (λ same. away (sym same)) rule.has.there at rule.has.aloft flying) shares
 
   module _ (back : List (Event Label)) (core : CoreId) (k : ℕ) (done : Bool) where
     closes_at : (front : List (Event Label)) (past : BoxPast) → PastFits layout before past → RingsFit past.slots
