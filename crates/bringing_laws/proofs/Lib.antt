@@ -1,0 +1,4 @@
+pub mod Again
+pub mod Raised
+pub mod Inodes
+pub mod Plans
