@@ -2,3 +2,4 @@ pub mod Again
 pub mod Raised
 pub mod Inodes
 pub mod Plans
+pub mod Entries

@@ -1,4 +1,5 @@
 //! What is proved of the definitions: each function's contract is a law.
+ghost use Rattle.bringing_laws.specs.Entries.{EntriesStay};
 ghost use Rattle.bringing_laws.specs.Laws.{ConcernsStay, RaisesStay};
 ghost use Rattle.bringing_laws.specs.Plans.{PlansStay};
 
@@ -15,4 +16,9 @@ pub fn raises_stay()
 /// Its plan leads from the tree that the other one left to the one that it makes of it.
 pub fn plans_stay()
     ensures { PlansStay }
+{}
+
+/// The old entries of its plan are those that memory has of its nodes once the other one is on the disk.
+pub fn entries_stay()
+    ensures { EntriesStay }
 {}
