@@ -3,3 +3,4 @@ pub mod Raised
 pub mod Inodes
 pub mod Plans
 pub mod Entries
+pub mod Free

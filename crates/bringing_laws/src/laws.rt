@@ -1,5 +1,6 @@
 //! What is proved of the definitions: each function's contract is a law.
 ghost use Rattle.bringing_laws.specs.Entries.{EntriesStay};
+ghost use Rattle.bringing_laws.specs.Free.{InodesStayFree};
 ghost use Rattle.bringing_laws.specs.Laws.{ConcernsStay, RaisesStay};
 ghost use Rattle.bringing_laws.specs.Plans.{PlansStay};
 
@@ -21,4 +22,9 @@ pub fn plans_stay()
 /// The old entries of its plan are those that memory has of its nodes once the other one is on the disk.
 pub fn entries_stay()
     ensures { EntriesStay }
+{}
+
+/// An inode that is free stays so once an fsync is on the disk that was not granted it.
+pub fn inodes_stay_free()
+    ensures { InodesStayFree }
 {}
