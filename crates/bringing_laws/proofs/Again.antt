@@ -127,4 +127,4 @@ module _ (first : TreeState) (history : List Entry) (cut : Cut) (inodes : â„• â†
   same_concerns node = (concerned_then, concerned_before)
 
 pub concerns_stay : ConcernsStay
-concerns_stay first history cut inodes mine theirs raised after is = same_concerns first history cut inodes mine theirs raised after is
+concerns_stay two is = same_concerns two.first two.history two.cut two.inodes two.mine two.theirs two.raised two.after is

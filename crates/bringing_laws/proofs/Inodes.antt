@@ -207,5 +207,5 @@ module _ (first : TreeState) (history : List Entry) (cut : Cut) (inodes : â„• â†
   )
 
 pub raises_stay : RaisesStay
-raises_stay first history cut inodes mine theirs raised after sound legal is once =
-    made_again first history cut inodes mine theirs raised after sound legal is once
+raises_stay two sound legal is once =
+    made_again two.first two.history two.cut two.inodes two.mine two.theirs two.raised two.after sound legal is once

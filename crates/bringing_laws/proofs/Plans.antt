@@ -181,5 +181,5 @@ module _ (first : TreeState) (history : List Entry) (cut : Cut) (inodes : â„• â†
   }
 
 pub plans_stay : PlansStay
-plans_stay first history cut inodes mine theirs raised after is short once again same plan leads =
-    leads_again first history cut inodes mine theirs raised after is short once again same plan leads
+plans_stay two is short once again same plan leads =
+    leads_again two.first two.history two.cut two.inodes two.mine two.theirs two.raised two.after is short once again same plan leads

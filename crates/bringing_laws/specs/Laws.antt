@@ -16,12 +16,26 @@ pub record RaisesBeside (first : TreeState) (history : List Entry) (cut : Cut) (
   pub apart : (node : ℕ) → IsConcerned first history every_entry cut inodes mine node
       → IsConcerned first history every_entry cut inodes theirs node → ⊥
 
+-- Two fsyncs, with the cut that both are planned over, and what one of them raises and leaves.
+pub record TwoFsyncs : Type 0 where
+  pub first : TreeState
+  pub history : List Entry
+  pub cut : Cut
+  pub inodes : ℕ → Bool
+  pub mine : Flush
+  pub theirs : Flush
+  pub raised : Cut
+  pub after : ℕ → Bool
+
+-- they are so
+abbrev pub AreBeside : TwoFsyncs → Type 0
+AreBeside two = RaisesBeside two.first two.history two.cut two.inodes two.mine two.theirs two.raised two.after
+
 -- The other one concerns then the nodes that it did before.
 abbrev pub ConcernsStay : Type 0
-ConcernsStay =
-    (first : TreeState) (history : List Entry) (cut : Cut) (inodes : ℕ → Bool) (mine theirs : Flush) (raised : Cut) (after : ℕ → Bool)
-    → RaisesBeside first history cut inodes mine theirs raised after → (node : ℕ)
-    → IsConcerned first history every_entry cut inodes mine node ↔ IsConcerned first history every_entry raised after mine node
+ConcernsStay = (two : TwoFsyncs) → AreBeside two → (node : ℕ)
+    → IsConcerned two.first two.history every_entry two.cut two.inodes two.mine node
+    ↔ IsConcerned two.first two.history every_entry two.raised two.after two.mine node
 
 -- What an fsync makes over a cut: where it raises it to, which nodes then have an inode, and the nodes that it concerns.
 pub record Makes (first : TreeState) (history : List Entry) (cut : Cut) (inodes : ℕ → Bool) (flush : Flush) : Type 0 where
@@ -42,9 +56,14 @@ pub record MakesTheSame {first : TreeState} {history : List Entry} {cut raised :
   pub other_stamps : (node : ℕ) → (IsOneOf once.nodes node → ⊥) → cut_of again.raised node ≡ cut_of raised node
   pub other_inodes : (node : ℕ) → (IsOneOf once.nodes node → ⊥) → again.after node ≡ after node
 
+-- what the other one makes over the first cut, and what over the one that was raised
+abbrev pub MakesBefore : TwoFsyncs → Type 0
+MakesBefore two = Makes two.first two.history two.cut two.inodes two.mine
+
+abbrev pub MakesBehind : TwoFsyncs → Type 0
+MakesBehind two = Makes two.first two.history two.raised two.after two.mine
+
 -- So does the other one, over what the one that is on the disk has raised and left.
 abbrev pub RaisesStay : Type 0
-RaisesStay =
-    (first : TreeState) (history : List Entry) (cut : Cut) (inodes : ℕ → Bool) (mine theirs : Flush) (raised : Cut) (after : ℕ → Bool)
-    → IsSoundTree first → IsLegal first history → RaisesBeside first history cut inodes mine theirs raised after
-    → (once : Makes first history cut inodes mine) → (again : Makes first history raised after mine) × MakesTheSame once again
+RaisesStay = (two : TwoFsyncs) → IsSoundTree two.first → IsLegal two.first two.history → AreBeside two → (once : MakesBefore two)
+    → (again : MakesBehind two) × MakesTheSame once again

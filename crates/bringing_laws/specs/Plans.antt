@@ -12,7 +12,7 @@ use Rattle.cut_laws.specs.Closure.{Flush}
 use Rattle.cut_laws.specs.Cut.{Cut, cut_of, tree_at_cut}
 use Rattle.flush_laws.specs.Planned.{HasNets, HasMoves, HasFiles}
 use Rattle.turn_laws.specs.Touched.{is_touched_between}
-use Rattle.bringing_laws.specs.Laws.{RaisesBeside, Makes, MakesTheSame}
+use Rattle.bringing_laws.specs.Laws.{TwoFsyncs, AreBeside, Makes, MakesBefore, MakesBehind, MakesTheSame}
 
 -- A plan leads from the tree at a cut to that at the cut which an fsync raises: it has the nets of its directories, the nodes that get and lose an
 -- inode, and what becomes of files; it changes only files that the fsync concerns, and of each that then has an inode it has a page of each block that a
@@ -33,8 +33,5 @@ AreShortAt first history cut = (node : ℕ) → length (bytes_of (tree_at_cut fi
 
 -- The plan of an fsync leads from the tree that another one left to the one that it makes of it, where the two concern no node in common.
 abbrev pub PlansStay : Type 0
-PlansStay =
-    (first : TreeState) (history : List Entry) (cut : Cut) (inodes : ℕ → Bool) (mine theirs : Flush) (raised : Cut) (after : ℕ → Bool)
-    → RaisesBeside first history cut inodes mine theirs raised after → AreShortAt first history raised
-    → (once : Makes first history cut inodes mine) (again : Makes first history raised after mine) → MakesTheSame once again
-    → (plan : CommitPlan) → LeadsOver once plan → LeadsOver again plan
+PlansStay = (two : TwoFsyncs) → AreBeside two → AreShortAt two.first two.history two.raised → (once : MakesBefore two) (again : MakesBehind two)
+    → MakesTheSame once again → (plan : CommitPlan) → LeadsOver once plan → LeadsOver again plan
