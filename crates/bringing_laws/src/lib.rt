@@ -1,0 +1,4 @@
+//! What an fsync concerns and raises, while others become durable.
+#![tactic(auto)]
+
+pub mod laws;
