@@ -20,10 +20,8 @@ use Rattle.space_map.specs.declared.status.Status.{Status}
 use Rattle.space_map.specs.declared.status.Status.TheVariants.{Free, Taken, Granted}
 use Rattle.disk_change.specs.GivenUp.{IsLeftByGone, entry_number}
 use Rattle.disk_change.specs.Planned.{as_u32}
-use Rattle.disk_nodes.specs.declared.old.OldEntry.{OldEntry}
 use Rattle.commit_laws.proofs.OwnInodes.{mapped_is_in}
 use Rattle.commit_laws.proofs.SeatsOfPlan.{in_mapped}
-use Rattle.flush_laws.specs.Volume.{Volume}
 use Rattle.turn_laws.specs.Books.{free_in, least_open}
 use Rattle.turn_laws.specs.Need.{is_unused, is_held_in, free_inodes, free_blocks}
 use Rattle.turn_laws.proofs.ListedNeeds.{rank_agrees, held_are_found}
@@ -34,7 +32,7 @@ use Rattle.space_laws.proofs.Served.{data_behind_super}
 use Rattle.turn_ties.specs.Plans.{image_held}
 use Rattle.turn_ties.proofs.Least.{free_numbers_are, few_numbers}
 use Rattle.map_laws.specs.Laws.{MapsCountBooks}
-use Rattle.map_laws.specs.Out.{GrantOut, inodes_out, blocks_out, ListsGranted, IsMapWithOut, books_out}
+use Rattle.map_laws.specs.Out.{Beside, inodes_out, blocks_out, ListsGranted, IsMapWithOut, books_out}
 use Rattle.map_laws.proofs.Outs.{left_by, rank_left, inodes_reserved, blocks_reserved, listed_out}
 
 -- a granted number as one that is taken
@@ -150,89 +148,89 @@ module _ (first end : ℕ) (held : ℕ → Type 0) (pool : Pool) (numbers : List
           | inr f ↦ absurd (granted_not_held number listed ((tells number low high).0 f))
         ]
 
-module _ (volume : Volume) (entries : List OldEntry) (space : Space) (outs : List GrantOut) (is : IsMapWithOut volume entries space outs) where
+module _ (beside : Beside) (space : Space) (is : IsMapWithOut beside space) where
   abbrev image : SeenInodes
-  image = inodes_shown volume.layout volume.parts
+  image = inodes_shown beside.volume.layout beside.volume.parts
 
-  some_inodes : 0 < volume.layout.inodes
+  some_inodes : 0 < beside.volume.layout.inodes
   some_inodes = let some = is.stands.between.sound.ranges.inodes_low in omega (arith, some)
 
   -- the blocks of the data area that a place holds are those that memory keeps
-  blocks_told : (block : ℕ) → data_start volume.layout ≤ block → (not (is_held_in image block) ≡ false) ↔ IsLeftByGone entries block
+  blocks_told : (block : ℕ) → data_start beside.volume.layout ≤ block → (not (is_held_in image block) ≡ false) ↔ IsLeftByGone beside.entries block
   blocks_told block lies = (found, back)
     where
-      found : not (is_held_in image block) ≡ false → IsLeftByGone entries block
+      found : not (is_held_in image block) ≡ false → IsLeftByGone beside.entries block
       found held =
           let by = (held_are_found image block).0 (not_false (is_held_in image block) held) in
-          let entry = mapped_is_in entry_number entries by.inode
-          ((inodes_tell volume entries is.stands.between is.keeps by.inode by.within).0 (not_same (image.seen by.inode).kind 0 by.used)) in
+          let entry = mapped_is_in entry_number beside.entries by.inode
+          ((inodes_tell beside.volume beside.entries is.stands.between is.keeps by.inode by.within).0 (not_same (image.seen by.inode).kind 0 by.used)) in
           record {
             entry = entry.0;
             one = entry.1;
             held = record {
-              some = λ none. let behind = data_behind_super volume.layout in omega (arith, lies, behind, none);
+              some = λ none. let behind = data_behind_super beside.volume.layout in omega (arith, lies, behind, none);
               place = by.place;
               within = by.low;
               stands =
-                  shown_at volume entries is.stands.between is.keeps entry.0 entry.1 by.place by.low
+                  shown_at beside.volume beside.entries is.stands.between is.keeps entry.0 entry.1 by.place by.low
                   ∙ ap (λ n. (image.seen n).blocks by.place) entry.2 ∙ by.has;
             };
           }
 
-      back : IsLeftByGone entries block → not (is_held_in image block) ≡ false
+      back : IsLeftByGone beside.entries block → not (is_held_in image block) ≡ false
       back left =
-          let low = low_number volume entries is.stands.between is.keeps left.entry left.one in
+          let low = low_number beside.volume beside.entries is.stands.between is.keeps left.entry left.one in
           ap not ((held_are_found image block).1 (record {
             inode = left.entry.old.number;
             place = left.held.place;
             within = low;
             low = left.held.within;
             used = eqb-false (image.seen left.entry.old.number).kind 0
-                ((inodes_tell volume entries is.stands.between is.keeps left.entry.old.number low).1 (in_mapped entry_number entries left.entry left.one));
+                ((inodes_tell beside.volume beside.entries is.stands.between is.keeps left.entry.old.number low).1 (in_mapped entry_number beside.entries left.entry left.one));
             has =
-                sym (shown_at volume entries is.stands.between is.keeps left.entry left.one left.held.place left.held.within)
+                sym (shown_at beside.volume beside.entries is.stands.between is.keeps left.entry left.one left.held.place left.held.within)
                 ∙ left.held.stands;
           }))
 
-  inodes_left : free_count space.inodes ≡ (free_in (books_out volume outs)).inodes
+  inodes_left : free_count space.inodes ≡ (free_in (books_out beside)).inodes
   inodes_left =
-      counts_left 0 volume.layout.inodes (Contains (map entry_number entries)) space.inodes (inodes_out outs) is.right.inodes is.are_out.inodes
-      (is_unused image) (λ i low high. inodes_tell volume entries is.stands.between is.keeps i high)
-      ∙ (λ i. whole i - sym (inodes_reserved outs) i)
+      counts_left 0 beside.volume.layout.inodes (Contains (map entry_number beside.entries)) space.inodes (inodes_out beside.outs) is.right.inodes is.are_out.inodes
+      (is_unused image) (λ i low high. inodes_tell beside.volume beside.entries is.stands.between is.keeps i high)
+      ∙ (λ i. whole i - sym (inodes_reserved beside.outs) i)
     where
       all : (n : ℕ) → n - 0 ≡ n
       all n = omega arith
 
-      whole : rank (λ n. is_unused image (0 + n)) (volume.layout.inodes - 0) ≡ free_inodes (image_held volume)
+      whole : rank (λ n. is_unused image (0 + n)) (beside.volume.layout.inodes - 0) ≡ free_inodes (image_held beside.volume)
       whole =
-          rank_agrees (λ n. is_unused image (0 + n)) (is_unused image) (volume.layout.inodes - 0) (λ k low. ap (is_unused image) (zero_plus k))
-          ∙ ap (rank (is_unused image)) (all volume.layout.inodes)
+          rank_agrees (λ n. is_unused image (0 + n)) (is_unused image) (beside.volume.layout.inodes - 0) (λ k low. ap (is_unused image) (zero_plus k))
+          ∙ ap (rank (is_unused image)) (all beside.volume.layout.inodes)
 
-  blocks_left : free_count space.blocks ≡ (free_in (books_out volume outs)).blocks
+  blocks_left : free_count space.blocks ≡ (free_in (books_out beside)).blocks
   blocks_left =
-      counts_left (data_start volume.layout) volume.layout.blocks (IsLeftByGone entries) space.blocks (blocks_out outs) is.right.blocks is.are_out.blocks
+      counts_left (data_start beside.volume.layout) beside.volume.layout.blocks (IsLeftByGone beside.entries) space.blocks (blocks_out beside.outs) is.right.blocks is.are_out.blocks
       (λ block. not (is_held_in image block)) (λ block low high. blocks_told block low)
-      ∙ ap (λ n. free_blocks (image_held volume) - n) (sym (blocks_reserved outs))
+      ∙ ap (λ n. free_blocks (image_held beside.volume) - n) (sym (blocks_reserved beside.outs))
 
   pub few_inodes : length (free_numbers space.inodes) ≤ 16384
   few_inodes =
-      let all = few_numbers volume.layout.inodes (Contains (map entry_number entries)) space.inodes is.right.inodes some_inodes in
+      let all = few_numbers beside.volume.layout.inodes (Contains (map entry_number beside.entries)) space.inodes is.right.inodes some_inodes in
       let range = is.stands.between.sound.ranges.inodes_high in
       omega (arith, all, range)
 
-  least_left : (n : ℕ) → take (as_u32 n) (free_numbers space.inodes) ≡ least_open (books_out volume outs) n
+  least_left : (n : ℕ) → take (as_u32 n) (free_numbers space.inodes) ≡ least_open (books_out beside) n
   least_left n =
       take_few n (free_numbers space.inodes) few_inodes
       ∙ ap (take n) (sym (same_numbers space.inodes.first space.inodes.statuses)
-      ∙ free_numbers_are volume.layout.inodes (held_too 0 volume.layout.inodes (Contains (map entry_number entries)) space.inodes (inodes_out outs)
+      ∙ free_numbers_are beside.volume.layout.inodes (held_too 0 beside.volume.layout.inodes (Contains (map entry_number beside.entries)) space.inodes (inodes_out beside.outs)
       is.right.inodes is.are_out.inodes)
       (all_taken space.inodes)
-      (right_too 0 volume.layout.inodes (Contains (map entry_number entries)) space.inodes (inodes_out outs) is.right.inodes is.are_out.inodes)
-      some_inodes (left_by (is_unused image) (inodes_out outs))
-      (none_granted 0 volume.layout.inodes (Contains (map entry_number entries)) space.inodes (inodes_out outs) is.right.inodes is.are_out.inodes)
-      (λ i high. tells_too 0 volume.layout.inodes (Contains (map entry_number entries)) space.inodes (inodes_out outs) is.right.inodes is.are_out.inodes
-      (is_unused image) (λ k low up. inodes_tell volume entries is.stands.between is.keeps k up) i (omega arith) high))
-      ∙ (λ i. take n (filter (λ k. is_unused image k && not (sym (listed_out outs k) i)) (range_with_len 0 volume.layout.inodes)))
+      (right_too 0 beside.volume.layout.inodes (Contains (map entry_number beside.entries)) space.inodes (inodes_out beside.outs) is.right.inodes is.are_out.inodes)
+      some_inodes (left_by (is_unused image) (inodes_out beside.outs))
+      (none_granted 0 beside.volume.layout.inodes (Contains (map entry_number beside.entries)) space.inodes (inodes_out beside.outs) is.right.inodes is.are_out.inodes)
+      (λ i high. tells_too 0 beside.volume.layout.inodes (Contains (map entry_number beside.entries)) space.inodes (inodes_out beside.outs) is.right.inodes is.are_out.inodes
+      (is_unused image) (λ k low up. inodes_tell beside.volume beside.entries is.stands.between is.keeps k up) i (omega arith) high))
+      ∙ (λ i. take n (filter (λ k. is_unused image k && not (sym (listed_out beside.outs k) i)) (range_with_len 0 beside.volume.layout.inodes)))
     where
       take_few : (n : ℕ) (numbers : List ℕ) → length numbers ≤ 16384 → take (as_u32 n) numbers ≡ take n numbers
       take_few n numbers few = elim (cases_lt n (2 ^ 32 - 1)) [
@@ -241,8 +239,8 @@ module _ (volume : Volume) (entries : List OldEntry) (space : Space) (outs : Lis
       ]
 
 pub maps_count_books : MapsCountBooks
-maps_count_books volume entries space outs is = record {
-  inodes = inodes_left volume entries space outs is;
-  blocks = blocks_left volume entries space outs is;
-  least = least_left volume entries space outs is;
+maps_count_books beside space is = record {
+  inodes = inodes_left beside space is;
+  blocks = blocks_left beside space is;
+  least = least_left beside space is;
 }

@@ -24,17 +24,17 @@ blocks_more outs out =
     flat_map-append (λ (one : GrantOut). one.numbers.blocks) outs (out ∷ []) ∙ ap (λ rest. blocks_out outs ++ rest) (append-nil out.numbers.blocks)
 
 pub grants_go_out : GrantsGoOut
-grants_go_out volume entries old new outs plan out is granted = record {
+grants_go_out beside old new plan out is granted = record {
   stands = is.stands;
   keeps = is.keeps;
-  right = grants_keep_maps volume.layout entries plan old new out.numbers is.right granted;
+  right = grants_keep_maps beside.volume.layout beside.entries plan old new out.numbers is.right granted;
   are_out = record {
     inodes =
-        subst (ListsGranted new.inodes) (sym (inodes_more outs out))
-        (granted_listed old.inodes new.inodes _ out.numbers.inodes (inodes_out outs) granted.inodes is.are_out.inodes);
+        subst (ListsGranted new.inodes) (sym (inodes_more beside.outs out))
+        (granted_listed old.inodes new.inodes _ out.numbers.inodes (inodes_out beside.outs) granted.inodes is.are_out.inodes);
     blocks =
-        subst (ListsGranted new.blocks) (sym (blocks_more outs out))
-        (granted_listed old.blocks new.blocks _ out.numbers.blocks (blocks_out outs) granted.blocks is.are_out.blocks);
+        subst (ListsGranted new.blocks) (sym (blocks_more beside.outs out))
+        (granted_listed old.blocks new.blocks _ out.numbers.blocks (blocks_out beside.outs) granted.blocks is.are_out.blocks);
   };
 }
 
@@ -99,16 +99,16 @@ module _ (old new : Space) (front back : List GrantOut) (out : GrantOut) (are : 
   }
 
 pub grants_come_back : GrantsComeBack
-grants_come_back volume entries old new front back out is returned = record {
+grants_come_back beside old new front back out is returned = record {
   stands = is.stands;
   keeps = is.keeps;
-  right = returns_keep_maps volume.layout entries old new out.numbers is.right returned;
+  right = returns_keep_maps beside.volume.layout beside.entries old new out.numbers is.right returned;
   are_out =
       gone_out old new front back out is.are_out (leave_returned old.inodes new.inodes out.numbers.inodes returned.inodes)
       (leave_returned old.blocks new.blocks out.numbers.blocks returned.blocks);
 }
 
 pub grants_end : GrantsEnd
-grants_end old new front back plan tx out are used =
-    gone_out old new front back out are (leave_ended old.inodes new.inodes out.numbers.inodes _ used.inodes)
-    (leave_ended old.blocks new.blocks out.numbers.blocks _ used.blocks)
+grants_end old new front back out are ended =
+    gone_out old new front back out are (leave_ended old.inodes new.inodes out.numbers.inodes _ ended.used.inodes)
+    (leave_ended old.blocks new.blocks out.numbers.blocks _ ended.used.blocks)

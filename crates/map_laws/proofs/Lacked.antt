@@ -1,22 +1,20 @@
 -- What does not fit a map with grants out does not fit the books.
-use Rattle.std.proofs.Common.{◌≡◌, ℕ, ◌<◌, ◌≤◌, ◌^◌, Bool, cond, List, Option, Some, None, inl, inr, refl, sym, ap, subst, ◌∙◌, arith, nat_lt}
+use Rattle.std.proofs.Common.{◌≡◌, ℕ, ◌<◌, ◌≤◌, ◌^◌, Bool, cond, Option, Some, None, inl, inr, refl, sym, ap, subst, ◌∙◌, arith, nat_lt}
 use Rattle.std.proofs.lemmas.Bool.{cases_lt, lt-ltb, le-ltb}
 use Rattle.sfs_base.proofs.BasicOptions.{none_some, some_same}
 use Rattle.sfs_base.specs.declared.numbers.SpaceKind.{SpaceKind}
 use Rattle.sfs_base.specs.declared.numbers.SpaceKind.TheVariants.{Inodes, Blocks}
 use Rattle.space_map.specs.Pool.{free_count}
-use Rattle.space_map.specs.Space.{Space, shortage}
+use Rattle.space_map.specs.Space.{Space}
 use Rattle.space_map.specs.declared.fault.SpaceFault.{SpaceFault}
 use Rattle.space_map.specs.declared.fault.SpaceFault.TheVariants.{NoSpace, NoMemory}
 use Rattle.disk_change.specs.Planned.{as_u32}
-use Rattle.disk_nodes.specs.declared.old.OldEntry.{OldEntry}
 use Rattle.commit_laws.specs.CommitOfPlan.{CommitPlan}
-use Rattle.flush_laws.specs.Volume.{Volume}
 use Rattle.turn_laws.specs.Books.{free_in, amount_of, IsTooFew, IsShortOf}
 use Rattle.turn_laws.specs.Need.{Amount}
-use Rattle.turn_ties.specs.Plans.{amount_planned, need_planned}
+use Rattle.turn_ties.specs.Plans.{amount_planned}
 use Rattle.map_laws.specs.Laws.{MapsLack}
-use Rattle.map_laws.specs.Out.{GrantOut, IsMapWithOut, CountsBooks, books_out, NeedsFitWords}
+use Rattle.map_laws.specs.Out.{Beside, IsMapWithOut, CountsBooks, books_out, IsLacking}
 use Rattle.map_laws.proofs.Counted.{maps_count_books}
 
 -- a number of 32 bits is itself
@@ -67,21 +65,21 @@ module _ (need free : Amount) (small_inodes : need.inodes < 2 ^ 32) (small_block
         ]
       ]
 
-module _ (volume : Volume) (entries : List OldEntry) (space : Space) (outs : List GrantOut) (is : IsMapWithOut volume entries space outs) where
+module _ (beside : Beside) (space : Space) (is : IsMapWithOut beside space) where
   abbrev left : Amount
   left = record { inodes = free_count space.inodes; blocks = free_count space.blocks }
 
-  counts : CountsBooks space (books_out volume outs)
-  counts = maps_count_books volume entries space outs is
+  counts : CountsBooks space (books_out beside)
+  counts = maps_count_books beside space is
 
-  left_is : left ≡ free_in (books_out volume outs)
+  left_is : left ≡ free_in (books_out beside)
   left_is = λ i. record { inodes = counts.inodes i; blocks = counts.blocks i }
 
-  lacks : (plan : CommitPlan) (kind : SpaceKind) (asked have : ℕ) → NeedsFitWords plan → shortage space (need_planned plan) ≡ Some (NoSpace kind asked have)
-      → IsShortOf (amount_planned plan) (free_in (books_out volume outs)) kind asked have
-  lacks plan kind asked have small said =
+  lacks : (plan : CommitPlan) (kind : SpaceKind) (asked have : ℕ) → IsLacking space plan kind asked have
+      → IsShortOf (amount_planned plan) (free_in (books_out beside)) kind asked have
+  lacks plan kind asked have lacking =
       subst (λ (free : Amount). IsShortOf (amount_planned plan) free kind asked have) left_is
-      (says (amount_planned plan) left small.inodes small.blocks (NoSpace kind asked have) said)
+      (says (amount_planned plan) left lacking.small.inodes lacking.small.blocks (NoSpace kind asked have) lacking.short)
 
 pub maps_lack : MapsLack
-maps_lack volume entries space outs plan kind asked have is small said = lacks volume entries space outs is plan kind asked have small said
+maps_lack beside space plan kind asked have is lacking = lacks beside space is plan kind asked have lacking

@@ -1,20 +1,23 @@
 -- A map of free space from which grants are out, beside the books.
 use Rattle.std.specs.Prelude.{◌≡◌, ◌↔◌, ℕ, ◌<◌, ◌^◌, true, List, length, map, Some, take}
 use Rattle.std.specs.List.{flat_map}
+use Rattle.sfs_base.specs.declared.numbers.SpaceKind.{SpaceKind}
 use Rattle.sfs_base.specs.Listed.{is_listed}
+use Rattle.fmt_journal.specs.declared.tx.Tx.{Tx}
 use Rattle.space_map.specs.Pool.{Pool, status_of, free_count, free_numbers}
-use Rattle.space_map.specs.Space.{Space, GrantedNumbers}
+use Rattle.space_map.specs.Space.{Space, GrantedNumbers, shortage}
+use Rattle.space_map.specs.declared.fault.SpaceFault.TheVariants.{NoSpace}
 use Rattle.space_map.specs.declared.status.Status.TheVariants.{Granted}
 use Rattle.disk_change.specs.Planned.{as_u32}
 use Rattle.disk_nodes.specs.declared.old.OldEntry.{OldEntry}
 use Rattle.commit_laws.specs.CommitOfPlan.{CommitPlan}
 use Rattle.flush_laws.specs.Ready.{KeepsEntries}
 use Rattle.flush_laws.specs.Volume.{Volume}
-use Rattle.space_laws.specs.Map.{IsMapOf, WasGranted}
+use Rattle.space_laws.specs.Map.{IsMapOf, WasGranted, WasUsed}
 use Rattle.volume_laws.specs.Volume.{IsVolumeStanding}
 use Rattle.turn_laws.specs.Books.{Grant, Books, free_in, least_open, FitsFree}
 use Rattle.turn_laws.specs.LawsNeed.{AreOnce}
-use Rattle.turn_ties.specs.Plans.{amount_planned}
+use Rattle.turn_ties.specs.Plans.{amount_planned, need_planned}
 use Rattle.walk_laws.specs.Midway.{books_granted}
 
 -- A grant that is out, by its fsync's stamp.
@@ -48,12 +51,18 @@ pub record AreOut (space : Space) (outs : List GrantOut) : Type 0 where
   pub inodes : ListsGranted space.inodes (inodes_out outs)
   pub blocks : ListsGranted space.blocks (blocks_out outs)
 
--- A volume stands, memory keeps these entries of it, and a map is right beside them from which exactly these grants are out.
-pub record IsMapWithOut (volume : Volume) (entries : List OldEntry) (space : Space) (outs : List GrantOut) : Type 0 where
-  pub stands : IsVolumeStanding volume
-  pub keeps : KeepsEntries volume.num volume.parts entries
-  pub right : IsMapOf volume.layout entries space
-  pub are_out : AreOut space outs
+-- What stands beside a map: a volume, what memory keeps of its nodes, and the grants that are out.
+pub record Beside : Type 0 where
+  pub volume : Volume
+  pub entries : List OldEntry
+  pub outs : List GrantOut
+
+-- The volume stands, memory keeps these entries of it, and a map is right beside them from which exactly these grants are out.
+pub record IsMapWithOut (beside : Beside) (space : Space) : Type 0 where
+  pub stands : IsVolumeStanding beside.volume
+  pub keeps : KeepsEntries beside.volume.num beside.volume.parts beside.entries
+  pub right : IsMapOf beside.volume.layout beside.entries space
+  pub are_out : AreOut space beside.outs
 
 -- A map of free space counts what the books have free, and has their least open inodes first.
 pub record CountsBooks (space : Space) (books : Books) : Type 0 where
@@ -61,19 +70,30 @@ pub record CountsBooks (space : Space) (books : Books) : Type 0 where
   pub blocks : free_count space.blocks ≡ (free_in books).blocks
   pub least : (count : ℕ) → take (as_u32 count) (free_numbers space.inodes) ≡ least_open books count
 
--- the books of a volume, by the grants that are out
-abbrev pub books_out : Volume → List GrantOut → Books
-books_out volume outs = books_granted volume (map grant_out outs)
+-- the books of the volume, by the grants that are out
+abbrev pub books_out : Beside → Books
+books_out beside = books_granted beside.volume (map grant_out beside.outs)
 
 -- A grant was reserved for a plan: it was taken from a map, and its inodes were the least free ones.
 pub record WasReserved (plan : CommitPlan) (old : Space) (grant : GrantedNumbers) (new : Space) : Type 0 where
   pub taken : WasGranted plan old grant new
   pub least : grant.inodes ≡ take (as_u32 (amount_planned plan).inodes) (free_numbers old.inodes)
 
+-- A grant has ended with the commit of some plan.
+pub record HasEnded (old : Space) (grant : GrantedNumbers) (new : Space) : Type 0 where
+  pub plan : CommitPlan
+  pub tx : Tx
+  pub used : WasUsed plan tx old grant new
+
 -- 32 bits have room for what a plan needs.
 pub record NeedsFitWords (plan : CommitPlan) : Type 0 where
   pub inodes : (amount_planned plan).inodes < 2 ^ 32
   pub blocks : (amount_planned plan).blocks < 2 ^ 32
+
+-- A map has too little for a plan, whose needs fit words: of this kind, with both numbers.
+pub record IsLacking (space : Space) (plan : CommitPlan) (kind : SpaceKind) (asked have : ℕ) : Type 0 where
+  pub small : NeedsFitWords plan
+  pub short : shortage space (need_planned plan) ≡ Some (NoSpace kind asked have)
 
 -- What a plan needs fits what books have free, the inodes of a grant are their least open ones, and the grant is out as so much as the plan needs.
 pub record FitsBooks (books : Books) (plan : CommitPlan) (out : GrantOut) : Type 0 where
