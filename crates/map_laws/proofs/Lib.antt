@@ -4,3 +4,4 @@ pub mod Reserved
 pub mod Lists
 pub mod Gone
 pub mod Lacked
+pub mod GoOn

@@ -1,4 +1,5 @@
 //! What is proved of maps from which grants are out: each function's contract is a law.
+ghost use Rattle.map_laws.specs.Ending.{MapsGoOn};
 ghost use Rattle.map_laws.specs.Laws.{MapsCountBooks, MapsReserve, MapsLack, GrantsGoOut, GrantsComeBack, GrantsEnd};
 
 /// A right map counts what the books have free, and has their least open inodes first.
@@ -29,4 +30,9 @@ pub fn grants_come_back()
 /// One that has ended with its commit is out no more.
 pub fn grants_end()
     ensures { GrantsEnd }
+{}
+
+/// As an fsync ends, the map stays right beside what it leaves, and all other grants are out.
+pub fn maps_go_on()
+    ensures { MapsGoOn }
 {}
