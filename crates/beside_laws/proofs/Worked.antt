@@ -19,7 +19,7 @@ use Rattle.beside_laws.specs.Box as box
 use Rattle.beside_laws.specs.Commits.{CoreCommit, HasNotes, IsByItsLook, Share}
 use Rattle.beside_laws.specs.Laws.{KnowsRun, FindsAlways, HasFound, AreReady}
 use Rattle.beside_laws.specs.Progress.{Progress, Standing, KnownAtReserving, nobody}
-use Rattle.beside_laws.specs.Worked.{MadeIn, ONE, TWO, making, run_begun, HasMade, TwoMakes, commit_of_making, first_of_two, second_of_two, TwoAreOpen, TwoMayBeOpen}
+use Rattle.beside_laws.specs.Worked.{MadeIn, ONE, TWO, making, run_begun, HasMadeFile, TwoMakes, commit_of_making, first_of_two, second_of_two, TwoAreOpen, TwoMayBeOpen}
 use Rattle.beside_laws.proofs.Finding.{found_once}
 use Rattle.cut_laws.proofs.RaisedCut.{raised_cut}
 use Rattle.beside_laws.proofs.Raising.{raised_or, of_the_whole}
@@ -84,7 +84,7 @@ module _ (first : TreeState) (history : List Entry) (name other_name : List ℕ)
     ]
   ]
 
-  module _ (number : ℕ) (made : MadeIn) (side : Side made) (has : HasMade first history made) where
+  module _ (number : ℕ) (made : MadeIn) (side : Side made) (has : HasMadeFile first history made) where
     abbrev commit : CoreCommit
     commit = commit_of_making name other_name number made
 

@@ -38,7 +38,7 @@ making made = added made.stamp made.directory made.name made.file None
 
 -- What the history says of one of the two: its directory was there at first and is one, is alive at the fsync and named at every cut; the file is
 -- new, and named where its making lies below the cut.
-pub record HasMade (first : TreeState) (history : List Entry) (made : MadeIn) : Type 0 where
+pub record HasMadeFile (first : TreeState) (history : List Entry) (made : MadeIn) : Type 0 where
   pub live : HasLiveNode first history (record { node = made.directory; stamp = made.fsync })
   pub directory : is_directory (tree_after first history) made.directory ≡ true
   pub there : is_some (get first.nodes made.directory) ≡ true
@@ -53,8 +53,8 @@ pub record TwoMakes (first : TreeState) (history : List Entry) (name other_name 
   pub births : births_of first history
       ≡ record { stamp = 0; directory = 1; node = 3 } ∷ record { stamp = 1; directory = 2; node = 4 } ∷ []
   pub long : 3 ≤ length history
-  pub one : HasMade first history (ONE name)
-  pub two : HasMade first history (TWO other_name)
+  pub one : HasMadeFile first history (ONE name)
+  pub two : HasMadeFile first history (TWO other_name)
 
 -- the commit of the directory's fsync, as its core makes it from all that both cores have logged
 abbrev pub commit_of_making : List ℕ → List ℕ → ℕ → MadeIn → CoreCommit

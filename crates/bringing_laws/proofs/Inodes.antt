@@ -19,7 +19,7 @@ use Rattle.cut_laws.proofs.Basics.{below_or}
 use Rattle.cut_laws.proofs.KeptInodes.{others_stay}
 use Rattle.cut_laws.proofs.Listed.{listed_one}
 use Rattle.raise_laws.proofs.Next.{same_stamps_keep}
-use Rattle.bringing_laws.specs.Laws.{RaisesBeside, Makes, MakesTheSame, RaisesStay}
+use Rattle.bringing_laws.specs.Laws.{RaisesBeside, MadeOver, MakesTheSame, RaisesStay}
 use Rattle.bringing_laws.proofs.Again.{rises, inode_stays, stays_unflushed, same_concerns}
 use Rattle.bringing_laws.proofs.Raised.{again, raises_again, own_stamps, other_stamps}
 
@@ -33,7 +33,7 @@ row_same first history cut other directory name same =
 
 module _ (first : TreeState) (history : List Entry) (cut : Cut) (inodes : ℕ → Bool) (mine theirs : Flush) (raised : Cut) (after : ℕ → Bool)
     (sound : IsSoundTree first) (legal : IsLegal first history)
-    (is : RaisesBeside first history cut inodes mine theirs raised after) (was : Makes first history cut inodes mine) where
+    (is : RaisesBeside first history cut inodes mine theirs raised after) (was : MadeOver first history cut inodes mine) where
   abbrev Mine : ℕ → Type 0
   Mine node = IsConcerned first history every_entry cut inodes mine node
 
@@ -179,7 +179,7 @@ module _ (first : TreeState) (history : List Entry) (cut : Cut) (inodes : ℕ �
     ];
   }
 
-  makes_again : Makes first history raised after mine
+  makes_again : MadeOver first history raised after mine
   makes_again = record {
     raised = then;
     after = behind;
@@ -190,7 +190,7 @@ module _ (first : TreeState) (history : List Entry) (cut : Cut) (inodes : ℕ �
         ((λ one. (concerned_same node).0 ((was.concerns node).0 one)), (λ now. (was.concerns node).1 ((concerned_same node).1 now)));
   }
 
-  pub made_again : (again : Makes first history raised after mine) × MakesTheSame was again
+  pub made_again : (again : MadeOver first history raised after mine) × MakesTheSame was again
   unfolding makes_again
   made_again = (
     makes_again,

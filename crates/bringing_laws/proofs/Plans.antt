@@ -25,7 +25,7 @@ use Rattle.cut_laws.proofs.Listed.{listed_one}
 use Rattle.raise_laws.specs.Next.{KeepsItsOwn}
 use Rattle.raise_laws.proofs.Next.{same_stamps_keep}
 use Rattle.flush_laws.specs.Planned.{HasNets, HasMoves, HasFiles}
-use Rattle.bringing_laws.specs.Laws.{RaisesBeside, Makes, MakesTheSame}
+use Rattle.bringing_laws.specs.Laws.{RaisesBeside, MadeOver, MakesTheSame}
 use Rattle.bringing_laws.specs.Plans.{LeadsOver, AreShortAt, PlansStay}
 use Rattle.bringing_laws.proofs.Again.{stamp_stays, inode_stays}
 
@@ -35,7 +35,7 @@ empty_net rows net is = one_net rows rows net [] is (no_net rows)
 
 module _ (first : TreeState) (history : List Entry) (cut : Cut) (inodes : ℕ → Bool) (mine theirs : Flush) (raised : Cut) (after : ℕ → Bool)
     (is : RaisesBeside first history cut inodes mine theirs raised after) (short : AreShortAt first history raised)
-    (once : Makes first history cut inodes mine) (again : Makes first history raised after mine) (same : MakesTheSame once again)
+    (once : MadeOver first history cut inodes mine) (again : MadeOver first history raised after mine) (same : MakesTheSame once again)
     (plan : CommitPlan) (leads : LeadsOver once plan) where
   abbrev at : Cut → TreeState
   at c = tree_at_cut first history c

@@ -11,11 +11,11 @@ use Rattle.cut_laws.proofs.Listed.{to_filter}
 use Rattle.cut_laws.proofs.RaisedCut.{raised_cut}
 use Rattle.cut_laws.proofs.RunFacts.{in_filter}
 use Rattle.beside_laws.proofs.Raising.{raised_or}
-use Rattle.bringing_laws.specs.Laws.{RaisesBeside, Makes}
+use Rattle.bringing_laws.specs.Laws.{RaisesBeside, MadeOver}
 use Rattle.bringing_laws.proofs.Again.{stamp_stays, members_stay, were_members}
 
 module _ (first : TreeState) (history : List Entry) (cut : Cut) (inodes : ℕ → Bool) (mine theirs : Flush) (raised : Cut) (after : ℕ → Bool)
-    (is : RaisesBeside first history cut inodes mine theirs raised after) (was : Makes first history cut inodes mine) where
+    (is : RaisesBeside first history cut inodes mine theirs raised after) (was : MadeOver first history cut inodes mine) where
   abbrev once : Cut
   once = was.raised
 

@@ -38,7 +38,7 @@ ConcernsStay = (two : TwoFsyncs) → AreBeside two → (node : ℕ)
     ↔ IsConcerned two.first two.history every_entry two.raised two.after two.mine node
 
 -- What an fsync makes over a cut: where it raises it to, which nodes then have an inode, and the nodes that it concerns.
-pub record Makes (first : TreeState) (history : List Entry) (cut : Cut) (inodes : ℕ → Bool) (flush : Flush) : Type 0 where
+pub record MadeOver (first : TreeState) (history : List Entry) (cut : Cut) (inodes : ℕ → Bool) (flush : Flush) : Type 0 where
   pub raised : Cut
   pub after : ℕ → Bool
   pub nodes : List ℕ
@@ -49,7 +49,7 @@ pub record Makes (first : TreeState) (history : List Entry) (cut : Cut) (inodes 
 -- It makes the same of its nodes over a later cut: they are the same ones, come to the same stamps, and have an inode where they had one; all
 -- others stay as they are there.
 pub record MakesTheSame {first : TreeState} {history : List Entry} {cut raised : Cut} {inodes after : ℕ → Bool} {flush : Flush}
-    (once : Makes first history cut inodes flush) (again : Makes first history raised after flush) : Type 0 where
+    (once : MadeOver first history cut inodes flush) (again : MadeOver first history raised after flush) : Type 0 where
   pub nodes : again.nodes ≡ once.nodes
   pub own_stamps : (node : ℕ) → IsOneOf once.nodes node → cut_of again.raised node ≡ cut_of once.raised node
   pub own_inodes : (node : ℕ) → IsOneOf once.nodes node → again.after node ≡ once.after node
@@ -57,13 +57,13 @@ pub record MakesTheSame {first : TreeState} {history : List Entry} {cut raised :
   pub other_inodes : (node : ℕ) → (IsOneOf once.nodes node → ⊥) → again.after node ≡ after node
 
 -- what the other one makes over the first cut, and what over the one that was raised
-abbrev pub MakesBefore : TwoFsyncs → Type 0
-MakesBefore two = Makes two.first two.history two.cut two.inodes two.mine
+abbrev pub MadeBefore : TwoFsyncs → Type 0
+MadeBefore two = MadeOver two.first two.history two.cut two.inodes two.mine
 
-abbrev pub MakesBehind : TwoFsyncs → Type 0
-MakesBehind two = Makes two.first two.history two.raised two.after two.mine
+abbrev pub MadeBehind : TwoFsyncs → Type 0
+MadeBehind two = MadeOver two.first two.history two.raised two.after two.mine
 
 -- So does the other one, over what the one that is on the disk has raised and left.
 abbrev pub RaisesStay : Type 0
-RaisesStay = (two : TwoFsyncs) → IsSoundTree two.first → IsLegal two.first two.history → AreBeside two → (once : MakesBefore two)
-    → (again : MakesBehind two) × MakesTheSame once again
+RaisesStay = (two : TwoFsyncs) → IsSoundTree two.first → IsLegal two.first two.history → AreBeside two → (once : MadeBefore two)
+    → (again : MadeBehind two) × MakesTheSame once again

@@ -12,13 +12,13 @@ use Rattle.cut_laws.specs.Closure.{Flush}
 use Rattle.cut_laws.specs.Cut.{Cut, cut_of, tree_at_cut}
 use Rattle.flush_laws.specs.Planned.{HasNets, HasMoves, HasFiles}
 use Rattle.turn_laws.specs.Touched.{is_touched_between}
-use Rattle.bringing_laws.specs.Laws.{TwoFsyncs, AreBeside, Makes, MakesBefore, MakesBehind, MakesTheSame}
+use Rattle.bringing_laws.specs.Laws.{TwoFsyncs, AreBeside, MadeOver, MadeBefore, MadeBehind, MakesTheSame}
 
 -- A plan leads from the tree at a cut to that at the cut which an fsync raises: it has the nets of its directories, the nodes that get and lose an
 -- inode, and what becomes of files; it changes only files that the fsync concerns, and of each that then has an inode it has a page of each block that a
 -- change touches between the two cuts, and of no other.
 pub record LeadsOver {first : TreeState} {history : List Entry} {cut : Cut} {inodes : ℕ → Bool} {flush : Flush}
-    (made : Makes first history cut inodes flush) (plan : CommitPlan) : Type 0 where
+    (made : MadeOver first history cut inodes flush) (plan : CommitPlan) : Type 0 where
   pub nets : HasNets (tree_at_cut first history cut) (tree_at_cut first history made.raised) plan.nets
   pub moves : HasMoves (tree_at_cut first history made.raised) inodes made.after plan
   pub files : HasFiles made.nodes (tree_at_cut first history cut) (tree_at_cut first history made.raised) plan
@@ -33,5 +33,5 @@ AreShortAt first history cut = (node : ℕ) → length (bytes_of (tree_at_cut fi
 
 -- The plan of an fsync leads from the tree that another one left to the one that it makes of it, where the two concern no node in common.
 abbrev pub PlansStay : Type 0
-PlansStay = (two : TwoFsyncs) → AreBeside two → AreShortAt two.first two.history two.raised → (once : MakesBefore two) (again : MakesBehind two)
+PlansStay = (two : TwoFsyncs) → AreBeside two → AreShortAt two.first two.history two.raised → (once : MadeBefore two) (again : MadeBehind two)
     → MakesTheSame once again → (plan : CommitPlan) → LeadsOver once plan → LeadsOver again plan

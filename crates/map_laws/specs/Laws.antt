@@ -6,7 +6,7 @@ use Rattle.commit_laws.specs.CommitOfPlan.{CommitPlan}
 use Rattle.space_laws.specs.Map.{WasGranted, WasReturned}
 use Rattle.turn_laws.specs.Books.{free_in, IsShortOf}
 use Rattle.turn_ties.specs.Plans.{amount_planned}
-use Rattle.map_laws.specs.Out.{GrantOut, AreOut, Beside, IsMapWithOut, CountsBooks, books_out, WasReserved, HasEnded, IsLacking, FitsBooks}
+use Rattle.map_laws.specs.Out.{GrantOut, AreOut, Beside, IsMapWithOut, CountsBooks, books_out, WasReserved, GrantHasEnded, IsLacking, ReservedOfBooks}
 
 -- A right map counts as free what the books have free with the grants that are out, and has their least open inodes first.
 abbrev pub MapsCountBooks : Type 0
@@ -15,7 +15,7 @@ MapsCountBooks = (beside : Beside) (space : Space) → IsMapWithOut beside space
 -- What is reserved from such a map for a plan fits what the books have free, and its inodes are their least open ones.
 abbrev pub MapsReserve : Type 0
 MapsReserve = (beside : Beside) (old new : Space) (plan : CommitPlan) (out : GrantOut) → IsMapWithOut beside old → WasReserved plan old out.numbers new
-    → FitsBooks (books_out beside) plan out
+    → ReservedOfBooks (books_out beside) plan out
 
 -- Where such a map has too little for a plan, the plan does not fit what the books have free, and both numbers are the books'.
 abbrev pub MapsLack : Type 0
@@ -35,5 +35,5 @@ GrantsComeBack = (beside : Beside) (old new : Space) (front back : List GrantOut
 
 -- So is one that has ended with its commit, whatever the commit gives up.
 abbrev pub GrantsEnd : Type 0
-GrantsEnd = (old new : Space) (front back : List GrantOut) (out : GrantOut) → AreOut old (front ++ out ∷ back) → HasEnded old out.numbers new
+GrantsEnd = (old new : Space) (front back : List GrantOut) (out : GrantOut) → AreOut old (front ++ out ∷ back) → GrantHasEnded old out.numbers new
     → AreOut new (front ++ back)

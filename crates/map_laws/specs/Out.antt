@@ -80,7 +80,7 @@ pub record WasReserved (plan : CommitPlan) (old : Space) (grant : GrantedNumbers
   pub least : grant.inodes ≡ take (as_u32 (amount_planned plan).inodes) (free_numbers old.inodes)
 
 -- A grant has ended with the commit of some plan.
-pub record HasEnded (old : Space) (grant : GrantedNumbers) (new : Space) : Type 0 where
+pub record GrantHasEnded (old : Space) (grant : GrantedNumbers) (new : Space) : Type 0 where
   pub plan : CommitPlan
   pub tx : Tx
   pub used : WasUsed plan tx old grant new
@@ -96,7 +96,7 @@ pub record IsLacking (space : Space) (plan : CommitPlan) (kind : SpaceKind) (ask
   pub short : shortage space (need_planned plan) ≡ Some (NoSpace kind asked have)
 
 -- What a plan needs fits what books have free, the inodes of a grant are their least open ones, and the grant is out as so much as the plan needs.
-pub record FitsBooks (books : Books) (plan : CommitPlan) (out : GrantOut) : Type 0 where
+pub record ReservedOfBooks (books : Books) (plan : CommitPlan) (out : GrantOut) : Type 0 where
   pub fits : FitsFree (amount_planned plan) (free_in books)
   pub least : out.numbers.inodes ≡ least_open books (amount_planned plan).inodes
   pub as_needed : grant_out out ≡ record { stamp = out.stamp; need = amount_planned plan; inodes = out.numbers.inodes }
