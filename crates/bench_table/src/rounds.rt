@@ -1,5 +1,6 @@
 // Cores that hold cells, in threads of their own.
 ghost use Rattle.std.specs.Prelude.{◌≡◌, ◌<◌, ◌≤◌, ◌*◌, ◌+◌, All, length, OnOk};
+ghost use Rattle.stamp_table.specs.Placing.{lies_in_order};
 ghost use Rattle.stamp_table.specs.Table.{IsBetweenCalls};
 
 use sfs_base::NoMemory;
@@ -23,11 +24,21 @@ impl<C, X> Meaning<C, X, ()> for Anything {
     ghost stands = { λ given first log place value. Unit {0} };
 
     ghost nothing = { tt };
+
+    ghost slot_at = { λ measure place. place };
+
+    ghost place_at = { λ measure slot. slot };
+
+    ghost one_to_one = { λ measure. lies_in_order };
+
+    fn slot_of(_measure: usize, place: usize) -> usize {
+        place
+    }
 }
 
 pub(crate) type Cells = Shared<u64, (), (), Anything>;
 
-pub(crate) type Hand = Core<u64, (), ()>;
+pub(crate) type Hand = Core<u64, (), (), Anything>;
 
 // Holds a cell and changes it so often.
 fn hold_often<R: Wait>(rt: &R, shared: &Cells, core: &mut Hand, place: usize, rounds: u32)
@@ -57,7 +68,7 @@ pub fn hold_all<R: Threads + Wait + Sync>(
 {
     let first = Tree::empty(alloc, 1, 1, cores)?;
     let cells = vec![in alloc; 0u64; APART * cores as usize]?;
-    let (shared, mut hands) = Cells::make(alloc, &first, Snapshot::of(&()), cells, cores)?;
+    let (shared, mut hands) = Cells::make(alloc, &first, Snapshot::of(&()), 0, cells, cores)?;
     hold_each(rt, &shared, hands.as_mut_slice(), apart, rounds);
     Ok(())
 }

@@ -1,39 +1,36 @@
 -- The cores of a table that begins.
-use Rattle.std.proofs.Common.{◌≡◌, ℕ, zero, suc, ◌+◌, ◌<◌, ◌≤◌, true, List, [], ◌∷◌, ◌++◌, map, length, Option, Some, slice_get, sym, refl, ap, ◌∙◌, subst, arith, get_or, replicate}
+use Rattle.std.proofs.Common.{◌≡◌, ℕ, zero, suc, ◌+◌, ◌<◌, ◌≤◌, true, List, [], ◌∷◌, ◌++◌, length, Option, Some, slice_get, sym, refl, ap, ◌∙◌, subst, arith, get_or, replicate}
 use Rattle.std.specs.Prelude.{All}
-use Rattle.std.proofs.lemmas.List.{length-map}
 use Rattle.std.proofs.lemmas.List.Elements.{All-cons, All-nil}
 use lib.ListN.{get_elem?}
-use mathlib.Core.Option.{some, some-injective, some-ne-none}
+use mathlib.Core.Option.{some, some-injective}
 use Rattle.atomic_table.specs.Table.{Splits, opening}
 use Rattle.tree_laws.specs.Tree.{TreeState}
 use Rattle.stamp_table.specs.declared.event.Event.{Event}
 use Rattle.stamp_table.specs.Rule.{Kept}
+use Rattle.stamp_table.specs.Placing.{IsOneToOne, FillsSlots, at_slots}
 use Rattle.stamp_table.specs.Steps.{gatherer, one_more, newcomer}
 use Rattle.stamp_table.specs.Events.{event_core, is_call, stands_for, SeatView, LawfulFrom, StandsFrom}
 use Rattle.stamp_table.specs.Hand.{Hand, Desk}
 use Rattle.stamp_table.specs.Table.{TableState, IsIdleCore, AreIdleFrom, IsNew, AreNew, IsBetweenCalls, IsSameCore, AreAllCores, first_leads}
 use Rattle.stamp_table.proofs.Gathering.{may_split, begins}
+use Rattle.stamp_table.proofs.Keeps.{get_elem_within}
 
 -- the seat that gathers, once so many cores are made
 abbrev pub gatherer_with : {X G : Type 0} → TreeState × G → ℕ → SeatView G X
 gatherer_with start cores = record (gatherer start) { cores = cores }
+
+-- an element that is within a list is there
+elem_there : {A : Type 0} (xs : List A) (place : ℕ) → place < length xs → (x : A) × (slice_get xs place ≡ Some x)
+elem_there [] place lt = absurd (omega (arith, lt))
+elem_there (y ∷ xs) zero lt = (y, refl)
+elem_there (y ∷ xs) (suc place) lt = elem_there xs place (omega (arith, lt))
 
 -- words that are all 0
 pub all_zero : (count place : ℕ) → let none : ℕ = 0 in get_or (replicate count none) place none ≡ none
 all_zero zero place = refl
 all_zero (suc count) zero = refl
 all_zero (suc count) (suc place) = all_zero count place
-
-module _ {C X : Type 0} where
-  stood_at : (stands : TreeState → List (Event X) → ℕ → C → Type 0) (first : TreeState) (more : ℕ) (values : List C) (place : ℕ) (value : Option C)
-      → get_elem? (map Some values) place ≡ some value
-      → ((p : ℕ) (x : C) → slice_get values p ≡ Some x → stands first [] (more + p) x) → stands_for stands first [] (more + place) value
-  stood_at stands first more [] place value at stood = absurd (some-ne-none value (sym at))
-  stood_at stands first more (x ∷ values) zero value at stood =
-      subst (λ v. stands_for stands first [] (more + 0) v) (some-injective (Some x) value at) (stood 0 x refl)
-  stood_at stands first more (x ∷ values) (suc place) value at stood = subst (λ p. stands_for stands first [] p value) (omega arith)
-      (stood_at stands first (more + 1) values place value at (λ p y is. subst (λ q. stands first [] q y) (omega arith) (stood (suc p) y is)))
 
 module _ {C X G : Type 0} where
   pub ready_snoc : (table : Desk G) (cores number : ℕ) (hands : List (Hand C X G)) (hand : Hand C X G) → AreIdleFrom table cores number hands
@@ -60,16 +57,28 @@ module _ {C X G : Type 0} where
   asks_split lawful stands start id number cores lt few =
       may_split event_core is_call (LawfulFrom lawful) (StandsFrom stands) start id (gatherer_with start number) refl refl (omega (arith, lt, few))
 
+  -- values that stand by their places stand by their slots
+  pub laid_stood : (stands : G → TreeState → List (Event X) → ℕ → C → Type 0) (start : TreeState × (G × ℕ)) (slot_at place_at : ℕ → ℕ → ℕ)
+      (cells : List C) (slots : List (Option C)) → IsOneToOne (slot_at start.1.1) (place_at start.1.1)
+      → FillsSlots (length cells) (slot_at start.1.1) (place_at start.1.1) → length slots ≡ length cells
+      → ((place : ℕ) (value : C) → slice_get cells place ≡ Some value → get_elem? slots (slot_at start.1.1 place) ≡ some (Some value))
+      → ((place : ℕ) (value : C) → slice_get cells place ≡ Some value → stands start.1.0 start.0 [] place value)
+      → (slot : ℕ) (x : Option C) → get_elem? slots slot ≡ some x → stands_for (at_slots place_at stands start.1) start.0 [] slot x
+  laid_stood stands start slot_at place_at cells slots one fills long laid stood slot x at =
+      let lt : slot < length cells = subst (λ n. slot < n) long (get_elem_within slots slot x at) in
+      let there = elem_there cells (place_at start.1.1 slot) (fills.places slot lt) in
+      let same : Some there.0 ≡ x = some-injective (Some there.0) x
+      (sym (laid (place_at start.1.1 slot) there.0 there.1) ∙ (ap (get_elem? slots) (one.forth slot) ∙ at)) in
+      subst (λ y. stands_for (at_slots place_at stands start.1) start.0 [] slot y) same (stood (place_at start.1.1 slot) there.0 there.1)
+
   -- the rule holds of a table that begins
   pub asks_new : (lawful : G → TreeState → List (Event X) → Type 0) (stands : G → TreeState → List (Event X) → ℕ → C → Type 0) (start : TreeState × G)
-      (words : List ℕ) (values : List C) → get_or words 0 0 ≡ 0 → length words ≡ 16 + length values → lawful start.1 start.0 []
-      → ((p : ℕ) (x : C) → slice_get values p ≡ Some x → stands start.1 start.0 [] p x)
-      → Kept event_core is_call (LawfulFrom lawful) (StandsFrom stands) start (opening words (map Some values) (gatherer start))
-  asks_new lawful stands start words values zero_stamp long told stood =
-      begins event_core is_call (LawfulFrom lawful) (StandsFrom stands) start words (map Some values) zero_stamp
-      (long ∙ ap (λ k. 16 + k) (sym (length-map values Some))) (record { legal_calls = tt; told = told })
-      (λ p x at. subst (λ q. stands_for (stands start.1) start.0 [] q x) (omega arith)
-      (stood_at (stands start.1) start.0 0 values p x at (λ q y is. subst (λ r. stands start.1 start.0 [] r y) (omega arith) (stood q y is))))
+      (words : List ℕ) (slots : List (Option C)) → get_or words 0 0 ≡ 0 → length words ≡ 16 + length slots → lawful start.1 start.0 []
+      → ((slot : ℕ) (x : Option C) → get_elem? slots slot ≡ some x → stands_for (stands start.1) start.0 [] slot x)
+      → Kept event_core is_call (LawfulFrom lawful) (StandsFrom stands) start (opening words slots (gatherer start))
+  asks_new lawful stands start words slots zero_stamp long told stood =
+      begins event_core is_call (LawfulFrom lawful) (StandsFrom stands) start words slots zero_stamp long
+      (record { legal_calls = tt; told = told }) stood
 
   -- new cores are between two calls
   pub new_between : (t : TableState G) (number : ℕ) (hands : List (Hand C X G)) → AreIdleFrom t.table t.cores number hands → AreNew t.first hands

@@ -1,8 +1,8 @@
 -- The cores' lists make the history.
-use Rattle.std.proofs.Common.{◌≡◌, ℕ, zero, suc, ◌+◌, ◌<◌, ◌^◌, ◌==◌, true, List, [], ◌∷◌, ◌++◌, map, filter, reverse, length, Option, Some, None, Vec, slice_get, sym, refl, ap, ◌∙◌, subst, arith, ⊎_elim, drop, append_assoc}
+use Rattle.std.proofs.Common.{◌≡◌, ℕ, zero, suc, ◌+◌, ◌<◌, ◌^◌, ◌==◌, true, List, [], ◌∷◌, ◌++◌, map, filter, reverse, length, Option, Some, None, Vec, slice_get, sym, refl, ap, ◌∙◌, subst, arith, ⊎_elim}
 use Rattle.std.specs.List.{AllZip}
 use Rattle.std.proofs.lemmas.Bool.{cases_Bool}
-use Rattle.std.proofs.lemmas.List.{length-map, map-append}
+use Rattle.std.proofs.lemmas.List.{length-map}
 use Rattle.std.specs.declared.alloc.Global.{Global}
 use Rattle.atomic_table.specs.Table.{Joins, Final, Seen}
 use Rattle.atomic_table.specs.declared.shared.Seat.{Seat}
@@ -18,6 +18,7 @@ use Rattle.stamp_table.specs.declared.event.Event.TheVariants.{Called, Told}
 use mathlib.Core.Option.{some, some-injective, some-ne-none}
 use lib.ListN.{get_elem?}
 use Rattle.stamp_table.specs.declared.held.HeldCell.{HeldCell}
+use Rattle.stamp_table.specs.Placing.{IsOneToOne, at_slots}
 use Rattle.stamp_table.specs.Rule.{Kept, entries_by}
 use Rattle.stamp_table.specs.Steps.{gathered, spent}
 use Rattle.stamp_table.specs.Events.{event_core, is_call, calls_in, SeatView, LawfulFrom, StandsFrom, NO_TREE}
@@ -30,22 +31,29 @@ use Rattle.stamp_table.proofs.Hands.{is_there}
 use Rattle.stamp_table.proofs.Refilling.{AreOfCores, AreOwnOf, IsFilled, fills}
 use Rattle.stamp_table.proofs.Gathering.{may_join, ends, IsGathered}
 
+-- what maps to nothing is nothing
+map_none : (f : ℕ → ℕ) (xs : List ℕ) → map f xs ≡ [] → xs ≡ []
+map_none f [] is = refl
+map_none f (x ∷ xs) is = absurd (cc is)
+
 module _ {C X G : Type 0} where
   -- a core that holds nothing has no slots
-  pub no_slots : (seat : Seat (Option C) (SeatView G X)) (number : ℕ) (entries : List Entry) (cells : List (HeldCell C))
-      → IsCore seat number entries cells → cells ≡ [] → (seat.me.0.held ≡ []) × (seat.me.1 ≡ [])
-  no_slots seat number entries cells core none =
-      let held : seat.me.0.held ≡ [] = core.places ∙ ap (λ (l : List (HeldCell C)). reverse (places_of l)) none in
+  pub no_slots : (place_at : ℕ → ℕ → ℕ) (seat : Seat (Option C) (SeatView (G × ℕ) X)) (number : ℕ) (entries : List Entry) (cells : List (HeldCell C))
+      → IsCore place_at seat number entries cells → cells ≡ [] → (seat.me.0.held ≡ []) × (seat.me.1 ≡ [])
+  no_slots place_at seat number entries cells core none =
+      let held = map_none (place_at seat.me.0.first.1.1) seat.me.0.held
+      (core.places ∙ ap (λ (l : List (HeldCell C)). reverse (places_of l)) none) in
       (held, core.slots ∙ ap empty_slots held)
 
   -- its list may be gathered where it is the next
-  pub asks_join : (lawful : G → TreeState → List (Event X) → Type 0) (stands : G → TreeState → List (Event X) → ℕ → C → Type 0) (nothing : G)
-      (start : TreeState × G) (id other : ℕ) (v : SeatView G X) (seat : Seat (Option C) (SeatView G X)) (number : ℕ) (entries : List Entry)
-      (cells : List (HeldCell C)) → IsCore seat number entries cells → cells ≡ [] → v.gathers ≡ true → seat.me.0.core ≡ length v.lists
+  pub asks_join : (lawful : G × ℕ → TreeState → List (Event X) → Type 0) (stands : G × ℕ → TreeState → List (Event X) → ℕ → C → Type 0) (nothing : G × ℕ)
+      (place_at : ℕ → ℕ → ℕ) (start : TreeState × (G × ℕ)) (id other : ℕ) (v : SeatView (G × ℕ) X) (seat : Seat (Option C) (SeatView (G × ℕ) X)) (number : ℕ)
+      (entries : List Entry)
+      (cells : List (HeldCell C)) → IsCore place_at seat number entries cells → cells ≡ [] → v.gathers ≡ true → seat.me.0.core ≡ length v.lists
       → Joins (Kept event_core is_call (LawfulFrom lawful) (StandsFrom stands) start) id v other seat.me.0 (gathered v seat.me.0) (spent (NO_TREE, nothing))
-  asks_join lawful stands nothing start id other v seat number entries cells core none does next =
+  asks_join lawful stands nothing place_at start id other v seat number entries cells core none does next =
       may_join event_core is_call (LawfulFrom lawful) (StandsFrom stands) start id other v seat.me.0
-      (spent (NO_TREE, nothing)) does core.calls core.lives next (no_slots seat number entries cells core none).0 refl refl refl
+      (spent (NO_TREE, nothing)) does core.calls core.lives next (no_slots place_at seat number entries cells core none).0 refl refl refl
 
 module _ {X : Type 0} where
   -- a core's calls are the calls of its events
@@ -128,7 +136,8 @@ module _ {C X G : Type 0} (lawful : G → TreeState → List (Event X) → Type 
       let r = length-map (calls_in log) unanswered in let e = ap length same in omega (arith, w, s, l, r, e)
 
   -- the lists of all cores make the history
-  ends_filled : (hands : List (Hand C X G)) (parts : List (Vec Entry Global)) (filled : List Entry) → map (λ p. p.items) parts ≡ map answered_entries hands
+  ends_filled : {H : Type 0} (hands : List (Hand C X H)) (parts : List (Vec Entry Global)) (filled : List Entry) → map
+      (λ p. p.items) parts ≡ map answered_entries hands
       → length parts ≡ length start.0.made → length hands ≡ length start.0.made → lists ≡ map mine_of hands → saws ≡ map events_seen hands
       → IsFilled (length start.0.made) (entries_at parts) (calls_in log) filled → IsEnd (lawful start.1) start.0 hands parts log filled
   ends_filled hands parts filled same long all mine seen is =
@@ -147,8 +156,8 @@ module _ {C X G : Type 0} (lawful : G → TreeState → List (Event X) → Type 
       }
 
 -- what a table's end has: its history, and a value at each place
-pub record IsWhole {C X G : Type 0} (lawful : TreeState → List (Event X) → Type 0) (stands : TreeState → List (Event X) → ℕ → C → Type 0) (first : TreeState)
-    (hands : List (Hand C X G)) (parts : List (Vec Entry Global)) (slots : List (Option C)) (log : List (Event X)) (history : List Entry) : Type 0 where
+pub record IsWhole {C X H : Type 0} (lawful : TreeState → List (Event X) → Type 0) (stands : TreeState → List (Event X) → ℕ → C → Type 0) (first : TreeState)
+    (hands : List (Hand C X H)) (parts : List (Vec Entry Global)) (slots : List (Option C)) (log : List (Event X)) (history : List Entry) : Type 0 where
   pub end : IsEnd lawful first hands parts log history
   pub inside : List C
   pub slots_are : slots ≡ map Some inside
@@ -183,7 +192,7 @@ inside {C} stands first log more (slot ∷ slots) home =
 module _ {C X G : Type 0} (lawful : G → TreeState → List (Event X) → Type 0) (stands : G → TreeState → List (Event X) → ℕ → C → Type 0)
     (start : TreeState × G) where
   -- where all lists were gathered there is one
-  pub closes : (words : List ℕ) (slots : List (Option C)) (id : ℕ) (v : SeatView G X) (hands : List (Hand C X G)) (parts : List (Vec Entry Global))
+  pub closes : {H : Type 0} (words : List ℕ) (slots : List (Option C)) (id : ℕ) (v : SeatView G X) (hands : List (Hand C X H)) (parts : List (Vec Entry Global))
       → Final (Seen (Kept event_core is_call (LawfulFrom lawful) (StandsFrom stands) start) id v) words slots → v.gathers ≡ true
       → v.lists ≡ map mine_of hands → v.saws ≡ map events_seen hands → v.cores ≡ length hands
       → map (λ p. p.items) parts ≡ map answered_entries hands → AllZip AreCallsOf (map mine_of hands) (map answered_entries hands)
@@ -219,6 +228,25 @@ module _ {C X G : Type 0} (lawful : G → TreeState → List (Event X) → Type 
         },
       )
 
+-- what lies in a list of slots is in the list of their values
+inside_at : {C : Type 0} (values : List C) (slot : ℕ) (value : C) → get_elem? (map Some values) slot ≡ some (Some value)
+    → slice_get values slot ≡ Some value
+inside_at [] slot value at = absurd (some-ne-none (Some value) (sym at))
+inside_at (v ∷ values) zero value at = some-injective (Some v) (Some value) at
+inside_at (v ∷ values) (suc slot) value at = inside_at values slot value at
+
+-- values that are home by their slots are home by their places
+pub home_by_place : {C X G : Type 0} (stands : G → TreeState → List (Event X) → ℕ → C → Type 0) (start : TreeState × (G × ℕ)) (log : List (Event X))
+    (slot_at place_at : ℕ → ℕ → ℕ) (inside values : List C) → IsOneToOne (slot_at start.1.1) (place_at start.1.1)
+    → AreAtHome (at_slots place_at stands start.1) start.0 log (length (map Some inside)) inside → length values ≡ length (map Some inside)
+    → ((place : ℕ) (value : C) → slice_get values place ≡ Some value → get_elem? (map Some inside) (slot_at start.1.1 place) ≡ some (Some value))
+    → AreAtHome (stands start.1.0) start.0 log (length (map Some inside)) values
+home_by_place stands start log slot_at place_at inside values one home count laid = record {
+  count = count;
+  each = λ place value at. subst (λ p. stands start.1.0 start.0 log p value) (one.back place)
+      (home.each (slot_at start.1.1 place) value (inside_at inside (slot_at start.1.1 place) value (laid place value at)));
+}
+
 -- lists of calls with one list more
 pub calls_snoc : {X : Type 0} (lists : List (List (Event X))) (parts : List (List Entry)) (mine : List (Event X)) (entries : List Entry)
     → AllZip AreCallsOf lists parts → AreCallsOf mine entries → AllZip AreCallsOf (lists ++ mine ∷ []) (parts ++ entries ∷ [])
@@ -228,19 +256,6 @@ calls_snoc (list ∷ lists) [] mine entries all are = absurd all
 calls_snoc (list ∷ lists) (part ∷ parts) mine entries all are = (all.0, calls_snoc lists parts mine entries all.1 are)
 
 module _ {C : Type 0} where
-  -- a value that is taken stands behind those that were
-  pub takes_next : (slots : List (Option C)) (place : ℕ) (front : List C) (value : C) → map Some front ++ drop place slots ≡ slots
-      → get_elem? slots place ≡ some (Some value) → map Some (front ++ value ∷ []) ++ drop (suc place) slots ≡ slots
-  takes_next slots place front value are at =
-      ap (λ l. l ++ drop (suc place) slots) (map-append Some front (value ∷ []))
-      ∙ (append_assoc (map Some front) (Some value ∷ []) (drop (suc place) slots)
-      ∙ (ap (λ l. map Some front ++ l) (sym (first_of slots place (Some value) at)) ∙ are)) where
-        first_of : (slots : List (Option C)) (place : ℕ) (slot : Option C) → get_elem? slots place ≡ some slot → drop place slots
-            ≡ slot ∷ drop (suc place) slots
-        first_of [] place slot at = absurd (some-ne-none slot (sym at))
-        first_of (s ∷ slots) zero slot at = ap (λ l. l ∷ slots) (some-injective s slot at)
-        first_of (s ∷ slots) (suc place) slot at = first_of slots place slot at
-
   -- no slot is empty among those that have values
   pub none_empty : (values : List C) (slots : List (Option C)) (place : ℕ) → slots ≡ map Some values → get_elem? slots place ≡ some None → ⊥
   none_empty values slots place are at = empty_of values place (ap (λ l. get_elem? l place) (sym are) ∙ at) where
@@ -248,10 +263,3 @@ module _ {C : Type 0} where
     empty_of [] place at = some-ne-none None (sym at)
     empty_of (v ∷ values) zero at = absurd (cc (some-injective (Some v) None at))
     empty_of (v ∷ values) (suc place) at = empty_of values place at
-
-  -- one list of values has one list of slots
-  pub same_inside : (one other : List C) → map Some one ≡ map Some other → one ≡ other
-  same_inside [] [] same = refl
-  same_inside [] (y ∷ other) same = absurd (cc same)
-  same_inside (x ∷ one) [] same = absurd (cc same)
-  same_inside (x ∷ one) (y ∷ other) same = (λ i. (let first : x ≡ y = cc same in first i) ∷ same_inside one other (cc same) i)

@@ -20,7 +20,8 @@ use Rattle.stamp_table.proofs.Calling.{stamps_are_calls}
 use Rattle.stamp_table.specs.declared.held.HeldCell.{HeldCell}
 use Rattle.stamp_table.specs.Ascending.{Falls, AreBelow}
 use Rattle.stamp_table.specs.Steps.{MayDraw, IsPast}
-use Rattle.stamp_table.specs.Events.{event_core, is_call, called, told_by, calls_in, SeatView, tree_view, LawfulFrom, StandsFrom}
+use Rattle.stamp_table.specs.Placing.{IsOneToOne, by_given, at_slots}
+use Rattle.stamp_table.specs.Events.{event_core, is_call, called, told_by, calls_in, SeatView, tree_view, places_shown, LawfulFrom, StandsFrom}
 use Rattle.stamp_table.specs.Hand.{IsCore, WaitsWell, spare_of, empty_slots}
 use Rattle.stamp_table.specs.Table.{IsSameSeat, MayCall, MayDrawEntry, AddsEntry, MayTell, MayTellNow, TellsNow, LooksNow, entry_numbered, with_answer}
 use Rattle.stamp_table.specs.Answered.{unanswered, IsWellAnswered, AreWellAnswered, AreCallsOf, waits_for_answer}
@@ -85,84 +86,92 @@ module _ {X : Type 0} where
   calls_few mine entries are few = let s = stamps_of mine entries are in let c = stamps_are_calls mine in omega (arith, s, c, few)
 
 module _ {C X G : Type 0} (lawful : G → TreeState → List (Event X) → Type 0) (stands : G → TreeState → List (Event X) → ℕ → C → Type 0)
-    (seat : Seat (Option C) (SeatView G X)) (number : ℕ) (entries : List Entry) (cells : List (HeldCell C))
-    (core : IsCore seat number entries cells) (call : Call) (reply : Reply) where
+    (slot_at place_at : ℕ → ℕ → ℕ) (one : (measure : ℕ) → IsOneToOne (slot_at measure) (place_at measure))
+    (seat : Seat (Option C) (SeatView (G × ℕ) X)) (number : ℕ) (entries : List Entry) (cells : List (HeldCell C))
+    (core : IsCore place_at seat number entries cells) (call : Call) (reply : Reply) where
   -- a call that may come may be entered
-  pub may_enter : length entries < 2 ^ 50 → MayCall (lawful seat.me.0.first.1) (stands seat.me.0.first.1) (tree_view seat.me.0) call reply
-      → MayDrawEntry lawful stands seat.me.0 (entry_numbered number call reply)
+  pub may_enter : length entries < 2 ^ 50 → MayCall (lawful seat.me.0.first.1.0) (stands seat.me.0.first.1.0) (tree_view place_at seat.me.0) call reply
+      → MayDrawEntry (by_given lawful) (at_slots place_at stands) seat.me.0 (entry_numbered number call reply)
   may_enter few may = record {
     own = λ n. sym core.number_known;
     few = let c = stamps_of seat.me.0.mine entries core.entries_are in omega (arith, c, few);
     may =
-        subst (λ k. (log : List (Event X)) → IsPast event_core is_call (LawfulFrom lawful) (StandsFrom stands) seat.me.0 log
-        → MayDraw event_core is_call (LawfulFrom lawful) (StandsFrom stands) seat.me.0 (λ n. Called (entry_numbered k call reply n)) log)
+        subst (λ k. (log : List (Event X)) → IsPast event_core is_call (LawfulFrom (by_given lawful)) (StandsFrom (at_slots place_at stands)) seat.me.0 log
+        → MayDraw event_core is_call (LawfulFrom (by_given lawful)) (StandsFrom (at_slots place_at stands)) seat.me.0
+        (λ n. Called (entry_numbered k call reply n)) log)
         core.number_known
-        (λ log past. draw_up lawful stands seat.me.0 (λ n. Called (entry_numbered seat.me.0.core call reply n)) log
-        (may log (past_down lawful stands seat.me.0 log past)));
+        (λ log past. draw_up lawful stands slot_at place_at one seat.me.0 (λ n. Called (entry_numbered seat.me.0.core call reply n)) log
+        (may log (past_down lawful stands slot_at place_at one seat.me.0 log past)));
   }
 
   -- and once it was entered the core's parts fit again
-  pub entered : (after : Seat (Option C) (SeatView G X)) (stamp : ℕ) → length entries < 2 ^ 50 → IsSameSeat seat after
-      → AddsEntry lawful stands (entry_numbered number call reply) seat.me stamp after.me
-      → IsCore after number (entries ++ entry_numbered number call reply stamp ∷ []) cells
-  entered after stamp few same adds = let drew = adds.1.1 in let held : after.me.0.held ≡ seat.me.0.held = ap (λ v. v.held) drew.frame in record {
-    lives = ap (λ v. v.gone) drew.frame ∙ core.lives;
-    calls = ap (λ v. v.gathers) drew.frame ∙ core.calls;
-    number_known = ap (λ v. v.core) drew.frame ∙ core.number_known;
-    entries_are = subst (λ m. AreCallsOf m (entries ++ entry_numbered number call reply stamp ∷ [])) (sym drew.mine)
-        (calls_more seat.me.0.mine entries (entry_numbered number call reply stamp) core.entries_are
-        (seen_well seat.me.0.first.0 adds.1.0 (entry_numbered number call reply stamp) after.me.0.seen drew.entry_last drew.legal_seen.legal_calls));
-    few = let m = length-append entries (entry_numbered number call reply stamp ∷ []) in omega (arith, m, few);
-    places = held ∙ core.places;
-    falls = subst Falls (sym held) core.falls;
-    slots = adds.0 ∙ (core.slots ∙ ap empty_slots (sym held));
-    within = subst (λ (z : TableId × List ℕ). AreBelow z.0.slots z.1) (λ i. (sym same.table i, sym held i)) core.within;
-  }
+  pub entered : (after : Seat (Option C) (SeatView (G × ℕ) X)) (stamp : ℕ) → length entries < 2 ^ 50 → IsSameSeat seat after
+      → AddsEntry (by_given lawful) (at_slots place_at stands) (entry_numbered number call reply) seat.me stamp after.me
+      → IsCore place_at after number (entries ++ entry_numbered number call reply stamp ∷ []) cells
+  entered after stamp few same adds = let drew = adds.1.1 in let held : after.me.0.held ≡ seat.me.0.held = ap (λ v. v.held) drew.frame in
+      let shown : places_shown place_at after.me.0 ≡ places_shown place_at seat.me.0 = ap (places_shown place_at) drew.frame in record {
+        lives = ap (λ v. v.gone) drew.frame ∙ core.lives;
+        calls = ap (λ v. v.gathers) drew.frame ∙ core.calls;
+        number_known = ap (λ v. v.core) drew.frame ∙ core.number_known;
+        entries_are = subst (λ m. AreCallsOf m (entries ++ entry_numbered number call reply stamp ∷ [])) (sym drew.mine)
+            (calls_more seat.me.0.mine entries (entry_numbered number call reply stamp) core.entries_are
+            (seen_well seat.me.0.first.0 adds.1.0 (entry_numbered number call reply stamp) after.me.0.seen drew.entry_last drew.legal_seen.legal_calls));
+        few = let m = length-append entries (entry_numbered number call reply stamp ∷ []) in omega (arith, m, few);
+        places = shown ∙ core.places;
+        falls = subst Falls (sym shown) core.falls;
+        slots = adds.0 ∙ (core.slots ∙ ap empty_slots (sym held));
+        within = subst (λ (z : TableId × List ℕ). AreBelow z.0.slots z.1) (λ i. (sym same.table i, sym shown i)) core.within;
+      }
 
 module _ {C X G : Type 0} (lawful : G → TreeState → List (Event X) → Type 0) (stands : G → TreeState → List (Event X) → ℕ → C → Type 0)
-    (seat : Seat (Option C) (SeatView G X)) (number : ℕ) (entries : List Entry) (cells : List (HeldCell C))
-    (core : IsCore seat number entries cells) where
+    (slot_at place_at : ℕ → ℕ → ℕ) (one : (measure : ℕ) → IsOneToOne (slot_at measure) (place_at measure))
+    (seat : Seat (Option C) (SeatView (G × ℕ) X)) (number : ℕ) (entries : List Entry) (cells : List (HeldCell C))
+    (core : IsCore place_at seat number entries cells) where
   -- a fact that may stand may be told
-  pub may_tell_now : (fact : X) → MayTell (lawful seat.me.0.first.1) (stands seat.me.0.first.1) (tree_view seat.me.0) fact
-      → MayTellNow lawful stands seat.me.0 fact
-  may_tell_now fact may log past = draw_up lawful stands seat.me.0 (told_by seat.me.0.core fact) log (may log (past_down lawful stands seat.me.0 log past))
+  pub may_tell_now : (fact : X) → MayTell (lawful seat.me.0.first.1.0) (stands seat.me.0.first.1.0) (tree_view place_at seat.me.0) fact
+      → MayTellNow (by_given lawful) (at_slots place_at stands) seat.me.0 fact
+  may_tell_now fact may log past = draw_up lawful stands slot_at place_at one seat.me.0 (told_by seat.me.0.core fact) log
+      (may log (past_down lawful stands slot_at place_at one seat.me.0 log past))
 
   -- once a core has told a fact its parts fit again, and its entries are as before
-  pub has_told : (after : Seat (Option C) (SeatView G X)) (fact : X) → IsSameSeat seat after
-      → TellsNow lawful stands fact seat.me after.me → IsCore after number entries cells
-  has_told after fact same tells = let drew = tells.1.1.1 in let held : after.me.0.held ≡ seat.me.0.held = ap (λ v. v.held) drew.frame in record {
-    lives = ap (λ v. v.gone) drew.frame ∙ core.lives;
-    calls = ap (λ v. v.gathers) drew.frame ∙ core.calls;
-    number_known = ap (λ v. v.core) drew.frame ∙ core.number_known;
-    entries_are = subst (λ m. AreCallsOf m entries) (sym drew.mine) (calls_told seat.me.0.mine entries seat.me.0.core fact tells.0 core.entries_are);
-    few = core.few;
-    places = held ∙ core.places;
-    falls = subst Falls (sym held) core.falls;
-    slots = tells.1.0 ∙ (core.slots ∙ ap empty_slots (sym held));
-    within = subst (λ (z : TableId × List ℕ). AreBelow z.0.slots z.1) (λ i. (sym same.table i, sym held i)) core.within;
-  }
+  pub has_told : (after : Seat (Option C) (SeatView (G × ℕ) X)) (fact : X) → IsSameSeat seat after
+      → TellsNow (by_given lawful) (at_slots place_at stands) fact seat.me after.me → IsCore place_at after number entries cells
+  has_told after fact same tells = let drew = tells.1.1.1 in let held : after.me.0.held ≡ seat.me.0.held = ap (λ v. v.held) drew.frame in
+      let shown : places_shown place_at after.me.0 ≡ places_shown place_at seat.me.0 = ap (places_shown place_at) drew.frame in record {
+        lives = ap (λ v. v.gone) drew.frame ∙ core.lives;
+        calls = ap (λ v. v.gathers) drew.frame ∙ core.calls;
+        number_known = ap (λ v. v.core) drew.frame ∙ core.number_known;
+        entries_are = subst (λ m. AreCallsOf m entries) (sym drew.mine) (calls_told seat.me.0.mine entries seat.me.0.core fact tells.0 core.entries_are);
+        few = core.few;
+        places = shown ∙ core.places;
+        falls = subst Falls (sym shown) core.falls;
+        slots = tells.1.0 ∙ (core.slots ∙ ap empty_slots (sym held));
+        within = subst (λ (z : TableId × List ℕ). AreBelow z.0.slots z.1) (λ i. (sym same.table i, sym shown i)) core.within;
+      }
 
   -- once a core has seen the history its parts fit again
-  pub has_looked : (after : Seat (Option C) (SeatView G X)) (found : ℕ) → IsSameSeat seat after → LooksNow lawful stands seat.me found after.me
-      → IsCore after number entries cells
-  has_looked after found same looks = let saw = looks.1 in let held : after.me.0.held ≡ seat.me.0.held = ap (λ v. v.held) saw.frame in record {
-    lives = ap (λ v. v.gone) saw.frame ∙ core.lives;
-    calls = ap (λ v. v.gathers) saw.frame ∙ core.calls;
-    number_known = ap (λ v. v.core) saw.frame ∙ core.number_known;
-    entries_are = subst (λ m. AreCallsOf m entries) (sym (ap (λ v. v.mine) saw.frame)) core.entries_are;
-    few = core.few;
-    places = held ∙ core.places;
-    falls = subst Falls (sym held) core.falls;
-    slots = looks.0 ∙ (core.slots ∙ ap empty_slots (sym held));
-    within = subst (λ (z : TableId × List ℕ). AreBelow z.0.slots z.1) (λ i. (sym same.table i, sym held i)) core.within;
-  }
+  pub has_looked : (after : Seat (Option C) (SeatView (G × ℕ) X)) (found : ℕ) → IsSameSeat seat after → LooksNow (by_given lawful)
+      (at_slots place_at stands) seat.me found after.me
+      → IsCore place_at after number entries cells
+  has_looked after found same looks = let saw = looks.1 in let held : after.me.0.held ≡ seat.me.0.held = ap (λ v. v.held) saw.frame in
+      let shown : places_shown place_at after.me.0 ≡ places_shown place_at seat.me.0 = ap (places_shown place_at) saw.frame in record {
+        lives = ap (λ v. v.gone) saw.frame ∙ core.lives;
+        calls = ap (λ v. v.gathers) saw.frame ∙ core.calls;
+        number_known = ap (λ v. v.core) saw.frame ∙ core.number_known;
+        entries_are = subst (λ m. AreCallsOf m entries) (sym (ap (λ v. v.mine) saw.frame)) core.entries_are;
+        few = core.few;
+        places = shown ∙ core.places;
+        falls = subst Falls (sym shown) core.falls;
+        slots = looks.0 ∙ (core.slots ∙ ap empty_slots (sym held));
+        within = subst (λ (z : TableId × List ℕ). AreBelow z.0.slots z.1) (λ i. (sym same.table i, sym shown i)) core.within;
+      }
 
-module _ {C X G : Type 0} (seat : Seat (Option C) (SeatView G X)) (number : ℕ) (entries : List Entry) (cells : List (HeldCell C))
-    (core : IsCore seat number entries cells) where
+module _ {C X G : Type 0} (place_at : ℕ → ℕ → ℕ) (seat : Seat (Option C) (SeatView (G × ℕ) X)) (number : ℕ) (entries : List Entry) (cells : List (HeldCell C))
+    (core : IsCore place_at seat number entries cells) where
   -- once its last entry has an answer its parts fit again
   pub has_answered : (front : List Entry) (last : Entry) (answer : Reply) (ack : Option ℕ) → entries ≡ front ++ last ∷ []
       → waits_for_answer last.call last.reply ≡ true → IsFsyncReply answer → (IsSome ack ↔ IsTrue (is_ok_reply answer))
-      → IsCore seat number (front ++ with_answer last answer ack ∷ []) cells
+      → IsCore place_at seat number (front ++ with_answer last answer ack ∷ []) cells
   has_answered front last answer ack is waits may acknowledged = record {
     lives = core.lives;
     calls = core.calls;

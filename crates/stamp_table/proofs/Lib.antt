@@ -1,10 +1,10 @@
+pub mod Seats
 pub mod Logs
 pub mod Keeps
 pub mod Taking
 pub mod Drawing
 pub mod Looking
 pub mod Gathering
-pub mod Seats
 pub mod Asking
 pub mod Hands
 pub mod Answered
@@ -12,6 +12,7 @@ pub mod Entering
 pub mod Leaving
 pub mod Refilling
 pub mod Closing
+pub mod Laying
 pub mod Beginning
 pub mod Finding
 pub mod Replacing

@@ -57,7 +57,12 @@ cell_code {C} value = code_by (ℕ × C) (coded× coded_ℕ value) (λ c. (c.pla
 
 -- a table's name as its fields
 abbrev pub desk_code : {G : Type 0} → Coded G → Coded (Desk G)
-desk_code {G} given = code_by (TableId × G) (coded× table_id_coded given) (λ d. (d.id, d.given)) (λ p. record { id = p.0; given = p.1 }) (λ _. refl)
+desk_code {G} given =
+    code_by (TableId × (G × ℕ)) (coded× table_id_coded (coded× given coded_ℕ)) (λ d. (d.id, (d.given, d.measure))) (λ p. record {
+      id = p.0;
+      given = p.1.0;
+      measure = p.1.1;
+    }) (λ _. refl)
 
 -- a core as its fields
 abbrev pub hand_code : {C X G : Type 0} → Coded Entry → Coded C → Coded X → Coded G → Coded (Hand C X G)

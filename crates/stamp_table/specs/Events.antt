@@ -1,5 +1,5 @@
 -- The history of a table: calls, each of which drew a stamp, and what cores told, which drew none.
-use Rattle.std.specs.Prelude.{ℕ, Bool, true, false, List, Option, Some, None, filter_map}
+use Rattle.std.specs.Prelude.{ℕ, Bool, true, false, List, Option, Some, None, map, filter_map}
 use Rattle.tree_laws.specs.Tree.{TreeState}
 use Rattle.tree_laws.specs.History.{IsLegal}
 use Rattle.tree_laws.specs.declared.history.Entry.{Entry}
@@ -49,16 +49,20 @@ abbrev pub SeatView : Type 0 → Type 0 → Type 0
 SeatView G X = View (TreeState × G) (Event X)
 
 module _ {G X : Type 0} where
-  -- what a core shows of its seat's view: all but what was given
-  abbrev pub tree_view : SeatView G X → View TreeState (Event X)
-  tree_view v = record {
+  -- the places of the cells of which a seat has the slots
+  abbrev pub places_shown : (ℕ → ℕ → ℕ) → SeatView (G × ℕ) X → List ℕ
+  places_shown place_at v = map (place_at v.first.1.1) v.held
+
+  -- what a core shows of its seat's view: all but what was given, and the places of its cells in place of their slots
+  abbrev pub tree_view : (ℕ → ℕ → ℕ) → SeatView (G × ℕ) X → View TreeState (Event X)
+  tree_view place_at v = record {
     gathers = v.gathers;
     gone = v.gone;
     first = v.first.0;
     core = v.core;
     seen = v.seen;
     mine = v.mine;
-    held = v.held;
+    held = places_shown place_at v;
     cores = v.cores;
     lists = v.lists;
     saws = v.saws;

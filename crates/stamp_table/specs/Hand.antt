@@ -7,16 +7,17 @@ use Rattle.tree_laws.specs.Tree.{TreeState}
 use Rattle.tree_laws.specs.declared.history.Entry.{Entry}
 use Rattle.stamp_table.specs.declared.event.Event.{Event}
 use Rattle.stamp_table.specs.declared.view.View.{View}
-use Rattle.stamp_table.specs.Events.{SeatView}
+use Rattle.stamp_table.specs.Events.{SeatView, places_shown}
 use Rattle.stamp_table.specs.declared.held.HeldCell.{HeldCell}
 use Rattle.stamp_table.specs.Rule.{MOST_ENTRIES}
 use Rattle.stamp_table.specs.Ascending.{Falls, AreBelow}
 use Rattle.stamp_table.specs.Answered.{AreCallsOf, waits_for_answer}
 
--- A table by its name: which one it is, and what was given when it was made.
+-- A table by its name: which one it is, what was given when it was made, and the number by which its cells are laid out.
 pub record Desk (G : Type 0) : Type 0 where
   pub id : TableId
   pub given : G
+  pub measure : ℕ
 
 -- A core: its table, what it knows, its entries with their answers, the stamp of its fsync that waits for its answer where one does,
 -- the cells that it holds with their values, places ascending, for how many further entries and cells it has room, whether it leads
@@ -77,13 +78,14 @@ module _ {C X G : Type 0} where
 
   -- The parts of a core fit: its entries are the calls that it knows as its own, but for their answers, its places fall, and its slots
   -- are empty.
-  pub record IsCore (seat : Seat (Option C) (SeatView G X)) (number : ℕ) (entries : List Entry) (cells : List (HeldCell C)) : Type 0 where
+  pub record IsCore (place_at : ℕ → ℕ → ℕ) (seat : Seat (Option C) (SeatView (G × ℕ) X)) (number : ℕ) (entries : List Entry)
+      (cells : List (HeldCell C)) : Type 0 where
     pub lives : seat.me.0.gone ≡ false
     pub calls : seat.me.0.gathers ≡ false
     pub number_known : seat.me.0.core ≡ number
     pub entries_are : AreCallsOf seat.me.0.mine entries
     pub few : length entries ≤ MOST_ENTRIES
-    pub places : seat.me.0.held ≡ reverse (places_of cells)
-    pub falls : Falls seat.me.0.held
+    pub places : places_shown place_at seat.me.0 ≡ reverse (places_of cells)
+    pub falls : Falls (places_shown place_at seat.me.0)
     pub slots : seat.me.1 ≡ empty_slots seat.me.0.held
-    pub within : AreBelow seat.table_id.slots seat.me.0.held
+    pub within : AreBelow seat.table_id.slots (places_shown place_at seat.me.0)

@@ -3,6 +3,7 @@ pub mod Ascending
 pub mod Codes
 pub mod Events
 pub mod Hand
+pub mod Placing
 pub mod Rule
 pub mod Steps
 pub mod Table

@@ -5,7 +5,11 @@ ghost use Rattle.tree_laws.specs.History.{IsLegal};
 ghost use Rattle.tree_laws.specs.Merged.{is_core};
 ghost use Rattle.std.specs.Mem.Slots.{IsFull, slots_items, slots_len};
 ghost use Rattle.std.specs.List.{AllZip};
+ghost use mathlib.Core.Option.{some};
+ghost use lib.ListN.{get_elem?};
+ghost use Rattle.tree_laws.specs.Tree.{TreeState};
 ghost use Rattle.stamp_table.specs.Answered.{AreCallsOf};
+ghost use Rattle.stamp_table.specs.Placing.{MOST_CELLS, IsLaidOut};
 ghost use Rattle.stamp_table.specs.declared.event.Event.{Event};
 ghost use Rattle.stamp_table.specs.Hand.{Desk, Hand, IsLead};
 ghost use Rattle.stamp_table.specs.Table.{AreAllCores, AreIdleFrom, first_leads, mine_of, events_seen, answered_entries, IsSameSeat, IsLogAtEnd, AreAtHome};
@@ -18,7 +22,7 @@ use sfs_tree::Tree;
 use std::alloc::Global;
 use tree_laws::{Entry, History};
 
-impl<C: Drop, X, G> Core<C, X, G> {
+impl<C: Drop, X, G, M: Meaning<C, X, G>> Core<C, X, G, M> {
     // The seat that gathers, which the first core has.
     fn take_lead(&mut self) -> CoreSeat<C, X, G>
         requires { self.old.leads ≡ true }
@@ -34,9 +38,9 @@ impl<C: Drop, X, G> Core<C, X, G> {
 
 // Gathers the list of the next core.
 fn gather<C: Drop, X, G, M: Meaning<C, X, G>>(
-    table: &Table<Option<C>, View<(Tree, G), Event<X>>, Key<G>, Law<M>, Global>,
+    table: &Table<Option<C>, View<(Tree, (G, usize)), Event<X>>, Key<G>, Law<M>, Global>,
     lead: &mut CoreSeat<C, X, G>,
-    core: Core<C, X, G>,
+    core: Core<C, X, G, M>,
 ) -> Vec<Entry>
     requires words { 0 < table.now.shared.table_id.words }
     requires lead { (lead.old.table_id ≡ table.now.shared.table_id) × (lead.old.me.0.gathers ≡ true) }
@@ -57,13 +61,16 @@ fn gather<C: Drop, X, G, M: Meaning<C, X, G>>(
         waiting: _,
         held: _,
         apart: _,
+        meaning: _,
     } = core;
     table.shared.join_seat::<Gather<C, M>>(lead, seat);
     entries
 }
 
 // The seat that gathers, which the first of the cores has.
-fn first_lead<C: Drop, X, G>(cores: &mut Vec<Core<C, X, G>>) -> CoreSeat<C, X, G>
+fn first_lead<C: Drop, X, G, M: Meaning<C, X, G>>(
+    cores: &mut Vec<Core<C, X, G, M>>,
+) -> CoreSeat<C, X, G>
     requires { first_leads cores.old.items ≡ true }
     ensures ready { (table : Desk G) (count : ℕ) → AreIdleFrom table count 0 cores.old.items
         → AreIdleFrom table count 0 cores.new.items × IsLead table.id count result }
@@ -76,13 +83,14 @@ fn first_lead<C: Drop, X, G>(cores: &mut Vec<Core<C, X, G>>) -> CoreSeat<C, X, G
 
 // Gathers the lists of all cores.
 fn gather_all<C: Drop, X, G, M: Meaning<C, X, G>>(
-    table: &Table<Option<C>, View<(Tree, G), Event<X>>, Key<G>, Law<M>, Global>,
-    mut cores: Vec<Core<C, X, G>>,
+    table: &Table<Option<C>, View<(Tree, (G, usize)), Event<X>>, Key<G>, Law<M>, Global>,
+    mut cores: Vec<Core<C, X, G, M>>,
     mut parts: Vec<Vec<Entry>>,
 ) -> (CoreSeat<C, X, G>, Vec<Vec<Entry>>)
     requires words { 0 < table.now.shared.table_id.words }
     requires leads { first_leads cores.items ≡ true }
-    requires ready { AreIdleFrom (record { id = table.now.shared.table_id; given = table.now.shared.key.1.value }) (length cores.items) 0 cores.items }
+    requires ready { AreIdleFrom (record { id = table.now.shared.table_id; given = table.now.shared.key.1.0.value; measure = table.now.shared.key.1.1.value })
+        (length cores.items) 0 cores.items }
     requires room { (parts.items ≡ []) × (length cores.items ≤ vec_capacity parts) }
     ensures lead { (result.0.table_id ≡ table.now.shared.table_id) × (result.0.me.0.gathers ≡ true) }
     ensures cores { result.0.me.0.cores ≡ length cores.items }
@@ -104,7 +112,7 @@ impl<C: Drop, X, G, M: Meaning<C, X, G>> Shared<C, X, G, M> {
     /// entries stand in it, with their answers, once and in their order. What cores told stands in a log of which the history has the
     /// calls, and each value, in the order of places, stands for what this log leaves of its cell. It takes all cores of the table,
     /// ascending by number, none of which holds a cell. It takes no memory.
-    pub fn close(self, cores: Vec<Core<C, X, G>>) -> (History, Vec<C>)
+    pub fn close(self, cores: Vec<Core<C, X, G, M>>) -> (History, Vec<C>)
         requires { AreAllCores self cores.items }
         ensures legal { IsLegal self.first result.0 }
         ensures own { (core : ℕ) (hand : Hand C X G) → slice_get cores.items core ≡ Some hand → filter (is_core core) result.0 ≡ hand.entries }
@@ -116,29 +124,38 @@ impl<C: Drop, X, G, M: Meaning<C, X, G>> Shared<C, X, G, M> {
             cells: _,
             cores: _,
             parts,
+            measure,
             values,
         } = self;
         let (lead, parts) = gather_all(&table, cores, parts);
-        let values = values_of(table.close_with(lead), values);
+        let values = Self::values_of(table.close_with(lead), measure, values);
         (History::from_parts(parts), values)
     }
-}
 
-// The values of a table's cells, all of which lie at home, and lets its memory go.
-fn values_of<C: Drop>(mut closed: Closed<Option<C>, Global>, mut values: Vec<C>) -> Vec<C>
-    requires full { IsFull closed.slots }
-    requires home { (inside : List C) × (slots_items closed.slots ≡ map Some inside) }
-    requires room { (values.items ≡ []) × (slots_len closed.slots ≤ vec_capacity values) }
-    ensures { map Some result.items ≡ slots_items closed.slots }
-{
-    let mut place = 0;
-    while place < closed.slot_count() {
-        let Some(value) = closed.take(place) else {
-            unreachable!()
-        };
-        values.push_reserved(value);
-        place += 1;
+    // The values of a table's cells, all of which lie at home, in the order of their places, and lets its memory go.
+    fn values_of(
+        mut closed: Closed<Option<C>, Global>,
+        measure: usize,
+        mut values: Vec<C>,
+    ) -> Vec<C>
+        requires full { IsFull closed.slots }
+        requires home { (inside : List C) × (slots_items closed.slots ≡ map Some inside) }
+        requires room { (values.items ≡ []) × (slots_len closed.slots ≤ vec_capacity values) }
+        requires few { slots_len closed.slots ≤ MOST_CELLS }
+        requires laid { IsLaidOut (slots_len closed.slots) (M.slot_at measure) (M.place_at measure) measure }
+        ensures count { length result.items ≡ slots_len closed.slots }
+        ensures each { (place : ℕ) (value : C) → slice_get result.items place ≡ Some value
+            → get_elem? (slots_items closed.slots) (M.slot_at measure place) ≡ some (Some value) }
+    {
+        let mut place = 0;
+        while place < closed.slot_count() {
+            let Some(value) = closed.take(M::slot_of(measure, place)) else {
+                unreachable!()
+            };
+            values.push_reserved(value);
+            place += 1;
+        }
+        closed.free();
+        values
     }
-    closed.free();
-    values
 }

@@ -11,7 +11,7 @@ ghost use Rattle.stamp_table.specs.Table.{HoldsMore, HoldsAll, Looked, MayCall, 
 use crate::shared::CoreSeat;
 use crate::{HeldCell, Meaning, Shared, Telling};
 use sfs_base::{CoreId, NoMemory, Stamp};
-use std::marker::{Brand, Model};
+use std::marker::{Brand, Model, PhantomData};
 use std::sync::Wait;
 use tree_laws::{Call, Entry, Reply};
 
@@ -20,7 +20,7 @@ const MOST_ENTRIES: u64 = 1 << 50;
 
 /// A core's place at a table. It keeps the list of the core's own entries, and the values of the cells that it holds.
 #[derive(Drop)]
-pub struct Core<C, X, G> {
+pub struct Core<C, X, G, M: Meaning<C, X, G>> {
     pub(crate) seat: CoreSeat<C, X, G>,
     pub(crate) lead: Option<CoreSeat<C, X, G>>,
     pub(crate) number: CoreId,
@@ -31,6 +31,7 @@ pub struct Core<C, X, G> {
     pub(crate) held: Vec<HeldCell<C>>,
     // The cores lie side by side in a list, and each call writes to its own. So they lie a line of memory further apart.
     pub(crate) apart: [u64; 8],
+    pub(crate) meaning: PhantomData<M>,
 }
 
 // The stamp, where the entry with it waits for its answer: it is an fsync with want of memory.
@@ -43,7 +44,7 @@ fn waiting_with(call: &Call, reply: &Reply, stamp: Stamp) -> Option<Stamp>
     }
 }
 
-impl<C, X, G> Model for Core<C, X, G> {
+impl<C, X, G, M: Meaning<C, X, G>> Model for Core<C, X, G, M> {
     ghost use Rattle.std.specs.Prelude.{◌-◌, length, is_some, option_map};
     ghost use Rattle.std.specs.Vec.{vec_capacity, vec_len};
     ghost use Rattle.stamp_table.specs.Hand.{Hand, spare_of, IsCore, LeadsWell, WaitsWell};
@@ -56,8 +57,8 @@ impl<C, X, G> Model for Core<C, X, G> {
     ghost coded = { hand_code entry.the_row.coded C.code X.code G.code };
 
     ghost view = { λ c. record {
-      table = record { id = c.seat.table_id; given = c.seat.me.0.first.1 };
-      view = tree_view c.seat.me.0;
+      table = record { id = c.seat.table_id; given = c.seat.me.0.first.1.0; measure = c.seat.me.0.first.1.1 };
+      view = tree_view M.place_at c.seat.me.0;
       entries = c.entries.items;
       waiting = option_map (λ stamp. stamp.0) c.waiting;
       held = c.held.items;
@@ -67,11 +68,11 @@ impl<C, X, G> Model for Core<C, X, G> {
       cores = c.cores;
     } };
 
-    ghost invariant = { λ c. IsCore c.seat c.number.0 c.entries.items c.held.items × LeadsWell c.seat.table_id c.cores c.lead
+    ghost invariant = { λ c. IsCore M.place_at c.seat c.number.0 c.entries.items c.held.items × LeadsWell c.seat.table_id c.cores c.lead
         × WaitsWell c.entries.items c.waiting };
 }
 
-impl<C: Drop, X, G> Core<C, X, G> {
+impl<C: Drop, X, G, M: Meaning<C, X, G>> Core<C, X, G, M> {
     /// The core's number.
     pub fn number(&self) -> CoreId
         ensures { result.0 ≡ self.now.view.core }
@@ -101,30 +102,21 @@ impl<C: Drop, X, G> Core<C, X, G> {
     }
 
     /// Holds one cell more, which lies above all that it holds. It waits while another core has the cell.
-    pub fn hold_one<R: Wait, M: Meaning<C, X, G>>(
-        &mut self,
-        rt: &R,
-        shared: &Shared<C, X, G, M>,
-        place: usize,
-    )
+    pub fn hold_one<R: Wait>(&mut self, rt: &R, shared: &Shared<C, X, G, M>, place: usize)
         requires table { self.old.table ≡ shared.now.table }
         requires cell { place < shared.now.table.id.slots }
         requires above { LiesAbove place self.old.view.held }
         requires room { 0 < self.old.room }
         ensures { HoldsMore (M.lawful shared.now.table.given) (M.stands shared.now.table.given) place self.old self.new }
     {
-        shared.take(rt, &mut self.seat, place);
-        let value = shared.bring(&mut self.seat, place);
+        let slot = shared.slot_of(place);
+        shared.take(rt, &mut self.seat, slot);
+        let value = shared.bring(&mut self.seat, slot);
         self.held.push_reserved(HeldCell { place, value });
     }
 
     /// Holds these cells more, places ascending, each above all that it holds. It waits while another core has one of them.
-    pub fn hold<R: Wait, M: Meaning<C, X, G>>(
-        &mut self,
-        rt: &R,
-        shared: &Shared<C, X, G, M>,
-        places: &[usize],
-    )
+    pub fn hold<R: Wait>(&mut self, rt: &R, shared: &Shared<C, X, G, M>, places: &[usize])
         requires table { self.old.table ≡ shared.now.table }
         requires cells { AreBelow shared.now.table.id.slots places.now }
         requires above { RiseAbove self.old.view.held places.now }
@@ -138,12 +130,7 @@ impl<C: Drop, X, G> Core<C, X, G> {
 
     /// Adds the entry of a call with this reply, and answers its stamp. An fsync of a live node has want of memory as its reply, and
     /// waits for its answer; no further call is stamped before it.
-    pub fn stamp<M: Meaning<C, X, G>>(
-        &mut self,
-        shared: &Shared<C, X, G, M>,
-        call: Call,
-        reply: Reply,
-    ) -> Stamp
+    pub fn stamp(&mut self, shared: &Shared<C, X, G, M>, call: Call, reply: Reply) -> Stamp
         requires table { self.old.table ≡ shared.now.table }
         requires spare { 0 < self.old.spare }
         requires answered { self.old.waiting ≡ None }
@@ -195,7 +182,7 @@ impl<C: Drop, X, G> Core<C, X, G> {
     }
 
     /// Sees the history so far, and answers how many calls it has.
-    pub fn look<M: Meaning<C, X, G>>(&mut self, shared: &Shared<C, X, G, M>) -> u64
+    pub fn look(&mut self, shared: &Shared<C, X, G, M>) -> u64
         requires table { self.old.table ≡ shared.now.table }
         ensures { Looked (M.lawful shared.now.table.given) (M.stands shared.now.table.given) self.old result self.new }
     {
@@ -203,12 +190,7 @@ impl<C: Drop, X, G> Core<C, X, G> {
     }
 
     /// Sees a history that has so many calls at least. It waits until there are.
-    pub fn look_for<R: Wait, M: Meaning<C, X, G>>(
-        &mut self,
-        rt: &R,
-        shared: &Shared<C, X, G, M>,
-        count: u64,
-    ) -> u64
+    pub fn look_for<R: Wait>(&mut self, rt: &R, shared: &Shared<C, X, G, M>, count: u64) -> u64
         requires table { self.old.table ≡ shared.now.table }
         ensures looked { Looked (M.lawful shared.now.table.given) (M.stands shared.now.table.given) self.old result self.new }
         ensures enough { count ≤ result }
@@ -225,27 +207,27 @@ impl<C: Drop, X, G> Core<C, X, G> {
     }
 
     /// Tells a fact: it stands in the history behind all that came before it. It takes no memory, and there is no end to how many.
-    pub fn tell<M: Meaning<C, X, G>>(&mut self, shared: &Shared<C, X, G, M>, fact: &X)
+    pub fn tell(&mut self, shared: &Shared<C, X, G, M>, fact: &X)
         requires table { self.old.table ≡ shared.now.table }
         requires may { MayTell (M.lawful shared.now.table.given) (M.stands shared.now.table.given) self.old.view fact.now }
         ensures { TellsFact (M.lawful shared.now.table.given) (M.stands shared.now.table.given) fact.now self.old self.new }
     {
-        self.tell_by::<M, Brand>(shared, fact);
+        self.tell_by::<Brand>(shared, fact);
     }
 
     // The same, by a ghost that is the fact.
-    fn tell_by<M: Meaning<C, X, G>, J: Telling<X>>(&mut self, shared: &Shared<C, X, G, M>, fact: &X)
+    fn tell_by<J: Telling<X>>(&mut self, shared: &Shared<C, X, G, M>, fact: &X)
         requires table { self.old.table ≡ shared.now.table }
         requires picked { J.fact ≡ Some fact.now }
         requires may { MayTell (M.lawful shared.now.table.given) (M.stands shared.now.table.given) self.old.view fact.now }
         ensures { TellsFact (M.lawful shared.now.table.given) (M.stands shared.now.table.given) fact.now self.old self.new }
     {
         let _fact = fact;
-        self.tell_ghost::<M, J>(shared);
+        self.tell_ghost::<J>(shared);
     }
 
     /// The same of a fact that is no value at run time: it is told by `J`.
-    pub fn tell_ghost<M: Meaning<C, X, G>, J: Telling<X>>(&mut self, shared: &Shared<C, X, G, M>)
+    pub fn tell_ghost<J: Telling<X>>(&mut self, shared: &Shared<C, X, G, M>)
         requires table { self.old.table ≡ shared.now.table }
         requires may { (fact : X) × (J.fact ≡ Some fact) × MayTell (M.lawful shared.now.table.given) (M.stands shared.now.table.given) self.old.view fact }
         ensures { (fact : X) → J.fact ≡ Some fact → TellsFact (M.lawful shared.now.table.given) (M.stands shared.now.table.given) fact self.old self.new }
@@ -265,7 +247,7 @@ impl<C: Drop, X, G> Core<C, X, G> {
     }
 
     // Lets go of the last cell.
-    fn give_last<M: Meaning<C, X, G>>(&mut self, shared: &Shared<C, X, G, M>)
+    fn give_last(&mut self, shared: &Shared<C, X, G, M>)
         requires table { self.old.table ≡ shared.now.table }
         requires some { 0 < length self.old.held }
         requires home { OfLast (Stands (M.lawful shared.now.table.given) (M.stands shared.now.table.given) self.old.view) self.old.held }
@@ -275,12 +257,13 @@ impl<C: Drop, X, G> Core<C, X, G> {
         let Some(HeldCell { place, value }) = self.held.pop() else {
             unreachable!()
         };
-        shared.put(&mut self.seat, place, value);
-        shared.give(&mut self.seat, place);
+        let slot = shared.slot_of(place);
+        shared.put(&mut self.seat, slot, value);
+        shared.give(&mut self.seat, slot);
     }
 
     /// Lets go of each cell from a place on, the last one first.
-    pub fn let_go<M: Meaning<C, X, G>>(&mut self, shared: &Shared<C, X, G, M>, from: usize)
+    pub fn let_go(&mut self, shared: &Shared<C, X, G, M>, from: usize)
         requires table { self.old.table ≡ shared.now.table }
         requires home { EachFrom from (Stands (M.lawful shared.now.table.given) (M.stands shared.now.table.given) self.old.view) self.old.held }
         ensures lets_go { LetsGo self.old self.new }

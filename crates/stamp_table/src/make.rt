@@ -1,5 +1,9 @@
 // The beginning of a table and of its cores.
 ghost use Rattle.std.specs.Prelude.{◌≡◌, ◌<◌, ◌≤◌, ◌^◌, ℕ, [], ◌∷◌, true, false, length, map, replicate, slice_get, Some, None, IfOk, OnOk};
+ghost use mathlib.Core.Option.{some};
+ghost use lib.ListN.{get_elem?};
+ghost use Rattle.tree_laws.specs.Tree.{TreeState};
+ghost use Rattle.stamp_table.specs.Placing.{MOST_CELLS, IsLaidOut};
 ghost use Rattle.stamp_table.specs.Steps.{gatherer, newcomer};
 ghost use Rattle.stamp_table.specs.Events.{tree_view};
 ghost use Rattle.stamp_table.specs.Hand.{IsLead};
@@ -12,18 +16,19 @@ use atomic_table::{Refused, Table};
 use sfs_base::{CoreId, NoMemory};
 use sfs_tree::Tree;
 use std::alloc::Global;
+use std::marker::PhantomData;
 use std::snapshot::Snapshot;
 
 // How many cells a table has at most.
 const MOST_CELLS: usize = 1 << 32;
 
-impl<C: Drop, X, G> Core<C, X, G> {
+impl<C: Drop, X, G, M: Meaning<C, X, G>> Core<C, X, G, M> {
     // A core that begins. It takes no memory.
-    fn begin(alloc: Global, seat: CoreSeat<C, X, G>, number: CoreId, cores: u8) -> Core<C, X, G>
+    fn begin(alloc: Global, seat: CoreSeat<C, X, G>, number: CoreId, cores: u8) -> Core<C, X, G, M>
         requires number { seat.me.0.core ≡ number.0 }
         requires view { IsBegun seat }
-        ensures ready { IsIdleCore (record { id = seat.table_id; given = seat.me.0.first.1 }) cores seat.me.0.core result }
-        ensures view { result.view ≡ tree_view seat.me.0 }
+        ensures ready { IsIdleCore (record { id = seat.table_id; given = seat.me.0.first.1.0; measure = seat.me.0.first.1.1 }) cores seat.me.0.core result }
+        ensures view { result.view ≡ tree_view M.place_at seat.me.0 }
         ensures leads { result.leads ≡ false }
         ensures entries { result.entries ≡ [] }
         ensures waiting { result.waiting ≡ None }
@@ -37,6 +42,7 @@ impl<C: Drop, X, G> Core<C, X, G> {
             waiting: None,
             held: Vec::new(alloc),
             apart: [0; 8],
+            meaning: PhantomData,
         }
     }
 
@@ -56,13 +62,13 @@ fn zeros(alloc: Global, count: usize) -> Result<Vec<u64>, NoMemory>
     Ok(vec![in alloc; 0u64; count]?)
 }
 
-// The values as slots.
-fn slots_of<C: Drop>(alloc: Global, cells: Vec<C>) -> Result<Vec<Option<C>>, NoMemory>
-    ensures { IfOk result (λ slots. slots.items ≡ map Some cells.items) }
+// So many slots, all empty.
+fn empty<C: Drop>(alloc: Global, count: usize) -> Result<Vec<Option<C>>, NoMemory>
+    ensures { IfOk result (λ slots. length slots.items ≡ count) }
 {
-    let mut slots = Vec::with_capacity(alloc, cells.len())?;
-    for cell in cells {
-        slots.push_reserved(Some(cell));
+    let mut slots = Vec::with_capacity(alloc, count)?;
+    for _ in 0..count {
+        slots.push_reserved(None);
     }
     Ok(slots)
 }
@@ -71,16 +77,17 @@ impl<C: Drop, X, G, M: Meaning<C, X, G>> Shared<C, X, G, M> {
     // The cores of a table, by their numbers.
     fn cores_of(
         alloc: Global,
-        table: &Table<Option<C>, View<(Tree, G), Event<X>>, Key<G>, Law<M>, Global>,
+        table: &Table<Option<C>, View<(Tree, (G, usize)), Event<X>>, Key<G>, Law<M>, Global>,
         lead: &mut CoreSeat<C, X, G>,
         cores: u8,
-    ) -> Result<Vec<Core<C, X, G>>, NoMemory>
+    ) -> Result<Vec<Core<C, X, G, M>>, NoMemory>
         requires words { 0 < table.now.shared.table_id.words }
         requires lead { (lead.old.table_id ≡ table.now.shared.table_id)
-            × (lead.old.me ≡ (gatherer (table.now.shared.key.0.value, table.now.shared.key.1.value), [])) }
+            × (lead.old.me ≡ (gatherer (table.now.shared.key.0.value, (table.now.shared.key.1.0.value, table.now.shared.key.1.1.value)), [])) }
         ensures count { IfOk result (λ hands. length hands.items ≡ cores) }
         ensures ready { IfOk result (λ hands.
-            AreIdleFrom (record { id = table.now.shared.table_id; given = table.now.shared.key.1.value }) cores 0 hands.items) }
+            AreIdleFrom (record { id = table.now.shared.table_id; given = table.now.shared.key.1.0.value; measure = table.now.shared.key.1.1.value }) cores 0
+            hands.items) }
         ensures new { IfOk result (λ hands. AreNew table.now.shared.key.0.value hands.items) }
         ensures lead { OnOk result (IsLead table.now.shared.table_id cores lead.new) }
     {
@@ -92,20 +99,40 @@ impl<C: Drop, X, G, M: Meaning<C, X, G>> Shared<C, X, G, M> {
         Ok(hands)
     }
 
+    // The values, each in the slot of its place.
+    fn slots_of(alloc: Global, measure: usize, cells: Vec<C>) -> Result<Vec<Option<C>>, NoMemory>
+        requires few { length cells.items ≤ MOST_CELLS }
+        requires laid { IsLaidOut (length cells.items) (M.slot_at measure) (M.place_at measure) measure }
+        ensures count { IfOk result (λ slots. length slots.items ≡ length cells.items) }
+        ensures each { IfOk result (λ slots. (place : ℕ) (value : C) → slice_get cells.items place ≡ Some value
+            → get_elem? slots.items (M.slot_at measure place) ≡ some (Some value)) }
+    {
+        let mut slots = empty(alloc, cells.len())?;
+        let mut place = 0;
+        for cell in cells {
+            slots[M::slot_of(measure, place)] = Some(cell);
+            place += 1;
+        }
+        Ok(slots)
+    }
+
     /// A table over a tree and what is given beside it, with these values as its cells, each at its place, and its cores, ascending by
-    /// number. Each value stands for what no call leaves of its cell.
+    /// number. Each value stands for what no call leaves of its cell. `measure` is the number by which the cells are laid out in memory.
     pub fn make(
         alloc: Global,
         first: &Tree,
         given: Snapshot<G>,
+        measure: usize,
         cells: Vec<C>,
         cores: u8,
-    ) -> Result<(Shared<C, X, G, M>, Vec<Core<C, X, G>>), NoMemory>
+    ) -> Result<(Shared<C, X, G, M>, Vec<Core<C, X, G, M>>), NoMemory>
         requires cores { (0 < cores) × (cores ≡ length first.now.made) }
         requires cells { (place : ℕ) (value : C) → slice_get cells.items place ≡ Some value → M.stands given.value first.now [] place value }
         requires lawful { M.lawful given.value first.now [] }
+        requires laid { IsLaidOut (length cells.items) (M.slot_at measure) (M.place_at measure) measure }
         ensures first { IfOk result (λ made. made.0.first ≡ first.now) }
         ensures given { IfOk result (λ made. made.0.table.given ≡ given.value) }
+        ensures measure { IfOk result (λ made. made.0.table.measure ≡ measure) }
         ensures slots { IfOk result (λ made. made.0.table.id.slots ≡ length cells.items) }
         ensures made { IfOk result (λ made. made.0.cores ≡ length made.0.first.made) }
         ensures count { IfOk result (λ made. length made.1.items ≡ cores) }
@@ -119,8 +146,8 @@ impl<C: Drop, X, G, M: Meaning<C, X, G>> Shared<C, X, G, M> {
         let words = zeros(alloc, LOCKS + count)?;
         let parts = Vec::with_capacity(alloc, cores as usize)?;
         let values = Vec::with_capacity(alloc, count)?;
-        let slots = slots_of(alloc, cells)?;
-        let key = (Snapshot::of(first), given);
+        let slots = Self::slots_of(alloc, measure, cells)?;
+        let key = (Snapshot::of(first), (given, Snapshot::of(&measure)));
         let (table, mut lead) = match Table::new(alloc, words.as_slice(), slots, &key) {
             Ok(made) => made,
             Err(_) => return Err(NoMemory),
@@ -132,6 +159,7 @@ impl<C: Drop, X, G, M: Meaning<C, X, G>> Shared<C, X, G, M> {
             cells: count,
             cores,
             parts,
+            measure,
             values,
         };
         Ok((shared, hands))

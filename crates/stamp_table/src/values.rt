@@ -4,7 +4,7 @@ ghost use Rattle.keyed_list.specs.Ascending.{AscendBy};
 ghost use Rattle.stamp_table.specs.Hand.{place_in};
 ghost use Rattle.stamp_table.specs.Table.{cell_at, cells_before, with_value, with_values, values_in};
 
-use crate::{Core, HeldCell};
+use crate::{Core, HeldCell, Meaning};
 use std::mem;
 
 // Up to how many held cells one is found by looking at each.
@@ -49,7 +49,7 @@ fn swap_all<C>(cells: &mut [HeldCell<C>], values: &mut [C])
     }
 }
 
-impl<C: Drop, X, G> Core<C, X, G> {
+impl<C: Drop, X, G, M: Meaning<C, X, G>> Core<C, X, G, M> {
     /// The value of the cell that stands at a place of the list of those that this core holds.
     pub fn value_at(&self, at: usize) -> &C
         requires { at < length self.now.held }

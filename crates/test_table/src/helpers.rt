@@ -1,6 +1,7 @@
 // What tests assert by, and how they take answers: one call each, so that a test has no branches of its own.
 ghost use Rattle.std.specs.Prelude.{◌≡◌, true, Ok, Some};
 
+use std::fmt::Debug;
 use std::process::Abort;
 
 // Asserts that something holds.
@@ -28,4 +29,9 @@ pub(crate) fn some<T>(rt: &impl Abort, value: Option<T>) -> T
         Some(value) => value,
         None => panic!(rt; "nothing"),
     }
+}
+
+// Asserts that a list has these items.
+pub(crate) fn same_list<T: PartialEq + Debug>(rt: &impl Abort, is: &[T], wanted: &[T]) {
+    assert_eq!(rt; is, wanted);
 }

@@ -10,4 +10,6 @@ mod table_calls;
 #[cfg(test)]
 mod table_ends;
 #[cfg(test)]
+mod table_lies;
+#[cfg(test)]
 mod table_tree;

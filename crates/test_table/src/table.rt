@@ -1,5 +1,6 @@
 // Cores that count in cells of one table, each in a thread of its own.
 ghost use Rattle.std.specs.Prelude.{◌≡◌, ◌<◌, ◌≤◌, ℕ, All, length, slice_index_or};
+ghost use Rattle.stamp_table.specs.Placing.{lies_in_order};
 ghost use Rattle.stamp_table.specs.Table.{IsBetweenCalls, IsSameCore};
 ghost use Rattle.tree_laws.specs.Sound.{IsSound};
 
@@ -31,11 +32,21 @@ impl<C, X> Meaning<C, X, ()> for Anything {
     ghost stands = { λ given first log place value. Unit {0} };
 
     ghost nothing = { tt };
+
+    ghost slot_at = { λ measure place. place };
+
+    ghost place_at = { λ measure slot. slot };
+
+    ghost one_to_one = { λ measure. lies_in_order };
+
+    fn slot_of(_measure: usize, place: usize) -> usize {
+        place
+    }
 }
 
 pub(crate) type Counters = Shared<u64, (), (), Anything>;
 
-pub(crate) type Counter = Core<u64, (), ()>;
+pub(crate) type Counter = Core<u64, (), (), Anything>;
 
 // Holds a cell, adds 1 to it, adds an entry, lets go, and answers the entry with what the cell had.
 pub(crate) fn count_once<R: Wait>(
@@ -178,7 +189,7 @@ fn counted<R: Threads + Wait + Sync>(
 {
     let first = Tree::empty(alloc, 1, 1, cores)?;
     let cells = vec![in alloc; 0u64; cores as usize]?;
-    let (shared, mut hands) = Counters::make(alloc, &first, Snapshot::of(&()), cells, cores)?;
+    let (shared, mut hands) = Counters::make(alloc, &first, Snapshot::of(&()), 0, cells, cores)?;
     count_all(rt, &shared, hands.as_mut_slice(), apart, rounds);
     let (history, values) = shared.close(hands);
     if is_right(alloc, &history, cores, apart)? && are_counts(&values, cores, apart, rounds) {
@@ -278,7 +289,7 @@ fn meets<R: Wait>(
 fn are_inside_at_once<R: Threads + Wait + Sync>(rt: &R, alloc: Global) -> Result<bool, NoMemory> {
     let first = Tree::empty(alloc, 1, 1, 2)?;
     let cells = vec![in alloc; 0u64, 0u64]?;
-    let (shared, mut hands) = Counters::make(alloc, &first, Snapshot::of(&()), cells, 2)?;
+    let (shared, mut hands) = Counters::make(alloc, &first, Snapshot::of(&()), 0, cells, 2)?;
     let gate = AtomicU64::new(0);
     let shared_by = &shared;
     let gate_by = &gate;

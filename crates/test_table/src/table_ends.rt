@@ -28,7 +28,7 @@ const LONG: u64 = 200_000;
 
 type Tellers = Shared<u64, u64, (), Anything>;
 
-type Teller = Core<u64, u64, ()>;
+type Teller = Core<u64, u64, (), Anything>;
 
 // The only core of a table tells 7, and the table ends.
 fn tell_and_close(shared: Tellers, hands: Vec<Teller>, core: Teller) -> (History, Vec<u64>)
@@ -48,7 +48,7 @@ fn tell_and_close(shared: Tellers, hands: Vec<Teller>, core: Teller) -> (History
 fn has_told(alloc: Global) -> Result<bool, NoMemory> {
     let first = Tree::empty(alloc, 1, 1, 1)?;
     let cells = vec![in alloc; 5u64]?;
-    let (shared, mut hands) = Tellers::make(alloc, &first, Snapshot::of(&()), cells, 1)?;
+    let (shared, mut hands) = Tellers::make(alloc, &first, Snapshot::of(&()), 0, cells, 1)?;
     let Some(core) = hands.pop() else {
         unreachable!()
     };
@@ -66,7 +66,7 @@ fn a_fact_that_was_told_is_in_the_log_at_the_end(rt: HostRuntime) {
 fn seen_by_the_other<R: Wait>(rt: &R, alloc: Global) -> Result<(u64, u64), NoMemory> {
     let first = Tree::empty(alloc, 1, 1, 2)?;
     let cells = vec![in alloc; 0u64, 0u64]?;
-    let (shared, mut hands) = Counters::make(alloc, &first, Snapshot::of(&()), cells, 2)?;
+    let (shared, mut hands) = Counters::make(alloc, &first, Snapshot::of(&()), 0, cells, 2)?;
     let (Some(mut second), Some(mut first)) = (hands.pop(), hands.pop()) else {
         unreachable!()
     };
@@ -87,7 +87,7 @@ fn a_core_sees_what_another_one_did(rt: HostRuntime) {
 fn looks_for_all<R: Threads + Wait + Sync>(rt: &R, alloc: Global) -> Result<u64, NoMemory> {
     let first = Tree::empty(alloc, 1, 1, 2)?;
     let cells = vec![in alloc; 0u64, 0u64]?;
-    let (shared, mut hands) = Counters::make(alloc, &first, Snapshot::of(&()), cells, 2)?;
+    let (shared, mut hands) = Counters::make(alloc, &first, Snapshot::of(&()), 0, cells, 2)?;
     let shared_by = &shared;
     let (Some(mut second), Some(mut first)) = (hands.pop(), hands.pop()) else {
         unreachable!()
@@ -157,7 +157,7 @@ fn hold_behind<R: Wait>(rt: &R, shared: &Counters, core: &mut Counter, gate: &At
 fn is_woken<R: Threads + Wait + Sync>(rt: &R, alloc: Global) -> Result<bool, NoMemory> {
     let first = Tree::empty(alloc, 1, 1, 2)?;
     let cells = vec![in alloc; 0u64, 0u64]?;
-    let (shared, mut hands) = Counters::make(alloc, &first, Snapshot::of(&()), cells, 2)?;
+    let (shared, mut hands) = Counters::make(alloc, &first, Snapshot::of(&()), 0, cells, 2)?;
     let gate = AtomicU64::new(0);
     let shared_by = &shared;
     let gate_by = &gate;
@@ -205,7 +205,7 @@ fn exchange<R: Wait>(
 fn is_exchanged<R: Wait>(rt: &R, alloc: Global) -> Result<bool, NoMemory> {
     let first = Tree::empty(alloc, 1, 1, 1)?;
     let cells = vec![in alloc; 3u64, 4u64]?;
-    let (shared, mut hands) = Counters::make(alloc, &first, Snapshot::of(&()), cells, 1)?;
+    let (shared, mut hands) = Counters::make(alloc, &first, Snapshot::of(&()), 0, cells, 1)?;
     let Some(mut core) = hands.pop() else {
         unreachable!()
     };
@@ -241,7 +241,7 @@ fn work_while_waiting<R: Wait>(rt: &R, shared: &Tellers, core: &mut Teller) -> R
 fn seen_while_waiting<R: Wait>(rt: &R, alloc: Global) -> Result<u64, NoMemory> {
     let first = Tree::empty(alloc, 1, 1, 1)?;
     let cells = vec![in alloc; 3u64]?;
-    let (shared, mut hands) = Tellers::make(alloc, &first, Snapshot::of(&()), cells, 1)?;
+    let (shared, mut hands) = Tellers::make(alloc, &first, Snapshot::of(&()), 0, cells, 1)?;
     let Some(mut core) = hands.pop() else {
         unreachable!()
     };

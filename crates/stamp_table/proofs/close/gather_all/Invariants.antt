@@ -9,7 +9,8 @@ abbrev pub invariant-loop-core : goal.invariant-loop-core
 invariant-loop-core g l = record {
   table : l.lead.table_id ≡ l.table.shared.table_id;
   gathers : (l.lead.me.0.gathers ≡ true) × (l.lead.me.0.cores ≡ length l.fn.cores.items);
-  ready : AreIdleFrom (record { id = l.table.shared.table_id; given = l.table.shared.key.1.value }) (length l.fn.cores.items) (length l.lead.me.0.lists)
+  ready : AreIdleFrom (record { id = l.table.shared.table_id; given = l.table.shared.key.1.0.value; measure = l.table.shared.key.1.1.value })
+      (length l.fn.cores.items) (length l.lead.me.0.lists)
       l.core-iterator.rest.items;
   lists : l.lead.me.0.lists ++ map mine_of l.core-iterator.rest.items ≡ map mine_of l.fn.cores.items;
   saws : l.lead.me.0.saws ++ map events_seen l.core-iterator.rest.items ≡ map events_seen l.fn.cores.items;

@@ -13,7 +13,8 @@ close-history-requires g c =
     let value = c.as_mut_slice.ensures.value in
     let long : length shown.new.cores ≡ length items = shown.ensures.count ∙ ap length value in
     let back : take c.in_ok-shared.cores.len (shown.new.cores ++ drop (length shown.new.cores) items) ≡ shown.new.cores =
-    ap (λ k. take k (shown.new.cores ++ drop (length shown.new.cores) items)) c.in_ok-shared.cores.ok.0 ∙ written_over items shown.new.cores (length items) refl long in
+    ap (λ k. take k (shown.new.cores ++ drop (length shown.new.cores) items)) c.in_ok-shared.cores.ok.0 ∙ written_over items shown.new.cores
+    (length items) refl long in
     subst (λ l. AreAllCores c.in_ok-shared.shared l) (sym back)
     (all_again c.in_ok-shared.shared items shown.new.cores long
     (λ place d lt. let s = shown.ensures.same place d (omega (arith, lt, ap length value)) in

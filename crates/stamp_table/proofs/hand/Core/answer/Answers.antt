@@ -10,9 +10,10 @@ invariant_of-self g c =
     let last : IsWaitingEntry c.in-Some.field-0 c.args.stamp.0 =
     last_waits c.self.inside.entries.items c.pop.new.self.items c.in-Some.field-0 c.self.inside.waiting c.args.stamp.0
     (ap (λ h. h.waiting) c.self.view_is ∙ c.requires.waits) c.self.invariant.2 ends in (
-      subst (λ (l : List Entry). IsCore c.self.inside.seat c.self.inside.number.0 l c.self.inside.held.items)
+      subst (λ (l : List Entry). IsCore g.M.Meaning.place_at c.self.inside.seat c.self.inside.number.0 l c.self.inside.held.items)
           (sym c.push_reserved.ensures.items)
-          (has_answered c.self.inside.seat _ _ _ c.self.invariant.0 c.pop.new.self.items c.in-Some.field-0 c.args.reply c.args.ack ends last.waits
+          (has_answered g.M.Meaning.place_at c.self.inside.seat _ _ _ c.self.invariant.0 c.pop.new.self.items c.in-Some.field-0 c.args.reply c.args.ack ends
+          last.waits
           c.requires.reply c.requires.acknowledged),
       c.self.invariant.1,
       tt,

@@ -7,10 +7,11 @@ use Rattle.stamp_table.proofs.shared.Shared.cores_of.Given as goal
 abbrev pub invariant-loop-number : goal.invariant-loop-number
 invariant-loop-number g l = record {
   table : l.lead.table_id ≡ l.table.shared.table_id;
-  lead : l.lead.me ≡ (gatherer_with (l.table.shared.key.0.value, l.table.shared.key.1.value) l.number, []);
+  lead : l.lead.me ≡ (gatherer_with (l.table.shared.key.0.value, (l.table.shared.key.1.0.value, l.table.shared.key.1.1.value)) l.number, []);
   within : l.number ≤ l.cores;
   count : length l.hands.items ≡ l.number;
   room : l.cores ≤ vec_capacity l.hands;
-  ready : AreIdleFrom (record { id = l.table.shared.table_id; given = l.table.shared.key.1.value }) l.cores 0 l.hands.items;
+  ready : AreIdleFrom (record { id = l.table.shared.table_id; given = l.table.shared.key.1.0.value; measure = l.table.shared.key.1.1.value }) l.cores 0
+      l.hands.items;
   new : AreNew l.table.shared.key.0.value l.hands.items;
 }

@@ -1,4 +1,5 @@
 use Rattle.std.proofs.Common.{rules}
+use Rattle.stamp_table.specs.Placing.{by_given, at_slots}
 use Rattle.stamp_table.proofs.Asking.{asks_give}
 use Rattle.stamp_table.proofs.shared.Shared.give.Goals as goal
 
@@ -6,6 +7,6 @@ pub swap-requires : goal.swap-requires
 swap-requires g c = let inv = c.self.invariant in (
   search rules,
   search rules,
-  asks_give g.M.Meaning.lawful g.M.Meaning.stands _ _ _ c.args.place _ _ c.requires.seat.lives c.requires.seat.calls
+  asks_give (by_given g.M.Meaning.lawful) (at_slots g.M.Meaning.place_at g.M.Meaning.stands) _ _ _ c.args.slot _ _ c.requires.seat.lives c.requires.seat.calls
       (search rules) c.lock_of-lock.ensures c.requires.home,
 )

@@ -1,4 +1,5 @@
 use Rattle.std.proofs.Common.{rules}
+use Rattle.stamp_table.specs.Placing.{by_given, at_slots}
 use Rattle.stamp_table.proofs.Asking.{asks_tell_picked}
 use Rattle.stamp_table.proofs.shared.Shared.tell.Goals as goal
 
@@ -6,7 +7,8 @@ pub load-requires : goal.load-requires
 load-requires g c = (
   search rules,
   search rules,
-  asks_tell_picked g.M.Meaning.lawful g.M.Meaning.stands _ _ _ _ g.J.Telling.fact c.requires.may.0 c.requires.seat.lives c.requires.seat.calls
+  asks_tell_picked (by_given g.M.Meaning.lawful)
+      (at_slots g.M.Meaning.place_at g.M.Meaning.stands) _ _ _ _ g.J.Telling.fact c.requires.may.0 c.requires.seat.lives c.requires.seat.calls
       c.requires.may.1 c.requires.may.2,
 )
 

@@ -13,7 +13,8 @@ close-history-requires g c =
     let value = c.as_mut_slice.ensures.value in
     let long : length done.new.cores ≡ length items = done.ensures.count ∙ ap length value in
     let back : take c.in_ok-shared.hands.len (done.new.cores ++ drop (length done.new.cores) items) ≡ done.new.cores =
-    ap (λ k. take k (done.new.cores ++ drop (length done.new.cores) items)) c.in_ok-shared.hands.ok.0 ∙ written_over items done.new.cores (length items) refl long in
+    ap (λ k. take k (done.new.cores ++ drop (length done.new.cores) items)) c.in_ok-shared.hands.ok.0 ∙ written_over items done.new.cores
+    (length items) refl long in
     subst (λ l. AreAllCores c.in_ok-shared.shared l) (sym back)
     (all_again c.in_ok-shared.shared items done.new.cores long
     (λ place d lt. let s = done.ensures.same place d (omega (arith, lt, ap length value)) in
