@@ -7,7 +7,7 @@ use Rattle.sfs_base.specs.Listed.{is_listed}
 use Rattle.tree_laws.specs.declared.changes.Change.{Change}
 use Rattle.tree_laws.specs.Logged.{is_logged_in}
 use Rattle.mem_cells.specs.Log.{IsInOrder, is_from}
-use Rattle.mem_cells.specs.Part.{CoreLog, changes_kept, mark_kept, room_kept, IsSamePart, IsAddedTo, IsTrimmed, StandBehind}
+use Rattle.mem_cells.specs.Part.{CoreLog, changes_kept, mark_kept, room_kept, IsSamePart, IsAddedTo, IsTrimmedOrBlank, StandBehind}
 use Rattle.log_merge.specs.Merge.{parts_changes, IsMergeOf}
 use Rattle.dep_closure.specs.declared.gathered.DirectoryChanges.{DirectoryChanges}
 use Rattle.dep_closure.specs.Gathered.{log_directory}
@@ -63,11 +63,7 @@ pub record AreGathered (logs : Logs) (below : ℕ) (gathered : List DirectoryCha
   pub directories : map log_directory gathered ≡ logs.directories.keys
   pub merged : All (λ log. IsMergeOf (parts_changes log.dir.0 below logs.parts) log.changes.items) gathered
 
--- One directory has no changes below a stamp in a core's log any more, or it had none at all and all is as before.
-abbrev pub IsTrimmedOrBlank : CoreLog → ℕ → ℕ → CoreLog → Type 0
-IsTrimmedOrBlank part directory below after = IsTrimmed part directory below after ⊎ ((after ≡ part) × (changes_kept part directory ≡ []))
-
--- So it is of each of some logs.
+-- Of each of some logs a directory is trimmed, or it had no changes and all is as before.
 pub record ArePartsTrimmed (parts : List CoreLog) (directory below : ℕ) (after : List CoreLog) : Type 0 where
   pub count : length after ≡ length parts
   pub each : (core : ℕ) → core < length parts → IsTrimmedOrBlank (slice_index_or parts core blank_part) directory below (slice_index_or after core blank_part)

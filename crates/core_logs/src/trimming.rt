@@ -1,7 +1,7 @@
 // What is left of the logs once changes are flushed.
 ghost use Rattle.std.specs.Prelude.{◌≡◌, ◌∷◌, [], map};
 ghost use Rattle.tree_laws.specs.NameRow.{node_number};
-ghost use Rattle.core_logs.specs.Logs.{AreTrimmedOf, ArePartsTrimmed, IsTrimmedOrBlank};
+ghost use Rattle.core_logs.specs.Logs.{AreTrimmedOf, ArePartsTrimmed};
 
 use crate::CoreLogs;
 use mem_cells::LogPart;
@@ -27,20 +27,12 @@ impl CoreLogs {
     }
 }
 
-// Drops the changes of a directory from the logs of all cores.
+// Drops the changes of a directory below a stamp from the logs of all cores.
 fn trim_parts(parts: &mut Vec<LogPart>, directory: NodeId, below: Stamp)
     ensures { ArePartsTrimmed parts.old.items directory.0 below.0 parts.new.items }
 {
     for core in 0..parts.len() {
-        trim_part(&mut parts[core], directory, below);
-    }
-}
-
-// Drops the changes of a directory below a stamp from a core's log, where it has some.
-fn trim_part(part: &mut LogPart, directory: NodeId, below: Stamp)
-    ensures { IsTrimmedOrBlank part.old directory.0 below.0 part.new }
-{
-    if part.get(directory, 0).is_some() {
+        let part = &mut parts[core];
         part.trim(directory, below);
     }
 }

@@ -185,7 +185,7 @@ module _ {given : ℕ → Option OldKept} {t : FileState} {nodes : ℕ} {before 
         ∙ sym (new_node.birthplace_next before.view.first (calls_in log) entry dir name child kind (stamped.sound given t nodes before r.table r.work)
         (changed.legal_log given t nodes before c v number mid turn)
         core_known refl does);
-    trimmed = λ writer is other lt. stood.trimmed writer is other lt;
+    trimmed = λ writer member is has other lt. stood.trimmed writer member is has other lt;
   })
 
   abbrev Before : CellId → Cell → Type 0

@@ -23,7 +23,7 @@ use Rattle.mem_values.specs.declared.cell.PartCell.{PartCell}
 use Rattle.mem_values.specs.declared.cell_id.CellId.TheVariants as id
 use Rattle.mem_values.specs.Account.{Account}
 use Rattle.mem_values.specs.Logs.{entry_logged, own_logged}
-use Rattle.mem_values.specs.Stands.{IsCapped, StandsPart, StandsForCell}
+use Rattle.mem_values.specs.Stands.{IsCapped, KeepFrom, StandsPart, StandsForCell}
 use Rattle.mem_calls.specs.Held.{as_part}
 use Rattle.mem_calls.specs.Parts.{HasRoomFor}
 
@@ -54,10 +54,9 @@ module _ (given : ℕ → Option OldKept) (first : TreeState) (account : Account
       entries_counted = same.entries ∙ stood.left.entries_counted;
     };
     made = made ∙ stood.made;
-    marks = record {
-      capped = λ d. subst (IsCapped account d) (sym (same.logs.marks d)) (stood.marks.capped d);
-      trimmed = λ commit d among trimmed member. let le = stood.marks.trimmed commit d among trimmed member in let m = same.logs.marks d in
-          omega (arith, le, m);
+    kept = record {
+      capped = λ d. subst (IsCapped account d) (sym (same.logs.marks d)) (stood.kept.capped d);
+      trimmed = λ commit d among trimmed member. subst (KeepFrom commit.stamp) (sym (same.logs.changes d)) (stood.kept.trimmed commit d among trimmed member);
     };
   }
 

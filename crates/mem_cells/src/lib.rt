@@ -3,6 +3,7 @@
 
 pub mod laws;
 mod log;
+mod namings;
 mod part;
 
 pub use part::LogPart;

@@ -1,57 +1,65 @@
 // The changes of one directory that a core has made, from a mark on, the oldest first.
-ghost use Rattle.std.specs.Prelude.{◌≡◌, ◌+◌, ◌<◌, ◌≤◌, ℕ, true, [], ◌∷◌, ◌++◌, slice_get, length, filter, max, All, IfOk, OnOk, OnErr, IsTrue, ◌↔◌};
+ghost use Rattle.std.specs.Prelude.{◌≡◌, ◌-◌, ◌<◌, ◌≤◌, ◌==◌, [], ◌∷◌, ◌++◌, slice_get, length, max, All, IfOk, OnOk, OnErr};
 ghost use Rattle.std.specs.Option.{option_copied};
-ghost use Rattle.mem_cells.specs.Log.{log_place, is_from, IsInOrder};
+ghost use Rattle.mem_cells.specs.Log.{log_place, IsInOrder, TakesBelow};
+ghost use Rattle.mem_cells.specs.Part.{blank_log};
 
-use sfs_base::{NoMemory, Stamp};
+use sfs_base::{NoMemory, RoomyList, Stamp};
 use std::alloc::Global;
 use std::collections::VecDeque;
 use std::marker::Model;
-use tree_laws::Change;
+use tree_laws::{Change, Changes};
 
 /// A directory's changes, the oldest first, and the mark below which they were trimmed.
 #[derive(Drop)]
 pub(crate) struct DirectoryLog {
     mark: Stamp,
     changes: VecDeque<Change>,
+    room: u64,
 }
 
 impl Model for DirectoryLog {
-    ghost use Rattle.std.specs.Prelude.{◌-◌};
     ghost use Rattle.std.specs.VecDeque.{deque_len, deque_capacity};
-    ghost use Rattle.mem_cells.specs.Log.{Log, IsInOrder};
+    ghost use Rattle.mem_cells.specs.Log.{Log, HasPlaces};
 
     ghost Value = { Log };
 
     ghost view = { λ d. record {
       mark = d.mark.0;
       changes = d.changes.items;
-      room = deque_capacity d.changes - deque_len d.changes;
+      room = d.room;
     } };
 
-    ghost invariant = { λ d. IsInOrder d.changes.items };
+    ghost invariant = { λ d. HasPlaces d.changes.items (deque_len d.changes) (deque_capacity d.changes) d.room };
 }
 
 impl DirectoryLog {
     /// No change, and the mark 0. It takes no memory.
     pub(crate) fn new(alloc: Global) -> Self
-        ensures changes { result.changes ≡ [] }
-        ensures mark { result.mark ≡ 0 }
+        ensures { result ≡ blank_log }
     {
         DirectoryLog {
             mark: Stamp(0),
             changes: VecDeque::new(alloc),
+            room: 0,
         }
     }
 
-    /// Makes room for `count` more changes at least, and never lowers it.
-    pub(crate) fn reserve(&mut self, count: u32) -> Result<(), NoMemory>
-        ensures ok { OnOk result (count ≤ self.new.room) }
-        ensures never_lowers { self.old.room ≤ self.new.room }
-        ensures changes { self.new.changes ≡ self.old.changes }
-        ensures mark { self.new.mark ≡ self.old.mark }
+    /// For how many more changes there is room.
+    pub(crate) fn room(&self) -> u64
+        ensures { result ≡ self.now.room }
     {
-        self.changes.reserve(count as usize)?;
+        self.room
+    }
+
+    /// Makes room for `count` changes at least, and never lowers it.
+    pub(crate) fn reserve(&mut self, count: u32) -> Result<(), NoMemory>
+        ensures ok { OnOk result (self.new ≡ record self.old { room = max self.old.room count }) }
+        ensures err { OnErr result (self.new ≡ self.old) }
+    {
+        self.changes
+            .reserve((count as usize).max(self.room as usize))?;
+        self.room = self.room.max(count as u64);
         Ok(())
     }
 
@@ -59,21 +67,27 @@ impl DirectoryLog {
     pub(crate) fn push(&mut self, change: Change)
         requires room { 0 < self.old.room }
         requires last { All (λ other. log_place other ≤ log_place change) self.old.changes }
-        ensures changes { self.new.changes ≡ self.old.changes ++ change ∷ [] }
-        ensures mark { self.new.mark ≡ self.old.mark }
-        ensures room { self.new.room + 1 ≡ self.old.room }
+        ensures { self.new ≡ record self.old { changes = self.old.changes ++ change ∷ []; room = self.old.room - 1 } }
     {
         self.changes.push_back_reserved(change);
+        self.room -= 1;
     }
 
-    /// Drops the changes below a stamp, and makes the mark this stamp at least. It takes no memory, and
-    /// time in proportion to the changes that it drops.
-    pub(crate) fn trim(&mut self, below: Stamp)
-        ensures changes { self.new.changes ≡ filter (is_from below.0) self.old.changes }
-        ensures mark { self.new.mark ≡ max self.old.mark below.0 }
-        ensures room { self.old.room ≤ self.new.room }
+    /// Takes the first change out, where it lies below a stamp. It takes no memory.
+    pub(crate) fn take_below(&mut self, below: Stamp) -> Option<Change>
+        ensures { TakesBelow below.0 self.old result self.new }
     {
-        drop_below(&mut self.changes, below);
+        if begins_below(&self.changes, below) {
+            self.changes.pop_front()
+        } else {
+            None
+        }
+    }
+
+    /// Makes the mark this stamp at least.
+    pub(crate) fn raise(&mut self, below: Stamp)
+        ensures { self.new ≡ record self.old { mark = max self.old.mark below.0 } }
+    {
         if self.mark.0 < below.0 {
             self.mark = below;
         }
@@ -87,6 +101,20 @@ impl DirectoryLog {
         self.changes.get(place as usize)
     }
 
+    /// Whether there is no change.
+    pub(crate) fn is_empty(&self) -> bool
+        ensures { result ≡ (length self.now.changes == 0) }
+    {
+        self.changes.is_empty()
+    }
+
+    /// The changes in their order.
+    pub(crate) fn copy_changes(&self, alloc: Global) -> Result<Changes, NoMemory>
+        ensures { IfOk result (λ changes. changes.items ≡ self.now.changes) }
+    {
+        Ok(RoomyList::from_vec(copy_all(alloc, &self.changes)?))
+    }
+
     /// The mark below which changes were trimmed.
     pub(crate) fn mark(&self) -> Stamp
         ensures { result.0 ≡ self.now.mark }
@@ -94,42 +122,30 @@ impl DirectoryLog {
         self.mark
     }
 
-    /// The same changes with the same mark.
+    /// An equal log.
     pub(crate) fn copy(&self) -> Result<DirectoryLog, NoMemory>
-        ensures changes { IfOk result (λ log. log.changes ≡ self.now.changes) }
-        ensures mark { IfOk result (λ log. log.mark ≡ self.now.mark) }
+        ensures { IfOk result (λ log. log ≡ self.now) }
     {
+        let copies = copy_all(*self.changes.allocator(), &self.changes)?;
+        let mut changes = VecDeque::from_vec(copies);
+        changes.reserve(self.room as usize)?;
         Ok(DirectoryLog {
             mark: self.mark,
-            changes: copy_all(&self.changes)?,
+            changes,
+            room: self.room,
         })
     }
 }
 
 // Equal changes, in the same order.
-fn copy_all(changes: &VecDeque<Change>) -> Result<VecDeque<Change>, NoMemory>
+fn copy_all(alloc: Global, changes: &VecDeque<Change>) -> Result<Vec<Change>, NoMemory>
     ensures { IfOk result (λ copies. copies.items ≡ changes.now.items) }
 {
-    let mut copies = VecDeque::with_capacity(*changes.allocator(), changes.len())?;
+    let mut copies = Vec::with_capacity(alloc, changes.len())?;
     for change in changes.iter() {
-        copies.push_back(change.copy()?)?;
+        copies.push(change.copy()?)?;
     }
     Ok(copies)
-}
-
-ghost use Rattle.std.specs.VecDeque.{deque_len, deque_capacity};
-
-// Drops the first changes, as long as they lie below a stamp.
-fn drop_below(changes: &mut VecDeque<Change>, below: Stamp)
-    requires { IsInOrder changes.old.items }
-    ensures items { changes.new.items ≡ filter (is_from below.0) changes.old.items }
-    ensures order { IsInOrder changes.new.items }
-    ensures room { deque_len changes.new ≤ deque_len changes.old }
-    ensures capacity { deque_capacity changes.new ≡ deque_capacity changes.old }
-{
-    while begins_below(changes, below) {
-        changes.pop_front();
-    }
 }
 
 ghost use Rattle.mem_cells.specs.Log.{begins_under};

@@ -1,5 +1,6 @@
 pub mod Filled
 pub mod Inside
+pub mod Padded
 pub mod Passed
 pub mod Places
 pub mod Puts

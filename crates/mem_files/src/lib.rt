@@ -7,6 +7,7 @@ mod marks;
 mod page;
 mod pages;
 mod touched;
+mod touching;
 
 pub use file::{FileBytes, LONGEST_FILE};
-pub use touched::Touched;
+pub use touched::{Touched, TouchedBlock, TouchedFile};

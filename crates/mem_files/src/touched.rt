@@ -1,6 +1,7 @@
 ghost use Rattle.std.specs.Prelude.{◌≡◌, ◌≤◌};
 
 use crate::LONGEST_FILE;
+use sfs_base::Stamp;
 
 /// How many bytes a block has.
 const BLOCK: u64 = 4096;
@@ -33,4 +34,19 @@ impl Touched {
             end: ((end + BLOCK - 1) / BLOCK) as u32,
         }
     }
+}
+
+/// A block that was touched: its number, its mark, and its bytes, with zeros behind the file's end.
+#[derive(Drop)]
+pub struct TouchedBlock {
+    pub block: u32,
+    pub mark: Stamp,
+    pub bytes: [u8; 4096],
+}
+
+/// What was touched of a file: its size in bytes, and the blocks that were touched, ascending.
+#[derive(Drop)]
+pub struct TouchedFile {
+    pub size: u64,
+    pub blocks: Vec<TouchedBlock>,
 }

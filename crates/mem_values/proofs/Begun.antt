@@ -29,7 +29,7 @@ cells_begin given first (id.Pending node) (cell.Lock lock) begins = begins
 cells_begin given first (id.Pending node) (cell.Bucket b) begins = begins
 cells_begin given first (id.Pending node) (cell.File f) begins = begins
 cells_begin given first (id.Pending node) (cell.Pending p) begins =
-    record { flushed = begins.0; made_in = ap number_of begins.1; trimmed = λ writer is part lt. absurd (cc (is)) }
+    record { flushed = begins.0; made_in = ap number_of begins.1; trimmed = λ writer member is has part lt. absurd (cc (is)) }
 cells_begin given first (id.Pending node) (cell.Part p) begins = begins
 cells_begin given first (id.Part core) (cell.Lock lock) begins = begins
 cells_begin given first (id.Part core) (cell.Bucket b) begins = begins
@@ -38,5 +38,5 @@ cells_begin given first (id.Part core) (cell.Pending p) begins = begins
 cells_begin given first (id.Part core) (cell.Part p) begins = record {
   left = subst (λ l. IsLeftOf [] 0 l) (sym begins.0) parts_begin;
   made = begins.1;
-  marks = record { capped = λ d. inl (ap (λ l. mark_kept l d) begins.0); trimmed = λ commit d among trimmed member. absurd among };
+  kept = record { capped = λ d. inl (ap (λ l. mark_kept l d) begins.0); trimmed = λ commit d among trimmed member. absurd among };
 }

@@ -1,22 +1,21 @@
 -- The commits of a lawful log, as they came.
-use Rattle.std.proofs.Common.{◌≡◌, ◌≤◌, ℕ, List, [], ◌∷◌, ◌++◌, length, Option, Some, None, ◌⊎◌, inl, inr, refl, sym, ap, subst, ◌∙◌, append_assoc, arith, ⊎_elim, length-append}
 use Rattle.std.specs.List.{cons_option}
+use Rattle.std.proofs.Common.{◌≡◌, ◌≤◌, ◌∷◌, ◌++◌, ◌⊎◌, ◌∙◌, ℕ, List, [], length, Option, Some, None, inl, inr, refl, sym, ap, subst, append_assoc, arith, ⊎_elim, length-append}
 use Rattle.std.proofs.lemmas.List.Elements.{filter_map-append}
 use Rattle.sfs_base.proofs.BasicOptions.{some_same}
 use Rattle.tree_laws.specs.Tree.{TreeState}
+use Rattle.disk_nodes.specs.OldKept.{OldKept}
 use Rattle.cut_laws.specs.Rules.{IsOneOf}
 use Rattle.cut_laws.proofs.Basics.{in_left, in_right}
-use Rattle.disk_nodes.specs.OldKept.{OldKept}
 use Rattle.stamp_table.specs.declared.event.Event.{Event}
 use Rattle.stamp_table.specs.declared.event.Event.TheVariants.{Called, Told}
 use Rattle.stamp_table.specs.Events.{called, calls_in}
 use Rattle.mem_values.specs.declared.fact.Fact.{Fact}
-use Rattle.mem_values.specs.declared.fact.Fact.TheVariants.{Saw, Noted, Committed, Trimmed}
+use Rattle.mem_values.specs.declared.fact.Fact.TheVariants.{Committed, Trimmed}
 use Rattle.mem_values.specs.declared.fact.HeldNode.{HeldNode}
 use Rattle.mem_values.specs.Account.{Commitment, commit_told, account_of, held_by}
 use Rattle.mem_values.specs.Facts.{RaisesMember, MayBeCommitted, MayStandAfter, AreLawfulBehind, IsLawfulLog}
-use Rattle.mem_values.proofs.Telling.{found_of}
-use Rattle.mem_values.proofs.Told.{commits_of}
+use Rattle.mem_values.proofs.Told.{found_of, commits_of}
 
 -- a commit came behind a beginning of a log
 pub record CameBehind (given : ℕ → Option OldKept) (first : TreeState) (log : List (Event Fact)) (commit : Commitment) : Type 0 where
@@ -35,8 +34,6 @@ module _ (given : ℕ → Option OldKept) (first : TreeState) where
   commit_asks : (before : List (Event Fact)) (event : Event Fact) (commit : Commitment) → MayStandAfter given first (account_of before) event
       → commit_told event ≡ Some commit → MayBeCommitted given first (account_of before) commit
   commit_asks before (Called entry) commit may is = absurd (cc (is))
-  commit_asks before (Told by (Saw node holder)) commit may is = absurd (cc (is))
-  commit_asks before (Told by (Noted stamp part marks)) commit may is = absurd (cc (is))
   commit_asks before (Told by (Trimmed number part)) commit may is = absurd (cc (is))
   commit_asks before (Told by (Committed number node stamp members held)) commit may is = let same = some_same is in
       subst (λ c. MayBeCommitted given first (account_of before) c) same may

@@ -1,5 +1,5 @@
 -- A call keeps what stands for each cell that it keeps.
-use Rattle.std.proofs.Common.{◌≡◌, ◌≢◌, ◌<◌, ℕ, true, false, List, [], ◌∷◌, ◌++◌, length, Option, inl, inr, sym, ap, subst, ◌∙◌, nat_eq, eq-eqb}
+use Rattle.std.proofs.Common.{◌≡◌, ◌≢◌, ◌<◌, ◌∷◌, ◌++◌, ◌∙◌, ℕ, true, false, List, [], length, Option, inl, inr, sym, ap, subst, nat_eq, eq-eqb}
 use Rattle.std.proofs.lemmas.Bool.{both_ways}
 use Rattle.std.proofs.lemmas.List.Elements.{filter_map-append}
 use Rattle.sfs_base.proofs.BasicTruth.{or_first, or_second}
@@ -95,7 +95,7 @@ module _ (given : ℕ → Option OldKept) (first : TreeState) (account : Account
       | inl apart ↦ untouched_born before entry.core.0 entry.call entry.stamp.0 node apart
       | inr nothing ↦ nothing_born before entry.core.0 entry.call entry.stamp.0 node nothing.0
     ]));
-    trimmed = λ writer last part lt. stood.trimmed writer last part lt;
+    trimmed = λ writer member last has part lt. stood.trimmed writer member last has part lt;
   }
 
   part_stands : (core : ℕ) (value : PartCell) → (nat_eq entry.core.0 core) ≡ false → StandsPart first account core value
@@ -110,10 +110,10 @@ module _ (given : ℕ → Option OldKept) (first : TreeState) (account : Account
         ((calls_keep_the_rest before entry.core.0 entry.call before_sound core_known).others core
         (λ same. both_ways (nat_eq entry.core.0 core) other (eq-eqb entry.core.0 core (sym same))))
         ∙ ap (λ t. made_by t core) (sym after_is));
-    marks =
+    kept =
         record {
-          capped = λ directory. stood.marks.capped directory;
-          trimmed = λ commit directory among trimmed member. stood.marks.trimmed commit directory among trimmed member;
+          capped = λ directory. stood.kept.capped directory;
+          trimmed = λ commit directory among trimmed member. stood.kept.trimmed commit directory among trimmed member;
         };
   }
 

@@ -1,24 +1,22 @@
 -- A commit is the last one of its nodes as long as a part is not trimmed for it.
-use Rattle.std.proofs.Common.{◌≡◌, ◌<◌, ℕ, List, [], ◌∷◌, ◌++◌, length, filter_map, Option, Some, None, refl, sym, ap, subst, ◌∙◌, append-nil, append_assoc}
-use Rattle.std.specs.List.{find}
 use Rattle.std.specs.Option.{option_or}
+use Rattle.std.proofs.Common.{◌≡◌, ◌<◌, ◌∷◌, ◌++◌, ◌∙◌, ℕ, List, [], length, filter_map, Option, Some, None, refl, sym, ap, subst, append-nil, append_assoc}
 use Rattle.std.proofs.lemmas.List.Elements.{filter_map-append}
 use Rattle.tree_laws.specs.Tree.{TreeState}
+use Rattle.disk_nodes.specs.OldKept.{OldKept}
 use Rattle.cut_laws.specs.Rules.{IsOneOf}
 use Rattle.cut_laws.proofs.Basics.{in_left}
-use Rattle.disk_nodes.specs.OldKept.{OldKept}
 use Rattle.stamp_table.specs.declared.event.Event.{Event}
 use Rattle.stamp_table.specs.declared.event.Event.TheVariants.{Called, Told}
 use Rattle.mem_values.specs.declared.fact.Fact.{Fact}
-use Rattle.mem_values.specs.declared.fact.Fact.TheVariants.{Saw, Noted, Committed, Trimmed}
+use Rattle.mem_values.specs.declared.fact.Fact.TheVariants.{Committed, Trimmed}
 use Rattle.mem_values.specs.declared.fact.HeldNode.{HeldNode}
 use Rattle.mem_values.specs.Account.{Commitment, Trimming, commit_told, trimming_told, account_of, held_by, writes_by, last_writer}
 use Rattle.mem_values.specs.Stands.{AreTrimmedFor}
 use Rattle.mem_values.specs.Facts.{MayBeCommitted, MayStandAfter, AreLawfulBehind}
 use Rattle.mem_values.specs.Telling.{commit_by, CommitsStayLast}
 use Rattle.mem_values.proofs.Lawful.{lawful_behind}
-use Rattle.mem_values.proofs.Told.{last_writer-push, commits_of}
-use Rattle.mem_values.proofs.Telling.{found_of}
+use Rattle.mem_values.proofs.Told.{last_writer-push, commits_of, found_of}
 
 abbrev trimmings_of : List (Event Fact) → List Trimming
 trimmings_of log = filter_map trimming_told log
@@ -27,7 +25,8 @@ trims_grow : (before rest : List (Event Fact)) (trimming : Trimming) → IsOneOf
 trims_grow before rest trimming among =
     subst (λ l. IsOneOf l trimming) (sym (filter_map-append trimming_told before rest)) (in_left (trimmings_of before) (trimmings_of rest) trimming among)
 
-module _ (given : ℕ → Option OldKept) (first : TreeState) (commit : Commitment) (part node : ℕ) (what : HeldNode) (known : part < length first.made) where
+module _ (given : ℕ → Option OldKept) (first : TreeState) (commit : Commitment) (part node : ℕ) (what : HeldNode) (known : part < length first.made)
+    (member : ℕ) (has : IsOneOf commit.members member) where
   -- a further commit holds no node of this one
   holds_not : (before rest : List (Event Fact)) (other : Commitment) → MayBeCommitted given first (account_of before) other
       → last_writer node (commits_of before) ≡ Some (commit, what)
@@ -40,7 +39,8 @@ module _ (given : ℕ → Option OldKept) (first : TreeState) (commit : Commitme
           let there = found_of node other.held h is in
           let trimmed : AreTrimmedFor first (account_of before) node =
           subst (λ (n : ℕ). AreTrimmedFor first (account_of before) n) there.1 (may.holds h there.0).trimmed in
-          absurd (not (trims_grow before rest (record { core = commit.core; number = commit.number; part = part }) (trimmed (commit, what) last part known)))
+          absurd (not (trims_grow before rest (record { core = commit.core; number = commit.number; part = part })
+          (trimmed (commit, what) member last has part known)))
 
   still_last : (before rest : List (Event Fact)) → AreLawfulBehind given first before rest → last_writer node (commits_of before) ≡ Some (commit, what)
       → (IsOneOf (trimmings_of (before ++ rest)) (record { core = commit.core; number = commit.number; part = part }) → ⊥)
@@ -69,21 +69,19 @@ module _ (given : ℕ → Option OldKept) (first : TreeState) (commit : Commitme
 
       one_more : (e : Event Fact) → event ≡ e → last_writer node (commits_of (before ++ event ∷ [])) ≡ Some (commit, what)
       one_more (Called entry) is = quiet (ap commit_told is)
-      one_more (Told by (Saw n holder)) is = quiet (ap commit_told is)
-      one_more (Told by (Noted stamp p marks)) is = quiet (ap commit_told is)
       one_more (Told by (Trimmed number p)) is = quiet (ap commit_told is)
       one_more (Told by (Committed number n stamp members held)) is =
           raised (commit_by by.0 number n stamp members held) (ap commit_told is) (subst (λ e. MayStandAfter given first (account_of before) e) is lawful.0)
 
 pub commits_stay_last : CommitsStayLast
-commits_stay_last given first before after core number node stamp members held part of what lawful known not holds =
+commits_stay_last given first before after core number node stamp members held part of member what lawful known has not holds =
     let commit : Commitment = commit_by core.0 number node stamp members held in
     let event : Event Fact = Told core (Committed number node stamp members held) in
     let begun : last_writer of (commits_of (before ++ event ∷ [])) ≡ Some (commit, what) =
     ap (last_writer of) (filter_map-append commit_told before (event ∷ []))
     ∙ (last_writer-push of (commits_of before) commit ∙ ap (λ o. option_or (writes_by commit o) (last_writer of (commits_of before))) holds) in
     ap (λ l. last_writer of (commits_of l)) (sym (append_assoc before (event ∷ []) after))
-    ∙ still_last given first commit part of what known (before ++ event ∷ []) after
+    ∙ still_last given first commit part of what known member has (before ++ event ∷ []) after
     (lawful_behind given first [] (before ++ event ∷ []) after
     (subst (λ l. AreLawfulBehind given first [] l) (sym (append_assoc before (event ∷ []) after)) lawful))
     begun

@@ -13,4 +13,5 @@ pub mod Lasting
 pub mod Committed
 pub mod Home
 pub mod Worked
+pub mod Writers
 pub mod Begun

@@ -1,26 +1,30 @@
 -- When a core may tell what it does.
-use Rattle.std.proofs.Common.{◌≡◌, ◌+◌, ◌*◌, ℕ, List, [], ◌∷◌, ◌++◌, filter_map, Option, Some, None, inl, inr, refl, sym, ap, subst, ◌∙◌, append-nil, arith, ⊎_elim}
-use Rattle.std.specs.Prelude.{if◌then◌else◌}
-use Rattle.std.specs.List.{find}
+use mathlib.Core.List.{IsPrefix}
 use Rattle.std.specs.Option.{option_or}
-use Rattle.std.proofs.lemmas.Bool.{cases_Bool, eqb-true}
+use Rattle.std.specs.FinMap.{get}
+use Rattle.std.proofs.Common.{◌≡◌, ◌+◌, ◌*◌, ◌∷◌, ◌++◌, ◌∙◌, ◌<◌, ◌≤◌, ℕ, List, [], filter_map, Option, Some, None, inl, inr, refl, sym, ap, subst, append-nil, arith, IsSome, length, take, true}
 use Rattle.std.proofs.lemmas.List.Elements.{filter_map-append}
+use Rattle.std.proofs.Math.Seq.{take-append_seam}
 use Rattle.sfs_base.specs.declared.numbers.NodeId.{NodeId}
 use Rattle.sfs_base.specs.declared.numbers.CoreId.{CoreId}
-use Rattle.tree_laws.specs.Tree.{TreeState, is_directory, holder_of}
+use Rattle.tree_laws.specs.Tree.{TreeState, is_directory}
 use Rattle.tree_laws.specs.History.{tree_after, IsLegal}
-use Rattle.tree_laws.specs.Lock.{IsHolder, stands_of}
+use Rattle.tree_laws.specs.Laws.{IsSoundTree}
+use Rattle.tree_laws.specs.declared.history.Entry.{Entry}
+use Rattle.tree_laws.proofs.KeepsNodes.{directory_node}
+use Rattle.disk_nodes.specs.OldKept.{OldKept}
 use Rattle.cut_laws.specs.Rules.{IsOneOf}
 use Rattle.cut_laws.proofs.Basics.{in_left, in_either}
-use Rattle.disk_nodes.specs.OldKept.{OldKept}
+use Rattle.cut_laws.proofs.Along.{tree_at, tree_at-after, HasItsNodes, nodes_at}
+use Rattle.cut_laws.proofs.Seen.{held}
 use Rattle.stamp_table.specs.declared.event.Event.{Event}
 use Rattle.stamp_table.specs.declared.view.View.{View}
-use Rattle.stamp_table.specs.Rule.{Has, entries_by}
+use Rattle.stamp_table.specs.Rule.{Has}
 use Rattle.stamp_table.specs.Steps.{IsPast}
 use Rattle.stamp_table.specs.Events.{event_core, is_call, called, told_by, calls_in, IsLawful, stands_for}
 use Rattle.stamp_table.specs.Table.{MayTell}
 use Rattle.mem_values.specs.declared.fact.Fact.{Fact}
-use Rattle.mem_values.specs.declared.fact.Fact.TheVariants.{Saw, Noted, Committed, Trimmed}
+use Rattle.mem_values.specs.declared.fact.Fact.TheVariants.{Committed, Trimmed}
 use Rattle.mem_values.specs.declared.fact.HeldNode.{HeldNode}
 use Rattle.mem_values.specs.declared.cell.Cell.{Cell}
 use Rattle.mem_values.specs.declared.cell.Cell.TheVariants as cell
@@ -29,13 +33,13 @@ use Rattle.mem_values.specs.declared.cell.PartCell.{PartCell}
 use Rattle.mem_values.specs.declared.cell_id.CellId.{CellId}
 use Rattle.mem_values.specs.declared.cell_id.CellId.TheVariants as id
 use Rattle.mem_values.specs.Places.{node_count, cell_place}
-use Rattle.mem_values.specs.Account.{Account, Commitment, Trimming, commit_told, account_of, is_held_of, held_by, writes_by, last_writer}
-use Rattle.mem_values.specs.Stands.{ShowsBucket, Flushed, flushed_by, IsTrimmedFor, AreTrimmedFor, AreMarksOf, StandsPending, StandsPart, StandsForCell, StandsAt}
-use Rattle.mem_values.specs.Facts.{mark_in, MayHoldNode, MayBeToldAfter, IsLawfulLog}
-use Rattle.mem_values.specs.Telling.{KnowsOf, StandsIn, HasMarks, SawNode, commit_by, MayTellCommit, SawMayBeTold, NotedMayBeTold, CommitsMayBeTold, TrimsMayBeTold}
+use Rattle.mem_values.specs.Account.{Account, Commitment, Trimming, commit_told, account_of, held_by, writes_by, last_writer}
+use Rattle.mem_values.specs.Stands.{Flushed, flushed_by, IsTrimmedFor, AreTrimmedFor, StandsPending, StandsPart, StandsForCell, StandsAt, flushed_in}
+use Rattle.mem_values.specs.Facts.{MayHoldNode, MayBeToldAfter, IsLawfulLog}
+use Rattle.mem_values.specs.Telling.{KnowsOf, commit_by, MayTellCommit, CommitsMayBeTold, TrimsMayBeTold, FollowsValue}
 use Rattle.mem_values.proofs.Lawful.{lawful_push}
 use Rattle.mem_values.proofs.Stamping.{still_stands}
-use Rattle.mem_values.proofs.Told.{account_saw, account_noted, account_committed, account_trimmed, with_commit, with_trimming, fsync_there, one_of_some, own_commit, calls_grow, trimmed_commit, last_writer-push}
+use Rattle.mem_values.proofs.Told.{account_committed, account_trimmed, with_commit, with_trimming, fsync_there, one_of_some, own_commit, calls_grow, trimmed_commit, last_writer-push, found_of}
 
 module _ (given : ℕ → Option OldKept) (view : View TreeState (Event Fact)) where
   abbrev Past : List (Event Fact) → Type 0
@@ -71,79 +75,46 @@ module _ (given : ℕ → Option OldKept) (view : View TreeState (Event Fact)) w
       → StandsForCell given view.first (account_of log) which knows.known.value
   known_stands log past which P knows = still_stands given view log past knows.known knows.knows which knows.is_cell knows.there
 
--- a directory that stands in another has it as its holder
-pub stands_there : (tree : TreeState) (node holder : ℕ) → stands_of tree node ≡ Some holder → IsHolder tree node holder
-stands_there tree node holder stands = ⊎_elim
-    (λ kind. record { kind = kind; held = λ alive. sym (ap (λ b. if b then holder_of tree node else None) kind) ∙ stands })
-    (λ file. absurd (let never : None ≡ Some holder = sym (ap (λ b. if b then holder_of tree node else None) file) ∙ stands in cc))
-    (cases_Bool (is_directory tree node))
+-- a node of a tree is one of each later tree, and of the same kind
+pub later_node : (first : TreeState) (seen log : List (Event Fact)) (node : ℕ) → IsSoundTree first → IsLegal first (calls_in log) → IsPrefix seen log
+    → IsSome (get (tree_after first (calls_in seen)).nodes node)
+    → IsSome (get (tree_after first (calls_in log)).nodes node)
+    × (is_directory (tree_after first (calls_in log)) node ≡ is_directory (tree_after first (calls_in seen)) node)
+later_node first seen log node sound legal prefix some =
+    let calls = calls_in seen in
+    let whole : calls_in log ≡ calls ++ calls_in prefix.0 = sym (ap calls_in prefix.1) ∙ filter_map-append called seen prefix.0 in
+    let there : tree_at first (calls_in log) (length calls) ≡ tree_after first calls =
+    tree_at-after first (calls_in log) (length calls) ∙ ap (tree_after first) (ap (take (length calls)) whole ∙ take-append_seam calls (calls_in prefix.0)) in
+    subst (λ t. HasItsNodes t (tree_after first (calls_in log))) there (nodes_at first (calls_in log) (length calls) sound legal) node some
 
-bucket_holder : (given : ℕ → Option OldKept) (first : TreeState) (account : Account) (node : NodeId) (number holder : ℕ) (value : Cell)
-    → StandsForCell given first account (id.Bucket node number) value → StandsIn holder value → IsHolder (tree_after first account.calls) node.0 holder
-bucket_holder given first account node number holder (cell.Lock lock) stood stands = absurd stands
-bucket_holder given first account node number holder (cell.Bucket b) stood stands =
-    stands_there (tree_after first account.calls) node.0 holder (sym stood.stands ∙ stands)
-bucket_holder given first account node number holder (cell.File f) stood stands = absurd stands
-bucket_holder given first account node number holder (cell.Pending p) stood stands = absurd stands
-bucket_holder given first account node number holder (cell.Part p) stood stands = absurd stands
+-- what a commit writes of a node follows what the commits before it left
+record FollowsLast (given : ℕ → Option OldKept) (first : TreeState) (account : Account) (calls : List Entry) (commit : Commitment)
+    (held : HeldNode) : Type 0 where
+  trimmed : AreTrimmedFor first account held.node.0
+  later : (flushed_in given account held.node.0).last < commit.number
+  rises : (flushed_in given account held.node.0).cut ≤ held.new_cut.0
+  stays : is_directory (tree_after first calls) held.node.0 ≡ true → (IsOneOf commit.members held.node.0 → ⊥)
+      → held.new_cut.0 ≡ (flushed_in given account held.node.0).cut
 
-pub saw_may_be_told : SawMayBeTold
-saw_may_be_told given view node holder number knows = may_tell_by given view (Saw node holder) (λ log past. record {
-  may =
-      bucket_holder given view.first (account_of log) node number holder.0 knows.known.value
-      (known_stands given view log past (id.Bucket node number) (StandsIn holder.0) knows) knows.has;
-  keeps =
-      λ which value not stood. subst (λ a. StandsForCell given view.first a which value) (sym (account_saw log (record { 0 = view.core }) node holder)) stood;
-})
-
-part_marks : (given : ℕ → Option OldKept) (first : TreeState) (account : Account) (part : CoreId) (mark : ℕ → ℕ) (value : Cell)
-    → StandsForCell given first account (id.Part part) value → HasMarks mark value → AreMarksOf account part.0 mark
-part_marks given first account part mark (cell.Lock lock) stood has = absurd has
-part_marks given first account part mark (cell.Bucket b) stood has = absurd has
-part_marks given first account part mark (cell.File f) stood has = absurd has
-part_marks given first account part mark (cell.Pending p) stood has = absurd has
-part_marks given first account part mark (cell.Part p) stood has = record {
-  capped = λ directory. subst (λ m. Rattle.mem_values.specs.Stands.IsCapped account directory m) (sym (has directory)) (stood.marks.capped directory);
-  trimmed = λ commit directory among trimmed member. let le = stood.marks.trimmed commit directory among trimmed member in let same = has directory in
-      omega (arith, le, same);
-}
-
-pub noted_may_be_told : NotedMayBeTold
-noted_may_be_told given view node stamp part marks fsync knows = may_tell_by given view (Noted stamp part marks) (λ log past. record {
-  may = record {
-    own = (node, fsync_there log view.core node stamp.0 view.mine past.mine fsync);
-    marks_are =
-        part_marks given view.first (account_of log) part (mark_in marks.items) knows.known.value
-        (known_stands given view log past (id.Part part) (HasMarks (mark_in marks.items)) knows) knows.has;
-  };
-  keeps =
-      λ which value not stood. subst (λ a. StandsForCell given view.first a which value)
-      (sym (account_noted log (record { 0 = view.core }) stamp part marks)) stood;
-})
-
--- what a commit saw of a node is what the last one before it left
-saw_flushed : (given : ℕ → Option OldKept) (first : TreeState) (account : Account) (held : HeldNode) (value : Cell)
-    → StandsForCell given first account (id.Pending held.node) value → SawNode held value
-    → (◌≡◌ {A = Flushed} (record { cut = held.cut.0; last = held.last; old = held.old })
-    (flushed_by given held.node.0 (last_writer held.node.0 account.commits)))
-    × AreTrimmedFor first account held.node.0
-saw_flushed given first account held (cell.Lock lock) stood saw = absurd saw
-saw_flushed given first account held (cell.Bucket b) stood saw = absurd saw
-saw_flushed given first account held (cell.File f) stood saw = absurd saw
-saw_flushed given first account held (cell.Pending p) stood saw = (saw ∙ stood.flushed, stood.trimmed)
-saw_flushed given first account held (cell.Part p) stood saw = absurd saw
-
--- what is found by a test is one of the list
-pub found_of : (node : ℕ) (held : List HeldNode) (h : HeldNode) → find (is_held_of node) held ≡ Some h → IsOneOf held h × (h.node.0 ≡ node)
-found_of node [] h found = absurd (cc (found))
-found_of node (x ∷ held) h found = ⊎_elim
-    (λ is. let same : x ≡ h = cc (ap (λ b. if b then Some x else find (is_held_of node) held) is, found) in
-    (inl same, ap (λ (z : HeldNode). z.node.0) (sym same) ∙ eqb-true x.node.0 node is))
-    (λ not. let r = found_of node held h (sym (ap (λ b. if b then Some x else find (is_held_of node) held) not) ∙ found) in (inr r.0, r.1))
-    (cases_Bool (is_held_of node x))
+follows_last : (given : ℕ → Option OldKept) (first : TreeState) (account : Account) (calls : List Entry) (commit : Commitment) (held : HeldNode)
+    (value : Cell) → StandsForCell given first account (id.Pending held.node) value → FollowsValue first calls commit held value
+    → FollowsLast given first account calls commit held
+follows_last given first account calls commit held (cell.Lock lock) stood follows = absurd follows
+follows_last given first account calls commit held (cell.Bucket b) stood follows = absurd follows
+follows_last given first account calls commit held (cell.File f) stood follows = absurd follows
+follows_last given first account calls commit held (cell.Pending p) stood follows =
+    let cut = ap (λ (x : Flushed). x.cut) stood.flushed in
+    let last = ap (λ (x : Flushed). x.last) stood.flushed in
+    record {
+      trimmed = stood.trimmed;
+      later = (let l = follows.later in omega (arith, l, last));
+      rises = (let r = follows.rises in omega (arith, r, cut));
+      stays = λ directory none. follows.stays directory none ∙ cut;
+    }
+follows_last given first account calls commit held (cell.Part p) stood follows = absurd follows
 
 module _ (given : ℕ → Option OldKept) (view : View TreeState (Event Fact)) (commit : Commitment) (asks : MayTellCommit given view commit)
-    (own : commit.core ≡ view.core) (log : List (Event Fact)) (past : Past given view log) where
+    (own : commit.core ≡ view.core) (log : List (Event Fact)) (past : Past given view log) (sound : IsSoundTree view.first) where
   abbrev first : TreeState
   first = view.first
 
@@ -155,18 +126,30 @@ module _ (given : ℕ → Option OldKept) (view : View TreeState (Event Fact)) (
   fresh other among of number =
       asks.fresh other (subst (λ l. IsOneOf (filter_map commit_told l) other) (sym past.mine) (own_commit log view.core other among (of ∙ own))) number
 
-  may_hold : (held : HeldNode) → IsOneOf commit.held held → MayHoldNode given first account commit.number held
+  later : (node : ℕ) → IsSome (get (tree_after first (calls_in view.seen)).nodes node)
+      → IsSome (get (tree_after first (calls_in log)).nodes node)
+      × (is_directory (tree_after first (calls_in log)) node ≡ is_directory (tree_after first (calls_in view.seen)) node)
+  later node some = later_node first view.seen log node sound past.legal_log.legal_calls past.seen some
+
+  may_hold : (held : HeldNode) → IsOneOf commit.held held → MayHoldNode given first account commit held
   may_hold held among =
-      let knows = asks.saw held among in
-      let saw =
-      saw_flushed given first account held knows.known.value (known_stands given view log past (id.Pending held.node) (SawNode held) knows) knows.has in
+      let knows = asks.follows held among in
+      let follows =
+      follows_last given first account (calls_in view.seen) commit held knows.known.value
+      (known_stands given view log past (id.Pending held.node) (FollowsValue first (calls_in view.seen) commit held) knows) knows.has in
+      let there = later held.node.0 (asks.nodes held among) in
       record {
-        saw = saw.0;
-        trimmed = saw.1;
-        later = asks.later held among;
-        rises = asks.rises held among;
+        node = there.0;
+        trimmed = follows.trimmed;
+        later = follows.later;
+        rises = follows.rises;
         within = let w = asks.within held among in let more = calls_grow view.seen log past.seen in omega (arith, w, more);
+        stays = λ directory none. follows.stays (sym there.1 ∙ directory) none;
       }
+
+  are_directories : (directory : ℕ) → IsOneOf commit.members directory → is_directory (tree_after first (calls_in log)) directory ≡ true
+  are_directories directory member = let is = asks.directories directory member in
+      (later directory (directory_node (tree_after first (calls_in view.seen)) directory is)).1 ∙ is
 
   -- a node that the core does not hold is none of the commit's
   not_held : (node : NodeId) → (Has view.held (cell_place (node_count first) (id.Pending node)) → ⊥) → held_by commit node.0 ≡ None
@@ -176,7 +159,7 @@ module _ (given : ℕ → Option OldKept) (view : View TreeState (Event Fact)) (
       none_by None is = refl
       none_by (Some h) is =
           let there = found_of node.0 commit.held h is in
-          let knows = asks.saw h there.0 in
+          let knows = asks.follows h there.0 in
           absurd
           (not
           (subst (λ (n : ℕ). Has view.held (16 + 9 * node_count first + n)) there.1 (subst (λ p. Has view.held p) (sym knows.there) knows.knows.holds)))
@@ -191,7 +174,7 @@ module _ (given : ℕ → Option OldKept) (view : View TreeState (Event Fact)) (
   pending_kept node value not stood = record {
     flushed = stood.flushed ∙ ap (flushed_by given node.0) (sym (same_writer node not));
     made_in = stood.made_in;
-    trimmed = λ writer last part lt. stood.trimmed writer (sym (same_writer node not) ∙ last) part lt;
+    trimmed = λ writer member last has part lt. stood.trimmed writer member (sym (same_writer node not) ∙ last) has part lt;
   }
 
   -- no part is trimmed for the commit yet
@@ -204,13 +187,13 @@ module _ (given : ℕ → Option OldKept) (view : View TreeState (Event Fact)) (
   part_kept core value stood = record {
     left = stood.left;
     made = stood.made;
-    marks = record {
-      capped = λ directory. elim (stood.marks.capped directory) [
-        | inl zero ↦ inl zero
+    kept = record {
+      capped = λ directory. elim (stood.kept.capped directory) [
+        | inl none ↦ inl none
         | inr below ↦ inr (below.0, below.1, in_left account.commits (commit ∷ []) below.0 below.2, below.3, below.4)
       ];
       trimmed = λ other directory among trimmed member. elim (in_either account.commits (commit ∷ []) other among) [
-        | inl old ↦ stood.marks.trimmed other directory old trimmed member
+        | inl old ↦ stood.kept.trimmed other directory old trimmed member
         | inr new ↦ elim new [ inl same ↦ absurd (not_yet core (subst (λ c. IsTrimmedFor account c core) (sym same) trimmed)) | inr none ↦ absurd none ]
       ];
     };
@@ -245,18 +228,19 @@ module _ (given : ℕ → Option OldKept) (view : View TreeState (Event Fact)) (
   commit_keeps (id.Part core) (cell.Part p) not stood = part_kept core.0 p.value stood
 
 pub commits_may_be_told : CommitsMayBeTold
-commits_may_be_told given view number node stamp members held asks = may_tell_by given view (Committed number node stamp members held) (λ log past.
+commits_may_be_told given view number node stamp members held sound asks = may_tell_by given view (Committed number node stamp members held) (λ log past.
     let commit : Commitment = commit_by view.core number node stamp members held in record {
       may = record {
         own = fsync_there log view.core commit.node commit.stamp view.mine past.mine asks.own;
-        fresh = fresh given view commit asks refl log past;
-        holds = may_hold given view commit asks refl log past;
+        fresh = fresh given view commit asks refl log past sound;
+        holds = may_hold given view commit asks refl log past sound;
         raises = asks.raises;
+        directories = are_directories given view commit asks refl log past sound;
       };
       keeps =
           λ which value not stood. subst (λ a. StandsForCell given view.first a which value)
           (sym (account_committed log (record { 0 = view.core }) number node stamp members held))
-          (commit_keeps given view commit asks refl log past which value not stood);
+          (commit_keeps given view commit asks refl log past sound which value not stood);
     })
 
 module _ (given : ℕ → Option OldKept) (view : View TreeState (Event Fact)) (number : ℕ) (part : CoreId)
@@ -270,8 +254,8 @@ module _ (given : ℕ → Option OldKept) (view : View TreeState (Event Fact)) (
     flushed = stood.flushed;
     made_in = stood.made_in;
     trimmed =
-        λ writer last other lt. in_left account.trimmings (trimming ∷ []) (record { core = writer.0.core; number = writer.0.number; part = other })
-        (stood.trimmed writer last other lt);
+        λ writer member last has other lt. in_left account.trimmings (trimming ∷ []) (record { core = writer.0.core; number = writer.0.number; part = other })
+        (stood.trimmed writer member last has other lt);
   }
 
   part_still : (core : CoreId) (value : PartCell) → (Has view.held (cell_place (node_count view.first) (id.Part core)) → ⊥)
@@ -279,12 +263,12 @@ module _ (given : ℕ → Option OldKept) (view : View TreeState (Event Fact)) (
   part_still core value not stood = record {
     left = stood.left;
     made = stood.made;
-    marks = record {
-      capped = λ directory. stood.marks.capped directory;
+    kept = record {
+      capped = λ directory. stood.kept.capped directory;
       trimmed =
           λ commit directory among trimmed member. elim (in_either account.trimmings (trimming ∷ [])
           (record { core = commit.core; number = commit.number; part = core.0 }) trimmed) [
-            | inl old ↦ stood.marks.trimmed commit directory among old member
+            | inl old ↦ stood.kept.trimmed commit directory among old member
             | inr new ↦ elim new [
               | inl same ↦ absurd (not (subst (λ (n : ℕ). Has view.held (32 + 10 * node_count view.first + 16 * n)) (ap (λ (t : Trimming). t.part) same) holds))
               | inr none ↦ absurd none

@@ -1,45 +1,29 @@
 -- What a fact more adds to what a log has.
-use Rattle.std.proofs.Common.{◌≡◌, ◌≤◌, ℕ, Bool, ◌==◌, List, [], ◌∷◌, ◌++◌, length, filter, filter_map, Option, Some, None, ◌⊎◌, inl, inr, refl, sym, ap, subst, ◌∙◌, append-nil, append_assoc, length-append, eq-eqb, arith, ⊎_elim}
 use Rattle.std.specs.Prelude.{Vec}
 use Rattle.std.specs.List.{cons_option}
 use Rattle.std.specs.Option.{option_or}
 use Rattle.std.specs.declared.alloc.Global.{Global}
+use mathlib.Core.List.{IsPrefix}
+use Rattle.std.proofs.Common.{◌≡◌, ◌≤◌, ◌==◌, ◌∷◌, ◌++◌, ◌⊎◌, ◌∙◌, if◌then◌else◌, ℕ, Bool, List, [], length, filter, filter_map, Option, Some, None, inl, inr, refl, sym, ap, subst, append-nil, append_assoc, length-append, eq-eqb, arith, ⊎_elim, find, eqb-true}
 use Rattle.std.proofs.lemmas.Bool.{cases_Bool}
 use Rattle.std.proofs.lemmas.List.Elements.{filter_map-append}
-use mathlib.Core.List.{IsPrefix}
 use Rattle.sfs_base.specs.declared.numbers.NodeId.{NodeId}
 use Rattle.sfs_base.specs.declared.numbers.Stamp.{Stamp}
 use Rattle.sfs_base.specs.declared.numbers.CoreId.{CoreId}
 use Rattle.tree_laws.specs.Tree.{TreeState}
+use Rattle.disk_nodes.specs.OldKept.{OldKept}
 use Rattle.cut_laws.specs.Rules.{IsOneOf}
 use Rattle.cut_laws.proofs.Basics.{in_left}
-use Rattle.disk_nodes.specs.OldKept.{OldKept}
 use Rattle.stamp_table.specs.declared.event.Event.{Event}
 use Rattle.stamp_table.specs.declared.event.Event.TheVariants.{Called, Told}
 use Rattle.stamp_table.specs.Rule.{is_by, entries_by}
 use Rattle.stamp_table.specs.Events.{event_core, called, calls_in}
 use Rattle.mem_values.specs.declared.fact.Fact.{Fact}
-use Rattle.mem_values.specs.declared.fact.Fact.TheVariants.{Saw, Noted, Committed, Trimmed}
+use Rattle.mem_values.specs.declared.fact.Fact.TheVariants.{Committed, Trimmed}
 use Rattle.mem_values.specs.declared.fact.HeldNode.{HeldNode}
-use Rattle.mem_values.specs.Account.{Account, Commitment, Trimming, commit_told, trimming_told, account_of, held_by, writes_by, last_writer}
+use Rattle.mem_values.specs.Account.{Account, Commitment, Trimming, commit_told, trimming_told, account_of, held_by, writes_by, last_writer, is_held_of}
 use Rattle.mem_values.specs.Facts.{HasFsync, MayStandAfter, AreLawfulBehind, IsLawfulLog}
 use Rattle.mem_values.specs.Telling.{commit_by}
-
--- what a core saw or noted adds nothing
-pub account_saw : (log : List (Event Fact)) (core : CoreId) (node holder : NodeId) → account_of (log ++ Told core (Saw node holder) ∷ []) ≡ account_of log
-account_saw log core node holder = let event : Event Fact = Told core (Saw node holder) in λ i. record {
-  calls = (filter_map-append called log (event ∷ []) ∙ append-nil (calls_in log)) i;
-  commits = (filter_map-append commit_told log (event ∷ []) ∙ append-nil (filter_map commit_told log)) i;
-  trimmings = (filter_map-append trimming_told log (event ∷ []) ∙ append-nil (filter_map trimming_told log)) i;
-}
-
-pub account_noted : (log : List (Event Fact)) (core : CoreId) (stamp : Stamp) (part : CoreId) (marks : Vec Stamp Global)
-    → account_of (log ++ Told core (Noted stamp part marks) ∷ []) ≡ account_of log
-account_noted log core stamp part marks = let event : Event Fact = Told core (Noted stamp part marks) in λ i. record {
-  calls = (filter_map-append called log (event ∷ []) ∙ append-nil (calls_in log)) i;
-  commits = (filter_map-append commit_told log (event ∷ []) ∙ append-nil (filter_map commit_told log)) i;
-  trimmings = (filter_map-append trimming_told log (event ∷ []) ∙ append-nil (filter_map trimming_told log)) i;
-}
 
 -- an account with a commit more, or a trimming more
 abbrev pub with_commit : Account → Commitment → Account
@@ -96,6 +80,7 @@ fsync_there log core node stamp mine is fsync = record {
   own = fsync.own;
   stamped = fsync.stamped;
   fsync = fsync.fsync;
+  waits = fsync.waits;
 }
 
 -- a commit of a core stands among the core's own events
@@ -104,10 +89,6 @@ pub own_commit : (log : List (Event Fact)) (core : ℕ) (commit : Commitment) �
 own_commit [] core commit among own = among
 own_commit (Called entry ∷ log) core commit among own = let r = own_commit log core commit among own in
     ⊎_elim (λ is. rw is r) (λ not. rw not r) (cases_Bool (entry.core.0 == core))
-own_commit (Told by (Saw node holder) ∷ log) core commit among own = let r = own_commit log core commit among own in
-    ⊎_elim (λ is. rw is r) (λ not. rw not r) (cases_Bool (by.0 == core))
-own_commit (Told by (Noted stamp part marks) ∷ log) core commit among own = let r = own_commit log core commit among own in
-    ⊎_elim (λ is. rw is r) (λ not. rw not r) (cases_Bool (by.0 == core))
 own_commit (Told by (Trimmed number part) ∷ log) core commit among own = let r = own_commit log core commit among own in
     ⊎_elim (λ is. rw is r) (λ not. rw not r) (cases_Bool (by.0 == core))
 own_commit (Told by (Committed number node stamp members held) ∷ log) core commit among own = elim among [
@@ -145,8 +126,6 @@ module _ (given : ℕ → Option OldKept) (first : TreeState) where
   trimming_asks : (before : List (Event Fact)) (event : Event Fact) (trimming : Trimming) → MayStandAfter given first (account_of before) event
       → trimming_told event ≡ Some trimming → HasCommit (commits_of before) trimming.core trimming.number
   trimming_asks before (Called entry) trimming may is = absurd (cc (is))
-  trimming_asks before (Told by (Saw node holder)) trimming may is = absurd (cc (is))
-  trimming_asks before (Told by (Noted stamp part marks)) trimming may is = absurd (cc (is))
   trimming_asks before (Told by (Committed number node stamp members held)) trimming may is = absurd (cc (is))
   trimming_asks before (Told by (Trimmed number part)) trimming may is =
       let same : record { core = by.0; number = number; part = part.0 } ≡ trimming = cc (is) in
@@ -192,3 +171,12 @@ last_writer-push node [] commit = sym (or_end (writes_by commit (held_by commit 
 last_writer-push node (c ∷ commits) commit =
     ap (λ o. option_or o (writes_by c (held_by c node))) (last_writer-push node commits commit)
     ∙ or_more (writes_by commit (held_by commit node)) (last_writer node commits) (writes_by c (held_by c node))
+
+-- what is found by a test is one of the list
+pub found_of : (node : ℕ) (held : List HeldNode) (h : HeldNode) → find (is_held_of node) held ≡ Some h → IsOneOf held h × (h.node.0 ≡ node)
+found_of node [] h found = absurd (cc (found))
+found_of node (x ∷ held) h found = ⊎_elim
+    (λ is. let same : x ≡ h = cc (ap (λ b. if b then Some x else find (is_held_of node) held) is, found) in
+    (inl same, ap (λ (z : HeldNode). z.node.0) (sym same) ∙ eqb-true x.node.0 node is))
+    (λ not. let r = found_of node held h (sym (ap (λ b. if b then Some x else find (is_held_of node) held) not) ∙ found) in (inr r.0, r.1))
+    (cases_Bool (is_held_of node x))

@@ -1,5 +1,5 @@
 -- What the log of a table has: its calls, the commits that cores made, and which parts they trimmed for them.
-use Rattle.std.specs.Prelude.{ℕ, ◌==◌, Bool, List, [], ◌∷◌, Option, Some, None, option_map, map, filter_map}
+use Rattle.std.specs.Prelude.{◌==◌, ◌∷◌, ℕ, Bool, List, [], Option, Some, None, option_map, map, filter_map}
 use Rattle.std.specs.List.{find}
 use Rattle.std.specs.Option.{option_or}
 use Rattle.tree_laws.specs.declared.history.Entry.{Entry}
@@ -8,7 +8,7 @@ use Rattle.stamp_table.specs.declared.event.Event.{Event}
 use Rattle.stamp_table.specs.declared.event.Event.TheVariants.{Called, Told}
 use Rattle.stamp_table.specs.Events.{calls_in}
 use Rattle.mem_values.specs.declared.fact.Fact.{Fact}
-use Rattle.mem_values.specs.declared.fact.Fact.TheVariants.{Saw, Noted, Committed, Trimmed}
+use Rattle.mem_values.specs.declared.fact.Fact.TheVariants.{Committed, Trimmed}
 use Rattle.mem_values.specs.declared.fact.HeldNode.{HeldNode}
 
 -- A commit as its core told it: whose it is, its number, the node and the stamp of its fsync, its members, and all nodes that it holds.
@@ -29,8 +29,6 @@ pub record Trimming : Type 0 where
 -- the commit that an event tells
 abbrev pub commit_told : Event Fact → Option Commitment
 commit_told (Called entry) = None
-commit_told (Told core (Saw node holder)) = None
-commit_told (Told core (Noted stamp part marks)) = None
 commit_told (Told core (Committed number node stamp members held)) = Some (record {
   core = core.0;
   number = number;
@@ -44,8 +42,6 @@ commit_told (Told core (Trimmed number part)) = None
 -- the trimming that an event tells
 abbrev pub trimming_told : Event Fact → Option Trimming
 trimming_told (Called entry) = None
-trimming_told (Told core (Saw node holder)) = None
-trimming_told (Told core (Noted stamp part marks)) = None
 trimming_told (Told core (Committed number node stamp members held)) = None
 trimming_told (Told core (Trimmed number part)) = Some (record { core = core.0; number = number; part = part.0 })
 

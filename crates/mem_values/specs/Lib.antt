@@ -10,3 +10,4 @@ pub mod Stands
 pub mod Telling
 pub mod Touches
 pub mod Worked
+pub mod Writers

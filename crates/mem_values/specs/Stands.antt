@@ -1,17 +1,18 @@
 -- What the value of each cell stands for.
-use Rattle.std.specs.Prelude.{◌≡◌, ◌⊎◌, ℕ, ◌<◌, ◌≤◌, List, length, filter, Option, Some, None, option_map, if◌then◌else◌}
+use Rattle.std.specs.Prelude.{◌≡◌, ◌⊎◌, ◌<◌, ◌≤◌, if◌then◌else◌, ℕ, List, length, filter, Option, Some, None, option_map, All}
 use Rattle.std.specs.FinMap.{get}
+use Rattle.mem_files.specs.File.{mark_of}
 use Rattle.tree_laws.specs.declared.history.Entry.{Entry}
 use Rattle.tree_laws.specs.Tree.{TreeState, is_directory, count_of, bytes_of, made_by, bucket_rows}
 use Rattle.tree_laws.specs.Lock.{stands_of}
 use Rattle.tree_laws.specs.History.{tree_after}
 use Rattle.tree_laws.specs.Merged.{is_core}
 use Rattle.tree_laws.specs.NameRow.{number_of}
+use Rattle.tree_laws.specs.declared.changes.Change.{Change}
 use Rattle.mem_cells.specs.Laws.{IsLeftOf}
-use Rattle.mem_cells.specs.Part.{mark_kept}
-use Rattle.cut_laws.specs.Rules.{IsOneOf}
+use Rattle.mem_cells.specs.Part.{CoreLog, changes_kept, mark_kept}
 use Rattle.disk_nodes.specs.OldKept.{OldKept}
-use Rattle.mem_files.specs.File.{mark_of}
+use Rattle.cut_laws.specs.Rules.{IsOneOf}
 use Rattle.stamp_table.specs.declared.event.Event.{Event}
 use Rattle.mem_values.specs.declared.fact.Fact.{Fact}
 use Rattle.mem_values.specs.declared.fact.HeldNode.{HeldNode}
@@ -63,16 +64,20 @@ flushed_by given node (Some writer) = record { cut = writer.1.new_cut.0; last = 
 abbrev pub IsTrimmedFor : Account → Commitment → ℕ → Type 0
 IsTrimmedFor account commit part = IsOneOf account.trimmings (record { core = commit.core; number = commit.number; part = part })
 
--- every part is trimmed for the last commit that holds a node
+-- what was flushed of a node, after all commits so far
+abbrev pub flushed_in : (ℕ → Option OldKept) → Account → ℕ → Flushed
+flushed_in given account node = flushed_by given node (last_writer node account.commits)
+
+-- Every part is trimmed for the last commit that holds a node, where that commit has a member.
 abbrev pub AreTrimmedFor : TreeState → Account → ℕ → Type 0
 AreTrimmedFor first account node =
-    (writer : Commitment × HeldNode) → last_writer node account.commits ≡ Some writer → (part : ℕ) → part < length first.made
-    → IsTrimmedFor account writer.0 part
+    (writer : Commitment × HeldNode) (member : ℕ) → last_writer node account.commits ≡ Some writer → IsOneOf writer.0.members member → (part : ℕ)
+    → part < length first.made → IsTrimmedFor account writer.0 part
 
--- What was flushed of a node stands for what its last commit wrote once every part is trimmed for that commit.
+-- What was flushed of a node stands for what its last commit wrote: at once where that has no member, else once every part is trimmed for it.
 pub record StandsPending (given : ℕ → Option OldKept) (first : TreeState) (account : Account) (node : ℕ) (pending : Pending) : Type 0 where
   pub flushed : ◌≡◌ {A = Flushed} (record { cut = pending.cut.0; last = pending.last; old = pending.old })
-      (flushed_by given node (last_writer node account.commits))
+      (flushed_in given account node)
   pub made_in : number_of pending.made_in ≡ birthplace first account.calls node
   pub trimmed : AreTrimmedFor first account node
 
@@ -81,17 +86,22 @@ abbrev pub IsCapped : Account → ℕ → ℕ → Type 0
 IsCapped account directory mark =
     (mark ≡ 0) ⊎ ((commit : Commitment) × (held : HeldNode) × IsOneOf account.commits commit × (held_by commit directory ≡ Some held) × (mark ≤ held.new_cut.0))
 
--- Marks of a part, by directory: none is above a cut that was written for it, and none is below a commit for which the part is trimmed.
-pub record AreMarksOf (account : Account) (part : ℕ) (mark : ℕ → ℕ) : Type 0 where
-  pub capped : (directory : ℕ) → IsCapped account directory (mark directory)
+-- Changes have a stamp at least.
+abbrev pub KeepFrom : ℕ → List Change → Type 0
+KeepFrom stamp changes = All (λ change. stamp ≤ change.stamp.0) changes
+
+-- What a log keeps, as commits trimmed it: no mark is above a cut that was written for its directory, and of a member of a commit for which
+-- the part is trimmed it keeps no change below the commit's stamp.
+pub record IsKeptFor (account : Account) (part : ℕ) (log : CoreLog) : Type 0 where
+  pub capped : (directory : ℕ) → IsCapped account directory (mark_kept log directory)
   pub trimmed : (commit : Commitment) (directory : ℕ) → IsOneOf account.commits commit → IsTrimmedFor account commit part → IsOneOf commit.members directory
-      → commit.stamp ≤ mark directory
+      → KeepFrom commit.stamp (changes_kept log directory)
 
 -- A part has what is left of its core's changes, their count, and how many nodes the core has made.
 pub record StandsPart (first : TreeState) (account : Account) (core : ℕ) (part : PartCell) : Type 0 where
   pub left : IsLeftOf (own_logged first core account.calls) (length (filter (is_core core) account.calls)) part.log
   pub made : part.made ≡ made_by (tree_after first account.calls) core
-  pub marks : AreMarksOf account core (mark_kept part.log)
+  pub kept : IsKeptFor account core part.log
 
 -- A value stands for what a log leaves of a cell.
 abbrev pub StandsForCell : (ℕ → Option OldKept) → TreeState → Account → CellId → Cell → Type 0

@@ -16,7 +16,7 @@ use std::sync::Wait;
 pub type FileShared = Shared<Cell, Fact, OldDisk, FileTable>;
 
 /// A core of such a table.
-pub type FileCore = Core<Cell, Fact, OldDisk>;
+pub type FileCore = Core<Cell, Fact, OldDisk, FileTable>;
 
 /// Holds these cells more, in their order, each above all that the core holds, at a table of so many nodes. It waits while another core
 /// has one of them. It takes no memory.

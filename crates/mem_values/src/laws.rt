@@ -1,8 +1,9 @@
 // What is proved of the cells: each function's contract is a law.
 ghost use Rattle.mem_values.specs.Places.{PlacesApart, PlacesAscend};
 ghost use Rattle.mem_values.specs.Laws.{CallsKeepCells, ToldWaysStay, CallsMayCome};
-ghost use Rattle.mem_values.specs.Home.{CellsBegin, MovedLocksStand, PartsTakeEntries, TrimmedPartsStand, ToldPartsStand, WrittenNodesStand};
-ghost use Rattle.mem_values.specs.Telling.{SawMayBeTold, NotedMayBeTold, CommitsMayBeTold, TrimsMayBeTold, CommitsStayLast};
+ghost use Rattle.mem_values.specs.Home.{CellsBegin, MovedLocksStand, PartsTakeEntries, TrimmedPartsStand, ToldPartsStand, WrittenNodesStand, OwnNodesStand};
+ghost use Rattle.mem_values.specs.Telling.{CommitsMayBeTold, TrimsMayBeTold, CommitsStayLast};
+ghost use Rattle.mem_values.specs.Writers.{WritersRise, NumbersNameWriters, EarlierWritersAreTrimmed, CommitsHaveFsyncs};
 ghost use Rattle.mem_values.specs.Worked.{TablesCanBeMet};
 
 /// Two cells at one place are one.
@@ -30,16 +31,6 @@ pub fn calls_may_come()
     ensures { CallsMayCome }
 {}
 
-/// Where a directory stands may be told by a core that holds a bucket of it.
-pub fn saw_may_be_told()
-    ensures { SawMayBeTold }
-{}
-
-/// The marks of a log may be told for an fsync of the core that holds the log.
-pub fn noted_may_be_told()
-    ensures { NotedMayBeTold }
-{}
-
 /// A commit may be told by a core that holds what was flushed of its nodes.
 pub fn commits_may_be_told()
     ensures { CommitsMayBeTold }
@@ -50,7 +41,7 @@ pub fn trims_may_be_told()
     ensures { TrimsMayBeTold }
 {}
 
-/// As long as a part is not trimmed for a commit, the commit is the last one that holds each of its nodes.
+/// As long as a part is not trimmed for a commit with a member, the commit is the last one that holds each of its nodes.
 pub fn commits_stay_last()
     ensures { CommitsStayLast }
 {}
@@ -80,12 +71,37 @@ pub fn told_parts_stand()
     ensures { ToldPartsStand }
 {}
 
-/// What a commit wrote of a node goes home once the last part is trimmed for the commit.
+/// What a commit with a member wrote of a node goes home once the last part is trimmed for the commit.
 pub fn written_nodes_stand()
     ensures { WrittenNodesStand }
 {}
 
-/// In each tree with two cores and a directory that stands in another one the worked table can be met.
+/// What a commit without a member wrote of a node goes home as soon as it is told.
+pub fn own_nodes_stand()
+    ensures { OwnNodesStand }
+{}
+
+/// The last commit that holds a node has its greatest number and its greatest cut.
+pub fn writers_rise()
+    ensures { WritersRise }
+{}
+
+/// Two commits that hold a node under one number are one.
+pub fn numbers_name_writers()
+    ensures { NumbersNameWriters }
+{}
+
+/// For each earlier commit of a node every part was trimmed, where it has a member.
+pub fn earlier_writers_are_trimmed()
+    ensures { EarlierWritersAreTrimmed }
+{}
+
+/// A commit that was told is for an fsync of its core among the calls.
+pub fn commits_have_fsyncs()
+    ensures { CommitsHaveFsyncs }
+{}
+
+/// In each tree with two cores and three directories the worked table can be met.
 pub fn tables_can_be_met()
     ensures { TablesCanBeMet }
 {}

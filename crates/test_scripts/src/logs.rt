@@ -71,8 +71,7 @@ fn is_no_later(change: &Change, other: &Change) -> bool
 }
 
 // Trims a directory of a part.
-fn trim(rt: &impl Abort, part: &mut LogPart, dir: u32, below: u64) {
-    got(rt, part.reserve(NodeId(dir), 0));
+fn trim(part: &mut LogPart, dir: u32, below: u64) {
     part.trim(NodeId(dir), Stamp(below));
 }
 
@@ -114,11 +113,59 @@ fn a_part_keeps_what_is_not_trimmed(rt: HostRuntime) {
     add(&rt, alloc, &mut part, 9, 1, Act::Add);
     same(&rt, &stamp_at(&part, 1, 0), &1);
     same(&rt, &stamp_at(&part, 1, 2), &9);
-    trim(&rt, &mut part, 1, 4);
+    trim(&mut part, 1, 4);
     holds(&rt, is_left(&part));
-    trim(&rt, &mut part, 1, 3);
+    trim(&mut part, 1, 3);
     holds(&rt, is_left(&part));
     holds(&rt, is_left(&got(&rt, part.copy())));
+}
+
+// The number of the next directory after one, 1000 where there is none.
+fn next_number(part: &LogPart, after: Option<NodeId>) -> u32 {
+    match part.next_dir(after) {
+        Some(dir) => dir.0,
+        None => 1000,
+    }
+}
+
+#[test]
+fn a_part_tells_its_directories_one_after_the_other(rt: HostRuntime) {
+    let alloc = rt.alloc();
+    let mut part = LogPart::new(alloc);
+    same(&rt, &next_number(&part, None), &1000);
+    add(&rt, alloc, &mut part, 1, 5, Act::Add);
+    add(&rt, alloc, &mut part, 2, 2, Act::Add);
+    same(&rt, &next_number(&part, None), &2);
+    same(&rt, &next_number(&part, Some(NodeId(2))), &5);
+    same(&rt, &next_number(&part, Some(NodeId(4))), &5);
+    same(&rt, &next_number(&part, Some(NodeId(5))), &1000);
+    trim(&mut part, 2, 3);
+    same(&rt, &next_number(&part, None), &5);
+    let changes = got(&rt, part.copy_of(alloc, NodeId(5)));
+    same(&rt, &changes.len(), &1);
+    holds(&rt, has(&changes, 0, 1, Act::Add));
+    holds(&rt, got(&rt, part.copy_of(alloc, NodeId(2))).is_empty());
+    holds(&rt, got(&rt, part.copy_of(alloc, NodeId(7))).is_empty());
+}
+
+#[test]
+fn a_part_counts_the_changes_that_name_a_node(rt: HostRuntime) {
+    let alloc = rt.alloc();
+    let mut part = LogPart::new(alloc);
+    trim(&mut part, 3, 9);
+    same(&rt, &part.mark(NodeId(3)).0, &0);
+    same(&rt, &part.namings(NodeId(9)), &0);
+    add(&rt, alloc, &mut part, 1, 5, Act::Add);
+    add(&rt, alloc, &mut part, 2, 2, Act::Add);
+    add(&rt, alloc, &mut part, 4, 5, Act::Remove);
+    same(&rt, &part.namings(NodeId(9)), &3);
+    same(&rt, &part.namings(NodeId(8)), &0);
+    trim(&mut part, 5, 2);
+    same(&rt, &part.namings(NodeId(9)), &2);
+    same(&rt, &got(&rt, part.copy()).namings(NodeId(9)), &2);
+    trim(&mut part, 2, 9);
+    trim(&mut part, 5, 9);
+    same(&rt, &part.namings(NodeId(9)), &0);
 }
 
 #[test]

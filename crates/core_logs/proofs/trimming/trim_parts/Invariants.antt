@@ -1,6 +1,7 @@
 use Rattle.std.proofs.Common.{◌≡◌, ◌<◌, ◌≤◌, ℕ, length}
 use Rattle.std.specs.Prelude.{slice_index_or}
-use Rattle.core_logs.specs.Logs.{blank_part, IsTrimmedOrBlank}
+use Rattle.mem_cells.specs.Part.{IsTrimmedOrBlank}
+use Rattle.core_logs.specs.Logs.{blank_part}
 use Rattle.core_logs.proofs.trimming.trim_parts.Given as goal
 
 abbrev pub invariant-loop-core : goal.invariant-loop-core

@@ -1,10 +1,14 @@
-use Rattle.std.proofs.Common.{◌≡◌, ◌<◌, ℕ, length}
-use Rattle.mem_cells.specs.Part.{log_of}
+use Rattle.std.proofs.Common.{◌≡◌, ℕ}
+use Rattle.std.specs.BTreeMap.{get, IsOrdered}
+use Rattle.std.specs.List.Sorted.{IsStrictlySortedBy}
+use Rattle.std.specs.Map.{keys_of}
+use Rattle.std.specs.Ordering.{nat_cmp}
+use Rattle.mem_cells.proofs.Logs.{found_past}
 use Rattle.mem_cells.proofs.part.copy_logs.Given as goal
 
-abbrev pub invariant-loop-log : goal.invariant-loop-log
-invariant-loop-log l = record {
-  long : length l.copies.items ≡ l.log-index;
-  changes : (k : ℕ) → k < l.log-index → (log_of l.copies.items k).changes ≡ (log_of l.logs.items k).changes;
-  marks : (k : ℕ) → k < l.log-index → (log_of l.copies.items k).mark ≡ (log_of l.logs.items k).mark;
+abbrev pub invariant-loop-dir : goal.invariant-loop-dir
+invariant-loop-dir l = record {
+  found : (directory : ℕ) → found_past l.dir-iterator l.copies.entries directory ≡ get nat_cmp l.logs directory;
+  ordered : IsStrictlySortedBy nat_cmp (keys_of l.dir-iterator);
+  copies_ordered : IsOrdered nat_cmp l.copies;
 }

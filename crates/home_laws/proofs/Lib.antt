@@ -1,0 +1,4 @@
+pub mod Birthplaces
+pub mod Named
+pub mod Written
+pub mod Files
