@@ -1,5 +1,5 @@
 -- Items ascending by a number of theirs, put among others one by one.
-use Rattle.std.proofs.Common.{◌≡◌, ℕ, suc, ◌+◌, ◌<◌, List, [], ◌∷◌, ◌++◌, length, get_or, take, map, filter_map, Option, Some, None, refl, sym, ap, subst, ◌∙◌, arith}
+use Rattle.std.proofs.Common.{◌≡◌, ℕ, ◌+◌, ◌<◌, List, [], ◌∷◌, ◌++◌, length, get_or, take, map, filter_map, Option, Some, None, refl, sym, ap, subst, ◌∙◌, arith}
 use Rattle.std.specs.Prelude.{option_to_list}
 use Rattle.std.specs.Ordering.{nat_cmp, match_ordering}
 use Rattle.std.specs.declared.cmp.Ordering.{Ordering}
@@ -19,7 +19,7 @@ module _ {X : Type 0} (key : X → ℕ) where
   pub ascending_last : (items : List X) (item : X) → ascending_by key (items ++ item ∷ []) ≡ put_over key item (ascending_by key items)
   ascending_last items item = fold-append (λ others one. put_over key one others) [] items (item ∷ [])
 
-  ascending_maybe : (items : List X) (o : Option X) → ascending_by key (items ++ option_to_list o) ≡ put_if key o (ascending_by key items)
+  pub ascending_maybe : (items : List X) (o : Option X) → ascending_by key (items ++ option_to_list o) ≡ put_if key o (ascending_by key items)
   ascending_maybe items None = ap (ascending_by key) (append-nil items)
   ascending_maybe items (Some item) = ascending_last items item
 

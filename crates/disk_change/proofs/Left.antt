@@ -1,6 +1,6 @@
 -- What a commit gives up, in lists.
-use Rattle.std.proofs.Common.{◌≡◌, ◌≢◌, ℕ, zero, suc, ◌+◌, ◌-◌, ◌*◌, ◌<◌, ◌≤◌, true, false, cond, List, [], ◌∷◌, ◌++◌, length, get_or, take, Option, Some, None, inl, inr, refl, sym, ap, subst, ◌∙◌, arith, nat_lt, nat_eq, Contains, eqb}
-use Rattle.std.specs.Prelude.{slice_index, ◌↔◌, ◌⊎◌}
+use Rattle.std.proofs.Common.{◌≡◌, ℕ, zero, suc, ◌+◌, ◌<◌, List, [], ◌∷◌, ◌++◌, length, get_or, take, inl, inr, refl, sym, ap, subst, ◌∙◌, arith, Contains, eqb}
+use Rattle.std.specs.Prelude.{◌↔◌, ◌⊎◌}
 use Rattle.std.specs.List.{range_with_len, flat_map, dedup}
 use Rattle.std.specs.List.Sorted.{IsPermutation, IsSorted, IsStrictlyIncreasing}
 use Rattle.std.specs.Ordering.{nat_cmp}
@@ -11,9 +11,7 @@ use Rattle.std.proofs.lemmas.List.Kept.{Contains-dedup_nat, Contains-from_dedup}
 use Rattle.std.proofs.lemmas.List.Sorted.{Contains-permutation, IsPermutation-sym}
 use Rattle.std.proofs.lemmas.Map.Keys.{IsStrictlyIncreasing-dedup}
 use Rattle.sfs_base.proofs.BasicNumbers.{zero_plus}
-use Rattle.block_map.specs.Kept.{pointer_kept}
 use Rattle.block_map.specs.Remap.{AreFreed, IsGivenUp}
-use Rattle.block_map.specs.RemapLaws.{IsHeld}
 use Rattle.block_map.proofs.Places.{range_more}
 use Rattle.disk_change.specs.Built.{rewrite_in}
 use Rattle.disk_change.specs.GivenUp.{IsLeftBySeat, IsLeftByGone}
@@ -67,38 +65,7 @@ pub last_in : {X : Type 0} (xs : List X) (x y : X) → Contains xs y ⊎ (x ≡ 
 last_in xs x y (inl has) = Contains-append_left xs (x ∷ []) y has
 last_in xs x y (inr is) = Contains-append_right xs (x ∷ []) y (0, omega arith, is)
 
--- nodes that lose their inodes leave what they hold, one by one
-pub gone_more : (gone : List OldEntry) (i : ℕ) (entry : OldEntry) (freed before after : List ℕ) → i < length gone → entry ≡ get_or gone i entry
-    → ((block : ℕ) → Contains before block ↔ (Contains freed block ⊎ IsLeftByGone (take i gone) block))
-    → ((block : ℕ) → Contains after block ↔ (Contains before block ⊎ IsHeld (pointer_kept entry.old.kept.inode entry.old.kept.tables) block))
-    → (block : ℕ) → Contains after block ↔ (Contains freed block ⊎ IsLeftByGone (take (i + 1) gone) block)
-gone_more gone i entry freed before after within is was now block = (
-  λ has. elim ((now block).0 has) [
-    | inl earlier ↦ elim ((was block).0 earlier) [
-      | inl left ↦ inl left
-      | inr gone_one ↦
-          inr
-          (record {
-            entry = gone_one.entry;
-            one = subst (λ xs. Contains xs gone_one.entry) (sym more) (last_in (take i gone) entry gone_one.entry (inl gone_one.one));
-            held = gone_one.held;
-          })
-    ]
-    | inr held ↦ inr (record { entry = entry; one = subst (λ xs. Contains xs entry) (sym more) (last_in (take i gone) entry entry (inr refl)); held = held })
-  ],
-  λ has. elim has [
-    | inl left ↦ (now block).1 (inl ((was block).1 (inl left)))
-    | inr gone_one ↦ elim (in_last (take i gone) entry gone_one.entry (subst (λ xs. Contains xs gone_one.entry) more gone_one.one)) [
-      | inl earlier ↦ (now block).1 (inl ((was block).1 (inr (record { entry = gone_one.entry; one = earlier; held = gone_one.held }))))
-      | inr same ↦ (now block).1 (inr (subst (λ (e : OldEntry). IsHeld (pointer_kept e.old.kept.inode e.old.kept.tables) block) (sym same) gone_one.held))
-    ]
-  ],
-)
-  where
-    more : take (i + 1) gone ≡ take i gone ++ entry ∷ []
-    more = take_more gone i entry within ∙ ap (λ e. take i gone ++ e ∷ []) (sym is)
-
--- and nodes that are built leave what they give up
+-- nodes that are built leave what they give up
 pub seats_more : (seats : List Seated) (seat : Seated) (before own after : List ℕ) → ((block : ℕ) → Contains before block ↔ IsLeftBySeat seats block)
     → AreFreed (rewrite_in seat) own
     → after ≡ before ++ own → (block : ℕ) → Contains after block ↔ IsLeftBySeat (seats ++ seat ∷ []) block

@@ -5,8 +5,15 @@ pub mod Counted
 pub mod Differing
 pub mod Directories
 pub mod Held
+pub mod Leaving
 pub mod Left
 pub mod Names
+pub mod Needs
 pub mod Numbering
 pub mod NumbersGiven
+pub mod Patches
+pub mod Putting
 pub mod Rewriting
+pub mod Staying
+pub mod Untouched
+pub mod Walked

@@ -1,10 +1,12 @@
 -- The numbers of a commit's nodes, one after the other.
-use Rattle.std.proofs.Common.{◌≡◌, ℕ, ◌+◌, ◌<◌, Bool, true, false, cond, List, [], ◌∷◌, ◌++◌, length, get_or, take, Option, Some, None, refl, sym, ap, ◌∙◌}
+use Rattle.std.proofs.Common.{◌≡◌, ℕ, ◌+◌, ◌<◌, Bool, true, false, cond, List, [], ◌∷◌, ◌++◌, length, get_or, map, take, Option, Some, None, refl, sym, ap, ◌∙◌}
 use Rattle.std.specs.Option.{unwrap_or}
 use Rattle.std.specs.Ordering.{nat_cmp, is_eq}
-use Rattle.std.proofs.lemmas.List.{take_more}
+use Rattle.std.proofs.lemmas.List.{map_more}
 use Rattle.std.proofs.lemmas.List.Sums.{fold_more}
+use Rattle.disk_change.specs.Parts.{SeatParts, seat_in, seat_with}
 use Rattle.disk_change.specs.Seated.{Seated}
+use Rattle.disk_nodes.specs.declared.old.OldEntry.{OldEntry}
 use Rattle.disk_change.specs.Numbered.{numbers_given, number_given, grant_left, grant_behind, number_in, IsPut}
 use Rattle.sfs_image.specs.Slot.{Row}
 use Rattle.sfs_base.proofs.BasicOptions.{none_some, some_not_none}
@@ -22,16 +24,25 @@ behind_last : (seats : List Seated) (seat : Seated) (grant : List ℕ)
 behind_last [] seat grant = refl
 behind_last (first ∷ seats) seat grant = behind_last seats seat _
 
-pub numbers_more : (seats : List Seated) (i : ℕ) (seat : Seated) (grant : List ℕ) → i < length seats → seat ≡ get_or seats i seat
-    → numbers_given (take (i + 1) seats) grant
-    ≡ numbers_given (take i seats) grant ++ record { node = seat.node; number = number_given seat.number (grant_behind (take i seats) grant) } ∷ []
-numbers_more seats i seat grant within is =
-    ap (λ those. numbers_given those grant) (take_more seats i seat within ∙ ap (λ s. take i seats ++ s ∷ []) (sym is)) ∙ numbers_last (take i seats) seat grant
+module _ (seats : List SeatParts) (i : ℕ) (seat : SeatParts) (grant : List ℕ) (within : i < length seats) (is : seat ≡ get_or seats i seat) where
+  more : map (seat_with []) (take (i + 1) seats) ≡ map (seat_with []) (take i seats) ++ seat_with [] seat ∷ []
+  more = map_more (seat_with []) seats i seat within ∙ ap (λ s. map (seat_with []) (take i seats) ++ seat_with [] s ∷ []) (sym is)
 
-pub behind_more : (seats : List Seated) (i : ℕ) (seat : Seated) (grant : List ℕ) → i < length seats → seat ≡ get_or seats i seat
-    → grant_behind (take (i + 1) seats) grant ≡ grant_left seat.number (grant_behind (take i seats) grant)
-behind_more seats i seat grant within is =
-    ap (λ those. grant_behind those grant) (take_more seats i seat within ∙ ap (λ s. take i seats ++ s ∷ []) (sym is)) ∙ behind_last (take i seats) seat grant
+  pub numbers_more : numbers_given (map (seat_with []) (take (i + 1) seats)) grant
+      ≡ numbers_given (map (seat_with []) (take i seats)) grant
+      ++ record { node = seat.node; number = number_given seat.number (grant_behind (map (seat_with []) (take i seats)) grant) } ∷ []
+  numbers_more = ap (λ those. numbers_given those grant) more ∙ numbers_last (map (seat_with []) (take i seats)) (seat_with [] seat) grant
+
+  pub behind_more : grant_behind (map (seat_with []) (take (i + 1) seats)) grant
+      ≡ grant_left seat.number (grant_behind (map (seat_with []) (take i seats)) grant)
+  behind_more = ap (λ those. grant_behind those grant) more ∙ behind_last (map (seat_with []) (take i seats)) (seat_with [] seat) grant
+
+-- the numbers of nodes do not depend on their slots
+pub same_numbers : (old : List OldEntry) (seats : List SeatParts) (grant : List ℕ)
+    → numbers_given (map (seat_with []) seats) grant ≡ numbers_given (map (seat_in old) seats) grant
+same_numbers old [] grant = refl
+same_numbers old (seat ∷ seats) grant =
+    ap (λ rest. record { node = seat.node; number = number_given seat.number grant } ∷ rest) (same_numbers old seats (grant_left seat.number grant))
 
 -- the number of a node after one entry more
 pub number_more : (numbers : List NodeNumber) (i : ℕ) (d : NodeNumber) (node : ℕ) (found : Option (Option ℕ)) (new : Option (Option ℕ)) → i < length numbers

@@ -1,5 +1,5 @@
 -- The numbers of a commit's nodes are those that a commit gives.
-use Rattle.std.proofs.Common.{◌≡◌, ◌≢◌, ℕ, zero, suc, ◌+◌, ◌<◌, Bool, true, false, cond, List, [], ◌∷◌, ◌++◌, length, map, drop, Option, Some, None, fold, inl, inr, refl, sym, ap, subst, ◌∙◌, arith, nat_eq, Contains, ◌≤◌, is_none, count_by}
+use Rattle.std.proofs.Common.{◌≡◌, ◌≢◌, ℕ, zero, suc, ◌+◌, ◌<◌, false, cond, List, [], ◌∷◌, ◌++◌, length, map, drop, Option, Some, None, fold, inl, inr, refl, sym, ap, subst, ◌∙◌, arith, nat_eq, Contains, ◌≤◌, is_none, count_by}
 use Rattle.std.specs.Prelude.{slice_get, ◌⊎◌}
 use Rattle.std.specs.Ordering.{nat_cmp, is_eq}
 use Rattle.std.specs.Cmp.{tied_itself, nat_cmp_total}
@@ -7,7 +7,6 @@ use Rattle.std.specs.FinMap.{nat_cmp-IsAntisymmetric}
 use Rattle.std.proofs.lemmas.Bool.{cond-true, cond-false, cases_Bool}
 use Rattle.std.proofs.lemmas.List.Sums.{fold-append}
 use Rattle.sfs_base.proofs.BasicNumbers.{same_number, not_same}
-use Rattle.sfs_base.proofs.BasicOptions.{none_some}
 use Rattle.sfs_base.specs.declared.numbers.Kind.{Kind}
 use Rattle.sfs_base.specs.declared.numbers.Kind.TheVariants.{File, Directory}
 use Rattle.sfs_base.proofs.BasicTruth.{false_not_true}

@@ -78,3 +78,20 @@ pages_below (page ∷ pages) up zero d within = λ k e in_. absurd (omega arith)
 pages_below (page ∷ pages) up (suc i) d within =
     All-cons (λ one. one.block < page_block (get_or pages i d)) (page_said page) (map page_said (take i pages)) (up 0 (suc i) d (omega arith) (omega arith))
     (pages_below pages (ascends_behind page_block page pages up) i d (omega arith))
+
+-- what is said of a block, by whether it changes and whether it is behind the end
+module _ (pointers : ℕ → ℕ) (blocks : List (List (Option Row))) (touched : List Bool) (n : ℕ) where
+  pub said_by : get_or touched n false ≡ true
+      → block_said pointers blocks touched n ≡ Some (record { block = n; is_zero = has_no_row (get_or blocks n []) })
+  said_by is =
+      ap (λ b. cond (b || (nat_le (blocks_to_last_row blocks) n && not (nat_eq (pointers n) 0)))
+      (Some (record { block = n; is_zero = has_no_row (get_or blocks n []) })) None)
+      is
+
+  pub behind_by : (end : ℕ) → end ≡ blocks_to_last_row blocks → {b : Bool} → get_or touched n false ≡ false
+      → (nat_le end n && not (nat_eq (pointers n) 0)) ≡ b
+      → block_said pointers blocks touched n ≡ cond b (Some (record { block = n; is_zero = has_no_row (get_or blocks n []) })) None
+  behind_by end at none behind =
+      (λ i. cond (none i || (nat_le (sym at i) n && not (nat_eq (pointers n) 0)))
+      (Some (record { block = n; is_zero = has_no_row (get_or blocks n []) })) None)
+      ∙ ap (λ b. cond b (Some (record { block = n; is_zero = has_no_row (get_or blocks n []) })) None) behind

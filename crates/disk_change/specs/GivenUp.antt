@@ -1,5 +1,5 @@
 -- What a commit gives up.
-use Rattle.std.specs.Prelude.{◌≡◌, ◌⊎◌, ◌↔◌, ℕ, ◌==◌, List, [], map, Contains}
+use Rattle.std.specs.Prelude.{◌⊎◌, ◌↔◌, ℕ, ◌==◌, List, [], map, Contains}
 use Rattle.std.specs.List.{find}
 use Rattle.std.specs.Option.{option_map_or}
 use Rattle.std.specs.List.Sorted.{IsStrictlyIncreasing}

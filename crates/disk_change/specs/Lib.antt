@@ -11,6 +11,8 @@ pub mod Lists
 pub mod Nodes
 pub mod Numbered
 pub mod Pages
+pub mod Parts
+pub mod Patched
 pub mod Planned
 pub mod Records
 pub mod Seat

@@ -1,7 +1,6 @@
 -- Lists that ascend by a number of their items.
-use Rattle.std.specs.Prelude.{◌≡◌, ℕ, ◌<◌, ◌==◌, nat_lt, List, [], ◌∷◌, fold, Option, None, Some, AllPairs, if◌then◌else◌}
+use Rattle.std.specs.Prelude.{◌≡◌, ℕ, List, [], ◌∷◌, fold, Option, None, Some, AllPairs}
 use Rattle.std.specs.Ordering.{nat_cmp, match_ordering}
-use Rattle.std.specs.List.{find}
 use Rattle.std.specs.declared.cmp.Ordering.TheVariants.{Less}
 use Rattle.tree_laws.specs.Order.{name_cmp}
 use Rattle.absorb.specs.declared.nets.NetRow.{NetRow}

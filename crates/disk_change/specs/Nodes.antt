@@ -1,13 +1,8 @@
 -- The node of an item of each list.
-use Rattle.std.specs.Prelude.{ℕ, List, Option}
-use Rattle.sfs_base.specs.declared.numbers.NodeId.{NodeId}
-use Rattle.sfs_image.specs.Inode.{Inode, Table}
-use Rattle.sfs_image.specs.Slot.{Row}
-use Rattle.disk_nodes.specs.OldKept.{OldKept}
+use Rattle.std.specs.Prelude.{ℕ}
 use Rattle.disk_change.specs.declared.enter.Enter.{Enter}
 use Rattle.disk_change.specs.declared.files.FileChange.{FileChange}
 use Rattle.disk_change.specs.declared.directory_net.DirectoryNet.{DirectoryNet}
-use Rattle.disk_nodes.specs.declared.old.OldEntry.{OldEntry}
 
 -- the node of a net, of a file's change, and of one that enters
 abbrev pub net_node : DirectoryNet → ℕ

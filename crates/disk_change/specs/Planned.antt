@@ -12,8 +12,10 @@ use Rattle.disk_nodes.specs.declared.old.OldEntry.{OldEntry}
 use Rattle.disk_change.specs.Links.{directories_concerned, times_in}
 use Rattle.disk_change.specs.Seated.{CommitChanges, Seated, begun_old, begun_entering, changes_in, seated}
 
--- What becomes of the nodes that have an inode afterwards, those that lose theirs, and the changes that make it so.
+-- What the disk has of the nodes that have an inode, what becomes of those that have one afterwards, those that lose theirs, and the changes that
+-- make it so.
 pub record Planned : Type 0 where
+  pub old : List OldEntry
   pub seats : List Seated
   pub gone : List OldEntry
   pub changes : CommitChanges
@@ -44,7 +46,12 @@ seated_entering changes one = seated changes (begun_entering one)
 abbrev pub planned : List OldEntry → List DirectoryNet → List FileChange → List Enter → List NodeId → Planned
 planned old nets files enter leave =
     let changes = changes_in (directories_concerned old enter) nets files in
-    record { seats = map (seated_old changes) (staying old leave) ++ map (seated_entering changes) enter; gone = leaving old leave; changes = changes }
+    record {
+      old = old;
+      seats = map (seated_old changes) (staying old leave) ++ map (seated_entering changes) enter;
+      gone = leaving old leave;
+      changes = changes;
+    }
 
 -- how many fresh blocks a node takes
 abbrev pub blocks_taken : Seated → ℕ

@@ -1,5 +1,5 @@
 // What a node begins with in a commit.
-ghost use Rattle.std.specs.Prelude.{◌≡◌};
+ghost use Rattle.std.specs.Prelude.{◌≡◌, IfOk};
 ghost use Rattle.sfs_image.specs.Slot.{kind_of as kind_of_byte};
 ghost use Rattle.disk_change.specs.Seated.{begun_old, begun_entering, free_inode, first_links as links_of_kind};
 
@@ -7,13 +7,13 @@ use crate::enter::Enter;
 use crate::kinds::DIRECTORY;
 use disk_nodes::OldEntry;
 use fmt_inode::{Inode, Tables};
-use fmt_slots::SlotList;
-use sfs_base::{Kind, NodeId};
+use fmt_slots::SlotBlock;
+use sfs_base::{Kind, NoMemory, NodeId};
 use std::alloc::Global;
 use std::marker::Model;
 
-// A node that has an inode after a commit, with what it begins with: what the disk has of it, or, where
-// it enters, nothing.
+// A node that has an inode after a commit, with what it begins with, but for its slots: what the disk has
+// of it, or, where it enters, nothing.
 #[derive(Drop)]
 pub(crate) struct BegunNode {
     pub(crate) node: NodeId,
@@ -22,10 +22,10 @@ pub(crate) struct BegunNode {
     pub(crate) before: Inode,
     pub(crate) base: Inode,
     pub(crate) tables: Tables,
-    pub(crate) slots: SlotList,
 }
 
 impl Model for BegunNode {
+    ghost use Rattle.std.specs.Prelude.{[]};
     ghost use Rattle.disk_change.specs.Seated.{Begun};
 
     ghost Value = { Begun };
@@ -37,24 +37,23 @@ impl Model for BegunNode {
       before = b.before;
       base = b.base;
       tables = b.tables.items;
-      slots = b.slots.items;
+      slots = [];
     } };
 }
 
 // A node that has an inode.
-pub(crate) fn old_node(entry: OldEntry) -> BegunNode
-    ensures { result ≡ begun_old entry }
+pub(crate) fn old_node(entry: &OldEntry) -> Result<BegunNode, NoMemory>
+    ensures { IfOk result (λ begun. record begun { slots = entry.now.old.kept.slots } ≡ begun_old entry.now) }
 {
-    let old = entry.old;
-    BegunNode {
+    let old = &entry.old;
+    Ok(BegunNode {
         node: entry.node,
         number: Some(old.inode),
         kind: kind_of(old.meta.kind),
         before: old.meta,
         base: old.meta,
-        tables: old.tables,
-        slots: old.slots,
-    }
+        tables: old.tables.copy()?,
+    })
 }
 
 // A node that enters.
@@ -72,7 +71,6 @@ pub(crate) fn entering_node(alloc: Global, one: Enter) -> BegunNode
             ..free
         },
         tables: Tables::new(alloc),
-        slots: SlotList::new(alloc),
     }
 }
 
@@ -108,4 +106,11 @@ fn first_links(kind: Kind) -> u32
         Kind::File => 0,
         Kind::Directory => 2,
     }
+}
+
+// The slots that the disk has of a node.
+pub(crate) fn slots_kept(entry: &OldEntry) -> &[SlotBlock]
+    ensures { result.now ≡ entry.now.old.kept.slots }
+{
+    entry.old.slots.as_slice()
 }

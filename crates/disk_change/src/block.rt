@@ -62,25 +62,46 @@ fn slot_row(child: NodeId, kind: Kind, name: Name) -> SlotRow
     }
 }
 
-// Empties the slots of names that are gone, and gives names with another child their rows. Whether
-// the block has a name of the net.
+// Empties the slots of names that are gone, and gives names with another child their rows.
 pub(crate) fn move_rows(
     block: &mut SlotBlock,
     net: &[NetRow],
     directories: &Directories,
-) -> Result<bool, NoMemory>
+) -> Result<(), NoMemory>
     requires { NamesAscend net.now }
-    ensures block { OnOk result (block.new ≡ block_moved directories.now net.now block.old) }
-    ensures touched { IfOk result (λ touched. touched ≡ list_any (is_in_net net.now) block.old) }
+    ensures { OnOk result (block.new ≡ block_moved directories.now net.now block.old) }
 {
-    let mut touched = false;
     for place in 0..block.len() {
         if let Some(row) = changed_at(block, net, place) {
             block.put(place, brought(row, directories)?);
-            touched = true;
         }
     }
-    Ok(touched)
+    Ok(())
+}
+
+// Whether a block has a name of a net.
+pub(crate) fn has_name(block: &SlotBlock, net: &[NetRow]) -> bool
+    requires { NamesAscend net.now }
+    ensures { result ≡ list_any (is_in_net net.now) block.now }
+{
+    for place in 0..block.len() {
+        if changed_at(block, net, place).is_some() {
+            return true;
+        }
+    }
+    false
+}
+
+// Whether a block has an empty slot.
+pub(crate) fn has_room(block: &SlotBlock) -> bool
+    ensures { result ≡ list_any is_none block.now }
+{
+    for place in 0..block.len() {
+        if block.row(place).is_none() {
+            return true;
+        }
+    }
+    false
 }
 
 // The row of the net that has the name in a slot, where there is one.

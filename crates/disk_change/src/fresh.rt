@@ -1,5 +1,5 @@
 // The fresh blocks that a commit writes of one node.
-ghost use Rattle.std.specs.Prelude.{◌≡◌, ◌<◌, ◌++◌, ◌==◌, [], OnOk, option_to_list, slice_get, slice_index, slice_index_or, filter_map};
+ghost use Rattle.std.specs.Prelude.{◌≡◌, ◌<◌, ◌++◌, ◌==◌, [], OnOk, option_to_list, slice_get, slice_index, slice_index_or, take, filter_map};
 ghost use Rattle.std.specs.Option.{option_copied, option_map_or};
 ghost use Rattle.std.specs.List.{range_with_len, find};
 ghost use Rattle.block_map.specs.declared.rewrite.TableFate.TheVariants.{Stays};
@@ -7,42 +7,53 @@ ghost use Rattle.sfs_image.specs.Inode.{pointers_bytes};
 ghost use Rattle.sfs_image.specs.SlotBlock.{slots_bytes};
 ghost use Rattle.keyed_list.specs.Ascending.{item_with};
 ghost use Rattle.disk_change.specs.Pages.{page_block};
+ghost use Rattle.disk_change.specs.Parts.{built_with};
+ghost use Rattle.disk_change.specs.Patched.{patched};
 ghost use Rattle.disk_change.specs.Fresh.{zero_bytes, content_of, data_written, table_at, table_of_place, fresh_written};
 
 use crate::kinds::DIRECTORY;
 use crate::node_built::NodeBuilt;
 use crate::pages::PageList;
+use crate::patch::block_of;
 use block_map::{ChangedBlock, TABLES, TableFate, block_at};
 use fmt_inode::{Inode, LARGEST, Table};
 use fmt_journal::TxBlock;
 use fmt_slots::{SlotBlock, encode};
 use sfs_base::NoMemory;
 
-// Puts the fresh blocks of a node behind others: those of its data, then its indirect blocks.
+// Puts the fresh blocks of a node that begins with these slots behind others: those of its data, then its
+// indirect blocks.
 pub(crate) fn push_fresh(
     fresh: &mut Vec<TxBlock>,
     built: &NodeBuilt,
+    slots: &[SlotBlock],
     pages: &PageList,
 ) -> Result<(), NoMemory>
-    ensures { OnOk result (fresh.new.items ≡ fresh.old.items ++ fresh_written built.now pages.now.items) }
+    ensures { OnOk result (fresh.new.items ≡ fresh.old.items ++ fresh_written (built_with slots.now built.now) pages.now.items) }
 {
-    push_data(fresh, built, pages)?;
+    push_data(fresh, built, slots, pages)?;
     push_tables(fresh, built)
 }
 
 // Puts the fresh blocks of a node's data behind others.
-fn push_data(fresh: &mut Vec<TxBlock>, built: &NodeBuilt, pages: &PageList) -> Result<(), NoMemory>
-    ensures { OnOk result (fresh.new.items ≡ fresh.old.items ++ filter_map (data_written built.now pages.now.items) built.now.changed) }
+fn push_data(
+    fresh: &mut Vec<TxBlock>,
+    built: &NodeBuilt,
+    slots: &[SlotBlock],
+    pages: &PageList,
+) -> Result<(), NoMemory>
+    ensures { OnOk result (fresh.new.items
+        ≡ fresh.old.items ++ filter_map (data_written (built_with slots.now built.now) pages.now.items) built.now.changed) }
 {
     for one in built.changed.as_slice() {
-        push_block(fresh, data_block(built, pages, one))?;
+        push_block(fresh, data_block(built, slots, pages, one))?;
     }
     Ok(())
 }
 
 // Puts the fresh blocks of a node's indirect blocks behind others.
 fn push_tables(fresh: &mut Vec<TxBlock>, built: &NodeBuilt) -> Result<(), NoMemory>
-    ensures { OnOk result (fresh.new.items ≡ fresh.old.items ++ filter_map (table_of_place built.now) (range_with_len 0 16)) }
+    ensures { OnOk result (fresh.new.items ≡ fresh.old.items ++ filter_map (table_of_place (built_with [] built.now)) (range_with_len 0 16)) }
 {
     for k in 0..TABLES {
         push_table(fresh, built, k)?;
@@ -54,7 +65,7 @@ fn push_tables(fresh: &mut Vec<TxBlock>, built: &NodeBuilt) -> Result<(), NoMemo
 // array of a block is made where none is written.
 fn push_table(fresh: &mut Vec<TxBlock>, built: &NodeBuilt, k: usize) -> Result<(), NoMemory>
     requires { k < 16 }
-    ensures { OnOk result (fresh.new.items ≡ fresh.old.items ++ option_to_list (table_of_place built.now k)) }
+    ensures { OnOk result (fresh.new.items ≡ fresh.old.items ++ option_to_list (table_of_place (built_with [] built.now) k)) }
 {
     match fate_at(built, k) {
         TableFate::Stays => Ok(()),
@@ -87,8 +98,13 @@ fn push_block(fresh: &mut Vec<TxBlock>, block: Option<TxBlock>) -> Result<(), No
 }
 
 // The fresh block of a rewritten one, where it takes one.
-fn data_block(built: &NodeBuilt, pages: &PageList, one: &ChangedBlock) -> Option<TxBlock>
-    ensures { result ≡ data_written built.now pages.now.items one.now }
+fn data_block(
+    built: &NodeBuilt,
+    slots: &[SlotBlock],
+    pages: &PageList,
+    one: &ChangedBlock,
+) -> Option<TxBlock>
+    ensures { result ≡ data_written (built_with slots.now built.now) pages.now.items one.now }
 {
     if one.is_zero || one.block >= LARGEST {
         return None;
@@ -97,26 +113,29 @@ fn data_block(built: &NodeBuilt, pages: &PageList, one: &ChangedBlock) -> Option
     if block == 0 {
         return None;
     }
-    let bytes = content(built, pages, one.block);
+    let bytes = content(built, slots, pages, one.block);
     Some(TxBlock { block, bytes })
 }
 
 // What is written to a block: of a directory its slots, and of a file its page.
-fn content(built: &NodeBuilt, pages: &PageList, n: u32) -> [u8; 4096]
-    ensures { result ≡ content_of built.now pages.now.items n }
+fn content(built: &NodeBuilt, slots: &[SlotBlock], pages: &PageList, n: u32) -> [u8; 4096]
+    ensures { result ≡ content_of (built_with slots.now built.now) pages.now.items n }
 {
     if built.meta.kind == DIRECTORY {
-        slots_content(built, n)
+        slots_content(built, slots, n)
     } else {
         page_content(pages, n)
     }
 }
 
 // The bytes of a directory's block.
-fn slots_content(built: &NodeBuilt, n: u32) -> [u8; 4096]
-    ensures { result ≡ option_map_or slots_bytes (slice_get built.now.slots n) zero_bytes }
+fn slots_content(built: &NodeBuilt, slots: &[SlotBlock], n: u32) -> [u8; 4096]
+    ensures { result ≡ option_map_or slots_bytes (slice_get (take built.now.end (patched built.now.patch slots.now)) n) zero_bytes }
 {
-    match built.slots.get(u64::from(n)) {
+    if n as usize >= built.end {
+        return [0; 4096];
+    }
+    match block_of(slots, &built.patch, n as usize) {
         Some(block) => bytes_of_slots(block),
         None => [0; 4096],
     }

@@ -1,26 +1,37 @@
 // What a commit gives up.
-ghost use Rattle.std.specs.Prelude.{◌≡◌, ◌++◌, ◌↔◌, ◌⊎◌, ◌<◌, ◌≤◌, ℕ, IfOk, OnOk, Contains, map, length};
-ghost use Rattle.std.specs.List.Sorted.{IsStrictlyIncreasing};
+ghost use Rattle.std.specs.Prelude.{◌≡◌, ◌++◌, ◌↔◌, ◌⊎◌, ◌<◌, ◌≤◌, ℕ, IfOk, OnOk, Contains, map, filter, length};
+ghost use Rattle.std.specs.List.Sorted.{IsSorted, IsStrictlyIncreasing};
+ghost use Rattle.std.specs.Ordering.{nat_cmp};
 ghost use Rattle.std.specs.List.{flat_map};
 ghost use Rattle.block_map.specs.Remap.{there};
 ghost use Rattle.block_map.specs.Kept.{pointer_kept};
 ghost use Rattle.block_map.specs.RemapLaws.{IsHeld};
 ghost use Rattle.disk_change.specs.GivenUp.{IsLeftByGone, entry_number, pointers_of_place};
+ghost use Rattle.disk_change.specs.Planned.{has_listed_node};
 
+use crate::links::times_of;
 use block_map::TABLES;
 use disk_nodes::{OldDisk, OldEntry};
 use fmt_inode::{Inode, Tables};
 use sfs_base::{BlockList, InodeList, NoMemory};
 use std::alloc::Global;
 
-// The inodes of nodes that lose them, ascending.
-pub(crate) fn inodes_left(alloc: Global, gone: &[OldEntry]) -> Result<InodeList, NoMemory>
+// The inodes of the nodes that lose them, whose numbers ascend, ascending.
+pub(crate) fn inodes_left(
+    alloc: Global,
+    old: &[OldEntry],
+    leaving: &[u32],
+) -> Result<InodeList, NoMemory>
+    requires { IsSorted nat_cmp leaving.now }
     ensures ascending { IfOk result (λ inodes. IsStrictlyIncreasing inodes.items) }
-    ensures each { IfOk result (λ inodes. (inode : ℕ) → Contains inodes.items inode ↔ Contains (map entry_number gone.now) inode) }
+    ensures each { IfOk result (λ inodes. (inode : ℕ)
+        → Contains inodes.items inode ↔ Contains (map entry_number (filter (has_listed_node leaving.now) old.now)) inode) }
 {
     let mut inodes = Vec::new(alloc);
-    for entry in gone {
-        inodes.push(entry.old.inode)?;
+    for entry in old {
+        if times_of(leaving, entry.node.0) != 0 {
+            inodes.push(entry.old.inode)?;
+        }
     }
     Ok(ascending(inodes))
 }
@@ -40,19 +51,30 @@ pub fn held_blocks(alloc: Global, old: &OldDisk) -> Result<BlockList, NoMemory>
     ensures ascending { IfOk result (λ blocks. IsStrictlyIncreasing blocks.items) }
     ensures each { IfOk result (λ blocks. (block : ℕ) → Contains blocks.items block ↔ IsLeftByGone old.now.items block) }
 {
-    let blocks = blocks_left(Vec::new(alloc), old.as_slice())?;
-    Ok(blocks)
+    let mut blocks = Vec::new(alloc);
+    for entry in old.as_slice() {
+        push_held(&mut blocks, &entry.old.meta, &entry.old.tables)?;
+    }
+    Ok(ascending(blocks))
 }
 
 // The blocks that a commit gives up, ascending: those that its nodes leave, and all those of nodes that
-// lose their inodes.
-pub(crate) fn blocks_left(freed: Vec<u32>, gone: &[OldEntry]) -> Result<BlockList, NoMemory>
+// lose their inodes, whose numbers ascend.
+pub(crate) fn blocks_left(
+    freed: Vec<u32>,
+    old: &[OldEntry],
+    leaving: &[u32],
+) -> Result<BlockList, NoMemory>
+    requires { IsSorted nat_cmp leaving.now }
     ensures ascending { IfOk result (λ blocks. IsStrictlyIncreasing blocks.items) }
-    ensures each { IfOk result (λ blocks. (block : ℕ) → Contains blocks.items block ↔ (Contains freed.items block ⊎ IsLeftByGone gone.now block)) }
+    ensures each { IfOk result (λ blocks. (block : ℕ)
+        → Contains blocks.items block ↔ (Contains freed.items block ⊎ IsLeftByGone (filter (has_listed_node leaving.now) old.now) block)) }
 {
     let mut blocks = freed;
-    for entry in gone {
-        push_held(&mut blocks, &entry.old.meta, &entry.old.tables)?;
+    for entry in old {
+        if times_of(leaving, entry.node.0) != 0 {
+            push_held(&mut blocks, &entry.old.meta, &entry.old.tables)?;
+        }
     }
     Ok(ascending(blocks))
 }

@@ -19,12 +19,15 @@ mod net_list;
 mod node_built;
 mod numbers;
 mod pages;
+mod patch;
+mod placed;
 mod plans;
 mod records;
 mod rewritten;
 mod seat;
 mod transaction;
 
+pub use after::NodeChanges;
 pub use change::{DiskChange, need};
 pub use directory_net::DirectoryNet;
 pub use enter::{Enter, EnterList};

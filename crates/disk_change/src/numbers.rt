@@ -1,9 +1,10 @@
 // The numbers of a commit's nodes, and its rows with them.
-ghost use Rattle.std.specs.Prelude.{◌≡◌, ◌<◌, ℕ, None, Some, IfOk, OnOk, slice_index_or};
+ghost use Rattle.std.specs.Prelude.{◌≡◌, ◌<◌, ℕ, [], map, None, Some, IfOk, OnOk, slice_index_or};
 ghost use Rattle.std.specs.Ordering.{nat_cmp};
 ghost use Rattle.std.specs.BTreeMap.{get};
 ghost use Rattle.std.specs.Option.{unwrap_or};
 ghost use Rattle.disk_change.specs.Lists.{NamesAscend};
+ghost use Rattle.disk_change.specs.Parts.{seat_with};
 ghost use Rattle.disk_change.specs.Numbered.{numbers_given, number_in, number_given as given_of, grant_left as left_of, block_numbered, slot_numbered, IsPut};
 
 use crate::block::row_of;
@@ -28,7 +29,7 @@ pub(crate) fn numbers_of_seats(
     seats: &[Seat],
     grant: &[u32],
 ) -> Result<Vec<NodeNumber>, NoMemory>
-    ensures { IfOk result (λ numbers. numbers.items ≡ numbers_given seats.now grant.now) }
+    ensures { IfOk result (λ numbers. numbers.items ≡ numbers_given (map (seat_with []) seats.now) grant.now) }
 {
     let mut numbers = Vec::new(alloc);
     let mut left = grant;

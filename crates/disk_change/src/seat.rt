@@ -4,25 +4,29 @@ ghost use Rattle.std.specs.Option.{option_map_or};
 ghost use Rattle.disk_change.specs.Lists.{NamesAscend};
 ghost use Rattle.keyed_list.specs.Ascending.{item_with};
 ghost use Rattle.disk_change.specs.Nodes.{file_node};
+ghost use Rattle.disk_change.specs.Parts.{seat_with};
+ghost use Rattle.disk_change.specs.Patched.{IsPatchFor};
 ghost use Rattle.disk_change.specs.Seat.{file_changed as blocks_of_pages};
 ghost use Rattle.disk_change.specs.Seated.{changes_in, seated, directory_seated, file_seated, net_of_node, size_of_blocks};
 
 use crate::begun::BegunNode;
-use crate::directory::directory_after;
+use crate::directory::{DirectoryAfter, directory_after};
 use crate::files::FileChangeList;
 use crate::kinds::{DIRECTORY, FILE};
 use crate::net_list::NetList;
+use crate::patch::{SlotPatch, end_of, no_patch};
 use crate::plans::Plans;
-use crate::rewritten::{directory_changed, end_of, file_changed};
+use crate::rewritten::{directory_changed, file_changed};
 use absorb::NetRow;
 use block_map::Changed;
 use fmt_inode::{Inode, Tables};
-use fmt_slots::SlotList;
+use fmt_slots::SlotBlock;
 use sfs_base::{Kind, NoMemory, NodeId};
 use std::alloc::Global;
 use std::marker::Model;
 
-// What becomes of a node that has an inode after a commit.
+// What becomes of a node that has an inode after a commit: of its slots what changes, and how many blocks of
+// them stay.
 #[derive(Drop)]
 pub(crate) struct Seat {
     pub(crate) node: NodeId,
@@ -30,14 +34,16 @@ pub(crate) struct Seat {
     pub(crate) before: Inode,
     pub(crate) meta: Inode,
     pub(crate) tables: Tables,
-    pub(crate) slots: SlotList,
+    pub(crate) patch: SlotPatch,
+    pub(crate) end: usize,
     pub(crate) changed: Changed,
 }
 
 impl Model for Seat {
-    ghost use Rattle.disk_change.specs.Seated.{Seated, IsInUse};
+    ghost use Rattle.disk_change.specs.Parts.{SeatParts};
+    ghost use Rattle.disk_change.specs.Seated.{IsInUse};
 
-    ghost Value = { Seated };
+    ghost Value = { SeatParts };
 
     ghost view = { λ s. record {
       node = s.node.0;
@@ -45,26 +51,41 @@ impl Model for Seat {
       before = s.before;
       meta = s.meta;
       tables = s.tables.items;
-      slots = s.slots.items;
+      patch = s.patch;
+      end = s.end;
       changed = s.changed.items;
     } };
 
     ghost invariant = { λ s. IsInUse s.meta };
 }
 
-// What becomes of a node.
-pub(crate) fn seat_of(alloc: Global, begun: BegunNode, plans: &Plans) -> Result<Seat, NoMemory>
-    ensures { IfOk result (λ seat. seat ≡ seated (changes_in plans.now.directories plans.now.nets.items plans.now.files.items) begun) }
+// What becomes of a node that begins with these slots.
+pub(crate) fn seat_of(
+    alloc: Global,
+    begun: BegunNode,
+    slots: &[SlotBlock],
+    plans: &Plans,
+) -> Result<Seat, NoMemory>
+    ensures seat { IfOk result (λ seat. seat_with slots.now seat
+        ≡ seated (changes_in plans.now.directories plans.now.nets.items plans.now.files.items) (record begun { slots = slots.now })) }
+    ensures patch { IfOk result (λ seat. IsPatchFor (net_of_node plans.now.nets.items seat.node) seat.end slots.now seat.patch) }
 {
     match begun.kind {
-        Kind::File => file_seat(alloc, begun, plans),
-        Kind::Directory => directory_seat(alloc, begun, plans),
+        Kind::File => file_seat(alloc, begun, slots, plans),
+        Kind::Directory => directory_seat(alloc, begun, slots, plans),
     }
 }
 
 // What becomes of a directory.
-fn directory_seat(alloc: Global, begun: BegunNode, plans: &Plans) -> Result<Seat, NoMemory>
-    ensures { IfOk result (λ seat. seat ≡ directory_seated (changes_in plans.now.directories plans.now.nets.items plans.now.files.items) begun) }
+fn directory_seat(
+    alloc: Global,
+    begun: BegunNode,
+    slots: &[SlotBlock],
+    plans: &Plans,
+) -> Result<Seat, NoMemory>
+    ensures seat { IfOk result (λ seat. seat_with slots.now seat
+        ≡ directory_seated (changes_in plans.now.directories plans.now.nets.items plans.now.files.items) (record begun { slots = slots.now })) }
+    ensures patch { IfOk result (λ seat. IsPatchFor (net_of_node plans.now.nets.items seat.node) seat.end slots.now seat.patch) }
 {
     let BegunNode {
         node,
@@ -73,14 +94,11 @@ fn directory_seat(alloc: Global, begun: BegunNode, plans: &Plans) -> Result<Seat
         before,
         base,
         tables,
-        slots,
     } = begun;
     let net = net_of(&plans.nets, node);
-    let after = directory_after(alloc, slots, net, &plans.directories)?;
-    let changed = directory_changed(alloc, &base, &tables, &after.blocks, &after.touched)?;
-    let end = end_of(&after.blocks);
-    let mut blocks = after.blocks;
-    blocks.truncate(end);
+    let DirectoryAfter { patch, touched } = directory_after(alloc, slots, net, &plans.directories)?;
+    let changed = directory_changed(alloc, &base, &tables, slots, &patch, &touched)?;
+    let end = end_of(slots, &patch);
     let links = plans.links.links_after(node, base.links);
     let meta = with(&base, DIRECTORY, links, size_of(end));
     Ok(Seat {
@@ -89,7 +107,8 @@ fn directory_seat(alloc: Global, begun: BegunNode, plans: &Plans) -> Result<Seat
         before,
         meta,
         tables,
-        slots: SlotList::from_vec(blocks),
+        patch,
+        end,
         changed,
     })
 }
@@ -123,9 +142,16 @@ pub(crate) fn net_of(nets: &NetList, node: NodeId) -> &[NetRow]
     }
 }
 
-// What becomes of a file.
-fn file_seat(alloc: Global, begun: BegunNode, plans: &Plans) -> Result<Seat, NoMemory>
-    ensures { IfOk result (λ seat. seat ≡ file_seated (changes_in plans.now.directories plans.now.nets.items plans.now.files.items) begun) }
+// What becomes of a file, which keeps no slots.
+fn file_seat(
+    alloc: Global,
+    begun: BegunNode,
+    slots: &[SlotBlock],
+    plans: &Plans,
+) -> Result<Seat, NoMemory>
+    ensures seat { IfOk result (λ seat. seat_with slots.now seat
+        ≡ file_seated (changes_in plans.now.directories plans.now.nets.items plans.now.files.items) (record begun { slots = slots.now })) }
+    ensures patch { IfOk result (λ seat. IsPatchFor (net_of_node plans.now.nets.items seat.node) seat.end slots.now seat.patch) }
 {
     let BegunNode {
         node,
@@ -134,7 +160,6 @@ fn file_seat(alloc: Global, begun: BegunNode, plans: &Plans) -> Result<Seat, NoM
         before,
         base,
         tables,
-        slots: _,
     } = begun;
     let changed = pages_changed(alloc, &plans.files, node)?;
     let links = plans.links.links_after(node, base.links);
@@ -145,7 +170,8 @@ fn file_seat(alloc: Global, begun: BegunNode, plans: &Plans) -> Result<Seat, NoM
         before,
         meta,
         tables,
-        slots: SlotList::new(alloc),
+        patch: no_patch(alloc),
+        end: 0,
         changed,
     })
 }

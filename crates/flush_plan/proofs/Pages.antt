@@ -1,4 +1,4 @@
--- The pages of the first blocks, and the bytes of a page that was filled from a file.
+-- The pages of the first blocks.
 use Rattle.std.proofs.Common.{◌≡◌, ℕ, ◌+◌, ◌-◌, ◌≤◌, ◌<◌, Bool, true, false, cond, inl, inr, List, [], ◌∷◌, ◌++◌, length, map, filter, take, drop, min, refl, sym, ap, ◌∙◌, subst, arith}
 use Rattle.std.specs.Prelude.{replicate, All}
 use Rattle.std.specs.List.{range_with_len}
@@ -27,29 +27,6 @@ one_more test f n =
     last : (b : Bool) → map f (cond b (n ∷ []) []) ≡ cond b (f n ∷ []) []
     last true = refl
     last false = refl
-
--- zeros of which the first were overwritten are what was written with zeros behind it
-pub filled : (count size : ℕ) (xs : List ℕ) → count ≡ min size (length xs) → take count xs ++ drop count (replicate size 0) ≡ take size (xs ++ replicate size 0)
-filled count size xs is = elim (cases_lt size (length xs)) [
-  | inl less ↦
-      let all : count ≡ size = omega arith in
-      let le : size ≤ length xs = omega arith in
-      ap (λ n. take n xs ++ drop n (replicate size 0)) all
-      ∙ ap (λ l. take size xs ++ l) (drop-replicate size size 0 ∙ ap (λ n. replicate n 0) (gone size))
-      ∙ append-nil (take size xs)
-      ∙ sym (take-append-le size xs (replicate size 0) le)
-  | inr le ↦
-      let all : count ≡ length xs = omega arith in
-      let split : size ≡ length xs + (size - length xs) = omega arith in
-      ap (λ n. take n xs ++ drop n (replicate size 0)) all
-      ∙ ap (λ l. l ++ drop (length xs) (replicate size 0)) (take_all (length xs) xs (omega arith))
-      ∙ ap (λ l. xs ++ l) (drop-replicate (length xs) size 0 ∙ sym (take-replicate (size - length xs) size 0 (omega arith)))
-      ∙ sym (take-append-add xs (replicate size 0) (size - length xs))
-      ∙ ap (λ n. take n (xs ++ replicate size 0)) (sym split)
-]
-  where
-    gone : (n : ℕ) → n - n ≡ 0
-    gone n = omega arith
 
 -- one block more, of which there is a page where it was touched
 module _ (cut : ℕ) (file : File) (block : ℕ) (touched : Bool) (is : touched ≡ is_marked_from cut file block) (pages new : List Page)

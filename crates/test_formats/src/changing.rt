@@ -6,11 +6,12 @@ pub(crate) mod drawn;
 use crate::space::reserve;
 use absorb::net_of;
 use disk_change::{
-    Built, DirectoryNet, DiskChange, Enter, EnterList, FileChange, FileChangeList, NetList, Page,
+    DirectoryNet, DiskChange, Enter, EnterList, FileChange, FileChangeList, NetList, Page,
     PageList, build, need,
 };
 use disk_nodes::{OldDisk, OldEntry, OldNode};
 use fmt_inode::{Inode, Tables};
+use fmt_journal::Tx;
 use fmt_slots::SlotList;
 use sfs_base::{Kind, Name, NoMemory, NodeId, NodeList, SpaceKind, Stamp};
 use space_map::{Need, SpaceFault, SpaceMap};
@@ -108,13 +109,20 @@ fn one_page(rt: &impl Abort, alloc: Global, size: u64, block: u32, last: u8) -> 
     files
 }
 
+// What a commit wrote, and what the disk has of its nodes afterwards.
+#[derive(Drop)]
+pub(crate) struct Committed {
+    pub(crate) tx: Tx,
+    pub(crate) after: OldDisk,
+}
+
 // Builds a change with a grant of what it needs, which is then no more free.
 pub(crate) fn built(
     rt: &impl Abort,
     alloc: Global,
     change: DiskChange,
     space: &mut SpaceMap,
-) -> Built {
+) -> Committed {
     let due = need(&change);
     let grant = reserve(rt, space, due.inodes, due.blocks);
     match build(alloc, change, &grant) {
@@ -122,7 +130,10 @@ pub(crate) fn built(
             let blocks = built.tx.freed_blocks.as_slice();
             let inodes = built.tx.freed_inodes.as_slice();
             space.free_after(grant, blocks, inodes);
-            built
+            Committed {
+                tx: built.tx,
+                after: built.nodes.into_after(),
+            }
         }
         Err(fault) => {
             space.give_back(grant);

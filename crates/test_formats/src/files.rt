@@ -2,6 +2,8 @@
 use crate::helpers::{got, holds, same};
 use mem_files::{FileBytes, LONGEST_FILE, Touched};
 use sfs_base::Stamp;
+use std::alloc::Global;
+use std::process::Abort;
 
 const NONE: Touched = Touched { first: 0, end: 0 };
 
@@ -79,6 +81,40 @@ fn blocks_keep_their_marks(rt: HostRuntime) {
     same(&rt, &copy.size(), &4_004);
     same(&rt, &copy.last(0), &Some(Stamp(7)));
     holds(&rt, LONGEST_FILE >= 67_551_232);
+}
+
+// How many blocks a file has that were touched from a stamp on, and the last of them, 99 where there is none.
+fn touched_from(rt: &impl Abort, alloc: Global, file: &FileBytes, cut: u64) -> (usize, u32) {
+    let touched = got(rt, file.touched_from(alloc, Stamp(cut)));
+    let last = match touched.blocks.last() {
+        Some(block) => block.block,
+        None => 99,
+    };
+    (touched.blocks.len(), last)
+}
+
+#[test]
+fn the_blocks_that_were_touched_from_a_stamp_on_are_copied(rt: HostRuntime) {
+    let alloc = rt.alloc();
+    let mut file = FileBytes::new(alloc);
+    let touched = got(&rt, file.write(8_192, b"c".as_slice()));
+    file.mark(touched, Stamp(4));
+    let touched = got(&rt, file.write(1, b"a".as_slice()));
+    file.mark(touched, Stamp(7));
+    same(&rt, &touched_from(&rt, alloc, &file, 0), &(2, 2));
+    same(&rt, &touched_from(&rt, alloc, &file, 4), &(2, 2));
+    same(&rt, &touched_from(&rt, alloc, &file, 5), &(1, 0));
+    same(&rt, &touched_from(&rt, alloc, &file, 7), &(1, 0));
+    same(&rt, &touched_from(&rt, alloc, &file, 8), &(0, 99));
+    let touched = got(&rt, file.touched_from(alloc, Stamp(7)));
+    same(&rt, &touched.size, &8_193);
+    let Some(block) = touched.blocks.first() else {
+        panic!(rt; "no block was copied");
+    };
+    same(&rt, &block.mark, &Stamp(7));
+    same(&rt, &block.bytes[0], &0);
+    same(&rt, &block.bytes[1], &b'a');
+    same(&rt, &block.bytes[4_095], &0);
 }
 
 #[test]

@@ -131,7 +131,7 @@ module _ (kept : Volume) (volume : OpenVolume) (node : NodeId) (stamp : Stamp) (
       ∙ planned_node change.changes there_built.of.begun there_built.of.begun.kind in
       ap (is_listed nodes) own ∙ there_built.of.among
 
-  after_is : ready.after.items ≡ after_commit change grant
+  after_is : ready.changes.after ≡ after_commit change grant
   after_is = built.after ∙ ap (λ (c : Planned). after_commit c grant) is.leads.made
 
   nodes_are : map node_number ready.nodes.items ≡ nodes

@@ -27,7 +27,7 @@ pub record HasInodesBy (kept : KeptNodes) (nodes : List ℕ) (old new : Known) :
 pub record HasFinished (stamp : Stamp) (ready : Ready) (grant : GrantedNumbers) (old new : OpenVolume) : Type 0 where
   pub space_inodes : Ends grant.inodes ready.freed_inodes.items old.space.inodes new.space.inodes
   pub space_blocks : Ends grant.blocks ready.freed_blocks.items old.space.blocks new.space.blocks
-  pub entries : AreReplaced (map node_number ready.nodes.items) ready.after.items old.stored new.stored
+  pub entries : AreReplaced (map node_number ready.nodes.items) ready.changes.after old.stored new.stored
   pub inodes : (node : ℕ) → is_listed (map node_number new.known.inodes) node
       ≡ (if is_listed (map node_number ready.nodes.items) node then is_some (old_at new.stored node) else is_listed (map node_number old.known.inodes) node)
   pub cuts : (node : ℕ) → cut_in new.known.cuts node ≡ lifted_cut old.known.cuts (map node_number ready.members.items) stamp.0 node

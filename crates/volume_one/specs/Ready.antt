@@ -34,8 +34,8 @@ pub record IsReadyFor (plan : FsyncPlan) (grant : GrantedNumbers) (ready : Ready
   pub built : IsTransactionOf plan.change grant tx
   pub members : ready.members.items ≡ plan.members.items
   pub nodes : ready.nodes.items ≡ plan.nodes.items
-  pub after : ready.after.items ≡ after_commit plan.change grant
-  pub ascend : AscendBy entry_node ready.after.items
+  pub after : ready.changes.after ≡ after_commit plan.change grant
+  pub ascend : AscendBy entry_node ready.changes.after
   pub freed_blocks : ready.freed_blocks.items ≡ tx.freed_blocks.items
   pub freed_inodes : ready.freed_inodes.items ≡ tx.freed_inodes.items
   pub counted : ready.fresh ≡ length tx.fresh.items

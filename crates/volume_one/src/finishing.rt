@@ -24,7 +24,7 @@ impl OpenVolume {
         let Ready {
             members,
             nodes,
-            after,
+            changes,
             freed_blocks,
             freed_inodes,
             fresh: _,
@@ -32,7 +32,7 @@ impl OpenVolume {
         } = ready;
         self.space
             .free_after(grant, freed_blocks.as_slice(), freed_inodes.as_slice());
-        replace_entries(&mut self.stored, nodes.as_slice(), after);
+        replace_entries(&mut self.stored, nodes.as_slice(), changes.into_after());
         mark_inodes(&mut self.known, nodes.as_slice(), &self.stored);
         self.known.raise(members.as_slice(), stamp);
         self.logs.trim(members.as_slice(), stamp);

@@ -45,7 +45,7 @@ fn plan_of(
     let concern = concerned(alloc, node, stamp, gathered)?;
     let entries = entries_of(alloc, old, concern.nodes.as_slice())?;
     let change = own_change(alloc, node, gathered, file)?;
-    plan(
+    match plan(
         alloc,
         node,
         stamp,
@@ -54,7 +54,10 @@ fn plan_of(
         entries,
         file.is_some(),
         change,
-    )
+    ) {
+        Ok(plan) => Ok(plan),
+        Err(_) => Err(NoMemory),
+    }
 }
 
 // The change of a node's file from the node's cut on, where it is one.

@@ -6,8 +6,7 @@ ghost use Rattle.volume_one.specs.Ready.{IsReadyFor, HasReadyRoom, IsSameButRoom
 
 use crate::OpenVolume;
 use crate::entries::make_places;
-use disk_change::{Built, build};
-use disk_nodes::OldDisk;
+use disk_change::{Built, NodeChanges, build};
 use flush_plan::FsyncPlan;
 use fmt_journal::Tx;
 use journal_one::Packed;
@@ -21,7 +20,7 @@ use std::alloc::Global;
 pub struct Ready {
     pub members: NodeList,
     pub nodes: NodeList,
-    pub after: OldDisk,
+    pub changes: NodeChanges,
     pub freed_blocks: BlockList,
     pub freed_inodes: InodeList,
     pub fresh: usize,
@@ -45,7 +44,9 @@ impl OpenVolume {
         let count = members.as_slice().len().max(nodes.as_slice().len());
         self.known.reserve(count)?;
         make_places(&mut self.stored, nodes.as_slice())?;
-        let Built { tx, after } = build(self.alloc, change, grant)?;
+        let Ok(Built { tx, nodes: changes }) = build(self.alloc, change, grant) else {
+            return Err(NoMemory);
+        };
         let Unpacked {
             freed_blocks,
             freed_inodes,
@@ -55,7 +56,7 @@ impl OpenVolume {
         Ok(Ready {
             members,
             nodes,
-            after,
+            changes,
             freed_blocks,
             freed_inodes,
             fresh,

@@ -3,7 +3,7 @@ ghost use Rattle.space_map.specs.Space.{AllGranted};
 
 use super::{NODES, Watched};
 use crate::helpers::{got, holds, same};
-use disk_change::{Built, DiskChange, build, need};
+use disk_change::{DiskChange, build, need};
 use disk_nodes::{OldDisk, OldEntry, OldNode, take_old};
 use flush_plan::{concerned, file_change, plan};
 use fmt_inode::{Inode, Tables};
@@ -76,14 +76,14 @@ fn reserved(rt: &impl Abort, space: &mut SpaceMap, due: Need) -> Grant
 }
 
 // Builds a change with a grant of what it needs, which is then no more free.
-fn granted(rt: &impl Abort, alloc: Global, change: DiskChange, space: &mut SpaceMap) -> Built {
+fn granted(rt: &impl Abort, alloc: Global, change: DiskChange, space: &mut SpaceMap) -> OldDisk {
     let grant = reserved(rt, space, need(&change));
     match build(alloc, change, &grant) {
         Ok(built) => {
             let blocks = built.tx.freed_blocks.as_slice();
             let inodes = built.tx.freed_inodes.as_slice();
             space.free_after(grant, blocks, inodes);
-            built
+            built.nodes.into_after()
         }
         Err(fault) => {
             space.give_back(grant);
@@ -125,8 +125,8 @@ impl Watched {
         );
         same(rt, &plan.members.len(), &(members.len() as u64));
         self.disk.needed = need(&plan.change);
-        let mut built = granted(rt, self.alloc, plan.change, &mut self.disk.space);
-        move_nodes(rt, &mut built.after, &mut self.disk.nodes, &nodes);
+        let mut after = granted(rt, self.alloc, plan.change, &mut self.disk.space);
+        move_nodes(rt, &mut after, &mut self.disk.nodes, &nodes);
     }
 
     // The disk has an inode of exactly the nodes that have one by the machine.

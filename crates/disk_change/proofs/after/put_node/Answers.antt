@@ -1,11 +1,25 @@
-use Rattle.std.proofs.Common.{refl, ap, ◌∙◌, map}
-use Rattle.disk_change.specs.AllBuilt.{entry_after, entry_keyed}
-use Rattle.disk_change.specs.Lists.{put_over}
-use Rattle.disk_nodes.specs.Nodes.{entry_node}
-use Rattle.disk_change.proofs.Ascending.{put_keyed}
+use Rattle.std.proofs.Common.{sym, ap, subst, take, ◌∙◌}
+use Rattle.disk_nodes.specs.Nodes.{old_entry}
+use Rattle.disk_change.specs.AllBuilt.{entry_after}
+use Rattle.disk_change.specs.Parts.{BuiltParts, CanBePut, built_in, slots_begun}
+use Rattle.disk_change.specs.Patched.{patched}
 use Rattle.disk_change.proofs.after.put_node.Goals as goal
+
+pub put_patch-blocks-requires : goal.put_patch-blocks-requires
+put_patch-blocks-requires c =
+    let begun = c.taken_slots.ensures.slots ∙ ap (λ (b : BuiltParts). slots_begun c.args.old.now.items b.own b.node) c.built.view_is in
+    let can =
+    subst (λ (b : BuiltParts). CanBePut c.taken_slots.result.items b) (sym c.built.view_is) (subst (λ l. CanBePut l c.args.built) (sym begun) c.requires) in
+    record { fits = can.fits; empty = c.built.invariant.1; room = can.room }
 
 pub returns : goal.returns
 returns c =
-    ap (map entry_keyed) c.in_ok-insert.ensures.entries ∙ put_keyed entry_keyed entry_node (λ e. refl) c.args.by_node.now.entries _ _
-    ∙ ap (λ built. put_over entry_node (entry_after built) (map entry_keyed c.args.by_node.now.entries)) c.built.view_is
+    let inside = c.built.inside in
+    let slots =
+    ap (λ r. r.items) c.from_vec.ensures ∙ c.put_patch-blocks.ensures ∙ ap (λ l. take inside.end (patched inside.patch l)) c.taken_slots.ensures.slots in
+    record {
+      entry =
+          (λ i. old_entry (record { 0 = inside.node.0 }) inside.number inside.meta inside.tables.items (slots i))
+          ∙ ap (λ (b : BuiltParts). entry_after (built_in c.args.old.now.items b)) c.built.view_is;
+      others = λ other apart. c.taken_slots.ensures.others other (λ e. apart (e ∙ ap (λ (b : BuiltParts). b.node) c.built.view_is));
+    }

@@ -1,6 +1,7 @@
 use Rattle.std.proofs.Common.{◌≡◌, ◌++◌, ◌+◌, ℕ, List, Option, ◌<◌, length, ap, ◌∙◌, arith, get_or, take, filter_map}
 use Rattle.std.specs.Prelude.{option_to_list}
 use Rattle.disk_change.specs.Fresh.{data_written}
+use Rattle.disk_change.specs.Parts.{BuiltParts, built_with}
 use Rattle.disk_change.proofs.Counted.{pushed_more}
 use Rattle.disk_change.proofs.fresh.push_data.Goals as goal
 
@@ -12,8 +13,8 @@ more_of f front ys xs i d before new {o} within same was is after =
 
 pub loop-one-preserved : goal.loop-one-preserved
 loop-one-preserved c =
-    let f = data_written c.args.built.now c.args.pages.now.items in
-    let same = c.as_slice-one-items.ensures.items ∙ ap (λ b. b.changed) c.built.view_is in
+    let f = data_written (built_with c.args.slots.now c.args.built.now) c.args.pages.now.items in
+    let same = c.as_slice-one-items.ensures.items ∙ ap (λ (b : BuiltParts). b.changed) c.built.view_is in
     let long = ap length same in
     let within : c.loop-one.one-index < length c.args.built.now.changed = omega arith in
     more_of f c.args.fresh.now.items c.as_slice-one-items.result.now c.args.built.now.changed c.loop-one.one-index _ c.loop-one.fresh.items _ within same

@@ -6,6 +6,7 @@ use Rattle.std.proofs.lemmas.List.Elements.{filter_map-append}
 use Rattle.sfs_base.proofs.BasicNumbers.{zero_plus}
 use Rattle.block_map.proofs.Places.{as_list, range_more}
 use Rattle.disk_change.specs.Fresh.{table_of_place}
+use Rattle.disk_change.specs.Parts.{built_with}
 use Rattle.disk_change.proofs.fresh.push_tables.Goals as goal
 
 one_more : {Y : Type 0} (f : ℕ → Option Y) (k : ℕ) → filter_map f (range_with_len 0 (k + 1)) ≡ filter_map f (range_with_len 0 k) ++ option_to_list (f k)
@@ -15,7 +16,7 @@ one_more f k =
 
 pub loop-k-preserved : goal.loop-k-preserved
 loop-k-preserved c =
-    let f = table_of_place c.args.built.now in
+    let f = table_of_place (built_with [] c.args.built.now) in
     let front = c.args.fresh.now.items in
     c.in_ok-push_table.ensures ∙ ap (λ those. those ++ option_to_list (f c.loop-k.k)) c.loop-k.invariant
     ∙ append_assoc front (filter_map f (range_with_len 0 c.loop-k.k)) (option_to_list (f c.loop-k.k)) ∙ ap (λ rest. front ++ rest) (sym (one_more f c.loop-k.k))

@@ -1,5 +1,5 @@
 use Rattle.std.proofs.Common.{◌<◌, ◌++◌, ◌∷◌, [], length, sym, ◌∙◌, arith}
-use Rattle.disk_change.specs.Seated.{Seated}
+use Rattle.disk_change.specs.Parts.{SeatParts}
 use Rattle.disk_change.specs.Numbered.{number_given, grant_left}
 use Rattle.disk_change.proofs.Numbering.{numbers_more, behind_more}
 use Rattle.disk_change.proofs.numbers.numbers_of_seats.Goals as goal
@@ -7,7 +7,7 @@ use Rattle.disk_change.proofs.numbers.numbers_of_seats.Goals as goal
 pub loop-seat-preserved : goal.loop-seat-preserved
 loop-seat-preserved c =
     let within : c.loop-seat.seat-index < length c.args.seats.now = omega arith in
-    let seat : Seated = c.seat-item.result in
+    let seat : SeatParts = c.seat-item.result in
     let view = c.seat.view_is in
     record {
       numbers =

@@ -1,6 +1,5 @@
 use Rattle.std.proofs.Common.{refl, sym, ap, ◌∙◌, map, Some, None}
 use Rattle.std.proofs.lemmas.Bool.{cond-false}
-use Rattle.fmt_journal.specs.declared.tx.TxRecord.{TxRecord}
 use Rattle.disk_change.specs.Lists.{put_over, put_if}
 use Rattle.disk_change.specs.Records.{same_inode, record_keyed, record_inode}
 use Rattle.disk_change.proofs.Ascending.{put_keyed}

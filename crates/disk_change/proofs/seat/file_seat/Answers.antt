@@ -1,14 +1,15 @@
-use Rattle.std.proofs.Common.{ap, ◌∙◌}
+use Rattle.std.proofs.Common.{rules, [], ap, ◌∙◌}
 use Rattle.sfs_image.specs.Inode.{Inode}
 use Rattle.std.specs.Option.{option_map_or}
 use Rattle.disk_change.specs.declared.files.FileChange.{FileChange}
 use Rattle.keyed_list.specs.Ascending.{item_with}
 use Rattle.disk_change.specs.Nodes.{file_node}
 use Rattle.disk_change.specs.Links.{links_with}
+use Rattle.disk_change.proofs.Patches.{no_patch_for}
 use Rattle.disk_change.proofs.seat.file_seat.Goals as goal
 
-pub returns : goal.returns
-returns c =
+pub returns-clause-seat : goal.returns-clause-seat
+returns-clause-seat c =
     let base : Inode = c.begun.inside.base in
     let node = c.begun.inside.node.0 in
     let base_is = c.base.view_is in
@@ -24,6 +25,10 @@ returns c =
       before = c.begun.inside.before;
       meta = meta i;
       tables = c.begun.inside.tables.items;
-      slots = ap (λ r. r.items) c.new.ensures i;
+      slots = [];
       changed = c.in_ok-changed.ensures i;
     })
+
+pub returns-clause-patch : goal.returns-clause-patch
+returns-clause-patch c =
+    no_patch_for _ c.args.slots.now c.no_patch.result c.no_patch.ensures (search rules)

@@ -2,7 +2,7 @@ use Rattle.std.proofs.Common.{◌≡◌, ℕ, ◌*◌, ◌++◌, ◌∙◌, List
 use Rattle.std.specs.Prelude.{replicate}
 use Rattle.std.proofs.lemmas.List.{length-replicate}
 use Rattle.sfs_image.specs.Bytes.{zeros}
-use Rattle.flush_plan.proofs.Pages.{filled}
+use Rattle.mem_files.proofs.Padded.{filled}
 use Rattle.flush_plan.proofs.touched.page_at.Goals as goal
 
 pub returns : goal.returns

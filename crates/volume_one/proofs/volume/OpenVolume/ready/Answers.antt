@@ -11,14 +11,14 @@ use Rattle.volume_one.proofs.volume.OpenVolume.ready.Goals as goal
 
 pub returns-clause-ready : goal.returns-clause-ready
 returns-clause-ready c =
-    let is : IsUnpacked c.in_ok-tx.field-0.tx c.in_ok-freed_blocks.field-0 = c.in_ok-freed_blocks.ensures in
+    let is : IsUnpacked c.in-Ok.field-0.tx c.in_ok-freed_blocks.field-0 = c.in_ok-freed_blocks.ensures in
     record {
-      tx = c.in_ok-tx.field-0.tx;
-      built = c.in_ok-tx.ensures.tx;
+      tx = c.in-Ok.field-0.tx;
+      built = c.in-Ok.ensures.tx;
       members = refl;
       nodes = refl;
-      after = c.in_ok-tx.ensures.after;
-      ascend = subst (λ (l : Roomy OldEntry). AscendBy entry_node l.items) c.after.view_is c.after.invariant;
+      after = c.in-Ok.ensures.after;
+      ascend = c.in-Ok.ensures.ascending;
       freed_blocks = is.freed_blocks;
       freed_inodes = is.freed_inodes;
       counted = is.counted;
