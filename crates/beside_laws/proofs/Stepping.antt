@@ -212,7 +212,7 @@ module _ (run : Progress) (waiting : List CoreCommit) (before behind : List Flow
     is_open = ap (λ (o : Option Flight). option_map_or (λ flight. flight.opened) o false) found
 
 -- a commit that flies is none that an event misses
-none_missing : (test : Bool) (number other : ℕ) → test ≡ true → cond (not test) (Some number) None ≡ Some other → ⊥
+pub none_missing : (test : Bool) (number other : ℕ) → test ≡ true → cond (not test) (Some number) None ≡ Some other → ⊥
 none_missing true number other is e = cc
 none_missing false number other is e = cc
 

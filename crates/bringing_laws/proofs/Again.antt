@@ -1,6 +1,6 @@
 -- An fsync concerns the same nodes once another one is on the disk that concerns none of them.
-use Rattle.std.proofs.Common.{◌≡◌, ℕ, ◌≤◌, Bool, List, inl, inr, refl, sym, subst, ◌∙◌, arith}
 use Rattle.std.specs.Prelude.{◌↔◌}
+use Rattle.std.proofs.Common.{◌≡◌, ◌≤◌, ◌∙◌, ℕ, Bool, List, inl, inr, refl, sym, subst, arith}
 use Rattle.sfs_base.proofs.BasicNumbers.{not_less}
 use Rattle.sfs_base.proofs.BasicTruth.{true_or_false}
 use Rattle.tree_laws.specs.declared.history.Entry.{Entry}
@@ -35,10 +35,6 @@ module _ (first : TreeState) (history : List Entry) (cut : Cut) (inodes : ℕ �
     ]
   ]
 
-  -- no cut falls
-  pub rises : (node : ℕ) → cut_of cut node ≤ cut_of raised node
-  rises = cuts_rise first history every_entry cut inodes theirs raised is.raises
-
   -- a change that names a node that mine concerns is unflushed then, where it was
   pub stays_unflushed : (change : RowChange) → IsConcerned first history every_entry cut inodes mine change.child → IsChange first history change
       → cut_of cut change.directory ≤ change.stamp → cut_of raised change.directory ≤ change.stamp
@@ -70,7 +66,7 @@ module _ (first : TreeState) (history : List Entry) (cut : Cut) (inodes : ℕ �
     counted = naming.counted;
     child = naming.child;
     unflushed =
-        let rise = rises naming.change.directory in
+        let rise = cuts_rise first history every_entry cut inodes theirs raised is.raises naming.change.directory in
         let le = naming.unflushed in omega (arith, rise, le);
   }
 

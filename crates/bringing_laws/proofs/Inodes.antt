@@ -1,7 +1,7 @@
 -- Which nodes an fsync leaves with an inode once another one is on the disk that concerns none of its nodes.
-use Rattle.std.proofs.Common.{◌≡◌, ◌⊎◌, ℕ, ◌≤◌, Bool, true, false, cond, List, Some, inl, inr, refl, sym, ap, subst, ◌∙◌, arith}
 use Rattle.std.specs.Prelude.{◌↔◌}
 use Rattle.std.specs.FinMap.{FinMap, get}
+use Rattle.std.proofs.Common.{◌≡◌, ◌⊎◌, ◌≤◌, ◌∙◌, ℕ, Bool, true, false, cond, List, Some, inl, inr, refl, sym, ap, subst, arith}
 use Rattle.sfs_base.specs.Listed.{is_listed}
 use Rattle.sfs_base.proofs.BasicNumbers.{not_less}
 use Rattle.sfs_base.proofs.BasicTruth.{not_both, true_or_false}
@@ -18,9 +18,10 @@ use Rattle.cut_laws.specs.Rules.{IsChange}
 use Rattle.cut_laws.proofs.Basics.{below_or}
 use Rattle.cut_laws.proofs.KeptInodes.{others_stay}
 use Rattle.cut_laws.proofs.Listed.{listed_one}
+use Rattle.cut_laws.proofs.Raises.{cuts_rise}
 use Rattle.raise_laws.proofs.Next.{same_stamps_keep}
 use Rattle.bringing_laws.specs.Laws.{RaisesBeside, MadeOver, MakesTheSame, RaisesStay}
-use Rattle.bringing_laws.proofs.Again.{rises, inode_stays, stays_unflushed, same_concerns}
+use Rattle.bringing_laws.proofs.Again.{inode_stays, stays_unflushed, same_concerns}
 use Rattle.bringing_laws.proofs.Raised.{again, raises_again, own_stamps, other_stamps}
 
 -- a directory with one stamp at two cuts has the same rows at both
@@ -79,7 +80,7 @@ module _ (first : TreeState) (history : List Entry) (cut : Cut) (inodes : ℕ �
     | inr free ↦
         let late = others change.directory free.0 in
         let early = untouched change.directory free.0 in (
-          (λ le. let rise = rises first history cut inodes mine theirs raised after is change.directory in omega (arith, le, late, early, rise)),
+          (λ le. let rise = cuts_rise first history every_entry cut inodes theirs raised is.raises change.directory in omega (arith, le, late, early, rise)),
           (λ le. subst (λ (n : ℕ). n ≤ change.stamp) (sym late)
               (stays_unflushed first history cut inodes mine theirs raised after is change here is_change
               (subst (λ (n : ℕ). n ≤ change.stamp) early le))),

@@ -4,3 +4,9 @@ pub mod Inodes
 pub mod Plans
 pub mod Entries
 pub mod Free
+pub mod Blocks
+pub mod Parts
+pub mod Left
+pub mod Brings
+pub mod Imagined
+pub mod Kept

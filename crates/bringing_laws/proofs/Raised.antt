@@ -1,6 +1,6 @@
 -- An fsync raises a cut also once another one is on the disk that concerns none of its nodes.
-use Rattle.std.proofs.Common.{◌≡◌, ◌⊎◌, ℕ, Bool, true, false, not, max, nat_eq, filter, List, inl, inr, sym, ap, ◌∙◌}
 use borrow.Author.Tests.{eqb-true}
+use Rattle.std.proofs.Common.{◌≡◌, ◌⊎◌, ◌∙◌, ℕ, Bool, true, false, not, max, nat_eq, filter, List, inl, inr, sym, ap}
 use Rattle.sfs_base.proofs.BasicNumbers.{same_number}
 use Rattle.sfs_base.proofs.BasicTruth.{not_both, true_or_false}
 use Rattle.tree_laws.specs.declared.history.Entry.{Entry}
@@ -59,9 +59,6 @@ module _ (first : TreeState) (history : List Entry) (cut : Cut) (inodes : ℕ �
     )
   ]
 
-  stays : (node : ℕ) → IsConcerned first history every_entry cut inodes mine node → cut_of raised node ≡ cut_of cut node
-  stays = stamp_stays first history cut inodes mine theirs raised after is
-
   pub raises_again : IsRaised first history every_entry raised after mine again
   raises_again = record {
     member = λ node then.
@@ -69,8 +66,9 @@ module _ (first : TreeState) (history : List Entry) (cut : Cut) (inodes : ℕ �
         elim (moved_or node) [
           | inl one ↦ one.1
           | inr none ↦
-              none.1 ∙ stays node (member node own) ∙ sym (none.0 (member node own)) ∙ was.raises.member node own
-              ∙ ap (λ (n : ℕ). max n mine.stamp) (sym (stays node (member node own)))
+              none.1 ∙ stamp_stays first history cut inodes mine theirs raised after is node (member node own)
+              ∙ sym (none.0 (member node own)) ∙ was.raises.member node own
+              ∙ ap (λ (n : ℕ). max n mine.stamp) (sym (stamp_stays first history cut inodes mine theirs raised after is node (member node own)))
         ];
     other = λ node. elim (moved_or node) [
       | inl one ↦ inl (members_stay first history cut inodes mine theirs raised after is one.0)
@@ -80,8 +78,10 @@ module _ (first : TreeState) (history : List Entry) (cut : Cut) (inodes : ℕ �
 
   pub own_stamps : (node : ℕ) → IsConcerned first history every_entry cut inodes mine node → cut_of again node ≡ cut_of once node
   own_stamps node own = elim (moved_or node) [
-    | inl one ↦ one.1 ∙ ap (λ (n : ℕ). max n mine.stamp) (stays node own) ∙ sym (was.raises.member node one.0)
-    | inr none ↦ none.1 ∙ stays node own ∙ sym (none.0 own)
+    | inl one ↦
+        one.1 ∙ ap (λ (n : ℕ). max n mine.stamp) (stamp_stays first history cut inodes mine theirs raised after is node own)
+        ∙ sym (was.raises.member node one.0)
+    | inr none ↦ none.1 ∙ stamp_stays first history cut inodes mine theirs raised after is node own ∙ sym (none.0 own)
   ]
 
   pub other_stamps : (node : ℕ) → (IsConcerned first history every_entry cut inodes mine node → ⊥) → cut_of again node ≡ cut_of raised node

@@ -28,7 +28,7 @@ use Rattle.journal_one.proofs.Places.{body_lies, fresh_is, body_is, in_data, ent
 use Rattle.commit_one.specs.Change.{nothing_open, entry_of_part, transaction_of, opened_by, parts_after, IsBefore, IsByItsSlot, IsAfter, AreFree, IsChangeOf}
 
 -- the same of two lists of bytes, in the words of images
-agrees : (at n : ℕ) (old new : List ℕ) → SameOutside at n old new → AgreesOutside at n old new
+pub agrees : (at n : ℕ) (old new : List ℕ) → SameOutside at n old new → AgreesOutside at n old new
 agrees at n old new same = record { before = same.before; behind = same.after; size = same.size }
 
 -- a number from another on and below its successor is the other

@@ -1,73 +1,62 @@
 -- The commit of an fsync through a journal slot.
-use Rattle.std.proofs.Common.{◌≡◌, ◌≢◌, ℕ, zero, suc, ◌<◌, Bool, true, false, cond, List, [], ◌∷◌, length, not, map, filter_map, get_or, Option, Some, None, option_map, inl, inr, refl, sym, ap, subst, ◌∙◌, arith, nat_eq, All, Contains}
-use Rattle.std.specs.Prelude.{slice_index_or, unwrap_or}
+use Rattle.std.specs.Prelude.{◌++◌, slice_index_or, unwrap_or}
 use Rattle.std.specs.List.{find}
 use Rattle.std.specs.Option.{option_map_or}
 use borrow.Author.Tests.{eqb-true}
-use Rattle.std.proofs.lemmas.Bool.{cases_Bool, cases_lt}
-use Rattle.std.proofs.lemmas.List.Elements.{Contains-append_left, Contains-append_right}
+use Rattle.std.proofs.Common.{◌≡◌, ◌≢◌, ◌<◌, ◌∷◌, ◌∙◌, ℕ, zero, suc, Bool, true, false, cond, List, [], length, not, map, filter_map, get_or, Option, Some, None, option_map, inl, inr, refl, sym, ap, subst, arith, nat_eq, All, Contains}
+use Rattle.std.proofs.lemmas.Bool.{cases_Bool, cases_lt, cond-false}
+use Rattle.std.proofs.lemmas.List.Elements.{Contains-append_left, Contains-append_right, Contains-get_or}
+use Rattle.sfs_base.specs.declared.numbers.Kind.{Kind}
+use Rattle.sfs_base.specs.declared.numbers.Kind.TheVariants.{File, Directory}
 use Rattle.sfs_base.proofs.BasicOptions.{none_some}
 use Rattle.sfs_base.proofs.BasicTruth.{true_not_false}
-use Rattle.sfs_image.specs.ImageOf.{InodePart, Transaction, IsImageOf, FreshBlock, with_opened, TurnsInto, PointsToData}
+use Rattle.sfs_base.proofs.BasicNumbers.{same_number}
+use Rattle.sfs_image.specs.ImageOf.{InodePart, Transaction, IsImageOf, FreshBlock, with_opened, TurnsInto, PointsToData, StandIn}
 use Rattle.sfs_image.specs.Inode.{Inode, inode_bytes}
-use Rattle.sfs_image.specs.Part.{Part, part_of, inode_in, pointer_at, seen_of}
+use Rattle.sfs_image.specs.Part.{Part, part_of, inode_in, pointer_at, seen_of, IsGathered}
 use Rattle.sfs_image.specs.Seen.{SeenInodes, PLACES}
 use Rattle.sfs_image.specs.Settled.{slot_count}
 use Rattle.sfs_image.specs.Super.{Layout}
+use Rattle.sfs_image.specs.Slot.{kind_byte}
 use Rattle.sfs_image.proofs.AcceptedLaws.{raw_of}
 use Rattle.sfs_image.proofs.Basics.{found_passes}
 use Rattle.sfs_image.proofs.GivenLaws.{given_newer, given_aside}
-use Rattle.sfs_image.proofs.PartLaws.{none_past_places}
-use Rattle.tree_laws.specs.Tree.{TreeState}
+use Rattle.sfs_image.proofs.PartLaws.{none_past_places, gather_same}
 use Rattle.fmt_journal.specs.declared.tx.TxRecord.{TxRecord}
-use Rattle.journal_one.specs.Job.{Job, no_block}
+use Rattle.journal_one.specs.Job.{Job, no_block, HaveOwnBlocks}
 use Rattle.journal_one.specs.Packed.{record_entry}
 use Rattle.commit_one.specs.Change.{nothing_open, entry_of_part, transaction_of, opened_by, parts_after, IsChangeOf}
 use Rattle.commit_one.proofs.Images.{none_given, own_part}
+use Rattle.tree_laws.specs.Tree.{TreeState, kind_of}
+use Rattle.tree_laws.specs.Sound.{IsSound}
 use Rattle.image_laws.specs.Image.{inodes_shown, HaveGoodBytes, IsReadAsTree}
 use Rattle.image_laws.specs.Renamed.{Numbering}
 use Rattle.image_laws.specs.Stands.{StandsForTree, IsStorable}
 use Rattle.image_laws.proofs.WholeImages.{rule_alike, standing_parts_are_read}
-use Rattle.tree_laws.specs.Sound.{IsSound}
-use Rattle.disk_nodes.specs.declared.old.OldEntry.{OldEntry}
-use Rattle.commit_laws.specs.CommitOfPlan.{change_planned, numbers_planned}
-use Rattle.commit_laws.proofs.PartsStand.{alike_images_stand}
-use Rattle.std.specs.Prelude.{◌++◌}
-use Rattle.std.proofs.lemmas.Bool.{cond-false}
-use Rattle.std.proofs.lemmas.List.Elements.{Contains-append_cases, Contains-get_or}
-use Rattle.sfs_base.proofs.BasicNumbers.{same_number}
-use Rattle.sfs_base.specs.declared.numbers.Kind.{Kind}
-use Rattle.sfs_base.specs.declared.numbers.Kind.TheVariants.{File, Directory}
-use Rattle.sfs_image.specs.ImageOf.{StandIn}
-use Rattle.sfs_image.specs.Part.{IsGathered}
-use Rattle.sfs_image.specs.Slot.{kind_byte}
-use Rattle.sfs_image.proofs.PartLaws.{gather_same}
-use Rattle.tree_laws.specs.Tree.{kind_of}
 use Rattle.image_laws.proofs.Standing.{not_used}
-use Rattle.journal_one.specs.Job.{HaveOwnBlocks}
+use Rattle.disk_nodes.specs.declared.old.OldEntry.{OldEntry}
 use Rattle.disk_nodes.specs.OldKept.{Kept}
 use Rattle.disk_change.specs.AllBuilt.{nodes_with_grant}
 use Rattle.disk_change.specs.Built.{Built}
 use Rattle.disk_change.specs.Directory.{is_among}
 use Rattle.disk_change.specs.GivenUp.{entry_number}
 use Rattle.disk_change.specs.Planned.{Planned, staying, leaves, seated_old, seated_entering}
-use Rattle.disk_change.proofs.Differing.{same_is_one}
-use Rattle.disk_change.specs.Records.{same_inode, record_of_built, record_of_gone, record_inode, records_written, written_of_built, written_of_gone}
+use Rattle.disk_change.specs.Records.{same_inode, record_inode, records_written, written_of_built, written_of_gone}
 use Rattle.disk_change.specs.Seated.{Begun, Seated, seated_as, begun_old, begun_entering, free_inode}
 use Rattle.disk_change.specs.declared.enter.Enter.{Enter}
+use Rattle.disk_change.proofs.Differing.{same_is_one}
 use Rattle.disk_change.proofs.NumbersGiven.{first_in, further_in, planned_node}
+use Rattle.commit_laws.specs.CommitOfPlan.{change_planned, numbers_planned, image_planned}
 use Rattle.commit_laws.specs.BytesKept.{IsCleanPlan}
-use Rattle.commit_laws.specs.CommitOfPlan.{image_planned}
 use Rattle.commit_laws.specs.PartsMade.{blocks_planned, store_planned, part_made, IsPlanOverParts, AreOwnAndFree}
+use Rattle.commit_laws.proofs.PartsStand.{alike_images_stand, free_fits, plans_leave_parts}
 use Rattle.commit_laws.proofs.BlocksRead.{one_node}
 use Rattle.commit_laws.proofs.BytesKept.{plans_leave_good_bytes}
-use Rattle.commit_laws.proofs.Granted.{given_by}
 use Rattle.commit_laws.proofs.GrantWritten.{each_once, held_is_old, found_once, plans_write_apart}
 use Rattle.commit_laws.proofs.KnownDirectories.{given_is_in}
 use Rattle.commit_laws.proofs.NumbersGiven.{kept_in}
-use Rattle.commit_laws.proofs.OwnInodes.{mapped_is_in, ascending_is_in, number_in_ascending, written_number}
+use Rattle.commit_laws.proofs.OwnInodes.{mapped_is_in, number_in_ascending}
 use Rattle.commit_laws.proofs.PartsMade.{read_inode, within, seen_old, inode_is, shows_node}
-use Rattle.commit_laws.proofs.PartsStand.{free_fits, plans_leave_parts}
 use Rattle.commit_laws.proofs.PartsTurned.{by_part, plans_turn_parts, plans_write_parts, plans_point_to_data}
 use Rattle.commit_laws.proofs.PlanShown.{IsBuiltNode, node_built}
 use Rattle.commit_laws.proofs.SeatsOfPlan.{there_is_in, in_mapped, among_is_in, seat_comes}
@@ -78,6 +67,7 @@ use Rattle.flush_laws.specs.Volume.{Volume, OneFsync, tree_held, tree_raised, pa
 use Rattle.flush_laws.specs.Journal.{WritesPlan, AreSpelled, parts_brought, HasJob, ShowsCommit, JobsShowCommits}
 use Rattle.flush_laws.specs.Planned.{IsPlannedFsync}
 use Rattle.flush_laws.proofs.Clean.{stored_new, over_parts, clean_plan}
+use Rattle.flush_laws.proofs.Written.{low_written}
 
 -- What a job's open slot gives: each listed part, where no inode is listed twice, and nothing else.
 module _ (job : Job) (slot : job.place.slot < slot_count job.place.layout) (new : List InodePart) (parts : ℕ → Part) (i : ℕ) where
@@ -185,22 +175,8 @@ module _ (volume : Volume) (fsync : OneFsync) (job : Job) (is : IsPlannedFsync (
   clean : IsCleanPlan volume.num fsync.nodes old new image fsync.plan fsync.grant layout volume.parts
   clean = clean_plan at_place fsync is
 
-  -- the inode of a record is one of the disk's
-  pub low_record : (one : TxRecord) → Contains records one → one.inode < layout.inodes
-  low_record one there =
-      elim (Contains-append_cases (filter_map written_of_built (nodes_with_grant change fsync.grant)) (filter_map written_of_gone change.gone) one
-      (ascending_is_in record_inode _ one there)) [
-        | inl in_built ↦
-            let b = given_by written_of_built (nodes_with_grant change fsync.grant) one in_built in
-            let node = node_built volume.num fsync.nodes old new image fsync.plan fsync.grant over.full b.0 b.1 in
-            subst (λ n. n < layout.inodes) (sym node.inode ∙ written_number (record_of_built b.0) one b.2)
-            (within volume.num fsync.nodes old new image fsync.plan fsync.grant volume.store volume.parts over b.0 b.1 node)
-        | inr in_gone ↦
-            let e = given_by written_of_gone change.gone one in_gone in
-            let there = (kept_in (leaves fsync.plan.leave) fsync.plan.old e.0 e.1).0 in
-            subst (λ n. n < layout.inodes) (written_number (record_of_gone e.0) one e.2)
-            (is.ready.stands.within e.0.node.0 e.0.old.number (is.keeps.each e.0 (is.plans.old.own e.0 there).0).0)
-      ]
+  low_record : (one : TxRecord) → Contains records one → one.inode < layout.inodes
+  low_record = low_written at_place fsync is
 
   records_are : (those : List TxRecord) → ((one : TxRecord) → Contains those one → Contains records one)
       → map entry_of_part (map (λ (one : TxRecord). record { inode = one.inode; part = next one.inode }) those) ≡ map record_entry those

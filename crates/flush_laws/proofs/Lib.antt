@@ -5,3 +5,4 @@ pub mod FileBlocks
 pub mod Journal
 pub mod Later
 pub mod Numbers
+pub mod Written

@@ -1,34 +1,30 @@
 -- A right map with grants out counts what the books have free.
-use Rattle.std.proofs.Common.{◌≡◌, ◌≢◌, ℕ, ◌+◌, ◌-◌, ◌<◌, ◌≤◌, ◌^◌, Bool, true, false, cond, not, ◌&&◌, List, [], ◌∷◌, length, take, filter, map, count_by, Option, Some, None, option_map, ◌⊎◌, inl, inr, refl, sym, ap, ◌∙◌, leb, arith, Contains}
 use Rattle.std.specs.Prelude.{◌↔◌, slice_get}
 use Rattle.std.specs.List.{range_with_len}
-use Rattle.std.proofs.lemmas.Bool.{cases_Bool, cases_lt, eqb-false}
+use Rattle.std.proofs.Common.{◌≡◌, ◌≢◌, ◌+◌, ◌-◌, ◌<◌, ◌≤◌, ◌^◌, ◌&&◌, ◌∷◌, ◌⊎◌, ◌∙◌, ℕ, Bool, true, false, cond, not, List, [], length, take, filter, map, count_by, Option, Some, None, option_map, inl, inr, refl, sym, ap, leb, arith, Contains}
+use Rattle.std.proofs.lemmas.Bool.{cases_Bool, cases_lt}
 use Rattle.std.proofs.lemmas.List.{take_all}
 use Rattle.std.proofs.lemmas.List.Sums.{sum_by-cons}
 use Rattle.std.proofs.lemmas.Option.{slice_get-map}
-use Rattle.sfs_base.proofs.BasicNumbers.{not_same, zero_plus}
-use Rattle.sfs_base.proofs.BasicOptions.{none_some, some_same}
-use Rattle.sfs_base.proofs.BasicTruth.{not_false}
 use Rattle.sfs_base.specs.Listed.{is_listed}
+use Rattle.sfs_base.proofs.BasicNumbers.{zero_plus}
+use Rattle.sfs_base.proofs.BasicOptions.{none_some, some_same}
+use Rattle.sfs_base.proofs.BasicTruth.{and_false}
 use Rattle.sfs_image.specs.Seen.{SeenInodes}
 use Rattle.sfs_image.specs.Super.{data_start}
-use Rattle.image_laws.specs.Image.{inodes_shown}
-use Rattle.image_laws.specs.Need.{rank}
 use Rattle.space_map.specs.Pool.{Pool, status_of, is_free, free_count, free_from, free_numbers}
 use Rattle.space_map.specs.Space.{Space}
 use Rattle.space_map.specs.declared.status.Status.{Status}
 use Rattle.space_map.specs.declared.status.Status.TheVariants.{Free, Taken, Granted}
+use Rattle.image_laws.specs.Image.{inodes_shown}
+use Rattle.image_laws.specs.Need.{rank}
 use Rattle.disk_change.specs.GivenUp.{IsLeftByGone, entry_number}
 use Rattle.disk_change.specs.Planned.{as_u32}
-use Rattle.commit_laws.proofs.OwnInodes.{mapped_is_in}
-use Rattle.commit_laws.proofs.SeatsOfPlan.{in_mapped}
 use Rattle.turn_laws.specs.Books.{free_in, least_open}
 use Rattle.turn_laws.specs.Need.{is_unused, is_held_in, free_inodes, free_blocks}
-use Rattle.turn_laws.proofs.ListedNeeds.{rank_agrees, held_are_found}
+use Rattle.turn_laws.proofs.ListedNeeds.{rank_agrees}
 use Rattle.space_laws.specs.Map.{IsRowOf}
-use Rattle.space_laws.proofs.Counted.{counts_free, inodes_tell}
-use Rattle.space_laws.proofs.Holders.{low_number, shown_at}
-use Rattle.space_laws.proofs.Served.{data_behind_super}
+use Rattle.space_laws.proofs.Counted.{counts_free, inodes_tell, blocks_tell}
 use Rattle.turn_ties.specs.Plans.{image_held}
 use Rattle.turn_ties.proofs.Least.{free_numbers_are, few_numbers}
 use Rattle.map_laws.specs.Laws.{MapsCountBooks}
@@ -127,11 +123,7 @@ module _ (first end : ℕ) (held : ℕ → Type 0) (pool : Pool) (numbers : List
 
         back : held_too number → left_by free numbers number ≡ false
         back (inl holds) = ap (λ b. b && not (is_listed numbers number)) ((tells number low high).1 holds)
-        back (inr listed) = ap (λ b. free number && not b) listed ∙ none (free number)
-          where
-            none : (b : Bool) → (b && false) ≡ false
-            none true = refl
-            none false = refl
+        back (inr listed) = ap (λ b. free number && not b) listed ∙ and_false (free number)
 
     -- so it counts the numbers that are not held, without those that are granted
     pub counts_left : free_count pool ≡ rank (λ n. free (first + n)) (end - first) - length numbers
@@ -155,61 +147,21 @@ module _ (beside : Beside) (space : Space) (is : IsMapWithOut beside space) wher
   some_inodes : 0 < beside.volume.layout.inodes
   some_inodes = let some = is.stands.between.sound.ranges.inodes_low in omega (arith, some)
 
-  -- the blocks of the data area that a place holds are those that memory keeps
-  blocks_told : (block : ℕ) → data_start beside.volume.layout ≤ block → (not (is_held_in image block) ≡ false) ↔ IsLeftByGone beside.entries block
-  blocks_told block lies = (found, back)
-    where
-      found : not (is_held_in image block) ≡ false → IsLeftByGone beside.entries block
-      found held =
-          let by = (held_are_found image block).0 (not_false (is_held_in image block) held) in
-          let entry = mapped_is_in entry_number beside.entries by.inode
-          ((inodes_tell beside.volume beside.entries is.stands.between is.keeps by.inode by.within).0 (not_same (image.seen by.inode).kind 0 by.used)) in
-          record {
-            entry = entry.0;
-            one = entry.1;
-            held = record {
-              some = λ none. let behind = data_behind_super beside.volume.layout in omega (arith, lies, behind, none);
-              place = by.place;
-              within = by.low;
-              stands =
-                  shown_at beside.volume beside.entries is.stands.between is.keeps entry.0 entry.1 by.place by.low
-                  ∙ ap (λ n. (image.seen n).blocks by.place) entry.2 ∙ by.has;
-            };
-          }
-
-      back : IsLeftByGone beside.entries block → not (is_held_in image block) ≡ false
-      back left =
-          let low = low_number beside.volume beside.entries is.stands.between is.keeps left.entry left.one in
-          ap not ((held_are_found image block).1 (record {
-            inode = left.entry.old.number;
-            place = left.held.place;
-            within = low;
-            low = left.held.within;
-            used = eqb-false (image.seen left.entry.old.number).kind 0
-                ((inodes_tell beside.volume beside.entries is.stands.between is.keeps left.entry.old.number low).1 (in_mapped entry_number beside.entries left.entry left.one));
-            has =
-                sym (shown_at beside.volume beside.entries is.stands.between is.keeps left.entry left.one left.held.place left.held.within)
-                ∙ left.held.stands;
-          }))
-
   inodes_left : free_count space.inodes ≡ (free_in (books_out beside)).inodes
   inodes_left =
       counts_left 0 beside.volume.layout.inodes (Contains (map entry_number beside.entries)) space.inodes (inodes_out beside.outs) is.right.inodes is.are_out.inodes
       (is_unused image) (λ i low high. inodes_tell beside.volume beside.entries is.stands.between is.keeps i high)
       ∙ (λ i. whole i - sym (inodes_reserved beside.outs) i)
     where
-      all : (n : ℕ) → n - 0 ≡ n
-      all n = omega arith
-
       whole : rank (λ n. is_unused image (0 + n)) (beside.volume.layout.inodes - 0) ≡ free_inodes (image_held beside.volume)
       whole =
           rank_agrees (λ n. is_unused image (0 + n)) (is_unused image) (beside.volume.layout.inodes - 0) (λ k low. ap (is_unused image) (zero_plus k))
-          ∙ ap (rank (is_unused image)) (all beside.volume.layout.inodes)
+          ∙ ap (rank (is_unused image)) (let all : beside.volume.layout.inodes - 0 ≡ beside.volume.layout.inodes = omega arith in all)
 
   blocks_left : free_count space.blocks ≡ (free_in (books_out beside)).blocks
   blocks_left =
       counts_left (data_start beside.volume.layout) beside.volume.layout.blocks (IsLeftByGone beside.entries) space.blocks (blocks_out beside.outs) is.right.blocks is.are_out.blocks
-      (λ block. not (is_held_in image block)) (λ block low high. blocks_told block low)
+      (λ block. not (is_held_in image block)) (λ block low high. blocks_tell beside.volume beside.entries is.stands.between is.keeps block low)
       ∙ ap (λ n. free_blocks (image_held beside.volume) - n) (sym (blocks_reserved beside.outs))
 
   pub few_inodes : length (free_numbers space.inodes) ≤ 16384

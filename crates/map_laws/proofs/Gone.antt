@@ -15,11 +15,11 @@ use Rattle.map_laws.specs.Out.{GrantOut, inodes_out, blocks_out, ListsGranted, A
 use Rattle.map_laws.proofs.Lists.{granted_listed, LeaveGranted, left_listed}
 
 -- what is out beside one more
-inodes_more : (outs : List GrantOut) (out : GrantOut) → inodes_out (outs ++ out ∷ []) ≡ inodes_out outs ++ out.numbers.inodes
+pub inodes_more : (outs : List GrantOut) (out : GrantOut) → inodes_out (outs ++ out ∷ []) ≡ inodes_out outs ++ out.numbers.inodes
 inodes_more outs out =
     flat_map-append (λ (one : GrantOut). one.numbers.inodes) outs (out ∷ []) ∙ ap (λ rest. inodes_out outs ++ rest) (append-nil out.numbers.inodes)
 
-blocks_more : (outs : List GrantOut) (out : GrantOut) → blocks_out (outs ++ out ∷ []) ≡ blocks_out outs ++ out.numbers.blocks
+pub blocks_more : (outs : List GrantOut) (out : GrantOut) → blocks_out (outs ++ out ∷ []) ≡ blocks_out outs ++ out.numbers.blocks
 blocks_more outs out =
     flat_map-append (λ (one : GrantOut). one.numbers.blocks) outs (out ∷ []) ∙ ap (λ rest. blocks_out outs ++ rest) (append-nil out.numbers.blocks)
 

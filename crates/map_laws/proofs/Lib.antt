@@ -5,3 +5,7 @@ pub mod Lists
 pub mod Gone
 pub mod Lacked
 pub mod GoOn
+pub mod Stamps
+pub mod Along
+pub mod Places
+pub mod Placed

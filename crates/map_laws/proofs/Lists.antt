@@ -1,15 +1,17 @@
 -- Numbers that stand once in lists that are joined, and lists of granted numbers.
-use Rattle.std.proofs.Common.{◌≡◌, ◌≢◌, ℕ, suc, ◌+◌, ◌<◌, ◌≤◌, Bool, true, false, cond, ◌||◌, List, [], ◌∷◌, ◌++◌, nat_eq, Some, option_map, refl, sym, ap, subst, ◌∙◌, arith, slice_index}
 use Rattle.std.specs.Prelude.{◌↔◌}
 use Rattle.std.specs.List.Sorted.{IsStrictlyIncreasing}
+use Rattle.std.proofs.Common.{◌≡◌, ◌≢◌, ◌<◌, ◌≤◌, ◌||◌, ◌∷◌, ◌++◌, ◌∙◌, ℕ, Bool, true, false, cond, List, [], nat_eq, Some, option_map, refl, sym, ap, arith}
 use Rattle.std.proofs.lemmas.Bool.{eqb-true}
 use Rattle.std.proofs.lemmas.List.Folds.{list_any-append}
-use Rattle.sfs_base.proofs.BasicNumbers.{same_number}
 use Rattle.sfs_base.specs.Listed.{is_listed}
+use Rattle.sfs_base.proofs.BasicNumbers.{same_number}
+use Rattle.sfs_base.proofs.BasicTruth.{or_true, or_first, or_second, or_false}
 use Rattle.space_map.specs.Pool.{Pool, status_of, Grants}
 use Rattle.space_map.specs.declared.status.Status.TheVariants.{Free, Granted}
 use Rattle.space_map.proofs.Others.{free_now}
 use Rattle.turn_laws.specs.LawsNeed.{AreOnce}
+use Rattle.turn_laws.proofs.Left.{tail_rises}
 use Rattle.map_laws.specs.Out.{ListsGranted}
 
 pub listed_joined : (a b : List ℕ) (n : ℕ) → is_listed (a ++ b) n ≡ (is_listed a n || is_listed b n)
@@ -19,16 +21,7 @@ listed_first : (a b : List ℕ) (n : ℕ) → is_listed a n ≡ true → is_list
 listed_first a b n t = listed_joined a b n ∙ ap (λ c. c || is_listed b n) t
 
 listed_second : (a b : List ℕ) (n : ℕ) → is_listed b n ≡ true → is_listed (a ++ b) n ≡ true
-listed_second a b n t = listed_joined a b n ∙ ap (λ c. is_listed a n || c) t ∙ by (is_listed a n)
-  where
-    by : (c : Bool) → (c || true) ≡ true
-    by true = refl
-    by false = refl
-
--- neither of two is so
-both_false : (a b : Bool) → (a || b) ≡ false → (a ≡ false) × (b ≡ false)
-both_false true b e = absurd (let never : true ≡ false = e in cc)
-both_false false b e = (refl, e)
+listed_second a b n t = listed_joined a b n ∙ ap (λ c. is_listed a n || c) t ∙ or_true (is_listed a n)
 
 -- lists with no number in common
 abbrev pub AreApart : List ℕ → List ℕ → Type 0
@@ -56,20 +49,19 @@ record SplitOnce (a b : List ℕ) : Type 0 where
 once_split : (a b : List ℕ) → AreOnce (a ++ b) → SplitOnce a b
 once_split [] b once = record { first = tt; second = once; apart = λ n t. absurd (let never : false ≡ true = t in cc) }
 once_split (number ∷ a) b once =
-    let own = both_false (is_listed a number) (is_listed b number) (sym (listed_joined a b number) ∙ once.0) in
+    let none = sym (listed_joined a b number) ∙ once.0 in
     let rest = once_split a b once.1 in
-    record { first = (own.0, rest.first); second = rest.second; apart = λ n t. by n own.1 rest (nat_eq number n) refl t }
+    record {
+      first = (or_first (is_listed a number) (is_listed b number) none, rest.first);
+      second = rest.second;
+      apart = λ n t. by n (or_second (is_listed a number) (is_listed b number) none) rest (nat_eq number n) refl t;
+    }
   where
     by : (n : ℕ) → is_listed b number ≡ false → SplitOnce a b → (c : Bool) → nat_eq number n ≡ c → (c || is_listed a n) ≡ true → is_listed b n ≡ false
     by n own rest true same t = ap (is_listed b) (sym (eqb-true number n same)) ∙ own
     by n own rest false same t = rest.apart n t
 
 -- numbers that ascend stand once
-tail_rises : (x : ℕ) (xs : List ℕ) → IsStrictlyIncreasing (x ∷ xs) → IsStrictlyIncreasing xs
-tail_rises x xs up k low =
-    let next : suc k + 1 ≡ suc (k + 1) = omega arith in
-    subst (λ (n : ℕ). slice_index xs k < slice_index (x ∷ xs) n) next (up (suc k) (omega (arith, low)))
-
 not_below : (x n : ℕ) (xs : List ℕ) → IsStrictlyIncreasing (x ∷ xs) → n ≤ x → is_listed xs n ≡ false
 not_below x n [] up low = refl
 not_below x n (y ∷ ys) up low =
@@ -108,11 +100,10 @@ granted_listed old new count numbers before grants lists = record {
 
     back : (n : ℕ) (c : Bool) → is_listed numbers n ≡ c → is_listed (before ++ numbers) n ≡ true → status_of new n ≡ Some Granted
     back n true listed has = now n true listed ∙ ap (option_map (λ _. Granted)) (free_now old count numbers new n grants listed)
-    back n false listed has = now n false listed ∙ (lists.each n).1 (sym (listed_joined before numbers n ∙ ap (λ b. is_listed before n || b) listed ∙ none (is_listed before n)) ∙ has)
-      where
-        none : (b : Bool) → (b || false) ≡ b
-        none true = refl
-        none false = refl
+    back n false listed has =
+        now n false listed
+        ∙ (lists.each n).1
+        (sym (listed_joined before numbers n ∙ ap (λ b. is_listed before n || b) listed ∙ or_false (is_listed before n)) ∙ has)
 
 -- Numbers of a row are granted no more, and of all others as many are granted as were.
 pub record LeaveGranted (old new : Pool) (numbers : List ℕ) : Type 0 where
@@ -134,7 +125,9 @@ left_listed old new front numbers back leave lists = record {
     inner = once_split numbers back outer.second
 
     both : (n : ℕ) → is_listed front n ≡ true → (is_listed numbers n ≡ false) × (is_listed back n ≡ false)
-    both n t = both_false (is_listed numbers n) (is_listed back n) (sym (listed_joined numbers back n) ∙ outer.apart n t)
+    both n t =
+        let none = sym (listed_joined numbers back n) ∙ outer.apart n t in
+        (or_first (is_listed numbers n) (is_listed back n) none, or_second (is_listed numbers n) (is_listed back n) none)
 
     found : (n : ℕ) (c : Bool) → is_listed numbers n ≡ c → status_of new n ≡ Some Granted → is_listed (front ++ back) n ≡ true
     found n true listed has = absurd (leave.gone n listed has)

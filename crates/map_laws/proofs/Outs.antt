@@ -1,14 +1,14 @@
 -- Numbers that are listed, and those that are left.
-use Rattle.std.proofs.Common.{◌≡◌, ◌≢◌, ℕ, zero, suc, ◌+◌, ◌-◌, ◌<◌, ◌≤◌, Bool, true, false, cond, not, ◌&&◌, ◌||◌, List, [], ◌∷◌, length, map, nat_eq, inl, inr, refl, sym, ap, ◌∙◌, arith}
 use Rattle.std.specs.Prelude.{sum_by}
 use Rattle.std.specs.List.{list_any}
+use Rattle.std.proofs.Common.{◌≡◌, ◌≢◌, ◌+◌, ◌-◌, ◌<◌, ◌≤◌, ◌&&◌, ◌||◌, ◌∷◌, ◌∙◌, ℕ, zero, suc, Bool, true, false, cond, not, List, [], length, map, nat_eq, inl, inr, refl, sym, ap, arith}
 use Rattle.std.proofs.lemmas.Bool.{cases_lt}
 use Rattle.std.proofs.lemmas.List.Concat.{length-flat_map}
 use Rattle.std.proofs.lemmas.List.Folds.{list_any-append}
 use Rattle.std.proofs.lemmas.List.Sums.{sum_by-cons}
-use Rattle.sfs_base.proofs.BasicNumbers.{not_same, same_number}
-use Rattle.sfs_base.proofs.BasicTruth.{and_true}
 use Rattle.sfs_base.specs.Listed.{is_listed}
+use Rattle.sfs_base.proofs.BasicNumbers.{not_same, same_number}
+use Rattle.sfs_base.proofs.BasicTruth.{and_true, or_true}
 use Rattle.image_laws.specs.Need.{rank}
 use Rattle.image_laws.proofs.Ranks.{rank_more}
 use Rattle.turn_laws.specs.Books.{Grant, reserved}
@@ -61,11 +61,7 @@ rank_left test first n (number ∷ numbers) once each =
     high = own.1
 
     later : (other : ℕ) → is_listed numbers other ≡ true → (nat_eq number other || is_listed numbers other) ≡ true
-    later other t = by (nat_eq number other) (is_listed numbers other) t
-      where
-        by : (b c : Bool) → c ≡ true → (b || c) ≡ true
-        by true c e = refl
-        by false c e = e
+    later other t = ap (λ b. nat_eq number other || b) t ∙ or_true (nat_eq number other)
 
     here : first + (number - first) ≡ number
     here = omega (arith, low)

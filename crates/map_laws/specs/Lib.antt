@@ -1,3 +1,4 @@
 pub mod Out
 pub mod Laws
 pub mod Ending
+pub mod Along

@@ -1,4 +1,5 @@
 //! What is proved of maps from which grants are out: each function's contract is a law.
+ghost use Rattle.map_laws.specs.Along.{MapsGoAlong, PlacesLack, PlacesReserve};
 ghost use Rattle.map_laws.specs.Ending.{MapsGoOn};
 ghost use Rattle.map_laws.specs.Laws.{MapsCountBooks, MapsReserve, MapsLack, GrantsGoOut, GrantsComeBack, GrantsEnd};
 
@@ -35,4 +36,19 @@ pub fn grants_end()
 /// As an fsync ends, the map stays right beside what it leaves, and all other grants are out.
 pub fn maps_go_on()
     ensures { MapsGoOn }
+{}
+
+/// At each place of a record where none has failed the map is right, with the grants out that the books have.
+pub fn maps_go_along()
+    ensures { MapsGoAlong }
+{}
+
+/// So a turn may reserve there whose grant is taken from the map.
+pub fn places_reserve()
+    ensures { PlacesReserve }
+{}
+
+/// And a turn lacks room there that tells a shortage of the map.
+pub fn places_lack()
+    ensures { PlacesLack }
 {}

@@ -1,15 +1,16 @@
 -- What an fsync needs of what was gathered: it tells what the fsync makes, though entries that come late may be missing.
-use Rattle.std.proofs.Common.{◌≡◌, ℕ, Bool, true, List, map, refl, sym, subst, arith}
 use Rattle.std.specs.Prelude.{◌↔◌}
+use Rattle.std.proofs.Common.{◌≡◌, ◌∙◌, ℕ, Bool, true, List, map, refl, sym, subst, arith, cond, false, inl, inr, ap, max}
 use Rattle.sfs_base.specs.declared.numbers.NodeId.{NodeId}
 use Rattle.sfs_base.specs.declared.numbers.Stamp.{Stamp}
 use Rattle.sfs_base.specs.Listed.{is_listed}
+use Rattle.sfs_base.proofs.BasicTruth.{true_or_false, not_both}
 use Rattle.tree_laws.specs.declared.history.Entry.{Entry}
 use Rattle.tree_laws.specs.History.{IsLegal}
 use Rattle.tree_laws.specs.Laws.{IsSoundTree}
 use Rattle.tree_laws.specs.NameRow.{node_number}
 use Rattle.tree_laws.specs.Tree.{TreeState}
-use Rattle.cut_laws.specs.Closure.{every_entry, IsNamedIn, IsRaised}
+use Rattle.cut_laws.specs.Closure.{every_entry, IsNamedIn, IsRaised, AreInodesAfter}
 use Rattle.cut_laws.specs.Cut.{Cut, cut_of}
 use Rattle.cut_laws.specs.Laws.{KeepsAll}
 use Rattle.cut_laws.specs.Runs.{view_by}
@@ -20,13 +21,15 @@ use Rattle.look_laws.specs.Fit.{KnowsEnough, FindsRight}
 use Rattle.look_laws.specs.Laws.{FitsHistory, MakesCommit}
 use Rattle.look_laws.specs.Look.{Look, Gathers, Touches}
 use Rattle.look_laws.specs.Made.{Lifts, Found, AreMoved}
+use Rattle.look_laws.specs.Beside.{Observation, IsOfTheWhole, AreInodesBehind}
 use Rattle.look_laws.proofs.Fitting.{looks_fit, late_entries_may_be_missing}
 use Rattle.look_laws.proofs.Making.{looks_are_made}
+use Rattle.look_laws.proofs.Knowing.{looks_know}
 use Rattle.dep_closure.specs.declared.gathered.Gathered.{Gathered}
 use Rattle.dep_closure.specs.Gathered.{look_of, cut_in, span_in, IsOrderly}
 use Rattle.dep_closure.specs.History.{HasUnflushed}
 use Rattle.dep_closure.proofs.Enough.{unflushed_is_enough}
-use Rattle.plan_laws.specs.Plans.{planned_flush, HasEarly, GathersEnough, whole, early}
+use Rattle.plan_laws.specs.Plans.{planned_flush, HasEarly, GathersEnough, whole, early, HasBeside, beside}
 use Rattle.plan_laws.proofs.GatheredSpans.{logged_span, spans_are_logged}
 
 -- What was gathered tells what the fsync makes: of each touched node its stamp and whether it has an inode, which nodes are members and which
@@ -106,6 +109,98 @@ module _ (first : TreeState) (history : List Entry) (cut : Cut) (inodes : ℕ �
       makes = made;
     }
 
+  -- and where the look knows enough while other commits go on
+  module _ (kept : KeepsAll first history cut inodes) (has : HasBeside first history cut inodes start below gathered) where
+    abbrev seen : Observation
+    seen = record { first = first; history = history; counts = has.counts; late = has.late; look = look }
+
+    is_whole : IsOfTheWhole seen cut inodes
+    is_whole = looks_know seen cut inodes sound legal (λ node touches named. kept.named node named) has.knows
+
+    module _ (raised : Cut) (lifted : ℕ → ℕ) (found : Found) (gets loses : ℕ → Bool)
+        (raise : IsRaised first history every_entry cut inodes look.flush raised) (lifts : Lifts look lifted)
+        (right : FindsRight first history every_entry raised look found) (moved : AreMoved look lifted found gets loses) where
+      -- which nodes have an inode behind it
+      abbrev then : ℕ → Bool
+      then node = cond (gets node) true (cond (loses node) false (inodes node))
+
+      by_moves : (node : ℕ) (g l : Bool) → gets node ≡ g → loses node ≡ l → then node ≡ cond g true (cond l false (inodes node))
+      by_moves node g l get lose = λ i. cond (get i) true (cond (lose i) false (inodes node))
+
+      loses_alone : (node : ℕ) → loses node ≡ true → gets node ≡ false
+      loses_alone node lose = elim (true_or_false (gets node)) [
+        | inl get ↦ absurd (not_both (((moved.leaves node).0 lose).0) (((moved.enters node).0 get).0))
+        | inr none ↦ none
+      ]
+
+      behind : AreInodesBehind inodes (record { lifted = lifted; found = found; gets = gets; loses = loses }) then
+      behind = record {
+        got = λ node get. ap (λ (b : Bool). cond b true (cond (loses node) false (inodes node))) get;
+        lost = λ node lose. by_moves node false true (loses_alone node lose) lose;
+        same = λ node get lose. by_moves node false false get lose;
+      }
+
+      inodes_then : AreInodesAfter first history every_entry cut inodes look.flush raised then
+      inodes_then =
+          is_whole.moves raised (record { lifted = lifted; found = found; gets = gets; loses = loses }) then raise
+          (record { lifts = lifts; moved = moved }) right behind
+
+      -- a node that has none enters where it then has one, and one that has one leaves where it then has none
+      gets_then : (node : ℕ) → inodes node ≡ false → then node ≡ true → gets node ≡ true
+      gets_then node none has = elim (true_or_false (gets node)) [
+        | inl get ↦ get
+        | inr stays ↦ elim (true_or_false (loses node)) [
+          | inl lose ↦ absurd (not_both has (by_moves node false true stays lose))
+          | inr keeps ↦ absurd (not_both has (by_moves node false false stays keeps ∙ none))
+        ]
+      ]
+
+      loses_then : (node : ℕ) → inodes node ≡ true → then node ≡ false → loses node ≡ true
+      loses_then node some gone = elim (true_or_false (loses node)) [
+        | inl lose ↦ lose
+        | inr keeps ↦ elim (true_or_false (gets node)) [
+          | inl get ↦ absurd (not_both (behind.got node get) gone)
+          | inr stays ↦ absurd (not_both (by_moves node false false stays keeps ∙ some) gone)
+        ]
+      ]
+
+      stamps_then : (node : ℕ) → Touches look node → lifted node ≡ cut_of raised node
+      stamps_then node touches = elim (lifts.others node) [
+        | inl own ↦
+            lifts.members node own ∙ ap (λ (n : ℕ). max n look.flush.stamp) (has.knows.enough.cuts node touches)
+            ∙ sym (raise.member node ((is_whole.fits.members node).0 own))
+        | inr same ↦ elim (raise.other node) [
+          | inl own ↦
+              lifts.members node ((is_whole.fits.members node).1 own)
+              ∙ ap (λ (n : ℕ). max n look.flush.stamp) (has.knows.enough.cuts node touches) ∙ sym (raise.member node own)
+          | inr stays ↦ same ∙ has.knows.enough.cuts node touches ∙ sym stays
+        ]
+      ]
+
+      made_beside : MakesCommit first history every_entry inodes look raised lifted gets loses
+      made_beside = record {
+        stamps = stamps_then;
+        enters = λ node touches none. (
+          (λ get. ((inodes_then.enters node none).0 (behind.got node get)).1),
+          (λ reached. gets_then node none ((inodes_then.enters node none).1 ((is_whole.fits.concerned node).0 touches, reached))),
+        );
+        leaves = λ node touches some. (
+          (λ lose. ((inodes_then.leaves node some).0 (behind.lost node lose)).1),
+          (λ dead. loses_then node some ((inodes_then.leaves node some).1 ((is_whole.fits.concerned node).0 touches, dead))),
+        );
+      }
+
+    sees_beside : SeesCommit first history cut inodes start below gathered
+    sees_beside = record {
+      cuts = has.knows.enough.cuts;
+      same_inodes = has.knows.enough.same_inodes;
+      fits = is_whole.fits;
+      spans =
+          spans_are_logged first history has.counts cut inodes gathered start below sound legal orderly has.logs has.knows.enough
+          (λ stamp low. has.knows.early stamp (let most = has.knows.stamp in omega (arith, low, most)));
+      makes = made_beside;
+    }
+
 pub sees_enough : (first : TreeState) (history : List Entry) (cut : Cut) (inodes : ℕ → Bool) (start : NodeId) (below : Stamp) (gathered : Gathered)
     → IsSoundTree first → IsLegal first history → IsOrderly gathered
     → KeepsAll first history cut inodes → GathersEnough first history cut inodes start below gathered → SeesCommit first history cut inodes start below gathered
@@ -113,3 +208,5 @@ sees_enough first history cut inodes start below gathered sound legal orderly ke
     sees_whole first history cut inodes start below gathered sound legal orderly has
 sees_enough first history cut inodes start below gathered sound legal orderly kept (early has) =
     sees_early first history cut inodes start below gathered sound legal orderly kept has
+sees_enough first history cut inodes start below gathered sound legal orderly kept (beside has) =
+    sees_beside first history cut inodes start below gathered sound legal orderly kept has

@@ -1,22 +1,23 @@
 -- What an fsync was planned from.
-use Rattle.std.specs.Prelude.{◌≡◌, ℕ, ◌<◌, ◌≤◌, Bool, true, false, List, map, Option, Some, None}
+use Rattle.std.specs.Prelude.{◌≡◌, ◌<◌, ◌≤◌, ℕ, Bool, true, false, List, map, Option, Some, None}
 use Rattle.sfs_base.specs.declared.numbers.NodeId.{NodeId}
 use Rattle.sfs_base.specs.declared.numbers.Stamp.{Stamp}
+use Rattle.mem_files.specs.File.{File}
 use Rattle.tree_laws.specs.declared.history.Entry.{Entry}
 use Rattle.tree_laws.specs.History.{tree_after}
 use Rattle.tree_laws.specs.NameRow.{node_number}
 use Rattle.tree_laws.specs.Tree.{TreeState, is_directory}
-use Rattle.mem_files.specs.File.{File}
+use Rattle.disk_nodes.specs.declared.old.OldEntry.{OldEntry}
+use Rattle.disk_change.specs.declared.files.FileChange.{FileChange}
 use Rattle.cut_laws.specs.Closure.{Counts, every_entry, Flush, HasLiveNode}
 use Rattle.cut_laws.specs.Cut.{Cut, cut_of}
 use Rattle.cut_laws.specs.Rules.{IsOneOf}
 use Rattle.look_laws.specs.Fit.{KnowsEnough}
+use Rattle.look_laws.specs.Beside.{Knows}
 use Rattle.dep_closure.specs.declared.gathered.DirectoryChanges.{DirectoryChanges}
 use Rattle.dep_closure.specs.declared.gathered.Gathered.{Gathered}
 use Rattle.dep_closure.specs.Gathered.{look_of, IsOrderly}
 use Rattle.dep_closure.specs.History.{IsLogOf, HasUnflushed}
-use Rattle.disk_nodes.specs.declared.old.OldEntry.{OldEntry}
-use Rattle.disk_change.specs.declared.files.FileChange.{FileChange}
 use Rattle.flush_laws.specs.Planned.{HasOldEntries}
 use Rattle.flush_laws.specs.Volume.{Volume}
 use Rattle.flush_laws.specs.Ready.{IsBetweenCommits, KeepsEntries}
@@ -58,12 +59,22 @@ pub record HasEarly (first : TreeState) (history : List Entry) (cut : Cut) (inod
   pub knows : KnowsEnough first history counts cut inodes (look_of start below gathered)
   pub live : HasLiveNode first history (planned_flush start below)
 
+-- What was gathered is enough while other commits go on: each log has what the history logs at stamps that count, and the look knows enough of what
+-- counts, whatever cuts the nodes have that it does not touch.
+pub record HasBeside (first : TreeState) (history : List Entry) (cut : Cut) (inodes : ℕ → Bool) (start : NodeId) (below : Stamp)
+    (gathered : Gathered) : Type 0 where
+  pub late : ℕ
+  pub counts : Counts
+  pub logs : (log : DirectoryChanges) → IsOneOf gathered.logs.items log → IsLogOf first history counts log
+  pub knows : Knows (record { first = first; history = history; counts = counts; late = late; look = look_of start below gathered }) cut inodes
+
 -- What was gathered is enough for an fsync: all of the history that is not flushed; or enough of the entries below a stamp, though later ones
--- may be missing, and so may nodes that the fsync does not concern.
+-- may be missing, and so may nodes that the fsync does not concern; or enough while other commits go on.
 pub data GathersEnough (first : TreeState) (history : List Entry) (cut : Cut) (inodes : ℕ → Bool) (start : NodeId) (below : Stamp)
     (gathered : Gathered) : Type 0 where
   whole : HasUnflushed first history every_entry cut inodes gathered → GathersEnough first history cut inodes start below gathered
   early : HasEarly first history cut inodes start below gathered → GathersEnough first history cut inodes start below gathered
+  beside : HasBeside first history cut inodes start below gathered → GathersEnough first history cut inodes start below gathered
 
 -- What an fsync is planned from, with its plan: what memory keeps of the disk, the node and the stamp, what was gathered, the nodes that it
 -- concerns and what the disk has of them, whether the node is a file, and the change of its bytes.

@@ -17,6 +17,7 @@ use Rattle.journal_one.specs.Known.{Reads, IsWrittenIn}
 use Rattle.journal_one.proofs.Apart.{apart_from_gate, fills_apart, AreApart-swap, table_from_fill}
 use Rattle.journal_one.proofs.Kept.{Touches, written_stands}
 use Rattle.journal_one.proofs.Places.{LiesInSlot, body_lies, body_is, in_data, fresh_is}
+use Rattle.commit_one.proofs.Images.{agrees}
 use Rattle.merge_laws.proofs.Blocks.{same_or_not}
 use Rattle.slot_laws.specs.Slots.{without_number, with_number, SlotWork, knowing, known_filled, Slots, shut_gate, KnownGate, may_be_open, place_at, changed_slot}
 use Rattle.slot_laws.specs.Rules.{HasWork}
@@ -30,7 +31,7 @@ use Rattle.slot_image_laws.proofs.Anew.{StillFits, gate_in, none_either}
 use Rattle.slot_image_laws.proofs.Given.{given_so}
 use Rattle.slot_image_laws.proofs.Shown.{gates_open}
 use Rattle.slot_image_laws.proofs.Regions.{DataPiece, low_slot, fill_lies, slot_within, data_within}
-use Rattle.slot_image_laws.proofs.Written.{IsElsewhere, plain_run, slot_elsewhere, data_elsewhere, opened_elsewhere, agrees}
+use Rattle.slot_image_laws.proofs.Written.{IsElsewhere, plain_run, slot_elsewhere, data_elsewhere, opened_elsewhere}
 
 pub mark_kept : (marks : ℕ → Bool) (n m : ℕ) → m ≢ n → marks m ≡ true → without_number marks n m ≡ true
 mark_kept marks n m away marked = ap (λ (b : Bool). not b && marks m) (not_same m n away) ∙ marked

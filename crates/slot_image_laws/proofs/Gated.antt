@@ -13,6 +13,7 @@ use Rattle.journal_one.specs.Job.{gate_piece, fill_piece, table_piece, Place, Pi
 use Rattle.journal_one.specs.Known.{Reads}
 use Rattle.journal_one.proofs.Apart.{AreApart-swap, apart_from_gate, table_from_gate}
 use Rattle.journal_one.proofs.Kept.{Touches, gate_stays}
+use Rattle.commit_one.proofs.Images.{agrees}
 use Rattle.merge_laws.proofs.Blocks.{same_or_not}
 use Rattle.slot_laws.specs.Slots.{SlotWork, KnownGate, knowing, known_gated, any_gate, Slots, changed_slot, place_at}
 use Rattle.slot_laws.proofs.Basics.{at_other}
@@ -20,7 +21,7 @@ use Rattle.slot_image_laws.specs.Commits.{WorkFits, opened_in, may_have, work_tr
 use Rattle.slot_image_laws.specs.Images.{HasGate, KnowsWork}
 use Rattle.slot_image_laws.proofs.Aside.{IsAside, knows_aside}
 use Rattle.slot_image_laws.proofs.Regions.{slot_within, gate_lies}
-use Rattle.slot_image_laws.proofs.Written.{IsElsewhere, agrees}
+use Rattle.slot_image_laws.proofs.Written.{IsElsewhere}
 use Rattle.slot_image_laws.proofs.Anew.{gate_in}
 use Rattle.slot_image_laws.proofs.Changed.{opened_still_at}
 use Rattle.slot_image_laws.proofs.Given.{stamped_is}

@@ -13,10 +13,10 @@ use Rattle.sfs_dev.specs.Disk.{View, images}
 use Rattle.sfs_dev.specs.Ranges.{SameOutside}
 use Rattle.journal_one.specs.Job.{no_entry, table_piece, Piece}
 use Rattle.journal_one.specs.Known.{Reads, IsWrittenIn}
-use Rattle.journal_one.proofs.Apart.{tables_apart as apart_tables}
-use Rattle.journal_one.proofs.Apart.{table_from_gate, table_from_fill}
+use Rattle.journal_one.proofs.Apart.{tables_apart as apart_tables, table_from_gate, table_from_fill}
 use Rattle.journal_one.proofs.Kept.{Touches, written_stands}
 use Rattle.commit_one.specs.Change.{entry_of_part}
+use Rattle.commit_one.proofs.Images.{agrees}
 use Rattle.slot_laws.specs.Slots.{SlotWork, knowing, known_placed, Slots, open_gate, may_be_open, changed_slot}
 use Rattle.slot_laws.specs.Rules.{inode_of_nth, HasWork, IsOldestOf}
 use Rattle.slot_laws.specs.Rings.{is_started}
@@ -30,7 +30,7 @@ use Rattle.slot_image_laws.proofs.Changed.{less_marked}
 use Rattle.slot_image_laws.proofs.Filled.{read_after, marked_after, mark_kept}
 use Rattle.slot_image_laws.proofs.Aside.{IsAside, knows_aside, touches_by}
 use Rattle.slot_image_laws.proofs.Regions.{TablePiece, table_lies, low_slot, table_within}
-use Rattle.slot_image_laws.proofs.Written.{IsElsewhere, table_elsewhere, plain_run, opened_elsewhere, agrees}
+use Rattle.slot_image_laws.proofs.Written.{IsElsewhere, table_elsewhere, plain_run, opened_elsewhere}
 use Rattle.slot_image_laws.proofs.Given.{none_given}
 
 -- no part, where there is none

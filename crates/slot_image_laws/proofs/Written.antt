@@ -1,7 +1,5 @@
 -- A piece is written, and the gate of its slot may be open as before.
-use Rattle.sfs_image.specs.ImageWrites.{AgreesOutside}
-use Rattle.merge_laws.proofs.Blocks.{same_or_not}
-use Rattle.std.proofs.Common.{◌<◌, ◌≢◌, ◌≡◌, ◌+◌, ◌≤◌, ◌*◌, ℕ, Some, List, subst, arith, sym, inr, inl, length, true, false, Option, ◌∙◌, ap}
+use Rattle.std.proofs.Common.{◌<◌, ◌≢◌, ◌≡◌, ◌+◌, ◌≤◌, ◌*◌, ◌∙◌, ℕ, Some, List, subst, arith, sym, inr, inl, length, true, false, Option, ap}
 use Rattle.sfs_base.proofs.BasicTruth.{true_or_false, not_both}
 use Rattle.sfs_image.specs.Super.{Layout, slot_blocks}
 use Rattle.sfs_image.specs.Settled.{slot_count, slot_byte}
@@ -13,6 +11,7 @@ use Rattle.journal_one.specs.Job.{Piece, gate_piece, Place, fill_piece, table_pi
 use Rattle.journal_one.proofs.Apart.{AreApart-swap, AreApart}
 use Rattle.journal_one.proofs.Kept.{Touches, gate_stays}
 use Rattle.tree_laws.specs.declared.turns.Turn.{Turn}
+use Rattle.merge_laws.proofs.Blocks.{same_or_not}
 use Rattle.slot_laws.specs.Slots.{Slots, place_at, SlotWork, SlotKnown, changed_slot, knowing, may_be_open}
 use Rattle.slot_laws.specs.Rules.{inode_of_nth}
 use Rattle.slot_laws.specs.Rings.{RingsFit}
@@ -26,10 +25,6 @@ use Rattle.slot_image_laws.proofs.Anew.{StillFits, opened_same, gate_in, within}
 use Rattle.slot_image_laws.proofs.Trails.{trail_goes}
 use Rattle.slot_image_laws.proofs.Shown.{shown}
 use Rattle.slot_image_laws.proofs.Changed.{changed_matches, changed_works, changed_knows, changed_may, opened_still}
-
--- the same of two lists of bytes, in the words of images
-pub agrees : (at n : ℕ) (old new : List ℕ) → SameOutside at n old new → AgreesOutside at n old new
-agrees at n old new same = record { before = same.before; behind = same.after; size = same.size }
 
 -- A piece lies apart from what is known of the other slots.
 pub record IsElsewhere (layout : Layout) (slots : Slots) (k : ℕ) (piece : Piece) : Type 0 where

@@ -145,7 +145,7 @@ module _ (volume : Volume) (entries : List OldEntry) (ready : IsBetweenCommits v
           let entry = mapped_is_in entry_number entries i in_numbers in
           not_same (image.seen i).kind 0 (λ none. in_use entry.0 entry.1 (ap (λ n. (image.seen n).kind) entry.2 ∙ none))
 
-  blocks_tell : (block : ℕ) → data_start volume.layout ≤ block → (not (is_held_in image block) ≡ false) ↔ IsLeftByGone entries block
+  pub blocks_tell : (block : ℕ) → data_start volume.layout ≤ block → (not (is_held_in image block) ≡ false) ↔ IsLeftByGone entries block
   blocks_tell block lies = (found, back)
     where
       found : not (is_held_in image block) ≡ false → IsLeftByGone entries block

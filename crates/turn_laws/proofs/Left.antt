@@ -20,7 +20,7 @@ use Rattle.turn_laws.specs.Need.{ImageState, Made, rewrite_needed, seen_under, e
 use Rattle.turn_laws.proofs.ListedNeeds.{none_counted}
 
 -- the rest of a list that rises does, and has none up to its first
-tail_rises : (x : ℕ) (xs : List ℕ) → IsStrictlyIncreasing (x ∷ xs) → IsStrictlyIncreasing xs
+pub tail_rises : (x : ℕ) (xs : List ℕ) → IsStrictlyIncreasing (x ∷ xs) → IsStrictlyIncreasing xs
 tail_rises x xs rises k lt =
     let next : suc k + 1 ≡ suc (k + 1) = omega arith in
     subst (λ (n : ℕ). slice_index xs k < slice_index (x ∷ xs) n) next (rises (suc k) (omega arith))

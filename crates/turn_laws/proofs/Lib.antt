@@ -13,5 +13,5 @@ pub mod WholeFsyncs
 pub mod Failed
 pub mod ListedNeeds
 pub mod Behind
-mod Left
+pub mod Left
 pub mod Least

@@ -46,12 +46,12 @@ use Rattle.turn_ties.proofs.Needs.{inodes_needed, needs_are_the_books}
 use Rattle.turn_ties.proofs.Planned.{ready, from}
 use Rattle.turn_ties.proofs.Seats.{once_listed}
 
-at_most_one : (b : Bool) → cond b 1 0 ≤ 1
+pub at_most_one : (b : Bool) → cond b 1 0 ≤ 1
 at_most_one true = omega arith
 at_most_one false = omega arith
 
 -- no more numbers are counted than there are
-rank_low : (test : ℕ → Bool) (n : ℕ) → rank test n ≤ n
+pub rank_low : (test : ℕ → Bool) (n : ℕ) → rank test n ≤ n
 rank_low test zero = let none = none_counted test in omega (arith, none)
 rank_low test (suc n) = let rest = rank_low test n in let more = rank_more test n in let one = at_most_one (test n) in omega (arith, rest, more, one)
 
@@ -146,11 +146,11 @@ module _ (need free : Amount) (few_inodes : free.inodes < 2 ^ 32 - 1) (few_block
   ]
 
   -- what a fault says of a shortage
-  abbrev Says : SpaceFault → Type 0
+  abbrev pub Says : SpaceFault → Type 0
   Says (NoSpace kind asked have) = IsShortOf need free kind asked have
   Says NoMemory = ⊥
 
-  says : need.inodes < 2 ^ 32 → (need.inodes ≤ free.inodes → need.blocks < 2 ^ 32) → (fault : SpaceFault) → told ≡ Some fault → Says fault
+  pub says : need.inodes < 2 ^ 32 → (need.inodes ≤ free.inodes → need.blocks < 2 ^ 32) → (fault : SpaceFault) → told ≡ Some fault → Says fault
   says fits fits_too fault is = elim (cases_lt free.inodes (as_u32 need.inodes)) [
     | inl short ↦
         let same = fits_again need.inodes fits in

@@ -29,7 +29,7 @@ use Rattle.volume_laws.specs.Commits.{OkCommitsGoOn, HasNothingToWrite, IsWritte
 use Rattle.flush_laws.specs.Volume.{Volume, OneFsync, tree_held, tree_raised, parts_left}
 
 -- a disk has a journal slot
-first_slot : (layout : Layout) → InRange layout → 0 < slot_count layout
+pub first_slot : (layout : Layout) → InRange layout → 0 < slot_count layout
 first_slot layout is = let cores = is.cores_low in let slots = is.slots_low in by layout.cores layout.slots cores slots
   where
     by : (a b : ℕ) → 1 ≤ a → 1 ≤ b → 0 < a * b

@@ -11,15 +11,14 @@ use Rattle.cut_laws.specs.Rules.{IsOneOf}
 use Rattle.cut_laws.proofs.Basics.{in_left, in_right, in_either}
 use Rattle.cut_laws.proofs.Listed.{from_map, to_map}
 use Rattle.flush_laws.specs.Volume.{Volume}
-use Rattle.mark_laws.specs.Changed.{HasShortFiles}
 use Rattle.turn_laws.specs.Books.{Grant, Waiting, flush_at, waiting_for, is_other_grant, is_other_waiting, Does}
-use Rattle.turn_ties.specs.Plans.{planning_of, amount_planned}
 use Rattle.merge_laws.specs.Phases.{phase_of, flies_in}
 use Rattle.merge_laws.specs.Plays.{Aloft, PlayState, StopsWaiting, PlaysGrant, PlaysShort, PlaysBack}
 use Rattle.merge_laws.proofs.Blocks.{same_or_not}
 use Rattle.merge_laws.proofs.Lists.{among_at, with_one}
 use Rattle.merge_laws.proofs.Playing.{fits_flies}
-use Rattle.walk_laws.specs.Brings.{brought_by}
+use Rattle.turn_ties.specs.Plans.{planning_of, amount_planned}
+use Rattle.bringing_laws.specs.Brings.{brought_by}
 use Rattle.walk_laws.specs.Midway.{Midway, books_beside}
 use Rattle.walk_laws.specs.Pairs.{bringing_under}
 use Rattle.walk_laws.specs.Walk.{Bookkeeping, open_stamps, flights_by, waits_at, grant_at, grants_in, IsVolumeAt, ReservesThere, LacksThere}
@@ -51,6 +50,10 @@ pub record StepsTo (kept : Bookkeeping) (front : List Turn) (turn : Turn) (at : 
     (later : PlayState) : Type 0 where
   pub next : CalmSo kept (front ++ turn ∷ []) later
   pub does : Does did (books_beside (midway_of kept front at calm)) turn (books_beside (midway_of kept (front ++ turn ∷ []) later next))
+
+-- a turn of its fsync's core is of one that waits with its stamp
+pub waits_as : (kept : Bookkeeping) (turn : Turn) → turn.core.0 ≡ kept.cores turn.stamp.0 → waits_at kept.cores turn.stamp.0 ≡ waiting_for turn
+waits_as kept turn core_is = λ i. record { core = (sym core_is) i; stamp = turn.stamp.0 }
 
 -- one that does not wait is not taken from those that do, and one that does is
 pub waiting_same : (cores : ℕ → ℕ) (own : ℕ) (stamps : List ℕ) → (IsOneOf stamps own → ⊥)
@@ -113,7 +116,6 @@ pub record TurnAt (kept : Bookkeeping) : Type 0 where
   pub at : PlayState
   pub so : PlayFits front at
   pub calm : CalmSo kept front at
-  pub short : HasShortFiles calm.volume.first
   pub core_is : turn.core.0 ≡ kept.cores turn.stamp.0
   pub flush_is : (bringing_under kept.pairs turn.stamp.0).flush ≡ flush_at turn
 
@@ -148,9 +150,6 @@ module _ (kept : Bookkeeping) (place : TurnAt kept) where
   abbrev grants_then : List Grant
   grants_then = grants_in kept.pairs (front ++ turn ∷ [])
 
-  pub waits_turn : waits_at kept.cores own ≡ waiting_for turn
-  waits_turn = λ i. record { core = (sym place.core_is) i; stamp = own }
-
   -- It reserves.
   module _ (fit : ReservesThere kept grants_now at calm.volume turn) (first : Rattle.turn_laws.specs.Ways.own_turns own front ≡ [])
       (grants_are : grants_then ≡ grants_now ++ grant_at kept.pairs own ∷ []) where
@@ -177,12 +176,8 @@ module _ (kept : Bookkeeping) (place : TurnAt kept) where
       volume = calm.volume;
       imagined = record {
         stands = calm.imagined.stands;
-        first = calm.imagined.first;
-        history = calm.imagined.history;
-        layout = calm.imagined.layout;
-        flushes = calm.imagined.flushes;
+        imagines = calm.imagined.imagines;
         beside = more_beside kept.pairs calm.volume at.done opens (open_stamps reserved) own within fit.pair calm.imagined.beside;
-        disk = calm.imagined.disk;
       };
       used = calm.used;
       used_by = calm.used_by;
@@ -207,7 +202,7 @@ module _ (kept : Bookkeeping) (place : TurnAt kept) where
               grants = (grants_are ∙ ap (λ (l : List ℕ). grants_now ++ record (grant_at kept.pairs own) { inodes = l } ∷ []) fit.least) i;
               waiting =
                   (map-append (waits_at kept.cores) at.waiting (own ∷ [])
-                  ∙ ap (λ (w : Waiting). map (waits_at kept.cores) at.waiting ++ w ∷ []) waits_turn) i;
+                  ∙ ap (λ (w : Waiting). map (waits_at kept.cores) at.waiting ++ w ∷ []) (waits_as kept turn place.core_is)) i;
             });
           };
         }
@@ -262,7 +257,7 @@ module _ (kept : Bookkeeping) (place : TurnAt kept) where
 
     pub waits_here : IsOneOf (map (waits_at kept.cores) at.waiting) (waiting_for turn)
     waits_here =
-        subst (IsOneOf (map (waits_at kept.cores) at.waiting)) waits_turn
+        subst (IsOneOf (map (waits_at kept.cores) at.waiting)) (waits_as kept turn place.core_is)
         (to_map (waits_at kept.cores) at.waiting own (waited_there at own left stops))
 
     gives_now : grants_then ≡ filter (is_other_grant own) grants_now → StepsTo kept front turn at calm act.GivenBack given
@@ -271,13 +266,9 @@ module _ (kept : Bookkeeping) (place : TurnAt kept) where
         volume = calm.volume;
         imagined = record {
           stands = calm.imagined.stands;
-          first = calm.imagined.first;
-          history = calm.imagined.history;
-          layout = calm.imagined.layout;
-          flushes = calm.imagined.flushes;
+          imagines = calm.imagined.imagines;
           beside =
               fewer_beside kept.pairs calm.volume at.done opens (open_stamps given) (λ stamp one. (back_within stamp one).0) calm.imagined.beside;
-          disk = calm.imagined.disk;
         };
         used = calm.used;
         used_by = calm.used_by;

@@ -7,17 +7,16 @@ use Rattle.cut_laws.specs.Machine.{Accepts}
 use Rattle.cut_laws.specs.Rules.{IsOneOf}
 use Rattle.cut_laws.specs.declared.event.Event.{Event}
 use Rattle.cut_laws.proofs.Basics.{in_left, in_right, in_either}
-use Rattle.cut_laws.proofs.Listed.{from_map}
 use Rattle.beside_laws.specs.Steps.{IsMidst}
-use Rattle.space_laws.proofs.Asked.{enters_counted}
 use Rattle.turn_laws.specs.Books.{Grant, flush_at}
 use Rattle.turn_laws.specs.Need.{Amount, nothing, IsNeed}
-use Rattle.turn_ties.specs.Plans.{image_held, planning_of}
+use Rattle.turn_laws.specs.Ways.{own_turns}
 use Rattle.merge_laws.specs.Phases.{phase_of}
 use Rattle.merge_laws.specs.Plays.{Aloft, PlayState, StopsWaiting, PlaysBegin}
 use Rattle.merge_laws.proofs.Playing.{KeysDiffer, differ_more}
-use Rattle.turn_laws.specs.Ways.{own_turns}
-use Rattle.walk_laws.specs.Brings.{brought_by}
+use Rattle.space_laws.proofs.Asked.{enters_counted}
+use Rattle.turn_ties.specs.Plans.{image_held, planning_of}
+use Rattle.bringing_laws.specs.Brings.{brought_by}
 use Rattle.walk_laws.specs.Midway.{Midway, machine_beside, books_beside}
 use Rattle.walk_laws.specs.Pairs.{commit_under, bringing_under, PairsBeside, IsOpenBeside}
 use Rattle.walk_laws.specs.Walk.{Bookkeeping, open_stamps, grants_in, BeginsThere}
@@ -114,12 +113,8 @@ module _ (kept : Bookkeeping) (place : TurnAt kept) where
     volume = calm.volume;
     imagined = record {
       stands = calm.imagined.stands;
-      first = calm.imagined.first;
-      history = calm.imagined.history;
-      layout = calm.imagined.layout;
-      flushes = calm.imagined.flushes;
+      imagines = calm.imagined.imagines;
       beside = beside;
-      disk = calm.imagined.disk;
     };
     used = calm.used ++ (commit_under kept.pairs own).number ∷ [];
     used_by = begun_used;

@@ -1,10 +1,10 @@
 -- A commit ends beside others: what stands beside the volume goes on beside the one that it leaves.
 use Rattle.std.proofs.Common.{◌≡◌, ◌≢◌, ◌∷◌, ◌++◌, ◌∙◌, ℕ, Bool, true, false, List, [], map, inl, inr, refl, sym, ap, subst}
-use Rattle.std.proofs.lemmas.List.{append_assoc, map-append}
-use Rattle.cut_laws.specs.Closure.{every_entry, Flush, IsRaised, AreInodesAfter}
-use Rattle.cut_laws.specs.Rules.{IsOneOf}
+use Rattle.std.proofs.lemmas.List.{map-append}
 use Rattle.disk_change.specs.Directory.{is_among}
 use Rattle.commit_laws.specs.PartsMade.{store_planned}
+use Rattle.cut_laws.specs.Closure.{every_entry, Flush, IsRaised, AreInodesAfter}
+use Rattle.cut_laws.specs.Rules.{IsOneOf}
 use Rattle.beside_laws.specs.Commits.{CoreCommit, Share}
 use Rattle.beside_laws.specs.Laws.{IsReadyToEnd, RaisesTo, IsDoneWith}
 use Rattle.beside_laws.specs.Progress.{Progress, Standing, IsLater}
@@ -12,17 +12,13 @@ use Rattle.beside_laws.proofs.Boxes.{last_or}
 use Rattle.beside_laws.proofs.Raising.{knowing_raise}
 use Rattle.flush_laws.specs.Laws.{IsStoreLeft}
 use Rattle.flush_laws.specs.Volume.{Volume, OneFsync, volume_left}
-use Rattle.mark_laws.specs.Changed.{HasShortFiles}
 use Rattle.volume_laws.specs.Volume.{IsVolumeStanding}
 use Rattle.volume_laws.proofs.Stores.{store_left, commits_stay_standing}
-use Rattle.walk_laws.specs.Brings.{BringingsStay, BringApart, brought_by}
-use Rattle.walk_laws.specs.Pairs.{Pair, commit_under, bringing_under, flush_under, run_with, PairsBeside, ArePairsApart, IsOpenBeside, OnDisk, on_disk, with_brought, all_brought}
-
--- what one more has brought
-pub brought_more : (pairs : ℕ → Pair) (done : List ℕ) (stamp : ℕ) (was : OnDisk)
-    → all_brought pairs (done ++ stamp ∷ []) was ≡ with_brought (bringing_under pairs stamp) (all_brought pairs done was)
-brought_more pairs [] stamp was = refl
-brought_more pairs (first ∷ done) stamp was = brought_more pairs done stamp (with_brought (bringing_under pairs first) was)
+use Rattle.bringing_laws.specs.Brings.{BringApart, brought_by, Bringing}
+use Rattle.bringing_laws.specs.Imagined.{Imagines, one_brought}
+use Rattle.bringing_laws.proofs.Brings.{bringings_stay}
+use Rattle.walk_laws.specs.Pairs.{Pair, commit_under, bringing_under, run_with, PairsBeside, ArePairsApart, IsOpenBeside}
+use Rattle.walk_laws.specs.Walk.{brought_under}
 
 -- pairs that are apart bring what is apart
 pub bring_apart : (mine theirs : Pair) → ((node : ℕ) → is_among mine.one.nodes node ≡ mine.commit.holds node)
@@ -45,10 +41,9 @@ pub record Ending (pairs : ℕ → Pair) : Type 0 where
   pub own : ℕ
   pub among : IsOneOf opens own
   pub stands : IsVolumeStanding volume
-  pub short : HasShortFiles volume.first
   pub beside : PairsBeside pairs done opens volume
 
-module _ (stay : BringingsStay) (pairs : ℕ → Pair) (ending : Ending pairs) where
+module _ (pairs : ℕ → Pair) (ending : Ending pairs) where
   abbrev volume : Volume
   volume = ending.volume
 
@@ -147,9 +142,7 @@ module _ (stay : BringingsStay) (pairs : ℕ → Pair) (ending : Ending pairs) w
             was.knows;
         finds = was.finds;
         later = later_still other one differ;
-        brings = stay volume (bringing_under pairs other) (bringing_under pairs own) blocks (record {
-          stands = stands;
-          short = ending.short;
+        brings = bringings_stay volume (bringing_under pairs other) (bringing_under pairs own) blocks (record {
           stays = was.brings;
           ends = (beside.opens own among).brings;
           apart = bring_apart (pairs other) (pairs own) was.nodes its.nodes apart;
@@ -176,11 +169,8 @@ module _ (stay : BringingsStay) (pairs : ℕ → Pair) (ending : Ending pairs) w
   ended_stands =
       commits_stay_standing volume ended_one blocks stands (beside.opens own among).brings.planned (beside.opens own among).brings.comes left_blocks
 
-  pub ended_disk : (was : OnDisk) → on_disk volume ≡ all_brought pairs done was → on_disk ended ≡ all_brought pairs (done ++ own ∷ []) was
-  ended_disk was e = ap (with_brought (bringing_under pairs own)) e ∙ sym (brought_more pairs done own was)
-
-  pub ended_flushes : (first : List Flush) → volume.flushes ≡ first ++ map (flush_under pairs) done
-      → ended.flushes ≡ first ++ map (flush_under pairs) (done ++ own ∷ [])
-  ended_flushes first e =
-      ap (λ (l : List Flush). l ++ flush_under pairs own ∷ []) e ∙ append_assoc first (map (flush_under pairs) done) (flush_under pairs own ∷ [])
-      ∙ ap (λ (l : List Flush). first ++ l) (sym (map-append (flush_under pairs) done (own ∷ [])))
+  -- which is the one that is imagined with one more
+  pub ended_imagines : (start : Volume) → Imagines start (brought_under pairs done) volume → Imagines start (brought_under pairs (done ++ own ∷ [])) ended
+  ended_imagines start imagines =
+      subst (λ (l : List Bringing). Imagines start l ended) (sym (map-append (bringing_under pairs) done (own ∷ [])))
+      (one_brought (brought_under pairs done) volume (bringing_under pairs own) imagines (beside.opens own among).brings)

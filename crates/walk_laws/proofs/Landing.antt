@@ -10,19 +10,18 @@ use Rattle.cut_laws.proofs.Basics.{in_left, in_right, in_either}
 use Rattle.cut_laws.proofs.Listed.{from_map, to_map}
 use Rattle.beside_laws.specs.Steps.{flight_of_flown, IsMidst}
 use Rattle.turn_laws.specs.Books.{Grant, Books, is_other_grant, FliesFor, FailsCommit, Leaves}
-use Rattle.turn_ties.specs.Plans.{image_held, image_once_left, planning_of, made_of}
 use Rattle.merge_laws.specs.Phases.{phase_of}
 use Rattle.merge_laws.specs.Plays.{Aloft, PlayState, FliesOnce, PlaysOpen, PlaysEnd}
 use Rattle.merge_laws.proofs.Lists.{among_at, with_one}
-use Rattle.walk_laws.specs.Brings.{BringingsStay}
+use Rattle.turn_ties.specs.Plans.{image_held, image_once_left, planning_of, made_of}
 use Rattle.walk_laws.specs.Midway.{Midway, machine_beside, books_beside, PlansTurn}
-use Rattle.walk_laws.specs.Pairs.{commit_under, PairsBeside, IsOpenBeside, on_disk}
+use Rattle.walk_laws.specs.Pairs.{commit_under, PairsBeside, IsOpenBeside}
 use Rattle.walk_laws.specs.Walk.{Bookkeeping, open_stamps, grants_in}
 use Rattle.walk_laws.proofs.Played.{PlayFits}
 use Rattle.walk_laws.proofs.Beside.{UsedBy, place_by, open_once, legal_run, amid}
 use Rattle.walk_laws.proofs.Calm.{CalmSo, TurnAt, midway_of, StepsTo, waits_not_aloft}
 use Rattle.walk_laws.proofs.Commits.{stamps_of}
-use Rattle.walk_laws.proofs.Ended.{Ending, ended, ended_one, raises, ended_beside, ended_stands, ended_flushes, ended_disk}
+use Rattle.walk_laws.proofs.Ended.{Ending, ended, ended_one, raises, ended_beside, ended_stands, ended_imagines}
 use Rattle.walk_laws.proofs.Grants.{GrantsFit, fits_same, fits_taken}
 use Rattle.walk_laws.proofs.Machine.{open_taken, end_taken, flight_found, fail_taken}
 use Rattle.walk_laws.proofs.Plans.{made_there, leaves_there, planned_has}
@@ -138,12 +137,8 @@ module _ (kept : Bookkeeping) (place : TurnAt kept) where
       volume = calm.volume;
       imagined = record {
         stands = calm.imagined.stands;
-        first = calm.imagined.first;
-        history = calm.imagined.history;
-        layout = calm.imagined.layout;
-        flushes = calm.imagined.flushes;
+        imagines = calm.imagined.imagines;
         beside = subst (λ (l : List ℕ). PairsBeside kept.pairs at.done (at.waiting ++ l) calm.volume) same_stamps calm.imagined.beside;
-        disk = calm.imagined.disk;
       };
       used = calm.used;
       used_by = λ number one.
@@ -175,7 +170,7 @@ module _ (kept : Bookkeeping) (place : TurnAt kept) where
       (opens_now plays.before plays.behind plays.flies number_is grants_are)
 
   -- it becomes durable
-  module _ (stay : BringingsStay) (before behind : List Aloft)
+  module _ (before behind : List Aloft)
       (flies : FliesOnce at.aloft before behind (record { stamp = own; opened = true }))
       (number_is : turn.commit ≡ (commit_under kept.pairs own).number) (grants_are : grants_then ≡ filter (is_other_grant own) grants_now) where
     abbrev landed : PlayState
@@ -192,7 +187,6 @@ module _ (kept : Bookkeeping) (place : TurnAt kept) where
       own = own;
       among = here;
       stands = calm.imagined.stands;
-      short = place.short;
       beside = calm.imagined.beside;
     }
 
@@ -238,20 +232,12 @@ module _ (kept : Bookkeeping) (place : TurnAt kept) where
 
     abbrev landed_next : CalmSo kept (front ++ turn ∷ []) landed
     landed_next = record {
-      volume = ended stay kept.pairs ending;
+      volume = ended kept.pairs ending;
       imagined = record {
-        stands = ended_stands stay kept.pairs ending;
-        first = calm.imagined.first;
-        history = calm.imagined.history;
-        layout = calm.imagined.layout;
-        flushes =
-            ended_flushes stay kept.pairs ending kept.start.flushes
-            calm.imagined.flushes;
+        stands = ended_stands kept.pairs ending;
+        imagines = ended_imagines kept.pairs ending kept.start calm.imagined.imagines;
         beside =
-            ended_beside stay kept.pairs ending (open_stamps landed) landed_within;
-        disk =
-            ended_disk stay kept.pairs ending (on_disk kept.start)
-            calm.imagined.disk;
+            ended_beside kept.pairs ending (open_stamps landed) landed_within;
       };
       used = calm.used;
       used_by = landed_used;
@@ -261,7 +247,7 @@ module _ (kept : Bookkeeping) (place : TurnAt kept) where
     }
 
     abbrev brought : Rattle.flush_laws.specs.Volume.OneFsync
-    brought = ended_one stay kept.pairs ending
+    brought = ended_one kept.pairs ending
 
     plans_there : PlansTurn calm.volume (planning_of brought) turn
     plans_there =
@@ -282,7 +268,7 @@ module _ (kept : Bookkeeping) (place : TurnAt kept) where
                 (sym number_is)
                 (end_taken kept.pairs calm.volume at calm.used own midst before behind landed_next.volume.cut landed_next.volume.inodes
                 (legal_run calm.volume (map (commit_under kept.pairs) at.done) calm.imagined.stands)
-                (raises stay kept.pairs ending) flies.whole);
+                (raises kept.pairs ending) flies.whole);
             made = made_of (planning_of brought);
             is_made = made_there mid (planning_of brought) turn plans_there;
             image = image_once_left calm.volume brought;
@@ -294,9 +280,9 @@ module _ (kept : Bookkeeping) (place : TurnAt kept) where
           };
         }
 
-  pub ends_step : BringingsStay → (later : PlayState) → PlaysEnd at own later
+  pub ends_step : (later : PlayState) → PlaysEnd at own later
       → turn.commit ≡ (commit_under kept.pairs own).number → grants_then ≡ filter (is_other_grant own) grants_now
       → StepsTo kept front turn at calm act.Durable later
-  ends_step stay later plays number_is grants_are =
+  ends_step later plays number_is grants_are =
       subst (StepsTo kept front turn at calm act.Durable) (sym plays.later_is)
-      (ends_now stay plays.before plays.behind plays.flies number_is grants_are)
+      (ends_now plays.before plays.behind plays.flies number_is grants_are)

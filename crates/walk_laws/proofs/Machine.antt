@@ -1,7 +1,6 @@
 -- The machine in the midst of a record takes what a commit does there.
 use Rattle.std.specs.List.{find}
-use Rattle.std.specs.Option.{option_map_or}
-use Rattle.std.proofs.Common.{◌≡◌, ◌≢◌, ◌∷◌, ◌++◌, ◌∙◌, ℕ, Bool, true, false, cond, not, nat_eq, List, [], map, Option, Some, None, is_some, sym, ap, subst}
+use Rattle.std.proofs.Common.{◌≡◌, ◌≢◌, ◌∷◌, ◌++◌, ◌∙◌, ℕ, Bool, true, false, nat_eq, List, [], map, Option, Some, None, is_some, sym, ap, subst}
 use Rattle.std.proofs.lemmas.List.{map-append}
 use Rattle.sfs_base.proofs.BasicTruth.{false_not_true}
 use Rattle.tree_laws.specs.declared.turns.Turn.{Turn}
@@ -16,7 +15,7 @@ use Rattle.beside_laws.specs.Commits.{CoreCommit, commit_fsync}
 use Rattle.beside_laws.specs.Laws.{RaisesTo}
 use Rattle.beside_laws.specs.Steps.{Flown, flight_of_flown, commits_of, machine_amid, IsMidst, IsLegalRun, begins}
 use Rattle.beside_laws.proofs.Numbered.{NoneHas, found_flight}
-use Rattle.beside_laws.proofs.Stepping.{commits_begin, commits_open, commits_end}
+use Rattle.beside_laws.proofs.Stepping.{commits_begin, commits_open, commits_end, none_missing}
 use Rattle.flush_laws.specs.Volume.{Volume}
 use Rattle.turn_laws.specs.Books.{flush_at}
 use Rattle.merge_laws.specs.Plays.{Aloft, PlayState, FliesOnce}
@@ -101,11 +100,6 @@ module _ (pairs : ℕ → Pair) (volume : Volume) (at : PlayState) (used : List 
           (λ e. flies.once flight.0 (Rattle.cut_laws.proofs.Basics.in_left before behind flight.0 flight.1) (flight.2 ∙ e))
           (ap (λ (c : CoreCommit). c.number) stamps.2 ∙ same)
 
--- a commit that flies is none that an event misses
-flies_so : (test : Bool) (number other : ℕ) → test ≡ true → cond (not test) (Some number) None ≡ Some other → ⊥
-flies_so true number other is e = cc
-flies_so false number other is e = cc
-
 -- A commit in flight may fail, where none has.
 pub fail_taken : (machine : MachineState) (number : ℕ) (flight : Flight) → machine.crashed ≡ false → machine.failed ≡ None
     → flight_of machine number ≡ Some flight → Accepts machine (event.Fail number) (record machine { failed = Some number })
@@ -122,7 +116,7 @@ fail_taken machine number flight goes calm flies = record {
     free (refused.Used used) h = h
     free (refused.Meets met) h = h
     free (refused.Late late) h = h
-    free (refused.NotFlying other) h = flies_so (is_flying machine number) number other (ap (λ (o : Option Flight). is_some o) flies) h
+    free (refused.NotFlying other) h = none_missing (is_flying machine number) number other (ap (λ (o : Option Flight). is_some o) flies) h
     free (refused.NotOpened other) h = let never = h.0 in cc
     free (refused.AlreadyOpened other) h = h
     free refused.NoMemory h = h

@@ -8,8 +8,8 @@ use Rattle.tree_laws.specs.declared.turns.TurnAct.TheVariants as act
 use Rattle.cut_laws.specs.Rules.{IsOneOf}
 use Rattle.cut_laws.proofs.Listed.{from_map}
 use Rattle.cut_laws.proofs.RunFacts.{in_filter}
-use Rattle.mark_laws.specs.Changed.{HasShortFiles}
-use Rattle.turn_laws.specs.Books.{Waiting, Books, flush_at, waiting_for, without_waiting, without_grant, CountsFaults, Does, IsTurn, AreTurns, no_turns, one_turn}
+use Rattle.cut_laws.proofs.Basics.{in_left}
+use Rattle.turn_laws.specs.Books.{Waiting, Books, flush_at, waiting_for, without_waiting, without_grant, CountsFaults, Does, one_turn}
 use Rattle.turn_laws.specs.Recorded.{EachEnds}
 use Rattle.turn_laws.specs.Ways.{own_turns, HasCommit}
 use Rattle.merge_laws.specs.Phases.{phase_of, has_reserved, no_turn_yet, phase_after}
@@ -17,13 +17,11 @@ use Rattle.merge_laws.specs.Plays.{PlayState, PlaysAct, Plays, no_play, one_play
 use Rattle.merge_laws.proofs.Lists.{among_at}
 use Rattle.merge_laws.proofs.Merged.{merged_turns}
 use Rattle.merge_laws.proofs.Phases.{first_waits}
-use Rattle.cut_laws.proofs.Basics.{in_left}
-use Rattle.walk_laws.specs.Brings.{BringingsStay}
 use Rattle.walk_laws.specs.Laws.{MayBeWalked, WalksAreBooked, RecordsAreKept}
 use Rattle.walk_laws.specs.Midway.{books_beside}
 use Rattle.walk_laws.specs.Pairs.{bringing_under}
 use Rattle.walk_laws.specs.Walk.{Bookkeeping, FitsAct, grants_in, grants_by, waits_at}
-use Rattle.walk_laws.proofs.Calm.{CalmSo, TurnAt, midway_of, StepsTo, waiting_same, waiting_left, waits_here, reserves_step, lacks_step, gives_step}
+use Rattle.walk_laws.proofs.Calm.{CalmSo, TurnAt, midway_of, StepsTo, waiting_same, waiting_left, reserves_step, lacks_step, gives_step, waits_as}
 use Rattle.walk_laws.proofs.Commits.{begins_step}
 use Rattle.walk_laws.proofs.Grants.{grants_more}
 use Rattle.walk_laws.proofs.Landing.{fails_now, failed_books, failed_waiting, failed_failed, opens_step, ends_step}
@@ -51,7 +49,6 @@ record FailsTo (kept : Bookkeeping) (turn : Turn) (did : TurnAct) (books : Books
 
 -- What a walk goes by.
 pub record Walking : Type 0 where
-  pub stay : BringingsStay
   pub kept : Bookkeeping
   pub before : ℕ
   pub most : ℕ
@@ -68,9 +65,6 @@ pub record TurnOf (turns : List Turn) : Type 0 where
   pub plays : Plays front at
 
 module _ (walking : Walking) where
-  abbrev stay : BringingsStay
-  stay = walking.stay
-
   abbrev kept : Bookkeeping
   kept = walking.kept
 
@@ -141,12 +135,9 @@ module _ (walking : Walking) where
       abbrev calm : CalmSo kept front at
       calm = walked.calm
 
-      short_there : HasShortFiles calm.volume.first
-      short_there = subst HasShortFiles (sym calm.imagined.first) may.begins.short
-
       abbrev place : TurnAt kept
       place =
-          record { front = front; turn = turn; at = at; so = so; calm = calm; short = short_there; core_is = core_is; flush_is = flush_is }
+          record { front = front; turn = turn; at = at; so = so; calm = calm; core_is = core_is; flush_is = flush_is }
 
       calm_by : (did : TurnAct) (later : PlayState) → PlaysAct did front at turn later
           → FitsAct did kept (grants_in kept.pairs front) at calm.volume turn → HasCommit (kept.pairs own).commit.number did turn.commit
@@ -183,7 +174,7 @@ module _ (walking : Walking) where
       calm_by act.Durable later did fit number counts grants_are =
           inl (
             ap (λ (s : PlayState). s.failed) did.later_is ∙ walked.quiet,
-            ends_step kept place stay later did number grants_are,
+            ends_step kept place later did number grants_are,
           )
       calm_by act.Fail later did fit number counts grants_are = inr (record {
         faults = turn.faults;
@@ -226,9 +217,6 @@ module _ (walking : Walking) where
       abbrev books : Books
       books = walked.books
 
-      waits_turn : waits_at kept.cores own ≡ waiting_for turn
-      waits_turn = λ i. record { core = (sym core_is) i; stamp = own }
-
       left_waiting : (left : List ℕ) → StopsWaiting at own left
           → (without_waiting own books).waiting ≡ map (waits_at kept.cores) left
       left_waiting left stops =
@@ -244,7 +232,7 @@ module _ (walking : Walking) where
         does = record {
           waits =
               subst (λ (l : List Waiting). IsOneOf l (waiting_for turn)) (sym walked.waiting)
-              (subst (IsOneOf (map (waits_at kept.cores) at.waiting)) waits_turn
+              (subst (IsOneOf (map (waits_at kept.cores) at.waiting)) (waits_as kept turn core_is)
               (Rattle.cut_laws.proofs.Listed.to_map (waits_at kept.cores) at.waiting own
               (Rattle.walk_laws.proofs.Calm.waited_there at own did.left did.waited)));
           later_is = refl;
@@ -301,17 +289,16 @@ module _ (walking : Walking) where
       walked_on (record { front = front; back = back; turn = turn; whole = here; at = at; plays = plays }) later did (walk front at plays (turn ∷ back) here)
 
 pub walks_are_booked : WalksAreBooked
-walks_are_booked stay kept before most turns may front at leads =
+walks_are_booked kept before most turns may front at leads =
     booked kept before most front at
-    (walk (record { stay = stay; kept = kept; before = before; most = most; turns = turns; may = may }) front at leads.plays leads.back leads.whole)
+    (walk (record { kept = kept; before = before; most = most; turns = turns; may = may }) front at leads.plays leads.back leads.whole)
 
 pub records_are_kept : RecordsAreKept
-records_are_kept stay kept entry_faults before exit_faults turns pens agrees =
+records_are_kept kept entry_faults before exit_faults turns pens agrees =
     let merged : PensMerge kept.start.first kept.start.history turns =
     merged_turns kept.start.first kept.start.history before exit_faults turns pens agrees.begins.stands.between.history_is.legal agrees.agrees in
     let is = booked kept before exit_faults turns merged.plays.at
     (walk (record {
-      stay = stay;
       kept = kept;
       before = before;
       most = exit_faults;

@@ -2,7 +2,6 @@
 use Rattle.std.specs.Option.{unwrap_or}
 use Rattle.std.specs.FinMap.{empty, get-empty}
 use Rattle.std.proofs.Common.{◌≡◌, ◌⊎◌, ◌<◌, ◌∙◌, ℕ, Bool, List, [], map, Option, Some, None, arith, inl, inr, refl, sym, ap, subst, nat_cmp}
-use Rattle.std.proofs.lemmas.List.{append-nil}
 use Rattle.sfs_base.proofs.BasicOptions.{none_some}
 use Rattle.tree_laws.specs.declared.turns.Turn.{Turn}
 use Rattle.cut_laws.specs.Closure.{every_entry, AreFlushed, none}
@@ -11,6 +10,7 @@ use Rattle.beside_laws.specs.Progress.{Standing, nobody}
 use Rattle.flush_laws.specs.Volume.{Volume}
 use Rattle.turn_laws.specs.Books.{Books, AreTurns, no_turns}
 use Rattle.merge_laws.specs.Plays.{PlayState, nothing_played}
+use Rattle.bringing_laws.specs.Imagined.{none_brought}
 use Rattle.walk_laws.specs.Midway.{books_beside}
 use Rattle.walk_laws.specs.Pairs.{run_with}
 use Rattle.walk_laws.specs.Walk.{Bookkeeping, BeginsWalk, books_begun, waits_at, IsBooked}
@@ -79,12 +79,8 @@ module _ (kept : Bookkeeping) (before most : ℕ) (begins : BeginsWalk kept.star
     volume = start;
     imagined = record {
       stands = begins.stands;
-      first = refl;
-      history = refl;
-      layout = refl;
-      flushes = sym (append-nil kept.start.flushes);
+      imagines = none_brought;
       beside = record { standing = standing_first; opens = λ stamp one. absurd one; apart = λ stamp other one. absurd one };
-      disk = refl;
     };
     used = [];
     used_by = λ number one. absurd one;

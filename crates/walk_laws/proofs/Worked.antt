@@ -1,13 +1,10 @@
 -- The worked record of two pens agrees with the books.
-use Rattle.std.specs.FinMap.{get, empty}
-use Rattle.std.proofs.Common.{◌≡◌, ◌∷◌, ◌++◌, ◌∙◌, ℕ, List, [], map, arith, inl, refl, sym, ap, subst, is_some}
+use Rattle.std.proofs.Common.{◌≡◌, ◌∷◌, ◌++◌, ◌∙◌, List, [], arith, inl, refl, sym, ap, subst}
 use Rattle.std.proofs.lemmas.List.{append-nil, append_assoc, same_from_push}
 use Rattle.tree_laws.specs.declared.history.Entry.{Entry}
 use Rattle.tree_laws.specs.declared.turns.Turn.{Turn}
 use Rattle.tree_laws.specs.declared.turns.TurnAct.TheVariants as act
 use Rattle.tree_laws.specs.Tree.{TreeState}
-use Rattle.cut_laws.specs.Closure.{every_entry}
-use Rattle.cut_laws.proofs.RaiseLists.{nothing_raised}
 use Rattle.flush_laws.specs.Volume.{Volume}
 use Rattle.turn_laws.specs.Ways.{HasCommit}
 use Rattle.turn_laws.specs.Books.{flush_at}
@@ -17,37 +14,16 @@ use Rattle.merge_laws.specs.Plays.{PlayState, nothing_played, Plays, no_play, on
 use Rattle.merge_laws.specs.Worked.{BOTH_HISTORY, BOTH_TURNS, BOTH_PENS, own_turn, other_turn}
 use Rattle.merge_laws.proofs.Lists.{heads_are, nothing_there}
 use Rattle.merge_laws.proofs.Worked.{of_each, two_pens_agree}
-use Rattle.walk_laws.specs.Pairs.{OnDisk, bringing_under}
-use Rattle.walk_laws.specs.Walk.{Bookkeeping, FitsAct, FitsRecord, IsVolumeAt, ReservesThere, grant_at, grants_in}
+use Rattle.bringing_laws.proofs.Imagined.{first_imagined}
+use Rattle.walk_laws.specs.Pairs.{bringing_under}
+use Rattle.walk_laws.specs.Walk.{Bookkeeping, FitsAct, FitsRecord, IsVolumeAt, ReservesThere, grant_at, grants_in, brought_under}
 use Rattle.walk_laws.specs.Worked.{TwoReserve, TwoPensAreKept}
 use Rattle.walk_laws.proofs.Played.{fits_play}
 
 -- before the first commit is done, the volume imagined is the first one
-pub first_volume : (kept : Bookkeeping) (at : PlayState) (volume : Volume) → Rattle.walk_laws.specs.Walk.BeginsWalk kept.start → at.done ≡ []
-    → IsVolumeAt kept at volume → volume ≡ kept.start
-first_volume kept at volume begins empty_yet is = λ i. record {
-  first = is.first i;
-  history = is.history i;
-  flushes =
-      (is.flushes ∙ ap (λ (l : List ℕ). kept.start.flushes ++ map (Rattle.walk_laws.specs.Pairs.flush_under kept.pairs) l) empty_yet
-      ∙ append-nil kept.start.flushes) i;
-  cut = (sym raised.0 ∙ sym begins.cut) i;
-  inodes = (sym raised.1 ∙ ap (λ (t : TreeState). (λ node. is_some (get t.nodes node))) is.first ∙ sym begins.inodes) i;
-  num = (ap (λ (d : OnDisk). d.num) disk) i;
-  layout = is.layout i;
-  store = (ap (λ (d : OnDisk). d.store) disk) i;
-  parts = (ap (λ (d : OnDisk). d.parts) disk) i;
-}
-  where
-    disk : Rattle.walk_laws.specs.Pairs.on_disk volume ≡ Rattle.walk_laws.specs.Pairs.on_disk kept.start
-    disk =
-        is.disk
-        ∙ ap (λ (l : List ℕ). Rattle.walk_laws.specs.Pairs.all_brought kept.pairs l (Rattle.walk_laws.specs.Pairs.on_disk kept.start)) empty_yet
-
-    raised : (empty ≡ volume.cut) × ((λ node. is_some (get volume.first.nodes node)) ≡ volume.inodes)
-    raised =
-        nothing_raised volume.first volume.history every_entry empty (λ node. is_some (get volume.first.nodes node)) is.beside.standing.flushed
-        (ap (λ (l : List ℕ). map Rattle.beside_laws.specs.Commits.commit_fsync (map (Rattle.walk_laws.specs.Pairs.commit_under kept.pairs) l)) empty_yet)
+pub first_volume : (kept : Bookkeeping) (at : PlayState) (volume : Volume) → at.done ≡ [] → IsVolumeAt kept at volume → volume ≡ kept.start
+first_volume kept at volume empty_yet is =
+    first_imagined kept.start volume (brought_under kept.pairs at.done) is.imagines (ap (brought_under kept.pairs) empty_yet)
 
 -- The last turn of a play, with what fsyncs had done before it.
 record LastPlayed (front : List Turn) (turn : Turn) (later : PlayState) : Type 0 where
@@ -93,7 +69,7 @@ module _ (kept : Bookkeeping) where
         let nothing = nothing_yet [] at plays refl in
         subst (λ (s : PlayState). ReservesThere kept [] s volume (own_turn 0 0 act.Granted)) (sym nothing)
         (subst (λ (v : Volume). ReservesThere kept [] nothing_played v (own_turn 0 0 act.Granted))
-        (sym (first_volume kept at volume two.begins (ap (λ (s : PlayState). s.done) nothing) is)) two.own_reserves)
+        (sym (first_volume kept at volume (ap (λ (s : PlayState). s.done) nothing) is)) two.own_reserves)
 
     other_fits : FitsHere (own_turn 0 0 act.Granted ∷ []) (other_turn 0 0 act.Granted)
     other_fits at volume plays is =
@@ -102,7 +78,7 @@ module _ (kept : Bookkeeping) where
         last.did.later_is ∙ ap (λ (s : PlayState). record s { waiting = s.waiting ++ 0 ∷ [] }) (nothing_yet [] last.at last.plays refl) in
         subst (λ (s : PlayState). ReservesThere kept (grant_at kept.pairs 0 ∷ []) s volume (other_turn 0 0 act.Granted)) (sym waits)
         (subst (λ (v : Volume). ReservesThere kept (grant_at kept.pairs 0 ∷ []) (record nothing_played { waiting = 0 ∷ [] }) v (other_turn 0 0 act.Granted))
-        (sym (first_volume kept at volume two.begins (ap (λ (s : PlayState). s.done) waits) is)) two.other_reserves)
+        (sym (first_volume kept at volume (ap (λ (s : PlayState). s.done) waits) is)) two.other_reserves)
 
     -- one that begins had waited
     begins_fit : (front : List Turn) (turn : Turn) → turn.act ≡ act.CutAt → phase_of turn.stamp.0 front ≡ has_reserved → FitsHere front turn

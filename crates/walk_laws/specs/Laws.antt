@@ -5,7 +5,6 @@ use Rattle.turn_laws.specs.Recorded.{IsRecorded}
 use Rattle.turn_ties.specs.Plans.{image_held}
 use Rattle.merge_laws.specs.Pens.{CountAll, FsyncTurns, AgreesAll}
 use Rattle.merge_laws.specs.Plays.{OwnWaits, PlayState, Plays}
-use Rattle.walk_laws.specs.Brings.{BringingsStay}
 use Rattle.walk_laws.specs.Walk.{Bookkeeping, BeginsWalk, FitsRecord, IsBooked}
 
 -- A record may be walked: its volume may begin a walk, it fits what its books are kept from, its counts of faults are right, and an fsync that
@@ -26,9 +25,9 @@ pub record LeadsTo (turns front : List Turn) (at : PlayState) : Type 0 where
 abbrev pub AreBooked : Bookkeeping → ℕ → ℕ → List Turn → Type 0
 AreBooked kept before most turns = (front : List Turn) (at : PlayState) → LeadsTo turns front at → IsBooked kept before most front at
 
--- So they are along such a record, where what fsyncs bring stays.
+-- So they are along such a record.
 abbrev pub WalksAreBooked : Type 0
-WalksAreBooked = BringingsStay → (kept : Bookkeeping) (before most : ℕ) (turns : List Turn) → MayBeWalked kept before most turns
+WalksAreBooked = (kept : Bookkeeping) (before most : ℕ) (turns : List Turn) → MayBeWalked kept before most turns
     → AreBooked kept before most turns
 
 -- All cores agree with their pens over the history of a volume that may begin a walk, and the record fits what its books are kept from. The counts of
@@ -39,8 +38,8 @@ pub record AgreesWithBooks (kept : Bookkeeping) (entry_faults before most : ℕ)
   pub since : entry_faults ≤ before
   pub fits : FitsRecord kept turns
 
--- Then, where what fsyncs bring stays, the turns are recorded.
+-- Then the turns are recorded.
 abbrev pub RecordsAreKept : Type 0
-RecordsAreKept = BringingsStay → (kept : Bookkeeping) (entry_faults before exit_faults : ℕ) (turns : List Turn) (pens : List (List FsyncTurns))
+RecordsAreKept = (kept : Bookkeeping) (entry_faults before exit_faults : ℕ) (turns : List Turn) (pens : List (List FsyncTurns))
     → AgreesWithBooks kept entry_faults before exit_faults turns pens
     → IsRecorded kept.start.first kept.start.history (image_held kept.start) entry_faults exit_faults turns

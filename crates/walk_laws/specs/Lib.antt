@@ -1,4 +1,3 @@
-pub mod Brings
 pub mod Pairs
 pub mod Midway
 pub mod Walk

@@ -1,18 +1,12 @@
 -- Commits of cores with what they bring, side by side along a record.
-use Rattle.std.specs.Prelude.{◌≡◌, ◌≢◌, ℕ, List, [], ◌∷◌, map, Contains}
-use Rattle.sfs_image.specs.Part.{Part}
+use Rattle.std.specs.Prelude.{◌≡◌, ◌≢◌, ℕ, List, map, Contains}
 use Rattle.disk_change.specs.Directory.{is_among}
-use Rattle.image_laws.specs.Renamed.{Numbering}
-use Rattle.commit_laws.specs.CommitOfPlan.{numbers_planned}
-use Rattle.commit_laws.specs.PartsMade.{store_planned}
-use Rattle.commit_laws.specs.PartsStand.{part_next}
-use Rattle.cut_laws.specs.Closure.{Flush}
 use Rattle.cut_laws.specs.Rules.{IsOneOf}
 use Rattle.beside_laws.specs.Commits.{CoreCommit, commit_fsync, IsByItsLook, Share}
 use Rattle.beside_laws.specs.Laws.{KnowsRun, FindsAlways}
 use Rattle.beside_laws.specs.Progress.{Progress, Standing, IsLater}
 use Rattle.flush_laws.specs.Volume.{Volume}
-use Rattle.walk_laws.specs.Brings.{Bringing, Brings}
+use Rattle.bringing_laws.specs.Brings.{Bringing, Brings}
 
 -- The commit of a core with what it brings.
 pub record Pair : Type 0 where
@@ -26,10 +20,6 @@ commit_under pairs stamp = (pairs stamp).commit
 -- what it brings
 abbrev pub bringing_under : (ℕ → Pair) → ℕ → Bringing
 bringing_under pairs stamp = (pairs stamp).one
-
--- its fsync
-abbrev pub flush_under : (ℕ → Pair) → ℕ → Flush
-flush_under pairs stamp = (bringing_under pairs stamp).flush
 
 -- the run so far where these commits are done and the disk is that of a volume
 abbrev pub run_with : Volume → List CoreCommit → Progress
@@ -63,26 +53,3 @@ pub record PairsBeside (pairs : ℕ → Pair) (done open_ones : List ℕ) (volum
 pub record PairReserves (pairs : ℕ → Pair) (volume : Volume) (done open_ones : List ℕ) (stamp : ℕ) : Type 0 where
   pub opens : IsOpenBeside volume (map (commit_under pairs) done) (pairs stamp)
   pub apart : (other : ℕ) → IsOneOf open_ones other → ArePairsApart (pairs stamp) (pairs other)
-
--- What of a volume is told by those that are done alone: the numbers of its nodes, its blocks and its parts.
-pub record OnDisk : Type 0 where
-  pub num : Numbering
-  pub store : ℕ → List ℕ
-  pub parts : ℕ → Part
-
--- what a volume has of it
-abbrev pub on_disk : Volume → OnDisk
-on_disk volume = record { num = volume.num; store = volume.store; parts = volume.parts }
-
--- the same once something was brought
-abbrev pub with_brought : Bringing → OnDisk → OnDisk
-with_brought one was = record {
-  num = numbers_planned was.num one.plan one.grant.inodes;
-  store = store_planned was.store one.plan one.grant;
-  parts = part_next was.store was.parts one.plan one.grant;
-}
-
--- and once the fsyncs with these stamps have brought theirs, one after another
-abbrev pub all_brought : (ℕ → Pair) → List ℕ → OnDisk → OnDisk
-all_brought pairs [] was = was
-all_brought pairs (stamp ∷ done) was = all_brought pairs done (with_brought (bringing_under pairs stamp) was)

@@ -2,22 +2,23 @@
 use Rattle.std.specs.FinMap.{get, empty}
 use Rattle.std.specs.Prelude.{◌≡◌, ◌∷◌, ◌++◌, ℕ, List, [], filter, map, None, is_some}
 use Rattle.sfs_base.specs.declared.numbers.SpaceKind.{SpaceKind}
-use Rattle.cut_laws.specs.Machine.{Flight}
-use Rattle.cut_laws.specs.Rules.{IsOneOf}
 use Rattle.tree_laws.specs.declared.turns.Turn.{Turn}
 use Rattle.tree_laws.specs.declared.turns.TurnAct.{TurnAct}
 use Rattle.tree_laws.specs.declared.turns.TurnAct.TheVariants as act
+use Rattle.cut_laws.specs.Machine.{Flight}
+use Rattle.cut_laws.specs.Rules.{IsOneOf}
 use Rattle.beside_laws.specs.Steps.{Flown, flight_of_flown}
 use Rattle.flush_laws.specs.Volume.{Volume}
-use Rattle.mark_laws.specs.Changed.{HasShortFiles}
-use Rattle.volume_laws.specs.Volume.{IsVolumeStanding}
 use Rattle.turn_laws.specs.Books.{Grant, Waiting, Books, books_of, flush_at, free_in, least_open, FitsFree, IsShortOf, is_other_grant, AreTurns}
 use Rattle.turn_laws.specs.Need.{nothing}
 use Rattle.turn_laws.specs.Ways.{HasCommit}
-use Rattle.turn_ties.specs.Plans.{image_held, Planning, amount_planned}
 use Rattle.merge_laws.specs.Plays.{Aloft, PlayState, Plays}
+use Rattle.volume_laws.specs.Volume.{IsVolumeStanding}
+use Rattle.turn_ties.specs.Plans.{image_held, Planning, amount_planned}
+use Rattle.bringing_laws.specs.Brings.{Bringing}
+use Rattle.bringing_laws.specs.Imagined.{Imagines}
 use Rattle.walk_laws.specs.Midway.{books_beside, books_granted, PlansTurn}
-use Rattle.walk_laws.specs.Pairs.{Pair, bringing_under, flush_under, PairsBeside, PairReserves, on_disk, all_brought}
+use Rattle.walk_laws.specs.Pairs.{Pair, bringing_under, PairsBeside, PairReserves}
 
 -- What the books of a record are kept from: the volume that it begins with, and by the stamp of each fsync its commit with what it brings, and its
 -- core.
@@ -63,17 +64,16 @@ grants_after pairs grants (turn ∷ turns) = grants_after pairs (grants_by pairs
 abbrev pub grants_in : (ℕ → Pair) → List Turn → List Grant
 grants_in pairs turns = grants_after pairs [] turns
 
--- A volume is the one imagined where fsyncs have done this, of which none has failed: it stands; it is of the same mount, history and layout as the
--- first one; its fsyncs are the first one's and those that are done, in their order; the commits that are done and open stand beside it; and its disk
--- is the first one's with what those that are done have brought.
+-- what the fsyncs with these stamps bring
+abbrev pub brought_under : (ℕ → Pair) → List ℕ → List Bringing
+brought_under pairs stamps = map (bringing_under pairs) stamps
+
+-- A volume is the one imagined where fsyncs have done this, of which none has failed: it stands; it is the first one once those that are done have
+-- brought what they bring, in their order; and the commits that are done and open stand beside it.
 pub record IsVolumeAt (kept : Bookkeeping) (at : PlayState) (volume : Volume) : Type 0 where
   pub stands : IsVolumeStanding volume
-  pub first : volume.first ≡ kept.start.first
-  pub history : volume.history ≡ kept.start.history
-  pub layout : volume.layout ≡ kept.start.layout
-  pub flushes : volume.flushes ≡ kept.start.flushes ++ map (flush_under kept.pairs) at.done
+  pub imagines : Imagines kept.start (brought_under kept.pairs at.done) volume
   pub beside : PairsBeside kept.pairs at.done (open_stamps at) volume
-  pub disk : on_disk volume ≡ all_brought kept.pairs at.done (on_disk kept.start)
 
 -- A turn may reserve there: its fsync may be open beside those that are, what its plan needs fits, and its inodes are the least ones.
 pub record ReservesThere (kept : Bookkeeping) (grants : List Grant) (at : PlayState) (volume : Volume) (turn : Turn) : Type 0 where
@@ -117,10 +117,9 @@ pub record FitsRecord (kept : Bookkeeping) (turns : List Turn) : Type 0 where
   pub fits : (front : List Turn) (turn : Turn) (at : PlayState) (volume : Volume) → IsCalmPlace kept turns front turn at volume
       → FitsAct turn.act kept (grants_in kept.pairs front) at volume turn
 
--- A walk may begin with a volume: it stands, no file of its mount's tree is too long, its cut is 0, and the nodes of its mount's tree have an inode.
+-- A walk may begin with a volume: it stands, its cut is 0, and the nodes of its mount's tree have an inode.
 pub record BeginsWalk (start : Volume) : Type 0 where
   pub stands : IsVolumeStanding start
-  pub short : HasShortFiles start.first
   pub cut : start.cut ≡ empty
   pub inodes : start.inodes ≡ (λ node. is_some (get start.first.nodes node))
 

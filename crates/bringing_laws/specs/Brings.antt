@@ -2,9 +2,9 @@
 use Rattle.std.specs.Prelude.{◌≡◌, ℕ, Bool, true, false, List, Contains}
 use Rattle.sfs_image.specs.ImageOf.{InodePart}
 use Rattle.space_map.specs.Space.{GrantedNumbers}
+use Rattle.disk_nodes.specs.declared.old.OldEntry.{OldEntry}
 use Rattle.disk_change.specs.Directory.{is_among}
 use Rattle.disk_change.specs.declared.files.FileChange.{FileChange}
-use Rattle.disk_nodes.specs.declared.old.OldEntry.{OldEntry}
 use Rattle.commit_laws.specs.CommitOfPlan.{CommitPlan}
 use Rattle.cut_laws.specs.Closure.{Flush}
 use Rattle.cut_laws.specs.Cut.{Cut}
@@ -12,9 +12,7 @@ use Rattle.flush_laws.specs.Journal.{parts_brought}
 use Rattle.flush_laws.specs.Laws.{IsStoreLeft}
 use Rattle.flush_laws.specs.Planned.{IsPlannedFsync}
 use Rattle.flush_laws.specs.Volume.{Volume, OneFsync, volume_left}
-use Rattle.mark_laws.specs.Changed.{HasShortFiles}
 use Rattle.volume_laws.specs.Stores.{ComesNow}
-use Rattle.volume_laws.specs.Volume.{IsVolumeStanding}
 use Rattle.turn_ties.specs.Plans.{planning_of, HasTouchedPages}
 
 -- What an fsync brings, as it was planned: the nodes that it concerns, the plan with its grant, and the parts that it gives inodes.
@@ -62,8 +60,6 @@ pub record BringApart (mine theirs : Bringing) : Type 0 where
 
 -- Two fsyncs bring something to one volume, and share nothing; one of them leaves these blocks.
 pub record EndsBeside (volume : Volume) (mine theirs : Bringing) (later : ℕ → List ℕ) : Type 0 where
-  pub stands : IsVolumeStanding volume
-  pub short : HasShortFiles volume.first
   pub stays : Brings volume mine
   pub ends : Brings volume theirs
   pub apart : BringApart mine theirs

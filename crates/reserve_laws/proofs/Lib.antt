@@ -1,0 +1,4 @@
+pub mod Plans
+pub mod Looks
+pub mod OwnFile
+pub mod Fits
