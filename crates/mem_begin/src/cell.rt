@@ -8,7 +8,7 @@ use crate::bucket::bucket_of;
 use crate::file::file_of;
 use disk_nodes::{OldDisk, OldNode, take_old};
 use mem_cells::LogPart;
-use mem_values::{Cell, CellId, PartCell, Pending, TreeLock};
+use mem_values::{Cell, CellId, KeptNode, PartCell, Pending, TreeLock};
 use sfs_base::{NoMemory, Stamp};
 use sfs_tree::Tree;
 use std::alloc::Global;
@@ -49,7 +49,7 @@ pub(crate) fn begin_cell(
             file: Box::new(alloc, file_of(alloc, tree, node)?)?,
         }),
         CellId::Pending { node: _ } => Ok(Cell::Pending {
-            pending: Box::new(alloc, unflushed(old))?,
+            pending: Box::new(alloc, unflushed(boxed(alloc, old)?))?,
         }),
         CellId::Part { core: _ } => Ok(Cell::Part {
             part: Box::new(alloc, empty_part(alloc))?,
@@ -57,8 +57,18 @@ pub(crate) fn begin_cell(
     }
 }
 
+// What the disk has of a node, if anything, in a box.
+fn boxed(alloc: Global, old: Option<OldNode>) -> Result<Option<KeptNode>, NoMemory>
+    ensures { IfOk result (λ kept. kept ≡ old) }
+{
+    match old {
+        Some(node) => Ok(Some(KeptNode::new(alloc, node)?)),
+        None => Ok(None),
+    }
+}
+
 // What was flushed of a node before any commit.
-fn unflushed(old: Option<OldNode>) -> Pending
+fn unflushed(old: Option<KeptNode>) -> Pending
     ensures { result ≡ record { cut = record { 0 = 0 }; last = 0; made_in = None; old = old } }
 {
     Pending {

@@ -42,7 +42,8 @@ module _ (given : ℕ → Option OldKept) (first : TreeState) (commit : Commitme
           absurd (not (trims_grow before rest (record { core = commit.core; number = commit.number; part = part })
           (trimmed (commit, what) member last has part known)))
 
-  still_last : (before rest : List (Event Fact)) → AreLawfulBehind given first before rest → last_writer node (commits_of before) ≡ Some (commit, what)
+  -- so it stays the last one as long as a part is not trimmed for it
+  pub still_last : (before rest : List (Event Fact)) → AreLawfulBehind given first before rest → last_writer node (commits_of before) ≡ Some (commit, what)
       → (IsOneOf (trimmings_of (before ++ rest)) (record { core = commit.core; number = commit.number; part = part }) → ⊥)
       → last_writer node (commits_of (before ++ rest)) ≡ Some (commit, what)
   still_last before [] lawful last not = ap (λ l. last_writer node (commits_of l)) (append-nil before) ∙ last

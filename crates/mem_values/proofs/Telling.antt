@@ -145,6 +145,7 @@ module _ (given : ℕ → Option OldKept) (view : View TreeState (Event Fact)) (
         rises = follows.rises;
         within = let w = asks.within held among in let more = calls_grow view.seen log past.seen in omega (arith, w, more);
         stays = λ directory none. follows.stays (sym there.1 ∙ directory) none;
+        below = asks.inodes held among;
       }
 
   are_directories : (directory : ℕ) → IsOneOf commit.members directory → is_directory (tree_after first (calls_in log)) directory ≡ true

@@ -29,7 +29,7 @@ use Rattle.mem_values.specs.Account.{is_held_of, Commitment, held_by, Trimming, 
 use Rattle.mem_values.specs.Worked.{WorkedCommit, IsWorkedCommit, AreWorkedNodes, worked_fsync, worked_log, IsWorkedPending, IsWorkedPart, TablesCanBeMet}
 use Rattle.mem_values.specs.Telling.{commit_by}
 use Rattle.mem_values.specs.declared.fact.Fact.{Fact}
-use Rattle.mem_values.specs.Facts.{MayHoldNode, MayBeCommitted, RaisesMember, IsLawfulLog, MayBeTrimmed}
+use Rattle.mem_values.specs.Facts.{IsBelowInodes, MayHoldNode, MayBeCommitted, RaisesMember, IsLawfulLog, MayBeTrimmed}
 use Rattle.mem_values.specs.Stands.{flushed_by, Flushed, IsTrimmedFor, StandsPending, StandsPart, KeepFrom}
 use Rattle.mem_values.specs.Logs.{entry_logged, own_logged}
 use Rattle.mem_values.specs.declared.cell.Pending.{Pending}
@@ -57,7 +57,7 @@ module _ (a b : HeldNode) where
       ∙ ap (λ t. if t then Some b else None) (ne_eqb b.node.0 node not_b)
 
 -- a commit of the table, as it is told
-module _ (third cut core number stamp : ℕ) (commit : WorkedCommit) (is : IsWorkedCommit third cut commit) (apart : commit.own ≢ third) where
+module _ {inodes : ℕ} (third cut core number stamp : ℕ) (commit : WorkedCommit) (is : IsWorkedCommit inodes third cut commit) (apart : commit.own ≢ third) where
   abbrev told : Commitment
   told = commit_by core number (numbered_node commit.own) (record { 0 = stamp }) commit.members commit.held
 
@@ -97,7 +97,7 @@ module _ (third cut core number stamp : ℕ) (commit : WorkedCommit) (is : IsWor
   ]
 
 module _ (given : ℕ → Option OldKept) (first : TreeState) (third : ℕ) (one two : WorkedCommit) (nodes : AreWorkedNodes first one.own two.own third)
-    (one_is : IsWorkedCommit third 1 one) (two_is : IsWorkedCommit third 2 two) where
+    (one_is : IsWorkedCommit first.first third 1 one) (two_is : IsWorkedCommit first.first third 2 two) where
   abbrev calls : List Entry
   calls = worked_fsync 0 0 one.own ∷ worked_fsync 1 1 two.own ∷ []
 
@@ -149,15 +149,16 @@ module _ (given : ℕ → Option OldKept) (first : TreeState) (third : ℕ) (one
   before_two = record { calls = calls; commits = c_one ∷ []; trimmings = trimmings_one }
 
   -- the first commit finds nothing flushed
-  one_holds : (node : ℕ) (new : Option OldKept) → is_directory first node ≡ true → IsOneOf c_one.members node
+  one_holds : (node : ℕ) (new : Option OldKept) → is_directory first node ≡ true → IsOneOf c_one.members node → IsBelowInodes first.first new
       → MayHoldNode given first before_one c_one (record { node = numbered_node node; new_cut = record { 0 = 1 }; new = new })
-  one_holds node new is member = record {
+  one_holds node new is member inode = record {
     node = node_there node is;
     trimmed = λ writer has last among part lt. absurd (cc last);
     later = omega arith;
     rises = omega arith;
     within = omega arith;
     stays = λ directory none. absurd (none member);
+    below = inode;
   }
 
   one_may : MayBeCommitted given first before_one c_one
@@ -165,8 +166,8 @@ module _ (given : ℕ → Option OldKept) (first : TreeState) (third : ℕ) (one
     own = record { entry = worked_fsync 0 0 one.own; among = inl refl; own = refl; stamped = refl; fsync = refl; waits = refl };
     fresh = λ other among core number. among;
     holds = each_held third 1 0 1 0 one one_is nodes.apart.1.0 (MayHoldNode given first before_one c_one)
-        (one_holds one.own one.new nodes.one_is (own_member third 1 0 1 0 one one_is nodes.apart.1.0))
-        (one_holds third one.new_third nodes.third_is (third_member third 1 0 1 0 one one_is nodes.apart.1.0));
+        (one_holds one.own one.new nodes.one_is (own_member third 1 0 1 0 one one_is nodes.apart.1.0) one_is.inode_is)
+        (one_holds third one.new_third nodes.third_is (third_member third 1 0 1 0 one one_is nodes.apart.1.0) one_is.third_inode_is);
     raises = each_member third 1 0 1 0 one one_is nodes.apart.1.0 (RaisesMember c_one)
         (own_held third 1 0 1 0 one one_is nodes.apart.1.0, holds_own third 1 0 1 0 one one_is nodes.apart.1.0, omega arith)
         (third_held third 1 0 1 0 one one_is nodes.apart.1.0, holds_third third 1 0 1 0 one one_is nodes.apart.1.0, omega arith);
@@ -205,6 +206,7 @@ module _ (given : ℕ → Option OldKept) (first : TreeState) (third : ℕ) (one
     rises = subst (λ (w : Option (Commitment × HeldNode)). (flushed_by given two.own w).cut ≤ 2) (sym left_two) (omega arith);
     within = omega arith;
     stays = λ directory none. absurd (none (own_member third 2 1 2 1 two two_is nodes.apart.1.1));
+    below = two_is.inode_is;
   }
 
   two_holds_third : MayHoldNode given first before_two c_two (third_held third 2 1 2 1 two two_is nodes.apart.1.1)
@@ -217,6 +219,7 @@ module _ (given : ℕ → Option OldKept) (first : TreeState) (third : ℕ) (one
     rises = subst (λ (w : Option (Commitment × HeldNode)). (flushed_by given third w).cut ≤ 2) (sym left_third) (omega arith);
     within = omega arith;
     stays = λ directory none. absurd (none (third_member third 2 1 2 1 two two_is nodes.apart.1.1));
+    below = two_is.third_inode_is;
   }
 
   two_may : MayBeCommitted given first before_two c_two

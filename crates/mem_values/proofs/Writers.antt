@@ -11,8 +11,8 @@ use Rattle.cut_laws.proofs.Basics.{in_left, in_either}
 use Rattle.stamp_table.specs.Events.{calls_in, called}
 use Rattle.stamp_table.specs.declared.event.Event.{Event}
 use Rattle.stamp_table.specs.declared.event.Event.TheVariants.{Called, Told}
-use Rattle.mem_values.specs.Facts.{HasFsync, MayBeCommitted, MayHoldNode, MayStandAfter, AreLawfulBehind, IsLawfulLog}
-use Rattle.mem_values.specs.Writers.{CommitsHaveFsyncs, Writes, WritersRise, NumbersNameWriters, EarlierWritersAreTrimmed}
+use Rattle.mem_values.specs.Facts.{HasFsync, IsBelowInodes, MayBeCommitted, MayHoldNode, MayStandAfter, AreLawfulBehind, IsLawfulLog}
+use Rattle.mem_values.specs.Writers.{CommitsHaveFsyncs, Writes, WritersRise, NumbersNameWriters, EarlierWritersAreTrimmed, InodesStayBelow}
 use Rattle.mem_values.specs.Account.{Account, Commitment, last_writer, Trimming, held_by, writes_by, account_of}
 use Rattle.mem_values.specs.declared.fact.HeldNode.{HeldNode}
 use Rattle.mem_values.specs.Stands.{flushed_in, IsTrimmedFor, flushed_by, AreTrimmedFor}
@@ -194,3 +194,33 @@ numbers_name_writers given first log node commit other held theirs lawful writes
 
 pub earlier_writers_are_trimmed : EarlierWritersAreTrimmed
 earlier_writers_are_trimmed given first log node commit held lawful writes = (are_settled given first node log lawful).trimmed commit held writes
+
+-- the last writer of a node is one of the commits, and holds it
+abbrev IsWriter : ℕ → List Commitment → Commitment × HeldNode → Type 0
+IsWriter node commits writer = IsOneOf commits writer.0 × (held_by writer.0 node ≡ Some writer.1)
+
+writer_by : (node : ℕ) (commit : Commitment) (commits : List Commitment) (writer : Commitment × HeldNode)
+    → (last_writer node commits ≡ Some writer → IsWriter node commits writer) → (later : Option (Commitment × HeldNode)) → last_writer node commits ≡ later
+    → (own : Option HeldNode) → held_by commit node ≡ own → option_or later (writes_by commit own) ≡ Some writer → IsWriter node (commit ∷ commits) writer
+writer_by node commit commits writer behind (Some w) there own here is = let found = behind (there ∙ is) in (inr found.0, found.1)
+writer_by node commit commits writer behind None there None here is = absurd (cc (is))
+writer_by node commit commits writer behind None there (Some h) here is =
+    let same : (commit, h) ≡ writer = some_same is in
+    (inl (ap (λ (w : Commitment × HeldNode). w.0) same), subst (λ (w : Commitment × HeldNode). held_by w.0 node ≡ Some w.1) same here)
+
+writer_holds : (node : ℕ) (commits : List Commitment) (writer : Commitment × HeldNode) → last_writer node commits ≡ Some writer
+    → IsWriter node commits writer
+writer_holds node [] writer is = absurd (cc (is))
+writer_holds node (commit ∷ commits) writer is =
+    writer_by node commit commits writer (writer_holds node commits writer) (last_writer node commits) refl (held_by commit node) refl is
+
+pub inodes_stay_below : InodesStayBelow
+inodes_stay_below given first log node begun lawful = below_by (last_writer node (account_of log).commits) refl
+  where
+    below_by : (writer : Option (Commitment × HeldNode)) → last_writer node (account_of log).commits ≡ writer
+        → IsBelowInodes first.first (flushed_by given node writer).old
+    below_by None is = begun node
+    below_by (Some writer) is =
+        let holds = writer_holds node (account_of log).commits writer is in
+        let c = came given first log writer.0 lawful holds.0 in
+        (c.may.holds writer.1 (found_of node writer.0.held writer.1 holds.1).0).below

@@ -26,8 +26,13 @@ pub record HasFsync (calls : List Entry) (core node stamp : ℕ) : Type 0 where
   pub fsync : entry.call ≡ call.Fsync (record { 0 = node })
   pub waits : entry.reply ≡ reply.NoMemory
 
+-- what the disk has of a node, if anything, is the inode of a number below these
+abbrev pub IsBelowInodes : ℕ → Option OldKept → Type 0
+IsBelowInodes inodes old = (kept : OldKept) → old ≡ Some kept → kept.number < inodes
+
 -- A commit may hold a node of the tree: every part was trimmed for the last commit before it where it had to be, its number is greater than
--- that one's, and the cut that it writes is not below that one's, nor above the calls so far; of a directory that is no member it stays.
+-- that one's, and the cut that it writes is not below that one's, nor above the calls so far; of a directory that is no member it stays. What the
+-- disk has of the node then is one of the inodes, which are as many as the first tree has numbers.
 pub record MayHoldNode (given : ℕ → Option OldKept) (first : TreeState) (account : Account) (commit : Commitment) (held : HeldNode) : Type 0 where
   pub node : IsSome (get (tree_after first account.calls).nodes held.node.0)
   pub trimmed : AreTrimmedFor first account held.node.0
@@ -36,6 +41,7 @@ pub record MayHoldNode (given : ℕ → Option OldKept) (first : TreeState) (acc
   pub within : held.new_cut.0 ≤ length account.calls
   pub stays : is_directory (tree_after first account.calls) held.node.0 ≡ true → (IsOneOf commit.members held.node.0 → ⊥)
       → held.new_cut.0 ≡ (flushed_in given account held.node.0).cut
+  pub below : IsBelowInodes first.first held.new
 
 -- a commit holds a directory, and writes a cut for it that is not below the stamp
 abbrev pub RaisesMember : Commitment → ℕ → Type 0

@@ -21,7 +21,7 @@ use Rattle.mem_values.specs.declared.cell.Pending.{Pending}
 use Rattle.mem_values.specs.declared.cell.PartCell.{PartCell}
 use Rattle.mem_values.specs.Account.{account_of}
 use Rattle.mem_values.specs.Stands.{StandsPending, StandsPart}
-use Rattle.mem_values.specs.Facts.{IsLawfulLog}
+use Rattle.mem_values.specs.Facts.{IsBelowInodes, IsLawfulLog}
 
 -- an fsync that a core stamps
 abbrev pub worked_fsync : ℕ → ℕ → ℕ → Entry
@@ -36,13 +36,15 @@ pub record WorkedCommit : Type 0 where
   pub new : Option OldKept
   pub new_third : Option OldKept
 
--- The members are the commit's directory and the third one, and it holds both, each with this cut.
-pub record IsWorkedCommit (third cut : ℕ) (commit : WorkedCommit) : Type 0 where
+-- The members are the commit's directory and the third one, and it holds both, each with this cut and one of the inodes or none.
+pub record IsWorkedCommit (inodes third cut : ℕ) (commit : WorkedCommit) : Type 0 where
   pub members_are : commit.members.items ≡ numbered_node commit.own ∷ numbered_node third ∷ []
   pub held_are : commit.held.items
       ≡ record { node = numbered_node commit.own; new_cut = record { 0 = cut }; new = commit.new }
       ∷ record { node = numbered_node third; new_cut = record { 0 = cut }; new = commit.new_third }
       ∷ []
+  pub inode_is : IsBelowInodes inodes commit.new
+  pub third_inode_is : IsBelowInodes inodes commit.new_third
 
 -- what a core tells of its commit: its number, and its stamp
 abbrev pub worked_commit : ℕ → ℕ → WorkedCommit → Fact
@@ -99,4 +101,4 @@ pub record IsWorkedTable (given : ℕ → Option OldKept) (first : TreeState) (t
 abbrev pub TablesCanBeMet : Type 0
 TablesCanBeMet =
     (given : ℕ → Option OldKept) (first : TreeState) (third : ℕ) (one two : WorkedCommit) → AreWorkedNodes first one.own two.own third
-    → IsWorkedCommit third 1 one → IsWorkedCommit third 2 two → IsWorkedTable given first third one two (worked_log one two)
+    → IsWorkedCommit first.first third 1 one → IsWorkedCommit first.first third 2 two → IsWorkedTable given first third one two (worked_log one two)

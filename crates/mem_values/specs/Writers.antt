@@ -8,7 +8,7 @@ use Rattle.mem_values.specs.declared.fact.Fact.{Fact}
 use Rattle.mem_values.specs.declared.fact.HeldNode.{HeldNode}
 use Rattle.mem_values.specs.Account.{Account, Commitment, account_of, held_by, last_writer}
 use Rattle.mem_values.specs.Stands.{flushed_in, IsTrimmedFor}
-use Rattle.mem_values.specs.Facts.{HasFsync, IsLawfulLog}
+use Rattle.mem_values.specs.Facts.{HasFsync, IsBelowInodes, IsLawfulLog}
 
 -- A commit is one of an account, and this is what it holds of a node.
 pub record Writes (account : Account) (node : ℕ) (commit : Commitment) (held : HeldNode) : Type 0 where
@@ -43,3 +43,9 @@ abbrev pub CommitsHaveFsyncs : Type 0
 CommitsHaveFsyncs =
     (given : ℕ → Option OldKept) (first : TreeState) (log : List (Event Fact)) (commit : Commitment) → IsLawfulLog given first log
     → IsOneOf (account_of log).commits commit → HasFsync (account_of log).calls commit.core commit.node commit.stamp
+
+-- Where what was given has inodes of numbers below the first tree's, so has what was flushed of each node.
+abbrev pub InodesStayBelow : Type 0
+InodesStayBelow =
+    (given : ℕ → Option OldKept) (first : TreeState) (log : List (Event Fact)) (node : ℕ) → ((of : ℕ) → IsBelowInodes first.first (given of))
+    → IsLawfulLog given first log → IsBelowInodes first.first (flushed_in given (account_of log) node).old

@@ -1,6 +1,5 @@
 // The five values that cells hold.
-use crate::Bucket;
-use disk_nodes::OldNode;
+use crate::{Bucket, KeptNode};
 use mem_cells::LogPart;
 use mem_files::FileBytes;
 use sfs_base::{NodeId, Stamp};
@@ -26,7 +25,7 @@ pub struct Pending {
     pub cut: Stamp,
     pub last: u64,
     pub made_in: Option<NodeId>,
-    pub old: Option<OldNode>,
+    pub old: Option<KeptNode>,
 }
 
 /// The log of a core, and how many nodes it has made.

@@ -6,7 +6,7 @@ ghost use Rattle.mem_values.specs.Places.{cell_place};
 ghost use Rattle.mem_values.specs.Stands.{StandsAt};
 ghost use Rattle.mem_values.specs.Facts.{IsLawfulLog};
 
-use crate::{Cell, CellId, Fact, FileTable};
+use crate::{Cell, CellId, Fact, FileTable, KeptNode};
 use disk_nodes::OldDisk;
 use sfs_base::NodeId;
 use stamp_table::{Core, Shared};
@@ -57,20 +57,34 @@ pub fn replace_value(core: &mut FileCore, nodes: u32, cell: CellId, value: Cell)
 
 ghost use Rattle.std.specs.Prelude.{◌<◌, []};
 ghost use Rattle.mem_values.specs.Start.{given_by};
-ghost use Rattle.mem_values.specs.Inode.{has_inode_kept, SawInode};
+ghost use Rattle.mem_values.specs.Inode.{is_file_kept, has_inode_kept, SawInode};
 ghost use Rattle.mem_values.specs.declared.cell_id.CellId.TheVariants.{Pending};
 
-// Whether a cell has what the disk has of its node.
+// The kind of a file in a record.
+const FILE: u8 = 1;
+
+// Whether what the disk has of a node is the record of a file.
+fn is_file(old: &Option<KeptNode>) -> bool
+    ensures { result ≡ is_file_kept old.now }
+{
+    match old {
+        Some(kept) => kept.get().meta.kind == FILE,
+        None => false,
+    }
+}
+
+// Whether a cell has what the disk has of a file.
 fn has_inode_in(cell: &Cell) -> bool
     ensures { result ≡ has_inode_kept cell.now }
 {
     match cell {
-        Cell::Pending { pending } => pending.old.is_some(),
+        Cell::Pending { pending } => is_file(&pending.old),
         _ => false,
     }
 }
 
-/// Whether a node has an inode, as what was flushed of it says when this call holds it. The core holds no cell before and after it.
+/// Whether a node is a file that has an inode, as what was flushed of it says when this call holds it. The core holds no cell before and
+/// after it.
 pub fn has_inode<R: Wait>(
     rt: &R,
     shared: &FileShared,

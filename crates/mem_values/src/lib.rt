@@ -7,6 +7,7 @@ mod cell_id;
 mod fact;
 mod file_table;
 mod holding;
+mod kept_node;
 pub mod laws;
 
 pub use bucket::Bucket;
@@ -15,3 +16,4 @@ pub use cell_id::CellId;
 pub use fact::{Fact, HeldNode};
 pub use file_table::FileTable;
 pub use holding::{FileCore, FileShared, has_inode, hold_cells, replace_value, value_of};
+pub use kept_node::KeptNode;

@@ -23,7 +23,7 @@ pub places_snoc : {C : Type 0} (cells : List (HeldCell C)) (cell : HeldCell C)
 places_snoc cells cell = ap reverse (map-append (λ c. c.place) cells (cell ∷ [])) ∙ reverse-append (places_of cells) (cell.place ∷ [])
 
 -- a place above others that fall is none of them
-above_all : (place p : ℕ) (places : List ℕ) → LiesAbove place places → Falls places → Has places p → p < place
+pub above_all : (place p : ℕ) (places : List ℕ) → LiesAbove place places → Falls places → Has places p → p < place
 above_all place p [] above falls has = absurd has
 above_all place p (next ∷ places) above falls has =
     ⊎_elim (λ here. let lt = above in omega (arith, lt, here))

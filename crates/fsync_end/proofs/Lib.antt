@@ -1,0 +1,6 @@
+mod Logs
+mod Homewards
+mod Trims
+mod Ended
+mod AllTrimmed
+mod Finishes

@@ -1,0 +1,3 @@
+pub mod Cells
+mod Held
+mod Copied
