@@ -1,6 +1,6 @@
 -- A commit that is made from notes is ruled by those that are done, and saw what they left.
 use Rattle.std.specs.FinMap.{get}
-use Rattle.std.proofs.Common.{◌<◌, ◌≡◌, ◌≤◌, ◌∙◌, ◌++◌, List, ℕ, length, Some, true, arith, refl, Bool, false, subst, inl, inr, is_some, sym}
+use Rattle.std.proofs.Common.{◌<◌, ◌≡◌, ◌≤◌, List, ℕ, length, Some, true, arith, refl, Bool, false, subst, inl, inr, is_some, sym}
 use Rattle.sfs_base.proofs.BasicTruth.{not_both}
 use Rattle.tree_laws.specs.declared.history.Entry.{Entry}
 use Rattle.tree_laws.specs.Tree.{is_directory}

@@ -1,8 +1,6 @@
 -- What a core noted of each core's log for one fsync, and what that tells of the commits of the run.
-use Rattle.std.specs.Prelude.{◌≡◌, ◌⊎◌, ℕ, ◌<◌, ◌≤◌, ◌&&◌, nat_le, nat_lt, ◌∷◌, ◌++◌, Bool, true, List, [], filter, length, Option, Some, slice_index_or}
-use Rattle.tree_laws.specs.declared.changes.Change.{Change}
+use Rattle.std.specs.Prelude.{◌≡◌, ℕ, ◌<◌, ◌≤◌, ◌++◌, List, filter, length, Option, Some, slice_index_or}
 use Rattle.tree_laws.specs.declared.history.Entry.{Entry}
-use Rattle.tree_laws.specs.History.{IsLegal}
 use Rattle.tree_laws.specs.Logged.{is_logged_in}
 use Rattle.tree_laws.specs.Tree.{TreeState}
 use Rattle.cut_laws.specs.Rules.{IsOneOf}
@@ -20,7 +18,7 @@ use Rattle.mem_values.specs.declared.cell.PartCell.{PartCell}
 use Rattle.mem_values.specs.declared.cell.Pending.{Pending}
 use Rattle.mem_values.specs.declared.fact.Fact.{Fact}
 use Rattle.mem_values.specs.declared.fact.HeldNode.{HeldNode}
-use Rattle.note_laws.specs.Run.{TableRun, calls_of, IsTableRun, IsToldIn}
+use Rattle.note_laws.specs.Run.{TableRun, IsTableRun, IsToldIn}
 
 -- Marks of a core's log, as commits trimmed it: none is above a cut that was written for its directory, and where the log was trimmed for a commit the mark
 -- of each of its members has the commit's stamp at least.
