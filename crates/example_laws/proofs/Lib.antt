@@ -1,3 +1,5 @@
 pub mod Tree
 pub mod Image
 pub mod Standing
+pub mod Plans
+pub mod Telling

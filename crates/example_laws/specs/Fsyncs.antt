@@ -77,8 +77,8 @@ sources_by flushing = record {
 }
 
 -- its commit
-abbrev pub commit_by : Flushing → CoreCommit
-commit_by flushing = record {
+abbrev pub core_commit_of : Flushing → CoreCommit
+core_commit_of flushing = record {
   number = flushing.number;
   look = look_of (record { 0 = flushing.node }) (record { 0 = flushing.stamp }) (gathered_by flushing);
   counts = every_entry;
@@ -105,7 +105,7 @@ NO_GRANT = record { inodes = []; blocks = [] }
 -- its pair
 abbrev pub pair_by : Flushing → Pair
 pair_by flushing = record {
-  commit = commit_by flushing;
+  commit = core_commit_of flushing;
   one = record {
     flush = record { node = flushing.node; stamp = flushing.stamp };
     nodes = flushing.node ∷ [];
