@@ -3,3 +3,4 @@ pub mod Image
 pub mod Standing
 pub mod Plans
 pub mod Telling
+pub mod Reserving

@@ -136,10 +136,13 @@ numbered node i has = elim (cases_eq node 0) [
 held_first : (i place : ℕ) → pointer_at (TWO_PARTS i) place ≢ 0 → (i ≡ 0) × (place ≡ 0)
 held_first i place there = elim (inode_cases i) [
   | inl known ↦ elim known [
-    | inl root ↦ (root, elim (cases_eq place 0) [
-      | inl first ↦ first
-      | inr other ↦ absurd (there (ap (λ j. pointer_at (TWO_PARTS j) place) root ∙ root_others place other))
-    ])
+    | inl root ↦ (
+      root,
+      elim (cases_eq place 0) [
+        | inl first ↦ first
+        | inr other ↦ absurd (there (ap (λ j. pointer_at (TWO_PARTS j) place) root ∙ root_others place other))
+      ],
+    )
     | inr one ↦ absurd (there (ap (λ j. pointer_at (TWO_PARTS j) place) one ∙ one_has_none place))
   ]
   | inr free ↦ absurd (there (free_has i free.2 place))
@@ -190,7 +193,7 @@ mounted = record { sound = two_sound; limits = two_limits; alive = two_alive; le
 pub numbers_nodes : (node : ℕ) → (is_some (get TWO_CORES.nodes node) ≡ true) ↔ HasNumber TWO_NUMBERS node
 numbers_nodes node = (
   λ there. elim (node_is node) [
-    | inl known ↦ elim known [ | inl root ↦ (0, ap TWO_NUMBERS root) | inr one ↦ (1, ap TWO_NUMBERS one) ]
+    | inl known ↦ elim known [ inl root ↦ (0, ap TWO_NUMBERS root) | inr one ↦ (1, ap TWO_NUMBERS one) ]
     | inr neither ↦ absurd (true_not_false (sym there ∙ ap (λ (o : Option Node). is_some o) neither.2))
   ],
   λ has. elim (numbered node has.0 has.1) [

@@ -214,7 +214,7 @@ module _ (f : Flushing) (told : IsTold f) where
   pub by_look : IsByItsLook (core_commit_of f)
   by_look = record {
     members = λ node. (
-      λ one. elim one [ | inl same ↦ gathers_own (sym same) | inr never ↦ absurd never ],
+      λ one. elim one [ inl same ↦ gathers_own (sym same) | inr never ↦ absurd never ],
       λ gathers. inl (sym (own_node gathers)),
     );
     holds = λ node. (

@@ -86,8 +86,11 @@ no_bytes node = elim (node_is node) [
 
 pub row_is : (directory child : ℕ) (name : List ℕ) → row_of TWO_CORES directory name ≡ Some child → (directory ≡ 0) × (name ≡ 97 ∷ []) × (child ≡ 1)
 row_is directory child name is = elim (key_cases directory 0 name (97 ∷ [])) [
-  | inl same ↦ (same.1, same.2,
-      sym (some_same (ap (λ b. cond b (Some 1) None) (sym same.0) ∙ sym (rows_are directory name) ∙ is)))
+  | inl same ↦ (
+    same.1,
+    same.2,
+    sym (some_same (ap (λ b. cond b (Some 1) None) (sym same.0) ∙ sym (rows_are directory name) ∙ is)),
+  )
   | inr other ↦ absurd (none_some (ap (λ b. cond b (Some 1) (let o : Option ℕ = None in o)) (sym other.0) ∙ sym (rows_are directory name) ∙ is))
 ]
 
@@ -173,7 +176,7 @@ two_sound = record {
   };
   numbered = record {
     known = λ node some. elim (node_is node) [
-      | inl known ↦ elim known [ | inl zero_is ↦ inl (omega (arith, zero_is)) | inr one_is ↦ inl (omega (arith, one_is)) ]
+      | inl known ↦ elim known [ inl zero_is ↦ inl (omega (arith, zero_is)) | inr one_is ↦ inl (omega (arith, one_is)) ]
       | inr none ↦ absurd (not_there none.2 some)
     ];
     within = λ core low. within core low;
