@@ -50,12 +50,10 @@ pub record KnownFits (known : SlotKnown) : Type 0 where
   pub fill : (n : ℕ) → known.fill_left n ≡ true → known.fill_read n ≡ true
   pub table : (n : ℕ) → known.table_left n ≡ true → known.table_read n ≡ true
 
--- What a commit is, wherever it stands: its records are those of the parts that it gives, which point to data, and its fresh blocks are whole
--- and its own.
+-- What a commit is, wherever it stands: its records are those of the parts that it gives, which point to data, and it writes no fresh block twice.
 pub record IsCommitJob (gives : ℕ → List InodePart) (layout : Layout) (work : SlotWork) : Type 0 where
   pub records : map entry_of_part (gives work.commit) ≡ work.job.entries
   pub pointers : All (λ (own : InodePart). PointsToData layout own.part) (gives work.commit)
-  pub whole : (n : ℕ) → n < length work.job.fresh → length (fill_piece work.job n).bytes ≡ 4096
   pub own : HaveOwnBlocks work.job.fresh
 
 -- What a commit that is not durable owes to the parts that the disk stands for: its fresh blocks turn them into those that it gives, and are none
