@@ -119,7 +119,12 @@ impl Work {
         ensures work { job_of result.0 ≡ without_fresh (job_of self) }
         ensures fresh { map block_of result.1.items ≡ (job_of self).fresh }
     {
-        let Work { spot, packed, stamp, head } = self;
+        let Work {
+            spot,
+            packed,
+            stamp,
+            head,
+        } = self;
         let (packed, fresh) = packed.shed(alloc);
         (
             Work {

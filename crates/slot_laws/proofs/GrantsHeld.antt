@@ -159,32 +159,32 @@ module _ (part : GrantedNumbers → List ℕ) (opens : List ReservedCommit) (onc
       (gone : (number : ℕ) → HasGranted part own.commit number → status_of new number ≡ Some Granted → ⊥)
       (kept : (number : ℕ) → is_listed (part own.commit.grant) number ≡ false → status_of old number ≡ Some Granted → status_of new number ≡ Some Granted)
       (back : (number : ℕ) → is_listed (part own.commit.grant) number ≡ false → status_of new number ≡ Some Granted → status_of old number ≡ Some Granted)
-      where
-    was_one : (one : ReservedCommit) → IsOneOf (commits_but number_out opens) one → IsOneOf opens one × (one.number ≢ number_out)
-    was_one one among =
-        let is = in_filter (has_other_number number_out) opens one among in
-        (is.0, other_by_test one.number number_out (not_true (nat_eq one.number number_out) is.1))
+    where
+      was_one : (one : ReservedCommit) → IsOneOf (commits_but number_out opens) one → IsOneOf opens one × (one.number ≢ number_out)
+      was_one one among =
+          let is = in_filter (has_other_number number_out) opens one among in
+          (is.0, other_by_test one.number number_out (not_true (nat_eq one.number number_out) is.1))
 
-    pub out_fits : AreGranted part (commits_but number_out opens) new
-    out_fits = record {
-      own = λ one number among has.
-          let was = was_one one among in
-          kept number
-          (fits.apart one own.commit number was.0 own.among (λ e. was.1 (e ∙ own.number_is)) has) (fits.own one number was.0 has);
-      apart = λ one other number among there differ has. fits.apart one other number (was_one one among).0 (was_one other there).0 differ has;
-      only = λ number granted.
-          let away = not_true_so (is_listed (part own.commit.grant) number) (λ listed. gone number listed granted) in
-          let it = fits.only number (back number away granted) in
-          record {
-            commit = it.commit;
-            among = to_filter (has_other_number number_out) opens it.commit it.among
-                (ap not (not_same it.commit.number number_out
-                (λ e. not_both it.has
-                (subst (λ (c : ReservedCommit). is_listed (part c.grant) number ≡ false)
-                (same_commit opens once own.commit it.commit own.among it.among (own.number_is ∙ sym e)) away))));
-            has = it.has;
-          };
-    }
+      pub out_fits : AreGranted part (commits_but number_out opens) new
+      out_fits = record {
+        own = λ one number among has.
+            let was = was_one one among in
+            kept number
+            (fits.apart one own.commit number was.0 own.among (λ e. was.1 (e ∙ own.number_is)) has) (fits.own one number was.0 has);
+        apart = λ one other number among there differ has. fits.apart one other number (was_one one among).0 (was_one other there).0 differ has;
+        only = λ number granted.
+            let away = not_true_so (is_listed (part own.commit.grant) number) (λ listed. gone number listed granted) in
+            let it = fits.only number (back number away granted) in
+            record {
+              commit = it.commit;
+              among = to_filter (has_other_number number_out) opens it.commit it.among
+                  (ap not (not_same it.commit.number number_out
+                  (λ e. not_both it.has
+                  (subst (λ (c : ReservedCommit). is_listed (part c.grant) number ≡ false)
+                  (same_commit opens once own.commit it.commit own.among it.among (own.number_is ∙ sym e)) away))));
+              has = it.has;
+            };
+      }
 
   pub return_fits : (number_out : ℕ) (own : IsOpenNumbered opens number_out) → BecomeAll Free (part own.commit.grant) old new
       → AreGranted part (commits_but number_out opens) new

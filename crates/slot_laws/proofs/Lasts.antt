@@ -49,8 +49,8 @@ changed_once : (change : ReservedCommit → ReservedCommit) → ((one : Reserved
 changed_once change stays [] once = tt
 changed_once change stays (one ∷ rest) once = (
   (λ other among e.
-  let was = from_map change rest other among in
-  once.0 was.0 was.1 (sym (stays was.0) ∙ ap (λ (c : ReservedCommit). c.number) was.2 ∙ e ∙ stays one)),
+      let was = from_map change rest other among in
+      once.0 was.0 was.1 (sym (stays was.0) ∙ ap (λ (c : ReservedCommit). c.number) was.2 ∙ e ∙ stays one)),
   changed_once change stays rest once.1,
 )
 

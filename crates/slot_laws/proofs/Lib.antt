@@ -20,3 +20,5 @@ pub mod GrantsTold
 pub mod WorkedBegins
 pub mod WorkedApart
 pub mod Worked
+pub mod WorkedMaps
+pub mod WorkedLonger

@@ -59,11 +59,11 @@ returns_restore layout before moment log one back may =
     let fits = lasts_from layout before history first (first_lasts moment) parts.0 in
     let it = still_open layout one back.front back.middle first back.goes in
     let same : (node : ℕ) → (past_from layout log first).lasts node
-        ≡ returned_last (last_seen one.seen.items node) ((past_from layout history first).lasts node) =
+    ≡ returned_last (last_seen one.seen.items node) ((past_from layout history first).lasts node) =
     λ node.
-        ap (λ (l : List (Event Label)). (past_from layout l first).lasts node) back.whole
-        ∙ ap (λ (p : BoxPast). p.lasts node) (past_parts layout before history (last ∷ []) first)
-        ∙ returned_at (past_from layout history first).opens one.commit one.seen.items it (past_from layout history first).lasts fits.once node in
+    ap (λ (l : List (Event Label)). (past_from layout l first).lasts node) back.whole
+    ∙ ap (λ (p : BoxPast). p.lasts node) (past_parts layout before history (last ∷ []) first)
+    ∙ returned_at (past_from layout history first).opens one.commit one.seen.items it (past_from layout history first).lasts fits.once node in
     record {
       own = λ node held.
           let seen = seen_some (last_seen one.seen.items node) held in

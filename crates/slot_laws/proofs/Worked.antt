@@ -34,7 +34,7 @@ module _ (own other : Filling) (own_is : BeginsIn own 0 1 (0 ∷ [])) (other_is 
   other_piece : (n : ℕ) → n < 3 → n < fill_count other.job
   other_piece n = subst (λ (count : ℕ). n < count) (sym other_is.pieces)
 
-  may_fill : MayFrom TWO_RINGS 0 both_fill (both_begun own other 2 2)
+  pub may_fill : MayFrom TWO_RINGS 0 both_fill (both_begun own other 2 2)
   may_fill = (
     (refl, tt),
     (
@@ -44,22 +44,11 @@ module _ (own other : Filling) (own_is : BeginsIn own 0 1 (0 ∷ [])) (other_is 
         (
           (refl, record { calm = refl; own = refl; has = record { work = _; there = refl; aloft = refl; gate_is = refl }; within = own_piece 2 (omega arith) }),
           (
-           (refl, record { calm = refl; own = refl; has = record { work = _; there = refl; aloft = refl; gate_is = refl }; within = own_piece 3 (omega arith) }),
-          (
-            (refl, tt),
+            (refl, record { calm = refl; own = refl; has = record { work = _; there = refl; aloft = refl; gate_is = refl }; within = own_piece 3 (omega arith) }),
             (
               (refl, tt),
               (
-                (
-                  refl,
-                  record {
-                    calm = refl;
-                    own = refl;
-                    has = record { work = _; there = refl; aloft = refl; gate_is = refl };
-                    within = other_piece
-                        0 (omega arith);
-                  },
-                ),
+                (refl, tt),
                 (
                   (
                     refl,
@@ -67,8 +56,8 @@ module _ (own other : Filling) (own_is : BeginsIn own 0 1 (0 ∷ [])) (other_is 
                       calm = refl;
                       own = refl;
                       has = record { work = _; there = refl; aloft = refl; gate_is = refl };
-                      within =
-                          other_piece 1 (omega arith);
+                      within = other_piece
+                          0 (omega arith);
                     },
                   ),
                   (
@@ -79,14 +68,26 @@ module _ (own other : Filling) (own_is : BeginsIn own 0 1 (0 ∷ [])) (other_is 
                         own = refl;
                         has = record { work = _; there = refl; aloft = refl; gate_is = refl };
                         within =
-                            other_piece 2 (omega arith);
+                            other_piece 1 (omega arith);
                       },
                     ),
                     (
-                      (refl, refl),
                       (
-                        (refl, tt),
-                        tt,
+                        refl,
+                        record {
+                          calm = refl;
+                          own = refl;
+                          has = record { work = _; there = refl; aloft = refl; gate_is = refl };
+                          within =
+                              other_piece 2 (omega arith);
+                        },
+                      ),
+                      (
+                        (refl, refl),
+                        (
+                          (refl, tt),
+                          tt,
+                        ),
                       ),
                     ),
                   ),
@@ -97,7 +98,7 @@ module _ (own other : Filling) (own_is : BeginsIn own 0 1 (0 ∷ [])) (other_is 
         ),
       ),
     ),
-  ))
+  )
 
   own_filled : (n : ℕ) → n < fill_count own.job → n < 4
   own_filled n = subst (λ (count : ℕ). n < count) own_is.pieces
@@ -105,7 +106,7 @@ module _ (own other : Filling) (own_is : BeginsIn own 0 1 (0 ∷ [])) (other_is 
   other_filled : (n : ℕ) → n < fill_count other.job → n < 3
   other_filled n = subst (λ (count : ℕ). n < count) other_is.pieces
 
-  may_land : MayFrom TWO_RINGS 0 both_land (filled_past own other)
+  pub may_land : MayFrom TWO_RINGS 0 both_land (filled_past own other)
   may_land = (
     (refl, tt),
     (
@@ -196,7 +197,7 @@ module _ (own other : Filling) (own_is : BeginsIn own 0 1 (0 ∷ [])) (other_is 
   )
 
   -- each commit but the own one has a greater stamp
-  later_stamp : (k : ℕ) (work : SlotWork) → k ≢ 0 → (landed_past own other).slots k ≡ Some work → own.job.stamp < work.job.stamp
+  pub later_stamp : (k : ℕ) (work : SlotWork) → k ≢ 0 → (landed_past own other).slots k ≡ Some work → own.job.stamp < work.job.stamp
   later_stamp k work apart there = by (same_or_not k 2)
     where
       was : CameFrom (both_begun own other 2 2).slots k work

@@ -4,6 +4,7 @@ use Rattle.sfs_base.proofs.BasicNumbers.{same_number, not_same}
 use Rattle.sfs_base.proofs.BasicOptions.{some_same}
 use Rattle.journal_one.specs.Job.{Place}
 use Rattle.journal_one.specs.declared.slot.Filling.{Filling}
+use Rattle.space_map.specs.Space.{GrantedNumbers}
 use Rattle.cut_laws.specs.Closure.{Flush}
 use Rattle.merge_laws.proofs.Blocks.{same_or_not}
 use Rattle.stamp_table.specs.declared.event.Event.{Event}
@@ -52,12 +53,12 @@ one_unmoved lasts node last is n l seen = elim (same_or_not node n) [
 ]
 
 -- what is told behind a begin, in a slot with a stamp
-abbrev pub begun_past : BoxPast → ℕ → Filling → ℕ → Flush → ℕ → ℕ → BoxPast
-begun_past past core filling commit flush k drawn = record past {
+abbrev pub begun_past : BoxPast → ℕ → Filling → ℕ → Flush → GrantedNumbers → ℕ → ℕ → BoxPast
+begun_past past core filling commit flush numbers k drawn = record past {
   slots = with_at past.slots k (Some (begun_work filling.job commit flush));
   stamps = drawn;
   begun = past.begun ++ record { turns = past.turns; slots = past.slots; work = begun_work filling.job commit flush } ∷ [];
-  opens = map (giving_up commit no_numbers) past.opens;
+  opens = map (giving_up commit numbers) past.opens;
   owns = with_at past.owns core (record (past.owns core) {
     reserved = None;
     flight = Some (record { slot = k; commit = commit; flush = flush; opened = false });
@@ -71,12 +72,12 @@ reserved_past = past_from TWO_RINGS both_reserve (first_past 0)
 abbrev pub own_begun : Filling → ℕ → ℕ → BoxPast
 own_begun own k drawn =
     after_label TWO_RINGS 0 label.Gave
-    (begun_past (after_label TWO_RINGS 0 label.Took reserved_past) 0 own 1 (record { node = 1; stamp = 0 }) k drawn)
+    (begun_past (after_label TWO_RINGS 0 label.Took reserved_past) 0 own 1 (record { node = 1; stamp = 0 }) no_numbers k drawn)
 
 abbrev pub both_begun : Filling → Filling → ℕ → ℕ → BoxPast
 both_begun own other k drawn =
     after_label TWO_RINGS 1 label.Gave
-    (begun_past (after_label TWO_RINGS 1 label.Took (own_begun own 0 1)) 1 other 2 (record { node = 0; stamp = 1 }) k drawn)
+    (begun_past (after_label TWO_RINGS 1 label.Took (own_begun own 0 1)) 1 other 2 (record { node = 0; stamp = 1 }) no_numbers k drawn)
 
 abbrev pub filled_past : Filling → Filling → BoxPast
 filled_past own other = past_from TWO_RINGS both_fill (both_begun own other 2 2)

@@ -5,6 +5,7 @@ use tree_laws::Turn;
 
 /// A node that a commit concerns, and the number of the last commit of it that was known as the
 /// commit reserved; 0 where there was none.
+#[derive(Clone, Copy)]
 pub struct Seen {
     pub node: NodeId,
     pub last: u64,

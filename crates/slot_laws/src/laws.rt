@@ -4,6 +4,7 @@ ghost use Rattle.slot_laws.specs.Lasts.{LabelsKeepTheBox, NodesCount, NodesFit, 
 ghost use Rattle.slot_laws.specs.Laws.{LabelsCountFaults, LabelsMergePens, LabelsRise, LawfulFits, OwnIs, PensMakeTheRecord, StampsAreFew};
 ghost use Rattle.slot_laws.specs.Rings.{GreaterStampsAreNewer, SlotsCloseInOrder};
 ghost use Rattle.slot_laws.specs.Worked.{LabelsCanBeMet};
+ghost use Rattle.slot_laws.specs.WorkedLonger.{LingeringSlotsCanBeMet};
 
 /// What fits goes on to fit, whatever is told by the rules.
 pub fn lawful_fits()
@@ -100,4 +101,10 @@ pub fn reservings_take_the_least()
 /// What is taken is not free before a commit is durable that gives it up.
 pub fn taken_until_given_up()
     ensures { TakenUntilGivenUp }
+{}
+
+/// A longer worked history may be told, in which a durable commit lingers while its block moves on, and
+/// a map goes along it.
+pub fn lingering_slots_can_be_met()
+    ensures { LingeringSlotsCanBeMet }
 {}
