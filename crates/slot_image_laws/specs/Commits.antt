@@ -4,7 +4,7 @@ use Rattle.sfs_image.specs.ImageOf.{InodePart, Transaction, opened_among, IsImag
 use Rattle.sfs_image.specs.Part.{Part, pointer_at}
 use Rattle.sfs_image.specs.Super.{Layout}
 use Rattle.sfs_image.specs.Settled.{slot_count}
-use Rattle.journal_one.specs.Job.{no_block, fill_piece, HaveOwnBlocks, IsJob}
+use Rattle.journal_one.specs.Job.{no_block, HaveOwnBlocks, IsJob}
 use Rattle.commit_one.specs.Change.{transaction_of, entry_of_part}
 use Rattle.slot_laws.specs.Slots.{shut_gate, open_gate, any_gate, may_be_open, KnownGate, SlotKnown, SlotWork, Slots, place_at}
 use Rattle.slot_laws.specs.Rings.{RingsFit, AreInSlots, ShareInode}
