@@ -17,6 +17,7 @@ pub mod NodesTold
 pub mod NodesBack
 pub mod GrantsHeld
 pub mod GrantsTold
+pub mod Counting
 pub mod WorkedBegins
 pub mod WorkedApart
 pub mod Worked

@@ -7,5 +7,6 @@ pub mod Laws
 pub mod Rings
 pub mod Lasts
 pub mod Grants
+pub mod Counting
 pub mod Worked
 pub mod WorkedLonger

@@ -1,4 +1,5 @@
 //! What is proved of labels: each function's contract is a law.
+ghost use Rattle.slot_laws.specs.Counting.{PlacingsTakeTheOldest, SlotsCountUntilSynced};
 ghost use Rattle.slot_laws.specs.Grants.{GrantsAreOnes, ReservingsTakeTheLeast, TakenUntilGivenUp};
 ghost use Rattle.slot_laws.specs.Lasts.{LabelsKeepTheBox, NodesCount, NodesFit, NotedTurnsKeepNodes, ReservingsKnew, ReturnsRestore};
 ghost use Rattle.slot_laws.specs.Laws.{LabelsCountFaults, LabelsMergePens, LabelsRise, LawfulFits, OwnIs, PensMakeTheRecord, StampsAreFew};
@@ -107,4 +108,14 @@ pub fn taken_until_given_up()
 /// a map goes along it.
 pub fn lingering_slots_can_be_met()
     ensures { LingeringSlotsCanBeMet }
+{}
+
+/// A record is placed only as the oldest of its inode among the durable commits in slots.
+pub fn placings_take_the_oldest()
+    ensures { PlacingsTakeTheOldest }
+{}
+
+/// A slot has its durable commit, and so counts, until the sync after its gate was written shut.
+pub fn slots_count_until_synced()
+    ensures { SlotsCountUntilSynced }
 {}
