@@ -1,11 +1,14 @@
 -- Commits that are ready raise the cut, one after another.
-use Rattle.std.proofs.Common.{◌≡◌, ℕ, Bool, List, [], ◌∷◌, ◌++◌, inl, inr, refl, sym, subst}
+use Rattle.std.proofs.Common.{◌≡◌, ℕ, Bool, List, [], ◌∷◌, ◌++◌, map, inl, inr, refl, sym, subst}
 use Rattle.std.proofs.lemmas.List.{append-nil, append_assoc}
+use Rattle.tree_laws.specs.declared.history.Entry.{Entry}
+use Rattle.tree_laws.specs.Tree.{TreeState}
 use Rattle.tree_laws.specs.History.{IsLegal}
 use Rattle.tree_laws.specs.Laws.{IsSoundTree}
+use Rattle.cut_laws.specs.Closure.{every_entry, Flush, IsRaised, AreInodesAfter, AreRaised, none, one_more}
 use Rattle.cut_laws.specs.Cut.{Cut}
 use Rattle.cut_laws.specs.Rules.{IsOneOf}
-use Rattle.beside_laws.specs.Commits.{CoreCommit, Share}
+use Rattle.beside_laws.specs.Commits.{CoreCommit, commit_fsync, Share}
 use Rattle.beside_laws.specs.Progress.{Progress, Standing, IsLater}
 use Rattle.beside_laws.specs.Laws.{IsReadyToEnd, IsDoneWith, with_done, AreReady, RaiseAll, ReadyRaise}
 use Rattle.beside_laws.proofs.Boxes.{last_or}
@@ -50,11 +53,21 @@ module _ (run : Progress) (commit : CoreCommit) (rest : List CoreCommit) (ready 
     once = ready.once.1;
   }
 
+-- fsyncs after a first one are a list with it in front
+raised_behind : {first : TreeState} {history : List Entry} (cut middle : Cut) (inodes between : ℕ → Bool) (flush : Flush) (flushes : List Flush) (raised : Cut)
+    (after : ℕ → Bool) → IsRaised first history every_entry cut inodes flush middle → AreInodesAfter first history every_entry cut inodes flush middle between
+    → AreRaised first history every_entry middle between flushes raised after → AreRaised first history every_entry cut inodes (flush ∷ flushes) raised after
+raised_behind cut middle inodes between flush flushes raised after is sets none = one_more [] flush cut middle inodes between none is sets
+raised_behind cut middle inodes between flush flushes raised after is sets (one_more earlier last before above inodes_before behind are last_is last_sets) =
+    one_more (flush ∷ earlier) last before above inodes_before behind
+    (raised_behind cut middle inodes between flush earlier before inodes_before is sets are) last_is last_sets
+
 raise_all : (kept : List CoreCommit) (run : Progress) → IsSoundTree run.first → IsLegal run.first run.history → Standing run → AreReady run kept
     → RaiseAll run kept
 raise_all [] run is legal stands ready = record {
   cut = run.cut;
   inodes = run.inodes;
+  raised = none;
   stands = subst (λ l. Standing (record { first = run.first; history = run.history; done = l; cut = run.cut; inodes = run.inodes })) (sym (append-nil run.done))
       stands;
 }
@@ -66,6 +79,9 @@ raise_all (commit ∷ rest) run is legal stands ready =
     record {
       cut = all.cut;
       inodes = all.inodes;
+      raised =
+          raised_behind run.cut raises.raised run.inodes raises.after (commit_fsync commit) (map commit_fsync rest) all.cut all.inodes
+          raises.raises.raises raises.raises.inodes_after all.raised;
       stands =
           subst (λ l. Standing (record { first = run.first; history = run.history; done = l; cut = all.cut; inodes = all.inodes }))
           (append_assoc run.done (commit ∷ []) rest) all.stands;

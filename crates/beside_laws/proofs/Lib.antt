@@ -1,5 +1,6 @@
 pub mod Answers
 pub mod Boxes
+pub mod Failing
 pub mod Files
 pub mod Finding
 pub mod Kept

@@ -24,7 +24,7 @@ use Rattle.beside_laws.proofs.Numbered.{NoneHas, taken_out, put_last, found_flig
 use Rattle.beside_laws.proofs.Raising.{knowing_raise, of_the_whole}
 
 -- those that are ready are so in another order, and so are fewer
-ready_among : (run : Progress) (from to : List CoreCommit) → ((commit : CoreCommit) → IsOneOf to commit → IsOneOf from commit) → HaveOtherNumbers to
+pub ready_among : (run : Progress) (from to : List CoreCommit) → ((commit : CoreCommit) → IsOneOf to commit → IsOneOf from commit) → HaveOtherNumbers to
     → AreReady run from → AreReady run to
 ready_among run from to within once ready = record {
   made = λ commit one. ready.made commit (within commit one);
@@ -205,10 +205,10 @@ module _ (run : Progress) (waiting : List CoreCommit) (before behind : List Flow
         ≡ Some (flight_of_flown (record { commit = commit; opened = opened }))
     found = found_flight before behind (record { commit = commit; opened = opened }) earlier
 
-    flies : is_flying (machine_amid flying) commit.number ≡ true
+    pub flies : is_flying (machine_amid flying) commit.number ≡ true
     flies = ap (λ (o : Option Flight). is_some o) found
 
-    is_open : is_opened (machine_amid flying) commit.number ≡ opened
+    pub is_open : is_opened (machine_amid flying) commit.number ≡ opened
     is_open = ap (λ (o : Option Flight). option_map_or (λ flight. flight.opened) o false) found
 
 -- a commit that flies is none that an event misses

@@ -1,12 +1,12 @@
 -- The laws of commits beside commits, each of which a function of the module laws proves.
-use Rattle.std.specs.Prelude.{◌≡◌, ◌≢◌, ℕ, ◌<◌, Bool, List, [], ◌∷◌, ◌++◌}
+use Rattle.std.specs.Prelude.{◌≡◌, ◌≢◌, ℕ, ◌<◌, Bool, List, [], ◌∷◌, ◌++◌, map}
 use Rattle.tree_laws.specs.declared.history.Entry.{Entry}
 use Rattle.tree_laws.specs.Tree.{TreeState}
 use Rattle.tree_laws.specs.History.{IsLegal}
 use Rattle.tree_laws.specs.Laws.{IsSoundTree}
 use Rattle.cut_laws.specs.Cut.{Cut, cut_of}
 use Rattle.cut_laws.specs.Rules.{IsOneOf}
-use Rattle.cut_laws.specs.Closure.{every_entry, IsRaised, AreInodesAfter}
+use Rattle.cut_laws.specs.Closure.{every_entry, IsRaised, AreInodesAfter, AreRaised}
 use Rattle.look_laws.specs.Fit.{FindsRight}
 use Rattle.look_laws.specs.Beside.{Knows}
 use Rattle.beside_laws.specs.Box.{BoxState, NO_COMMIT, IsUnmoved, with_open, BoxGoesOn, BoxGives}
@@ -103,6 +103,7 @@ pub record AreReady (run : Progress) (kept : List CoreCommit) : Type 0 where
 pub record RaiseAll (run : Progress) (kept : List CoreCommit) : Type 0 where
   pub cut : Cut
   pub inodes : ℕ → Bool
+  pub raised : AreRaised run.first run.history every_entry run.cut run.inodes (map commit_fsync kept) cut inodes
   pub stands : Standing (record { first = run.first; history = run.history; done = run.done ++ kept; cut = cut; inodes = inodes })
 
 -- So do those that are ready, in any order: what a crash keeps of the open ones.

@@ -1,6 +1,7 @@
 pub mod Answers
 pub mod Box
 pub mod Commits
+pub mod Failure
 pub mod Laws
 pub mod OwnFile
 pub mod Progress

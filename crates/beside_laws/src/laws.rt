@@ -1,5 +1,6 @@
 // What is proved of the definitions: each function's contract is a law.
 ghost use Rattle.beside_laws.specs.Steps.{CommitsBegin, CommitsOpen, CommitsEnd};
+ghost use Rattle.beside_laws.specs.Failure.{CommitsFail, CrashesKeep};
 ghost use Rattle.beside_laws.specs.Answers.{AnswersTellNothing};
 ghost use Rattle.beside_laws.specs.Worked.{TwoMayBeOpen};
 ghost use Rattle.beside_laws.specs.OwnFile.{OwnFilesMayBeOpen};
@@ -50,6 +51,16 @@ pub fn commits_open()
 /// the record again.
 pub fn commits_end()
     ensures { CommitsEnd }
+{}
+
+/// A commit may be left in doubt: what was open stays open, and no commit begins, is opened or becomes durable any more.
+pub fn commits_fail()
+    ensures { CommitsFail }
+{}
+
+/// A crash may keep any opened commits, behind a failure too, and all stands with them done.
+pub fn crashes_keep()
+    ensures { CrashesKeep }
 {}
 
 /// The commit of a live file that has an inode may be open beside others though it noted nothing: it is made by the look

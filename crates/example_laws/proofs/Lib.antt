@@ -1,0 +1,6 @@
+pub mod Tree
+pub mod Image
+pub mod Standing
+pub mod Plans
+pub mod Telling
+pub mod Reserving

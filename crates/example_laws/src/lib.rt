@@ -1,0 +1,4 @@
+//! Two cores at one disk, in numbers.
+#![tactic(auto)]
+
+pub mod laws;

@@ -1,0 +1,11 @@
+pub mod Saws
+pub mod Marks
+pub mod Along
+pub mod Enough
+pub mod Parted
+pub mod Merged
+pub mod Gathered
+pub mod Born
+pub mod Noting
+pub mod Joining
+pub mod Answers

@@ -1,0 +1,4 @@
+pub mod Run
+pub mod Notes
+pub mod Merged
+pub mod Joined

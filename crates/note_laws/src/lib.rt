@@ -1,0 +1,4 @@
+//! What the notes of a core tell of its commit.
+#![tactic(auto)]
+
+pub mod laws;
