@@ -151,6 +151,16 @@ module _ (s : LogTrim) (may : MayTrim s) where
       ∙ ap (option_map (λ (h : HeldCell Cell). h.value)) (last_at place s.before.held value below)))
       refl
 
+  -- and one more, behind another one
+  pub put_twice : (hollow value : Cell) (taken put : FileHand) → PutsValue s.nodes (id.Part s.part) hollow s.holding taken
+      → PutsValue s.nodes (id.Part s.part) value taken put
+      → put ≡ record s.holding { held = s.before.held ++ record { place = place; value = value } ∷ [] }
+  put_twice hollow value taken put one two =
+      two
+      ∙ (λ i. record (one i) {
+        held = (ap (with_value place value) (put_once hollow taken one) ∙ with_last place hollow value s.before.held below) i;
+      })
+
   -- the commit is one of the log that the core sees
   commit_seen : IsOneOf (account_of s.holding.view.seen).commits may.told.commit
   commit_seen = one_of_some commit_told (is_by event_core s.before.view.core) s.holding.view.seen may.told.commit

@@ -76,6 +76,15 @@ pub fn trim_all<R: Wait>(
     ensures trims { TrimsAll (given_by shared.now) number cores core.old core.new }
 {
     for part in 0..cores {
-        trim_part(rt, shared, core, nodes, CoreId(part), members, stamp, number);
+        trim_part(
+            rt,
+            shared,
+            core,
+            nodes,
+            CoreId(part),
+            members,
+            stamp,
+            number,
+        );
     }
 }

@@ -211,8 +211,10 @@ module _ (given : ℕ → Option OldKept) (nodes cores : ℕ) (begun before afte
       let held : before.held ≡ begun.held = ap (λ (h : FileHand). h.held) since.frame in
       record {
         at = copy.at;
-        since = (since.seen.0 ++ copy.since.0,
-        sym (append_assoc begun.view.seen since.seen.0 copy.since.0) ∙ (ap (λ l. l ++ copy.since.0) since.seen.1 ∙ copy.since.1));
+        since = (
+          since.seen.0 ++ copy.since.0,
+          sym (append_assoc begun.view.seen since.seen.0 copy.since.0) ∙ (ap (λ l. l ++ copy.since.0) since.seen.1 ∙ copy.since.1),
+        );
         until = copy.until;
         made = copy.made;
         stands = subst (λ f. StandsPart f (account_of copy.at) number (record { log = log; made = copy.made })) first copy.stands;
