@@ -77,7 +77,7 @@ short_files node = let long = ap length (no_bytes node) in omega (arith, long)
 abbrev pub ENTRIES : List OldEntry
 ENTRIES = entry_at 0 ∷ entry_at 1 ∷ []
 
-entry_cases : (entry : OldEntry) → Contains ENTRIES entry → (entry_at 0 ≡ entry) ⊎ (entry_at 1 ≡ entry)
+pub entry_cases : (entry : OldEntry) → Contains ENTRIES entry → (entry_at 0 ≡ entry) ⊎ (entry_at 1 ≡ entry)
 entry_cases entry (zero, low, is) = inl is
 entry_cases entry (suc zero, low, is) = inr is
 entry_cases entry (suc (suc k), low, is) = absurd (omega (arith, low))
@@ -211,8 +211,8 @@ module _ (f : Flushing) (told : IsTold f) where
     );
   }
 
-  pub by_look : IsByItsLook (core_commit_of f)
-  by_look = record {
+  pub look_makes : IsByItsLook (core_commit_of f)
+  look_makes = record {
     members = λ node. (
       λ one. elim one [ inl same ↦ gathers_own (sym same) | inr never ↦ absurd never ],
       λ gathers. inl (sym (own_node gathers)),
@@ -246,7 +246,7 @@ module _ (f : Flushing) (told : IsTold f) where
 
   known : KnownAtReserving run_now (core_commit_of f)
   known = record {
-    made = by_look;
+    made = look_makes;
     notes = notes;
     ruled = record {
       earlier = λ other one. absurd one;

@@ -5,7 +5,7 @@ use Rattle.std.specs.Cmp.{unsigned_ties}
 use Rattle.std.specs.Option.{option_map_or}
 use Rattle.std.specs.Ordering.{eq_by_cmp}
 use Rattle.std.specs.List.{cons_option}
-use Rattle.std.proofs.Common.{◌∷◌, ◌≡◌, ◌⊎◌, ◌∙◌, if◌then◌else◌, ◌++◌, ◌<◌, ◌≤◌, ◌≢◌, ◌==◌, ◌&&◌, [], List, ℕ, nat_cmp, None, zero, inl, refl, suc, inr, Some, sym, ap, cond, Option, true, not, fold, filter, map, arith, subst, IsSome, slice_index, nat_eq, ne_eqb, false, Bool, length, filter_map}
+use Rattle.std.proofs.Common.{◌∷◌, ◌≡◌, ◌⊎◌, ◌∙◌, if◌then◌else◌, ◌++◌, ◌<◌, ◌≤◌, ◌≢◌, ◌==◌, [], List, ℕ, nat_cmp, None, zero, inl, refl, suc, inr, Some, sym, ap, cond, Option, true, not, fold, filter, map, arith, subst, IsSome, slice_index, nat_eq, ne_eqb, false, length, filter_map}
 use Rattle.std.proofs.lemmas.Bool.{cases_eq}
 use Rattle.sfs_base.specs.declared.numbers.Kind.TheVariants.{Directory}
 use Rattle.sfs_base.specs.Name.{bucket}
