@@ -84,8 +84,12 @@ free_there (suc n) (suc k) = free_there n k ∙ ap (λ b. if b then Some Free el
   where
     less : (k n : ℕ) → nat_lt k n ≡ nat_lt (suc k) (suc n)
     less k n = elim (below_or k n) [
-      | inl low ↦ (let a : nat_lt k n ≡ true = grind (arith, nat_tests, low) in let b : nat_lt (suc k) (suc n) ≡ true = grind (arith, nat_tests, low) in a ∙ sym b)
-      | inr high ↦ (let a : nat_lt k n ≡ false = grind (arith, nat_tests, high) in let b : nat_lt (suc k) (suc n) ≡ false = grind (arith, nat_tests, high) in a ∙ sym b)
+      | inl low ↦
+          (let a : nat_lt k n ≡ true = grind (arith, nat_tests, low) in
+          let b : nat_lt (suc k) (suc n) ≡ true = grind (arith, nat_tests, low) in a ∙ sym b)
+      | inr high ↦
+          (let a : nat_lt k n ≡ false = grind (arith, nat_tests, high) in
+          let b : nat_lt (suc k) (suc n) ≡ false = grind (arith, nat_tests, high) in a ∙ sym b)
     ]
 
 inodes_are : (inode : ℕ) → status_of TWO_TAKEN.inodes inode ≡ first_status 0 16 (0 ∷ 1 ∷ []) inode
@@ -109,8 +113,12 @@ inodes_are (suc (suc k)) =
 
     less : nat_lt (suc (suc k)) 16 ≡ nat_lt k 14
     less = elim (below_or k 14) [
-      | inl low ↦ (let a : nat_lt k 14 ≡ true = grind (arith, nat_tests, low) in let b : nat_lt (suc (suc k)) 16 ≡ true = grind (arith, nat_tests, low) in b ∙ sym a)
-      | inr high ↦ (let a : nat_lt k 14 ≡ false = grind (arith, nat_tests, high) in let b : nat_lt (suc (suc k)) 16 ≡ false = grind (arith, nat_tests, high) in b ∙ sym a)
+      | inl low ↦
+          (let a : nat_lt k 14 ≡ true = grind (arith, nat_tests, low) in
+          let b : nat_lt (suc (suc k)) 16 ≡ true = grind (arith, nat_tests, low) in b ∙ sym a)
+      | inr high ↦
+          (let a : nat_lt k 14 ≡ false = grind (arith, nat_tests, high) in
+          let b : nat_lt (suc (suc k)) 16 ≡ false = grind (arith, nat_tests, high) in b ∙ sym a)
     ]
 
 -- the root's block is the one that an inode holds
@@ -230,6 +238,7 @@ ended_none flushing needs = record {
   };
 }
   where
-    none_left : (block : ℕ) → IsLeftBySeat (change_planned (commit_plan flushing)).seats block ⊎ IsLeftByGone (change_planned (commit_plan flushing)).gone block → ⊥
+    none_left : (block : ℕ)
+        → IsLeftBySeat (change_planned (commit_plan flushing)).seats block ⊎ IsLeftByGone (change_planned (commit_plan flushing)).gone block → ⊥
     none_left block (inl left) = not_both left.left.given_up (needs.still left.seat left.one left.place)
     none_left block (inr left) = let low = left.one.1 in omega (arith, low)
