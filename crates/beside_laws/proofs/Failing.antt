@@ -116,7 +116,8 @@ once_among : (test : Flown → Bool) (flying : List Flown) → HaveOtherNumbers 
 once_among test [] once = once
 once_among test (flown ∷ flying) once = by (test flown) (once_among test flying once.1)
   where
-    by : (b : Bool) → HaveOtherNumbers (commits_of (filter test flying)) → HaveOtherNumbers (commits_of (cond b (flown ∷ filter test flying) (filter test flying)))
+    by : (b : Bool) → HaveOtherNumbers (commits_of (filter test flying))
+        → HaveOtherNumbers (commits_of (cond b (flown ∷ filter test flying) (filter test flying)))
     by true rest = (λ other one. once.0 other (among test flying (λ (f : Flown). f.commit) other one), rest)
     by false rest = rest
 

@@ -123,7 +123,7 @@ root_table k = ap (λ (inode : Inode). slice_index inode.indirect k) root_reads 
 pub root_block : pointer_at ROOT_PART 0 ≡ 11
 root_block = (have_places ROOT_BLOCK (inode_bytes ROOT_INODE)).direct 0 (omega arith) ∙ ap (λ (inode : Inode). slice_index inode.direct 0) root_reads
 
-later_direct : (n : ℕ) → n ≢ 0 → slice_index (11 ∷ replicate 107 0) n ≡ 0
+pub later_direct : (n : ℕ) → n ≢ 0 → slice_index (11 ∷ replicate 107 0) n ≡ 0
 later_direct zero other = absurd (other refl)
 later_direct (suc n) other = zeros_read 107 n
 

@@ -4,3 +4,5 @@ pub mod Standing
 pub mod Plans
 pub mod Telling
 pub mod Reserving
+pub mod Mapped
+pub mod Along

@@ -1,6 +1,6 @@
 -- A plan that changes nothing of a directory needs nothing.
 use Rattle.std.specs.List.{list_any}
-use Rattle.std.proofs.Common.{◌≡◌, ◌∷◌, ◌||◌, ◌∙◌, ◌+◌, ◌-◌, ◌==◌, ◌&&◌, if◌then◌else◌, ◌*◌, ℕ, Bool, false, zero, refl, suc, cond, ap, arith, List, [], slice_index, nat_lt, le-ltb, not, nat_le, true, nat_eq, map, Option, sum_by, count_by, length, subst, sym, take_all}
+use Rattle.std.proofs.Common.{◌≡◌, ◌∷◌, ◌||◌, ◌∙◌, ◌+◌, ◌-◌, ◌==◌, ◌&&◌, if◌then◌else◌, ◌*◌, ℕ, Bool, false, zero, refl, suc, cond, ap, arith, List, [], slice_index, nat_lt, le-ltb, not, nat_le, true, nat_eq, map, Option, sum_by, count_by, length, subst, sym, take_all, Contains}
 use Rattle.std.proofs.lemmas.Bool.{cond-false}
 use Rattle.std.proofs.lemmas.List.{length-map}
 use Rattle.sfs_base.proofs.BasicLists.{zeros_read}
@@ -14,7 +14,7 @@ use Rattle.sfs_image.proofs.SlotBlockLaws.{slots_of-slots_bytes}
 use Rattle.image_laws.specs.Need.{rank, takes_place, Rewrite, rewrites_table, first_block, changes_pointer, table_blocks, takes_data, takes_table, table_has_pointer, takes_in_row, place_in_row}
 use Rattle.image_laws.proofs.Ranks.{rank_more}
 use Rattle.disk_nodes.specs.OldKept.{Kept}
-use Rattle.block_map.specs.Remap.{rewrite_of}
+use Rattle.block_map.specs.Remap.{rewrite_of, gives_up}
 use Rattle.block_map.specs.Kept.{pointer_kept, tables_kept, kept_of, kept_tables, kept_slots}
 use Rattle.disk_change.specs.Planned.{enters, blocks_taken}
 use Rattle.disk_change.specs.Seated.{Seated, directory_seated, changes_in, begun_old}
@@ -41,27 +41,38 @@ none_passes : {X : Type 0} (test : X → Bool) (xs : List X) → ((x : X) → te
 none_passes test [] none = refl
 none_passes test (x ∷ xs) none = ap (λ b. b || list_any test xs) (none x) ∙ none_passes test xs none
 
--- nothing is taken where no block is rewritten and no indirect block is there
-still_takes_none : (inode : Inode) → ((k : ℕ) → slice_index inode.indirect k ≡ 0) → (place : ℕ) → takes_place (rewrite_of inode [] []) place ≡ false
-still_takes_none inode none place = by (nat_lt place FILE_BLOCKS)
-  where
-    rewrite : Rewrite
-    rewrite = rewrite_of inode [] []
+-- where no block is rewritten and no indirect block is there
+module _ (inode : Inode) (none : (k : ℕ) → slice_index inode.indirect k ≡ 0) where
+  abbrev rewrite : Rewrite
+  rewrite = rewrite_of inode [] []
 
-    pointer_none : (table : ℕ) → pointer_kept inode [] (FILE_BLOCKS + table) ≡ 0
-    pointer_none table =
-        cond-false (nat_lt (FILE_BLOCKS + table) FILE_BLOCKS) _ _ (le-ltb (FILE_BLOCKS + table) FILE_BLOCKS (omega arith))
-        ∙ ap (slice_index inode.indirect) (let e : FILE_BLOCKS + table - FILE_BLOCKS ≡ table = omega arith in e) ∙ none table
+  pointer_none : (table : ℕ) → pointer_kept inode [] (FILE_BLOCKS + table) ≡ 0
+  pointer_none table =
+      cond-false (nat_lt (FILE_BLOCKS + table) FILE_BLOCKS) _ _ (le-ltb (FILE_BLOCKS + table) FILE_BLOCKS (omega arith))
+      ∙ ap (slice_index inode.indirect) (let e : FILE_BLOCKS + table - FILE_BLOCKS ≡ table = omega arith in e) ∙ none table
 
-    still : (table : ℕ) → rewrites_table rewrite table ≡ false
-    still table =
-        ap (λ b. b || (not (pointer_kept inode [] (FILE_BLOCKS + table) == 0) && nat_le rewrite.blocks (first_block table)))
-        (none_passes (changes_pointer rewrite) (table_blocks table) (λ n. refl))
-        ∙ ap (λ p. not (p == 0) && nat_le rewrite.blocks (first_block table)) (pointer_none table)
+  still : (table : ℕ) → rewrites_table rewrite table ≡ false
+  still table =
+      ap (λ b. b || (not (pointer_kept inode [] (FILE_BLOCKS + table) == 0) && nat_le rewrite.blocks (first_block table)))
+      (none_passes (changes_pointer rewrite) (table_blocks table) (λ n. refl))
+      ∙ ap (λ p. not (p == 0) && nat_le rewrite.blocks (first_block table)) (pointer_none table)
 
-    by : (b : Bool) → (if b then takes_data rewrite place else takes_table rewrite (place - FILE_BLOCKS)) ≡ false
-    by true = refl
-    by false = ap (λ b. b && table_has_pointer rewrite (place - FILE_BLOCKS)) (still (place - FILE_BLOCKS))
+  -- nothing is taken
+  still_takes_none : (place : ℕ) → takes_place rewrite place ≡ false
+  still_takes_none place = by (nat_lt place FILE_BLOCKS)
+    where
+      by : (b : Bool) → (if b then takes_data rewrite place else takes_table rewrite (place - FILE_BLOCKS)) ≡ false
+      by true = refl
+      by false = ap (λ b. b && table_has_pointer rewrite (place - FILE_BLOCKS)) (still (place - FILE_BLOCKS))
+
+  -- and nothing is given up
+  still_gives_none : (place : ℕ) → gives_up rewrite place ≡ false
+  still_gives_none place = by (nat_lt place FILE_BLOCKS)
+    where
+      by : (b : Bool)
+          → ((if b then rewrite.is_rewritten place else rewrites_table rewrite (place - FILE_BLOCKS)) && not (rewrite.pointers place == 0)) ≡ false
+      by true = refl
+      by false = ap (λ b. b && not (rewrite.pointers place == 0)) (still (place - FILE_BLOCKS))
 
 -- what memory keeps of the two directories
 abbrev pub KEPT_ROOT : Kept
@@ -121,13 +132,23 @@ one_takes = rank_none (takes_place (rewrite_of one_seat.meta [] [])) PLACES (sti
 pub record NeedsNone (plan : CommitPlan) : Type 0 where
   pub inodes : count_by enters (change_planned plan).seats ≡ 0
   pub blocks : sum_by blocks_taken (change_planned plan).seats ≡ 0
-  pub one : length (change_planned plan).seats ≡ 1
+  pub still : (seat : Seated) → Contains (change_planned plan).seats seat → (place : ℕ) → gives_up (rewrite_in seat) place ≡ false
+
+root_still : (seat : Seated) → Contains (root_seat ∷ []) seat → (place : ℕ) → gives_up (rewrite_in seat) place ≡ false
+root_still seat (zero, low, is) place =
+    subst (λ (s : Seated). gives_up (rewrite_in s) place ≡ false) is (still_gives_none root_seat.meta (λ k. zeros_read 16 k) place)
+root_still seat (suc n, low, is) place = absurd (omega (arith, low))
+
+one_still : (seat : Seated) → Contains (one_seat ∷ []) seat → (place : ℕ) → gives_up (rewrite_in seat) place ≡ false
+one_still seat (zero, low, is) place =
+    subst (λ (s : Seated). gives_up (rewrite_in s) place ≡ false) is (still_gives_none one_seat.meta (λ k. zeros_read 16 k) place)
+one_still seat (suc n, low, is) place = absurd (omega (arith, low))
 
 root_needs : NeedsNone (plan_kept 0 KEPT_ROOT)
-root_needs = record { inodes = refl; blocks = let none = root_takes in omega (arith, none); one = refl }
+root_needs = record { inodes = refl; blocks = let none = root_takes in omega (arith, none); still = root_still }
 
 one_needs : NeedsNone (plan_kept 1 KEPT_ONE)
-one_needs = record { inodes = refl; blocks = let none = one_takes in omega (arith, none); one = refl }
+one_needs = record { inodes = refl; blocks = let none = one_takes in omega (arith, none); still = one_still }
 
 pub first_needs : NeedsNone (commit_plan FIRST_FLUSH)
 first_needs = subst (λ kept. NeedsNone (plan_kept 1 kept)) (sym kept_one) one_needs

@@ -4,20 +4,16 @@ use Rattle.std.proofs.Common.{◌≡◌, ◌∷◌, arith, List, ℕ, take, [], 
 use Rattle.commit_laws.specs.CommitOfPlan.{CommitPlan}
 use Rattle.turn_laws.specs.Need.{Amount}
 use Rattle.turn_laws.specs.Books.{FitsFree, Books, least_open, is_open_in}
-use Rattle.merge_laws.specs.Worked.{BOTH_TURNS, BOTH_PENS}
 use Rattle.turn_ties.specs.Plans.{amount_planned}
 use Rattle.walk_laws.specs.Pairs.{ArePairsApart}
 use Rattle.walk_laws.specs.Worked.{TwoReserve}
 use Rattle.walk_laws.specs.Midway.{books_granted}
 use Rattle.walk_laws.specs.Walk.{grant_at}
-use Rattle.walk_laws.proofs.Worked.{two_pens_are_kept}
-use Rattle.walk_laws.proofs.Walk.{records_are_kept}
 use Rattle.example_laws.specs.Fsyncs.{pair_by, SECOND_FLUSH, FIRST_FLUSH, TWO_KEPT, commit_plan}
-use Rattle.example_laws.specs.Laws.{AreTwoCores}
 use Rattle.example_laws.specs.Image.{TWO_DIRECTORIES}
 use Rattle.example_laws.proofs.Plans.{NeedsNone, first_needs, second_needs}
 use Rattle.example_laws.proofs.Standing.{walk_begins}
-use Rattle.example_laws.proofs.Telling.{opens, first_told, second_told, core_tells, serves}
+use Rattle.example_laws.proofs.Telling.{opens, first_told, second_told}
 
 -- what needs nothing fits, and gets no inode
 fits_none : (plan : CommitPlan) (free : Amount) → NeedsNone plan → FitsFree (amount_planned plan) free
@@ -26,7 +22,7 @@ fits_none plan free needs = record {
   blocks = let none = needs.blocks in omega (arith, none);
 }
 
-take_none : {X : Type 0} (xs : List X) (n : ℕ) → n ≡ 0 → take n xs ≡ []
+pub take_none : {X : Type 0} (xs : List X) (n : ℕ) → n ≡ 0 → take n xs ≡ []
 take_none [] n none = take_nil n
   where
     take_nil : {X : Type 0} (n : ℕ) → take n (let l : List X = [] in l) ≡ []
@@ -73,14 +69,3 @@ two_reserve = record {
     least = least_none (books_granted TWO_DIRECTORIES (grant_at TWO_KEPT.pairs 0 ∷ [])) (commit_plan SECOND_FLUSH) second_needs;
   };
 }
-
-pub are_two_cores : AreTwoCores
-are_two_cores =
-    let agrees = two_pens_are_kept TWO_KEPT two_reserve in
-    record {
-      first = record { tells = core_tells FIRST_FLUSH first_told; serves = serves FIRST_FLUSH first_told };
-      second = record { tells = core_tells SECOND_FLUSH second_told; serves = serves SECOND_FLUSH second_told };
-      reserve = two_reserve;
-      agrees = agrees;
-      recorded = records_are_kept TWO_KEPT 0 0 0 BOTH_TURNS BOTH_PENS agrees;
-    }

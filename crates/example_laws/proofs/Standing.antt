@@ -100,7 +100,8 @@ root_shown = record {
   links = ap (λ (inode : Inode). inode.links) root_is ∙ sym root_links;
   size = ap (λ (inode : Inode). inode.size) root_is
       ∙ sym
-      (ap (λ (inode : Inode). cond (nat_eq inode.kind 2) (BLOCK_BYTES * (length (shown_slots ROOT_PART) / BLOCK_SLOTS)) (length (shown_bytes ROOT_PART))) root_is
+      (ap (λ (inode : Inode). cond (nat_eq inode.kind 2) (BLOCK_BYTES * (length (shown_slots ROOT_PART) / BLOCK_SLOTS))
+      (length (shown_bytes ROOT_PART))) root_is
       ∙ ap (λ (l : List (Option Row)). BLOCK_BYTES * (length l / BLOCK_SLOTS)) root_shows);
   bytes = root_bytes ∙ sym (no_bytes 0);
   slots = λ name. ap (looked_up name) root_shows ∙ root_looked name;

@@ -77,7 +77,7 @@ short_files node = let long = ap length (no_bytes node) in omega (arith, long)
 abbrev pub ENTRIES : List OldEntry
 ENTRIES = entry_at 0 ∷ entry_at 1 ∷ []
 
-entry_cases : (entry : OldEntry) → Contains ENTRIES entry → (entry_at 0 ≡ entry) ⊎ (entry_at 1 ≡ entry)
+pub entry_cases : (entry : OldEntry) → Contains ENTRIES entry → (entry_at 0 ≡ entry) ⊎ (entry_at 1 ≡ entry)
 entry_cases entry (zero, low, is) = inl is
 entry_cases entry (suc zero, low, is) = inr is
 entry_cases entry (suc (suc k), low, is) = absurd (omega (arith, low))
@@ -211,8 +211,8 @@ module _ (f : Flushing) (told : IsTold f) where
     );
   }
 
-  pub by_look : IsByItsLook (core_commit_of f)
-  by_look = record {
+  pub look_makes : IsByItsLook (core_commit_of f)
+  look_makes = record {
     members = λ node. (
       λ one. elim one [ inl same ↦ gathers_own (sym same) | inr never ↦ absurd never ],
       λ gathers. inl (sym (own_node gathers)),
@@ -223,11 +223,14 @@ module _ (f : Flushing) (told : IsTold f) where
     );
     makes = record {
       lifts = record {
-        members = λ node gathers. ap (λ b. if b then f.stamp else 0) (eq-eqb node f.node (own_node gathers)) ∙ (let e : f.stamp ≡ max 0 f.stamp = omega arith in e);
+        members = λ node gathers.
+            ap (λ b. if b then f.stamp else 0) (eq-eqb node f.node (own_node gathers))
+            ∙ (let e : f.stamp ≡ max 0 f.stamp = omega arith in e);
         others = unlisted_lifts;
       };
       moved = moves (found_from from) (λ node same other.
-          ap (λ b. not b && is_named_after from.old [] node) (ne_eqb node 0 other) ∙ ap (is_named_after from.old []) same ∙ named_there) (core_commit_of f).makes.lifted;
+          ap (λ b. not b && is_named_after from.old [] node) (ne_eqb node 0 other) ∙ ap (is_named_after from.old []) same ∙ named_there)
+          (core_commit_of f).makes.lifted;
     };
     blank = λ node holds. refl;
   }
@@ -246,7 +249,7 @@ module _ (f : Flushing) (told : IsTold f) where
 
   known : KnownAtReserving run_now (core_commit_of f)
   known = record {
-    made = by_look;
+    made = look_makes;
     notes = notes;
     ruled = record {
       earlier = λ other one. absurd one;
@@ -335,13 +338,15 @@ module _ (f : Flushing) (told : IsTold f) where
   one_made : (made : IsPlanFrom from) → made.enter ≡ [] → (pair_by f).one ≡ bringing_made TWO_DIRECTORIES from made NO_GRANT
   one_made made enter =
       let files = no_files (is_written from.gathered made.enter from.start.0 from.below.0) in
+      let same_plan : commit_plan f ≡ commit_made_of from made =
+      λ i. record { old = entry_at f.node ∷ []; nets = []; files = sym files i; enter = sym enter i; leave = [] } in
       ap (λ (plan : CommitPlan). record {
         flush = record { node = f.node; stamp = f.stamp };
         nodes = f.node ∷ [];
         plan = plan;
         grant = NO_GRANT;
         parts = parts_given TWO_DIRECTORIES plan NO_GRANT;
-      }) (let same : commit_plan f ≡ commit_made_of from made = λ i. record { old = entry_at f.node ∷ []; nets = []; files = sym files i; enter = sym enter i; leave = [] } in same)
+      }) same_plan
 
   no_enter : gathered.plans.enter ≡ []
   unfolding gathered plans

@@ -5,7 +5,7 @@ use Rattle.std.specs.Cmp.{unsigned_ties}
 use Rattle.std.specs.Option.{option_map_or}
 use Rattle.std.specs.Ordering.{eq_by_cmp}
 use Rattle.std.specs.List.{cons_option}
-use Rattle.std.proofs.Common.{◌∷◌, ◌≡◌, ◌⊎◌, ◌∙◌, if◌then◌else◌, ◌++◌, ◌<◌, ◌≤◌, ◌≢◌, ◌==◌, ◌&&◌, [], List, ℕ, nat_cmp, None, zero, inl, refl, suc, inr, Some, sym, ap, cond, Option, true, not, fold, filter, map, arith, subst, IsSome, slice_index, nat_eq, ne_eqb, false, Bool, length, filter_map}
+use Rattle.std.proofs.Common.{◌∷◌, ◌≡◌, ◌⊎◌, ◌∙◌, if◌then◌else◌, ◌++◌, ◌<◌, ◌≤◌, ◌≢◌, ◌==◌, [], List, ℕ, nat_cmp, None, zero, inl, refl, suc, inr, Some, sym, ap, cond, Option, true, not, fold, filter, map, arith, subst, IsSome, slice_index, nat_eq, ne_eqb, false, length, filter_map}
 use Rattle.std.proofs.lemmas.Bool.{cases_eq}
 use Rattle.sfs_base.specs.declared.numbers.Kind.TheVariants.{Directory}
 use Rattle.sfs_base.specs.Name.{bucket}
@@ -144,7 +144,8 @@ same_at_cut = λ i. record {
         ∙ ap (λ (bytes : List ℕ). from_sorted {R = nat_cmp} ((0, NODE) ∷ (1, record NODE { bytes = bytes }) ∷ [])) (no_bytes 1)
       where
         with_edit : List FileChange → ℕ → List ℕ
-        with_edit l node = fold (λ bytes (change : FileChange). edited change.edit bytes) (bytes_of TWO_CORES node) (filter (is_edit_below node (cut_of empty node)) l)
+        with_edit l node =
+            fold (λ bytes (change : FileChange). edited change.edit bytes) (bytes_of TWO_CORES node) (filter (is_edit_below node (cut_of empty node)) l)
 
         with_edits : List FileChange → List (ℕ × Node)
         with_edits l = (0, record NODE { bytes = with_edit l 0 }) ∷ (1, record NODE { bytes = with_edit l 1 }) ∷ []
@@ -201,7 +202,8 @@ two_limits = record {
     few : (directory number : ℕ) → len (bucket_rows directory number TWO_CORES.rows) ≤ BUCKET_ROWS
     few directory number =
         let few_rows = at_most (name_row directory (λ name. bucket name == number) ((0, 97 ∷ []), 1)) in
-        let long = len-entries (bucket_rows directory number TWO_CORES.rows) ∙ ap length (entries-names_where directory (λ name. bucket name == number) TWO_CORES.rows
+        let long = len-entries (bucket_rows directory number TWO_CORES.rows)
+        ∙ ap length (entries-names_where directory (λ name. bucket name == number) TWO_CORES.rows
         ∙ ap (filter_map (name_row directory (λ name. bucket name == number))) (entries-from_sorted key_cmp ROWS tt)) in
         omega (arith, long, few_rows)
 

@@ -1,3 +1,4 @@
 pub mod Image
 pub mod Fsyncs
+pub mod Map
 pub mod Laws

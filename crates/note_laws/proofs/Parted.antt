@@ -20,7 +20,8 @@ use Rattle.note_laws.specs.Merged.{caller_of}
 
 logged_same : (first : TreeState) (core : ℕ) (calls : List Entry) → own_logged first core calls ≡ logged_of_core core first calls
 logged_same first core [] = refl
-logged_same first core (entry ∷ calls) = ap (λ l. cond (is_entry_of core entry) (logged_in_tree first entry) [] ++ l) (logged_same (tree_after_entry first entry) core calls)
+logged_same first core (entry ∷ calls) =
+    ap (λ l. cond (is_entry_of core entry) (logged_in_tree first entry) [] ++ l) (logged_same (tree_after_entry first entry) core calls)
 
 logged_parts : (first : TreeState) (core : ℕ) (calls more : List Entry)
     → logged_of_core core first (calls ++ more) ≡ logged_of_core core first calls ++ logged_of_core core (tree_after first calls) more

@@ -26,16 +26,16 @@ first_volume kept at volume empty_yet is =
     first_imagined kept.start volume (brought_under kept.pairs at.done) is.imagines (ap (brought_under kept.pairs) empty_yet)
 
 -- The last turn of a play, with what fsyncs had done before it.
-record LastPlayed (front : List Turn) (turn : Turn) (later : PlayState) : Type 0 where
-  at : PlayState
-  plays : Plays front at
-  did : PlaysAct turn.act front at turn later
+pub record LastPlayed (front : List Turn) (turn : Turn) (later : PlayState) : Type 0 where
+  pub at : PlayState
+  pub plays : Plays front at
+  pub did : PlaysAct turn.act front at turn later
 
-nothing_yet : (turns : List Turn) (at : PlayState) → Plays turns at → turns ≡ [] → at ≡ nothing_played
+pub nothing_yet : (turns : List Turn) (at : PlayState) → Plays turns at → turns ≡ [] → at ≡ nothing_played
 nothing_yet _ _ no_play e = refl
 nothing_yet _ _ (one_play turns turn at later plays did) e = absurd (nothing_there turns turn [] (sym e))
 
-last_played : (turns : List Turn) (later : PlayState) → Plays turns later → (front : List Turn) (turn : Turn) → turns ≡ front ++ turn ∷ []
+pub last_played : (turns : List Turn) (later : PlayState) → Plays turns later → (front : List Turn) (turn : Turn) → turns ≡ front ++ turn ∷ []
     → LastPlayed front turn later
 last_played _ _ no_play front turn e = absurd (nothing_there front turn [] e)
 last_played _ _ (one_play turns own at later plays did) front turn e =
