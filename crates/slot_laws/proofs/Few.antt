@@ -111,7 +111,8 @@ module _ (layout : Layout) (before core : ℕ) (past : BoxPast) (all : PastFits 
           (past.owns core)) c same)) ∙ is) in
           new_number n e
       | inr apart ↦
-          fits.free c n (sym (ap (λ (o : OwnTold). o.reserved) (at_other past.owns core (own_label (label.Reserved commit seen grant) (past.owns core)) c apart)) ∙ is)
+          fits.free c n
+          (sym (ap (λ (o : OwnTold). o.reserved) (at_other past.owns core (own_label (label.Reserved commit seen grant) (past.owns core)) c apart)) ∙ is)
     ];
   }
     where

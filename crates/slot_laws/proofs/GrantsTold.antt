@@ -1,8 +1,9 @@
 -- Behind each history along which a map goes, what is granted is granted to one commit.
-use Rattle.std.proofs.Common.{◌≢◌, ◌∷◌, ◌++◌, ◌≡◌, ◌∙◌, ℕ, arith, subst, sym, List, [], refl, Some, Option, true, nat_eq, length}
+use Rattle.std.proofs.Common.{◌≢◌, ◌∷◌, ◌++◌, ◌≡◌, ◌∙◌, ◌||◌, ℕ, arith, subst, sym, List, [], refl, Some, Option, true, nat_eq, length, Bool, false}
 use Rattle.sfs_base.specs.declared.numbers.CoreId.{CoreId}
 use Rattle.sfs_base.specs.Listed.{is_listed}
 use Rattle.sfs_base.proofs.BasicNumbers.{same_number}
+use Rattle.sfs_base.proofs.BasicTruth.{true_not_false, or_first, or_second}
 use Rattle.sfs_image.specs.Super.{Layout}
 use Rattle.space_map.specs.Space.{Space, GrantedNumbers}
 use Rattle.space_map.specs.Pool.{Pool, Grants, status_of, BecomeAll, Ends}
@@ -97,6 +98,50 @@ goes_parts layout [] more past old new goes = record { middle = old; front = ref
 goes_parts layout (event ∷ log) more past old new goes =
     let rest = goes_parts layout log more (after_event layout event past) goes.0.next new goes.1 in
     record { middle = rest.middle; front = (goes.0, rest.front); back = rest.back }
+
+pub goes_both : (layout : Layout) (log more : List (Event Label)) (past : BoxPast) (old middle new : Space) → SpaceGoes layout log past old middle
+    → SpaceGoes layout more (past_from layout log past) middle new → SpaceGoes layout (log ++ more) past old new
+goes_both layout [] more past old middle new goes later = subst (λ (s : Space). SpaceGoes layout more past s new) goes later
+goes_both layout (event ∷ log) more past old middle new goes later =
+    (goes.0, goes_both layout log more (after_event layout event past) goes.0.next middle new goes.1 later)
+
+-- whether an event moves the map
+abbrev pub moves_map : Event Label → Bool
+moves_map (Told core (label.Reserved commit seen grant)) = true
+moves_map (Told core (label.Returned commit)) = true
+moves_map (Told core (label.Settled slot turn)) = true
+moves_map (Told core (label.Empty commit cut opened durable)) = true
+moves_map _ = false
+
+abbrev pub any_moves : List (Event Label) → Bool
+any_moves [] = false
+any_moves (event ∷ log) = moves_map event || any_moves log
+
+-- a map stays where no event moves it
+quiet_step : (event : Event Label) (past : BoxPast) (space : Space) → moves_map event ≡ false → SpaceDoes event past space space
+quiet_step (Called entry) past space quiet = refl
+quiet_step (Told core (label.Reserved commit seen grant)) past space quiet = absurd (true_not_false quiet)
+quiet_step (Told core (label.Returned commit)) past space quiet = absurd (true_not_false quiet)
+quiet_step (Told core (label.Settled slot turn)) past space quiet = absurd (true_not_false quiet)
+quiet_step (Told core (label.Empty commit cut opened durable)) past space quiet = absurd (true_not_false quiet)
+quiet_step (Told core label.Took) past space quiet = refl
+quiet_step (Told core label.Gave) past space quiet = refl
+quiet_step (Told core (label.Noted turn)) past space quiet = refl
+quiet_step (Told core (label.Began filling commit node stamp blocks inodes)) past space quiet = refl
+quiet_step (Told core (label.Filled slot piece done)) past space quiet = refl
+quiet_step (Told core (label.Synced now)) past space quiet = refl
+quiet_step (Told core (label.Opened slot done cut opened)) past space quiet = refl
+quiet_step (Told core (label.Looked turn)) past space quiet = refl
+quiet_step (Told core (label.Placed slot n done)) past space quiet = refl
+quiet_step (Told core (label.Shut slot done)) past space quiet = refl
+quiet_step (Told core (label.Idled slot)) past space quiet = refl
+
+pub quiet_goes : (layout : Layout) (log : List (Event Label)) (past : BoxPast) (space : Space) → any_moves log ≡ false → SpaceGoes layout log past space space
+quiet_goes layout [] past space quiet = refl
+quiet_goes layout (event ∷ log) past space quiet = (
+  record { next = space; does = quiet_step event past space (or_first (moves_map event) (any_moves log) quiet) },
+  quiet_goes layout log (after_event layout event past) space (or_second (moves_map event) (any_moves log) quiet),
+)
 
 pub reservings_take_the_least : ReservingsTakeTheLeast
 reservings_take_the_least layout before moment log first now one told along =

@@ -196,7 +196,8 @@ module _ (layout : Layout) (before core : ℕ) (past : BoxPast) (fits : PastFits
             (had.0, or_some past.failed (failure_by turn.act turn.faults) had.1)
       ]
 
-  reserves : (commit : ℕ) (seen : Roomy Seen) (grant : GrantedNumbers) → ReservedRule core commit seen.items past → PastFits layout before (after_label layout core (label.Reserved commit seen grant) past)
+  reserves : (commit : ℕ) (seen : Roomy Seen) (grant : GrantedNumbers) → ReservedRule core commit seen.items past
+      → PastFits layout before (after_label layout core (label.Reserved commit seen grant) past)
   reserves commit seen grant rule = record {
     flights = flights_same own past.slots past.waits refl fits.flights;
     turns = told_same own past.turns past.waits refl fits.turns;

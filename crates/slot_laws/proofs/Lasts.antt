@@ -219,7 +219,8 @@ module _ (lasts : ℕ → LastCommit) (opens done : List ReservedCommit) (commit
 
     at_end_own : (node : ℕ) → (lasts node).number ≡ number → ended_lasts number lasts node ≡ last_ended number
     at_end_own node same =
-        ap (λ (b : Bool). cond b (last_ended number) (lasts node)) (subst (λ (n : ℕ). nat_eq (lasts node).number n ≡ true) same (same_number (lasts node).number))
+        ap (λ (b : Bool). cond b (last_ended number) (lasts node))
+        (subst (λ (n : ℕ). nat_eq (lasts node).number n ≡ true) same (same_number (lasts node).number))
 
     at_end_away : (node : ℕ) → (lasts node).number ≢ number → ended_lasts number lasts node ≡ lasts node
     at_end_away node apart = ap (λ (b : Bool). cond b (last_ended number) (lasts node)) (not_same (lasts node).number number apart)

@@ -23,3 +23,4 @@ pub mod WorkedApart
 pub mod Worked
 pub mod WorkedMaps
 pub mod WorkedLonger
+pub mod WorkedAlong

@@ -241,7 +241,8 @@ module _ (made : ℕ → CoreCommit) where
   keeps_same : (past now : BoxPast) → now.opens ≡ past.opens → now.done ≡ past.done → now.commits ≡ past.commits → KeepsTheBox past → KeepsTheBox now
   keeps_same past now opens done commits keeps = record {
     box =
-        subst (λ (l : List ReservedCommit). BoxGoesOn NO_COMMIT (record { done = map made_of now.done; opens = map made_of l; number = now.commits })) (sym opens)
+        subst (λ (l : List ReservedCommit). BoxGoesOn NO_COMMIT (record { done = map made_of now.done; opens = map made_of l; number = now.commits }))
+        (sym opens)
         (subst (λ (l : List ReservedCommit). BoxGoesOn NO_COMMIT (record { done = map made_of l; opens = map made_of past.opens; number = now.commits }))
         (sym done)
         (subst (λ (n : ℕ). BoxGoesOn NO_COMMIT (record { done = map made_of past.done; opens = map made_of past.opens; number = n })) (sym commits) keeps.box));

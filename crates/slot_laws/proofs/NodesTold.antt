@@ -180,7 +180,8 @@ pub record IsOpenAs (opens : List ReservedCommit) (number : ℕ) (seen : List Se
 
 module _ (number : ℕ) (seen : List Seen) where
   -- it stays so where another one is taken out
-  open_but : (opens : List ReservedCommit) (other : ℕ) → nat_eq other number ≡ false → IsOpenAs opens number seen → IsOpenAs (commits_but other opens) number seen
+  open_but : (opens : List ReservedCommit) (other : ℕ) → nat_eq other number ≡ false → IsOpenAs opens number seen
+      → IsOpenAs (commits_but other opens) number seen
   open_but opens other differs it = record {
     commit = it.commit;
     among =

@@ -92,7 +92,8 @@ module _ (number : ℕ) where
             ];
             still = (
               (λ other among.
-                  once.0 other (subst (λ (l : List ReservedCommit). IsOneOf l other) (sym split.whole) (put_in split.before split.behind split.one other among))),
+                  once.0 other
+                  (subst (λ (l : List ReservedCommit). IsOneOf l other) (sym split.whole) (put_in split.before split.behind split.one other among))),
               split.still,
             );
           })

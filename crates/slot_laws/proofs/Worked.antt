@@ -44,7 +44,10 @@ module _ (own other : Filling) (own_is : BeginsIn own 0 1 (0 ∷ [])) (other_is 
         (
           (refl, record { calm = refl; own = refl; has = record { work = _; there = refl; aloft = refl; gate_is = refl }; within = own_piece 2 (omega arith) }),
           (
-            (refl, record { calm = refl; own = refl; has = record { work = _; there = refl; aloft = refl; gate_is = refl }; within = own_piece 3 (omega arith) }),
+            (
+              refl,
+              record { calm = refl; own = refl; has = record { work = _; there = refl; aloft = refl; gate_is = refl }; within = own_piece 3 (omega arith) },
+            ),
             (
               (refl, tt),
               (

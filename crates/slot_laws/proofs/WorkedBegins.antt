@@ -14,7 +14,7 @@ use Rattle.slot_laws.specs.Slots.{place_at, begun_work, with_at, with_number}
 use Rattle.slot_laws.specs.Labels.{owner, BoxPast, first_past, after_label, past_from}
 use Rattle.slot_laws.specs.Rules.{MayFrom}
 use Rattle.slot_laws.specs.Worked.{TWO_RINGS, BeginsIn, both_reserve, both_fill, both_land, own_begins, other_begins, seen_one}
-use Rattle.slot_laws.specs.Nodes.{LastCommit, last_ended, last_seen, giving_up, no_numbers, no_last, reserved_lasts}
+use Rattle.slot_laws.specs.Nodes.{LastCommit, last_ended, last_seen, giving_up, no_numbers, no_last}
 use Rattle.slot_laws.specs.declared.label.Seen.{Seen}
 use Rattle.slot_laws.proofs.Basics.{none_there}
 
@@ -97,7 +97,7 @@ may_reserve = (
         (
           (refl, tt),
           (
-            (refl, record { calm = refl; next = refl; none = refl; rests = refl; unmoved = one_unmoved (reserved_lasts 1 (seen_one 1 0).items (λ _. no_last)) 0 0 refl }),
+            (refl, record { calm = refl; next = refl; none = refl; rests = refl; unmoved = one_unmoved _ 0 0 refl }),
             (
               (refl, record { own = refl; no_open = λ e. cc; no_durable = λ e. cc; looked = refl; now = record { rises = omega arith; counts = refl } }),
               (

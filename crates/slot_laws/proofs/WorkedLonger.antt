@@ -1,30 +1,25 @@
--- The longer worked history may be told, and a map goes along it.
+-- The longer worked history may be told.
 use Rattle.std.proofs.Common.{◌++◌, ◌∷◌, ◌≡◌, ◌<◌, ◌∙◌, ◌≢◌, ℕ, [], ap, subst, sym, refl, arith, List, Some, inl, inr}
 use Rattle.sfs_base.proofs.BasicOptions.{some_same}
 use Rattle.journal_one.specs.declared.slot.Filling.{Filling}
 use Rattle.journal_one.specs.Job.{Place, fill_count, Job}
-use Rattle.space_map.specs.declared.status.Status.{Status}
-use Rattle.space_map.specs.Space.{Space}
-use Rattle.space_map.specs.declared.status.Status.TheVariants.{Free, Granted, Taken}
 use Rattle.cut_laws.proofs.Lives.{later}
 use Rattle.merge_laws.proofs.Blocks.{same_or_not}
 use Rattle.stamp_table.specs.declared.event.Event.{Event}
 use Rattle.stamp_table.proofs.Laying.{apart}
 use Rattle.slot_laws.specs.Labels.{BoxPast, past_from, after_label, owner, first_past}
 use Rattle.slot_laws.specs.Worked.{TWO_RINGS, one_block, BeginsIn, both_reserve, own_begins, other_begins, both_fill, both_land}
-use Rattle.slot_laws.specs.WorkedLonger.{later_reserves, later_lands, last_reserves, later_begins, last_begins, last_writes, first_goes_home, WorkedCommits, longer_log, row_of, FREE_MAP, LAST_MAP, LingeringSlotsCanBeMet}
+use Rattle.slot_laws.specs.WorkedLonger.{later_reserves, later_lands, last_reserves, later_begins, last_begins, last_writes, first_goes_home, WorkedCommits, longer_log}
 use Rattle.slot_laws.specs.declared.label.Label.TheVariants as label
 use Rattle.slot_laws.specs.Nodes.{no_numbers}
 use Rattle.slot_laws.specs.Rules.{MayFrom}
 use Rattle.slot_laws.specs.Slots.{place_at, SlotWork, begun_work}
 use Rattle.slot_laws.specs.declared.label.Label.{Label}
-use Rattle.slot_laws.specs.Grants.{SpaceGoes}
 use Rattle.slot_laws.proofs.WorkedBegins.{landed_past, begun_past, one_unmoved, four_marked, one_marked, may_reserve, reserved_past, own_may, own_goes_on, own_begun, other_may, other_goes_on, both_begun, filled_past}
 use Rattle.slot_laws.proofs.Basics.{at_same, at_other}
 use Rattle.slot_laws.proofs.Worked.{later_stamp, may_fill, may_land}
 use Rattle.slot_laws.proofs.Numbers.{CameFrom}
 use Rattle.slot_laws.proofs.Comes.{log_comes, none_begin_by, may_both}
-use Rattle.slot_laws.proofs.WorkedMaps.{first_inodes, first_blocks, second_inodes, second_blocks, second_ends_inodes, second_ends_blocks, first_ends_inodes, first_ends_blocks, third_inodes, third_blocks, third_ends_inodes, third_ends_blocks, fourth_inodes, fourth_blocks, none_granted_yet}
 
 -- what is told once the later commit has reserved, and once it has begun
 abbrev later_reserved : Filling → Filling → BoxPast
@@ -44,10 +39,6 @@ last_begun own other later last k drawn =
     after_label TWO_RINGS 0 label.Gave
     (begun_past (after_label TWO_RINGS 0 label.Took (last_reserved own other later)) 0 last 4 (record { node = 2; stamp = 3 }) no_numbers k drawn)
 
--- a map of two blocks and two inodes
-abbrev map_of : Status → Status → Status → Status → Space
-map_of one two three four = record { blocks = row_of one two; inodes = row_of three four }
-
 module _ (own other later last : Filling) (own_is : BeginsIn own 0 1 (0 ∷ [])) (other_is : BeginsIn other 2 2 []) (later_is : BeginsIn later 3 3 (1 ∷ []))
     (last_is : BeginsIn last 1 4 (0 ∷ [])) where
   later_slot : later.job.place.slot ≡ 3
@@ -63,10 +54,43 @@ module _ (own other later last : Filling) (own_is : BeginsIn own 0 1 (0 ∷ []))
   later_filled n = subst (λ (count : ℕ). n < count) later_is.pieces
 
   may_later_reserve : MayFrom TWO_RINGS 0 later_reserves (landed_past own other)
-  may_later_reserve = ((refl, tt), ((refl, record { calm = refl; next = refl; none = refl; rests = refl; unmoved = one_unmoved _ 1 1 refl }), ((refl, record { own = refl; no_open = λ e. cc; no_durable = λ e. cc; looked = refl; now = record { rises = omega arith; counts = refl } }), ((refl, tt), tt))))
+  may_later_reserve = (
+    (refl, tt),
+    (
+      (refl, record { calm = refl; next = refl; none = refl; rests = refl; unmoved = one_unmoved _ 1 1 refl }),
+      (
+        (refl, record { own = refl; no_open = λ e. cc; no_durable = λ e. cc; looked = refl; now = record { rises = omega arith; counts = refl } }),
+        (
+          (refl, tt),
+          tt,
+        ),
+      ),
+    ),
+  )
 
   may_later_begin : MayFrom TWO_RINGS 0 (later_begins later) (later_reserved own other)
-  may_later_begin = ((refl, tt), ((refl, record { calm = refl; own = ap (owner TWO_RINGS) later_slot; within = subst (λ (k : ℕ). k < 4) (sym later_slot) (omega arith); place = later_is.place ∙ ap (place_at TWO_RINGS) (sym later_slot); idle = ap (later_reserved own other).slots later_slot; number = refl; stamp = later_is.stamp; is = later_is.is }), ((refl, tt), tt)))
+  may_later_begin = (
+    (refl, tt),
+    (
+      (
+        refl,
+        record {
+          calm = refl;
+          own = ap (owner TWO_RINGS) later_slot;
+          within = subst (λ (k : ℕ). k < 4) (sym later_slot) (omega arith);
+          place = later_is.place ∙ ap (place_at TWO_RINGS) (sym later_slot);
+          idle = ap (later_reserved own other).slots later_slot;
+          number = refl;
+          stamp = later_is.stamp;
+          is = later_is.is;
+        },
+      ),
+      (
+        (refl, tt),
+        tt,
+      ),
+    ),
+  )
 
   later_goes_on : (log : List (Event Label)) → MayFrom TWO_RINGS 0 log (later_begun own other later 3 3)
       → MayFrom TWO_RINGS 0 log (past_from TWO_RINGS (later_begins later) (later_reserved own other))
@@ -75,10 +99,138 @@ module _ (own other later last : Filling) (own_is : BeginsIn own 0 1 (0 ∷ []))
       (subst (λ (n : ℕ). MayFrom TWO_RINGS 0 log (later_begun own other later 3 n)) (sym later_is.stamp) may)
 
   may_later_land : MayFrom TWO_RINGS 0 (later_lands ++ last_reserves) (later_begun own other later 3 3)
-  may_later_land = ((refl, tt), ((refl, record { calm = refl; own = refl; has = record { work = _; there = refl; aloft = refl; gate_is = refl }; within = later_piece 0 (omega arith) }), ((refl, record { calm = refl; own = refl; has = record { work = _; there = refl; aloft = refl; gate_is = refl }; within = later_piece 1 (omega arith) }), ((refl, record { calm = refl; own = refl; has = record { work = _; there = refl; aloft = refl; gate_is = refl }; within = later_piece 2 (omega arith) }), ((refl, record { calm = refl; own = refl; has = record { work = _; there = refl; aloft = refl; gate_is = refl }; within = later_piece 3 (omega arith) }), ((refl, refl), ((refl, record { calm = refl; own = refl; has = record { work = _; there = refl; aloft = refl; gate_is = refl }; filled = λ n low. four_marked n (later_filled n low); cut_is = record { did_is = refl; core_is = refl; commit_is = refl; flush_is = refl }; opened_is = record { did_is = refl; core_is = refl; commit_is = refl; flush_is = refl }; cut_now = record { rises = omega arith; counts = refl }; opened_now = (refl, refl) }), ((refl, refl), ((refl, record { calm = refl; has = record { work = _; there = refl; aloft = refl; gate_is = refl }; is = record { did_is = refl; core_is = refl; commit_is = refl; flush_is = refl }; moment = refl; now = record { rises = omega arith; counts = refl } }), ((refl, record { own = refl; waits = refl }), ((refl, tt), ((refl, tt), ((refl, record { calm = refl; next = refl; none = refl; rests = refl; unmoved = one_unmoved _ 2 0 refl }), ((refl, record { own = refl; no_open = λ e. cc; no_durable = λ e. cc; looked = refl; now = record { rises = omega arith; counts = refl } }), ((refl, tt), tt)))))))))))))))
+  may_later_land = (
+    (refl, tt),
+    (
+      (
+        refl,
+        record {
+          calm = refl;
+          own = refl;
+          has = record { work = _; there = refl; aloft = refl; gate_is = refl };
+          within = later_piece 0 (omega arith);
+        },
+      ),
+      (
+        (
+          refl,
+          record {
+            calm = refl;
+            own = refl;
+            has = record { work = _; there = refl; aloft = refl; gate_is = refl };
+            within = later_piece 1 (omega arith);
+          },
+        ),
+        (
+          (
+            refl,
+            record {
+              calm = refl;
+              own = refl;
+              has = record { work = _; there = refl; aloft = refl; gate_is = refl };
+              within = later_piece 2 (omega arith);
+            },
+          ),
+          (
+            (
+              refl,
+              record {
+                calm = refl;
+                own = refl;
+                has = record { work = _; there = refl; aloft = refl; gate_is = refl };
+                within = later_piece 3 (omega arith);
+              },
+            ),
+            (
+              (refl, refl),
+              (
+                (
+                  refl,
+                  record {
+                    calm = refl;
+                    own = refl;
+                    has = record { work = _; there = refl; aloft = refl; gate_is = refl };
+                    filled = λ n low. four_marked n (later_filled n low);
+                    cut_is = record { did_is = refl; core_is = refl; commit_is = refl; flush_is = refl };
+                    opened_is = record { did_is = refl; core_is = refl; commit_is = refl; flush_is = refl };
+                    cut_now = record { rises = omega arith; counts = refl };
+                    opened_now = (refl, refl);
+                  },
+                ),
+                (
+                  (refl, refl),
+                  (
+                    (
+                      refl,
+                      record {
+                        calm = refl;
+                        has = record { work = _; there = refl; aloft = refl; gate_is = refl };
+                        is = record { did_is = refl; core_is = refl; commit_is = refl; flush_is = refl };
+                        moment = refl;
+                        now = record { rises = omega arith; counts = refl };
+                      },
+                    ),
+                    (
+                      (refl, record { own = refl; waits = refl }),
+                      (
+                        (refl, tt),
+                        (
+                          (refl, tt),
+                          (
+                            (refl, record { calm = refl; next = refl; none = refl; rests = refl; unmoved = one_unmoved _ 2 0 refl }),
+                            (
+                              (
+                                refl,
+                                record {
+                                  own = refl;
+                                  no_open = λ e. cc;
+                                  no_durable = λ e. cc;
+                                  looked = refl;
+                                  now = record { rises = omega arith; counts = refl };
+                                },
+                              ),
+                              (
+                                (refl, tt),
+                                tt,
+                              ),
+                            ),
+                          ),
+                        ),
+                      ),
+                    ),
+                  ),
+                ),
+              ),
+            ),
+          ),
+        ),
+      ),
+    ),
+  )
 
   may_last_begin : MayFrom TWO_RINGS 0 (last_begins last) (last_reserved own other later)
-  may_last_begin = ((refl, tt), ((refl, record { calm = refl; own = ap (owner TWO_RINGS) last_slot; within = subst (λ (k : ℕ). k < 4) (sym last_slot) (omega arith); place = last_is.place ∙ ap (place_at TWO_RINGS) (sym last_slot); idle = ap (last_reserved own other later).slots last_slot; number = refl; stamp = last_is.stamp; is = last_is.is }), ((refl, tt), tt)))
+  may_last_begin = (
+    (refl, tt),
+    (
+      (
+        refl,
+        record {
+          calm = refl;
+          own = ap (owner TWO_RINGS) last_slot;
+          within = subst (λ (k : ℕ). k < 4) (sym last_slot) (omega arith);
+          place = last_is.place ∙ ap (place_at TWO_RINGS) (sym last_slot);
+          idle = ap (last_reserved own other later).slots last_slot;
+          number = refl;
+          stamp = last_is.stamp;
+          is = last_is.is;
+        },
+      ),
+      (
+        (refl, tt),
+        tt,
+      ),
+    ),
+  )
 
   last_goes_on : (log : List (Event Label)) → MayFrom TWO_RINGS 0 log (last_begun own other later last 1 4)
       → MayFrom TWO_RINGS 0 log (past_from TWO_RINGS (last_begins last) (last_reserved own other later))
@@ -91,13 +243,16 @@ module _ (own other later last : Filling) (own_is : BeginsIn own 0 1 (0 ∷ []))
       → own.job.stamp < work.job.stamp
   first_is_oldest k work apart there = elim (same_or_not k 1) [
     | inl same ↦
-        let is = some_same (sym (at_same (last_reserved own other later).slots 1 (Some (begun_work last.job 4 (record { node = 2; stamp = 3 }))) k same) ∙ was.there) in
+        let is = some_same
+        (sym (at_same (last_reserved own other later).slots 1 (Some (begun_work last.job 4 (record { node = 2; stamp = 3 }))) k same) ∙ was.there) in
         let drawn : work.job.stamp ≡ 4 = ap (λ (job : Job). job.stamp) was.stays.job ∙ ap (λ (w : SlotWork). w.job.stamp) (sym is) ∙ last_is.stamp in
         omega (arith, drawn, own_is.stamp)
     | inr away ↦ elim (same_or_not k 3) [
       | inl same ↦
-          let is = some_same (sym (at_same (later_reserved own other).slots 3 (Some (begun_work later.job 3 (record { node = 1; stamp = 2 }))) k same) ∙ (before away).there) in
-          let drawn : work.job.stamp ≡ 3 = ap (λ (job : Job). job.stamp) (was.stays.job ∙ (before away).stays.job) ∙ ap (λ (w : SlotWork). w.job.stamp) (sym is) ∙ later_is.stamp in
+          let is = some_same
+          (sym (at_same (later_reserved own other).slots 3 (Some (begun_work later.job 3 (record { node = 1; stamp = 2 }))) k same) ∙ (before away).there) in
+          let drawn : work.job.stamp ≡ 3 =
+          ap (λ (job : Job). job.stamp) (was.stays.job ∙ (before away).stays.job) ∙ ap (λ (w : SlotWork). w.job.stamp) (sym is) ∙ later_is.stamp in
           omega (arith, drawn, own_is.stamp)
       | inr out ↦
           let low = later_stamp own other own_is other_is k (before away).work apart
@@ -119,10 +274,63 @@ module _ (own other later last : Filling) (own_is : BeginsIn own 0 1 (0 ∷ []))
   last_piece n = subst (λ (count : ℕ). n < count) (sym last_is.pieces)
 
   may_write : MayFrom TWO_RINGS 0 last_writes (last_begun own other later last 1 4)
-  may_write = ((refl, tt), ((refl, record { calm = refl; own = refl; has = record { work = _; there = refl; aloft = refl; gate_is = refl }; within = last_piece 0 (omega arith) }), ((refl, tt), tt)))
+  may_write = (
+    (refl, tt),
+    (
+      (
+        refl,
+        record {
+          calm = refl;
+          own = refl;
+          has = record { work = _; there = refl; aloft = refl; gate_is = refl };
+          within = last_piece 0 (omega arith);
+        },
+      ),
+      (
+        (refl, tt),
+        tt,
+      ),
+    ),
+  )
 
   may_end : MayFrom TWO_RINGS 0 first_goes_home (past_from TWO_RINGS last_writes (last_begun own other later last 1 4))
-  may_end = ((refl, tt), ((refl, record { calm = refl; has = record { work = _; there = refl; aloft = refl; gate_is = refl }; within = subst (λ (count : ℕ). 0 < count) (sym own_is.one) (omega arith); oldest = λ k work apart there durable shares. first_is_oldest k work apart there }), ((refl, refl), ((refl, record { calm = refl; has = record { work = _; there = refl; aloft = refl; gate_is = refl }; placed = λ n low. one_marked n (subst (λ (count : ℕ). n < count) own_is.one low) }), ((refl, refl), ((refl, record { calm = refl; has = record { work = _; there = refl; aloft = refl; gate_is = refl } }), ((refl, tt), tt)))))))
+  may_end = (
+    (refl, tt),
+    (
+      (
+        refl,
+        record {
+          calm = refl;
+          has = record { work = _; there = refl; aloft = refl; gate_is = refl };
+          within = subst (λ (count : ℕ). 0 < count) (sym own_is.one) (omega arith);
+          oldest = λ k work apart there durable shares. first_is_oldest k work apart there;
+        },
+      ),
+      (
+        (refl, refl),
+        (
+          (
+            refl,
+            record {
+              calm = refl;
+              has = record { work = _; there = refl; aloft = refl; gate_is = refl };
+              placed = λ n low. one_marked n (subst (λ (count : ℕ). n < count) own_is.one low);
+            },
+          ),
+          (
+            (refl, refl),
+            (
+              (refl, record { calm = refl; has = record { work = _; there = refl; aloft = refl; gate_is = refl } }),
+              (
+                (refl, tt),
+                tt,
+              ),
+            ),
+          ),
+        ),
+      ),
+    ),
+  )
 
   abbrev all_four : WorkedCommits
   all_four = record { own = own; other = other; later = later; last = last }
@@ -155,15 +363,3 @@ module _ (own other later last : Filling) (own_is : BeginsIn own 0 1 (0 ∷ []))
       (other_goes_on own other other_is (both_fill ++ both_land ++ behind_both)
       (may_both TWO_RINGS 0 both_fill (both_land ++ behind_both) (both_begun own other 2 2) (may_fill own other own_is other_is)
       (may_both TWO_RINGS 0 both_land behind_both (filled_past own other) (may_land own other own_is other_is) may_behind))))))
-
-  -- the map goes along
-  map_goes : SpaceGoes TWO_RINGS (longer_log all_four) (first_past 0) FREE_MAP LAST_MAP
-  map_goes = (record { next = (map_of Free Free Free Free); does = refl }, (record { next = (map_of Granted Free Free Free); does = record { inodes = first_inodes; blocks = first_blocks; least = refl } }, (record { next = (map_of Granted Free Free Free); does = refl }, (record { next = (map_of Granted Free Free Free); does = refl }, (record { next = (map_of Granted Free Free Free); does = refl }, (record { next = (map_of Granted Free Granted Free); does = record { inodes = second_inodes; blocks = second_blocks; least = refl } }, (record { next = (map_of Granted Free Granted Free); does = refl }, (record { next = (map_of Granted Free Granted Free); does = refl }, (record { next = (map_of Granted Free Granted Free); does = refl }, (record { next = (map_of Granted Free Granted Free); does = refl }, (record { next = (map_of Granted Free Granted Free); does = refl }, (record { next = (map_of Granted Free Granted Free); does = refl }, (record { next = (map_of Granted Free Granted Free); does = refl }, (record { next = (map_of Granted Free Granted Free); does = refl }, (record { next = (map_of Granted Free Granted Free); does = refl }, (record { next = (map_of Granted Free Granted Free); does = refl }, (record { next = (map_of Granted Free Granted Free); does = refl }, (record { next = (map_of Granted Free Granted Free); does = refl }, (record { next = (map_of Granted Free Granted Free); does = refl }, (record { next = (map_of Granted Free Granted Free); does = refl }, (record { next = (map_of Granted Free Granted Free); does = refl }, (record { next = (map_of Granted Free Granted Free); does = refl }, (record { next = (map_of Granted Free Granted Free); does = refl }, (record { next = (map_of Granted Free Granted Free); does = refl }, (record { next = (map_of Granted Free Granted Free); does = refl }, (record { next = (map_of Granted Free Granted Free); does = refl }, (record { next = (map_of Granted Free Granted Free); does = refl }, (record { next = (map_of Granted Free Granted Free); does = refl }, (record { next = (map_of Granted Free Granted Free); does = refl }, (record { next = (map_of Granted Free Granted Free); does = refl }, (record { next = (map_of Granted Free Granted Free); does = refl }, (record { next = (map_of Granted Free Granted Free); does = refl }, (record { next = (map_of Granted Free Granted Free); does = refl }, (record { next = (map_of Granted Free Granted Free); does = refl }, (record { next = (map_of Granted Free Taken Free); does = record { own = record { commit = _; among = inr (inl refl); number_is = refl }; inodes = second_ends_inodes; blocks = second_ends_blocks } }, (record { next = (map_of Taken Free Taken Free); does = record { own = record { commit = _; among = inl refl; number_is = refl }; inodes = first_ends_inodes; blocks = first_ends_blocks } }, (record { next = (map_of Taken Free Taken Free); does = refl }, (record { next = (map_of Taken Free Taken Free); does = refl }, (record { next = (map_of Taken Free Taken Free); does = refl }, (record { next = (map_of Taken Free Taken Free); does = refl }, (record { next = (map_of Taken Free Taken Free); does = refl }, (record { next = (map_of Taken Free Taken Free); does = refl }, (record { next = (map_of Taken Granted Taken Free); does = record { inodes = third_inodes; blocks = third_blocks; least = refl } }, (record { next = (map_of Taken Granted Taken Free); does = refl }, (record { next = (map_of Taken Granted Taken Free); does = refl }, (record { next = (map_of Taken Granted Taken Free); does = refl }, (record { next = (map_of Taken Granted Taken Free); does = refl }, (record { next = (map_of Taken Granted Taken Free); does = refl }, (record { next = (map_of Taken Granted Taken Free); does = refl }, (record { next = (map_of Taken Granted Taken Free); does = refl }, (record { next = (map_of Taken Granted Taken Free); does = refl }, (record { next = (map_of Taken Granted Taken Free); does = refl }, (record { next = (map_of Taken Granted Taken Free); does = refl }, (record { next = (map_of Taken Granted Taken Free); does = refl }, (record { next = (map_of Taken Granted Taken Free); does = refl }, (record { next = (map_of Taken Granted Taken Free); does = refl }, (record { next = (map_of Free Taken Taken Free); does = record { own = record { commit = _; among = inl refl; number_is = refl }; inodes = third_ends_inodes; blocks = third_ends_blocks } }, (record { next = (map_of Free Taken Taken Free); does = refl }, (record { next = (map_of Free Taken Taken Free); does = refl }, (record { next = (map_of Free Taken Taken Free); does = refl }, (record { next = (map_of Granted Taken Taken Free); does = record { inodes = fourth_inodes; blocks = fourth_blocks; least = refl } }, (record { next = (map_of Granted Taken Taken Free); does = refl }, (record { next = (map_of Granted Taken Taken Free); does = refl }, (record { next = (map_of Granted Taken Taken Free); does = refl }, (record { next = (map_of Granted Taken Taken Free); does = refl }, (record { next = (map_of Granted Taken Taken Free); does = refl }, (record { next = (map_of Granted Taken Taken Free); does = refl }, (record { next = (map_of Granted Taken Taken Free); does = refl }, (record { next = (map_of Granted Taken Taken Free); does = refl }, (record { next = (map_of Granted Taken Taken Free); does = refl }, (record { next = (map_of Granted Taken Taken Free); does = refl }, (record { next = (map_of Granted Taken Taken Free); does = refl }, (record { next = (map_of Granted Taken Taken Free); does = refl }, (record { next = (map_of Granted Taken Taken Free); does = refl }, (record { next = (map_of Granted Taken Taken Free); does = refl }, (record { next = (map_of Granted Taken Taken Free); does = refl }, refl))))))))))))))))))))))))))))))))))))))))))))))))))))))))))))))))))))))))))))
-
-pub lingering_slots_can_be_met : LingeringSlotsCanBeMet
-lingering_slots_can_be_met all are = record {
-  may = longer_may all.own all.other all.later all.last are.own are.other are.later are.last;
-  no_inodes = none_granted_yet;
-  no_blocks = none_granted_yet;
-  goes = map_goes all.own all.other all.later all.last are.own are.other are.later are.last;
-}

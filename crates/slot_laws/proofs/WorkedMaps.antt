@@ -37,19 +37,21 @@ none_twice false c f g o none = none_once c g o none
 
 -- a row changes so where it does at both numbers
 module _ (change : Status → Status) (numbers : List ℕ) (a b c d : Status) where
-  row_changes : status_of (row_of c d) 0 ≡ cond (is_listed numbers 0) (option_map change (status_of (row_of a b) 0)) (status_of (row_of a b) 0)
-      → status_of (row_of c d) 1 ≡ cond (is_listed numbers 1) (option_map change (status_of (row_of a b) 1)) (status_of (row_of a b) 1)
-      → Changes change numbers (row_of a b) (row_of c d)
+  abbrev ChangesAt : ℕ → Type 0
+  ChangesAt n = status_of (row_of c d) n ≡ cond (is_listed numbers n) (option_map change (status_of (row_of a b) n)) (status_of (row_of a b) n)
+
+  row_changes : ChangesAt 0 → ChangesAt 1 → Changes change numbers (row_of a b) (row_of c d)
   row_changes first second n = elim (which n) [
-    | inl same ↦ subst (λ (k : ℕ). status_of (row_of c d) k ≡ cond (is_listed numbers k) (option_map change (status_of (row_of a b) k)) (status_of (row_of a b) k)) (sym same) first
-    | inr (inl same) ↦ subst (λ (k : ℕ). status_of (row_of c d) k ≡ cond (is_listed numbers k) (option_map change (status_of (row_of a b) k)) (status_of (row_of a b) k)) (sym same) second
+    | inl same ↦ subst ChangesAt (sym same) first
+    | inr (inl same) ↦ subst ChangesAt (sym same) second
     | inr (inr high) ↦ far c d n high ∙ none_once (is_listed numbers n) change (status_of (row_of a b) n) (far a b n high)
   ]
 
 -- what becomes of a number where a grant ends
 abbrev EndsAt : List ℕ → List ℕ → Pool → Pool → ℕ → Type 0
 EndsAt granted freed old new n = status_of new n
-    ≡ cond (is_listed granted n) (option_map (λ (s : Status). Taken) (status_of old n)) (cond (is_listed freed n) (option_map released (status_of old n)) (status_of old n))
+    ≡ cond (is_listed granted n) (option_map (λ (s : Status). Taken) (status_of old n))
+    (cond (is_listed freed n) (option_map released (status_of old n)) (status_of old n))
 
 row_ends : (granted freed : List ℕ) (a b c d : Status) → EndsAt granted freed (row_of a b) (row_of c d) 0 → EndsAt granted freed (row_of a b) (row_of c d) 1
     → Ends granted freed (row_of a b) (row_of c d)
