@@ -73,23 +73,31 @@ fn small_tree(rt: &impl Abort, alloc: Global) -> Tree
     tree
 }
 
-// The file alone has an inode.
-fn file_alone(rt: &impl Abort, alloc: Global) -> OldDisk {
-    let mut disk = OldDisk::new(alloc);
-    holds(rt, disk.find(FILE.0).is_none());
-    let file = Inode {
-        kind: 1,
-        links: 2,
-        size: 10,
+// What the disk has of a node: an inode with this record, and nothing else.
+fn kept(alloc: Global, inode: u32, kind: u8, links: u32, size: u64) -> OldNode {
+    let meta = Inode {
+        kind,
+        links,
+        size,
         direct: [0; 108],
         indirect: [0; 16],
     };
-    let old = OldNode {
-        inode: 3,
-        meta: file,
+    OldNode {
+        inode,
+        meta,
         tables: Tables::new(alloc),
         slots: SlotList::new(alloc),
-    };
+    }
+}
+
+// The root and the file have an inode, a directory's and a file's.
+fn root_and_file(rt: &impl Abort, alloc: Global) -> OldDisk {
+    let mut disk = OldDisk::new(alloc);
+    holds(rt, disk.find(ROOT.0).is_none());
+    let old = kept(alloc, 0, 2, 1, 0);
+    got(rt, disk.add(OldEntry { node: ROOT, old }));
+    holds(rt, disk.find(FILE.0).is_none());
+    let old = kept(alloc, 3, 1, 2, 10);
     got(rt, disk.add(OldEntry { node: FILE, old }));
     disk
 }
@@ -153,7 +161,7 @@ fn look<R: Wait>(rt: &R, shared: &FileShared, core: &mut FileCore, shown: &Shown
     found
 }
 
-// Whether a core finds an inode of exactly the file.
+// Whether a core finds a file with an inode in exactly the file, and not in the root.
 fn finds_inode<R: Wait>(rt: &R, shared: &FileShared, core: &mut FileCore) -> bool
     requires core { IsBetweenCalls shared.now core.old }
     requires places { shared.now.table.id.slots ≡ PLACES }
@@ -274,7 +282,7 @@ fn cells_show_what_the_tree_has(rt: HostRuntime) {
     let alloc = rt.alloc();
     let all = small_cells(&rt, alloc);
     let tree = small_tree(&rt, alloc);
-    let given = file_alone(&rt, alloc);
+    let given = root_and_file(&rt, alloc);
     let shown = got(&rt, begins_and_ends(&rt, alloc, &tree, given, &all));
     holds(&rt, shown);
 }
