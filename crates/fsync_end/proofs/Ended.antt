@@ -38,6 +38,7 @@ use Rattle.mem_values.proofs.Places.{places_apart}
 use Rattle.mem_values.proofs.Telling.{commits_may_be_told}
 use Rattle.mem_values.proofs.Told.{one_of_some}
 use Rattle.home_laws.proofs.Written.{written_values_stand}
+use Rattle.fsync_look.proofs.Copied.{pending_of}
 use Rattle.mem_calls.specs.Table.{IsFileTable}
 use Rattle.mem_calls.specs.Held.{as_pending}
 use Rattle.fsync_end.specs.declared.finishing.Ending.{Ending}
@@ -90,15 +91,7 @@ told_there core number (suc count) part lt =
           (inl (let upper = here.1 in ap {B = Trimming} (λ (n : ℕ). record { core = core; number = number; part = n }) (omega (arith, upper, lt))))
     ])
 
--- what stands for the cell of what was flushed of a node, by the value that it is
-pending_of : (given : ℕ → Option OldKept) (first : TreeState) (log : List (Event Fact)) (node : NodeId) (value : Cell) (p : Pending) → as_pending value ≡ Some p
-    → StandsForCell given first (account_of log) (id.Pending node) value → StandsPending given first (account_of log) node.0 p
-pending_of given first log node (cell.Pending pending) p is stood = subst (StandsPending given first (account_of log) node.0) (some_same is) stood
-pending_of given first log node (cell.Bucket bucket) p is stood = absurd stood
-pending_of given first log node (cell.Lock lock) p is stood = absurd stood
-pending_of given first log node (cell.Part part) p is stood = absurd stood
-pending_of given first log node (cell.File file) p is stood = absurd stood
-
+-- a value of the cell of what was flushed of a node stands for it where what it is does
 of_pending : (given : ℕ → Option OldKept) (first : TreeState) (log : List (Event Fact)) (node : NodeId) (value : Cell) (p : Pending) → as_pending value ≡ Some p
     → StandsPending given first (account_of log) node.0 p → StandsForCell given first (account_of log) (id.Pending node) value
 of_pending given first log node (cell.Pending pending) p is stands = subst (StandsPending given first (account_of log) node.0) (sym (some_same is)) stands

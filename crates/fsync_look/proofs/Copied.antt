@@ -57,7 +57,7 @@ pub record LooksAtLog (s : LogLook) : Type 0 where
   pub gains : Gains s.nodes (id.Part s.number) s.before s.holding
 
 -- what stands for the cell of what was flushed of a node, by the value that it is
-pending_of : (given : ℕ → Option OldKept) (first : TreeState) (log : List (Event Fact)) (node : NodeId) (value : Cell) (p : Pending) → as_pending value ≡ Some p
+pub pending_of : (given : ℕ → Option OldKept) (first : TreeState) (log : List (Event Fact)) (node : NodeId) (value : Cell) (p : Pending) → as_pending value ≡ Some p
     → StandsForCell given first (account_of log) (id.Pending node) value → StandsPending given first (account_of log) node.0 p
 pending_of given first log node (cell.Pending pending) p is stood = subst (StandsPending given first (account_of log) node.0) (some_same is) stood
 pending_of given first log node (cell.Bucket bucket) p is stood = absurd stood

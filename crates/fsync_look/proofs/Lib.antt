@@ -1,3 +1,3 @@
 pub mod Cells
 mod Held
-mod Copied
+pub mod Copied
