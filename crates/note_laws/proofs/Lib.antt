@@ -9,3 +9,4 @@ pub mod Born
 pub mod Noting
 pub mod Joining
 pub mod Answers
+pub mod Worked

@@ -2,3 +2,4 @@ pub mod Run
 pub mod Notes
 pub mod Merged
 pub mod Joined
+pub mod Worked

@@ -3,6 +3,7 @@ ghost use Rattle.note_laws.specs.Joined.{AlikeWhateverAnswered, CopiesAreFiles, 
 ghost use Rattle.note_laws.specs.Merged.{NotedPartsAreLeft, NotesAreLogs};
 ghost use Rattle.note_laws.specs.Notes.{NotesAreEnough, PartsHaveMarks};
 ghost use Rattle.note_laws.specs.Run.{SawsAreLeft};
+ghost use Rattle.note_laws.specs.Worked.{NotesCanBeMet};
 
 /// What a core saw of a node is what the last commit that is done and holds it left.
 pub fn saws_are_left()
@@ -52,4 +53,9 @@ pub fn alike_whatever_answered()
 /// A file that was copied as a stamp was drawn is the run's file at that stamp.
 pub fn copies_are_files()
     ensures { CopiesAreFiles }
+{}
+
+/// All that is asked of a core's notes can be met: by a core that flushes the root before any other call.
+pub fn notes_can_be_met()
+    ensures { NotesCanBeMet }
 {}
