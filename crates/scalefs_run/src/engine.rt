@@ -22,7 +22,7 @@ ghost use Rattle.scalefs_run.specs.WithoutCore.{HaveCores};
 
 use crate::turns::{Counts, add_turns};
 use recovery::RecoverFault;
-use script::{Phase, Worker};
+use script::{Course, Phase};
 use sfs_base::{CoreId, NoMemory, Stamp};
 use sfs_dev::Disk;
 use std::alloc::Global;
@@ -118,7 +118,7 @@ fn serve_worker<D: Disk>(
     ensures still { engine.new.entries.items ≡ engine.old.entries.items → disk.new ≡ disk.old }
     ensures advances { Advances (D.view disk.old) (D.view disk.new) }
 {
-    let mut worker = Worker::new(u16::from(core), phase);
+    let mut worker = Course::new(u16::from(core), phase);
     while let Some(call) = worker.next_call()? {
         let place = engine.entries.len();
         serve_call(engine, disk, CoreId(core), call)?;

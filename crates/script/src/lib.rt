@@ -13,6 +13,6 @@ pub use fault::ScriptFault;
 pub use phases::{Phase, Script};
 pub use reading::literals::number_up_to;
 pub use reading::{LONGEST_SCRIPT, MOST_LINES, read};
-pub use working::worker::Worker;
+pub use working::course::Course;
 pub use writing::text;
 pub use writing::tree::tree_text;

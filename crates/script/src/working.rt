@@ -1,4 +1,4 @@
 // The calls that a worker makes for its commands.
 mod calls;
+pub mod course;
 mod steps;
-pub mod worker;

@@ -1,6 +1,6 @@
 // The text of each call and each reply, and of the calls that a worker makes.
 use crate::helpers::{got, holds, same, same_list, some};
-use script::{Worker, read, text};
+use script::{Course, read, text};
 use sfs_base::{Chunk, CoreId, Kind, Name, NodeId, SpaceKind, Stamp};
 use std::alloc::Global;
 use std::process::Abort;
@@ -206,7 +206,7 @@ fn node(number: u32, kind: Kind) -> Reply {
 fn answered(
     rt: &impl Abort,
     alloc: Global,
-    worker: &mut Worker,
+    worker: &mut Course,
     replies: Vec<Reply>,
 ) -> Vec<Entry> {
     let mut entries = Vec::new(alloc);
@@ -235,7 +235,7 @@ fn calls(rt: &impl Abort, alloc: Global, script: &[u8], replies: Vec<Reply>) -> 
     match script.phases() {
         [] => panic!(rt; "no phase"),
         [phase, ..] => {
-            let mut worker = Worker::new(3, phase);
+            let mut worker = Course::new(3, phase);
             let entries = answered(rt, alloc, &mut worker, replies);
             holds(rt, got(rt, worker.next_call()).is_none());
             got(rt, text(alloc, &History::from_entries(entries)))

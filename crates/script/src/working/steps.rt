@@ -1,4 +1,4 @@
-ghost use Rattle.std.specs.Prelude.{◌≡◌, IfOk};
+ghost use Rattle.std.specs.Prelude.{◌≡◌, IsSome, MatchResult};
 ghost use Rattle.script.specs.Walks.{first_walk, second_walk, last_call, on_first, on_second, begun, call_of, after};
 ghost use Rattle.script.specs.Workers.{walk_state_of};
 
@@ -100,9 +100,9 @@ pub fn after<'a>(leg: Walk<'a>, reply: &Reply) -> Walk<'a>
     }
 }
 
-// The next call, if one is left.
+// The next call, if one is left. Memory is refused for a call alone.
 pub fn call_of(leg: Walk<'_>) -> Result<Option<Call>, NoMemory>
-    ensures { IfOk result (λ call. call ≡ call_of (walk_state_of leg.entry)) }
+    ensures { MatchResult result (λ call. call ≡ call_of (walk_state_of leg.entry)) (λ fault. IsSome (call_of (walk_state_of leg.entry))) }
 {
     match leg {
         Walk::First { node, name, .. } => Ok(Some(look(node, name)?)),

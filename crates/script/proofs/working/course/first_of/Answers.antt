@@ -1,7 +1,7 @@
 use Rattle.std.proofs.Common.{◌+◌, add-one, ◌∙◌}
 use Rattle.std.proofs.lemmas.List.{take_rest}
 use Rattle.script.proofs.WalkLemmas.{passed, at_own, at_end, none_left}
-use Rattle.script.proofs.working.worker.first_of.Goals as goal
+use Rattle.script.proofs.working.course.first_of.Goals as goal
 
 pub returns : goal.returns
 returns c = at_end c.args.number c.args.lines.now _ c.loop-place.place c.loop-place-test.false c.loop-place.invariant (none_left c.args.lines.now)

@@ -1,0 +1,3 @@
+pub mod Fsyncs
+pub mod Stamped
+pub mod Waiting

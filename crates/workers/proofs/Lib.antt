@@ -1,0 +1,4 @@
+pub mod Added
+pub mod Phases
+pub mod Places
+pub mod UnderWay

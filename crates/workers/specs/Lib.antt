@@ -1,0 +1,4 @@
+pub mod Keeping
+pub mod Phases
+pub mod Serving
+pub mod Works

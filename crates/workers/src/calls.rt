@@ -1,0 +1,68 @@
+// One call of a worker, of whatever kind.
+ghost use Rattle.std.specs.Prelude.{◌≡◌};
+ghost use Rattle.tree_laws.specs.Step.{IsReadable};
+ghost use Rattle.stamp_table.specs.Table.{IsBetweenCalls, IsSameCore};
+ghost use Rattle.workers.specs.Keeping.{AddsOrRefused};
+ghost use Rattle.workers.specs.Works.{IsBasisOf};
+
+use crate::Flush;
+use crate::worker::Basis;
+use mem_calls::call;
+use mem_rename::{Move, RENAME_CELLS, rename};
+use mem_values::{FileCore, FileShared};
+use sfs_base::{Gate, NoMemory};
+use std::alloc::Global;
+use std::sync::Wait;
+use tree_laws::{Call, Reply};
+
+/// Makes a worker's call. Where it is refused memory the core has made none.
+pub(crate) fn make_call<R: Wait, F: Flush, G: Gate>(
+    rt: &R,
+    alloc: Global,
+    shared: &FileShared,
+    core: &mut FileCore,
+    pen: &mut F::Pen,
+    basis: Basis,
+    asked: Call,
+    flush: &F,
+    gate: &G,
+) -> Result<Reply, NoMemory>
+    requires basis { IsBasisOf shared.now basis }
+    requires flush { F.table flush.now ≡ shared.now }
+    requires core { IsBetweenCalls shared.now core.old }
+    requires agrees { F.agrees flush.now core.old pen.old }
+    requires readable { IsReadable asked }
+    ensures made { AddsOrRefused asked core.old core.new result }
+    ensures between { IsBetweenCalls shared.now core.new }
+    ensures same { IsSameCore core.old core.new }
+    ensures agrees { F.agrees flush.now core.new pen.new }
+{
+    core.reserve(1, RENAME_CELLS)?;
+    match asked {
+        Call::Rename {
+            dir: directory,
+            name,
+            to_dir: to_directory,
+            to_name,
+        } => {
+            let move_ = Move {
+                directory,
+                name,
+                to_directory,
+                to_name,
+            };
+            rename(rt, alloc, shared, core, basis.nodes, move_, gate)
+        }
+        Call::Fsync { node } => Ok(flush.fsync(rt, alloc, core, pen, node, gate)),
+        other => call(
+            rt,
+            alloc,
+            shared,
+            core,
+            basis.nodes,
+            basis.numbers,
+            other,
+            gate,
+        ),
+    }
+}

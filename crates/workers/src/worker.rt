@@ -1,0 +1,20 @@
+// What one worker owns, and what all workers of a table know.
+use mem_calls::Numbers;
+use mem_values::FileCore;
+
+/// A worker: its core, the pen with which its fsyncs write, whether it was refused memory before a stamp in the last phase that it ran, and
+/// how many calls there were as it looked at the end of that.
+#[derive(Drop)]
+pub struct Worker<P> {
+    pub core: FileCore,
+    pub pen: P,
+    pub refused: bool,
+    pub until: u64,
+}
+
+/// How many nodes a table has, and by what its cores number those that they make.
+#[derive(Clone, Copy)]
+pub struct Basis {
+    pub nodes: u32,
+    pub numbers: Numbers,
+}
