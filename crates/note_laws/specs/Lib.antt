@@ -3,3 +3,4 @@ pub mod Notes
 pub mod Merged
 pub mod Joined
 pub mod Worked
+pub mod Kept

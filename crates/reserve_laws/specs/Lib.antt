@@ -2,3 +2,4 @@ pub mod Plans
 pub mod Looks
 pub mod OwnFile
 pub mod Fits
+pub mod Olds

@@ -1,6 +1,7 @@
 //! What is proved of what cores bring as they reserve: each function's contract is a law.
 ghost use Rattle.reserve_laws.specs.Fits.{RecordsFit, ToldReserve};
 ghost use Rattle.reserve_laws.specs.Looks.{CoresOpen, LooksBring};
+ghost use Rattle.reserve_laws.specs.Olds.{NumbersRiseOn, OldsAreLeft};
 ghost use Rattle.reserve_laws.specs.OwnFile.{OwnFilesBring, OwnFilesOpen};
 ghost use Rattle.reserve_laws.specs.Plans.{PlansBring};
 
@@ -37,4 +38,14 @@ pub fn own_files_open()
 /// So a record fits what its books are kept from, where cores tell so at its places and the map goes along it.
 pub fn records_fit()
     ensures { RecordsFit }
+{}
+
+/// What a core saw of a node, left by the last of those that are done and hold it, is what memory keeps of the volume.
+pub fn olds_are_left()
+    ensures { OldsAreLeft }
+{}
+
+/// Numbers go on rising along those that are done and share a node.
+pub fn numbers_rise_on()
+    ensures { NumbersRiseOn }
 {}
