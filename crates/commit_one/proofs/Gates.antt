@@ -6,7 +6,7 @@ use Rattle.sfs_dev.specs.Disk.{View, images}
 use Rattle.sfs_dev.specs.Run.{Advances}
 use Rattle.journal_one.specs.Calls.{IsWrite, IsSync}
 use Rattle.journal_one.specs.Job.{Job, fill_piece, gate_piece, IsJob}
-use Rattle.journal_one.specs.Known.{EachLeft, AreFilled, IsFilled, IsDurable, IsCopied, IsEnded}
+use Rattle.journal_one.specs.Known.{EachLeft, AreFilled, IsDurable, IsCopied, IsEnded}
 use Rattle.journal_one.specs.Laws.{HasPieces}
 use Rattle.journal_one.proofs.Kept.{IsLawful}
 use Rattle.commit_one.specs.Carried.{LaterLeaves, GoesOnTelling, Keeps}
@@ -22,9 +22,6 @@ has_pieces job disk filled content told image left k lt = filled k lt content to
 -- every fresh block has all of its bytes
 abbrev pub AreWhole : Job → Type 0
 AreWhole job = (k : ℕ) → k < length job.fresh → length (fill_piece job k).bytes ≡ 4096
-
-pub whole_from : (job : Job) (disk : View) → IsFilled job disk → AreWhole job
-whole_from job disk knows k lt = knows.whole k (omega arith) lt
 
 module _ (job : Job) (is : IsJob job) (parts : ℕ → Part) (new : List InodePart) (change : IsChangeOf job parts new) where
   -- what each moment of the opening leaves, from the moment at which it began

@@ -23,7 +23,7 @@ use Rattle.sfs_dev.specs.Ranges.{SameOutside}
 use Rattle.journal_one.specs.Job.{Job, Piece, fill_piece, body_piece, table_piece, no_block, no_entry, IsJob}
 use Rattle.journal_one.specs.Known.{IsWrittenIn, IsShutIn, IsOpenIn}
 use Rattle.journal_one.specs.Laws.{HasPieces}
-use Rattle.journal_one.proofs.Bodies.{body_read, placed_in_table}
+use Rattle.journal_one.proofs.Bodies.{body_of_pieces, body_read, placed_in_table}
 use Rattle.journal_one.proofs.Places.{body_lies, fresh_is, body_is, in_data, entry_long, entry_below}
 use Rattle.commit_one.specs.Change.{nothing_open, entry_of_part, transaction_of, opened_by, parts_after, IsBefore, IsByItsSlot, IsAfter, AreFree, IsChangeOf}
 
@@ -134,7 +134,7 @@ module _ (job : Job) (is : IsJob job) (parts : ℕ → Part) (new : List InodePa
   body_is_whole : (image : List ℕ) → HasPieces job image
       → HasBody job.place.layout.inodes (transaction_of job new) (journal_slot job.place.layout image job.place.slot)
   body_is_whole image has =
-      let read = body_read job image is has in
+      let read = body_read job image is (body_of_pieces job image is has) in
       record {
         count = read.count;
         numbers = read.numbers;

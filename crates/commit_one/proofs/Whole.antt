@@ -86,7 +86,6 @@ module _ (job : Job) (is : IsJob job) (parts : ℕ → Part) (new : List InodePa
   pub filling_before : IsFilling job 0 old
   filling_before = record {
     own = change.own;
-    whole = λ k lt low. absurd (omega arith);
     shut = idle_before;
     written = λ k lt. absurd (omega arith);
   }

@@ -1,5 +1,5 @@
 -- The pieces of a commit lie apart from one another and from the gate.
-use Rattle.std.proofs.Common.{◌≡◌, ◌≢◌, ℕ, zero, suc, ◌-◌, ◌*◌, ◌<◌, ◌≤◌, map, length, get_or, refl, sym, ap, subst, arith, inl, inr}
+use Rattle.std.proofs.Common.{◌≡◌, ◌≢◌, ℕ, zero, suc, ◌+◌, ◌-◌, ◌*◌, ◌<◌, ◌≤◌, map, length, get_or, refl, sym, ap, subst, arith, inl, inr}
 use Rattle.std.proofs.lemmas.Bool.{cases_lt, cases_order}
 use Rattle.std.proofs.lemmas.List.{length-map, get_or-map}
 use Rattle.std.proofs.lemmas.List.Kept.{AllPairs-from_increasing}
@@ -7,7 +7,7 @@ use Rattle.sfs_image.specs.Journal.{Entry}
 use Rattle.sfs_image.specs.Super.{data_start}
 use Rattle.sfs_dev.specs.Ranges.{Apart}
 use Rattle.journal_one.specs.Job.{Job, Piece, numbers_piece, records_piece, head_piece, body_piece, fill_count, fill_piece, table_piece, gate_piece, no_block, no_entry, IsJob, HaveOwnBlocks}
-use Rattle.journal_one.proofs.Places.{body_lies, slot_ends, fresh_is, body_is, in_data, entry_long, record_ends, length-numbers, length-head, last_number}
+use Rattle.journal_one.proofs.Places.{body_lies, slot_ends, fresh_is, body_is, body_as, in_data, entry_long, record_ends, length-numbers, length-head, last_number}
 
 -- two pieces share no byte
 abbrev pub AreApart : Piece → Piece → Type 0
@@ -44,6 +44,13 @@ module _ (job : Job) (is : IsJob job) where
             let lies = body_lies job is (k - length job.fresh) in
             subst (λ (p : Piece). AreApart (table_piece job j) p) (sym (body_is job is k le)) (inr (omega (arith, lies.begins, lies.fits, slot_ends job is)))
       ]
+
+  -- a piece of the body is apart from the gate, and from each record of the table
+  pub body_from_gate : (k byte : ℕ) → AreApart (body_piece job k) (gate_piece job.place byte)
+  body_from_gate k byte = subst (λ (p : Piece). AreApart p (gate_piece job.place byte)) (body_as job is k) (apart_from_gate (length job.fresh + k) byte)
+
+  pub table_from_body : (j k : ℕ) → j < length job.entries → AreApart (table_piece job j) (body_piece job k)
+  table_from_body j k within = subst (AreApart (table_piece job j)) (body_as job is k) (table_from_fill j (length job.fresh + k) within)
 
   -- the records of the table are apart from one another
   inode_below : (j k : ℕ) → j < k → k < length job.entries → (get_or job.entries j no_entry).inode < (get_or job.entries k no_entry).inode

@@ -1,5 +1,5 @@
 -- The pieces of a commit are read as its body.
-use Rattle.std.proofs.Common.{◌≡◌, ◌≢◌, ℕ, ◌+◌, ◌-◌, ◌*◌, ◌<◌, ◌≤◌, Bool, List, [], ◌++◌, take, length, get_or, None, Some, refl, sym, ◌∙◌, ap, subst, arith, cond}
+use Rattle.std.proofs.Common.{◌≡◌, ◌≢◌, ℕ, ◌+◌, ◌*◌, ◌<◌, ◌≤◌, Bool, List, [], ◌++◌, take, length, get_or, None, Some, refl, sym, ◌∙◌, ap, subst, arith, cond}
 use Rattle.sfs_image.specs.Bytes.{part, zeros, u32_bytes, u64_bytes, number_from}
 use Rattle.sfs_image.specs.Journal.{head_of, head_bytes, HasRangesOf, number_byte, record_byte}
 use Rattle.sfs_image.specs.Laws.{record_at}
@@ -10,25 +10,23 @@ use Rattle.sfs_image.proofs.EntriesLaws.{read_again, ranges_have}
 use Rattle.sfs_image.proofs.FrameLaws.{part-part}
 use Rattle.sfs_image.proofs.JournalLaws.{behind_512}
 use Rattle.sfs_image.proofs.SettledLaws.{settled_newest}
-use Rattle.journal_one.specs.Job.{Job, Piece, numbers_piece, records_piece, head_piece, body_piece, table_piece, no_entry, IsJob}
+use Rattle.journal_one.specs.Job.{Job, Piece, numbers_piece, records_piece, head_piece, table_piece, no_entry, IsJob}
 use Rattle.journal_one.specs.Known.{IsWrittenIn, IsOpenIn}
-use Rattle.journal_one.specs.Laws.{job_body, job_head, HasPieces, HasBodyOf}
-use Rattle.journal_one.proofs.Places.{body_is, body_lies, length-numbers, length-records, length-head, entry_long, few_entries}
+use Rattle.journal_one.specs.Laws.{job_body, job_head, HasPieces, HasBodyPieces, HasBodyOf}
+use Rattle.journal_one.proofs.Places.{body_as, body_lies, length-numbers, length-records, length-head, entry_long, few_entries}
 
 -- a part of bytes that stand
 part_of_standing : (piece : Piece) (image : List ℕ) (off n : ℕ) → IsWrittenIn piece image → off + n ≤ length piece.bytes
     → part (piece.at + off) n image ≡ part off n piece.bytes
 part_of_standing piece image off n stands within = sym (part-part off n piece.at (length piece.bytes) image within) ∙ ap (part off n) stands
 
-module _ (job : Job) (image : List ℕ) (is : IsJob job) (has : HasPieces job image) where
+-- where all that fills a slot stands, the body does
+pub body_of_pieces : (job : Job) (image : List ℕ) → IsJob job → HasPieces job image → HasBodyPieces job image
+body_of_pieces job image is has k lt = subst (λ (p : Piece). IsWrittenIn p image) (body_as job is k) (has (length job.fresh + k) (omega arith))
+
+module _ (job : Job) (image : List ℕ) (is : IsJob job) (body_stands : HasBodyPieces job image) where
   slot : List ℕ
   slot = journal_slot job.place.layout image job.place.slot
-
-  body_stands : (k : ℕ) → k < 3 → IsWrittenIn (body_piece job k) image
-  body_stands k lt =
-      let back : length job.fresh + k - length job.fresh ≡ k = omega arith in
-      subst (λ (m : ℕ). IsWrittenIn (body_piece job m) image) back
-      (subst (λ (p : Piece). IsWrittenIn p image) (body_is job is (length job.fresh + k) (omega arith)) (has (length job.fresh + k) (omega arith)))
 
   -- a part of the slot is one of the image
   in_slot : (from n : ℕ) → from + n ≤ 4096 * slot_blocks job.place.layout.inodes

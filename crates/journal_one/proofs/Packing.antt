@@ -1,9 +1,10 @@
 -- How numbers and records come to stand one behind another.
-use Rattle.std.proofs.Common.{◌≡◌, ℕ, zero, suc, ◌+◌, ◌<◌, ◌≤◌, All, List, [], ◌∷◌, ◌++◌, map, length, take, get_or, refl, sym, ◌∙◌, ap, subst, arith, append-nil}
+use Rattle.std.proofs.Common.{◌≡◌, ℕ, zero, suc, ◌+◌, ◌<◌, ◌≤◌, All, List, [], ◌∷◌, ◌++◌, map, length, take, get_or, refl, sym, ◌∙◌, ap, subst, arith, append-nil, inl, inr}
 use Rattle.std.specs.List.{flat_map}
 use Rattle.std.specs.List.Sorted.{IsStrictlyIncreasing}
 use Rattle.std.proofs.lemmas.List.{take_more, take_all, map-append, length-map, get_or-map}
-use Rattle.std.proofs.lemmas.List.Elements.{All-append, All-nil}
+use Rattle.std.proofs.lemmas.Bool.{cases_lt}
+use Rattle.std.proofs.lemmas.List.Elements.{All-append, All-nil, All-from_get_or}
 use Rattle.std.proofs.lemmas.Grind.{flat_map-append}
 use Rattle.sfs_image.specs.Bytes.{u32_bytes, u32s_bytes}
 use Rattle.sfs_image.specs.ImageOf.{FreshBlock}
@@ -76,11 +77,33 @@ packing_next items i numbers bytes new_numbers new_bytes lt long added laid befo
     (subst (λ (l : List ℕ). Packing (take i items ++ one ∷ []) (numbers ++ u32_bytes one.inode) l) (sym laid)
     (packing_more (take i items) one numbers bytes long before)))
 
+-- a fresh block has its 4,096 bytes
+abbrev pub IsWholeBlock : FreshBlock → Type 0
+IsWholeBlock one = length one.bytes ≡ 4096
+
+-- of the fresh blocks those that were looked at have them
+abbrev pub AreLookedAt : List TxBlock → ℕ → Type 0
+AreLookedAt items i = (k : ℕ) → k < i → k < length items → length (get_or items k no_tx_block).bytes ≡ 4096
+
+pub looked_next : (items : List TxBlock) (i : ℕ) → length (get_or items i no_tx_block).bytes ≡ 4096 → AreLookedAt items i → AreLookedAt items (i + 1)
+looked_next items i here before k lt within =
+    elim (cases_lt k i) [
+      | inl low ↦ before k low within
+      | inr high ↦ subst (λ (m : ℕ). length (get_or items m no_tx_block).bytes ≡ 4096) (let e : i ≡ k = omega arith in e) here
+    ]
+
+pub looked_all : (items : List TxBlock) (i : ℕ) → length items ≤ i → AreLookedAt items i → All IsWholeBlock (map block_of items)
+looked_all items i all looked =
+    All-from_get_or IsWholeBlock (map block_of items) no_block
+    (λ k lt.
+    let within : k < length items = omega (arith, length-map items block_of) in
+    subst IsWholeBlock (sym (get_or-map block_of items k no_tx_block no_block within)) (looked k (omega arith) within))
+
 -- all records are packed
 pub packed_all : (records : List TxRecord) (fresh : List FreshBlock) (numbers bytes : List ℕ) (i : ℕ) → length records ≤ i → 0 < length records
-    → IsStrictlyIncreasing (map (λ (one : TxRecord). one.inode) records) → Packing (take i records) numbers bytes
+    → IsStrictlyIncreasing (map (λ (one : TxRecord). one.inode) records) → All IsWholeBlock fresh → Packing (take i records) numbers bytes
     → IsPacked (record { entries = map record_entry records; fresh = fresh }) numbers bytes
-packed_all records fresh numbers bytes i all some ascend before =
+packed_all records fresh numbers bytes i all some ascend whole before =
     let full : take i records ≡ records = take_all i records all in
     let p : Packing records numbers bytes = subst (λ (l : List TxRecord). Packing l numbers bytes) full before in
     record {
@@ -88,6 +111,7 @@ packed_all records fresh numbers bytes i all some ascend before =
         some = omega (arith, length-map records record_entry);
         ascend = subst IsStrictlyIncreasing (sym (map_inodes records)) ascend;
         long = p.long;
+        whole = whole;
       };
       numbered = p.numbered;
       laid = p.laid;

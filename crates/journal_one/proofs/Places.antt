@@ -4,6 +4,7 @@ use Rattle.std.proofs.lemmas.Bool.{lt-ltb, le-ltb}
 use Rattle.std.proofs.lemmas.List.{length-map, get_or-map, length-append}
 use Rattle.std.proofs.lemmas.List.Elements.{All-get_or}
 use Rattle.sfs_image.specs.Bytes.{zeros, u32_bytes, u64_bytes}
+use Rattle.sfs_image.specs.ImageOf.{FreshBlock}
 use Rattle.sfs_image.specs.Journal.{Entry, AreEntries, number_byte, record_byte, records_start}
 use Rattle.sfs_image.specs.Settled.{slot_byte, table_byte}
 use Rattle.sfs_image.specs.Super.{Layout, slot_blocks, table_start, data_start}
@@ -112,6 +113,18 @@ module _ (job : Job) (is : IsJob job) where
   body_is k le =
       let test : ltb k (length job.fresh) ≡ false = le-ltb k (length job.fresh) le in
       ap (λ (b : Bool). cond b (fresh_piece (get_or job.fresh k no_block)) (body_piece job (k - length job.fresh))) test
+
+  -- a piece of the body is one of those that fill the slot
+  pub body_as : (k : ℕ) → fill_piece job (length job.fresh + k) ≡ body_piece job k
+  body_as k =
+      let back : length job.fresh + k - length job.fresh ≡ k = omega arith in
+      body_is (length job.fresh + k) (omega arith) ∙ ap (body_piece job) back
+
+  -- a fresh block has all of its bytes
+  pub fresh_whole : (k : ℕ) → k < length job.fresh → length (fill_piece job k).bytes ≡ 4096
+  fresh_whole k lt =
+      subst (λ (p : Piece). length p.bytes ≡ 4096) (sym (fresh_is k lt))
+      (All-get_or (λ (one : FreshBlock). length one.bytes ≡ 4096) job.fresh k no_block lt is.whole)
 
   pub in_data : (k : ℕ) → k < length job.fresh → LiesInData job.place.layout (get_or job.fresh k no_block)
   in_data k lt = All-get_or (LiesInData job.place.layout) job.fresh k no_block lt is.in_data

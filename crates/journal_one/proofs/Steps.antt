@@ -1,12 +1,12 @@
 -- What each step of a commit makes of what is known of the slot.
-use Rattle.std.proofs.Common.{◌≡◌, ℕ, ◌+◌, ◌<◌, true, false, length, Result, Ok, Err, refl, sym, ◌∙◌, subst, arith, inl, inr}
-use Rattle.std.specs.Prelude.{OnErr}
+use Rattle.std.proofs.Common.{◌≡◌, ℕ, zero, suc, ◌+◌, ◌<◌, true, false, length, refl, sym, ◌∙◌, subst, arith, inl, inr}
 use Rattle.std.proofs.lemmas.Bool.{cases_lt}
 use Rattle.sfs_dev.specs.Disk.{View}
 use Rattle.journal_one.specs.Calls.{IsCalm}
-use Rattle.journal_one.specs.Job.{Place, Job, Piece, fill_count, fill_piece, table_piece, gate_piece, IsJob}
-use Rattle.journal_one.specs.Known.{Reads, EachLeft, IsWrittenIn, IsShutIn, IsOpenIn, AreWritten, AreOnDisk, AreFilled, IsFilling, IsFilled, IsSealed, IsOpened, IsDurable, AreAllPlaced, IsCopied, IsClosing, IsEnded, IsBetween}
-use Rattle.journal_one.proofs.Apart.{AreApart, apart_from_gate, table_from_gate, table_from_fill, tables_apart, fills_apart, AreApart-swap}
+use Rattle.journal_one.specs.Job.{Place, Job, Piece, fill_count, fill_piece, body_piece, table_piece, gate_piece, without_fresh, IsJob}
+use Rattle.journal_one.specs.Known.{Reads, EachLeft, IsWrittenIn, IsShutIn, IsOpenIn, AreWritten, AreOnDisk, AreFilled, IsBodyOnDisk, IsFilling, IsFilled, IsSealed, IsOpened, IsDurable, AreAllPlaced, IsCopied, IsClosing, IsEnded, IsBetween}
+use Rattle.journal_one.proofs.Apart.{AreApart, apart_from_gate, body_from_gate, table_from_gate, table_from_body, tables_apart, fills_apart, AreApart-swap}
+use Rattle.journal_one.proofs.Places.{body_as, fresh_whole}
 use Rattle.journal_one.proofs.Kept.{Touches, Rests, leaves_kept, reads_kept, leaves_rest, reads_rest, leaves_from_reads, stands_kept, gate_stays, gate_put}
 
 -- no device call was made
@@ -57,15 +57,13 @@ open_kept place written old new touches apart =
 
 module _ (job : Job) (is : IsJob job) where
   -- a piece that is written
-  module _ (done : ℕ) (old new : View) (touches : Touches (fill_piece job done) old new) (within : done < fill_count job)
-      (whole : done < length job.fresh → length (fill_piece job done).bytes ≡ 4096) (knows : IsFilling job done old) where
+  module _ (done : ℕ) (old new : View) (touches : Touches (fill_piece job done) old new) (within : done < fill_count job) (knows : IsFilling job done old) where
     apart : (k : ℕ) → k < done → AreApart (fill_piece job done) (fill_piece job k)
-    apart k lt = fills_apart job is done k (λ same. let e = same in omega arith) knows.own within (omega arith) whole (λ low. knows.whole k lt low)
+    apart k lt = fills_apart job is done k (λ same. let e = same in omega arith) knows.own within (omega arith) (fresh_whole job is done) (fresh_whole job is k)
 
     pub filling_kept : IsFilling job done new
     filling_kept = record {
       own = knows.own;
-      whole = knows.whole;
       shut = shut_kept job.place (fill_piece job done) old new touches (apart_from_gate job is done 0) knows.shut;
       written = written_kept done (fill_piece job) (fill_piece job done) old new touches apart knows.written;
     }
@@ -73,12 +71,6 @@ module _ (job : Job) (is : IsJob job) where
     pub filling_more : Reads new (IsWrittenIn (fill_piece job done)) → IsFilling job (done + 1) new
     filling_more stands = record {
       own = knows.own;
-      whole = λ k lt low. elim (cases_lt k done) [
-        | inl below ↦ knows.whole k below low
-        | inr high ↦
-            let e : done ≡ k = omega arith in
-            subst (λ (m : ℕ). m < length job.fresh → length (fill_piece job m).bytes ≡ 4096) e whole low
-      ];
       shut = filling_kept.shut;
       written = written_one done (fill_piece job) new filling_kept.written stands;
     }
@@ -86,7 +78,6 @@ module _ (job : Job) (is : IsJob job) where
   pub filling_rests : (done : ℕ) (old new : View) → Rests old new → IsFilling job done old → IsFilling job done new
   filling_rests done old new rests knows = record {
     own = knows.own;
-    whole = knows.whole;
     shut = leaves_rest old new (IsShutIn job.place) rests knows.shut;
     written = written_rest done (fill_piece job) old new rests knows.written;
   }
@@ -101,6 +92,15 @@ module _ (job : Job) (is : IsJob job) where
   filled_kept byte old new touches =
       on_disk_kept (fill_count job) (fill_piece job) (gate_piece job.place byte) old new touches
       (λ k lt. AreApart-swap (fill_piece job k) (gate_piece job.place byte) (apart_from_gate job is k byte))
+
+  body_kept : (byte : ℕ) (old new : View) → Touches (gate_piece job.place byte) old new → IsBodyOnDisk job old → IsBodyOnDisk job new
+  body_kept byte old new touches =
+      on_disk_kept 3 (body_piece job) (gate_piece job.place byte) old new touches
+      (λ k lt. AreApart-swap (body_piece job k) (gate_piece job.place byte) (body_from_gate job is k byte))
+
+  -- with all that fills the slot the body is on the disk
+  body_filled : (disk : View) → AreFilled job disk → IsBodyOnDisk job disk
+  body_filled disk filled k lt = subst (λ (p : Piece). EachLeft disk (IsWrittenIn p)) (body_as job is k) (filled (length job.fresh + k) (omega arith))
 
   copied_kept : (byte : ℕ) (old new : View) → Touches (gate_piece job.place byte) old new → AreOnDisk (length job.entries) (table_piece job) old
       → AreOnDisk (length job.entries) (table_piece job) new
@@ -127,7 +127,7 @@ module _ (job : Job) (is : IsJob job) where
   pub durable_then : (old new : View) → Rests old new → IsCalm new → IsOpened job old → IsDurable job 0 new
   durable_then old new rests calm knows =
       let then = opened_rests old new rests knows in
-      record { opened = leaves_from_reads new (IsOpenIn job.place) calm then.opened; filled = then.filled; placed = λ k lt. absurd (omega arith) }
+      record { opened = leaves_from_reads new (IsOpenIn job.place) calm then.opened; body = body_filled new then.filled; placed = λ k lt. absurd (omega arith) }
 
   -- a record that is placed
   module _ (done : ℕ) (old new : View) (touches : Touches (table_piece job done) old new) (within : done < length job.entries)
@@ -135,8 +135,7 @@ module _ (job : Job) (is : IsJob job) where
     pub durable_kept : IsDurable job done new
     durable_kept = record {
       opened = open_kept job.place (table_piece job done) old new touches (table_from_gate job is done 0) knows.opened;
-      filled =
-          on_disk_kept (fill_count job) (fill_piece job) (table_piece job done) old new touches (λ k lt. table_from_fill job is done k within) knows.filled;
+      body = on_disk_kept 3 (body_piece job) (table_piece job done) old new touches (λ k lt. table_from_body job is done k within) knows.body;
       placed =
           written_kept done (table_piece job) (table_piece job done) old new touches
           (λ k lt. tables_apart job is done k (λ same. let e = same in omega arith) within (omega arith)) knows.placed;
@@ -145,42 +144,42 @@ module _ (job : Job) (is : IsJob job) where
     pub durable_more : Reads new (IsWrittenIn (table_piece job done)) → IsDurable job (done + 1) new
     durable_more stands = record {
       opened = durable_kept.opened;
-      filled = durable_kept.filled;
+      body = durable_kept.body;
       placed = written_one done (table_piece job) new durable_kept.placed stands;
     }
 
   pub durable_rests : (done : ℕ) (old new : View) → Rests old new → IsDurable job done old → IsDurable job done new
   durable_rests done old new rests knows = record {
     opened = leaves_rest old new (IsOpenIn job.place) rests knows.opened;
-    filled = on_disk_rest (fill_count job) (fill_piece job) old new rests knows.filled;
+    body = on_disk_rest 3 (body_piece job) old new rests knows.body;
     placed = written_rest done (table_piece job) old new rests knows.placed;
   }
 
   pub copied_then : (old new : View) → Rests old new → IsCalm new → AreAllPlaced job old → IsCopied job new
   copied_then old new rests calm knows =
       let then = durable_rests (length job.entries) old new rests knows in
-      record { opened = then.opened; filled = then.filled; copied = on_disk_by_sync (length job.entries) (table_piece job) new calm then.placed }
+      record { opened = then.opened; body = then.body; copied = on_disk_by_sync (length job.entries) (table_piece job) new calm then.placed }
 
   pub closing_then : (old new : View) → Touches (gate_piece job.place 0) old new → Reads new (IsWrittenIn (gate_piece job.place 0)) → IsCopied job old
       → IsClosing job new
   closing_then old new touches stands knows = record {
     shut = λ content told. gate_put job.place 0 content (stands content told);
-    filled = filled_kept 0 old new touches knows.filled;
+    body = body_kept 0 old new touches knows.body;
     copied = copied_kept 0 old new touches knows.copied;
   }
 
   -- between the slot and the table: where the table has the records, and where the gate is open
-  between_copied : (disk : View) → AreFilled job disk → AreOnDisk (length job.entries) (table_piece job) disk → IsBetween job disk
-  between_copied disk filled copied = record { filled = filled; copied = λ k lt content told image left shut. copied k lt content told image left }
+  between_copied : (disk : View) → IsBodyOnDisk job disk → AreOnDisk (length job.entries) (table_piece job) disk → IsBetween job disk
+  between_copied disk body copied = record { body = body; copied = λ k lt content told image left shut. copied k lt content told image left }
 
   pub shutting_doubted : (old new : View) → Touches (gate_piece job.place 0) old new → IsCopied job old → IsBetween job new
-  shutting_doubted old new touches knows = between_copied new (filled_kept 0 old new touches knows.filled) (copied_kept 0 old new touches knows.copied)
+  shutting_doubted old new touches knows = between_copied new (body_kept 0 old new touches knows.body) (copied_kept 0 old new touches knows.copied)
 
   pub placed_between : (old new : View) → Rests old new → AreAllPlaced job old → IsBetween job new
   placed_between old new rests knows =
       let then = durable_rests (length job.entries) old new rests knows in
       record {
-        filled = then.filled;
+        body = then.body;
         copied = λ k lt content told image left shut.
             let never : true ≡ false = sym (then.opened content told image left) ∙ shut in
             absurd (cc);
@@ -188,13 +187,13 @@ module _ (job : Job) (is : IsJob job) where
 
   pub closing_between : (old new : View) → Rests old new → IsClosing job old → IsBetween job new
   closing_between old new rests knows =
-      between_copied new (on_disk_rest (fill_count job) (fill_piece job) old new rests knows.filled)
+      between_copied new (on_disk_rest 3 (body_piece job) old new rests knows.body)
       (on_disk_rest (length job.entries) (table_piece job) old new rests knows.copied)
 
   pub closing_rests : (old new : View) → Rests old new → IsClosing job old → IsClosing job new
   closing_rests old new rests knows = record {
     shut = reads_rest old new (IsShutIn job.place) rests knows.shut;
-    filled = on_disk_rest (fill_count job) (fill_piece job) old new rests knows.filled;
+    body = on_disk_rest 3 (body_piece job) old new rests knows.body;
     copied = on_disk_rest (length job.entries) (table_piece job) old new rests knows.copied;
   }
 
@@ -203,3 +202,12 @@ module _ (job : Job) (is : IsJob job) where
     idle = leaves_from_reads new (IsShutIn job.place) calm (reads_rest old new (IsShutIn job.place) rests knows.shut);
     copied = on_disk_rest (length job.entries) (table_piece job) old new rests knows.copied;
   }
+
+-- nothing is said of fresh blocks once a commit is durable
+shed_body : (job : Job) (disk : View) → IsBodyOnDisk job disk → IsBodyOnDisk (without_fresh job) disk
+shed_body job disk knows zero lt = knows 0 lt
+shed_body job disk knows (suc zero) lt = knows 1 lt
+shed_body job disk knows (suc (suc k)) lt = knows (suc (suc k)) lt
+
+pub durable_shed : (job : Job) (done : ℕ) (disk : View) → IsDurable job done disk → IsDurable (without_fresh job) done disk
+durable_shed job done disk knows = record { opened = knows.opened; body = shed_body job disk knows.body; placed = knows.placed }

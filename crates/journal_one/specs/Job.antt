@@ -92,15 +92,20 @@ pub record LiesInData (layout : Layout) (one : FreshBlock) : Type 0 where
   pub low : data_start layout ≤ one.block
   pub high : one.block < layout.blocks
 
--- A commit that can be written: it has records, whose inodes ascend and are below the number of inodes, and its fresh blocks lie in the
--- data area.
+-- A commit that can be written: it has records, whose inodes ascend and are below the number of inodes, and its fresh blocks are whole and
+-- lie in the data area.
 pub record IsJob (job : Job) : Type 0 where
   pub place : IsPlace job.place
   pub stamp : job.stamp < 2 ^ 64
   pub some : 0 < length job.entries
   pub are : AreEntries job.place.layout.inodes job.entries
   pub long : All (λ (entry : Entry). length entry.bytes ≡ 512) job.entries
+  pub whole : All (λ (one : FreshBlock). length one.bytes ≡ 4096) job.fresh
   pub in_data : All (LiesInData job.place.layout) job.fresh
+
+-- a commit of whose fresh blocks no more is said
+abbrev pub without_fresh : Job → Job
+without_fresh job = record job { fresh = [] }
 
 -- no block is written twice
 abbrev pub HaveOwnBlocks : List FreshBlock → Type 0

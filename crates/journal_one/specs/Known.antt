@@ -5,7 +5,7 @@ use Rattle.sfs_image.specs.ImageOf.{IsShut}
 use Rattle.sfs_image.specs.Journal.{head_of}
 use Rattle.sfs_image.specs.Settled.{journal_slot}
 use Rattle.sfs_dev.specs.Disk.{View, images}
-use Rattle.journal_one.specs.Job.{Place, Job, Piece, fill_count, fill_piece, table_piece, HaveOwnBlocks}
+use Rattle.journal_one.specs.Job.{Place, Job, Piece, fill_count, fill_piece, body_piece, table_piece, HaveOwnBlocks}
 
 -- what a read gives has P, where it is told
 abbrev pub Reads : View → (List ℕ → Type 0) → Type 0
@@ -38,6 +38,10 @@ AreOnDisk n piece disk = (k : ℕ) → k < n → EachLeft disk (IsWrittenIn (pie
 abbrev pub AreFilled : Job → View → Type 0
 AreFilled job disk = AreOnDisk (fill_count job) (fill_piece job) disk
 
+-- the body of a commit is on the disk, whatever has become of its fresh blocks
+abbrev pub IsBodyOnDisk : Job → View → Type 0
+IsBodyOnDisk job disk = AreOnDisk 3 (body_piece job) disk
+
 -- Idle: the gate is closed in every image.
 abbrev pub IsIdle : Place → View → Type 0
 IsIdle place disk = EachLeft disk (IsShutIn place)
@@ -45,7 +49,6 @@ IsIdle place disk = EachLeft disk (IsShutIn place)
 -- Filling, with some pieces written: the gate is closed in every image, no block is written twice, and each that was has its bytes.
 pub record IsFilling (job : Job) (done : ℕ) (disk : View) : Type 0 where
   pub own : HaveOwnBlocks job.fresh
-  pub whole : (k : ℕ) → k < done → k < length job.fresh → length (fill_piece job k).bytes ≡ 4096
   pub shut : EachLeft disk (IsShutIn job.place)
   pub written : AreWritten done (fill_piece job) disk
 
@@ -53,7 +56,7 @@ pub record IsFilling (job : Job) (done : ℕ) (disk : View) : Type 0 where
 abbrev pub IsFilled : Job → View → Type 0
 IsFilled job disk = IsFilling job (fill_count job) disk
 
--- Sealed: the gate is closed in every image, and behind it the body is on the disk.
+-- Sealed: the gate is closed in every image, and behind it the fresh blocks and the body are on the disk.
 pub record IsSealed (job : Job) (disk : View) : Type 0 where
   pub shut : EachLeft disk (IsShutIn job.place)
   pub filled : AreFilled job disk
@@ -63,10 +66,11 @@ pub record IsOpened (job : Job) (disk : View) : Type 0 where
   pub opened : Reads disk (IsOpenIn job.place)
   pub filled : AreFilled job disk
 
--- Durable, with some records placed: the gate is open in every image.
+-- Durable, with some records placed: the gate is open in every image. From here on nothing is said of the fresh blocks: a later commit may have
+-- given them up, and another one may have written there, while the slot is open.
 pub record IsDurable (job : Job) (done : ℕ) (disk : View) : Type 0 where
   pub opened : EachLeft disk (IsOpenIn job.place)
-  pub filled : AreFilled job disk
+  pub body : IsBodyOnDisk job disk
   pub placed : AreWritten done (table_piece job) disk
 
 -- Placed: all records are placed.
@@ -76,13 +80,13 @@ AreAllPlaced job disk = IsDurable job (length job.entries) disk
 -- Copied: the records are on the disk, in the table too.
 pub record IsCopied (job : Job) (disk : View) : Type 0 where
   pub opened : EachLeft disk (IsOpenIn job.place)
-  pub filled : AreFilled job disk
+  pub body : IsBodyOnDisk job disk
   pub copied : AreOnDisk (length job.entries) (table_piece job) disk
 
 -- Closing: the gate is closed in what a read gives, and any byte in an image.
 pub record IsClosing (job : Job) (disk : View) : Type 0 where
   pub shut : Reads disk (IsShutIn job.place)
-  pub filled : AreFilled job disk
+  pub body : IsBodyOnDisk job disk
   pub copied : AreOnDisk (length job.entries) (table_piece job) disk
 
 -- Closed: the slot is idle, and the table has the records.
@@ -92,5 +96,5 @@ pub record IsEnded (job : Job) (disk : View) : Type 0 where
 
 -- After a close that failed: the body is on the disk, and where the gate is closed the table has the records.
 pub record IsBetween (job : Job) (disk : View) : Type 0 where
-  pub filled : AreFilled job disk
+  pub body : IsBodyOnDisk job disk
   pub copied : (k : ℕ) → k < length job.entries → EachLeft disk (λ image. IsShutIn job.place image → IsWrittenIn (table_piece job k) image)

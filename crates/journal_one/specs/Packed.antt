@@ -33,11 +33,12 @@ bytes_of_entry entry = entry.bytes
 abbrev pub contents_of : Tx → Contents
 contents_of tx = record { entries = map record_entry tx.records.items; fresh = map block_of tx.fresh.items }
 
--- What a transaction writes can be: it has records, which ascend by inode, and each has its 512 bytes.
+-- What a transaction writes can be: it has records, which ascend by inode, each record has its 512 bytes, and each fresh block its 4,096.
 pub record AreContents (contents : Contents) : Type 0 where
   pub some : 0 < length contents.entries
   pub ascend : IsStrictlyIncreasing (map inode_of_entry contents.entries)
   pub long : All (λ (entry : Entry). length entry.bytes ≡ 512) contents.entries
+  pub whole : All (λ (one : FreshBlock). length one.bytes ≡ 4096) contents.fresh
 
 -- These are the numbers and the records of a transaction, one behind another.
 pub record IsPacked (contents : Contents) (numbers records : List ℕ) : Type 0 where

@@ -9,13 +9,14 @@ ghost use Rattle.journal_one.specs.Work.{job_of};
 
 use crate::doubt::sync;
 use crate::work::Work;
-use crate::{Doubt, Idle};
+use crate::{Doubt, Idle, Packed};
 use sfs_dev::Disk;
 use std::marker::Model;
 
 const SHUT: u8 = 0;
 
 /// A slot whose records were placed in the table, by writes that may be pending.
+#[derive(Drop)]
 pub struct Placed {
     work: Work,
 }
@@ -31,6 +32,7 @@ impl Model for Placed {
 }
 
 /// A slot whose records are on the disk in the table too.
+#[derive(Drop)]
 pub struct Copied {
     work: Work,
 }
@@ -46,6 +48,7 @@ impl Model for Copied {
 }
 
 /// A slot whose gate was closed, by a write that may be pending.
+#[derive(Drop)]
 pub struct Closing {
     work: Work,
 }
@@ -162,6 +165,18 @@ impl Closing {
     {
         let Closing { work } = self;
         Idle::of(work.into_spot())
+    }
+
+    /// As `idle_by`, and hands back the transaction.
+    pub fn ended_by<D: Disk>(self, _disk: &D) -> (Idle, Packed)
+        requires calm { IsCalm (D.view _disk.now) }
+        ensures idle { result.0 ≡ self.place }
+        ensures packed { result.1 ≡ record { entries = self.entries; fresh = self.fresh } }
+        ensures ended { IsClosing self (D.view _disk.now) → IsEnded self (D.view _disk.now) }
+    {
+        let Closing { work } = self;
+        let (spot, packed) = work.into_parts();
+        (Idle::of(spot), packed)
     }
 
     /// Lets go of the slot after a doubt; only recovery goes on from it.

@@ -4,9 +4,10 @@ ghost use Rattle.std.specs.List.{flat_map};
 ghost use Rattle.journal_one.specs.Packed.{contents_of, record_entry, block_of, inode_of_entry, bytes_of_entry, AreContents};
 
 use fmt_journal::{Tx, TxBlock, TxRecord};
-use sfs_base::NoMemory;
+use sfs_base::{NoMemory, RoomyList};
 use std::alloc::Global;
 use std::marker::Model;
+use std::mem;
 
 /// A transaction with its numbers and its records each one behind another, as a journal slot has
 /// them: what a slot is filled with, which takes no memory any more. It has at least one record.
@@ -40,11 +41,31 @@ impl Packed {
         for one in tx.records.as_slice() {
             pack(one, &mut numbers, &mut records)?;
         }
+        for one in tx.fresh.as_slice() {
+            look(one);
+        }
         Ok(Packed {
             tx,
             numbers,
             records,
         })
+    }
+
+    /// The transaction, as it is now.
+    pub fn into_tx(self) -> Tx
+        ensures { contents_of result ≡ self }
+    {
+        self.tx
+    }
+
+    // Lets go of its fresh blocks, and hands them out.
+    pub(crate) fn shed(self, alloc: Global) -> (Packed, RoomyList<TxBlock>)
+        ensures packed { result.0 ≡ record { entries = self.entries; fresh = [] } }
+        ensures fresh { map block_of result.1.items ≡ self.fresh }
+    {
+        let mut packed = self;
+        let fresh = mem::replace(&mut packed.tx.fresh, RoomyList::new(alloc));
+        (packed, fresh)
     }
 
     // How many records it has. They ascend by inode, and each has its 512 bytes.
@@ -82,6 +103,13 @@ impl Packed {
     {
         self.tx.records.as_slice()
     }
+}
+
+// A fresh block's bytes, of which there are 4,096.
+fn look(one: &TxBlock) -> &[u8]
+    ensures { length one.now.bytes ≡ 4096 }
+{
+    &one.bytes
 }
 
 // Adds the number of a record and its bytes behind those of the records before it.

@@ -13,12 +13,13 @@
 //
 // Had the gate been opened before the body was on the disk, a crash could leave it open over a torn
 // body; had it been closed before the placed records were, over a table with torn records.
-ghost use Rattle.std.specs.Prelude.{◌≡◌, ◌+◌, ◌-◌, ◌*◌, ◌<◌, ◌≤◌, All, length, IfOk, IfErr, OnOk, OnErr};
+ghost use Rattle.std.specs.Prelude.{◌≡◌, ◌+◌, ◌-◌, ◌*◌, ◌<◌, ◌≤◌, All, length, map, IfOk, IfErr, OnOk, OnErr};
 ghost use Rattle.sfs_image.specs.ImageOf.{FreshBlock};
 ghost use Rattle.sfs_image.specs.Journal.{Entry};
 ghost use Rattle.sfs_image.specs.Super.{IsLayout};
 ghost use Rattle.journal_one.specs.Calls.{IsWrite, IsSync, IsCalm};
-ghost use Rattle.journal_one.specs.Job.{IsJob, LiesInData, gate_piece, fill_count, fill_piece, table_piece};
+ghost use Rattle.journal_one.specs.Job.{IsJob, LiesInData, gate_piece, fill_count, fill_piece, table_piece, without_fresh};
+ghost use Rattle.journal_one.specs.Packed.{block_of};
 ghost use Rattle.journal_one.specs.Work.{spot_place, job_of};
 ghost use Rattle.journal_one.specs.Known.{IsFilling, IsFilled, IsSealed, IsOpened, IsDurable, AreAllPlaced, AreFilled};
 ghost use Rattle.journal_one.specs.Stage.{next_stage, left_to_fill, left_to_place};
@@ -27,8 +28,11 @@ ghost use Rattle.journal_one.specs.Outcome.{FillsOn, PlacesOn};
 use crate::doubt::sync;
 use crate::work::{Spot, Work};
 use crate::{Doubt, Packed, Placed};
+use fmt_journal::TxBlock;
 use fmt_super::Layout;
+use sfs_base::RoomyList;
 use sfs_dev::Disk;
+use std::alloc::Global;
 use std::marker::Model;
 
 const OPEN: u8 = 1;
@@ -36,6 +40,7 @@ const OPEN: u8 = 1;
 const SHUT: u8 = 0;
 
 /// A slot whose gate is closed: nothing in it counts.
+#[derive(Drop)]
 pub struct Idle {
     spot: Spot,
 }
@@ -51,6 +56,7 @@ impl Model for Idle {
 }
 
 /// A slot that is being filled behind its closed gate.
+#[derive(Drop)]
 pub struct Filling {
     work: Work,
     // how many pieces were written
@@ -80,6 +86,7 @@ pub enum Fill {
 }
 
 /// A slot that was filled, by writes that may be pending.
+#[derive(Drop)]
 pub struct Filled {
     work: Work,
 }
@@ -95,6 +102,7 @@ impl Model for Filled {
 }
 
 /// A slot whose body and fresh blocks are on the disk, behind its closed gate.
+#[derive(Drop)]
 pub struct Sealed {
     work: Work,
 }
@@ -110,6 +118,7 @@ impl Model for Sealed {
 }
 
 /// A slot whose gate was opened, by a write that may be pending.
+#[derive(Drop)]
 pub struct Opened {
     work: Work,
 }
@@ -125,6 +134,7 @@ impl Model for Opened {
 }
 
 /// A slot whose gate is open on the disk: its transaction counts from now on.
+#[derive(Drop)]
 pub struct Durable {
     work: Work,
     // how many records were placed in the table
@@ -197,6 +207,14 @@ impl Idle {
 }
 
 impl Filling {
+    /// How many of the pieces that fill the slot were written.
+    pub fn done(&self) -> usize
+        ensures done { result ≡ self.now.done }
+        ensures within { result < fill_count self.now.job }
+    {
+        self.done
+    }
+
     /// Writes the next piece: one device call.
     pub fn put_next<D: Disk>(self, disk: &mut D) -> Result<Fill, Doubt>
         requires large { self.job.place.layout.blocks ≤ (D.view disk.old).size }
@@ -319,6 +337,25 @@ impl Opened {
 }
 
 impl Durable {
+    /// How many of the records were placed.
+    pub fn done(&self) -> usize
+        ensures done { result ≡ self.now.done }
+        ensures within { result < length self.now.job.entries }
+    {
+        self.done
+    }
+
+    /// Lets go of the fresh blocks, of which nothing is asked any more, and hands them out. It makes
+    /// no device call and takes no memory.
+    pub fn shed(self, alloc: Global) -> (Durable, RoomyList<TxBlock>)
+        ensures durable { result.0 ≡ record { job = without_fresh self.job; done = self.done } }
+        ensures fresh { map block_of result.1.items ≡ self.job.fresh }
+    {
+        let Durable { work, done } = self;
+        let (work, fresh) = work.shed(alloc);
+        (Durable { work, done }, fresh)
+    }
+
     /// Places the next record in the inode table: one write.
     pub fn place_next<D: Disk>(self, disk: &mut D) -> Result<Put, Doubt>
         requires large { self.job.place.layout.blocks ≤ (D.view disk.old).size }

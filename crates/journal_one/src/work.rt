@@ -5,13 +5,16 @@ ghost use Rattle.sfs_image.specs.Settled.{slot_byte};
 ghost use Rattle.sfs_image.specs.Journal.{record_byte as record_at};
 ghost use Rattle.sfs_image.specs.Super.{IsLayout};
 ghost use Rattle.journal_one.specs.Calls.{IsWrite};
-ghost use Rattle.journal_one.specs.Job.{IsPlace, IsJob, LiesInData, LiesOn, gate_piece, fill_count, fill_piece, body_piece, table_piece};
+ghost use Rattle.journal_one.specs.Job.{IsPlace, IsJob, LiesInData, LiesOn, gate_piece, fill_count, fill_piece, body_piece, table_piece, without_fresh};
+ghost use Rattle.journal_one.specs.Packed.{block_of};
 
 use crate::doubt::put;
 use crate::{Doubt, Packed};
-use fmt_journal::{number_place, record_place};
+use fmt_journal::{TxBlock, number_place, record_place};
 use fmt_super::Layout;
+use sfs_base::RoomyList;
 use sfs_dev::Disk;
+use std::alloc::Global;
 
 /// A slot of a disk.
 #[derive(Drop)]
@@ -101,6 +104,37 @@ impl Work {
         ensures { spot_place result ≡ (job_of self).place }
     {
         self.spot
+    }
+
+    /// The slot and the transaction, once the commit is over.
+    pub(crate) fn into_parts(self) -> (Spot, Packed)
+        ensures spot { spot_place result.0 ≡ (job_of self).place }
+        ensures packed { result.1 ≡ record { entries = (job_of self).entries; fresh = (job_of self).fresh } }
+    {
+        (self.spot, self.packed)
+    }
+
+    /// The commit without its fresh blocks, and these.
+    pub(crate) fn shed(self, alloc: Global) -> (Work, RoomyList<TxBlock>)
+        ensures work { job_of result.0 ≡ without_fresh (job_of self) }
+        ensures fresh { map block_of result.1.items ≡ (job_of self).fresh }
+    {
+        let Work {
+            spot,
+            packed,
+            stamp,
+            head,
+        } = self;
+        let (packed, fresh) = packed.shed(alloc);
+        (
+            Work {
+                spot,
+                packed,
+                stamp,
+                head,
+            },
+            fresh,
+        )
     }
 
     /// Writes the gate's byte: one write.

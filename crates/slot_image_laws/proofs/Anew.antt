@@ -24,7 +24,7 @@ known_anew slots change k = option_map (knowing (change k)) (slots k)
 
 pub commit_anew : (gives : ℕ → List InodePart) (layout : Layout) (change : SlotKnown → SlotKnown) (work : SlotWork) → IsCommitJob gives layout work
     → IsCommitJob gives layout (knowing change work)
-commit_anew gives layout change work is = record { records = is.records; pointers = is.pointers; whole = is.whole; own = is.own }
+commit_anew gives layout change work is = record { records = is.records; pointers = is.pointers; own = is.own }
 
 pub parts_anew : (gives : ℕ → List InodePart) (layout : Layout) (base : ℕ → Part) (change : SlotKnown → SlotKnown) (work : SlotWork)
     → TurnsParts gives layout base work → TurnsParts gives layout base (knowing change work)

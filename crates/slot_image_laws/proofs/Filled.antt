@@ -16,7 +16,7 @@ use Rattle.journal_one.specs.Job.{fill_count, fill_piece, table_piece, body_piec
 use Rattle.journal_one.specs.Known.{Reads, IsWrittenIn}
 use Rattle.journal_one.proofs.Apart.{apart_from_gate, fills_apart, AreApart-swap, table_from_fill}
 use Rattle.journal_one.proofs.Kept.{Touches, written_stands}
-use Rattle.journal_one.proofs.Places.{LiesInSlot, body_lies, body_is, in_data, fresh_is}
+use Rattle.journal_one.proofs.Places.{LiesInSlot, body_lies, body_is, in_data, fresh_is, fresh_whole}
 use Rattle.commit_one.proofs.Images.{agrees}
 use Rattle.merge_laws.proofs.Blocks.{same_or_not}
 use Rattle.slot_laws.specs.Slots.{without_number, with_number, SlotWork, knowing, known_filled, Slots, shut_gate, KnownGate, may_be_open, place_at, changed_slot}
@@ -79,8 +79,8 @@ module _ (gives : ℕ → List InodePart) (layout : Layout) (base : ℕ → Part
   fill_aside = record {
     gate = inr (apart_from_gate work.job fits.is n 1);
     fill = λ m few marked.
-        fills_apart work.job fits.is n m (λ same. (less_marked work.known.fill_read n m marked).0 (sym same)) fits.commit.own low few (fits.commit.whole n)
-        (fits.commit.whole m);
+        fills_apart work.job fits.is n m (λ same. (less_marked work.known.fill_read n m marked).0 (sym same)) fits.commit.own low few
+        (fresh_whole work.job fits.is n) (fresh_whole work.job fits.is m);
     table = λ m few marked. AreApart-swap (table_piece work.job m) (fill_piece work.job n) (table_from_fill work.job fits.is m n few);
   }
 
@@ -206,7 +206,7 @@ module _ (gives : ℕ → List InodePart) (layout : Layout) (books : DiskBooks) 
               high = (subst (λ (l : Layout). LiesInData l (get_or has.work.job.fresh n no_block))
                   (ap (λ (place : Place). place.layout) own_fits.place) (in_data has.work.job own_fits.is n few)).high;
               at = ap (λ (p : Piece). p.at) (fresh_is has.work.job own_fits.is n few);
-              long = own_fits.commit.whole n few;
+              long = fresh_whole has.work.job own_fits.is n few;
             })
             | inr lies ↦ data_keeps few lies.1
           ]

@@ -19,8 +19,8 @@ use Rattle.sfs_dev.specs.Ranges.{SameOutside}
 use Rattle.journal_one.specs.Job.{fill_count, Place, no_block, fill_piece, Piece, gate_piece}
 use Rattle.journal_one.specs.Laws.{HasPieces}
 use Rattle.journal_one.specs.Known.{IsWrittenIn}
-use Rattle.journal_one.proofs.Bodies.{body_read}
-use Rattle.journal_one.proofs.Places.{fresh_is}
+use Rattle.journal_one.proofs.Bodies.{body_of_pieces, body_read}
+use Rattle.journal_one.proofs.Places.{fresh_is, fresh_whole}
 use Rattle.journal_one.proofs.Kept.{Touches, gate_put, written_stands}
 use Rattle.tree_laws.specs.declared.turns.Turn.{Turn}
 use Rattle.tree_laws.specs.declared.turns.TurnAct.{TurnAct}
@@ -74,7 +74,7 @@ module _ (gives : ℕ → List InodePart) (layout : Layout) (books : DiskBooks) 
 
     body_whole : HasBody layout.inodes (work_transaction gives has.work) (journal_slot layout was k)
     body_whole =
-        let read = body_read has.work.job was own_fits.is pieces_stand in
+        let read = body_read has.work.job was own_fits.is (body_of_pieces has.work.job was own_fits.is pieces_stand) in
         subst (λ (place : Place). HasBody place.layout.inodes (work_transaction gives has.work) (journal_slot place.layout was place.slot)) own_fits.place
         (record {
           count = read.count;
@@ -87,7 +87,7 @@ module _ (gives : ℕ → List InodePart) (layout : Layout) (books : DiskBooks) 
         All-from_get_or (λ (one : FreshBlock). image_block was one.block ≡ one.bytes) has.work.job.fresh no_block
         (λ n low.
         let stands : IsWrittenIn (fill_piece has.work.job n) was = pieces_stand n (omega arith) in
-        let long = own_fits.commit.whole n low in
+        let long = fresh_whole has.work.job own_fits.is n low in
         let own : part (fill_piece has.work.job n).at 4096 was ≡ (fill_piece has.work.job n).bytes =
         ap (λ (m : ℕ). part (fill_piece has.work.job n).at m was) (sym long) ∙ stands in
         subst (λ (p : Piece). part p.at 4096 was ≡ p.bytes) (fresh_is has.work.job own_fits.is n low) own)

@@ -7,7 +7,7 @@ use Rattle.sfs_image.specs.ImageOf.{InodePart}
 use Rattle.sfs_image.specs.Part.{Part}
 use Rattle.sfs_image.proofs.LayoutLaws.{divided, records_fit}
 use Rattle.journal_one.specs.Job.{Piece, fill_piece, Place, gate_piece, body_piece, LiesInData, no_block, table_piece, no_entry}
-use Rattle.journal_one.proofs.Places.{LiesInSlot, body_lies, in_data, fresh_is, body_is, entry_below, entry_long}
+use Rattle.journal_one.proofs.Places.{LiesInSlot, body_lies, in_data, fresh_is, body_is, entry_below, entry_long, fresh_whole}
 use Rattle.slot_laws.specs.Slots.{SlotWork, place_at}
 use Rattle.slot_laws.specs.Rules.{inode_of_nth}
 use Rattle.slot_image_laws.specs.Commits.{nth_block, WorkFits}
@@ -96,7 +96,7 @@ module _ (gives : ℕ → List InodePart) (layout : Layout) (base : ℕ → Part
             low = lies.low;
             high = lies.high;
             at = ap (λ (p : Piece). p.at) (fresh_is work.job fits.is n lt);
-            long = fits.commit.whole n lt;
+            long = fresh_whole work.job fits.is n lt;
           },
         )
     | inr le ↦

@@ -87,7 +87,7 @@ module _ (disk : View) (layout : Layout) (before core start : ℕ) (past : BoxPa
   told_fits : (fact : Label) → MayLabel layout before core fact past → IsToldOf fact disk → RunFits layout start (after_label layout core fact past) disk
   told_fits label.Took rule told = same_run _ refl refl refl refl
   told_fits label.Gave rule told = same_run _ refl refl refl refl
-  told_fits (label.Reserved commit) rule told = same_run _ refl refl refl refl
+  told_fits (label.Reserved commit seen grant) rule told = same_run _ refl refl refl refl
   told_fits (label.Returned commit) rule told = same_run _ refl refl refl refl
   told_fits (label.Looked turn) rule told = same_run _ refl refl refl refl
   told_fits (label.Noted turn) rule told = record {
@@ -96,7 +96,7 @@ module _ (disk : View) (layout : Layout) (before core start : ℕ) (past : BoxPa
         quiet_turns_keep disk run past.turns past.slots turn rule.no_open
         rule.no_durable told (fits.runs run same moment began (record { begun = well.begun; empties = well.empties }));
   }
-  told_fits (label.Began filling commit node stamp) rule told = record {
+  told_fits (label.Began filling commit node stamp blocks inodes) rule told = record {
     rises = fits.rises;
     runs = λ run same moment began well.
         let old_well : BeginWell run past = record {
@@ -228,9 +228,9 @@ module _ (old new : View) (layout : Layout) (start : ℕ) (past : BoxPast) (lawf
     done_fits label.Took rule is = absurd is
     done_fits label.Gave rule is = absurd is
     done_fits (label.Noted turn) rule is = absurd is
-    done_fits (label.Reserved commit) rule is = absurd is
+    done_fits (label.Reserved commit seen grant) rule is = absurd is
     done_fits (label.Returned commit) rule is = absurd is
-    done_fits (label.Began filling commit node stamp) rule is = absurd is
+    done_fits (label.Began filling commit node stamp blocks inodes) rule is = absurd is
     done_fits (label.Settled slot turn) rule is = absurd is
     done_fits (label.Looked turn) rule is = absurd is
     done_fits (label.Idled slot) rule is = absurd is

@@ -116,7 +116,7 @@ module _ (gives : ℕ → List InodePart) (layout : Layout) (base : ℕ → Part
           subst (WorkFits gives layout (parts_over (gives work.commit) base) j) (settled_one j other same there) (record {
             place = own.place ∙ ap (place_at layout) (sym same);
             is = own.is;
-            commit = record { records = own.commit.records; pointers = own.commit.pointers; whole = own.commit.whole; own = own.commit.own };
+            commit = record { records = own.commit.records; pointers = own.commit.pointers; own = own.commit.own };
             known = record { gates = own.known.gates; fill = λ n marked. absurd (not_both marked refl); table = own.known.table };
             aloft = λ aloft. absurd (not_both refl aloft);
             gate = λ aloft. absurd (not_both refl aloft);

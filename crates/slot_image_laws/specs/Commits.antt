@@ -4,7 +4,7 @@ use Rattle.sfs_image.specs.ImageOf.{InodePart, Transaction, opened_among, IsImag
 use Rattle.sfs_image.specs.Part.{Part, pointer_at}
 use Rattle.sfs_image.specs.Super.{Layout}
 use Rattle.sfs_image.specs.Settled.{slot_count}
-use Rattle.journal_one.specs.Job.{no_block, fill_piece, HaveOwnBlocks, IsJob}
+use Rattle.journal_one.specs.Job.{no_block, HaveOwnBlocks, IsJob}
 use Rattle.commit_one.specs.Change.{transaction_of, entry_of_part}
 use Rattle.slot_laws.specs.Slots.{shut_gate, open_gate, any_gate, may_be_open, KnownGate, SlotKnown, SlotWork, Slots, place_at}
 use Rattle.slot_laws.specs.Rings.{RingsFit, AreInSlots, ShareInode}
@@ -50,12 +50,10 @@ pub record KnownFits (known : SlotKnown) : Type 0 where
   pub fill : (n : ℕ) → known.fill_left n ≡ true → known.fill_read n ≡ true
   pub table : (n : ℕ) → known.table_left n ≡ true → known.table_read n ≡ true
 
--- What a commit is, wherever it stands: its records are those of the parts that it gives, which point to data, and its fresh blocks are whole
--- and its own.
+-- What a commit is, wherever it stands: its records are those of the parts that it gives, which point to data, and it writes no fresh block twice.
 pub record IsCommitJob (gives : ℕ → List InodePart) (layout : Layout) (work : SlotWork) : Type 0 where
   pub records : map entry_of_part (gives work.commit) ≡ work.job.entries
   pub pointers : All (λ (own : InodePart). PointsToData layout own.part) (gives work.commit)
-  pub whole : (n : ℕ) → n < length work.job.fresh → length (fill_piece work.job n).bytes ≡ 4096
   pub own : HaveOwnBlocks work.job.fresh
 
 -- What a commit that is not durable owes to the parts that the disk stands for: its fresh blocks turn them into those that it gives, and are none

@@ -17,9 +17,9 @@ abbrev pub IsToldOf : Label → View → Type 0
 IsToldOf label.Took disk = Unit {0}
 IsToldOf label.Gave disk = Unit {0}
 IsToldOf (label.Noted turn) disk = turn.now ≡ disk.now
-IsToldOf (label.Reserved commit) disk = Unit {0}
+IsToldOf (label.Reserved commit seen grant) disk = Unit {0}
 IsToldOf (label.Returned commit) disk = Unit {0}
-IsToldOf (label.Began filling commit node stamp) disk = Unit {0}
+IsToldOf (label.Began filling commit node stamp blocks inodes) disk = Unit {0}
 IsToldOf (label.Settled slot turn) disk = turn.now ≡ disk.now
 IsToldOf (label.Looked turn) disk = Unit {0}
 IsToldOf (label.Idled slot) disk = Unit {0}

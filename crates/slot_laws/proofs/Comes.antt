@@ -1,6 +1,6 @@
 -- Commits of slots behind labels of which none begins one.
-use Rattle.std.proofs.Common.{◌≡◌, ◌∷◌, ◌++◌, ◌∙◌, ℕ, Bool, true, false, List, []}
-use Rattle.sfs_base.proofs.BasicTruth.{true_not_false}
+use Rattle.std.proofs.Common.{◌≡◌, ◌∷◌, ◌++◌, ◌∙◌, ◌||◌, ℕ, Bool, true, false, List, []}
+use Rattle.sfs_base.proofs.BasicTruth.{true_not_false, or_first, or_second}
 use Rattle.sfs_image.specs.Super.{Layout}
 use Rattle.stamp_table.specs.declared.event.Event.{Event}
 use Rattle.stamp_table.specs.declared.event.Event.TheVariants.{Called, Told}
@@ -21,7 +21,7 @@ may_both layout before (event ∷ log) more past may later = (may.0, may_both la
 -- whether a commit begins with an event
 abbrev pub begins : Event Label → Bool
 begins (Called entry) = false
-begins (Told core (label.Began filling commit node stamp)) = true
+begins (Told core (label.Began filling commit node stamp blocks inodes)) = true
 begins (Told core _) = false
 
 pub come_on : {slots middle later : Slots} → SlotsCome slots middle → SlotsCome middle later → SlotsCome slots later
@@ -40,9 +40,9 @@ event_comes layout (Called entry) past none = slots_come past.slots
 event_comes layout (Told core label.Took) past none = slots_come past.slots
 event_comes layout (Told core label.Gave) past none = slots_come past.slots
 event_comes layout (Told core (label.Noted turn)) past none = slots_come past.slots
-event_comes layout (Told core (label.Reserved commit)) past none = slots_come past.slots
+event_comes layout (Told core (label.Reserved commit seen grant)) past none = slots_come past.slots
 event_comes layout (Told core (label.Returned commit)) past none = slots_come past.slots
-event_comes layout (Told core (label.Began filling commit node stamp)) past none = absurd (true_not_false none)
+event_comes layout (Told core (label.Began filling commit node stamp blocks inodes)) past none = absurd (true_not_false none)
 event_comes layout (Told core (label.Filled k piece done)) past none = known_come past.slots k (known_filled done piece)
 event_comes layout (Told core (label.Synced now)) past none = synced_come past.slots
 event_comes layout (Told core (label.Opened k done cut opened)) past none = known_come past.slots k (known_gated done open_gate)
@@ -56,6 +56,15 @@ event_comes layout (Told core (label.Empty commit cut opened durable)) past none
 abbrev pub NoneBegins : List (Event Label) → Type 0
 NoneBegins [] = Unit {0}
 NoneBegins (event ∷ log) = (begins event ≡ false) × NoneBegins log
+
+-- by a test
+abbrev pub any_begins : List (Event Label) → Bool
+any_begins [] = false
+any_begins (event ∷ log) = begins event || any_begins log
+
+pub none_begin_by : (log : List (Event Label)) → any_begins log ≡ false → NoneBegins log
+none_begin_by [] none = tt
+none_begin_by (event ∷ log) none = (or_first (begins event) (any_begins log) none, none_begin_by log (or_second (begins event) (any_begins log) none))
 
 pub log_comes : (layout : Layout) (log : List (Event Label)) (past : BoxPast) → NoneBegins log → SlotsCome past.slots (past_from layout log past).slots
 log_comes layout [] past none = slots_come past.slots
@@ -71,9 +80,9 @@ none_apart layout (event ∷ log) past none = (asks_nothing event none.0, none_a
     asks_nothing (Told core label.Took) quiet = tt
     asks_nothing (Told core label.Gave) quiet = tt
     asks_nothing (Told core (label.Noted turn)) quiet = tt
-    asks_nothing (Told core (label.Reserved commit)) quiet = tt
+    asks_nothing (Told core (label.Reserved commit seen grant)) quiet = tt
     asks_nothing (Told core (label.Returned commit)) quiet = tt
-    asks_nothing (Told core (label.Began filling commit node stamp)) quiet = absurd (true_not_false quiet)
+    asks_nothing (Told core (label.Began filling commit node stamp blocks inodes)) quiet = absurd (true_not_false quiet)
     asks_nothing (Told core (label.Filled k piece done)) quiet = tt
     asks_nothing (Told core (label.Synced now)) quiet = tt
     asks_nothing (Told core (label.Opened k done cut opened)) quiet = tt

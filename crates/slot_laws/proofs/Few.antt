@@ -100,18 +100,19 @@ module _ (layout : Layout) (before core : ℕ) (past : BoxPast) (all : PastFits 
   begun_label label.Took rule = keeps label.Took refl refl (inl refl)
   begun_label label.Gave rule = keeps label.Gave refl refl (inl refl)
   begun_label (label.Noted turn) rule = keeps (label.Noted turn) refl refl (inl refl)
-  begun_label (label.Reserved commit) rule = record {
+  begun_label (label.Reserved commit seen grant) rule = record {
     begun = fits.begun;
     many = fits.many;
     differ = fits.differ;
     within = λ n one. let is = fits.within n one in let high = is.1 in let next = rule.next in (is.0, omega (arith, high, next));
     free = λ c n is. elim (same_or_not c core) [
       | inl same ↦
-          let e : commit ≡ n = own_number n (sym (ap (λ (o : OwnTold). o.reserved) (at_same past.owns core (own_label (label.Reserved commit)
+          let e : commit ≡ n = own_number n (sym (ap (λ (o : OwnTold). o.reserved) (at_same past.owns core (own_label (label.Reserved commit seen grant)
           (past.owns core)) c same)) ∙ is) in
           new_number n e
       | inr apart ↦
-          fits.free c n (sym (ap (λ (o : OwnTold). o.reserved) (at_other past.owns core (own_label (label.Reserved commit) (past.owns core)) c apart)) ∙ is)
+          fits.free c n
+          (sym (ap (λ (o : OwnTold). o.reserved) (at_other past.owns core (own_label (label.Reserved commit seen grant) (past.owns core)) c apart)) ∙ is)
     ];
   }
     where
@@ -123,7 +124,7 @@ module _ (layout : Layout) (before core : ℕ) (past : BoxPast) (all : PastFits 
           let next = rule.next in
           (omega (arith, next, e), λ one. let high = (fits.within n one).1 in omega (arith, next, e, high))
   begun_label (label.Returned commit) rule = keeps (label.Returned commit) refl refl (inr refl)
-  begun_label (label.Began filling commit node stamp) rule = record {
+  begun_label (label.Began filling commit node stamp blocks inodes) rule = record {
     begun = commit ∷ fits.begun;
     many = let many = fits.many in let drawn = rule.stamp in omega (arith, many, drawn);
     differ = (λ n one same. (fits.free core commit rule.number).1 (subst (IsOneOf fits.begun) same one), fits.differ);
@@ -132,12 +133,12 @@ module _ (layout : Layout) (before core : ℕ) (past : BoxPast) (all : PastFits 
       | inr rest ↦ fits.within n rest
     ];
     free = λ c n is.
-        let was = reserved_back past.owns core (own_label (label.Began filling commit node stamp) (past.owns core)) (inr refl) c n is in (
+        let was = reserved_back past.owns core (own_label (label.Began filling commit node stamp blocks inodes) (past.owns core)) (inr refl) c n is in (
           (fits.free c n was).0,
           λ one. elim one [
             | inl same ↦
                 let its = all.numbers.once c core n was (rule.number ∙ ap Some same) in
-                none_there (sym (ap (λ (o : OwnTold). o.reserved) (at_same past.owns core (own_label (label.Began filling commit node stamp)
+                none_there (sym (ap (λ (o : OwnTold). o.reserved) (at_same past.owns core (own_label (label.Began filling commit node stamp blocks inodes)
                 (past.owns core)) c its)) ∙ is)
             | inr rest ↦ (fits.free c n was).1 rest
           ],

@@ -179,9 +179,9 @@ module _ (layout : Layout) (before : ℕ) where
   follow_label core past rings follows label.Gave rule = follows
   follow_label core past rings follows (label.Noted turn) rule =
       follow_on past.slots past.slots past.turns (turn ∷ []) follows (follow_same past.slots)
-  follow_label core past rings follows (label.Reserved commit) rule = follows
+  follow_label core past rings follows (label.Reserved commit seen grant) rule = follows
   follow_label core past rings follows (label.Returned commit) rule = follows
-  follow_label core past rings follows (label.Began filling commit node stamp) rule =
+  follow_label core past rings follows (label.Began filling commit node stamp blocks inodes) rule =
       begun_follows past.slots past.turns filling.job.place.slot filling.job commit (fsync_told node stamp) follows
   follow_label core past rings follows (label.Filled k piece done) rule =
       no_more (changed_slot past.slots k (knowing (known_filled done piece))) past.turns

@@ -6,10 +6,12 @@ use Rattle.std.proofs.Math.Path.{fun_ext}
 use Rattle.std.proofs.lemmas.List.{append_assoc}
 use Rattle.sfs_base.specs.declared.numbers.NodeId.{NodeId}
 use Rattle.sfs_base.specs.declared.numbers.Stamp.{Stamp}
+use Rattle.sfs_base.specs.Lists.{Roomy}
 use Rattle.sfs_base.proofs.BasicOptions.{some_same, some_not_none}
 use Rattle.sfs_base.proofs.BasicTruth.{not_both}
 use Rattle.sfs_image.specs.Super.{Layout}
 use Rattle.journal_one.specs.declared.slot.Filling.{Filling}
+use Rattle.space_map.specs.Space.{GrantedNumbers}
 use Rattle.tree_laws.specs.declared.turns.Turn.{Turn}
 use Rattle.cut_laws.specs.Rules.{IsOneOf}
 use Rattle.merge_laws.specs.Pens.{failure_by}
@@ -20,6 +22,7 @@ use Rattle.slot_laws.specs.Slots.{open_gate, shut_gate, known_filled, known_plac
 use Rattle.slot_laws.specs.Labels.{owner, fsync_told, SlotFlight, OwnTold, ends_all, opened_flight, own_label, BoxPast, box_label, after_label}
 use Rattle.slot_laws.specs.Rules.{NotedRule, ReservedRule, BeganRule, OpenedRule, SettledRule, ShutRule, IdledRule, LookedRule, EmptyRule, MayLabel}
 use Rattle.slot_laws.specs.Fits.{FlightsFit, TurnsFit, NumbersFit, TimesFit, PastFits}
+use Rattle.slot_laws.specs.declared.label.Seen.{Seen}
 use Rattle.slot_laws.proofs.Basics.{at_same, at_other, parts, own_put, own_same, either_true}
 use Rattle.slot_laws.proofs.Came.{knowing_told}
 use Rattle.slot_laws.proofs.Flying.{SlotsKeep, changed_keeps, synced_keep, kept_fit, begun_fit, idled_fit}
@@ -193,8 +196,9 @@ module _ (layout : Layout) (before core : ℕ) (past : BoxPast) (fits : PastFits
             (had.0, or_some past.failed (failure_by turn.act turn.faults) had.1)
       ]
 
-  reserves : (commit : ℕ) → ReservedRule core commit past → PastFits layout before (after_label layout core (label.Reserved commit) past)
-  reserves commit rule = record {
+  reserves : (commit : ℕ) (seen : Roomy Seen) (grant : GrantedNumbers) → ReservedRule core commit seen.items past
+      → PastFits layout before (after_label layout core (label.Reserved commit seen grant) past)
+  reserves commit seen grant rule = record {
     flights = flights_same own past.slots past.waits refl fits.flights;
     turns = told_same own past.turns past.waits refl fits.turns;
     numbers = subst (λ (f : ℕ → Option SlotFlight). NumbersFit layout past.slots (parts reserved_of (with_at past.owns core own)) f commit past.stamps)
@@ -208,7 +212,7 @@ module _ (layout : Layout) (before core : ℕ) (past : BoxPast) (fits : PastFits
   }
     where
       own : OwnTold
-      own = own_label (label.Reserved commit) (past.owns core)
+      own = own_label (label.Reserved commit seen grant) (past.owns core)
 
   returns : (commit : ℕ) → PastFits layout before (after_label layout core (label.Returned commit) past)
   returns commit = record {
@@ -226,9 +230,9 @@ module _ (layout : Layout) (before core : ℕ) (past : BoxPast) (fits : PastFits
       own : OwnTold
       own = own_label (label.Returned commit) (past.owns core)
 
-  began : (filling : Filling) (commit : ℕ) (node : NodeId) (stamp : Stamp) → BeganRule layout core filling.job commit past
-      → PastFits layout before (after_label layout core (label.Began filling commit node stamp) past)
-  began filling commit node stamp rule = record {
+  began : (filling : Filling) (commit : ℕ) (node : NodeId) (stamp : Stamp) (blocks inodes : Roomy ℕ) → BeganRule layout core filling.job commit past
+      → PastFits layout before (after_label layout core (label.Began filling commit node stamp blocks inodes) past)
+  began filling commit node stamp blocks inodes rule = record {
     flights = flights_put own later past.waits
         (begun_fit layout past.slots past.waits (parts flight_of past.owns) fits.flights core k filling.job commit
         (fsync_told node stamp) rule.idle rests rule.own);
@@ -245,7 +249,7 @@ module _ (layout : Layout) (before core : ℕ) (past : BoxPast) (fits : PastFits
   }
     where
       own : OwnTold
-      own = own_label (label.Began filling commit node stamp) (past.owns core)
+      own = own_label (label.Began filling commit node stamp blocks inodes) (past.owns core)
 
       k : ℕ
       k = filling.job.place.slot
@@ -365,9 +369,9 @@ module _ (layout : Layout) (before core : ℕ) (past : BoxPast) (fits : PastFits
   label_fits label.Took rule = took
   label_fits label.Gave rule = gave
   label_fits (label.Noted turn) rule = noted turn rule
-  label_fits (label.Reserved commit) rule = reserves commit rule
+  label_fits (label.Reserved commit seen grant) rule = reserves commit seen grant rule
   label_fits (label.Returned commit) rule = returns commit
-  label_fits (label.Began filling commit node stamp) rule = began filling commit node stamp rule
+  label_fits (label.Began filling commit node stamp blocks inodes) rule = began filling commit node stamp blocks inodes rule
   label_fits (label.Filled k piece done) rule = filled k piece done
   label_fits (label.Synced now) rule = synced now
   label_fits (label.Opened k done cut opened) rule = opened_label k done cut opened rule

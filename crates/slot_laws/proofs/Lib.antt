@@ -11,6 +11,16 @@ pub mod Rings
 pub mod Follow
 pub mod Few
 pub mod Comes
+pub mod Numbered
+pub mod Lasts
+pub mod NodesTold
+pub mod NodesBack
+pub mod GrantsHeld
+pub mod GrantsTold
+pub mod Counting
 pub mod WorkedBegins
 pub mod WorkedApart
 pub mod Worked
+pub mod WorkedMaps
+pub mod WorkedLonger
+pub mod WorkedAlong

@@ -330,9 +330,9 @@ module _ (layout : Layout) (before : ℕ) where
   rings_label core teller past all fits label.Took rule apart = fits
   rings_label core teller past all fits label.Gave rule apart = fits
   rings_label core teller past all fits (label.Noted turn) rule apart = fits
-  rings_label core teller past all fits (label.Reserved commit) rule apart = fits
+  rings_label core teller past all fits (label.Reserved commit seen grant) rule apart = fits
   rings_label core teller past all fits (label.Returned commit) rule apart = fits
-  rings_label core teller past all fits (label.Began filling commit node stamp) rule apart =
+  rings_label core teller past all fits (label.Began filling commit node stamp blocks inodes) rule apart =
       begun_fits past.slots filling.job.place.slot filling.job commit (fsync_told node stamp) fits
       (λ j other there. let low = all.numbers.stamped j other there in let next = rule.stamp in omega (arith, low, next)) apart
   rings_label core teller past all fits (label.Filled k piece done) rule apart =

@@ -1,5 +1,5 @@
 -- The worked history may be told.
-use Rattle.std.proofs.Common.{◌≡◌, ◌≢◌, ◌<◌, ◌++◌, ◌∙◌, ◌⊎◌, ℕ, Some, inl, inr, refl, sym, ap, subst, arith}
+use Rattle.std.proofs.Common.{◌≡◌, ◌≢◌, ◌<◌, ◌++◌, ◌∙◌, ◌⊎◌, ◌∷◌, ℕ, Some, inl, inr, refl, sym, ap, subst, arith, []}
 use Rattle.sfs_base.proofs.BasicOptions.{some_same}
 use Rattle.journal_one.specs.Job.{fill_count, Job}
 use Rattle.journal_one.specs.declared.slot.Filling.{Filling}
@@ -12,8 +12,8 @@ use Rattle.slot_laws.specs.Rules.{MayFrom}
 use Rattle.slot_laws.specs.Laws.{IsAtRest}
 use Rattle.slot_laws.specs.Worked.{TWO_RINGS, BeginsIn, both_reserve, both_fill, both_land, one_goes_home, rings_log, WORKED_RECORD, LabelsCanBeMet, own_begins, other_begins}
 use Rattle.slot_laws.proofs.WorkedApart.{begin_apart}
-use Rattle.slot_laws.proofs.WorkedBegins.{three_marked, one_marked, reserved_past, own_begun, both_begun, filled_past, landed_past, may_reserve, own_may, own_goes_on, other_may, other_goes_on}
-use Rattle.slot_laws.proofs.Comes.{may_both, log_comes}
+use Rattle.slot_laws.proofs.WorkedBegins.{three_marked, one_marked, reserved_past, own_begun, both_begun, filled_past, landed_past, may_reserve, own_may, own_goes_on, other_may, other_goes_on, four_marked}
+use Rattle.slot_laws.proofs.Comes.{may_both, log_comes, none_begin_by}
 use Rattle.slot_laws.proofs.Basics.{at_same, at_other, none_there}
 use Rattle.slot_laws.proofs.Numbers.{CameFrom}
 
@@ -26,15 +26,15 @@ own_at_rest own other = inl refl
 other_at_rest : (own other : Filling) → IsAtRest (own_from (entries_by event_core 1 (rings_log own other)) nothing_told)
 other_at_rest own other = inl refl
 
-module _ (own other : Filling) (own_is : BeginsIn own 0 1) (other_is : BeginsIn other 2 2) where
-  -- a number below three is that of a piece of each
-  own_piece : (n : ℕ) → n < 3 → n < fill_count own.job
+module _ (own other : Filling) (own_is : BeginsIn own 0 1 (0 ∷ [])) (other_is : BeginsIn other 2 2 []) where
+  -- a number below four is that of a piece of the first, and below three of the second
+  own_piece : (n : ℕ) → n < 4 → n < fill_count own.job
   own_piece n = subst (λ (count : ℕ). n < count) (sym own_is.pieces)
 
   other_piece : (n : ℕ) → n < 3 → n < fill_count other.job
   other_piece n = subst (λ (count : ℕ). n < count) (sym other_is.pieces)
 
-  may_fill : MayFrom TWO_RINGS 0 both_fill (both_begun own other 2 2)
+  pub may_fill : MayFrom TWO_RINGS 0 both_fill (both_begun own other 2 2)
   may_fill = (
     (refl, tt),
     (
@@ -44,20 +44,14 @@ module _ (own other : Filling) (own_is : BeginsIn own 0 1) (other_is : BeginsIn 
         (
           (refl, record { calm = refl; own = refl; has = record { work = _; there = refl; aloft = refl; gate_is = refl }; within = own_piece 2 (omega arith) }),
           (
-            (refl, tt),
+            (
+              refl,
+              record { calm = refl; own = refl; has = record { work = _; there = refl; aloft = refl; gate_is = refl }; within = own_piece 3 (omega arith) },
+            ),
             (
               (refl, tt),
               (
-                (
-                  refl,
-                  record {
-                    calm = refl;
-                    own = refl;
-                    has = record { work = _; there = refl; aloft = refl; gate_is = refl };
-                    within = other_piece
-                        0 (omega arith);
-                  },
-                ),
+                (refl, tt),
                 (
                   (
                     refl,
@@ -65,8 +59,8 @@ module _ (own other : Filling) (own_is : BeginsIn own 0 1) (other_is : BeginsIn 
                       calm = refl;
                       own = refl;
                       has = record { work = _; there = refl; aloft = refl; gate_is = refl };
-                      within =
-                          other_piece 1 (omega arith);
+                      within = other_piece
+                          0 (omega arith);
                     },
                   ),
                   (
@@ -77,14 +71,26 @@ module _ (own other : Filling) (own_is : BeginsIn own 0 1) (other_is : BeginsIn 
                         own = refl;
                         has = record { work = _; there = refl; aloft = refl; gate_is = refl };
                         within =
-                            other_piece 2 (omega arith);
+                            other_piece 1 (omega arith);
                       },
                     ),
                     (
-                      (refl, refl),
                       (
-                        (refl, tt),
-                        tt,
+                        refl,
+                        record {
+                          calm = refl;
+                          own = refl;
+                          has = record { work = _; there = refl; aloft = refl; gate_is = refl };
+                          within =
+                              other_piece 2 (omega arith);
+                        },
+                      ),
+                      (
+                        (refl, refl),
+                        (
+                          (refl, tt),
+                          tt,
+                        ),
                       ),
                     ),
                   ),
@@ -97,13 +103,13 @@ module _ (own other : Filling) (own_is : BeginsIn own 0 1) (other_is : BeginsIn 
     ),
   )
 
-  own_filled : (n : ℕ) → n < fill_count own.job → n < 3
+  own_filled : (n : ℕ) → n < fill_count own.job → n < 4
   own_filled n = subst (λ (count : ℕ). n < count) own_is.pieces
 
   other_filled : (n : ℕ) → n < fill_count other.job → n < 3
   other_filled n = subst (λ (count : ℕ). n < count) other_is.pieces
 
-  may_land : MayFrom TWO_RINGS 0 both_land (filled_past own other)
+  pub may_land : MayFrom TWO_RINGS 0 both_land (filled_past own other)
   may_land = (
     (refl, tt),
     (
@@ -131,7 +137,7 @@ module _ (own other : Filling) (own_is : BeginsIn own 0 1) (other_is : BeginsIn 
                 calm = refl;
                 own = refl;
                 has = record { work = _; there = refl; aloft = refl; gate_is = refl };
-                filled = λ n low. three_marked n (own_filled n low);
+                filled = λ n low. four_marked n (own_filled n low);
                 cut_is = record { did_is = refl; core_is = refl; commit_is = refl; flush_is = refl };
                 opened_is = record { did_is = refl; core_is = refl; commit_is = refl; flush_is = refl };
                 cut_now = record { rises = omega arith; counts = refl };
@@ -194,69 +200,12 @@ module _ (own other : Filling) (own_is : BeginsIn own 0 1) (other_is : BeginsIn 
   )
 
   -- each commit but the own one has a greater stamp
-  later_stamp : (k : ℕ) (work : SlotWork) → k ≢ 0 → (landed_past own other).slots k ≡ Some work → own.job.stamp < work.job.stamp
+  pub later_stamp : (k : ℕ) (work : SlotWork) → k ≢ 0 → (landed_past own other).slots k ≡ Some work → own.job.stamp < work.job.stamp
   later_stamp k work apart there = by (same_or_not k 2)
     where
       was : CameFrom (both_begun own other 2 2).slots k work
       was =
-          log_comes TWO_RINGS (both_fill ++ both_land) (both_begun own other 2 2) (
-            refl,
-            (
-              refl,
-              (
-                refl,
-                (
-                  refl,
-                  (
-                    refl,
-                    (
-                      refl,
-                      (
-                        refl,
-                        (
-                          refl,
-                          (
-                            refl,
-                            (
-                              refl,
-                              (
-                                refl,
-                                (
-                                  refl,
-                                  (
-                                    refl,
-                                    (
-                                      refl,
-                                      (
-                                        refl,
-                                        (
-                                          refl,
-                                          (
-                                            refl,
-                                            (
-                                              refl,
-                                              (
-                                                refl,
-                                                (refl, (refl, (refl, (refl, (refl, (refl, (refl, tt))))))),
-                                              ),
-                                            ),
-                                          ),
-                                        ),
-                                      ),
-                                    ),
-                                  ),
-                                ),
-                              ),
-                            ),
-                          ),
-                        ),
-                      ),
-                    ),
-                  ),
-                ),
-              ),
-            ),
-          )
+          log_comes TWO_RINGS (both_fill ++ both_land) (both_begun own other 2 2) (none_begin_by (both_fill ++ both_land) refl)
           k work there
 
       by : (k ≡ 2) ⊎ (k ≢ 2) → own.job.stamp < work.job.stamp

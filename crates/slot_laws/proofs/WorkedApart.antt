@@ -9,7 +9,7 @@ use Rattle.slot_laws.specs.Labels.{first_past, past_from}
 use Rattle.slot_laws.specs.Worked.{TWO_RINGS, both_reserve, both_fill, both_land, one_goes_home, rings_log, own_begins, other_begins}
 use Rattle.slot_laws.proofs.Rings.{share_back}
 use Rattle.slot_laws.proofs.WorkedBegins.{reserved_past}
-use Rattle.slot_laws.proofs.Comes.{none_apart, apart_both}
+use Rattle.slot_laws.proofs.Comes.{none_apart, apart_both, none_begin_by}
 use Rattle.slot_laws.proofs.Basics.{at_same, at_other, none_there}
 
 -- both begin apart where they share no inode
@@ -28,8 +28,9 @@ module _ (own other : Filling) (strangers : ShareInode own.job other.job → ⊥
 
   pub begin_apart : BeginApart TWO_RINGS (rings_log own other) (first_past 0)
   begin_apart =
-      apart_both TWO_RINGS both_reserve (own_begins own ++ other_begins other ++ both_fill ++ both_land ++ one_goes_home) (first_past 0)
-      (none_apart TWO_RINGS both_reserve (first_past 0) (refl, (refl, (refl, (refl, (refl, (refl, (refl, (refl, tt))))))))) (
+      let rest = both_fill ++ both_land ++ one_goes_home in
+      apart_both TWO_RINGS both_reserve (own_begins own ++ other_begins other ++ rest) (first_past 0)
+      (none_apart TWO_RINGS both_reserve (first_past 0) (none_begin_by both_reserve refl)) (
         tt,
         (
           (λ k work there aloft shares. none_there there),
@@ -41,86 +42,8 @@ module _ (own other : Filling) (strangers : ShareInode own.job other.job → ⊥
                 (λ k work there aloft shares. began_apart k work there shares),
                 (
                   tt,
-                  none_apart TWO_RINGS (both_fill ++ both_land ++ one_goes_home)
-                      (past_from TWO_RINGS (other_begins other) (past_from TWO_RINGS (own_begins own) reserved_past)) (
-                        refl,
-                        (
-                          refl,
-                          (
-                            refl,
-                            (
-                              refl,
-                              (
-                                refl,
-                                (
-                                  refl,
-                                  (
-                                    refl,
-                                    (
-                                      refl,
-                                      (
-                                        refl,
-                                        (
-                                          refl,
-                                          (
-                                            refl,
-                                            (
-                                              refl,
-                                              (
-                                                refl,
-                                                (
-                                                  refl,
-                                                  (
-                                                    refl,
-                                                    (
-                                                      refl,
-                                                      (
-                                                        refl,
-                                                        (
-                                                          refl,
-                                                          (
-                                                            refl,
-                                                            (
-                                                              refl,
-                                                              (
-                                                                refl,
-                                                                (
-                                                                  refl,
-                                                                  (
-                                                                    refl,
-                                                                    (
-                                                                      refl,
-                                                                      (
-                                                                        refl,
-                                                                        (
-                                                                          refl,
-                                                                          (refl, (refl, (refl, (refl, (refl, (refl, (refl, tt))))))),
-                                                                        ),
-                                                                      ),
-                                                                    ),
-                                                                  ),
-                                                                ),
-                                                              ),
-                                                            ),
-                                                          ),
-                                                        ),
-                                                      ),
-                                                    ),
-                                                  ),
-                                                ),
-                                              ),
-                                            ),
-                                          ),
-                                        ),
-                                      ),
-                                    ),
-                                  ),
-                                ),
-                              ),
-                            ),
-                          ),
-                        ),
-                      ),
+                  none_apart TWO_RINGS rest (past_from TWO_RINGS (other_begins other) (past_from TWO_RINGS (own_begins own) reserved_past))
+                      (none_begin_by rest refl),
                 ),
               ),
             ),

@@ -1,5 +1,5 @@
 -- What labels come to: the folds over what cores tell.
-use Rattle.std.specs.Prelude.{◌/◌, ◌||◌, ◌∷◌, ◌++◌, ℕ, Bool, true, false, List, [], Option, Some, None, option_map}
+use Rattle.std.specs.Prelude.{◌/◌, ◌||◌, ◌∷◌, ◌++◌, ℕ, Bool, true, false, List, [], Option, Some, None, option_map, map}
 use Rattle.std.specs.Option.{option_or}
 use Rattle.sfs_base.specs.declared.numbers.NodeId.{NodeId}
 use Rattle.sfs_base.specs.declared.numbers.Stamp.{Stamp}
@@ -14,6 +14,7 @@ use Rattle.stamp_table.specs.declared.event.Event.TheVariants.{Called, Told}
 use Rattle.slot_laws.specs.declared.label.Label.{Label}
 use Rattle.slot_laws.specs.declared.label.Label.TheVariants as label
 use Rattle.slot_laws.specs.Slots.{open_gate, shut_gate, known_filled, known_placed, known_gated, SlotWork, begun_work, knowing, settled_work, Slots, with_at, changed_slot, synced_slots}
+use Rattle.slot_laws.specs.Nodes.{LastCommit, ReservedCommit, no_last, ended_lasts, commits_but, commits_numbered, reserved_lasts, no_numbers, returned_lasts, giving_up}
 
 -- whose a slot is
 abbrev pub owner : Layout → ℕ → ℕ
@@ -54,9 +55,9 @@ opened_flight flight = record flight { opened = true }
 -- what a core's own label makes of what it told
 abbrev pub own_label : Label → OwnTold → OwnTold
 own_label (label.Noted turn) own = record own { told = own.told ++ turn ∷ []; over = ends_all turn.act || own.over }
-own_label (label.Reserved commit) own = record own { reserved = Some commit }
+own_label (label.Reserved commit seen grant) own = record own { reserved = Some commit }
 own_label (label.Returned commit) own = record own { reserved = None }
-own_label (label.Began filling commit node stamp) own = record own {
+own_label (label.Began filling commit node stamp blocks inodes) own = record own {
   reserved = None;
   flight = Some (record { slot = filling.job.place.slot; commit = commit; flush = fsync_told node stamp; opened = false });
 }
@@ -74,7 +75,8 @@ pub record BegunCommit : Type 0 where
 
 -- What all labels come to: the record of turns; the slots; for each core the turn that made its commit durable, where it has not looked yet, and
 -- what it told; how many numbers and commit stamps were given; the count of faults of the failure, where there was one; the core that has the
--- box; the moment of the last turn, and that of the last sync; the commits that began in slots, as they began; and those that wrote nothing.
+-- box; the moment of the last turn, and that of the last sync; the commits that began in slots, as they began; those that wrote nothing; the last
+-- commit of each node; and the commits that have reserved and neither ended nor given back, and those that have ended, in order.
 pub record BoxPast : Type 0 where
   pub turns : List Turn
   pub slots : Slots
@@ -88,6 +90,9 @@ pub record BoxPast : Type 0 where
   pub synced : ℕ
   pub begun : List BegunCommit
   pub empties : List ℕ
+  pub lasts : ℕ → LastCommit
+  pub opens : List ReservedCommit
+  pub done : List ReservedCommit
 
 -- before the first label
 abbrev pub first_past : ℕ → BoxPast
@@ -104,6 +109,17 @@ first_past moment = record {
   synced = moment;
   begun = [];
   empties = [];
+  lasts = λ _. no_last;
+  opens = [];
+  done = [];
+}
+
+-- a commit with a number has ended
+abbrev pub with_end : ℕ → BoxPast → BoxPast
+with_end number past = record past {
+  lasts = ended_lasts number past.lasts;
+  opens = commits_but number past.opens;
+  done = past.done ++ commits_numbered number past.opens;
 }
 
 -- what a label of a core makes of all but the cores' own
@@ -112,12 +128,20 @@ box_label layout core label.Took past = record past { busy = Some core }
 box_label layout core label.Gave past = record past { busy = None }
 box_label layout core (label.Noted turn) past =
     record past { turns = past.turns ++ turn ∷ []; failed = option_or past.failed (failure_by turn.act turn.faults); moment = turn.now }
-box_label layout core (label.Reserved commit) past = record past { commits = commit }
-box_label layout core (label.Returned commit) past = past
-box_label layout core (label.Began filling commit node stamp) past = record past {
+box_label layout core (label.Reserved commit seen grant) past = record past {
+  commits = commit;
+  lasts = reserved_lasts commit seen.items past.lasts;
+  opens = past.opens ++ record { number = commit; seen = seen.items; grant = grant; gives_up = no_numbers } ∷ [];
+}
+box_label layout core (label.Returned commit) past = record past {
+  lasts = returned_lasts (commits_numbered commit past.opens) past.lasts;
+  opens = commits_but commit past.opens;
+}
+box_label layout core (label.Began filling commit node stamp blocks inodes) past = record past {
   slots = with_at past.slots filling.job.place.slot (Some (begun_work filling.job commit (fsync_told node stamp)));
   stamps = filling.job.stamp;
   begun = past.begun ++ record { turns = past.turns; slots = past.slots; work = begun_work filling.job commit (fsync_told node stamp) } ∷ [];
+  opens = map (giving_up commit (record { inodes = inodes.items; blocks = blocks.items })) past.opens;
 }
 box_label layout core (label.Filled slot piece done) past = record past { slots = changed_slot past.slots slot (knowing (known_filled done piece)) }
 box_label layout core (label.Synced now) past = record past { slots = synced_slots past.slots; synced = now }
@@ -126,7 +150,7 @@ box_label layout core (label.Opened slot done cut opened) past = record past {
   slots = changed_slot past.slots slot (knowing (known_gated done open_gate));
   moment = opened.now;
 }
-box_label layout core (label.Settled slot turn) past = record past {
+box_label layout core (label.Settled slot turn) past = record (with_end turn.commit past) {
   turns = past.turns ++ turn ∷ [];
   slots = changed_slot past.slots slot settled_work;
   waits = with_at past.waits (owner layout slot) (Some turn);
@@ -137,7 +161,7 @@ box_label layout core (label.Placed slot n done) past = record past { slots = ch
 box_label layout core (label.Shut slot done) past = record past { slots = changed_slot past.slots slot (knowing (known_gated done shut_gate)) }
 box_label layout core (label.Idled slot) past = record past { slots = with_at past.slots slot None }
 box_label layout core (label.Empty commit cut opened durable) past =
-    record past { turns = past.turns ++ cut ∷ opened ∷ durable ∷ []; moment = durable.now; empties = past.empties ++ commit ∷ [] }
+    record (with_end commit past) { turns = past.turns ++ cut ∷ opened ∷ durable ∷ []; moment = durable.now; empties = past.empties ++ commit ∷ [] }
 
 -- and of all
 abbrev pub after_label : Layout → ℕ → Label → BoxPast → BoxPast

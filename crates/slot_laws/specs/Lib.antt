@@ -1,7 +1,12 @@
 pub mod Slots
+pub mod Nodes
 pub mod Labels
 pub mod Rules
 pub mod Fits
 pub mod Laws
 pub mod Rings
+pub mod Lasts
+pub mod Grants
+pub mod Counting
 pub mod Worked
+pub mod WorkedLonger

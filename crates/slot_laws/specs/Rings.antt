@@ -21,7 +21,7 @@ ShareInode one other = (n : ℕ) × (n < length one.entries) × HasRecordOf othe
 
 -- where a commit begins, no other that is not durable has a record of an inode of its
 abbrev pub BeginsApart : Event Label → BoxPast → Type 0
-BeginsApart (Told core (label.Began filling commit node stamp)) past =
+BeginsApart (Told core (label.Began filling commit node stamp blocks inodes)) past =
     (k : ℕ) (other : SlotWork) → past.slots k ≡ Some other → other.settled ≡ false → ShareInode filling.job other.job → ⊥
 BeginsApart _ past = Unit {0}
 

@@ -14,6 +14,8 @@ use Rattle.slot_laws.specs.declared.label.Label.{Label}
 use Rattle.slot_laws.specs.declared.label.Label.TheVariants as label
 use Rattle.slot_laws.specs.Slots.{KnownGate, open_gate, shut_gate, SlotWork, Slots, place_at}
 use Rattle.slot_laws.specs.Labels.{owner, BoxPast, after_event}
+use Rattle.slot_laws.specs.declared.label.Seen.{Seen}
+use Rattle.slot_laws.specs.Nodes.{last_seen, last_ended}
 
 -- A turn is of a commit: it did this, and has the commit's core, number and fsync.
 pub record IsTurnBy (turn : Turn) (did : TurnAct) (own_core number : ℕ) (own_flush : Flush) : Type 0 where
@@ -35,12 +37,14 @@ pub record NotedRule (before core : ℕ) (turn : Turn) (past : BoxPast) : Type 0
   pub looked : past.waits core ≡ None
   pub now : IsNextTurn before past turn
 
--- The next number is reserved, by a core that has none and no flight.
-pub record ReservedRule (core commit : ℕ) (past : BoxPast) : Type 0 where
+-- The next number is reserved, by a core that has none and no flight, and that has seen the last commit of each node that its own concerns, which
+-- has ended.
+pub record ReservedRule (core commit : ℕ) (seen : List Seen) (past : BoxPast) : Type 0 where
   pub calm : past.failed ≡ None
   pub next : commit ≡ past.commits + 1
   pub none : (past.owns core).reserved ≡ None
   pub rests : (past.owns core).flight ≡ None
+  pub unmoved : (node last : ℕ) → last_seen seen node ≡ Some last → past.lasts node ≡ last_ended last
 
 -- A commit begins with the number reserved and the next commit stamp, in an idle slot of the core's own.
 pub record BeganRule (layout : Layout) (core : ℕ) (job : Job) (commit : ℕ) (past : BoxPast) : Type 0 where
@@ -145,9 +149,9 @@ abbrev pub MayLabel : Layout → ℕ → ℕ → Label → BoxPast → Type 0
 MayLabel layout before core label.Took past = Unit {0}
 MayLabel layout before core label.Gave past = Unit {0}
 MayLabel layout before core (label.Noted turn) past = NotedRule before core turn past
-MayLabel layout before core (label.Reserved commit) past = ReservedRule core commit past
+MayLabel layout before core (label.Reserved commit seen grant) past = ReservedRule core commit seen.items past
 MayLabel layout before core (label.Returned commit) past = (past.owns core).reserved ≡ Some commit
-MayLabel layout before core (label.Began filling commit node stamp) past = BeganRule layout core filling.job commit past
+MayLabel layout before core (label.Began filling commit node stamp blocks inodes) past = BeganRule layout core filling.job commit past
 MayLabel layout before core (label.Filled slot piece done) past = FilledRule layout core slot piece past
 MayLabel layout before core (label.Synced now) past = past.failed ≡ None
 MayLabel layout before core (label.Opened slot done cut opened) past = OpenedRule layout before core slot cut opened past

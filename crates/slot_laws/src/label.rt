@@ -1,6 +1,15 @@
 use journal_one::Filling;
-use sfs_base::{NodeId, Stamp};
+use sfs_base::{BlockList, InodeList, NodeId, RoomyList, Stamp};
+use space_map::Grant;
 use tree_laws::Turn;
+
+/// A node that a commit concerns, and the number of the last commit of it that was known as the
+/// commit reserved; 0 where there was none.
+#[derive(Clone, Copy)]
+pub struct Seen {
+    pub node: NodeId,
+    pub last: u64,
+}
 
 /// What a core tells of the box with the disk and its journal slots. A slot is told by its number.
 pub enum Label {
@@ -12,20 +21,26 @@ pub enum Label {
     Noted {
         turn: Turn,
     },
-    /// It reserved this number for its next commit.
+    /// It reserved this number for its next commit, which concerns these nodes, with what it was
+    /// granted: nothing, where it needs nothing.
     Reserved {
         commit: u64,
+        seen: RoomyList<Seen>,
+        grant: Grant,
     },
     /// It gave the number back.
     Returned {
         commit: u64,
     },
-    /// The commit with the number, of an fsync of this node at this stamp, began in a slot.
+    /// The commit with the number, of an fsync of this node at this stamp, began in a slot. It gives
+    /// up these blocks and inodes.
     Began {
         filling: Filling,
         commit: u64,
         node: NodeId,
         stamp: Stamp,
+        blocks: BlockList,
+        inodes: InodeList,
     },
     /// A piece of the commit in a slot was written, or failed to be.
     Filled {

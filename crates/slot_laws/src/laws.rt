@@ -1,7 +1,11 @@
 //! What is proved of labels: each function's contract is a law.
+ghost use Rattle.slot_laws.specs.Counting.{PlacingsTakeTheOldest, SlotsCountUntilSynced};
+ghost use Rattle.slot_laws.specs.Grants.{GrantsAreOnes, ReservingsTakeTheLeast, TakenUntilGivenUp};
+ghost use Rattle.slot_laws.specs.Lasts.{LabelsKeepTheBox, NodesCount, NodesFit, NotedTurnsKeepNodes, ReservingsKnew, ReturnsRestore};
 ghost use Rattle.slot_laws.specs.Laws.{LabelsCountFaults, LabelsMergePens, LabelsRise, LawfulFits, OwnIs, PensMakeTheRecord, StampsAreFew};
 ghost use Rattle.slot_laws.specs.Rings.{GreaterStampsAreNewer, SlotsCloseInOrder};
 ghost use Rattle.slot_laws.specs.Worked.{LabelsCanBeMet};
+ghost use Rattle.slot_laws.specs.WorkedLonger.{LingeringSlotsCanBeMet};
 
 /// What fits goes on to fit, whatever is told by the rules.
 pub fn lawful_fits()
@@ -51,4 +55,67 @@ pub fn greater_stamps_are_newer()
 /// No commit stamp is above the number of numbers that were given.
 pub fn stamps_are_few()
     ensures { StampsAreFew }
+{}
+
+/// The last commits of nodes fit the commits that are open and those that have ended.
+pub fn nodes_fit()
+    ensures { NodesFit }
+{}
+
+/// Each reserving, also that of a commit without a grant, has the next number and knew the last
+/// commit of each of its nodes, and no open commit concerns one.
+pub fn reservings_knew()
+    ensures { ReservingsKnew }
+{}
+
+/// The nodes of a commit count as its from its reserving until it is durable or has given back.
+pub fn nodes_count()
+    ensures { NodesCount }
+{}
+
+/// A commit that gives back leaves each of its nodes the last commit that it had, and all other
+/// nodes as they are.
+pub fn returns_restore()
+    ensures { ReturnsRestore }
+{}
+
+/// A turn that is noted, as of a shortage or a stop, leaves numbers and nodes as they are.
+pub fn noted_turns_keep_nodes()
+    ensures { NotedTurnsKeepNodes }
+{}
+
+/// The labels are a record of the box: no commit is moved as it reserves, and numbers rise.
+pub fn labels_keep_the_box()
+    ensures { LabelsKeepTheBox }
+{}
+
+/// What is granted is granted to one open commit, and is not free.
+pub fn grants_are_ones()
+    ensures { GrantsAreOnes }
+{}
+
+/// Each reserving takes the least free inodes, and blocks that are free.
+pub fn reservings_take_the_least()
+    ensures { ReservingsTakeTheLeast }
+{}
+
+/// What is taken is not free before a commit is durable that gives it up.
+pub fn taken_until_given_up()
+    ensures { TakenUntilGivenUp }
+{}
+
+/// A longer worked history may be told, in which a durable commit lingers while its block moves on, and
+/// a map goes along it.
+pub fn lingering_slots_can_be_met()
+    ensures { LingeringSlotsCanBeMet }
+{}
+
+/// A record is placed only as the oldest of its inode among the durable commits in slots.
+pub fn placings_take_the_oldest()
+    ensures { PlacingsTakeTheOldest }
+{}
+
+/// A slot has its durable commit, and so counts, until the sync after its gate was written shut.
+pub fn slots_count_until_synced()
+    ensures { SlotsCountUntilSynced }
 {}

@@ -4,4 +4,4 @@
 mod label;
 pub mod laws;
 
-pub use label::Label;
+pub use label::{Label, Seen};

@@ -9,8 +9,9 @@ use Rattle.journal_one.specs.Calls.{IsWrite}
 use Rattle.journal_one.specs.Job.{Job, gate_piece}
 use Rattle.journal_one.specs.Known.{AreFilled, IsSealed, IsOpened, IsDurable}
 use Rattle.journal_one.proofs.Kept.{IsLawful}
+use Rattle.journal_one.proofs.Places.{fresh_whole}
 use Rattle.commit_one.specs.Carried.{Opens}
-use Rattle.commit_one.proofs.Gates.{seal_keeps, seal_later, gate_tells, gate_later, settle_tells, settle_later, settle_leaves, whole_from}
+use Rattle.commit_one.proofs.Gates.{seal_keeps, seal_later, gate_tells, gate_later, settle_tells, settle_later, settle_leaves}
 use Rattle.sfs_dev.proofs.Runs.{call_advances}
 use Rattle.commit_one.proofs.steps.make_durable.Goals as goal
 
@@ -56,7 +57,7 @@ returns-in_err-open_gate-clause-opens g c parts new is change knows leaves =
     let second = view c.open_gate.new.disk in
     let write = subst (λ (j : Job). IsWrite (gate_piece j.place 1) first second c.open_gate.result) c.in_ok-seal.ensures.ok c.open_gate.ensures.write in
     let filled : AreFilled job first = (c.in_ok-seal.ensures.sealed knows).filled in
-    let gate_args = whole_from job old knows in
+    let gate_args = fresh_whole job is in
     let err = err_from_is_err_and c.from_residual-in_err-open_gate.result c.from_residual-in_err-open_gate.ensures.1 in
     subst (λ r. Opens job parts new old second r) (sym err.1)
     (record {
@@ -141,7 +142,7 @@ returns-clause-opens g c parts new is change knows leaves =
     let durable : OnOk c.settle.result (IsOpened job second → IsDurable job 0 now) =
     subst (λ (j : Job). OnOk c.settle.result (IsOpened j second → IsDurable j 0 now)) same c.settle.ensures.durable in
     let filled : AreFilled job first = (c.in_ok-seal.ensures.sealed knows).filled in
-    let gate_args = whole_from job old knows in
+    let gate_args = fresh_whole job is in
     record {
       told =
           settle_tells job is parts new change old first c.seal.result c.seal.ensures.sync lawful leaves second c.open_gate.result write

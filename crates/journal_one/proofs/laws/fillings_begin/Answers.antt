@@ -4,7 +4,6 @@ use Rattle.journal_one.proofs.laws.fillings_begin.Goals as goal
 pub returns : goal.returns
 returns g c idle own = record {
   own = own;
-  whole = λ k lt low. absurd (omega arith);
   shut = idle;
   written = λ k lt. absurd (omega arith);
 }

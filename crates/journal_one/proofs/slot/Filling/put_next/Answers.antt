@@ -23,7 +23,7 @@ returns-in_err-put_piece-clause-err g c =
     (let w = c.put_piece.ensures.within in omega (arith, w, large)) lawful c.put_piece.result c.put_piece.ensures.write in
     on_err c.from_residual.result
     (subst (λ (s : Stage). IsFilling s.job s.done old → IsFilling s.job s.done new) c.self.view_is
-    (filling_kept job c.self.inside.work.sound c.self.inside.done old new touches c.self.invariant c.put_piece.ensures.whole))
+    (filling_kept job c.self.inside.work.sound c.self.inside.done old new touches c.self.invariant))
 
 pub returns-clause-write : goal.returns-clause-write
 returns-clause-write g c =
@@ -48,4 +48,4 @@ returns-clause-written g c =
     written_stands (fill_piece (job_of c.self.inside.work) c.self.inside.done) old new
     (let w = c.put_piece.ensures.within in omega (arith, w, large)) lawful c.in_ok-put_piece.ensures.write.ok in
     subst (λ (s : Stage). IsFilling s.job s.done old → IsFilling s.job (s.done + 1) new) c.self.view_is
-    (λ knows. filling_more job c.self.inside.work.sound c.self.inside.done old new touches c.self.invariant c.put_piece.ensures.whole knows stands)
+    (λ knows. filling_more job c.self.inside.work.sound c.self.inside.done old new touches c.self.invariant knows stands)
