@@ -14,7 +14,7 @@ use Rattle.cut_laws.specs.Rules.{IsOneOf}
 use Rattle.cut_laws.proofs.Basics.{in_left}
 use Rattle.cut_laws.proofs.RunFacts.{in_filter}
 use Rattle.cut_laws.proofs.Listed.{to_filter, from_map, to_map}
-use Rattle.slot_laws.specs.Nodes.{ReservedCommit, commits_but, has_other_number, giving_up, has_number}
+use Rattle.slot_laws.specs.Nodes.{ReservedCommit, commits_but, is_numbered_otherwise, giving_up, is_numbered}
 use Rattle.slot_laws.specs.Lasts.{AreNumberedOnce}
 use Rattle.slot_laws.specs.Grants.{AreGranted, HasGranted, IsOpenNumbered}
 use Rattle.slot_laws.proofs.Numbered.{last_or_before, at_seam}
@@ -162,7 +162,7 @@ module _ (part : GrantedNumbers → List ℕ) (opens : List ReservedCommit) (onc
     where
       was_one : (one : ReservedCommit) → IsOneOf (commits_but number_out opens) one → IsOneOf opens one × (one.number ≢ number_out)
       was_one one among =
-          let is = in_filter (has_other_number number_out) opens one among in
+          let is = in_filter (is_numbered_otherwise number_out) opens one among in
           (is.0, other_by_test one.number number_out (not_true (nat_eq one.number number_out) is.1))
 
       pub out_fits : AreGranted part (commits_but number_out opens) new
@@ -177,7 +177,7 @@ module _ (part : GrantedNumbers → List ℕ) (opens : List ReservedCommit) (onc
             let it = fits.only number (back number away granted) in
             record {
               commit = it.commit;
-              among = to_filter (has_other_number number_out) opens it.commit it.among
+              among = to_filter (is_numbered_otherwise number_out) opens it.commit it.among
                   (ap not (not_same it.commit.number number_out
                   (λ e. not_both it.has
                   (subst (λ (c : ReservedCommit). is_listed (part c.grant) number ≡ false)
@@ -202,7 +202,7 @@ module _ (part : GrantedNumbers → List ℕ) (opens : List ReservedCommit) (onc
 
 -- a commit that gives up something was granted the same
 pub giving_grant : (number : ℕ) (numbers : GrantedNumbers) (one : ReservedCommit) → (giving_up number numbers one).grant ≡ one.grant
-giving_grant number numbers one = by (has_number number one)
+giving_grant number numbers one = by (is_numbered number one)
   where
     by : (b : Bool) → (cond b (record one { gives_up = numbers }) one).grant ≡ one.grant
     by true = refl

@@ -16,62 +16,63 @@ use Rattle.stamp_table.specs.declared.event.Event.{Event}
 use Rattle.slot_laws.specs.Labels.{BoxPast, after_label, past_from, first_past, after_event}
 use Rattle.slot_laws.specs.declared.label.Label.{Label}
 use Rattle.slot_laws.specs.Rules.{MayLabel, MayFrom}
-use Rattle.slot_laws.specs.Grants.{SpaceDoes, AreTheirGrants, inodes_in, blocks_in, SpaceGoes, NoneGranted, AreGranted, GrantsAreOnes, ReservingsTakeTheLeast, IsOpenNumbered, makes_durable, GivesUpNow, StayTaken, TakenUntilGivenUp}
+use Rattle.slot_laws.specs.Grants.{SpaceDoes, AreTheirGrants, inodes_granted, blocks_granted, SpaceGoes, NoneGranted, AreGranted, GrantsAreOnes, ReservingsTakeTheLeast, IsOpenNumbered, makes_durable, GivesUpNow, StayTaken, TakenUntilGivenUp}
 use Rattle.slot_laws.specs.Nodes.{ReservedCommit, no_numbers}
 use Rattle.slot_laws.specs.Lasts.{told_reserving}
 use Rattle.slot_laws.specs.declared.label.Label.TheVariants as label
 use Rattle.slot_laws.proofs.NodesTold.{LastsOf, lasts_label, first_lasts, may_parts, lasts_from}
 use Rattle.slot_laws.proofs.GrantsHeld.{take_fits, return_fits, end_fits_granted, giving_fits, granted_others, not_true_so, returned_others, taken_still}
 
-module _ (layout : Layout) (before : ℕ) where
+module _ (layout : Layout) (before : ℕ) (core : CoreId) (past : BoxPast) where
   -- what an event makes of the map goes on to be granted so
-  grants_label : (core : CoreId) (past : BoxPast) (fact : Label) (old new : Space) → LastsOf past → MayLabel layout before core.0 fact past
+  grants_label : (fact : Label) (old new : Space) → LastsOf past → MayLabel layout before core.0 fact past
       → SpaceDoes (Told core fact) past old new → AreTheirGrants past.opens old → AreTheirGrants (after_label layout core.0 fact past).opens new
-  grants_label core past (label.Reserved commit seen grant) old new fits rule does held =
+  grants_label (label.Reserved commit seen grant) old new fits rule does held =
       let told : ReservedCommit = record { number = commit; seen = seen.items; grant = grant; gives_up = no_numbers } in
       let differs : (other : ReservedCommit) → IsOneOf past.opens other → other.number ≢ commit =
       λ other among e. let low = fits.given other among in omega (arith, low, rule.next, e) in
       record {
-        inodes = take_fits inodes_in past.opens fits.once old.inodes new.inodes held.inodes told differs does.inodes;
-        blocks = take_fits blocks_in past.opens fits.once old.blocks new.blocks held.blocks told differs does.blocks;
+        inodes = take_fits inodes_granted past.opens fits.once old.inodes new.inodes held.inodes told differs does.inodes;
+        blocks = take_fits blocks_granted past.opens fits.once old.blocks new.blocks held.blocks told differs does.blocks;
       }
-  grants_label core past (label.Returned commit) old new fits rule does held = record {
-    inodes = return_fits inodes_in past.opens fits.once old.inodes new.inodes held.inodes commit does.own does.inodes;
-    blocks = return_fits blocks_in past.opens fits.once old.blocks new.blocks held.blocks commit does.own does.blocks;
+  grants_label (label.Returned commit) old new fits rule does held = record {
+    inodes = return_fits inodes_granted past.opens fits.once old.inodes new.inodes held.inodes commit does.own does.inodes;
+    blocks = return_fits blocks_granted past.opens fits.once old.blocks new.blocks held.blocks commit does.own does.blocks;
   }
-  grants_label core past (label.Settled k turn) old new fits rule does held = record {
-    inodes = end_fits_granted inodes_in past.opens fits.once old.inodes new.inodes held.inodes turn.commit does.own does.inodes;
-    blocks = end_fits_granted blocks_in past.opens fits.once old.blocks new.blocks held.blocks turn.commit does.own does.blocks;
+  grants_label (label.Settled k turn) old new fits rule does held = record {
+    inodes = end_fits_granted inodes_granted past.opens fits.once old.inodes new.inodes held.inodes turn.commit does.own does.inodes;
+    blocks = end_fits_granted blocks_granted past.opens fits.once old.blocks new.blocks held.blocks turn.commit does.own does.blocks;
   }
-  grants_label core past (label.Empty commit cut opened durable) old new fits rule does held = record {
-    inodes = end_fits_granted inodes_in past.opens fits.once old.inodes new.inodes held.inodes commit does.own does.inodes;
-    blocks = end_fits_granted blocks_in past.opens fits.once old.blocks new.blocks held.blocks commit does.own does.blocks;
+  grants_label (label.Empty commit cut opened durable) old new fits rule does held = record {
+    inodes = end_fits_granted inodes_granted past.opens fits.once old.inodes new.inodes held.inodes commit does.own does.inodes;
+    blocks = end_fits_granted blocks_granted past.opens fits.once old.blocks new.blocks held.blocks commit does.own does.blocks;
   }
-  grants_label core past (label.Began filling commit node stamp blocks inodes) old new fits rule does held =
+  grants_label (label.Began filling commit node stamp blocks inodes) old new fits rule does held =
       let numbers : GrantedNumbers = record { inodes = inodes.items; blocks = blocks.items } in
       let same = subst (AreTheirGrants past.opens) (sym does) held in
       record {
-        inodes = giving_fits inodes_in past.opens new.inodes commit numbers same.inodes;
-        blocks = giving_fits blocks_in past.opens new.blocks commit numbers same.blocks;
+        inodes = giving_fits inodes_granted past.opens new.inodes commit numbers same.inodes;
+        blocks = giving_fits blocks_granted past.opens new.blocks commit numbers same.blocks;
       }
-  grants_label core past label.Took old new fits rule does held = subst (AreTheirGrants past.opens) (sym does) held
-  grants_label core past label.Gave old new fits rule does held = subst (AreTheirGrants past.opens) (sym does) held
-  grants_label core past (label.Noted turn) old new fits rule does held = subst (AreTheirGrants past.opens) (sym does) held
-  grants_label core past (label.Filled k piece done) old new fits rule does held = subst (AreTheirGrants past.opens) (sym does) held
-  grants_label core past (label.Synced now) old new fits rule does held = subst (AreTheirGrants past.opens) (sym does) held
-  grants_label core past (label.Opened k done cut opened) old new fits rule does held = subst (AreTheirGrants past.opens) (sym does) held
-  grants_label core past (label.Looked turn) old new fits rule does held = subst (AreTheirGrants past.opens) (sym does) held
-  grants_label core past (label.Placed k n done) old new fits rule does held = subst (AreTheirGrants past.opens) (sym does) held
-  grants_label core past (label.Shut k done) old new fits rule does held = subst (AreTheirGrants past.opens) (sym does) held
-  grants_label core past (label.Idled k) old new fits rule does held = subst (AreTheirGrants past.opens) (sym does) held
+  grants_label label.Took old new fits rule does held = subst (AreTheirGrants past.opens) (sym does) held
+  grants_label label.Gave old new fits rule does held = subst (AreTheirGrants past.opens) (sym does) held
+  grants_label (label.Noted turn) old new fits rule does held = subst (AreTheirGrants past.opens) (sym does) held
+  grants_label (label.Filled k piece done) old new fits rule does held = subst (AreTheirGrants past.opens) (sym does) held
+  grants_label (label.Synced now) old new fits rule does held = subst (AreTheirGrants past.opens) (sym does) held
+  grants_label (label.Opened k done cut opened) old new fits rule does held = subst (AreTheirGrants past.opens) (sym does) held
+  grants_label (label.Looked turn) old new fits rule does held = subst (AreTheirGrants past.opens) (sym does) held
+  grants_label (label.Placed k n done) old new fits rule does held = subst (AreTheirGrants past.opens) (sym does) held
+  grants_label (label.Shut k done) old new fits rule does held = subst (AreTheirGrants past.opens) (sym does) held
+  grants_label (label.Idled k) old new fits rule does held = subst (AreTheirGrants past.opens) (sym does) held
 
+module _ (layout : Layout) (before : ℕ) where
   grants_from : (log : List (Event Label)) (past : BoxPast) (old new : Space) → LastsOf past → MayFrom layout before log past
       → SpaceGoes layout log past old new → AreTheirGrants past.opens old → AreTheirGrants (past_from layout log past).opens new
   grants_from [] past old new fits may goes held = subst (AreTheirGrants past.opens) (sym goes) held
   grants_from (Called entry ∷ log) past old new fits may goes held = absurd may.0
   grants_from (Told core fact ∷ log) past old new fits may goes held =
       grants_from log (after_label layout core.0 fact past) goes.0.next new (lasts_label layout before core.0 past fits fact may.0.1) may.1 goes.1
-      (grants_label core past fact old goes.0.next fits may.0.1 goes.0.does held)
+      (grants_label layout before core past fact old goes.0.next fits may.0.1 goes.0.does held)
 
 -- before the first label nothing is granted
 none_granted : (part : GrantedNumbers → List ℕ) (pool : Pool) → NoneGranted pool → AreGranted part [] pool
@@ -84,7 +85,7 @@ none_granted part pool none = record {
 pub grants_are_ones : GrantsAreOnes
 grants_are_ones layout before moment log first now along =
     grants_from layout before log (first_past moment) first now (first_lasts moment) along.may along.goes
-    (record { inodes = none_granted inodes_in first.inodes along.no_inodes; blocks = none_granted blocks_in first.blocks along.no_blocks })
+    (record { inodes = none_granted inodes_granted first.inodes along.no_inodes; blocks = none_granted blocks_granted first.blocks along.no_blocks })
 
 -- A map that goes along two histories, one behind the other.
 record GoesAlongBoth (layout : Layout) (log more : List (Event Label)) (past : BoxPast) (old new : Space) : Type 0 where
@@ -99,11 +100,12 @@ goes_parts layout (event ∷ log) more past old new goes =
     let rest = goes_parts layout log more (after_event layout event past) goes.0.next new goes.1 in
     record { middle = rest.middle; front = (goes.0, rest.front); back = rest.back }
 
-pub goes_both : (layout : Layout) (log more : List (Event Label)) (past : BoxPast) (old middle new : Space) → SpaceGoes layout log past old middle
-    → SpaceGoes layout more (past_from layout log past) middle new → SpaceGoes layout (log ++ more) past old new
-goes_both layout [] more past old middle new goes later = subst (λ (s : Space). SpaceGoes layout more past s new) goes later
-goes_both layout (event ∷ log) more past old middle new goes later =
-    (goes.0, goes_both layout log more (after_event layout event past) goes.0.next middle new goes.1 later)
+module _ (layout : Layout) (more : List (Event Label)) (middle new : Space) where
+  pub goes_both : (log : List (Event Label)) (past : BoxPast) (old : Space) → SpaceGoes layout log past old middle
+      → SpaceGoes layout more (past_from layout log past) middle new → SpaceGoes layout (log ++ more) past old new
+  goes_both [] past old goes later = subst (λ (s : Space). SpaceGoes layout more past s new) goes later
+  goes_both (event ∷ log) past old goes later =
+      (goes.0, goes_both log (after_event layout event past) goes.0.next goes.1 later)
 
 -- whether an event moves the map
 abbrev pub moves_map : Event Label → Bool
@@ -200,55 +202,56 @@ inodes_row space = space.inodes
 abbrev blocks_row : Space → Pool
 blocks_row space = space.blocks
 
--- one event leaves taken inodes
-inodes_stay : (core : CoreId) (past : BoxPast) (fact : Label) (old new : Space) (number : ℕ) → AreTheirGrants past.opens old
-    → SpaceDoes (Told core fact) past old new → (GivesUpNow inodes_in (Told core fact) past.opens number → ⊥) → StaysTaken inodes_row old new number
-inodes_stay core past (label.Reserved commit seen grant) old new number held does none taken =
-    grant_leaves old.inodes new.inodes (length grant.inodes) grant.inodes does.inodes number taken
-inodes_stay core past (label.Returned commit) old new number held does none taken =
-    return_leaves inodes_in past.opens old.inodes new.inodes held.inodes number taken commit does.own does.inodes
-inodes_stay core past (label.Settled k turn) old new number held does none taken =
-    end_leaves inodes_in past.opens old.inodes new.inodes held.inodes number taken turn.commit (Told core (label.Settled k turn)) does.own
-    (same_test turn.commit does.own.commit.number does.own.number_is) does.inodes none
-inodes_stay core past (label.Empty commit cut opened durable) old new number held does none taken =
-    end_leaves inodes_in past.opens old.inodes new.inodes held.inodes number taken commit (Told core (label.Empty commit cut opened durable)) does.own
-    (same_test commit does.own.commit.number does.own.number_is) does.inodes none
-inodes_stay core past label.Took old new number held does none taken = same_map inodes_row old new number does taken
-inodes_stay core past label.Gave old new number held does none taken = same_map inodes_row old new number does taken
-inodes_stay core past (label.Noted turn) old new number held does none taken = same_map inodes_row old new number does taken
-inodes_stay core past (label.Began filling commit node stamp blocks inodes) old new number held does none taken = same_map inodes_row old new number does taken
-inodes_stay core past (label.Filled k piece done) old new number held does none taken = same_map inodes_row old new number does taken
-inodes_stay core past (label.Synced now) old new number held does none taken = same_map inodes_row old new number does taken
-inodes_stay core past (label.Opened k done cut opened) old new number held does none taken = same_map inodes_row old new number does taken
-inodes_stay core past (label.Looked turn) old new number held does none taken = same_map inodes_row old new number does taken
-inodes_stay core past (label.Placed k n done) old new number held does none taken = same_map inodes_row old new number does taken
-inodes_stay core past (label.Shut k done) old new number held does none taken = same_map inodes_row old new number does taken
-inodes_stay core past (label.Idled k) old new number held does none taken = same_map inodes_row old new number does taken
+module _ (core : CoreId) (past : BoxPast) (old new : Space) (number : ℕ) (held : AreTheirGrants past.opens old) where
+  -- one event leaves taken inodes
+  inodes_stay : (fact : Label) → SpaceDoes (Told core fact) past old new → (GivesUpNow inodes_granted (Told core fact) past.opens number → ⊥)
+      → StaysTaken inodes_row old new number
+  inodes_stay (label.Reserved commit seen grant) does none taken =
+      grant_leaves old.inodes new.inodes (length grant.inodes) grant.inodes does.inodes number taken
+  inodes_stay (label.Returned commit) does none taken =
+      return_leaves inodes_granted past.opens old.inodes new.inodes held.inodes number taken commit does.own does.inodes
+  inodes_stay (label.Settled k turn) does none taken =
+      end_leaves inodes_granted past.opens old.inodes new.inodes held.inodes number taken turn.commit (Told core (label.Settled k turn)) does.own
+      (same_test turn.commit does.own.commit.number does.own.number_is) does.inodes none
+  inodes_stay (label.Empty commit cut opened durable) does none taken =
+      end_leaves inodes_granted past.opens old.inodes new.inodes held.inodes number taken commit (Told core (label.Empty commit cut opened durable)) does.own
+      (same_test commit does.own.commit.number does.own.number_is) does.inodes none
+  inodes_stay label.Took does none taken = same_map inodes_row old new number does taken
+  inodes_stay label.Gave does none taken = same_map inodes_row old new number does taken
+  inodes_stay (label.Noted turn) does none taken = same_map inodes_row old new number does taken
+  inodes_stay (label.Began filling commit node stamp blocks inodes) does none taken = same_map inodes_row old new number does taken
+  inodes_stay (label.Filled k piece done) does none taken = same_map inodes_row old new number does taken
+  inodes_stay (label.Synced now) does none taken = same_map inodes_row old new number does taken
+  inodes_stay (label.Opened k done cut opened) does none taken = same_map inodes_row old new number does taken
+  inodes_stay (label.Looked turn) does none taken = same_map inodes_row old new number does taken
+  inodes_stay (label.Placed k n done) does none taken = same_map inodes_row old new number does taken
+  inodes_stay (label.Shut k done) does none taken = same_map inodes_row old new number does taken
+  inodes_stay (label.Idled k) does none taken = same_map inodes_row old new number does taken
 
--- one event leaves taken blocks
-blocks_stay : (core : CoreId) (past : BoxPast) (fact : Label) (old new : Space) (number : ℕ) → AreTheirGrants past.opens old
-    → SpaceDoes (Told core fact) past old new → (GivesUpNow blocks_in (Told core fact) past.opens number → ⊥) → StaysTaken blocks_row old new number
-blocks_stay core past (label.Reserved commit seen grant) old new number held does none taken =
-    grant_leaves old.blocks new.blocks (length grant.blocks) grant.blocks does.blocks number taken
-blocks_stay core past (label.Returned commit) old new number held does none taken =
-    return_leaves blocks_in past.opens old.blocks new.blocks held.blocks number taken commit does.own does.blocks
-blocks_stay core past (label.Settled k turn) old new number held does none taken =
-    end_leaves blocks_in past.opens old.blocks new.blocks held.blocks number taken turn.commit (Told core (label.Settled k turn)) does.own
-    (same_test turn.commit does.own.commit.number does.own.number_is) does.blocks none
-blocks_stay core past (label.Empty commit cut opened durable) old new number held does none taken =
-    end_leaves blocks_in past.opens old.blocks new.blocks held.blocks number taken commit (Told core (label.Empty commit cut opened durable)) does.own
-    (same_test commit does.own.commit.number does.own.number_is) does.blocks none
-blocks_stay core past label.Took old new number held does none taken = same_map blocks_row old new number does taken
-blocks_stay core past label.Gave old new number held does none taken = same_map blocks_row old new number does taken
-blocks_stay core past (label.Noted turn) old new number held does none taken = same_map blocks_row old new number does taken
-blocks_stay core past (label.Began filling commit node stamp blocks inodes) old new number held does none taken = same_map blocks_row old new number does taken
-blocks_stay core past (label.Filled k piece done) old new number held does none taken = same_map blocks_row old new number does taken
-blocks_stay core past (label.Synced now) old new number held does none taken = same_map blocks_row old new number does taken
-blocks_stay core past (label.Opened k done cut opened) old new number held does none taken = same_map blocks_row old new number does taken
-blocks_stay core past (label.Looked turn) old new number held does none taken = same_map blocks_row old new number does taken
-blocks_stay core past (label.Placed k n done) old new number held does none taken = same_map blocks_row old new number does taken
-blocks_stay core past (label.Shut k done) old new number held does none taken = same_map blocks_row old new number does taken
-blocks_stay core past (label.Idled k) old new number held does none taken = same_map blocks_row old new number does taken
+  -- one event leaves taken blocks
+  blocks_stay : (fact : Label) → SpaceDoes (Told core fact) past old new → (GivesUpNow blocks_granted (Told core fact) past.opens number → ⊥)
+      → StaysTaken blocks_row old new number
+  blocks_stay (label.Reserved commit seen grant) does none taken =
+      grant_leaves old.blocks new.blocks (length grant.blocks) grant.blocks does.blocks number taken
+  blocks_stay (label.Returned commit) does none taken =
+      return_leaves blocks_granted past.opens old.blocks new.blocks held.blocks number taken commit does.own does.blocks
+  blocks_stay (label.Settled k turn) does none taken =
+      end_leaves blocks_granted past.opens old.blocks new.blocks held.blocks number taken turn.commit (Told core (label.Settled k turn)) does.own
+      (same_test turn.commit does.own.commit.number does.own.number_is) does.blocks none
+  blocks_stay (label.Empty commit cut opened durable) does none taken =
+      end_leaves blocks_granted past.opens old.blocks new.blocks held.blocks number taken commit (Told core (label.Empty commit cut opened durable)) does.own
+      (same_test commit does.own.commit.number does.own.number_is) does.blocks none
+  blocks_stay label.Took does none taken = same_map blocks_row old new number does taken
+  blocks_stay label.Gave does none taken = same_map blocks_row old new number does taken
+  blocks_stay (label.Noted turn) does none taken = same_map blocks_row old new number does taken
+  blocks_stay (label.Began filling commit node stamp blocks inodes) does none taken = same_map blocks_row old new number does taken
+  blocks_stay (label.Filled k piece done) does none taken = same_map blocks_row old new number does taken
+  blocks_stay (label.Synced now) does none taken = same_map blocks_row old new number does taken
+  blocks_stay (label.Opened k done cut opened) does none taken = same_map blocks_row old new number does taken
+  blocks_stay (label.Looked turn) does none taken = same_map blocks_row old new number does taken
+  blocks_stay (label.Placed k n done) does none taken = same_map blocks_row old new number does taken
+  blocks_stay (label.Shut k done) does none taken = same_map blocks_row old new number does taken
+  blocks_stay (label.Idled k) does none taken = same_map blocks_row old new number does taken
 
 -- and so do all
 module _ (layout : Layout) (before : ℕ) where
@@ -264,9 +267,9 @@ module _ (layout : Layout) (before : ℕ) where
       (grants_label layout before core past fact old goes.0.next fits may.0.1 goes.0.does held) in
       record {
         inodes = λ number none taken.
-            rest.inodes number none.1 (inodes_stay core past fact old goes.0.next number held goes.0.does none.0 taken);
+            rest.inodes number none.1 (inodes_stay core past old goes.0.next number held fact goes.0.does none.0 taken);
         blocks = λ number none taken.
-            rest.blocks number none.1 (blocks_stay core past fact old goes.0.next number held goes.0.does none.0 taken);
+            rest.blocks number none.1 (blocks_stay core past old goes.0.next number held fact goes.0.does none.0 taken);
       }
 
 pub taken_until_given_up : TakenUntilGivenUp

@@ -10,7 +10,7 @@ use Rattle.cut_laws.proofs.Listed.{from_map, to_map}
 use Rattle.merge_laws.proofs.Blocks.{same_or_not}
 use Rattle.slot_laws.specs.declared.label.Seen.{Seen}
 use Rattle.slot_laws.specs.Nodes.{LastCommit, last_ended, ReservedCommit, no_numbers, last_seen, concerns, reserved_lasts, ended_lasts, returned_last}
-use Rattle.slot_laws.specs.Lasts.{NamesLast, held_by_none, held_last_by, IsCounted, LastsFit, AreNumberedOnce}
+use Rattle.slot_laws.specs.Lasts.{NamesLast, held_by_none, held_last_by, IsOpenNode, LastsFit, AreNumberedOnce}
 use Rattle.slot_laws.proofs.Numbered.{put_in, at_seam, last_or_before, SplitAt, once_more}
 
 -- what was seen of a node that a commit concerns
@@ -271,7 +271,7 @@ module _ (lasts : ℕ → LastCommit) (opens done : List ReservedCommit) (commit
     ]
 
     end_counted : (node : ℕ) → (ended_lasts number lasts node).ended ≡ false
-        → IsCounted (split.before ++ split.behind) node (ended_lasts number lasts node).number
+        → IsOpenNode (split.before ++ split.behind) node (ended_lasts number lasts node).number
     end_counted node still = elim (same_or_not (lasts node).number number) [
       | inl same ↦ absurd (true_not_false (sym (ap (λ (l : LastCommit). l.ended) (at_end_own node same)) ∙ still))
       | inr apart ↦

@@ -15,7 +15,7 @@ use Rattle.beside_laws.specs.Commits.{CoreCommit}
 use Rattle.beside_laws.specs.Box.{nobody, somebody, KnewLast, BoxGoesOn, NO_COMMIT, ends, gives_back, IsUnmoved, reserves, here}
 use Rattle.stamp_table.specs.declared.event.Event.{Event}
 use Rattle.stamp_table.specs.declared.event.Event.TheVariants.{Told, Called}
-use Rattle.slot_laws.specs.Nodes.{ReservedCommit, LastCommit, returned_lasts, commits_numbered, returned_last, last_seen, commits_but, has_other_number, has_number, giving_up, no_numbers}
+use Rattle.slot_laws.specs.Nodes.{ReservedCommit, LastCommit, returned_lasts, commits_numbered, returned_last, last_seen, commits_but, is_numbered_otherwise, is_numbered, giving_up, no_numbers}
 use Rattle.slot_laws.specs.declared.label.Seen.{Seen}
 use Rattle.slot_laws.specs.Lasts.{AreNumberedOnce, ReturnsRestore, told_reserving, IsMadeAs, NamesLast, held_by_none, held_last_by, box_of, Reserving, KnewItsNodes, AreMadeBy, LabelsKeepTheBox}
 use Rattle.slot_laws.specs.Labels.{first_past, past_from, BoxPast, with_end, after_label}
@@ -106,10 +106,10 @@ module _ (made : ℕ → CoreCommit) where
 
   -- what was told of commits goes on
   but_made : (commits : List ReservedCommit) (number : ℕ) → AreMadeAs commits → AreMadeAs (commits_but number commits)
-  but_made commits number are one among = are one (in_filter (has_other_number number) commits one among).0
+  but_made commits number are one among = are one (in_filter (is_numbered_otherwise number) commits one among).0
 
   own_made : (commits : List ReservedCommit) (number : ℕ) → AreMadeAs commits → AreMadeAs (commits_numbered number commits)
-  own_made commits number are one among = are one (in_filter (has_number number) commits one among).0
+  own_made commits number are one among = are one (in_filter (is_numbered number) commits one among).0
 
   both_made : (commits more : List ReservedCommit) → AreMadeAs commits → AreMadeAs more → AreMadeAs (commits ++ more)
   both_made commits more are too one among = elim (in_either commits more one among) [ inl left ↦ are one left | inr right ↦ too one right ]

@@ -15,7 +15,7 @@ use Rattle.stamp_table.specs.declared.event.Event.{Event}
 use Rattle.stamp_table.specs.declared.event.Event.TheVariants.{Called, Told}
 use Rattle.slot_laws.specs.Labels.{BoxPast, with_end, after_label, past_from, after_event, first_past}
 use Rattle.slot_laws.specs.Lasts.{LastsFit, held_by_none, NodesFit, Reserving, KnewItsNodes, told_reserving, ReservingsKnew, ends_it, GoesOnOpen, NodesCount, NotedTurnsKeepNodes}
-use Rattle.slot_laws.specs.Nodes.{ReservedCommit, giving_up, has_number, ended_lasts, last_ended, commits_but, LastCommit, returned_lasts, commits_numbered, has_other_number, no_numbers, last_seen}
+use Rattle.slot_laws.specs.Nodes.{ReservedCommit, giving_up, is_numbered, ended_lasts, last_ended, commits_but, LastCommit, returned_lasts, commits_numbered, is_numbered_otherwise, no_numbers, last_seen}
 use Rattle.slot_laws.specs.declared.label.Label.{Label}
 use Rattle.slot_laws.specs.Rules.{MayLabel, MayFrom, ReservedRule}
 use Rattle.slot_laws.specs.declared.label.Seen.{Seen}
@@ -34,14 +34,14 @@ LastsOf past = LastsFit past.lasts past.opens past.done past.commits
 -- what a commit gives up changes neither its number nor its nodes
 module _ (number : ℕ) (numbers : GrantedNumbers) where
   pub giving_number : (one : ReservedCommit) → (giving_up number numbers one).number ≡ one.number
-  giving_number one = by (has_number number one)
+  giving_number one = by (is_numbered number one)
     where
       by : (b : Bool) → (cond b (record one { gives_up = numbers }) one).number ≡ one.number
       by true = refl
       by false = refl
 
   pub giving_seen : (one : ReservedCommit) → (giving_up number numbers one).seen ≡ one.seen
-  giving_seen one = by (has_number number one)
+  giving_seen one = by (is_numbered number one)
     where
       by : (b : Bool) → (cond b (record one { gives_up = numbers }) one).seen ≡ one.seen
       by true = refl
@@ -185,7 +185,7 @@ module _ (number : ℕ) (seen : List Seen) where
   open_but opens other differs it = record {
     commit = it.commit;
     among =
-        to_filter (has_other_number other) opens it.commit it.among
+        to_filter (is_numbered_otherwise other) opens it.commit it.among
         (ap not (not_same it.commit.number other (λ e. other_by_test other number differs (sym e ∙ it.number_is))));
     number_is = it.number_is;
     seen_is = it.seen_is;

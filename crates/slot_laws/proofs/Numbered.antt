@@ -5,7 +5,7 @@ use Rattle.sfs_base.proofs.BasicNumbers.{same_number, not_same}
 use Rattle.cut_laws.specs.Rules.{IsOneOf}
 use Rattle.cut_laws.proofs.Basics.{in_left, in_right, in_either, filter_all, filter_none}
 use Rattle.merge_laws.proofs.Blocks.{same_or_not}
-use Rattle.slot_laws.specs.Nodes.{ReservedCommit, has_number, has_other_number, commits_numbered, commits_but}
+use Rattle.slot_laws.specs.Nodes.{ReservedCommit, is_numbered, is_numbered_otherwise, commits_numbered, commits_but}
 use Rattle.slot_laws.specs.Lasts.{AreNumberedOnce}
 
 -- one more in a list, and one more at its end
@@ -46,8 +46,8 @@ module _ (number : ℕ) where
   pub lacks_where : (commits : List ReservedCommit) → ((other : ReservedCommit) → IsOneOf commits other → other.number ≢ number) → Lacks commits
   lacks_where commits none = record {
     none = none;
-    own = filter_none (has_number number) commits (λ other among. not_same other.number number (none other among));
-    rest = filter_all (has_other_number number) commits (λ other among. ap not (not_same other.number number (none other among)));
+    own = filter_none (is_numbered number) commits (λ other among. not_same other.number number (none other among));
+    rest = filter_all (is_numbered_otherwise number) commits (λ other among. ap not (not_same other.number number (none other among)));
   }
 
   own_test : (one : ReservedCommit) → one.number ≡ number → nat_eq one.number number ≡ true

@@ -5,7 +5,7 @@ use Rattle.space_map.specs.declared.status.Status.{Status}
 use Rattle.space_map.specs.Space.{Space}
 use Rattle.space_map.specs.declared.status.Status.TheVariants.{Free, Granted, Taken}
 use Rattle.stamp_table.specs.declared.event.Event.{Event}
-use Rattle.slot_laws.specs.WorkedLonger.{row_of, WorkedCommits, later_lands, last_reserves, last_begins, last_writes, first_goes_home, later_reserves, later_begins, longer_log, FREE_MAP, LAST_MAP, LingeringSlotsCanBeMet}
+use Rattle.slot_laws.specs.WorkedLonger.{two_numbers, WorkedCommits, later_lands, last_reserves, last_begins, last_writes, first_goes_home, later_reserves, later_begins, longer_log, FREE_MAP, LAST_MAP, LingeringSlotsCanBeMet}
 use Rattle.slot_laws.specs.declared.label.Label.{Label}
 use Rattle.slot_laws.specs.Labels.{BoxPast, past_from, first_past}
 use Rattle.slot_laws.specs.Worked.{TWO_RINGS, own_begins, other_begins, both_fill, both_land, both_reserve}
@@ -17,7 +17,7 @@ use Rattle.slot_laws.proofs.WorkedLonger.{longer_may}
 
 -- a map of two blocks and two inodes
 abbrev map_of : Status → Status → Status → Status → Space
-map_of one two three four = record { blocks = row_of one two; inodes = row_of three four }
+map_of one two three four = record { blocks = two_numbers one two; inodes = two_numbers three four }
 
 module _ (own other later last : Filling) where
   abbrev all_four : WorkedCommits
@@ -221,17 +221,16 @@ module _ (own other later last : Filling) where
   map_goes =
       let begun = own_begins own ++ other_begins other ++ both_fill in
       let end = last_begins last ++ last_writes ++ first_goes_home in
-      goes_both TWO_RINGS both_reserve (begun ++ both_land ++ behind_both) (first_past 0) FREE_MAP (map_of Granted Free Granted Free) LAST_MAP both_take
-      (goes_both TWO_RINGS begun (both_land ++ behind_both) reserved_past (map_of Granted Free Granted Free) (map_of Granted Free Granted Free) LAST_MAP
+      goes_both TWO_RINGS (begun ++ both_land ++ behind_both) (map_of Granted Free Granted Free) LAST_MAP both_reserve (first_past 0) FREE_MAP both_take
+      (goes_both TWO_RINGS (both_land ++ behind_both) (map_of Granted Free Granted Free) LAST_MAP begun reserved_past (map_of Granted Free Granted Free)
       (quiet_goes TWO_RINGS begun reserved_past (map_of Granted Free Granted Free) refl)
-      (goes_both TWO_RINGS both_land behind_both past_filled (map_of Granted Free Granted Free) (map_of Taken Free Taken Free) LAST_MAP both_end_grants
-      (goes_both TWO_RINGS later_reserves (later_begins later ++ behind_later) past_ended (map_of Taken Free Taken Free)
-      (map_of Taken Granted Taken Free) LAST_MAP later_takes
-      (goes_both TWO_RINGS (later_begins later) behind_later (past_from TWO_RINGS later_reserves past_ended)
-      (map_of Taken Granted Taken Free) (map_of Taken Granted Taken Free) LAST_MAP
+      (goes_both TWO_RINGS behind_both (map_of Taken Free Taken Free) LAST_MAP both_land past_filled (map_of Granted Free Granted Free) both_end_grants
+      (goes_both TWO_RINGS (later_begins later ++ behind_later) (map_of Taken Granted Taken Free) LAST_MAP later_reserves past_ended (map_of Taken Free Taken Free) later_takes
+      (goes_both TWO_RINGS behind_later (map_of Taken Granted Taken Free) LAST_MAP (later_begins later) (past_from TWO_RINGS later_reserves past_ended)
+      (map_of Taken Granted Taken Free)
       (quiet_goes TWO_RINGS (later_begins later) (past_from TWO_RINGS later_reserves past_ended) (map_of Taken Granted Taken Free) refl)
-      (goes_both TWO_RINGS later_lands (last_reserves ++ end) past_later (map_of Taken Granted Taken Free) (map_of Free Taken Taken Free) LAST_MAP later_ends
-      (goes_both TWO_RINGS last_reserves end past_last (map_of Free Taken Taken Free) (map_of Granted Taken Taken Free) LAST_MAP last_takes
+      (goes_both TWO_RINGS (last_reserves ++ end) (map_of Free Taken Taken Free) LAST_MAP later_lands past_later (map_of Taken Granted Taken Free) later_ends
+      (goes_both TWO_RINGS end (map_of Granted Taken Taken Free) LAST_MAP last_reserves past_last (map_of Free Taken Taken Free) last_takes
       (quiet_goes TWO_RINGS end (past_from TWO_RINGS last_reserves past_last) (map_of Granted Taken Taken Free) refl)))))))
 
 pub lingering_slots_can_be_met : LingeringSlotsCanBeMet

@@ -63,11 +63,11 @@ abbrev pub NoneGranted : Pool → Type 0
 NoneGranted pool = (number : ℕ) → status_of pool number ≢ Some Granted
 
 -- the inodes of a grant, and its blocks
-abbrev pub inodes_in : GrantedNumbers → List ℕ
-inodes_in numbers = numbers.inodes
+abbrev pub inodes_granted : GrantedNumbers → List ℕ
+inodes_granted numbers = numbers.inodes
 
-abbrev pub blocks_in : GrantedNumbers → List ℕ
-blocks_in numbers = numbers.blocks
+abbrev pub blocks_granted : GrantedNumbers → List ℕ
+blocks_granted numbers = numbers.blocks
 
 -- a commit was granted a number
 abbrev pub HasGranted : (GrantedNumbers → List ℕ) → ReservedCommit → ℕ → Type 0
@@ -89,8 +89,8 @@ pub record AreGranted (part : GrantedNumbers → List ℕ) (opens : List Reserve
 
 -- So it is of inodes and of blocks.
 pub record AreTheirGrants (opens : List ReservedCommit) (space : Space) : Type 0 where
-  pub inodes : AreGranted inodes_in opens space.inodes
-  pub blocks : AreGranted blocks_in opens space.blocks
+  pub inodes : AreGranted inodes_granted opens space.inodes
+  pub blocks : AreGranted blocks_granted opens space.blocks
 
 -- A history by the rules along which a map goes, from one of which nothing is granted.
 pub record GoesAlong (layout : Layout) (before moment : ℕ) (log : List (Event Label)) (first now : Space) : Type 0 where
@@ -137,9 +137,9 @@ NoneGivesUp part layout (event ∷ log) past number =
 
 -- What was taken at some place is taken still: nothing is free again before a commit is durable that gives it up.
 pub record StayTaken (layout : Layout) (log : List (Event Label)) (past : BoxPast) (old new : Space) : Type 0 where
-  pub inodes : (number : ℕ) → NoneGivesUp inodes_in layout log past number → status_of old.inodes number ≡ Some Taken
+  pub inodes : (number : ℕ) → NoneGivesUp inodes_granted layout log past number → status_of old.inodes number ≡ Some Taken
       → status_of new.inodes number ≡ Some Taken
-  pub blocks : (number : ℕ) → NoneGivesUp blocks_in layout log past number → status_of old.blocks number ≡ Some Taken
+  pub blocks : (number : ℕ) → NoneGivesUp blocks_granted layout log past number → status_of old.blocks number ≡ Some Taken
       → status_of new.blocks number ≡ Some Taken
 
 -- A map at a place of a history along which it goes: what came to it up to there, and what comes behind.

@@ -34,7 +34,7 @@ AreNumberedOnce [] = Unit {0}
 AreNumberedOnce (commit ∷ rest) = ((other : ReservedCommit) → IsOneOf rest other → other.number ≢ commit.number) × AreNumberedOnce rest
 
 -- A node counts as an open commit's.
-pub record IsCounted (opens : List ReservedCommit) (node number : ℕ) : Type 0 where
+pub record IsOpenNode (opens : List ReservedCommit) (node number : ℕ) : Type 0 where
   pub commit : ReservedCommit
   pub among : IsOneOf opens commit
   pub number_is : commit.number ≡ number
@@ -48,7 +48,7 @@ pub record LastsFit (lasts : ℕ → LastCommit) (opens done : List ReservedComm
   pub ended : (one : ReservedCommit) → IsOneOf done one → one.number ≤ commits
   pub counts : (one : ReservedCommit) (node : ℕ) → IsOneOf opens one → concerns one node ≡ true
       → lasts node ≡ record { number = one.number; ended = false }
-  pub counted : (node : ℕ) → (lasts node).ended ≡ false → IsCounted opens node (lasts node).number
+  pub counted : (node : ℕ) → (lasts node).ended ≡ false → IsOpenNode opens node (lasts node).number
   pub knew : (one : ReservedCommit) (node last : ℕ) → IsOneOf opens one → last_seen one.seen node ≡ Some last → NamesLast done node last
   pub named : (node : ℕ) → (lasts node).ended ≡ true → NamesLast done node (lasts node).number
   pub earlier : (one other : ReservedCommit) (node : ℕ) → IsOneOf opens one → IsOneOf done other → concerns one node ≡ true

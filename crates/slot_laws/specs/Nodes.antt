@@ -37,18 +37,18 @@ abbrev pub concerns : ReservedCommit → ℕ → Bool
 concerns commit node = is_some (last_seen commit.seen node)
 
 -- whether a commit has a number, and one has another
-abbrev pub has_number : ℕ → ReservedCommit → Bool
-has_number number commit = commit.number == number
+abbrev pub is_numbered : ℕ → ReservedCommit → Bool
+is_numbered number commit = commit.number == number
 
-abbrev pub has_other_number : ℕ → ReservedCommit → Bool
-has_other_number number commit = not (has_number number commit)
+abbrev pub is_numbered_otherwise : ℕ → ReservedCommit → Bool
+is_numbered_otherwise number commit = not (is_numbered number commit)
 
 -- the commits with a number, and those with another one
 abbrev pub commits_numbered : ℕ → List ReservedCommit → List ReservedCommit
-commits_numbered number commits = filter (has_number number) commits
+commits_numbered number commits = filter (is_numbered number) commits
 
 abbrev pub commits_but : ℕ → List ReservedCommit → List ReservedCommit
-commits_but number commits = filter (has_other_number number) commits
+commits_but number commits = filter (is_numbered_otherwise number) commits
 
 -- the last commits once one has reserved: it is that of each node that it concerns, and has not ended
 abbrev pub reserved_lasts : ℕ → List Seen → (ℕ → LastCommit) → ℕ → LastCommit
@@ -69,4 +69,4 @@ returned_lasts (commit ∷ commits) lasts = returned_lasts commits (λ node. ret
 
 -- a commit that gives up these, where it has a number
 abbrev pub giving_up : ℕ → GrantedNumbers → ReservedCommit → ReservedCommit
-giving_up number numbers commit = if has_number number commit then record commit { gives_up = numbers } else commit
+giving_up number numbers commit = if is_numbered number commit then record commit { gives_up = numbers } else commit

@@ -16,8 +16,8 @@ use Rattle.slot_laws.specs.declared.label.Label.TheVariants as label
 use Rattle.slot_laws.specs.Grants.{GoesAlong}
 
 -- the turns of the later commit of the first one's node, and of one of another node that takes the block
-abbrev pub later_turn : ℕ → TurnAct → Turn
-later_turn now did = record {
+abbrev pub third_turn : ℕ → TurnAct → Turn
+third_turn now did = record {
   core = record { 0 = 1 };
   node = record { 0 = 1 };
   stamp = record { 0 = 2 };
@@ -27,8 +27,8 @@ later_turn now did = record {
   act = did;
 }
 
-abbrev pub last_turn : ℕ → TurnAct → Turn
-last_turn now did = record {
+abbrev pub fourth_turn : ℕ → TurnAct → Turn
+fourth_turn now did = record {
   core = record { 0 = 0 };
   node = record { 0 = 2 };
   stamp = record { 0 = 3 };
@@ -41,7 +41,7 @@ last_turn now did = record {
 -- the later commit reserves, having seen the first one end, begins in the other core's second slot, and gives up the first one's block
 abbrev pub later_reserves : List (Event Label)
 later_reserves =
-    other_hold (label.Took ∷ label.Reserved 3 (seen_one 1 1) (one_block 1) ∷ label.Noted (later_turn 5 act.Granted) ∷ [])
+    other_hold (label.Took ∷ label.Reserved 3 (seen_one 1 1) (one_block 1) ∷ label.Noted (third_turn 5 act.Granted) ∷ [])
 
 abbrev pub later_begins : Filling → List (Event Label)
 later_begins later =
@@ -57,13 +57,13 @@ later_lands =
     ∷ label.Filled 3 2 true
     ∷ label.Filled 3 3 true
     ∷ label.Synced 6
-    ∷ label.Opened 3 true (later_turn 7 act.CutAt) (later_turn 7 act.Opened)
-    ∷ label.Synced 8 ∷ label.Settled 3 (later_turn 8 act.Durable) ∷ label.Looked (later_turn 8 act.Durable) ∷ [])
+    ∷ label.Opened 3 true (third_turn 7 act.CutAt) (third_turn 7 act.Opened)
+    ∷ label.Synced 8 ∷ label.Settled 3 (third_turn 8 act.Durable) ∷ label.Looked (third_turn 8 act.Durable) ∷ [])
 
 -- the last one is granted the block, and writes there
 abbrev pub last_reserves : List (Event Label)
 last_reserves =
-    own_hold (label.Took ∷ label.Reserved 4 (seen_one 2 0) (one_block 0) ∷ label.Noted (last_turn 8 act.Granted) ∷ [])
+    own_hold (label.Took ∷ label.Reserved 4 (seen_one 2 0) (one_block 0) ∷ label.Noted (fourth_turn 8 act.Granted) ∷ [])
 
 abbrev pub last_begins : Filling → List (Event Label)
 last_begins last = own_hold (label.Took ∷ label.Began last 4 (record { 0 = 2 }) (record { 0 = 3 }) list_of_none list_of_none ∷ [])
@@ -100,15 +100,15 @@ abbrev pub longer_log : WorkedCommits → List (Event Label)
 longer_log all = both_end all ++ block_moves all ++ first_goes_home
 
 -- two numbers of one kind, with their statuses
-abbrev pub row_of : Status → Status → Pool
-row_of one two = record { first = 0; statuses = one ∷ two ∷ [] }
+abbrev pub two_numbers : Status → Status → Pool
+two_numbers one two = record { first = 0; statuses = one ∷ two ∷ [] }
 
 -- the map before the history, and behind it
 abbrev pub FREE_MAP : Space
-FREE_MAP = record { blocks = row_of Free Free; inodes = row_of Free Free }
+FREE_MAP = record { blocks = two_numbers Free Free; inodes = two_numbers Free Free }
 
 abbrev pub LAST_MAP : Space
-LAST_MAP = record { blocks = row_of Granted Taken; inodes = row_of Taken Free }
+LAST_MAP = record { blocks = two_numbers Granted Taken; inodes = two_numbers Taken Free }
 
 -- The history may be told, and the map goes along it.
 abbrev pub LingeringSlotsCanBeMet : Type 0
