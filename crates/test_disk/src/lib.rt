@@ -16,6 +16,8 @@ mod making;
 #[cfg(test)]
 mod mounting;
 #[cfg(test)]
+mod moved;
+#[cfg(test)]
 mod reading;
 #[cfg(test)]
 mod recovering;

@@ -62,7 +62,12 @@ fn packed(rt: &impl Abort, alloc: Global, layout: &Layout, k: u8) -> Packed
 }
 
 // Writes a piece that is not the last.
-fn fill_more(rt: &impl Abort, disk: &mut Memory, layout: &Layout, filling: Filling) -> Filling
+pub(crate) fn fill_more(
+    rt: &impl Abort,
+    disk: &mut Memory,
+    layout: &Layout,
+    filling: Filling,
+) -> Filling
     requires { filling.job.place.layout ≡ layout.now }
     ensures { result.job.place.layout ≡ layout.now }
 {
@@ -78,7 +83,12 @@ fn fill_more(rt: &impl Abort, disk: &mut Memory, layout: &Layout, filling: Filli
 }
 
 // Writes the last piece.
-fn fill_last(rt: &impl Abort, disk: &mut Memory, layout: &Layout, filling: Filling) -> Filled
+pub(crate) fn fill_last(
+    rt: &impl Abort,
+    disk: &mut Memory,
+    layout: &Layout,
+    filling: Filling,
+) -> Filled
     requires { filling.job.place.layout ≡ layout.now }
     ensures { result.place.layout ≡ layout.now }
 {
@@ -139,7 +149,12 @@ fn place_all(rt: &impl Abort, disk: &mut Memory, layout: &Layout, durable: Durab
 }
 
 // Opens the gate of a slot that is sealed.
-fn open_one(rt: &impl Abort, disk: &mut Memory, layout: &Layout, sealed: Sealed) -> Opened
+pub(crate) fn open_one(
+    rt: &impl Abort,
+    disk: &mut Memory,
+    layout: &Layout,
+    sealed: Sealed,
+) -> Opened
     requires { sealed.place.layout ≡ layout.now }
     ensures { result.place.layout ≡ layout.now }
 {
@@ -263,7 +278,7 @@ fn make_eight(rt: &impl Abort, alloc: Global, disk: &mut Memory, layout: &Layout
 }
 
 // The first byte of the record that a disk settles of an inode.
-fn first_byte(rt: &impl Abort, records: &Records, inode: u64) -> u8 {
+pub(crate) fn first_byte(rt: &impl Abort, records: &Records, inode: u64) -> u8 {
     match records.get(inode) {
         Some(record) => record[0],
         None => panic!(rt; "no record"),
