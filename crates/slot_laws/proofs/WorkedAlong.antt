@@ -225,7 +225,8 @@ module _ (own other later last : Filling) where
       (goes_both TWO_RINGS (both_land ++ behind_both) (map_of Granted Free Granted Free) LAST_MAP begun reserved_past (map_of Granted Free Granted Free)
       (quiet_goes TWO_RINGS begun reserved_past (map_of Granted Free Granted Free) refl)
       (goes_both TWO_RINGS behind_both (map_of Taken Free Taken Free) LAST_MAP both_land past_filled (map_of Granted Free Granted Free) both_end_grants
-      (goes_both TWO_RINGS (later_begins later ++ behind_later) (map_of Taken Granted Taken Free) LAST_MAP later_reserves past_ended (map_of Taken Free Taken Free) later_takes
+      (goes_both TWO_RINGS (later_begins later ++ behind_later) (map_of Taken Granted Taken Free) LAST_MAP later_reserves past_ended
+      (map_of Taken Free Taken Free) later_takes
       (goes_both TWO_RINGS behind_later (map_of Taken Granted Taken Free) LAST_MAP (later_begins later) (past_from TWO_RINGS later_reserves past_ended)
       (map_of Taken Granted Taken Free)
       (quiet_goes TWO_RINGS (later_begins later) (past_from TWO_RINGS later_reserves past_ended) (map_of Taken Granted Taken Free) refl)

@@ -53,8 +53,8 @@ EndsAt granted freed old new n = status_of new n
     ≡ cond (is_listed granted n) (option_map (λ (s : Status). Taken) (status_of old n))
     (cond (is_listed freed n) (option_map released (status_of old n)) (status_of old n))
 
-row_ends : (granted freed : List ℕ) (a b c d : Status) → EndsAt granted freed (two_numbers a b) (two_numbers c d) 0 → EndsAt granted freed (two_numbers a b) (two_numbers c d) 1
-    → Ends granted freed (two_numbers a b) (two_numbers c d)
+row_ends : (granted freed : List ℕ) (a b c d : Status) → EndsAt granted freed (two_numbers a b) (two_numbers c d) 0
+    → EndsAt granted freed (two_numbers a b) (two_numbers c d) 1 → Ends granted freed (two_numbers a b) (two_numbers c d)
 row_ends granted freed a b c d first second n = elim (which n) [
   | inl same ↦ subst (EndsAt granted freed (two_numbers a b) (two_numbers c d)) (sym same) first
   | inr (inl same) ↦ subst (EndsAt granted freed (two_numbers a b) (two_numbers c d)) (sym same) second

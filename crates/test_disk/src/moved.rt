@@ -128,9 +128,9 @@ fn brought_home(
     let Ok(closing) = copied.shut_gate(disk) else {
         panic!(rt; "failed");
     };
-    if sync(disk).is_err() {
+    let Ok(()) = sync(disk) else {
         panic!(rt; "failed");
-    }
+    };
     let (_, packed) = closing.ended_by(disk);
     let tx = packed.into_tx();
     (tx.records.as_slice().len(), tx.fresh.as_slice().len())
