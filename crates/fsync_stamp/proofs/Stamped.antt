@@ -164,10 +164,11 @@ module _ (given : ℕ → Option OldKept) (t : FileState) (nodes : ℕ) (before 
       kept_of read blind = sym (blind last final.view final.held final.room) ∙ (ap read lets.frame ∙ (ap read takes.frame ∙ blind mid mid.view _ mid.room))
 
       view_is : record last.view { held = mid.view.held } ≡ mid.view
-      view_is = ap (λ (v : View TreeState (Event Fact)). record v { held = mid.view.held }) lets.view ∙ ap (λ (h : FileHand). record h.view { held = mid.view.held }) takes.frame
+      view_is = ap (λ (v : View TreeState (Event Fact)). record v { held = mid.view.held }) lets.view
+          ∙ ap (λ (h : FileHand). record h.view { held = mid.view.held }) takes.frame
 
-      of_view : {A : Type 0} (read : View TreeState (Event Fact) → A) → ((v : View TreeState (Event Fact)) (held : List ℕ) → read (record v { held = held }) ≡ read v)
-          → read last.view ≡ read mid.view
+      of_view : {A : Type 0} (read : View TreeState (Event Fact) → A)
+          → ((v : View TreeState (Event Fact)) (held : List ℕ) → read (record v { held = held }) ≡ read v) → read last.view ≡ read mid.view
       of_view read blind = sym (blind last.view mid.view.held) ∙ ap read view_is
 
       core_is : last.view.core ≡ before.view.core
@@ -176,7 +177,8 @@ module _ (given : ℕ → Option OldKept) (t : FileState) (nodes : ℕ) (before 
       table_is : last.table ≡ before.table
       table_is = kept_of (λ h. h.table) (λ h view held room. refl) ∙ ap (λ (h : FileHand). h.table) stamps.frame
 
-      waits_by : (lives : Bool) → (if waits_for_answer (call.Fsync node) (reply_for_now lives) then Some number else None) ≡ (if lives then Some number else None)
+      waits_by : (lives : Bool)
+          → (if waits_for_answer (call.Fsync node) (reply_for_now lives) then Some number else None) ≡ (if lives then Some number else None)
       waits_by true = refl
       waits_by false = refl
 

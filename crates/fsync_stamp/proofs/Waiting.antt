@@ -1,6 +1,7 @@
 -- An fsync that waits: from its stamp, and up to its answer.
 use Rattle.std.proofs.Common.{◌≡◌, ◌<◌, ◌≤◌, ℕ, Bool, true, false, List, [], ◌∷◌, ◌++◌, length, Some, None, refl, sym, ap, subst, ◌∙◌, arith}
 use mathlib.Core.List.{IsPrefix}
+use Rattle.std.proofs.lemmas.List.{length-append}
 use Rattle.std.specs.Prelude.{MatchOption}
 use Rattle.std.proofs.lemmas.List.{append_cancel_left}
 use Rattle.sfs_base.specs.declared.numbers.NodeId.{NodeId}
@@ -40,13 +41,14 @@ same_on before mid after first then = record {
 }
 
 -- an entry right behind a log that begins with all that was seen is counted above that, and was seen since
-pub behind_log : (before after : FileHand) (log : List (Event Fact)) (entry : Entry) → IsPrefix before.view.seen log → after.view.seen ≡ log ++ Called entry ∷ []
-    → entry.stamp.0 ≡ length (calls_in log) → (calls_seen before ≤ entry.stamp.0) × ((entry.stamp.0 < calls_seen after) × IsPrefix before.view.seen after.view.seen)
+pub behind_log : (before after : FileHand) (log : List (Event Fact)) (entry : Entry) → IsPrefix before.view.seen log
+    → after.view.seen ≡ log ++ Called entry ∷ [] → entry.stamp.0 ≡ length (calls_in log)
+    → (calls_seen before ≤ entry.stamp.0) × ((entry.stamp.0 < calls_seen after) × IsPrefix before.view.seen after.view.seen)
 behind_log before after log entry began seen stamped =
     let grown = calls_grow before.view.seen log began in
     let more = ap (λ l. length (calls_in l)) seen in
     let last = ap (λ (l : List Entry). length l) (calls_snoc log entry) in
-    let longer = Rattle.std.proofs.lemmas.List.length-append (calls_in log) (entry ∷ []) in (
+    let longer = length-append (calls_in log) (entry ∷ []) in (
       omega (arith, grown, stamped),
       (omega (arith, more, last, longer, stamped), subst (IsPrefix before.view.seen) (sym seen) (begins_longer before.view.seen log (Called entry ∷ []) began)),
     )
@@ -153,7 +155,8 @@ answers_dead t node stamp before after ends = record {
 }
 
 -- what the stamp of an fsync comes to
-pub comes_to : (t : FileState) (node : NodeId) (lives : Bool) (stamp : Stamp) (before after : FileHand) → before.held ≡ [] → EndsStamp t node lives stamp.0 before after
+pub comes_to : (t : FileState) (node : NodeId) (lives : Bool) (stamp : Stamp) (before after : FileHand) → before.held ≡ []
+    → EndsStamp t node lives stamp.0 before after
     → ComesToStamp t node before after (Rattle.std.specs.Prelude.if◌then◌else◌ lives (Some stamp) None)
 comes_to t node true stamp before after none ends = stamps_live t node stamp.0 before after none ends
 comes_to t node false stamp before after none ends = answers_dead t node stamp.0 before after ends
@@ -183,8 +186,12 @@ waiting_lasts t node stamp before mid after waits on = record {
 -- the last of two lists
 last_same : (front other : List Entry) (one two : Entry) → front ++ one ∷ [] ≡ other ++ two ∷ [] → (front ≡ other) × (one ≡ two)
 last_same [] [] one two same = (refl, cc (same))
-last_same [] (x ∷ other) one two same = absurd (let l = ap (λ (l : List Entry). length l) same in let m = Rattle.std.proofs.lemmas.List.length-append other (two ∷ []) in omega (arith, l, m))
-last_same (x ∷ front) [] one two same = absurd (let l = ap (λ (l : List Entry). length l) same in let m = Rattle.std.proofs.lemmas.List.length-append front (one ∷ []) in omega (arith, l, m))
+last_same [] (x ∷ other) one two same =
+    let long = ap (λ (l : List Entry). length l) same in
+    let more = length-append other (two ∷ []) in absurd (omega (arith, long, more))
+last_same (x ∷ front) [] one two same =
+    let long = ap (λ (l : List Entry). length l) same in
+    let more = length-append front (one ∷ []) in absurd (omega (arith, long, more))
 last_same (x ∷ front) (y ∷ other) one two same =
     let heads : x ≡ y = cc (same) in
     let rest = last_same front other one two (let tails : front ++ one ∷ [] ≡ other ++ two ∷ [] = cc (same) in tails) in

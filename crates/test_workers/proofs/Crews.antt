@@ -54,6 +54,7 @@ all_rest t hands after all long same rest =
         let fits : place < length (map new_worker hands) = omega (arith, within, count) in
         let same_here = same place D fits in
         let rests = rest place D (omega (arith, fits, long)) in (
-          subst (λ (h : FileHand). IsSameCore (get_or hands place d) h) (sym now) (subst (λ (w : Worker (Unit {0})). IsSameCore w.core (get_or after place D).core) was same_here),
+          subst (λ (h : FileHand). IsSameCore (get_or hands place d) h) (sym now)
+              (subst (λ (w : Worker (Unit {0})). IsSameCore w.core (get_or after place D).core) was same_here),
           subst (λ (h : FileHand). h.held ≡ []) (sym now) rests.between.holds_none,
         )

@@ -63,7 +63,8 @@ pub reserves : (before after : FileHand) → record after { spare = before.spare
 reserves before after frame = record {
   frame = ap (λ (h : FileHand). record h { view = before.view }) frame;
   view = ap (λ (h : FileHand). record h.view { seen = before.view.seen }) frame;
-  seen = subst (λ (v : View TreeState (Event Fact)). IsPrefix before.view.seen v.seen) (sym (ap (λ (h : FileHand). h.view) frame)) (begins_itself before.view.seen);
+  seen = subst (λ (v : View TreeState (Event Fact)). IsPrefix before.view.seen v.seen) (sym (ap (λ (h : FileHand). h.view) frame))
+      (begins_itself before.view.seen);
 }
 
 -- a look counts the calls that were seen

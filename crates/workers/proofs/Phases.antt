@@ -60,17 +60,19 @@ cut number tree stamp (entry ∷ history) legal = ⊎_elim
 -- what a core has of such entries
 before_own : (number core : ℕ) (entries : List Entry) → AreBefore number entries → AreBefore number (core_entries core entries)
 before_own number core [] below = tt
-before_own number core (e ∷ entries) below = elim (nat_eq e.core.0 core) as (λ t. AreBefore number (cond t (e ∷ core_entries core entries) (core_entries core entries))) [
-  | true ↦ (below.0, before_own number core entries below.1)
-  | false ↦ before_own number core entries below.1
-]
+before_own number core (e ∷ entries) below =
+    elim (nat_eq e.core.0 core) as (λ t. AreBefore number (cond t (e ∷ core_entries core entries) (core_entries core entries))) [
+      | true ↦ (below.0, before_own number core entries below.1)
+      | false ↦ before_own number core entries below.1
+    ]
 
 from_own : (number core : ℕ) (entries : List Entry) → AreFrom number entries → AreFrom number (core_entries core entries)
 from_own number core [] above = tt
-from_own number core (e ∷ entries) above = elim (nat_eq e.core.0 core) as (λ t. AreFrom number (cond t (e ∷ core_entries core entries) (core_entries core entries))) [
-  | true ↦ (above.0, from_own number core entries above.1)
-  | false ↦ from_own number core entries above.1
-]
+from_own number core (e ∷ entries) above =
+    elim (nat_eq e.core.0 core) as (λ t. AreFrom number (cond t (e ∷ core_entries core entries) (core_entries core entries))) [
+      | true ↦ (above.0, from_own number core entries above.1)
+      | false ↦ from_own number core entries above.1
+    ]
 
 -- Two cuts of one list at one number are the same.
 record IsSameCut (front back front' back' : List Entry) : Type 0 where

@@ -17,21 +17,27 @@ stamp-stamp-requires-clause-may c =
 
 pub add_entry-requires-clause-may : goal.add_entry-requires-clause-may
 add_entry-requires-clause-may c =
-    let stamps = subst (λ r. Stamps (IsLawfulLog (given_by c.args.shared.now)) (StandsAt (given_by c.args.shared.now)) (call.Fsync c.args.node) r c.args.core.now c.stamp-stamp.result.0 c.stamp-stamp.new.self) c.reply_for_now.ensures c.stamp-stamp.ensures in
+    let stamps =
+    subst (λ r. Stamps (IsLawfulLog (given_by c.args.shared.now)) (StandsAt (given_by c.args.shared.now)) (call.Fsync c.args.node) r c.args.core.now
+    c.stamp-stamp.result.0 c.stamp-stamp.new.self) c.reply_for_now.ensures c.stamp-stamp.ensures in
     subst (λ l. MayTake c.args.nodes l c.stamp-stamp.new.self) (sym (ap (λ r. r.items) c.new.ensures))
     (room_for_none (given_by c.args.shared.now) c.args.shared.now c.args.nodes c.args.core.now c.requires.table c.requires.work c.args.node c.args.lives
     c.requires.lives c.stamp-stamp.result.0 c.stamp-stamp.new.self stamps c.calls_are_few.ensures)
 
 pub let_go-requires-clause-home : goal.let_go-requires-clause-home
 let_go-requires-clause-home c =
-    let stamps = subst (λ r. Stamps (IsLawfulLog (given_by c.args.shared.now)) (StandsAt (given_by c.args.shared.now)) (call.Fsync c.args.node) r c.args.core.now c.stamp-stamp.result.0 c.stamp-stamp.new.self) c.reply_for_now.ensures c.stamp-stamp.ensures in
+    let stamps =
+    subst (λ r. Stamps (IsLawfulLog (given_by c.args.shared.now)) (StandsAt (given_by c.args.shared.now)) (call.Fsync c.args.node) r c.args.core.now
+    c.stamp-stamp.result.0 c.stamp-stamp.new.self) c.reply_for_now.ensures c.stamp-stamp.ensures in
     let takes = subst (λ l. TakesEntry c.args.nodes l c.stamp-stamp.new.self c.add_entry.new.core) (ap (λ r. r.items) c.new.ensures) c.add_entry.ensures in
     all_home (given_by c.args.shared.now) c.args.shared.now c.args.nodes c.args.core.now c.requires.table c.requires.work c.args.node c.args.lives
     c.requires.lives c.stamp-stamp.result.0 c.stamp-stamp.new.self stamps c.add_entry.new.core takes
 
 pub returns : goal.returns
 returns c =
-    let stamps = subst (λ r. Stamps (IsLawfulLog (given_by c.args.shared.now)) (StandsAt (given_by c.args.shared.now)) (call.Fsync c.args.node) r c.args.core.now c.stamp-stamp.result.0 c.stamp-stamp.new.self) c.reply_for_now.ensures c.stamp-stamp.ensures in
+    let stamps =
+    subst (λ r. Stamps (IsLawfulLog (given_by c.args.shared.now)) (StandsAt (given_by c.args.shared.now)) (call.Fsync c.args.node) r c.args.core.now
+    c.stamp-stamp.result.0 c.stamp-stamp.new.self) c.reply_for_now.ensures c.stamp-stamp.ensures in
     let takes = subst (λ l. TakesEntry c.args.nodes l c.stamp-stamp.new.self c.add_entry.new.core) (ap (λ r. r.items) c.new.ensures) c.add_entry.ensures in
     ends (given_by c.args.shared.now) c.args.shared.now c.args.nodes c.args.core.now c.requires.table c.requires.work c.args.node c.args.lives
     c.requires.lives c.stamp-stamp.result.0 c.stamp-stamp.new.self stamps c.add_entry.new.core takes c.let_go.new.self c.let_go.ensures.lets_go

@@ -26,7 +26,8 @@ returns g c =
     let enough = c.look_for-worker.ensures.enough in
     let calls = subst (λ (z : ℕ). MakesCalls t agrees (commands_of z c.args.phase.now) looked called c.make_calls-made.new.pen c.is_err-worker.result)
     (more_same before.core looked first).number
-    (subst (λ b. MakesCalls t agrees (commands_of looked.view.core c.args.phase.now) looked called c.make_calls-made.new.pen b) (sym c.is_err-worker.ensures.value)
+    (subst (λ b. MakesCalls t agrees (commands_of looked.view.core c.args.phase.now) looked called c.make_calls-made.new.pen b)
+    (sym c.is_err-worker.ensures.value)
     c.make_calls-made.ensures) in
     has_worked t agrees (commands_of before.core.view.core c.args.phase.now) c.args.from before _ (record {
       looked = looked;
