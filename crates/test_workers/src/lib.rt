@@ -8,6 +8,8 @@ mod drawn;
 #[cfg(test)]
 mod fsyncs;
 #[cfg(test)]
+mod full;
+#[cfg(test)]
 mod helpers;
 #[cfg(test)]
 mod judged;
