@@ -1,13 +1,16 @@
-//! How many files a second cores make, look up and rename on a table, each in a directory of its own or all in one.
+//! How many files a second cores make, look up and rename on a table, each in a directory of its own or all in one, and in what time one
+//! core makes as many directories as cores may make.
 //! `bench_calls measure` measures it; without the word the program makes fewer calls and says how many of them were done. It is in no test.
 #![tactic(auto)]
 
 ghost use Rattle.std.specs.Prelude.{◌<◌, ◌≤◌};
 
+mod directories;
 mod loads;
 mod runs;
 mod trees;
 
+use directories::{MOST, made};
 use loads::Load;
 use runs::{Case, Figures, measured};
 use std::alloc::Global;
@@ -28,7 +31,26 @@ fn main(rt: HostRuntime) -> io::Result<()> {
     for load in [Load::Creations, Load::LookUps, Load::Renames] {
         show_all(&rt, alloc, load, asked)?;
     }
-    Ok(())
+    show_directories(&rt, alloc, asked)
+}
+
+// Says how many directories one core made on a table for as many, or where it is asked all that it may make and in what time.
+fn show_directories<R: Threads + Wait + Sync + Clock + Print>(
+    rt: &R,
+    alloc: Global,
+    asked: bool,
+) -> io::Result<()> {
+    print!(rt; "directories, 1 cores: ")?;
+    let count = if asked { MOST } else { 100 };
+    let Some(figures) = made(rt, alloc, count)? else {
+        return println!(rt; "no memory");
+    };
+    let done = figures.done;
+    if !asked {
+        return println!(rt; "{done} done");
+    }
+    let millis = figures.micros / 1000;
+    println!(rt; "{done} in {millis} ms")
 }
 
 // Says so on one, two and four cores, each in a directory of its own and all in one.
