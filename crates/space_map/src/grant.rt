@@ -11,9 +11,11 @@ pub struct Need {
     pub blocks: u32,
 }
 
-/// Inodes and blocks that a map has granted to one commit, each list ascending. It is a debt: it
-/// goes back to the map, by `give_back` or by `free_after`, and can't be dropped, made or taken apart
-/// by others, but for the grant of nothing. Contracts see its two lists of numbers.
+/// Inodes and blocks that a map has granted to one commit, each list ascending. It goes back to the
+/// map, by `give_back` or by `free_after`: the numbers of one that is dropped are granted for ever.
+/// It can't be made or taken apart by others, but for the grant of nothing. Contracts see its two
+/// lists of numbers.
+#[derive(Drop)]
 pub struct Grant {
     inodes: InodeList,
     blocks: BlockList,

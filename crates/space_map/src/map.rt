@@ -101,8 +101,8 @@ impl SpaceMap {
         self.blocks.end(granted_blocks.as_slice(), blocks);
     }
 
-    // Of what there is too little.
-    fn shortage(&self, need: Need) -> Option<SpaceFault>
+    /// Of what there is too little: `NoSpace` exactly where `reserve` refuses for that. It takes no memory.
+    pub fn shortage(&self, need: Need) -> Option<SpaceFault>
         ensures { result ≡ shortage self.now need }
     {
         if self.inodes.free() < need.inodes {
