@@ -1,0 +1,4 @@
+pub mod Calls
+pub mod Keeps
+pub mod Laws
+pub mod View
