@@ -12,6 +12,7 @@ pub struct Seen {
 }
 
 /// What a core tells of the box with the disk and its journal slots. A slot is told by its number.
+#[derive(Drop)]
 pub enum Label {
     /// The core has taken the box.
     Took,

@@ -1,0 +1,14 @@
+pub mod After
+pub mod Amid
+pub mod Entered
+pub mod Failure
+pub mod Frames
+pub mod Left
+pub mod Noted
+pub mod Looked
+pub mod NotedRules
+pub mod Owes
+pub mod Quiet
+pub mod Still
+pub mod Telling
+pub mod Waits

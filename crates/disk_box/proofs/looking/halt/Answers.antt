@@ -1,0 +1,13 @@
+use Rattle.std.proofs.Common.{◌≡◌, ◌∙◌, ap, true}
+use Rattle.tree_laws.specs.declared.turns.TurnAct.{TurnAct}
+use Rattle.slot_laws.specs.Labels.{ends_all}
+use Rattle.disk_box.specs.Pens.{past_at}
+use Rattle.disk_box.proofs.Owes.{ended_room}
+use Rattle.disk_box.proofs.looking.halt.Goals as goal
+
+pub note_turn-requires-clause-room : goal.note_turn-requires-clause-room
+note_turn-requires-clause-room g c κs within =
+    let pen = c.args.pen.now in
+    let at = c.requires.at in
+    ended_room pen.table.given pen.view.core (past_at pen) c.turn-turn.result c.args.desk.now at.holds.core_is
+    (ap ends_all c.turn-turn.ensures.by.did_is) c.requires.looked at.fits.room c.requires.room

@@ -1,0 +1,43 @@
+-- What the box stands for at home, and what is so of a core that has it.
+use Rattle.std.specs.Prelude.{◌≡◌, ◌<◌, ◌∷◌, ℕ, List, [], Option, Some, None}
+use Rattle.sfs_dev.specs.Disk.{View}
+use Rattle.stamp_table.specs.declared.event.Event.{Event}
+use Rattle.stamp_table.specs.declared.held.HeldCell.{HeldCell}
+use Rattle.stamp_table.specs.Events.{event_core}
+use Rattle.stamp_table.specs.Rule.{entries_by}
+use Rattle.stamp_table.specs.Hand.{Hand}
+use Rattle.stamp_table.specs.Table.{TableState}
+use Rattle.slot_laws.specs.declared.label.Label.{Label}
+use Rattle.slot_laws.specs.Labels.{BoxPast, OwnTold, first_past, past_from, own_from, nothing_told}
+use Rattle.slot_laws.specs.Rules.{MayFrom}
+use Rattle.slot_laws.specs.Grants.{SpaceGoes}
+use Rattle.disk_box.specs.declared.key.BoxKey.{BoxKey}
+use Rattle.disk_box.specs.declared.desk.Desk.{Desk}
+use Rattle.disk_box.specs.Desk.{DeskFits}
+
+-- some key, of a box that nobody has
+abbrev pub NO_KEY : BoxKey
+NO_KEY = record { layout = record { blocks = 0; inodes = 0; cores = 0; slots = 0 }; faults = 0; start = 0; space = record { blocks = record { first = 0; statuses = [] }; inodes = record { first = 0; statuses = [] } } }
+
+-- what the labels of a history come to
+abbrev pub past_of : BoxKey → List (Event Label) → BoxPast
+past_of key log = past_from key.layout log (first_past key.start)
+
+-- the labels of a history may be told by the rules
+abbrev pub LawfulBox : BoxKey → List (Event Label) → Type 0
+LawfulBox key log = MayFrom key.layout key.faults log (first_past key.start)
+
+-- The free space that a desk keeps is what the labels of a history have made of that of before the first one.
+abbrev pub SpaceFits : {D : Type 0} → BoxKey → List (Event Label) → Desk D → Type 0
+SpaceFits key log desk = SpaceGoes key.layout log (first_past key.start) key.space desk.ledger.space
+
+-- A box at home has a desk that fits what labels come to, and nobody has it.
+pub record IsHome {D : Type 0} (view : D → View) (key : BoxKey) (log : List (Event Label)) (desk : Desk D) : Type 0 where
+  pub fits : DeskFits view key (past_of key log) desk
+  pub space : SpaceFits key log desk
+  pub busy : (past_of key log).busy ≡ None
+
+-- so does the value of its cell, where it has one
+abbrev pub StandsBox : {D : Type 0} → (D → View) → BoxKey → List (Event Label) → Option (Desk D) → Type 0
+StandsBox view key log None = ⊥
+StandsBox view key log (Some desk) = IsHome view key log desk

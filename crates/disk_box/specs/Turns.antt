@@ -1,0 +1,35 @@
+-- What a core's turns make of what it told.
+use Rattle.std.specs.Prelude.{◌≡◌, ◌∷◌, ℕ, true, List, [], Option, Some, None}
+use Rattle.tree_laws.specs.declared.turns.Turn.{Turn}
+use Rattle.tree_laws.specs.declared.turns.TurnAct.TheVariants as act
+use Rattle.cut_laws.specs.Closure.{Flush}
+use Rattle.slot_laws.specs.Labels.{OwnTold, SlotFlight, own_label}
+use Rattle.slot_laws.specs.Rules.{IsTurnBy}
+use Rattle.slot_laws.specs.declared.label.Label.TheVariants as label
+
+-- The core's flight has landed: this turn made its commit durable, and the core has looked at it.
+pub record Lands (turn : Turn) (core : ℕ) (before after : OwnTold) : Type 0 where
+  pub flight : SlotFlight
+  pub flew : before.flight ≡ Some flight
+  pub opened : flight.opened ≡ true
+  pub by : IsTurnBy turn act.Durable core flight.commit flight.flush
+  pub after_is : after ≡ own_label (label.Looked turn) before
+
+-- A commit of the core is halted, since an earlier one had failed.
+pub record Halts (number : ℕ) (flush : Flush) (core : ℕ) (before after : OwnTold) : Type 0 where
+  pub turn : Turn
+  pub by : IsTurnBy turn act.Halted core number flush
+  pub after_is : after ≡ own_label (label.Noted turn) before
+
+-- A commit that has begun fails, with this count of faults.
+pub record FailsBegun (number : ℕ) (flush : Flush) (core faults : ℕ) (before after : OwnTold) : Type 0 where
+  pub turn : Turn
+  pub by : IsTurnBy turn act.Fail core number flush
+  pub counts : turn.faults ≡ faults
+  pub after_is : after ≡ own_label (label.Noted turn) before
+
+-- A commit that has not begun does, and fails.
+pub record Fails (number : ℕ) (flush : Flush) (core faults : ℕ) (before after : OwnTold) : Type 0 where
+  pub cut : Turn
+  pub cut_by : IsTurnBy cut act.CutAt core number flush
+  pub fails : FailsBegun number flush core faults (own_label (label.Noted cut) before) after

@@ -1,0 +1,50 @@
+// Which phase a slot is in.
+ghost use Rattle.std.specs.Prelude.{◌≡◌, ◌<◌, length};
+ghost use Rattle.disk_box.specs.Kind.{kind_of, HasKind};
+
+use crate::{Desk, Phase};
+
+/// Which phase a slot is in, without its state.
+#[derive(Clone, Copy, PartialEq, Eq)]
+pub enum Kind {
+    Idle,
+    Filling,
+    Filled,
+    Sealed,
+    Opened,
+    Durable,
+    Placed,
+    Copied,
+    Closing,
+    Lost,
+}
+
+impl Phase {
+    /// Which one it is.
+    pub fn kind(&self) -> Kind
+        ensures { result ≡ kind_of self.now }
+    {
+        match self {
+            Phase::Idle { .. } => Kind::Idle,
+            Phase::Filling { .. } => Kind::Filling,
+            Phase::Filled { .. } => Kind::Filled,
+            Phase::Sealed { .. } => Kind::Sealed,
+            Phase::Opened { .. } => Kind::Opened,
+            Phase::Durable { .. } => Kind::Durable,
+            Phase::Placed { .. } => Kind::Placed,
+            Phase::Copied { .. } => Kind::Copied,
+            Phase::Closing { .. } => Kind::Closing,
+            Phase::Lost => Kind::Lost,
+        }
+    }
+}
+
+impl<D> Desk<D> {
+    /// Which phase a slot is in.
+    pub fn kind_at(&self, k: usize) -> Kind
+        requires { k < length self.now.slots.items }
+        ensures { HasKind self.now.slots.items k result }
+    {
+        self.slots[k].phase.kind()
+    }
+}

@@ -1,0 +1,20 @@
+//! The box with a disk, its journal slots and what is known of them, which one core has at a time.
+#![tactic(auto)]
+
+mod desk;
+mod entering;
+mod failing;
+mod key;
+mod kind;
+mod looking;
+mod meaning;
+mod turns;
+
+pub use desk::{Desk, Phase, Slot};
+pub use entering::{enter, leave, note};
+pub use failing::{fail_opened, fail_unopened};
+pub use key::BoxKey;
+pub use kind::Kind;
+pub use looking::{halt, look};
+pub use meaning::{BoxMeaning, BoxTable, Pen};
+pub use turns::{Fsync, note_turn};

@@ -1,0 +1,5 @@
+pub mod Around
+pub mod Grants
+pub mod Parts
+pub mod Reserved
+pub mod Working

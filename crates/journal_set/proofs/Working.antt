@@ -1,0 +1,47 @@
+-- What a core that is at work with the box may note.
+use Rattle.std.proofs.Common.{◌≡◌, ◌+◌, ◌*◌, ◌<◌, ◌≤◌, ◌∙◌, ℕ, Option, Some, None, inl, inr, sym, ap, subst, arith, true}
+use Rattle.sfs_base.proofs.BasicOptions.{some_not_none}
+use Rattle.sfs_dev.specs.Disk.{View}
+use Rattle.stamp_table.specs.Table.{TableState}
+use Rattle.tree_laws.specs.declared.turns.Turn.{Turn}
+use Rattle.slot_laws.specs.Labels.{BoxPast, OwnTold, SlotFlight}
+use Rattle.disk_box.specs.declared.key.BoxKey.{BoxKey}
+use Rattle.disk_box.specs.declared.desk.Desk.{Desk}
+use Rattle.disk_box.specs.Desk.{FrameFits, owed_by, turn_faults}
+use Rattle.disk_box.specs.Pens.{PenHand, HoldsBox, IsAtDesk, IsAtWork, past_at, own_at}
+use Rattle.disk_box.proofs.After.{past_fits_at}
+use Rattle.disk_box.proofs.Owes.{owns_own}
+use Rattle.journal_set.specs.Ready.{HasNothingDue}
+use Rattle.journal_set.proofs.Reserved.{owed_most}
+
+-- no turn waits for a core without a flight
+pub looked_none : {D : Type 0} (t : TableState BoxKey) (pen : PenHand D) → HoldsBox t pen → (own_at pen).flight ≡ None
+    → (past_at pen).waits pen.view.core ≡ None
+looked_none t pen holds idle =
+    (past_fits_at t pen holds).flights.idle pen.view.core (ap (λ (o : OwnTold). o.flight) (owns_own t pen holds) ∙ idle)
+
+-- nor for one that has nothing due
+pub looked_due : {D : Type 0} (t : TableState BoxKey) (pen : PenHand D) → HoldsBox t pen → HasNothingDue (own_at pen)
+    → (past_at pen).waits pen.view.core ≡ None
+looked_due t pen holds rests = elim rests [
+    | inl over ↦ ((past_fits_at t pen holds).over pen.view.core (ap (λ (o : OwnTold). o.over) (owns_own t pen holds) ∙ over)).0
+    | inr none ↦ looked_none t pen holds none.1
+  ]
+
+-- where none has failed, one that has nothing due has reserved no number and has no flight
+pub nothing_due : {D : Type 0} (t : TableState BoxKey) (pen : PenHand D) → HoldsBox t pen → (past_at pen).failed ≡ None → HasNothingDue (own_at pen)
+    → ((own_at pen).reserved ≡ None) × ((own_at pen).flight ≡ None)
+nothing_due t pen holds calm rests = elim rests [
+    | inl over ↦ absurd (((past_fits_at t pen holds).over pen.view.core (ap (λ (o : OwnTold). o.over) (owns_own t pen holds) ∙ over)).1 calm)
+    | inr none ↦ none
+  ]
+
+-- until a commit has failed a turn has the count of faults of the box
+pub calm_faults : {D : Type 0} (view : D → View) (key : BoxKey) (past : BoxPast) (desk : Desk D) (turn : Turn) → FrameFits view key past desk
+    → past.failed ≡ None → turn.faults ≡ turn_faults desk.faults desk.failed (view desk.disk).faults → turn.faults ≡ key.faults
+calm_faults view key past desk turn frame calm is =
+    is ∙ (ap (λ f. turn_faults desk.faults f (view desk.disk).faults) (frame.failed ∙ calm) ∙ frame.faults)
+
+-- there is room for one turn more beside all that cores may take
+pub room_beside : (cores core spare : ℕ) (past : BoxPast) → core < cores → 4 * cores ≤ spare → owed_by cores past < spare
+room_beside cores core spare past low room = let most = owed_most cores past in omega (arith, most, low, room)

@@ -1,0 +1,4 @@
+pub mod Grants
+pub mod Numbering
+pub mod Ready
+pub mod Reserving

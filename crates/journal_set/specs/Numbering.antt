@@ -1,0 +1,43 @@
+-- What reserving a number comes to.
+use Rattle.std.specs.Prelude.{◌≡◌, ◌++◌, ◌∷◌, ℕ, List, Option, Some, None, length}
+use Rattle.sfs_base.specs.declared.numbers.CoreId.{CoreId}
+use Rattle.sfs_dev.specs.Disk.{View}
+use Rattle.space_map.specs.Space.{Space, GrantedNumbers, shortage}
+use Rattle.space_map.specs.declared.grant.Need.{Need}
+use Rattle.stamp_table.specs.declared.event.Event.{Event}
+use Rattle.stamp_table.specs.declared.event.Event.TheVariants.{Told}
+use Rattle.stamp_table.specs.Table.{TableState}
+use Rattle.slot_laws.specs.declared.label.Label.{Label}
+use Rattle.slot_laws.specs.declared.label.Label.TheVariants as label
+use Rattle.slot_laws.specs.declared.label.Seen.{Seen}
+use Rattle.slot_laws.specs.Labels.{OwnTold, first_past}
+use Rattle.slot_laws.specs.Grants.{SpaceGoes}
+use Rattle.disk_box.specs.declared.key.BoxKey.{BoxKey}
+use Rattle.disk_box.specs.declared.desk.Desk.{Desk}
+use Rattle.disk_box.specs.Pens.{PenHand, PenGoes, IsAtWork, own_at}
+use Rattle.journal_set.specs.declared.numbering.Numbered.{Numbered}
+use Rattle.journal_set.specs.Grants.{grant_at}
+
+-- A commit was reserved in a history, by a core, with its nodes as they were seen and a grant of as much as it needs: what was free then sufficed.
+pub record WasReserved (key : BoxKey) (log : List (Event Label)) (core number : ℕ) (seen : List Seen) (need : Need) (grant : GrantedNumbers) : Type 0 where
+  pub front : List (Event Label)
+  pub back : List (Event Label)
+  pub told : Rattle.sfs_base.specs.Lists.Roomy Seen
+  pub seen_is : told.items ≡ seen
+  pub whole : log ≡ front ++ Told (record { 0 = core }) (label.Reserved number told grant) ∷ back
+  pub space : Space
+  pub goes : SpaceGoes key.layout front (first_past key.start) key.space space
+  pub enough : shortage space need ≡ None
+  pub inodes : length grant.inodes ≡ need.inodes
+  pub blocks : length grant.blocks ≡ need.blocks
+
+-- A pen with the box has reserved a number, with a grant.
+pub record Numbers {D : Type 0} (view : D → View) (t : TableState BoxKey) (seen : List Seen) (need : Need) (made : Numbered) (before after : PenHand D)
+    (was now : Desk D) : Type 0 where
+  pub goes : PenGoes before after
+  pub room : after.room ≡ before.room
+  pub own : own_at after ≡ record (own_at before) { reserved = Some made.number }
+  pub grant : grant_at after ≡ Some made.grant
+  pub reserved : WasReserved after.table.given after.view.seen after.view.core made.number seen need made.grant
+  pub work : IsAtWork view t after now
+  pub turns : now.turns ≡ was.turns
