@@ -1,7 +1,6 @@
 -- How a ledger goes along the label of a reserving.
 use Rattle.std.specs.Prelude.{is_some}
 use Rattle.std.proofs.Common.{◌≡◌, ◌≢◌, ◌⊎◌, ◌∷◌, ◌++◌, ◌∙◌, ℕ, false, cond, [], Some, None, inl, inr, refl, sym, ap, subst, arith}
-use Rattle.std.proofs.lemmas.Option.{slice_get_within}
 use Rattle.sfs_base.specs.Lists.{Roomy}
 use Rattle.sfs_base.proofs.BasicOptions.{some_same}
 use Rattle.space_map.specs.Space.{GrantedNumbers}
@@ -41,7 +40,7 @@ module _ (core number : ℕ) (seen : Roomy Seen) (grant : GrantedNumbers) (befor
   open_then : (other : ℕ) (two : OpenView) → open_in new other ≡ Some two
       → ((other ≡ core) × (own_open ≡ two)) ⊎ ((other ≢ core) × (open_in before other ≡ Some two))
   open_then other two there =
-      elim (found_after old.opens core (slice_get_within old.opens core None does.may.free) (Some own_open) other two
+      elim (found_after old.opens core does.may.within (Some own_open) other two
       (rw (sym does.enters.opens) there)) [
         | found_put same is ↦ inl (same, some_same is)
         | found_kept apart kept ↦ inr (apart, rw (sym does.taken.opens) kept)

@@ -140,8 +140,8 @@ open_ones_are_told_once ledger past core one keeps there = told_once ledger past
 pub open_ones_have_places : OpenOnesHavePlaces
 open_ones_have_places ledger past core one keeps there = has_open ledger past keeps core one there
 
--- what an open commit was granted is out
-all_listed : (P : ℕ → Type 0) (numbers : List ℕ) → ((number : ℕ) → is_listed numbers number ≡ true → P number) → AllByRecursion P numbers
+-- each number of a list passes, where each that is listed does
+pub all_listed : (P : ℕ → Type 0) (numbers : List ℕ) → ((number : ℕ) → is_listed numbers number ≡ true → P number) → AllByRecursion P numbers
 all_listed P [] each = tt
 all_listed P (first ∷ rest) each = (
   each first (ap (λ (b : Bool). b || is_listed rest first) (same_number first)),
@@ -152,6 +152,7 @@ all_listed P (first ∷ rest) each = (
       ])),
 )
 
+-- what an open commit was granted is out
 granted_out : (part : GrantedNumbers → List ℕ) (opens : List ReservedCommit) (pool : Pool) (commit : ReservedCommit) → AreGranted part opens pool
     → IsOneOf opens commit → AllGranted pool (part commit.grant)
 granted_out part opens pool commit fits among =

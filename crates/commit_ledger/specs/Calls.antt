@@ -1,5 +1,5 @@
 -- What the calls of a ledger do, and what they ask.
-use Rattle.std.specs.Prelude.{◌≡◌, ◌+◌, ℕ, List, length, Some, None, is_some, if◌then◌else◌, slice_get, slice_set}
+use Rattle.std.specs.Prelude.{◌≡◌, ◌+◌, ◌<◌, ℕ, List, length, Some, None, is_some, if◌then◌else◌, slice_set}
 use Rattle.space_map.specs.Space.{Space, GrantedNumbers, AllGranted}
 use Rattle.space_map.specs.Pool.{BecomeAll, Ends}
 use Rattle.space_map.specs.declared.status.Status.TheVariants.{Free}
@@ -27,9 +27,10 @@ pub record Prepares (seen : List Seen) (need : Need) (prepared : Prepared) (old 
   pub taken : HasTaken prepared.grant old new
   pub places : HasPlaces new.lasts seen
 
--- A core has no open commit, and each of these nodes has its place.
+-- A core of the ledger has no open commit, and each of these nodes has its place.
 pub record MayEnter (core : ℕ) (seen : List Seen) (ledger : LedgerView) : Type 0 where
-  pub free : slice_get ledger.opens core ≡ Some None
+  pub within : core < length ledger.opens
+  pub none : open_in ledger core ≡ None
   pub places : HasPlaces ledger.lasts seen
 
 -- A commit is a core's open one, with the last number given, and the last one of each of its nodes.
@@ -37,6 +38,7 @@ pub record Enters (core number : ℕ) (seen : List Seen) (old new : LedgerView) 
   pub space : new.space ≡ old.space
   pub commits : new.commits ≡ number
   pub lasts : (node : ℕ) → last_in new node ≡ reserved_lasts number seen (last_in old) node
+  pub places : length new.lasts ≡ length old.lasts
   pub opens : new.opens ≡ slice_set old.opens core (Some (record { number = number; seen = seen; debt = None }))
 
 -- A core has an open commit, and each of its nodes has its place.
@@ -75,6 +77,7 @@ pub record Returns (core : ℕ) (grant : GrantedNumbers) (old new : LedgerView) 
   pub blocks : BecomeAll Free grant.blocks old.space.blocks new.space.blocks
   pub commits : new.commits ≡ old.commits
   pub lasts : (node : ℕ) → last_in new node ≡ returned_last (last_seen one.seen node) (last_in old node)
+  pub places : length new.lasts ≡ length old.lasts
   pub opens : new.opens ≡ slice_set old.opens core None
 
 -- A commit has this debt now, and nothing else has changed.
@@ -88,6 +91,7 @@ pub record EndsOpen (core : ℕ) (one : OpenView) (old new : LedgerView) : Type 
   pub there : open_in old core ≡ Some one
   pub commits : new.commits ≡ old.commits
   pub lasts : (node : ℕ) → last_in new node ≡ (if is_some (last_seen one.seen node) then last_ended one.number else last_in old node)
+  pub places : length new.lasts ≡ length old.lasts
   pub opens : new.opens ≡ slice_set old.opens core None
 
 -- A commit with a debt has ended: its numbers stay taken, and what it gives up is free.

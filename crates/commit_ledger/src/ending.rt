@@ -1,5 +1,5 @@
 // How an open commit goes on and ends. None of these calls takes memory.
-ghost use Rattle.std.specs.Prelude.{◌≡◌, ℕ, None, Some, IsSome, is_some, if◌then◌else◌, slice_set};
+ghost use Rattle.std.specs.Prelude.{◌≡◌, ℕ, length, None, Some, IsSome, is_some, if◌then◌else◌, slice_set};
 ghost use Rattle.sfs_base.specs.declared.numbers.NodeId.{NodeId as Node};
 ghost use Rattle.sfs_base.specs.declared.numbers.Stamp.{Stamp as StampOf};
 ghost use Rattle.journal_one.specs.declared.slot.Filling.{Filling};
@@ -121,7 +121,8 @@ impl Ledger {
 // Each of these nodes has the commit with this number as its last, which has ended.
 fn set_ended(lasts: &mut Vec<Last>, number: u64, seen: &[Seen])
     requires { HasPlaces lasts.old.items seen.now }
-    ensures { (node : ℕ) → last_at lasts.new.items node ≡
+    ensures long { length lasts.new.items ≡ length lasts.old.items }
+    ensures set { (node : ℕ) → last_at lasts.new.items node ≡
         (if is_some (last_seen seen.now node) then last_ended number else last_at lasts.old.items node) }
 {
     let last = Last {
