@@ -1,8 +1,7 @@
 -- A core reserves a number: what lies in the box goes on to fit.
-use Rattle.std.proofs.Common.{◌≡◌, ◌≢◌, ◌+◌, ◌*◌, ◌<◌, ◌≤◌, ◌∙◌, ℕ, zero, suc, Bool, true, false, List, length, slice_get, slice_set, slice_index_or, Option, Some, None, inl, inr, refl, sym, ap, subst, arith, option_map}
+use Rattle.std.proofs.Common.{◌≡◌, ◌≢◌, ◌+◌, ◌*◌, ◌<◌, ◌≤◌, ◌∙◌, ℕ, zero, suc, Bool, true, false, List, length, slice_set, slice_index_or, Option, Some, None, inl, inr, refl, sym, ap, subst, arith, option_map}
 use Rattle.std.proofs.lemmas.List.{get_or-set_other, length-set}
 use Rattle.std.proofs.lemmas.Grind.{get_or-set_at}
-use Rattle.std.proofs.lemmas.Option.{slice_get-get_or}
 use Rattle.sfs_base.specs.Lists.{Roomy}
 use Rattle.sfs_base.proofs.BasicOptions.{none_some, some_not_none}
 use Rattle.sfs_dev.specs.Disk.{View}
@@ -67,9 +66,8 @@ module _ {D : Type 0} (view : D → View) (key : BoxKey) (core : ℕ) (past : Bo
   -- it may have one
   pub may_enter : (mid : LedgerView) (seen : List Seen) → mid.opens ≡ was.ledger.opens → HasPlaces mid.lasts seen → MayEnter core seen mid
   may_enter mid seen same places = record {
-    free =
-        ap (λ (l : List (Option OpenView)). slice_get l core) same
-        ∙ (slice_get-get_or was.ledger.opens core None (subst (λ n. core < n) (sym frame.places) low) ∙ ap Some none_open);
+    within = subst (λ n. core < n) (sym (ap length same ∙ frame.places)) low;
+    none = ap (λ (l : List (Option OpenView)). slice_index_or l core None) same ∙ none_open;
     places = places;
   }
 
