@@ -8,9 +8,11 @@ pub mod Frames
 pub mod GateOpened
 pub mod Left
 pub mod Looked
+pub mod NextOldest
 pub mod Nexts
 pub mod Noted
 pub mod NotedRules
+pub mod Older
 pub mod Owes
 pub mod Phases
 pub mod Quiet

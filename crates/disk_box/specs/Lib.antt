@@ -2,6 +2,7 @@ pub mod Box
 pub mod Calls
 pub mod Desk
 pub mod Kind
+pub mod Oldest
 pub mod Pens
 pub mod Slots
 pub mod Steps
