@@ -16,9 +16,12 @@ pub mod Older
 pub mod Owes
 pub mod Phases
 pub mod Quiet
+pub mod Served
+pub mod Settled
 pub mod SlotLists
 pub mod SlotSteps
 pub mod Still
+pub mod SyncSteps
 pub mod Telling
 pub mod Waits
 pub mod WriteSteps

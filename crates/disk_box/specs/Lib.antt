@@ -4,6 +4,7 @@ pub mod Desk
 pub mod Kind
 pub mod Oldest
 pub mod Pens
+pub mod Serving
 pub mod Slots
 pub mod Steps
 pub mod Turns
