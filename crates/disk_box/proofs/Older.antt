@@ -1,44 +1,31 @@
 -- Durable commits that linger, and the oldest of an inode among them.
-use Rattle.std.specs.Prelude.{IfNone, IfSome, slice_get, slice_index_or}
+use Rattle.std.specs.Prelude.{IfNone, IfSome, slice_get}
 use Rattle.std.specs.List.{find, list_any}
 use Rattle.std.specs.List.Sorted.{IsNonDecreasingBy, IsPartitionPoint, IsStrictlyIncreasing}
 use Rattle.std.specs.Ordering.{nat_cmp, ordering_index}
 use Rattle.std.specs.declared.cmp.Ordering.TheVariants.{Less, Greater}
-use Rattle.std.proofs.Common.{◌≡◌, ◌≢◌, ◌<◌, ◌≤◌, ◌+◌, ◌&&◌, ◌||◌, ◌∷◌, ◌∙◌, ℕ, Bool, true, false, cond, not, List, [], length, map, take, Option, Some, None, get_or, inl, inr, refl, sym, ap, subst, arith, nat_eq, nat_lt}
-use Rattle.std.proofs.lemmas.Bool.{cases_lt}
-use Rattle.std.proofs.lemmas.List.Folds.{list_any_at}
+use Rattle.std.proofs.Common.{◌≡◌, ◌<◌, ◌≤◌, ◌+◌, ◌||◌, ◌∷◌, ◌∙◌, ℕ, Bool, true, false, cond, not, List, [], length, Option, Some, None, get_or, inl, inr, refl, sym, ap, subst, arith, nat_eq}
 use Rattle.std.proofs.lemmas.List.Kept.{AllPairs-from_increasing}
-use Rattle.std.proofs.lemmas.List.{get_or-map, length-map}
+use Rattle.std.proofs.lemmas.List.{length-map}
 use Rattle.std.proofs.lemmas.Option.{get_or_from_slice_get, slice_get-get_or, slice_get_within}
 use Rattle.sfs_base.specs.Listed.{is_listed}
-use Rattle.sfs_base.proofs.BasicNumbers.{same_number}
-use Rattle.sfs_base.proofs.BasicOptions.{none_some, some_not_none, some_same}
+use Rattle.sfs_base.proofs.BasicOptions.{some_not_none, some_same}
 use Rattle.sfs_base.proofs.BasicTruth.{true_not_false}
-use Rattle.sfs_image.specs.Journal.{Entry}
-use Rattle.sfs_image.specs.Settled.{slot_count}
-use Rattle.sfs_dev.specs.Disk.{View}
-use Rattle.journal_one.specs.Job.{Job, Place, no_entry, without_fresh}
+use Rattle.journal_one.specs.Job.{Job, Place}
 use Rattle.journal_one.specs.Packed.{inode_of_entry}
 use Rattle.journal_one.specs.Stage.{Stage}
 use Rattle.keyed_list.proofs.Searched.{search_misses}
 use Rattle.merge_laws.proofs.Blocks.{same_or_not}
 use Rattle.slot_laws.specs.Slots.{SlotWork, place_at}
-use Rattle.slot_laws.specs.Rules.{HasRecordOf, IsOldestOf, inode_of_nth}
-use Rattle.stamp_table.specs.Table.{TableState}
-use Rattle.disk_box.specs.declared.key.BoxKey.{BoxKey}
-use Rattle.disk_box.specs.declared.desk.Desk.{Desk}
 use Rattle.disk_box.specs.declared.desk.Phase.{Phase}
 use Rattle.disk_box.specs.declared.desk.Phase.TheVariants as phase
 use Rattle.disk_box.specs.declared.desk.Slot.{Slot}
 use Rattle.disk_box.specs.declared.kind.Kind.TheVariants as kind
 use Rattle.disk_box.specs.Calls.{HasMore, written_of}
 use Rattle.disk_box.specs.Kind.{HasKind, kind_of}
-use Rattle.disk_box.specs.Oldest.{AreTold, FoundLeast, IsLeastOf, IsOldestSlot, LingeringAscend, goes_before, is_next_oldest, next_inode}
-use Rattle.disk_box.specs.Slots.{IsBeingPlaced, Notes, NotesWork, PhaseFits, SlotFits, SlotsFit}
-use Rattle.disk_box.specs.Pens.{PenHand, past_at, IsAtWork}
-use Rattle.disk_box.specs.Steps.{Lingers, NextIsOldest, is_lingering}
-use Rattle.disk_box.proofs.After.{past_fits_at}
-use Rattle.disk_box.proofs.AtSlots.{IsTold, told_at}
+use Rattle.disk_box.specs.Oldest.{AreTold, FoundLeast, IsOldestSlot, LingeringAscend, goes_before, is_next_oldest, next_inode}
+use Rattle.disk_box.specs.Slots.{Notes, PhaseFits}
+use Rattle.disk_box.specs.Steps.{Lingers, is_lingering}
 use Rattle.disk_box.proofs.Phases.{durable_is}
 
 -- a number that a search by halves missed is not in the list

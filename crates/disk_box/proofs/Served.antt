@@ -1,16 +1,14 @@
 -- A slot is served behind a sync: where no label is told of it, and where it is idle again.
-use Rattle.std.specs.Prelude.{Vec, slice_get, option_map}
+use Rattle.std.specs.Prelude.{Vec}
 use Rattle.std.specs.declared.alloc.Global.{Global}
-use Rattle.std.proofs.Common.{◌≡◌, ◌≢◌, ◌<◌, ◌≤◌, ◌+◌, ◌∙◌, ℕ, List, [], length, true, false, Option, Some, None, inl, inr, refl, sym, ap, subst, arith, slice_set, append-nil}
+use Rattle.std.proofs.Common.{◌≡◌, ◌+◌, ◌∙◌, ℕ, List, [], length, Some, None, inl, inr, refl, sym, ap, subst, arith, slice_set, append-nil}
 use Rattle.std.proofs.lemmas.List.{length-set}
-use Rattle.sfs_base.proofs.BasicOptions.{none_some, some_same}
 use Rattle.sfs_image.specs.Super.{Layout}
 use Rattle.sfs_dev.specs.Disk.{View}
-use Rattle.journal_one.specs.Job.{Job, Place, fill_count, without_fresh}
-use Rattle.journal_one.specs.Stage.{Stage}
+use Rattle.journal_one.specs.Job.{Job, fill_count}
 use Rattle.merge_laws.proofs.Blocks.{same_or_not}
 use Rattle.slot_laws.specs.declared.label.Label.TheVariants as label
-use Rattle.slot_laws.specs.Slots.{SlotKnown, SlotWork, Slots, known_synced, place_at, shut_gate, with_at}
+use Rattle.slot_laws.specs.Slots.{SlotKnown, SlotWork, Slots, known_synced, place_at}
 use Rattle.slot_laws.specs.Labels.{BoxPast, after_label}
 use Rattle.slot_laws.specs.Rules.{IdledRule}
 use Rattle.slot_laws.proofs.Basics.{at_other}
@@ -21,14 +19,12 @@ use Rattle.disk_box.specs.declared.desk.Desk.{Desk}
 use Rattle.disk_box.specs.declared.desk.Phase.{Phase}
 use Rattle.disk_box.specs.declared.desk.Phase.TheVariants as phase
 use Rattle.disk_box.specs.declared.desk.Slot.{Slot}
-use Rattle.disk_box.specs.declared.kind.Kind.{Kind}
 use Rattle.disk_box.specs.declared.kind.Kind.TheVariants as kind
 use Rattle.disk_box.specs.Calls.{FollowsSync, TakesSync}
-use Rattle.disk_box.specs.Desk.{DeskFits, FaultsFit}
 use Rattle.disk_box.specs.Kind.{HasKind}
 use Rattle.disk_box.specs.Serving.{GoesBeside, IsServing}
-use Rattle.disk_box.specs.Slots.{IsBeingFilled, IsBeingPlaced, IsClosingOf, IsOpenedOf, Notes, NotesWork, PhaseFits, SlotFits, SlotsFit}
-use Rattle.disk_box.specs.Pens.{PenHand, PenGoes, past_at, own_at, HoldsBox, TellsLabel, IsAtWork}
+use Rattle.disk_box.specs.Slots.{IsBeingFilled, IsBeingPlaced, IsClosingOf, Notes, NotesWork, PhaseFits, SlotFits, SlotsFit}
+use Rattle.disk_box.specs.Pens.{PenHand, past_at, own_at, HoldsBox, TellsLabel}
 use Rattle.disk_box.proofs.After.{at_told, failed_told, past_fits_at}
 use Rattle.disk_box.proofs.AtSlots.{IsTold, told_at}
 use Rattle.disk_box.proofs.Phases.{closing_is, filled_is, placed_is}

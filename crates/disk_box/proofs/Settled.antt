@@ -1,16 +1,12 @@
 -- A commit is durable behind a sync: its turn is taken, it has ended, and waits for its core to look.
-use Rattle.std.specs.Prelude.{Vec, is_some, slice_get, option_map}
-use Rattle.std.specs.declared.alloc.Global.{Global}
+use Rattle.std.specs.Prelude.{is_some, slice_get, option_map}
 use Rattle.std.proofs.Common.{◌≡◌, ◌≢◌, ◌<◌, ◌≤◌, ◌+◌, ◌*◌, ◌/◌, ◌∷◌, ◌++◌, ◌∙◌, ℕ, Bool, List, [], length, true, false, cond, Option, Some, None, inl, inr, refl, sym, ap, subst, arith, slice_set}
 use Rattle.std.proofs.lemmas.Grind.{get_or-set_at}
 use Rattle.std.proofs.lemmas.List.{get_or-set_other, length-set}
 use Rattle.std.proofs.lemmas.Option.{slice_get_within}
 use Rattle.std.proofs.Math.Nat.{div-lt_iff_lt-mul, le-mul_of_pos_right, mul-div_cancel_left}
-use Rattle.sfs_base.specs.Lists.{Roomy}
-use Rattle.sfs_base.specs.declared.numbers.CoreId.{CoreId}
-use Rattle.sfs_image.specs.Super.{Layout}
 use Rattle.sfs_dev.specs.Disk.{View}
-use Rattle.journal_one.specs.Job.{Job, Place, without_fresh}
+use Rattle.journal_one.specs.Job.{Job, without_fresh}
 use Rattle.journal_one.specs.Stage.{Stage}
 use Rattle.merge_laws.proofs.Blocks.{same_or_not}
 use Rattle.tree_laws.specs.declared.turns.Turn.{Turn}
@@ -18,8 +14,8 @@ use Rattle.tree_laws.specs.declared.turns.TurnAct.{TurnAct}
 use Rattle.tree_laws.specs.declared.turns.TurnAct.TheVariants as act
 use Rattle.turn_laws.specs.Books.{CountsFaults}
 use Rattle.commit_ledger.specs.Calls.{MayEnd, PaysDebt}
-use Rattle.commit_ledger.specs.Keeps.{LedgerGoes, LedgerKeeps}
-use Rattle.commit_ledger.specs.View.{DebtView, LedgerView, OpenView, number_in, open_in}
+use Rattle.commit_ledger.specs.Keeps.{LedgerGoes}
+use Rattle.commit_ledger.specs.View.{DebtView, OpenView, number_in, open_in}
 use Rattle.commit_ledger.proofs.Kept.{begun_may_end}
 use Rattle.slot_laws.specs.declared.label.Label.TheVariants as label
 use Rattle.slot_laws.specs.Slots.{SlotWork, may_be_open, open_gate, place_at, settled_work, with_at}
@@ -38,8 +34,8 @@ use Rattle.disk_box.specs.Calls.{FollowsSync, TakesSync}
 use Rattle.disk_box.specs.Desk.{DeskFits, FrameFits, open_for, open_told, owed_by, owed_of, turn_faults, wait_in}
 use Rattle.disk_box.specs.Kind.{HasKind}
 use Rattle.disk_box.specs.Serving.{IsServing, owner_by}
-use Rattle.disk_box.specs.Slots.{IsOpenedOf, NotesWork, PhaseFits, SlotFits, SlotsFit}
-use Rattle.disk_box.specs.Pens.{PenHand, past_at, HoldsBox, TellsLabel, IsAtWork}
+use Rattle.disk_box.specs.Slots.{IsOpenedOf, PhaseFits, SlotsFit}
+use Rattle.disk_box.specs.Pens.{PenHand, past_at, HoldsBox, TellsLabel}
 use Rattle.disk_box.proofs.After.{at_told, failed_told, past_fits_at}
 use Rattle.disk_box.proofs.AtSlots.{IsTold, told_at}
 use Rattle.disk_box.proofs.Entered.{open_same, owed_same}

@@ -2,17 +2,16 @@
 use Rattle.std.specs.Prelude.{option_map}
 use Rattle.std.proofs.Common.{◌≡◌, ◌<◌, ◌≤◌, ◌+◌, ◌++◌, ◌∙◌, ℕ, List, [], length, true, false, Option, Some, None, Result, Ok, Err, OnOk, IfErr, refl, sym, ap, subst, arith, append_assoc, append-nil}
 use Rattle.std.specs.Result.{is_ok}
-use mathlib.Core.List.{IsPrefix}
 use Rattle.sfs_base.specs.Ends.{HasRisen}
 use Rattle.sfs_image.specs.Super.{Layout}
 use Rattle.sfs_dev.specs.Disk.{View}
-use Rattle.journal_one.specs.Calls.{IsCalm, IsSync}
+use Rattle.journal_one.specs.Calls.{IsSync}
 use Rattle.journal_one.specs.Job.{Place}
 use Rattle.slot_laws.specs.declared.label.Label.TheVariants as label
-use Rattle.slot_laws.specs.Slots.{SlotKnown, SlotWork, Slots, knowing, known_synced, place_at, synced_slots}
-use Rattle.slot_laws.specs.Labels.{BoxPast, after_label}
+use Rattle.slot_laws.specs.Slots.{SlotWork, Slots, knowing, known_synced, place_at, synced_slots}
+use Rattle.slot_laws.specs.Labels.{BoxPast}
 use Rattle.slot_laws.proofs.Basics.{mapped_some}
-use Rattle.slot_image_laws.specs.Run.{KeepsLaws, RunFits, Syncs}
+use Rattle.slot_image_laws.specs.Run.{Syncs}
 use Rattle.slot_image_laws.proofs.Running.{failed_syncs_fit}
 use Rattle.stamp_table.specs.Table.{TableState}
 use Rattle.disk_box.specs.declared.key.BoxKey.{BoxKey}
@@ -21,12 +20,12 @@ use Rattle.disk_box.specs.declared.desk.Phase.{Phase}
 use Rattle.disk_box.specs.declared.desk.Phase.TheVariants as phase
 use Rattle.disk_box.specs.declared.desk.Slot.{Slot}
 use Rattle.disk_box.specs.Calls.{AnswersCall}
-use Rattle.disk_box.specs.Desk.{FaultsFit, FrameFits}
+use Rattle.disk_box.specs.Desk.{FaultsFit}
 use Rattle.disk_box.specs.Serving.{GoesBeside, IsServing}
-use Rattle.disk_box.specs.Slots.{Notes, NotesWork, PhaseFits, SlotFits, SlotsFit}
-use Rattle.disk_box.specs.Pens.{PenHand, PenGoes, past_at, own_at, HoldsBox, TellsLabel, IsAtWork, IsBroken}
+use Rattle.disk_box.specs.Slots.{Notes, PhaseFits, SlotsFit}
+use Rattle.disk_box.specs.Pens.{PenHand, past_at, HoldsBox, TellsLabel, IsAtWork}
 use Rattle.disk_box.specs.Steps.{Steps}
-use Rattle.disk_box.proofs.Quiet.{LeavesKept, SameBeside, frame_same}
+use Rattle.disk_box.proofs.Quiet.{LeavesKept, frame_same}
 use Rattle.disk_box.proofs.Served.{goes_still}
 use Rattle.disk_box.proofs.SlotSteps.{CalledAt, called_beside, framed_of_slots, steps_so}
 

@@ -1,5 +1,5 @@
 -- How slots are served behind a sync that answered Ok, one by one.
-use Rattle.std.specs.Prelude.{◌≡◌, ◌≤◌, ◌/◌, ℕ, length, Some}
+use Rattle.std.specs.Prelude.{◌≡◌, ◌≤◌, ◌/◌, ℕ, Some}
 use Rattle.sfs_dev.specs.Disk.{View}
 use Rattle.journal_one.specs.Calls.{IsCalm}
 use Rattle.stamp_table.specs.Table.{TableState}

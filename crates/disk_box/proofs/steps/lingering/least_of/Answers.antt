@@ -1,4 +1,4 @@
-use Rattle.std.proofs.Common.{◌≡◌, ◌<◌, ◌≤◌, ◌+◌, arith, ℕ, None, Option, Some, length, sym, subst, ap, ◌∙◌}
+use Rattle.std.proofs.Common.{◌+◌, arith, sym, subst, ap, ◌∙◌}
 use Rattle.disk_box.specs.declared.desk.Slot.{Slot}
 use Rattle.disk_box.specs.Kind.{kind_of}
 use Rattle.disk_box.specs.Oldest.{FoundLeast}

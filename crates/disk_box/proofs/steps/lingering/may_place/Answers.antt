@@ -1,11 +1,10 @@
-use Rattle.std.specs.Prelude.{slice_get}
-use Rattle.std.proofs.Common.{◌≡◌, ◌<◌, ◌∙◌, List, None, Option, Some, arith, length, refl, sym, subst, ap}
+use Rattle.std.proofs.Common.{◌≡◌, ◌∙◌, List, refl, sym, subst, ap}
 use Rattle.std.specs.Option.{option_copied}
 use Rattle.std.specs.List.{list_any}
 use Rattle.std.proofs.lemmas.Option.{slice_get-get_or}
 use Rattle.sfs_base.proofs.BasicOptions.{none_some}
 use Rattle.disk_box.specs.declared.desk.Slot.{Slot}
-use Rattle.disk_box.specs.Oldest.{AreTold, LingeringAscend, goes_before}
+use Rattle.disk_box.specs.Oldest.{AreTold, goes_before}
 use Rattle.disk_box.proofs.Older.{all_ascend, next_answer, next_within}
 use Rattle.disk_box.proofs.steps.lingering.may_place.Goals as goal
 

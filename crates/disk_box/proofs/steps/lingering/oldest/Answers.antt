@@ -1,4 +1,4 @@
-use Rattle.std.proofs.Common.{IfNone, IfSome, None, Option, Some, length, subst, ℕ}
+use Rattle.std.proofs.Common.{length, subst}
 use Rattle.std.proofs.Common.{List}
 use Rattle.disk_box.specs.declared.desk.Slot.{Slot}
 use Rattle.disk_box.specs.Oldest.{FoundLeast}

@@ -1,4 +1,4 @@
-use Rattle.std.proofs.Common.{◌≡◌, ◌<◌, ◌≤◌, ◌+◌, ◌∙◌, Some, arith, length, slice_set, refl, subst, sym, ap}
+use Rattle.std.proofs.Common.{◌≡◌, ◌∙◌, Some, arith, slice_set, refl, subst, sym, ap}
 use Rattle.std.specs.Vec.{with_item}
 use Rattle.std.proofs.lemmas.List.{length-set}
 use Rattle.std.proofs.lemmas.Option.{slice_get_within}
@@ -6,12 +6,11 @@ use Rattle.commit_ledger.specs.Calls.{MayEnd, PaysDebt}
 use Rattle.commit_ledger.specs.View.{number_in}
 use Rattle.slot_laws.specs.Labels.{owner}
 use Rattle.slot_laws.specs.declared.label.Label.TheVariants as label
-use Rattle.disk_box.specs.declared.desk.Desk.{Desk}
 use Rattle.disk_box.specs.declared.kind.Kind.TheVariants as kind
 use Rattle.disk_box.specs.Pens.{past_at}
 use Rattle.disk_box.proofs.AtSlots.{kind_read}
 use Rattle.disk_box.proofs.Served.{goes_told}
-use Rattle.disk_box.proofs.Settled.{IsSettling, KeepsTurn, MadeAt, may_end, numbered, owner_fits, owner_is, owner_low, settle_may, settling_of, settle_room, settled_now, slots_many, waits_some}
+use Rattle.disk_box.proofs.Settled.{may_end, numbered, owner_is, owner_low, settle_may, settling_of, settle_room, settled_now, slots_many, waits_some}
 use Rattle.disk_box.proofs.steps.serving.settle_one.Goals as goal
 
 pub owner_of-owner-requires-clause-cores : goal.owner_of-owner-requires-clause-cores

@@ -1,4 +1,4 @@
-use Rattle.std.proofs.Common.{◌≡◌, Err, Ok, refl}
+use Rattle.std.proofs.Common.{Err, Ok}
 use Rattle.disk_box.proofs.SyncSteps.{sync_failed, synced_now, syncs_as}
 use Rattle.disk_box.proofs.steps.syncing.sync_all.Goals as goal
 
