@@ -32,7 +32,8 @@ use Rattle.disk_box.proofs.Phases.{durable_is}
 pub is_missed : (numbers : List ℕ) → IsStrictlyIncreasing numbers → (number at : ℕ) → at ≤ length numbers
     → (IsNonDecreasingBy (λ y. ordering_index (nat_cmp y number)) numbers
     → IsPartitionPoint (λ y. nat_cmp y number ≡ Less) (λ y. nat_cmp y number ≡ Greater) numbers at) → false ≡ is_listed numbers number
-is_missed numbers up number at within parted = by_list numbers (sym (search_misses (λ n. n) numbers (AllPairs-from_increasing numbers up) number at within parted))
+is_missed numbers up number at within parted =
+    by_list numbers (sym (search_misses (λ n. n) numbers (AllPairs-from_increasing numbers up) number at within parted))
   where
     by_test : (b : Bool) (x : ℕ) (found : Option ℕ) (rest : Bool) → cond b (Some x) found ≡ None → (found ≡ None → false ≡ rest) → false ≡ (b || rest)
     by_test true x found rest e next = absurd (some_not_none e)
@@ -57,7 +58,8 @@ module _ (slots : List Slot) where
   pub lingers_not : (k : ℕ) (slot : Slot) → slot ≡ get_or slots k slot → is_lingering (kind_of slot.phase) ≡ false → Lingers slots k → ⊥
   lingers_not k slot read not lingers =
       true_not_false
-      (sym lingers.lingers ∙ (ap is_lingering (sym lingers.has.kind_is) ∙ (ap (λ (s : Slot). is_lingering (kind_of s.phase)) (slot_of k lingers slot read) ∙ not)))
+      (sym lingers.lingers ∙ (ap is_lingering (sym lingers.has.kind_is)
+      ∙ (ap (λ (s : Slot). is_lingering (kind_of s.phase)) (slot_of k lingers slot read) ∙ not)))
 
   same_drawn : (k : ℕ) (one other : Lingers slots k) → one.has.slot.drawn ≡ other.has.slot.drawn
   same_drawn k one other = ap (λ (s : Slot). s.drawn) (some_same (sym one.has.there ∙ other.has.there))

@@ -79,6 +79,19 @@ awaits_not kind.Copied filled opened placed closing = refl
 awaits_not kind.Closing filled opened placed closing = absurd (closing refl)
 awaits_not kind.Lost filled opened placed closing = refl
 
+-- nothing is kept otherwise where nothing was told
+pub kept_itself : (past : BoxPast) → LeavesKept past past
+kept_itself past = record {
+  waits = λ c. refl;
+  owed = λ c. omega arith;
+  opens = λ c. refl;
+  nodes = record { commits = refl; lasts = refl; opens = refl; done = refl };
+  stamps = refl;
+  failed = refl;
+  turns = refl;
+  moment = refl;
+}
+
 -- nothing changes for who has told nothing
 pub goes_still : {D : Type 0} (pen : PenHand D) → GoesBeside pen pen
 goes_still pen = record {
@@ -141,25 +154,13 @@ module _ {D : Type 0} (view : D → View) (t : TableState BoxKey) (pen : PenHand
       later = omega arith;
     }
 
-    kept_now : LeavesKept past past
-    kept_now = record {
-      waits = λ c. refl;
-      owed = λ c. omega arith;
-      opens = λ c. refl;
-      nodes = record { commits = refl; lasts = refl; opens = refl; done = refl };
-      stamps = refl;
-      failed = refl;
-      turns = refl;
-      moment = refl;
-    }
-
     served_quiet : SlotFits (place_at key.layout k) (past.slots k) new → awaits_sync (kind_of new.phase) ≡ false → IsServing view t pen now (k + 1)
     served_quiet fits served = record {
       at = record {
         holds = serving.at.holds;
         calm = serving.at.calm;
         fits = record {
-          frame = frame_same view key past past was now serving.at.fits.frame kept_now beside_now serving.at.fits.frame.run;
+          frame = frame_same view key past past was now serving.at.fits.frame (kept_itself past) beside_now serving.at.fits.frame.run;
           room = serving.at.fits.room;
           faults = serving.at.fits.faults;
           slots = λ calm. subst (SlotsFit key.layout past.slots) (sym put)

@@ -71,7 +71,8 @@ pub record KeepsTurn {D : Type 0} (core : ℕ) (turn : Turn) (was now : Desk D) 
 -- the owner's turn, as it is made
 pub settling_of : {D : Type 0} (view : D → View) (t : TableState BoxKey) (pen : PenHand D) (was : Desk D) (k core : ℕ) (slot new : Slot) (turn : Turn)
     → IsServing view t pen was k → slice_get was.slots.items k ≡ Some slot → core ≡ owner pen.table.given.layout k → new ≡ record slot { phase = new.phase }
-    → MadeAt view was core (slice_set was.slots.items k new) k turn → IsSettling (owner pen.table.given.layout k) pen.table.given.faults (view was.disk).now slot turn
+    → MadeAt view was core (slice_set was.slots.items k new) k turn
+    → IsSettling (owner pen.table.given.layout k) pen.table.given.faults (view was.disk).now slot turn
 settling_of view t pen was k core slot new turn serving there same beside made = record {
   by = subst (λ n. IsTurnBy turn act.Durable n slot.commit (fsync_told slot.node slot.stamp)) same
       (slot_turn_by was.slots.items k core slot new turn act.Durable there beside made.by);
@@ -304,7 +305,8 @@ module _ {D : Type 0} (view : D → View) (t : TableState BoxKey) (pen : PenHand
 
         pub settled_now : IsServing view t after now (k + 1)
         settled_now =
-            let desk = at_told view t pen after (label.Settled k turn) holds tells was now serving.at.space (goes.space (record { 0 = pen.view.core })) (record {
+            let does = goes.space (record { 0 = pen.view.core }) in
+            let desk = at_told view t pen after (label.Settled k turn) holds tells was now serving.at.space does (record {
               frame = frame_later;
               room = room_later;
               faults = subst (λ (d : Desk D). Rattle.disk_box.specs.Desk.FaultsFit key.faults past.failed (view d.disk).faults) (sym keeps.beside)

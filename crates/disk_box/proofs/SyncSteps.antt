@@ -26,7 +26,8 @@ use Rattle.disk_box.specs.Slots.{Notes, PhaseFits, SlotsFit}
 use Rattle.disk_box.specs.Pens.{PenHand, past_at, HoldsBox, TellsLabel, IsAtWork}
 use Rattle.disk_box.specs.Steps.{Steps}
 use Rattle.disk_box.proofs.Quiet.{LeavesKept, frame_same}
-use Rattle.disk_box.proofs.Served.{goes_still}
+use Rattle.disk_box.proofs.Served.{goes_still, kept_itself}
+use Rattle.disk_box.proofs.Wrote.{where_err, where_ok}
 use Rattle.disk_box.proofs.SlotSteps.{CalledAt, called_beside, framed_of_slots, steps_so}
 
 -- one after another
@@ -117,14 +118,7 @@ module _ {V E : Type 0} (old new : View) (r : Result V E) (synced : IsSync old n
     content = synced.content;
     time = synced.call.time;
     size = synced.call.size;
-  } where
-    where_ok : {X : Type 0} (r : Result V E) → is_ok r ≡ true → OnOk r X → X
-    where_ok (Ok v) is x = x
-    where_ok (Err e) is x = absurd (cc is)
-
-    where_err : {X : Type 0} (r : Result V E) → is_ok r ≡ false → Rattle.std.proofs.Common.OnErr r X → X
-    where_err (Err e) is x = x
-    where_err (Ok v) is x = absurd (cc is)
+  }
 
 module _ {D : Type 0} (view : D → View) (t : TableState BoxKey) (before : PenHand D) (was : Desk D) (at : IsAtWork view t before was) (disk : D) where
   abbrev key : BoxKey
@@ -141,18 +135,6 @@ module _ {D : Type 0} (view : D → View) (t : TableState BoxKey) (before : PenH
       → AnswersCall (view was.disk) (view disk) result → CalledAt view was mid result
   called_sync result done syncs answers = record { beside = refl; count = refl; size = syncs.size; time = syncs.time; answers = answers }
 
-  kept_still : LeavesKept past past
-  kept_still = record {
-    waits = λ c. refl;
-    owed = λ c. omega arith;
-    opens = λ c. refl;
-    nodes = record { commits = refl; lasts = refl; opens = refl; done = refl };
-    stamps = refl;
-    failed = refl;
-    turns = refl;
-    moment = refl;
-  }
-
   -- a sync that failed, of which no label tells
   pub sync_failed : (faults : ℕ) → Syncs false (view was.disk) (view disk) → AnswersCall {V = Unit {0}} (view was.disk) (view disk) (Err faults)
       → Steps view t {V = Unit {0}} before before mid (Err faults)
@@ -167,7 +149,7 @@ module _ {D : Type 0} (view : D → View) (t : TableState BoxKey) (before : PenH
         err = record {
           holds = at.holds;
           calm = at.calm;
-          frame = frame_same view key past past was mid at.fits.frame kept_still same
+          frame = frame_same view key past past was mid at.fits.frame (kept_itself past) same
               (failed_syncs_fit (view was.disk) (view disk) key.layout key.start past syncs (at.fits.frame.laws was.disk) at.fits.frame.run);
           room = at.fits.room;
           space = at.space;
@@ -178,7 +160,8 @@ module _ {D : Type 0} (view : D → View) (t : TableState BoxKey) (before : PenH
 
   -- one that answered Ok, and was told
   module _ (after : PenHand D) (now : ℕ) (holds : HoldsBox t after) (tells : TellsLabel (label.Synced now) before after)
-      (is : now ≡ (view disk).now) (syncs : Syncs true (view was.disk) (view disk)) (answers : AnswersCall {V = Unit {0}} (view was.disk) (view disk) (Ok tt)) where
+      (is : now ≡ (view disk).now) (syncs : Syncs true (view was.disk) (view disk))
+      (answers : AnswersCall {V = Unit {0}} (view was.disk) (view disk) (Ok tt)) where
     synced_steps : Steps view t {V = Unit {0}} before after mid (Ok tt)
     synced_steps = steps_so view t before after (label.Synced now) was mid (Ok tt) at holds tells
         (framed_of_slots view t before after (label.Synced now) was mid (Ok tt) at holds tells tt at.calm (is, syncs) (called_sync (Ok tt) true syncs answers))

@@ -8,11 +8,13 @@ use Rattle.disk_box.specs.declared.desk.Phase.{Phase}
 use Rattle.disk_box.specs.declared.desk.Slot.{Slot}
 use Rattle.disk_box.specs.Calls.{FollowsWrite, WritesNext, next_piece}
 
-where_ok : {V E X : Type 0} (r : Result V E) → is_ok r ≡ true → OnOk r X → X
+-- what holds on Ok, where a call answered Ok
+pub where_ok : {V E X : Type 0} (r : Result V E) → is_ok r ≡ true → OnOk r X → X
 where_ok (Ok v) is x = x
 where_ok (Err e) is x = absurd (cc is)
 
-where_err : {V E X : Type 0} (r : Result V E) → is_ok r ≡ false → OnErr r X → X
+-- and on Err, where it failed
+pub where_err : {V E X : Type 0} (r : Result V E) → is_ok r ≡ false → OnErr r X → X
 where_err (Err e) is x = x
 where_err (Ok v) is x = absurd (cc is)
 

@@ -8,7 +8,8 @@ pub returns-in-Ok : goal.returns-in-Ok
 returns-in-Ok g c =
     write_ok c.args.self.now (phase.Filling c.into_filling.result) (g.D.Disk.view c.args.disk.now) (g.D.Disk.view c.put_next.new.disk) (Ok c.in-Ok.fill)
     c.in-Ok.ensures.write (sym c.take.ensures.phase ∙ c.into_filling.ensures) c.put.new.self c.of_fill.result
-    (c.put.ensures ∙ ap (λ (s : Slot). record s { phase = c.of_fill.result }) c.take.ensures.lost) refl (c.of_fill.ensures c.into_filling.result c.in-Ok.ensures.ok)
+    (c.put.ensures ∙ ap (λ (s : Slot). record s { phase = c.of_fill.result }) c.take.ensures.lost) refl
+    (c.of_fill.ensures c.into_filling.result c.in-Ok.ensures.ok)
 
 pub returns-in-Err : goal.returns-in-Err
 returns-in-Err g c =

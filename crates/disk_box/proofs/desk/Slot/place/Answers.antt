@@ -8,7 +8,8 @@ pub returns-in-Ok : goal.returns-in-Ok
 returns-in-Ok g c =
     write_ok c.args.self.now (phase.Durable c.into_durable.result) (g.D.Disk.view c.args.disk.now) (g.D.Disk.view c.place_next.new.disk) (Ok c.in-Ok.put)
     c.in-Ok.ensures.write (sym c.take.ensures.phase ∙ c.into_durable.ensures) c.put.new.self c.of_put.result
-    (c.put.ensures ∙ ap (λ (s : Slot). record s { phase = c.of_put.result }) c.take.ensures.lost) refl (c.of_put.ensures c.into_durable.result c.in-Ok.ensures.ok)
+    (c.put.ensures ∙ ap (λ (s : Slot). record s { phase = c.of_put.result }) c.take.ensures.lost) refl
+    (c.of_put.ensures c.into_durable.result c.in-Ok.ensures.ok)
 
 pub returns-in-Err : goal.returns-in-Err
 returns-in-Err g c =
