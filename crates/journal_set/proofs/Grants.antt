@@ -24,7 +24,10 @@ use Rattle.slot_laws.proofs.Labels.{label_fits}
 use Rattle.slot_laws.proofs.Lawful.{first_fits}
 use Rattle.commit_ledger.specs.Keeps.{WasGranted}
 use Rattle.disk_box.proofs.Frames.{own_after, others_after}
-use Rattle.journal_set.specs.Grants.{grant_after, grant_from}
+use Rattle.stamp_table.specs.Table.{TableState}
+use Rattle.disk_box.specs.declared.key.BoxKey.{BoxKey}
+use Rattle.disk_box.specs.Pens.{PenHand, HoldsBox, past_at}
+use Rattle.journal_set.specs.Grants.{grant_after, grant_at, grant_from}
 
 -- one of a list whose number is another is among those with another number
 kept_but : (opens : List ReservedCommit) (number other : ℕ) (grant : GrantedNumbers) → number ≢ other → WasGranted opens number grant
@@ -199,3 +202,10 @@ pub granted_is : (layout : Layout) (before core moment : ℕ) (log : List (Event
     → HasReserved core (past_from layout log (first_past moment)) grant
 granted_is layout before core moment log grant may is =
     granted_from layout before core log (first_past moment) None (first_fits layout before moment) (λ g e. absurd (none_some e)) may grant is
+
+-- So it is of a pen that has the box.
+pub has_reserved : {D : Type 0} (t : TableState BoxKey) (pen : PenHand D) (grant : GrantedNumbers) → HoldsBox t pen → grant_at pen ≡ Some grant
+    → HasReserved pen.view.core (past_at pen) grant
+has_reserved t pen grant holds is =
+    granted_is pen.table.given.layout pen.table.given.faults pen.view.core pen.table.given.start pen.view.seen grant holds.lawful
+    (ap (λ l. grant_from l None) (sym holds.mine) ∙ is)

@@ -1,13 +1,18 @@
 -- What a core that is at work with the box may note.
-use Rattle.std.proofs.Common.{◌≡◌, ◌+◌, ◌*◌, ◌<◌, ◌≤◌, ◌∙◌, ℕ, Option, Some, None, inl, inr, sym, ap, subst, arith, true}
+use Rattle.std.proofs.Common.{◌≡◌, ◌∷◌, ◌++◌, ◌+◌, ◌*◌, ◌<◌, ◌≤◌, ◌∙◌, ℕ, Bool, List, [], Option, Some, None, inl, inr, refl, sym, ap, subst, arith, true, false}
 use Rattle.sfs_base.proofs.BasicOptions.{some_not_none}
 use Rattle.sfs_dev.specs.Disk.{View}
 use Rattle.stamp_table.specs.Table.{TableState}
 use Rattle.tree_laws.specs.declared.turns.Turn.{Turn}
-use Rattle.slot_laws.specs.Labels.{BoxPast, OwnTold, SlotFlight}
+use Rattle.std.specs.Prelude.{◌||◌}
+use Rattle.merge_laws.proofs.Blocks.{same_or_not}
+use Rattle.slot_laws.specs.declared.label.Label.TheVariants as label
+use Rattle.slot_laws.specs.Labels.{BoxPast, OwnTold, SlotFlight, after_label, ends_all, own_label}
+use Rattle.slot_laws.proofs.Basics.{at_same, at_other}
+use Rattle.disk_box.proofs.Frames.{owed_less}
 use Rattle.disk_box.specs.declared.key.BoxKey.{BoxKey}
 use Rattle.disk_box.specs.declared.desk.Desk.{Desk}
-use Rattle.disk_box.specs.Desk.{FrameFits, owed_by, turn_faults}
+use Rattle.disk_box.specs.Desk.{FrameFits, owed_by, owed_of, turn_faults}
 use Rattle.disk_box.specs.Pens.{PenHand, HoldsBox, IsAtDesk, IsAtWork, past_at, own_at}
 use Rattle.disk_box.proofs.After.{past_fits_at}
 use Rattle.disk_box.proofs.Owes.{owns_own}
@@ -45,3 +50,23 @@ calm_faults view key past desk turn frame calm is =
 -- there is room for one turn more beside all that cores may take
 pub room_beside : (cores core spare : ℕ) (past : BoxPast) → core < cores → 4 * cores ≤ spare → owed_by cores past < spare
 room_beside cores core spare past low room = let most = owed_most cores past in omega (arith, most, low, room)
+
+-- a turn that is noted lets no core take more
+owed_noted : (turn : Turn) (own : OwnTold) (waits : Option Turn) → owed_of (own_label (label.Noted turn) own) waits ≤ owed_of own waits
+owed_noted turn own (Some t) = omega arith
+owed_noted turn own None = by (ends_all turn.act) own.over refl where
+  by : (ends over : Bool) → own.over ≡ over → owed_of (record own { told = own.told ++ turn ∷ []; over = ends || own.over }) None ≤ owed_of own None
+  by true over is = omega arith
+  by false over is = omega arith
+
+pub owed_by_noted : (key : BoxKey) (core n : ℕ) (past : BoxPast) (turn : Turn) → owed_by n (after_label key.layout core (label.Noted turn) past) ≤ owed_by n past
+owed_by_noted key core n past turn = owed_less n past (after_label key.layout core (label.Noted turn) past) (λ other low. elim (same_or_not other core) [
+    | inl same ↦
+      subst (λ (o : OwnTold). owed_of o (past.waits other) ≤ owed_of (past.owns other) (past.waits other))
+      (sym (at_same past.owns core (own_label (label.Noted turn) (past.owns core)) other same))
+      (subst (λ c. owed_of (own_label (label.Noted turn) (past.owns c)) (past.waits other) ≤ owed_of (past.owns other) (past.waits other)) same
+      (owed_noted turn (past.owns other) (past.waits other)))
+    | inr not ↦
+      subst (λ (o : OwnTold). owed_of o (past.waits other) ≤ owed_of (past.owns other) (past.waits other))
+      (sym (at_other past.owns core (own_label (label.Noted turn) (past.owns core)) other not)) (omega arith)
+  ])

@@ -2,3 +2,4 @@ pub mod Grants
 pub mod Numbering
 pub mod Ready
 pub mod Reserving
+pub mod Returning

@@ -4,6 +4,7 @@
 mod fault;
 mod numbering;
 mod reserving;
+mod returning;
 mod set;
 
 pub use fault::{Ack, CommitFault};
