@@ -10,7 +10,6 @@ ghost use Rattle.disk_nodes.specs.Nodes.{entry_node};
 ghost use Rattle.volume_one.specs.Entries.{old_at, kept_in, disk_entries_at, AreReplaced, HaveDiskPlaces, HasDiskPlace, HasSameEntries};
 
 use disk_nodes::{OldDisk, OldEntry, OldNode, take_old};
-use fmt_slots::copy_list;
 use sfs_base::{NoMemory, NodeId};
 use std::alloc::Global;
 use std::collections::BTreeMap;
@@ -57,7 +56,7 @@ fn entry_of(alloc: Global, node: NodeId, old: &OldNode) -> Result<OldEntry, NoMe
             inode: old.inode,
             meta: old.meta,
             tables: old.tables.copy()?,
-            slots: copy_list(alloc, &old.slots)?,
+            slots: old.slots.copy(alloc)?,
         },
     })
 }
