@@ -1,0 +1,5 @@
+pub mod Owing
+pub mod Opens
+pub mod Same
+pub mod Drawn
+pub mod Along
