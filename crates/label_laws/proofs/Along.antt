@@ -33,7 +33,7 @@ use Rattle.slot_laws.proofs.NodesTold.{giving_number, first_lasts}
 use Rattle.slot_laws.proofs.GrantsHeld.{giving_grant, same_commit}
 use Rattle.slot_laws.proofs.Lawful.{first_fits}
 use Rattle.label_laws.specs.Own.{OwesTurn, owes_granted, owes_given_back, owes_nothing, OwnOwed, own_owed, TellsBeside, has_numbers, StandBeside}
-use Rattle.label_laws.specs.Maps.{Numbered, FitsBringing, AreSameMaps, FreesAs, bringing_of, GrantFits, FitBringings, MapsAreDrawn}
+use Rattle.label_laws.specs.Maps.{Numbered, FitsBringing, AreSameMaps, FreesAs, bringing_of, GrantFits, FitBringings, MapsAreDrawn, IsEmptyAs, ReservedAs}
 use Rattle.label_laws.proofs.Drawn.{DrawnSo, Drawing, nobody_now, tells_now, WereOpen, drawing_then, free_drawn, none_then, cut_goes, push, all_were, ends_from, fewer_were, HasTurnOf, had_on, taken_nothing, reserved_from, HadTurns, returned_nothing, returned_from, had_turn}
 use Rattle.label_laws.proofs.Owing.{free_where, others_owe, owing_first, first_owes}
 use Rattle.label_laws.proofs.Opens.{ReservedOpen, OpensSo}
@@ -67,7 +67,7 @@ module _ (named : Numbered) (layout : Layout) (before : ℕ) (first : Space) whe
         drawing_then named layout before first done past core fact rest space next at does told
         (subst (λ turns. Drawn (after_label layout core.0 fact past).opens turns (with_at at.owing.own core.0 (own_owed fact (at.owing.own core.0))) next)
         (sym turns_are)
-        (free_drawn named layout before first past.opens past.turns at.owing.own space at.so nobody at.opens.grants
+        (free_drawn named layout before first past.opens past.turns at.owing.own space at.so nobody (λ one among. (at.opens.grants one among).grants)
         (after_label layout core.0 fact past).opens (with_at at.owing.own core.0 (own_owed fact (at.owing.own core.0))) more next drawn
         (none_then named layout before first past core.0 at.owing.own nobody fact none) were goes same))
 
@@ -101,7 +101,7 @@ module _ (named : Numbered) (layout : Layout) (before : ℕ) (first : Space) whe
         let stamp : cut.stamp.0 ≡ named.stamps aloft.one.number =
         ap (λ (f : Flush). f.stamp) rule.cut_is.flush_is ∙ (aloft.stamp_is ∙ ap named.stamps (sym aloft.number_is)) in
         let begun =
-        cut_goes named layout before first past.opens past.turns at.owing.own space at.so nobody at.opens.grants aloft.one aloft.among cut rule.cut_is.did_is stamp in
+        cut_goes named layout before first past.opens past.turns at.owing.own space at.so nobody (λ one among. (at.opens.grants one among).grants) aloft.one aloft.among cut rule.cut_is.did_is stamp in
         let both =
         push named layout before first (past.turns ++ cut ∷ []) opened act.Opened opened.stamp.0 at.so.drawn at.so.drawn rule.opened_is.did_is refl begun refl in
         free_label (label.Opened k done_so cut opened) at same_space tt nobody (nobody core.0) (all_were past.opens) (cut ∷ opened ∷ []) refl at.so.drawn
@@ -124,7 +124,7 @@ module _ (named : Numbered) (layout : Layout) (before : ℕ) (first : Space) whe
         let frees : FreesAs (bringing_of named ends.own.commit.number) ends.own.commit.gives_up =
         subst (λ (p : ℕ × ReservedCommit). FreesAs (bringing_of named p.0) p.1.gives_up) (λ i. (work_number i, same_one i)) aloft.frees in
         let ended =
-        ends_from (bringing_of named ends.own.commit.number) ends.own.commit at.so.drawn space next (at.opens.grants ends.own.commit ends.own.among) frees
+        ends_from (bringing_of named ends.own.commit.number) ends.own.commit at.so.drawn space next (at.opens.grants ends.own.commit ends.own.among).grants frees
         (at.so.same nobody) ends.inodes ends.blocks in
         free_label (label.Settled k turn) at ends tt nobody (nobody core.0) (fewer_were past.opens turn.commit) (turn ∷ []) refl next
         (push named layout before first past.turns turn act.Durable (named.stamps ends.own.commit.number) at.so.drawn next rule.is.did_is stamp at.so.goes ended)
@@ -132,33 +132,33 @@ module _ (named : Numbered) (layout : Layout) (before : ℕ) (first : Space) whe
 
     -- the three turns of a commit that wrote nothing
     empty_label : (commit : ℕ) (cut opened durable : Turn) → At (label.Empty commit cut opened durable) → EndsGrant past.opens commit space next
-        → FreesAs (bringing_of named commit) no_numbers → Then (label.Empty commit cut opened durable)
-    empty_label commit cut opened durable at ends frees =
+        → IsEmptyAs (bringing_of named commit) → Then (label.Empty commit cut opened durable)
+    empty_label commit cut opened durable at ends empty =
         let fact = label.Empty commit cut opened durable in
         let rule = at.owing.may.0.1 in
-        let nobody = nobody_before (label.Empty commit cut opened durable) at ends frees (λ other e. cc e) in
+        let nobody = nobody_before (label.Empty commit cut opened durable) at ends empty (λ other e. cc e) in
         let open_one = at.opens.reserved_open core.0 commit rule.number in
         let same_one : open_one.one ≡ ends.own.commit =
         same_commit past.opens at.lasts.once open_one.one ends.own.commit open_one.among ends.own.among (open_one.number_is ∙ sym ends.own.number_is) in
         let cut_stamp : cut.stamp.0 ≡ named.stamps commit =
-        freely (at.owing.own core.0).owes (tells_now named layout before first done past core (label.Empty commit cut opened durable) rest space next at ends frees) in
+        freely (at.owing.own core.0).owes (tells_now named layout before first done past core (label.Empty commit cut opened durable) rest space next at ends empty) in
         let flush : cut.stamp.0 ≡ durable.stamp.0 =
         ap (λ (f : Flush). f.stamp) (rule.cut_is.flush_is ∙ sym rule.durable_is.flush_is) in
         let begun =
-        cut_goes named layout before first past.opens past.turns at.owing.own space at.so nobody at.opens.grants ends.own.commit ends.own.among cut
+        cut_goes named layout before first past.opens past.turns at.owing.own space at.so nobody (λ one among. (at.opens.grants one among).grants) ends.own.commit ends.own.among cut
         rule.cut_is.did_is (cut_stamp ∙ ap named.stamps (sym ends.own.number_is)) in
         let both =
         push named layout before first (past.turns ++ cut ∷ []) opened act.Opened opened.stamp.0 at.so.drawn at.so.drawn rule.opened_is.did_is refl begun refl in
         let gives : FreesAs (bringing_of named commit) ends.own.commit.gives_up =
-        subst (FreesAs (bringing_of named commit)) (sym (ap (λ (o : ReservedCommit). o.gives_up) (sym same_one) ∙ open_one.gives)) frees in
+        subst (FreesAs (bringing_of named commit)) (sym (ap (λ (o : ReservedCommit). o.gives_up) (sym same_one) ∙ open_one.gives)) empty.frees in
         let grants : GrantFits (bringing_of named commit) ends.own.commit.grant =
-        subst (λ n. GrantFits (bringing_of named n) ends.own.commit.grant) ends.own.number_is (at.opens.grants ends.own.commit ends.own.among) in
+        subst (λ n. GrantFits (bringing_of named n) ends.own.commit.grant) ends.own.number_is (at.opens.grants ends.own.commit ends.own.among).grants in
         let ended =
         ends_from (bringing_of named commit) ends.own.commit at.so.drawn space next grants gives (at.so.same nobody) ends.inodes ends.blocks in
         let all =
         push named layout before first ((past.turns ++ cut ∷ []) ++ opened ∷ []) durable act.Durable (named.stamps commit) at.so.drawn next
         rule.durable_is.did_is (sym flush ∙ cut_stamp) both ended in
-        free_label (label.Empty commit cut opened durable) at ends frees nobody (nobody core.0) (fewer_were past.opens commit) (cut ∷ opened ∷ durable ∷ []) refl next
+        free_label (label.Empty commit cut opened durable) at ends empty nobody (nobody core.0) (fewer_were past.opens commit) (cut ∷ opened ∷ durable ∷ []) refl next
         (subst (λ turns. MapGoes named.pairs first turns next)
         (append_assoc (past.turns ++ cut ∷ []) (opened ∷ []) (durable ∷ []) ∙ append_assoc past.turns (cut ∷ []) (opened ∷ durable ∷ [])) all)
         (record { inodes = λ n. refl; blocks = λ n. refl })
@@ -240,7 +240,7 @@ module _ (named : Numbered) (layout : Layout) (before : ℕ) (first : Space) whe
         noted_drawn turn at same_space at.so.drawn (goes_by turn.act refl)
         (subst (AreSameMaps at.so.drawn) (sym same_space) (at.so.same nobody))
         (λ one among some. had_on named layout before first past.turns (turn ∷ []) (named.stamps one.number)
-        (had_turn named layout before first past.opens past.turns at.owing.own space at.so nobody at.opens.grants one among some))
+        (had_turn named layout before first past.opens past.turns at.owing.own space at.so nobody (λ one among. (at.opens.grants one among).grants) one among some))
       where
         rule : NotedRule before core.0 turn past
         rule = at.owing.may.0.1
@@ -259,7 +259,7 @@ module _ (named : Numbered) (layout : Layout) (before : ℕ) (first : Space) whe
                   let aloft = at.opens.aloft flies.flight.slot flying.work flying.there flying.aloft in
                   let stamp : turn.stamp.0 ≡ named.stamps aloft.one.number =
                   flies.stamp_is ∙ (ap (λ (f : Flush). f.stamp) (sym flying.flush) ∙ (aloft.stamp_is ∙ ap named.stamps (sym aloft.number_is))) in
-                  cut_goes named layout before first past.opens past.turns at.owing.own space at.so nobody at.opens.grants aloft.one aloft.among turn is stamp
+                  cut_goes named layout before first past.opens past.turns at.owing.own space at.so nobody (λ one among. (at.opens.grants one among).grants) aloft.one aloft.among turn is stamp
             ]
 
         goes_by : (did : TurnAct) → turn.act ≡ did → MapGoes named.pairs first (past.turns ++ turn ∷ []) at.so.drawn
@@ -274,7 +274,7 @@ module _ (named : Numbered) (layout : Layout) (before : ℕ) (first : Space) whe
 
     -- a number is reserved, with something granted or nothing
     reserved_label : (commit : ℕ) (seen : Roomy Seen) (grant : GrantedNumbers) (at : At (label.Reserved commit seen grant)) → TakesGrant space grant next
-        → GrantFits (bringing_of named commit) grant → Then (label.Reserved commit seen grant)
+        → ReservedAs named commit seen.items grant → Then (label.Reserved commit seen grant)
     reserved_label commit seen grant at takes fits =
         drawing_then named layout before first done past core (label.Reserved commit seen grant) rest space next at takes fits (record {
           drawn = at.so.drawn;
@@ -321,7 +321,7 @@ module _ (named : Numbered) (layout : Layout) (before : ℕ) (first : Space) whe
               let owes_there = sym (ap (λ (o : OwnOwed). o.owes) (at_same at.owing.own core.0 owed c same)) ∙ owes in
               subst (λ m. WasReserved (bringing_of named m).plan at.so.drawn (bringing_of named m).grant next)
               (owes_so (has_numbers grant) refl n owes_there)
-              (reserved_from (bringing_of named commit) grant at.so.drawn space next fits (at.so.same nobody) takes)
+              (reserved_from (bringing_of named commit) grant at.so.drawn space next fits.grants (at.so.same nobody) takes)
           | inr apart ↦ let never = sym (no_other c apart) ∙ owes in absurd (cc never)
         ]
 
@@ -343,7 +343,7 @@ module _ (named : Numbered) (layout : Layout) (before : ℕ) (first : Space) whe
         had_by : HadTurns named layout before first (past.opens ++ new ∷ []) own_then past.turns
         had_by one among some = elim (last_or_before past.opens new one among) [
           | inl old ↦
-              inr (had_turn named layout before first past.opens past.turns at.owing.own space at.so nobody at.opens.grants one old some)
+              inr (had_turn named layout before first past.opens past.turns at.owing.own space at.so nobody (λ one among. (at.opens.grants one among).grants) one old some)
           | inr same ↦
               let is : has_numbers grant ≡ true = ap (λ (o : ReservedCommit). has_numbers o.grant) same ∙ some in
               inl (core.0, ap (λ (o : OwnOwed). o.owes) here_is ∙ (debt_is true is ∙ ap (λ (o : ReservedCommit). owes_granted o.number) same))
@@ -358,7 +358,7 @@ module _ (named : Numbered) (layout : Layout) (before : ℕ) (first : Space) whe
           same = λ none. same_by (at.owing.own core.0).granted refl (sym (ap (λ (o : OwnOwed). o.owes) here_is) ∙ none core.0);
           to_grant = λ c n owes. absurd (no_grant c n owes);
           to_return = return_by;
-          had = λ one among some. inr (had_turn named layout before first past.opens past.turns at.owing.own space at.so nobody at.opens.grants one
+          had = λ one among some. inr (had_turn named layout before first past.opens past.turns at.owing.own space at.so nobody (λ one among. (at.opens.grants one among).grants) one
               (in_filter (is_numbered_otherwise commit) past.opens one among).0 some);
         })
       where
@@ -381,7 +381,7 @@ module _ (named : Numbered) (layout : Layout) (before : ℕ) (first : Space) whe
         same_one = same_commit past.opens at.lasts.once mine.one back.own.commit mine.among back.own.among (mine.number_is ∙ sym back.own.number_is)
 
         fits : GrantFits (bringing_of named commit) back.own.commit.grant
-        fits = subst (λ n. GrantFits (bringing_of named n) back.own.commit.grant) back.own.number_is (at.opens.grants back.own.commit back.own.among)
+        fits = subst (λ n. GrantFits (bringing_of named n) back.own.commit.grant) back.own.number_is (at.opens.grants back.own.commit back.own.among).grants
 
         some_is : (at.owing.own core.0).granted ≡ has_numbers back.own.commit.grant
         some_is = mine.some ∙ ap (λ (o : ReservedCommit). has_numbers o.grant) same_one

@@ -8,6 +8,7 @@ use Rattle.sfs_base.proofs.BasicNumbers.{same_number, not_same}
 use Rattle.sfs_base.proofs.BasicTruth.{true_not_false}
 use Rattle.sfs_image.specs.Super.{Layout}
 use Rattle.journal_one.specs.declared.slot.Filling.{Filling}
+use Rattle.journal_one.specs.Job.{Job}
 use Rattle.space_map.specs.Space.{GrantedNumbers}
 use Rattle.tree_laws.specs.declared.turns.Turn.{Turn}
 use Rattle.cut_laws.specs.Rules.{IsOneOf}
@@ -15,6 +16,7 @@ use Rattle.cut_laws.specs.Closure.{Flush}
 use Rattle.cut_laws.proofs.Basics.{in_left, in_right}
 use Rattle.cut_laws.proofs.Listed.{to_filter, from_map, to_map}
 use Rattle.cut_laws.proofs.RunFacts.{in_filter}
+use Rattle.flush_laws.specs.Journal.{WritesPlan}
 use Rattle.merge_laws.proofs.Blocks.{same_or_not}
 use Rattle.stamp_table.specs.declared.event.Event.TheVariants.{Told}
 use Rattle.slot_laws.specs.Slots.{with_at, SlotWork, Slots, SlotKnown, changed_slot, knowing, begun_work, settled_work, known_filled, known_synced, known_gated, open_gate, known_placed, shut_gate}
@@ -27,10 +29,10 @@ use Rattle.slot_laws.specs.Fits.{PastFits}
 use Rattle.slot_laws.specs.Rules.{BeganRule, SettledRule, MayLabel}
 use Rattle.slot_laws.proofs.Came.{Came, KeepsTold, knowing_told, told_itself, same_came, changed_came, synced_came, idled_came}
 use Rattle.slot_laws.proofs.Basics.{at_same, at_other, none_there, mapped_some}
-use Rattle.slot_laws.proofs.NodesTold.{giving_number}
+use Rattle.slot_laws.proofs.NodesTold.{giving_number, giving_seen}
 use Rattle.slot_laws.proofs.GrantsHeld.{giving_grant}
 use Rattle.slot_laws.proofs.Numbered.{last_or_before}
-use Rattle.label_laws.specs.Maps.{Numbered, FreesAs, bringing_of, GrantFits, FitsBringing}
+use Rattle.label_laws.specs.Maps.{Numbered, FreesAs, bringing_of, FitsBringing, BeginsAs, ReservedAs}
 use Rattle.label_laws.specs.Own.{OwesTurn, owes_granted, owes_given_back, owes_nothing, has_numbers, OwnOwed, own_owed, TellsBeside}
 
 module _ (named : Numbered) where
@@ -49,12 +51,13 @@ module _ (named : Numbered) where
     pub number_is : one.number ≡ work.commit
     pub stamp_is : work.flush.stamp ≡ named.stamps work.commit
     pub frees : FreesAs (bringing_of named work.commit) one.gives_up
+    pub writes : WritesPlan (bringing_of named work.commit).plan (bringing_of named work.commit).grant work.job
 
   -- All of it, by the open commits, the slots, and for each core the number that it has reserved and whether something is granted for it.
   pub record OpensFit (opens : List ReservedCommit) (slots : Slots) (reserved : ℕ → Option ℕ) (granted : ℕ → Bool) : Type 0 where
     pub reserved_open : (core number : ℕ) → reserved core ≡ Some number → ReservedOpen opens number (granted core)
     pub aloft : (k : ℕ) (work : SlotWork) → slots k ≡ Some work → work.settled ≡ false → AloftOpen opens work
-    pub grants : (one : ReservedCommit) → IsOneOf opens one → GrantFits (bringing_of named one.number) one.grant
+    pub grants : (one : ReservedCommit) → IsOneOf opens one → ReservedAs named one.number one.seen one.grant
 
   abbrev pub OpensSo : BoxPast → (ℕ → OwnOwed) → Type 0
   OpensSo past own = OpensFit past.opens past.slots (λ core. (past.owns core).reserved) (λ core. (own core).granted)
@@ -66,6 +69,8 @@ module _ (named : Numbered) where
     number_is = at.number_is ∙ sym keeps.numbers.commit;
     stamp_is = ap (λ (f : Flush). f.stamp) keeps.flush ∙ (at.stamp_is ∙ ap named.stamps (sym keeps.numbers.commit));
     frees = subst (λ n. FreesAs (bringing_of named n) at.one.gives_up) (sym keeps.numbers.commit) at.frees;
+    writes = subst (λ (p : ℕ × Job). WritesPlan (bringing_of named p.0).plan (bringing_of named p.0).grant p.1)
+        (λ i. (sym keeps.numbers.commit i, sym keeps.numbers.job i)) at.writes;
   }
 
   module _ (layout : Layout) (before core : ℕ) (past : BoxPast) (own : ℕ → OwnOwed) (fits : PastFits layout before past) (so : OpensSo past own) where
@@ -136,9 +141,10 @@ module _ (named : Numbered) where
           number_is = at.number_is;
           stamp_is = at.stamp_is;
           frees = at.frees;
+          writes = at.writes;
         }
 
-    grants_still : (number : ℕ) (one : ReservedCommit) → IsOneOf (commits_but number past.opens) one → GrantFits (bringing_of named one.number) one.grant
+    grants_still : (number : ℕ) (one : ReservedCommit) → IsOneOf (commits_but number past.opens) one → ReservedAs named one.number one.seen one.grant
     grants_still number one among = so.grants one (in_filter (is_numbered_otherwise number) past.opens one among).0
 
     -- the commit with a reserved number leaves
@@ -164,16 +170,17 @@ module _ (named : Numbered) where
 
     began_fit : (filling : Filling) (commit : ℕ) (node : NodeId) (stamp : Stamp) (blocks : Roomy ℕ) (inodes : Roomy ℕ)
         → BeganRule layout core filling.job commit past → stamp.0 ≡ named.stamps commit
-        → FreesAs (bringing_of named commit) (record { inodes = inodes.items; blocks = blocks.items })
+        → BeginsAs (bringing_of named commit) filling.job (record { inodes = inodes.items; blocks = blocks.items })
         → SoThen (label.Began filling commit node stamp blocks inodes)
-    began_fit filling commit node stamp blocks inodes rule stamped frees = record {
+    began_fit filling commit node stamp blocks inodes rule stamped begins = record {
       reserved_open = reserved_by fact opens (λ n is. none_there is) (λ c n apart is. others_reserved c n apart is);
       aloft = aloft_then;
       grants = λ one among.
           let was = from_map give past.opens one among in
-          subst (λ (o : ReservedCommit). GrantFits (bringing_of named o.number) o.grant) was.2
-          (subst (λ (p : ℕ × GrantedNumbers). GrantFits (bringing_of named p.0) p.1)
-          (λ i. (sym (giving_number commit numbers was.0) i, sym (giving_grant commit numbers was.0) i)) (so.grants was.0 was.1));
+          subst (λ (o : ReservedCommit). ReservedAs named o.number o.seen o.grant) was.2
+          (subst (λ (p : ℕ × List Seen × GrantedNumbers). ReservedAs named p.0 p.1 p.2)
+          (λ i. (sym (giving_number commit numbers was.0) i, sym (giving_seen commit numbers was.0) i, sym (giving_grant commit numbers was.0) i))
+          (so.grants was.0 was.1));
     }
       where
         fact : Label
@@ -211,7 +218,8 @@ module _ (named : Numbered) where
               among = subst (IsOneOf opens) (giving_own commit numbers at.one at.number_is) (to_map give past.opens at.one at.among);
               number_is = at.number_is;
               stamp_is = stamped;
-              frees = frees;
+              frees = begins.frees;
+              writes = begins.writes;
             }
 
         aloft_then : (j : ℕ) (work : SlotWork)
@@ -231,6 +239,7 @@ module _ (named : Numbered) where
                 number_is = at.number_is;
                 stamp_is = at.stamp_is;
                 frees = at.frees;
+                writes = at.writes;
               }
         ]
 
@@ -255,7 +264,7 @@ module _ (named : Numbered) where
             reserved_still turn.commit c n
             (λ same. fits.numbers.unused c n k rule.has.work is rule.has.there (sym rule.is.commit_is ∙ sym same)) is
 
-    reserved_fit : (commit : ℕ) (seen : Roomy Seen) (grant : GrantedNumbers) → GrantFits (bringing_of named commit) grant
+    reserved_fit : (commit : ℕ) (seen : Roomy Seen) (grant : GrantedNumbers) → ReservedAs named commit seen.items grant
         → SoThen (label.Reserved commit seen grant)
     reserved_fit commit seen grant grants = record {
       reserved_open = reserved_by (label.Reserved commit seen grant) opens
@@ -263,10 +272,10 @@ module _ (named : Numbered) where
           (λ c n apart is. let at = so.reserved_open c n is in
           record { one = at.one; among = in_left past.opens (new ∷ []) at.one at.among; number_is = at.number_is; gives = at.gives; some = at.some });
       aloft = λ k work there aloft. let at = so.aloft k work there aloft in
-          record { one = at.one; among = in_left past.opens (new ∷ []) at.one at.among; number_is = at.number_is; stamp_is = at.stamp_is; frees = at.frees };
+          record { one = at.one; among = in_left past.opens (new ∷ []) at.one at.among; number_is = at.number_is; stamp_is = at.stamp_is; frees = at.frees; writes = at.writes };
       grants = λ one among. elim (last_or_before past.opens new one among) [
         | inl old ↦ so.grants one old
-        | inr same ↦ subst (λ (o : ReservedCommit). GrantFits (bringing_of named o.number) o.grant) same grants
+        | inr same ↦ subst (λ (o : ReservedCommit). ReservedAs named o.number o.seen o.grant) same grants
       ];
     }
       where

@@ -262,10 +262,10 @@ module _ (layout : Layout) (before : ℕ) (stamps : ℕ → ℕ) where
 
     owed_then : (c : ℕ) → own_then c ≡ owed_from (entries_by event_core c done_then) nothing_owed
     owed_then c = sym (
-      ap (λ l. owed_from l nothing_owed) (filter-append (λ e. nat_eq (event_core e) c) done (event ∷ []))
-      ∙ (owed_more (entries_by event_core c done) (entries_by event_core c (event ∷ [])) nothing_owed
-      ∙ (ap (owed_from (entries_by event_core c (event ∷ []))) (sym (at.owed c)) ∙ last c))
-    )
+        ap (λ l. owed_from l nothing_owed) (filter-append (λ e. nat_eq (event_core e) c) done (event ∷ []))
+        ∙ (owed_more (entries_by event_core c done) (entries_by event_core c (event ∷ [])) nothing_owed
+        ∙ (ap (owed_from (entries_by event_core c (event ∷ []))) (sym (at.owed c)) ∙ last c))
+        )
       where
         last : (n : ℕ) → owed_from (entries_by event_core n (event ∷ [])) (at.own n) ≡ own_then n
         last n = elim (same_or_not n core.0) [

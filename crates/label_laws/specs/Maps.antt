@@ -3,6 +3,7 @@ use Rattle.std.specs.Prelude.{◌≡◌, ◌∷◌, ◌++◌, ◌≢◌, length,
 use Rattle.sfs_base.specs.declared.numbers.CoreId.{CoreId}
 use Rattle.sfs_image.specs.Super.{Layout}
 use Rattle.fmt_journal.specs.declared.tx.Tx.{Tx}
+use Rattle.journal_one.specs.Job.{Job}
 use Rattle.space_map.specs.Space.{GrantedNumbers, Space}
 use Rattle.space_map.specs.Pool.{status_of}
 use Rattle.tree_laws.specs.declared.turns.TurnAct.TheVariants as act
@@ -10,9 +11,11 @@ use Rattle.tree_laws.specs.declared.turns.Turn.{Turn}
 use Rattle.disk_change.specs.Written.{IsTransactionOf}
 use Rattle.commit_laws.specs.CommitOfPlan.{change_planned}
 use Rattle.cut_laws.specs.Rules.{IsOneOf}
+use Rattle.beside_laws.specs.Commits.{CoreCommit}
+use Rattle.flush_laws.specs.Journal.{WritesPlan}
 use Rattle.turn_ties.specs.Plans.{amount_planned}
 use Rattle.bringing_laws.specs.Brings.{Bringing}
-use Rattle.walk_laws.specs.Pairs.{Pair, bringing_under}
+use Rattle.walk_laws.specs.Pairs.{Pair, bringing_under, commit_under}
 use Rattle.map_laws.specs.Out.{NeedsFitWords}
 use Rattle.map_laws.specs.Along.{MapGoes}
 use Rattle.stamp_table.specs.declared.event.Event.{Event}
@@ -24,8 +27,9 @@ use Rattle.slot_laws.specs.declared.label.Label.TheVariants as label
 use Rattle.slot_laws.specs.Nodes.{no_numbers}
 use Rattle.slot_laws.specs.Labels.{BoxPast, past_from, first_past}
 use Rattle.slot_laws.specs.Grants.{GoesAlong}
-use Rattle.slot_laws.specs.Lasts.{Reserving, told_reserving}
+use Rattle.slot_laws.specs.Lasts.{Reserving, told_reserving, IsMadeAs}
 use Rattle.slot_laws.specs.Rules.{MayFrom}
+use Rattle.slot_laws.specs.declared.label.Seen.{Seen}
 use Rattle.label_laws.specs.Own.{StandBeside, OwnOwed, own_owed, nothing_owed, owes_nothing, has_numbers}
 
 -- The grant under a number serves what its fsync brings: it is the one that was brought with, and is as much as the plan needs, which fits words.
@@ -41,6 +45,16 @@ pub record FreesAs (one : Bringing) (numbers : GrantedNumbers) : Type 0 where
   pub inodes : tx.freed_inodes.items ≡ numbers.inodes
   pub blocks : tx.freed_blocks.items ≡ numbers.blocks
 
+-- A commit begins as what its fsync brings: its job writes the plan, and it gives up these numbers.
+pub record BeginsAs (one : Bringing) (job : Job) (numbers : GrantedNumbers) : Type 0 where
+  pub writes : WritesPlan one.plan one.grant job
+  pub frees : FreesAs one numbers
+
+-- One that wrote nothing gives nothing up, and no inode a part.
+pub record IsEmptyAs (one : Bringing) : Type 0 where
+  pub gives : one.parts ≡ []
+  pub frees : FreesAs one no_numbers
+
 -- What commits bring by the stamps of their fsyncs, and the stamp of each by its commit's number.
 pub record Numbered : Type 0 where
   pub pairs : ℕ → Pair
@@ -50,13 +64,22 @@ pub record Numbered : Type 0 where
 abbrev pub bringing_of : Numbered → ℕ → Bringing
 bringing_of named number = bringing_under named.pairs (named.stamps number)
 
--- An event fits what the commit brings that it tells of: a reserving has its grant, a commit that begins gives up what its plan does, and so does one
--- that wrote nothing.
+-- the commit with a number, as its core made it
+abbrev pub commit_numbered : Numbered → ℕ → CoreCommit
+commit_numbered named number = commit_under named.pairs (named.stamps number)
+
+-- A number is reserved for a commit of these nodes, as its core made it, with a grant that serves what its fsync brings.
+pub record ReservedAs (named : Numbered) (number : ℕ) (seen : List Seen) (grant : GrantedNumbers) : Type 0 where
+  pub made : IsMadeAs (commit_numbered named number) number seen
+  pub grants : GrantFits (bringing_of named number) grant
+
+-- An event fits what the commit brings that it tells of: a reserving has its nodes and its grant, a commit that begins writes the plan and gives up what
+-- it does, and one that wrote nothing gives nothing.
 abbrev pub FitsBringing : Numbered → Event Label → Type 0
-FitsBringing named (Told core (label.Reserved commit seen grant)) = GrantFits (bringing_of named commit) grant
+FitsBringing named (Told core (label.Reserved commit seen grant)) = ReservedAs named commit seen.items grant
 FitsBringing named (Told core (label.Began filling commit node stamp blocks inodes)) =
-    FreesAs (bringing_of named commit) (record { inodes = inodes.items; blocks = blocks.items })
-FitsBringing named (Told core (label.Empty commit cut opened durable)) = FreesAs (bringing_of named commit) no_numbers
+    BeginsAs (bringing_of named commit) filling.job (record { inodes = inodes.items; blocks = blocks.items })
+FitsBringing named (Told core (label.Empty commit cut opened durable)) = IsEmptyAs (bringing_of named commit)
 FitsBringing named _ = Unit {0}
 
 -- so does each of a history
