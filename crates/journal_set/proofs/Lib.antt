@@ -1,5 +1,7 @@
 pub mod Around
+pub mod Emptied
 pub mod Grants
+pub mod Nothing
 pub mod Opens
 pub mod Parts
 pub mod Reserved

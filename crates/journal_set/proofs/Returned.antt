@@ -50,11 +50,11 @@ module _ {D : Type 0} (view : D → View) (key : BoxKey) (core : ℕ) (past : Bo
   own_now = own_after key.layout core (label.Returned number) past
 
   -- what it owes no more
-  owed_none : (own : OwnTold) → own.reserved ≡ None → own.flight ≡ None → (over : Bool) → own.over ≡ over → owed_of own None ≡ 0
+  pub owed_none : (own : OwnTold) → own.reserved ≡ None → own.flight ≡ None → (over : Bool) → own.over ≡ over → owed_of own None ≡ 0
   owed_none own none idle true over = rw over refl
   owed_none own none idle false over = rw over (rw none (rw idle refl))
 
-  owed_three : (own : OwnTold) → own.reserved ≡ Some number → own.over ≡ false → owed_of own None ≡ 3
+  pub owed_three : (own : OwnTold) → own.reserved ≡ Some number → own.over ≡ false → owed_of own None ≡ 3
   owed_three own is over = rw over (rw is refl)
 
   pub room_returned : (past.owns core).over ≡ false → owed_by key.layout.cores later + 3 ≤ owed_by key.layout.cores past

@@ -1,5 +1,5 @@
 -- What a core that is at work with the box may note.
-use Rattle.std.proofs.Common.{◌≡◌, ◌∷◌, ◌++◌, ◌+◌, ◌*◌, ◌<◌, ◌≤◌, ◌∙◌, ℕ, Bool, List, [], Option, Some, None, inl, inr, refl, sym, ap, subst, arith, true, false}
+use Rattle.std.proofs.Common.{◌≡◌, ◌∷◌, ◌++◌, ◌+◌, ◌*◌, ◌<◌, ◌≤◌, ◌∙◌, ℕ, Bool, List, [], length, option_map, Option, Some, None, inl, inr, refl, sym, ap, subst, arith, true, false}
 use Rattle.sfs_base.proofs.BasicOptions.{some_not_none}
 use Rattle.sfs_dev.specs.Disk.{View}
 use Rattle.stamp_table.specs.Table.{TableState}
@@ -12,7 +12,11 @@ use Rattle.slot_laws.proofs.Basics.{at_same, at_other}
 use Rattle.disk_box.proofs.Frames.{owed_less}
 use Rattle.disk_box.specs.declared.key.BoxKey.{BoxKey}
 use Rattle.disk_box.specs.declared.desk.Desk.{Desk}
-use Rattle.disk_box.specs.Desk.{FrameFits, owed_by, owed_of, turn_faults}
+use Rattle.disk_box.specs.Desk.{DeskFits, FaultsFit, FrameFits, open_told, owed_by, owed_of, turn_faults, wait_in}
+use Rattle.disk_box.specs.Slots.{SlotsFit}
+use Rattle.slot_image_laws.specs.Run.{RunFits}
+use Rattle.commit_ledger.specs.Keeps.{LedgerKeeps}
+use Rattle.commit_ledger.specs.View.{open_in}
 use Rattle.disk_box.specs.Pens.{PenHand, HoldsBox, IsAtDesk, IsAtWork, past_at, own_at}
 use Rattle.disk_box.proofs.After.{past_fits_at}
 use Rattle.disk_box.proofs.Owes.{owns_own}
@@ -70,3 +74,29 @@ owed_by_noted key core n past turn = owed_less n past (after_label key.layout co
       subst (λ (o : OwnTold). owed_of o (past.waits other) ≤ owed_of (past.owns other) (past.waits other))
       (sym (at_other past.owns core (own_label (label.Noted turn) (past.owns core)) other not)) (omega arith)
   ])
+
+-- more room for turns leaves a desk fit
+pub desk_roomier : {D : Type 0} (view : D → View) (key : BoxKey) (past : BoxPast) (was now : Desk D) → DeskFits view key past was
+    → now ≡ record was { turns = now.turns } → now.turns.items ≡ was.turns.items → was.turns.spare ≤ now.turns.spare → DeskFits view key past now
+desk_roomier {D = D} view key past was now old same items more = record {
+  frame = record {
+    layout = old.frame.layout;
+    large = subst (λ (d : Desk D). key.layout.blocks ≤ (view d.disk).size) (sym same) old.frame.large;
+    laws = old.frame.laws;
+    count = ap (λ (d : Desk D). length d.slots.items) same ∙ old.frame.count;
+    cores = ap (λ (d : Desk D). length d.waits.items) same ∙ old.frame.cores;
+    waits = λ c. ap (λ (d : Desk D). wait_in d.waits.items c) same ∙ old.frame.waits c;
+    ledger = subst (λ (d : Desk D). LedgerKeeps d.ledger past) (sym same) old.frame.ledger;
+    places = ap (λ (d : Desk D). length d.ledger.opens) same ∙ old.frame.places;
+    opens = λ c. ap (λ (d : Desk D). option_map open_told (open_in d.ledger c)) same ∙ old.frame.opens c;
+    stamps = ap (λ (d : Desk D). d.stamps) same ∙ old.frame.stamps;
+    faults = ap (λ (d : Desk D). d.faults) same ∙ old.frame.faults;
+    failed = ap (λ (d : Desk D). d.failed) same ∙ old.frame.failed;
+    turns = items ∙ old.frame.turns;
+    moment = subst (λ (d : Desk D). past.moment ≤ (view d.disk).now) (sym same) old.frame.moment;
+    run = subst (λ (d : Desk D). RunFits key.layout key.start past (view d.disk)) (sym same) old.frame.run;
+  };
+  room = (let room = old.room in omega (arith, room, more));
+  faults = subst (λ (d : Desk D). FaultsFit key.faults past.failed (view d.disk).faults) (sym same) old.faults;
+  slots = λ calm. subst (λ (d : Desk D). SlotsFit key.layout past.slots d.slots.items) (sym same) (old.slots calm);
+}

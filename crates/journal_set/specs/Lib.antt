@@ -1,5 +1,7 @@
+pub mod Emptying
 pub mod Grants
 pub mod Numbering
 pub mod Ready
+pub mod Refusing
 pub mod Reserving
 pub mod Returning

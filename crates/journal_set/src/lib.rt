@@ -1,8 +1,10 @@
 //! The journals of all cores at one disk: reserve, commit, give back.
 #![tactic(auto)]
 
+mod emptying;
 mod fault;
 mod numbering;
+mod refusing;
 mod reserving;
 mod returning;
 mod set;

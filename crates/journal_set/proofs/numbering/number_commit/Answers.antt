@@ -33,22 +33,22 @@ pub note-requires-clause-may : goal.note-requires-clause-may
 note-requires-clause-may g c κs within =
     let pen = c.args.pen.now in
     let desk = c.args.desk.now in
-    let work = c.requires.work in
+    let work = c.requires.may.work in
     let own = owns_own c.args.table.now pen work.holds in
     let ok = c.in_ok-prepared.ensures.ok in
     let made = c.in_ok-prepared.prepared in
     let next = ok.number ∙ ap (λ n. n + 1) work.fits.frame.ledger.commits in
-    let unmoved = subst (λ l. (node last : ℕ) → last_seen l node ≡ Some last → (past_at pen).lasts node ≡ last_ended last) (sym ok.seen_is) c.requires.unmoved in
+    let unmoved = subst (λ l. (node last : ℕ) → last_seen l node ≡ Some last → (past_at pen).lasts node ≡ last_ended last) (sym ok.seen_is) c.requires.may.unmoved in
     subst (λ (l : Label). MayLabel pen.table.given.layout pen.table.given.faults pen.view.core l (past_at pen)) (sym c.label_for-label.ensures)
     (reserved_rule g.D.Disk.view pen.table.given pen.view.core (past_at pen) (past_fits_at c.args.table.now pen work.holds) desk work.fits.frame
-    work.holds.core_is (ap (λ (o : OwnTold). o.reserved) own ∙ c.requires.rests.0) (ap (λ (o : OwnTold). o.flight) own ∙ c.requires.rests.1) made.number
+    work.holds.core_is (ap (λ (o : OwnTold). o.reserved) own ∙ c.requires.may.rests.0) (ap (λ (o : OwnTold). o.flight) own ∙ c.requires.may.rests.1) made.number
     made.seen made.grant work.calm next unmoved)
 
 pub enter-requires : goal.enter-requires
 enter-requires g c =
     let pen = c.args.pen.now in
     let desk = c.args.desk.now in
-    let work = c.requires.work in
+    let work = c.requires.may.work in
     let own = owns_own c.args.table.now pen work.holds in
     let ok = c.in_ok-prepared.ensures.ok in
     let made = c.in_ok-prepared.prepared in
@@ -58,7 +58,7 @@ enter-requires g c =
     in
     let places = subst (λ l. HasPlaces c.prepare.new.self.lasts l) (sym ok.seen_is ∙ ap (λ (r : Roomy Seen). r.items) nodes) ok.places in
     let enter = may_enter g.D.Disk.view pen.table.given pen.view.core (past_at pen) (past_fits_at c.args.table.now pen work.holds) desk work.fits.frame
-      work.holds.core_is (ap (λ (o : OwnTold). o.reserved) own ∙ c.requires.rests.0) (ap (λ (o : OwnTold). o.flight) own ∙ c.requires.rests.1)
+      work.holds.core_is (ap (λ (o : OwnTold). o.reserved) own ∙ c.requires.may.rests.0) (ap (λ (o : OwnTold). o.flight) own ∙ c.requires.may.rests.1)
       c.prepare.new.self c.parts_of-nodes.result.0.items ok.taken.opens places
     in
     let core_same = ap (λ (v : Sight TreeState (Event Label)). v.core) c.note.ensures.tells.goes.view in
@@ -71,7 +71,7 @@ returns-clause-ok g c =
     let pen = c.args.pen.now in
     let after = c.note.new.pen in
     let desk = c.args.desk.now in
-    let work = c.requires.work in
+    let work = c.requires.may.work in
     let own = owns_own t pen work.holds in
     let ok = c.in_ok-prepared.ensures.ok in
     let made = c.in_ok-prepared.prepared in
@@ -82,10 +82,10 @@ returns-clause-ok g c =
     let grants = same_grant made.number parts.0 made.seen c.parts_of-nodes.result.0 made.grant c.parts_of-nodes.result.1 both in
     let tells : TellsLabel told pen after = subst (λ (l : Label). TellsLabel l pen after) c.label_for-label.ensures c.note.ensures.tells in
     let core_same = ap (λ (v : Sight TreeState (Event Label)). v.core) tells.goes.view in
-    let none = ap (λ (o : OwnTold). o.reserved) own ∙ c.requires.rests.0 in
-    let rests = ap (λ (o : OwnTold). o.flight) own ∙ c.requires.rests.1 in
+    let none = ap (λ (o : OwnTold). o.reserved) own ∙ c.requires.may.rests.0 in
+    let rests = ap (λ (o : OwnTold). o.flight) own ∙ c.requires.may.rests.1 in
     let next = ok.number ∙ ap (λ n. n + 1) work.fits.frame.ledger.commits in
-    let unmoved = subst (λ l. (node last : ℕ) → last_seen l node ≡ Some last → (past_at pen).lasts node ≡ last_ended last) (sym ok.seen_is) c.requires.unmoved in
+    let unmoved = subst (λ l. (node last : ℕ) → last_seen l node ≡ Some last → (past_at pen).lasts node ≡ last_ended last) (sym ok.seen_is) c.requires.may.unmoved in
     let fits = past_fits_at t pen work.holds in
     let rule = reserved_rule g.D.Disk.view pen.table.given pen.view.core (past_at pen) fits desk work.fits.frame work.holds.core_is none rests made.number
       made.seen made.grant work.calm next unmoved
@@ -102,7 +102,7 @@ returns-clause-ok g c =
     let now : Desk D = record desk { ledger = c.enter.new.self } in
     let at = at_told g.D.Disk.view t pen after told c.note.ensures.holds tells desk now work.space (goes.space (record { 0 = pen.view.core }))
       (entered_fits g.D.Disk.view pen.table.given pen.view.core (past_at pen) fits desk work.fits.frame work.holds.core_is none rests made.number made.seen
-      made.grant work.calm next unmoved c.prepare.new.self c.enter.new.self ok.taken.opens enters goes work.fits c.requires.room)
+      made.grant work.calm next unmoved c.prepare.new.self c.enter.new.self ok.taken.opens enters goes work.fits c.requires.may.room)
     in
     let key_same : after.table.given ≡ pen.table.given = ap (λ (h : PenHand D). h.table.given) tells.goes.frame in
     record {
