@@ -36,7 +36,15 @@ past_fits key log may = lawful_fits key.layout key.faults log (first_past key.st
 
 pub same_beside : {D : Type 0} (view : D → View) (desk : Desk D) → SameBeside view desk desk
 same_beside view desk = record {
-  count = refl; waits = refl; ledger = refl; stamps = refl; faults = refl; failed = refl; turns = refl; size = refl; later = omega arith;
+  count = refl;
+  waits = refl;
+  ledger = refl;
+  stamps = refl;
+  faults = refl;
+  failed = refl;
+  turns = refl;
+  size = refl;
+  later = omega arith;
 }
 
 -- nothing is kept otherwise by a label that changes neither nodes, turns, numbers nor what its core told
@@ -70,7 +78,7 @@ module _ {D : Type 0} (view : D → View) (key : BoxKey) (core : ℕ) (desk : De
   took_fits past fits home = record {
     room = room_same view key past (after_label key.layout core label.Took past) desk desk home.room (took_kept past) (same_beside view desk);
     frame = frame_same view key past (after_label key.layout core label.Took past) desk desk home.frame (took_kept past) (same_beside view desk)
-    (told_labels_fit (view desk.disk) key.layout key.faults core key.start label.Took past fits tt tt (home.frame.laws desk.disk) home.frame.run);
+        (told_labels_fit (view desk.disk) key.layout key.faults core key.start label.Took past fits tt tt (home.frame.laws desk.disk) home.frame.run);
     faults = home.faults;
     slots = home.slots;
   }
@@ -92,7 +100,7 @@ module _ {D : Type 0} (view : D → View) (key : BoxKey) (core : ℕ) (desk : De
   gave_fits past fits home = record {
     room = room_same view key past (after_label key.layout core label.Gave past) desk desk home.room (gave_kept past) (same_beside view desk);
     frame = frame_same view key past (after_label key.layout core label.Gave past) desk desk home.frame (gave_kept past) (same_beside view desk)
-    (told_labels_fit (view desk.disk) key.layout key.faults core key.start label.Gave past fits tt tt (home.frame.laws desk.disk) home.frame.run);
+        (told_labels_fit (view desk.disk) key.layout key.faults core key.start label.Gave past fits tt tt (home.frame.laws desk.disk) home.frame.run);
     faults = home.faults;
     slots = home.slots;
   }
@@ -230,13 +238,14 @@ module _ {D : Type 0} (view : D → View) (t : TableState BoxKey) (before holdin
           ∙ (λ i. record (holds.saw.frame i) { seen = before.view.seen; mine = before.view.mine; held = before.view.held }));
       seen =
           let one = holds.saw.seen in
-          let two = tells.told.2.seen in
-          (one.0 ++ (two.0 ++ event ∷ []),
-          sym (append_assoc before.view.seen one.0 (two.0 ++ event ∷ []))
-          ∙ (ap (λ l. l ++ (two.0 ++ event ∷ [])) one.1
-          ∙ (ap (λ (v : Sight TreeState (Event Label)). v.seen ++ (two.0 ++ event ∷ [])) (sym view_same)
-          ∙ (sym (append_assoc replaced.view.seen two.0 (event ∷ []))
-          ∙ (ap (λ l. l ++ event ∷ []) two.1 ∙ sym tells.told.2.entry_last)))));
+          let two = tells.told.2.seen in (
+            one.0 ++ (two.0 ++ event ∷ []),
+            sym (append_assoc before.view.seen one.0 (two.0 ++ event ∷ []))
+                ∙ (ap (λ l. l ++ (two.0 ++ event ∷ [])) one.1
+                ∙ (ap (λ (v : Sight TreeState (Event Label)). v.seen ++ (two.0 ++ event ∷ [])) (sym view_same)
+                ∙ (sym (append_assoc replaced.view.seen two.0 (event ∷ []))
+                ∙ (ap (λ l. l ++ event ∷ []) two.1 ∙ sym tells.told.2.entry_last)))),
+          );
     }
 
     pub room_now : after.room + 1 ≡ before.room

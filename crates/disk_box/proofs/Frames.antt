@@ -16,9 +16,9 @@ use Rattle.disk_box.specs.Desk.{FrameFits, DeskFits, owed_by, owed_of}
 -- one put where it is already
 pub at_itself : {X : Type 0} (all : ℕ → X) (place : ℕ) (one : X) (other : ℕ) → one ≡ all place → with_at all place one other ≡ all other
 at_itself all place one other is = elim (same_or_not other place) [
-    | inl same ↦ at_same all place one other same ∙ is ∙ ap all (sym same)
-    | inr not ↦ at_other all place one other not
-  ]
+  | inl same ↦ at_same all place one other same ∙ is ∙ ap all (sym same)
+  | inr not ↦ at_other all place one other not
+]
 
 -- the turns that may come: no more than before where no core may take more
 pub owed_less : (n : ℕ) (old new : BoxPast)
@@ -36,17 +36,17 @@ pub owed_taken : (n core took : ℕ) (old new : BoxPast) → core < n
     → owed_by n new + took ≤ owed_by n old
 owed_taken zero core took old new low own others = absurd (omega arith)
 owed_taken (suc n) core took old new low own others = elim (same_or_not core n) [
-    | inl same ↦
+  | inl same ↦
       let front = owed_less n old new (λ other below. others other (omega arith) (λ e. absurd (omega (arith, same, below, e)))) in
       let here : owed_of (new.owns n) (new.waits n) + took ≤ owed_of (old.owns n) (old.waits n) =
-        subst (λ c. owed_of (new.owns c) (new.waits c) + took ≤ owed_of (old.owns c) (old.waits c)) same own
+      subst (λ c. owed_of (new.owns c) (new.waits c) + took ≤ owed_of (old.owns c) (old.waits c)) same own
       in
       omega arith
-    | inr not ↦
+  | inr not ↦
       let front = owed_taken n core took old new (omega (arith, low, not)) own (λ other below. others other (omega arith)) in
       let last = others n (omega arith) (λ e. not (sym e)) in
       omega arith
-  ]
+]
 
 -- What a core told is at a label's end: its own, with the label.
 module _ (layout : Rattle.sfs_image.specs.Super.Layout) (core : ℕ) (fact : Label) (past : BoxPast) where

@@ -57,7 +57,7 @@ module _ {D : Type 0} (view : D → View) (t : TableState BoxKey) (before : PenH
         let event = Told (record { 0 = before.view.core }) label.Gave in
         let seen = seen_is view t before holds label.Gave told tells in
         let same : past_of key told.view.seen ≡ after_label key.layout before.view.core label.Gave (past_at before) =
-          ap (past_of key) seen ∙ past_parts key.layout key.faults before.view.seen (event ∷ []) (first_past key.start)
+        ap (past_of key) seen ∙ past_parts key.layout key.faults before.view.seen (event ∷ []) (first_past key.start)
         in
         record {
           fits = subst (λ (p : BoxPast). DeskFits view key p desk) (sym same)
@@ -114,8 +114,10 @@ module _ {D : Type 0} (view : D → View) (t : TableState BoxKey) (before : PenH
             view =
                 (λ i. record (lets.view i) { seen = before.view.seen; mine = before.view.mine; held = before.view.held })
                 ∙ ((λ i. record ((put_is i).view) { seen = before.view.seen; mine = before.view.mine; held = before.view.held }) ∙ told_goes.view);
-            seen = (told_goes.seen.0,
-                told_goes.seen.1 ∙ (ap (λ (h : PenHand D). h.view.seen) (sym put_is) ∙ ap (λ (v : Sight TreeState (Event Label)). v.seen) (sym lets.view)));
+            seen = (
+              told_goes.seen.0,
+              told_goes.seen.1 ∙ (ap (λ (h : PenHand D). h.view.seen) (sym put_is) ∙ ap (λ (v : Sight TreeState (Event Label)). v.seen) (sym lets.view)),
+            );
           }
 
       pub room_left : after.room ≡ before.room + 1

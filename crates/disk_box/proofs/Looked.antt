@@ -30,9 +30,9 @@ module _ (key : BoxKey) (core : ℕ) (past : BoxPast) (fits : PastFits key.layou
   flew_so : (flight : Option SlotFlight) → (past.owns core).flight ≡ flight → (f : SlotFlight) × ((past.owns core).flight ≡ Some f) × Landed past.waits core f
   flew_so None is = absurd (none_some (sym (fits.flights.idle core is) ∙ waits))
   flew_so (Some f) is = elim (fits.flights.each core f is).is [
-      | inl flies ↦ absurd (none_some (sym flies.none ∙ waits))
-      | inr landed ↦ (f, is, landed)
-    ]
+    | inl flies ↦ absurd (none_some (sym flies.none ∙ waits))
+    | inr landed ↦ (f, is, landed)
+  ]
 
   pub flew : (f : SlotFlight) × ((past.owns core).flight ≡ Some f) × Landed past.waits core f
   flew = flew_so (past.owns core).flight refl
@@ -74,13 +74,13 @@ module _ (key : BoxKey) (core : ℕ) (past : BoxPast) (fits : PastFits key.layou
 
   pub open_looked : (other : ℕ) → open_for (later.owns other) (later.waits other) ≡ open_for (past.owns other) (past.waits other)
   open_looked other = elim (same_or_not other core) [
-      | inl same ↦
+    | inl same ↦
         ap (λ c. open_for (later.owns c) (later.waits c)) same
         ∙ ((λ i. open_for (owns_now i) (waits_now i))
         ∙ (nothing_open (own_label (label.Looked turn) (past.owns core)) none_reserved refl
         ∙ (sym (ap (open_for (past.owns core)) waits) ∙ ap (λ c. open_for (past.owns c) (past.waits c)) (sym same))))
-      | inr not ↦ λ i. open_for (others_after key.layout core (label.Looked turn) past other not i) (at_other past.waits core None other not i)
-    ]
+    | inr not ↦ λ i. open_for (others_after key.layout core (label.Looked turn) past other not i) (at_other past.waits core None other not i)
+  ]
 
   owes_none : (own : OwnTold) → own.reserved ≡ None → own.flight ≡ None → (over : Rattle.std.proofs.Common.Bool) → own.over ≡ over → owed_of own None ≡ 0
   owes_none own none idle true over = rw over refl
@@ -88,18 +88,18 @@ module _ (key : BoxKey) (core : ℕ) (past : BoxPast) (fits : PastFits key.layou
 
   owed_looked : (other : ℕ) → owed_of (later.owns other) (later.waits other) ≤ owed_of (past.owns other) (past.waits other)
   owed_looked other = elim (same_or_not other core) [
-      | inl same ↦
+    | inl same ↦
         let here : owed_of (later.owns other) (later.waits other) ≡ 0 = ap (λ c. owed_of (later.owns c) (later.waits c)) same
-          ∙ ((λ i. owed_of (owns_now i) (waits_now i))
-          ∙ owes_none (own_label (label.Looked turn) (past.owns core)) none_reserved refl (past.owns core).over refl)
+        ∙ ((λ i. owed_of (owns_now i) (waits_now i))
+        ∙ owes_none (own_label (label.Looked turn) (past.owns core)) none_reserved refl (past.owns core).over refl)
         in
         omega (arith, here)
-      | inr not ↦
+    | inr not ↦
         let here : owed_of (later.owns other) (later.waits other) ≡ owed_of (past.owns other) (past.waits other) =
-          λ i. owed_of (others_after key.layout core (label.Looked turn) past other not i) (at_other past.waits core None other not i)
+        λ i. owed_of (others_after key.layout core (label.Looked turn) past other not i) (at_other past.waits core None other not i)
         in
         omega (arith, here)
-    ]
+  ]
 
   -- the desk fits, once the turn is gone from it
   module _ {D : Type 0} (view : D → View) (was now : Desk D) (low : core < key.layout.cores) (same : now ≡ record was { waits = now.waits })

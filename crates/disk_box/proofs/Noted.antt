@@ -40,12 +40,12 @@ module _ {D : Type 0} (view : D → View) (key : BoxKey) (core : ℕ) (past : Bo
   -- the number reserved and the flight are as they were
   pub open_noted : (other : ℕ) → open_for (later.owns other) (past.waits other) ≡ open_for (past.owns other) (past.waits other)
   open_noted other = elim (same_or_not other core) [
-      | inl same ↦
+    | inl same ↦
         ap (λ (o : OwnTold). open_for o (past.waits other)) (at_same past.owns core (own_label (label.Noted turn) (past.owns core)) other same)
         ∙ open_same (past.waits other)
         ∙ ap (λ (c : ℕ). open_for (past.owns c) (past.waits other)) (sym same)
-      | inr not ↦ ap (λ (o : OwnTold). open_for o (past.waits other)) (at_other past.owns core (own_label (label.Noted turn) (past.owns core)) other not)
-    ] where
+    | inr not ↦ ap (λ (o : OwnTold). open_for o (past.waits other)) (at_other past.owns core (own_label (label.Noted turn) (past.owns core)) other not)
+  ] where
     open_same : (waits : Option Turn) → open_for (own_label (label.Noted turn) (past.owns core)) waits ≡ open_for (past.owns core) waits
     open_same None = refl
     open_same (Some t) = refl

@@ -29,13 +29,13 @@ owns_own t pen holds =
 pub owed_within : (n core : ℕ) (past : BoxPast) → core < n → owed_of (past.owns core) (past.waits core) ≤ owed_by n past
 owed_within zero core past low = absurd (omega arith)
 owed_within (suc n) core past low = elim (same_or_not core n) [
-    | inl same ↦
+  | inl same ↦
       let here : owed_of (past.owns n) (past.waits n) ≡ owed_of (past.owns core) (past.waits core) =
-        ap (λ c. owed_of (past.owns c) (past.waits c)) (sym same)
+      ap (λ c. owed_of (past.owns c) (past.waits c)) (sym same)
       in
       omega (arith, here)
-    | inr not ↦ (let rest = owed_within n core past (omega (arith, low, not)) in omega (arith, rest))
-  ]
+  | inr not ↦ (let rest = owed_within n core past (omega (arith, low, not)) in omega (arith, rest))
+]
 
 -- one that may take a turn has room for it
 pub room_for : {D : Type 0} (key : BoxKey) (core k : ℕ) (past : BoxPast) (desk : Desk D) → core < key.layout.cores → RoomFits key past desk
@@ -58,7 +58,7 @@ owed_ends n core k old new low owes over others waits =
     let none = owed_over (new.owns core) (new.waits core) over in
     owed_taken n core k old new low (omega (arith, none, owes)) (λ other below not.
     let same : owed_of (new.owns other) (new.waits other) ≡ owed_of (old.owns other) (old.waits other) =
-      λ i. owed_of (others other not i) (waits other i)
+    λ i. owed_of (others other not i) (waits other i)
     in
     omega (arith, same))
 
@@ -80,7 +80,7 @@ pub ended_room : {D : Type 0} (key : BoxKey) (core : ℕ) (past : BoxPast) (turn
 ended_room key core past turn desk low ends looked fits room =
     let later = after_label key.layout core (label.Noted turn) past in
     let over : (later.owns core).over ≡ true = ap (λ (o : OwnTold). o.over) (own_after key.layout core (label.Noted turn) past)
-      ∙ ap (λ b. b || (past.owns core).over) ends
+    ∙ ap (λ b. b || (past.owns core).over) ends
     in
     let others = others_after key.layout core (label.Noted turn) past in
     let here : owed_of (past.owns core) (past.waits core) ≡ owed_of (past.owns core) None = ap (owed_of (past.owns core)) looked in

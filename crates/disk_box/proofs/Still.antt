@@ -33,7 +33,7 @@ who_tells core owner (label.Empty c u o d) busy turn is = some_same (sym turn �
 some_own : (core : ℕ) (event : Event Label) (more : List (Event Label)) → event_core event ≡ core → entries_by event_core core (event ∷ more) ≡ [] → ⊥
 some_own core event more own none =
     let there : entries_by event_core core (event ∷ more) ≡ event ∷ entries_by event_core core more =
-      ap (λ b. cond b (event ∷ entries_by event_core core more) (entries_by event_core core more)) (ap (λ n. nat_eq n core) own ∙ same_number core)
+    ap (λ b. cond b (event ∷ entries_by event_core core more) (entries_by event_core core more)) (ap (λ n. nat_eq n core) own ∙ same_number core)
     in
     cc (there, none)
 

@@ -86,7 +86,7 @@ module _ {D : Type 0} (view : D → View) (t : TableState BoxKey) (before : PenH
       let whole : before.view.seen ++ more ≡ log = past.seen.1 in
       let mine = sym past.mine ∙ holds.mine in
       let none = is_seen key before.view.seen more before.view.core (subst (LawfulBox key) (sym whole) past.legal_log.told) holds.busy
-        (ap (λ l. length (entries_by event_core before.view.core l)) whole ∙ ap length mine)
+      (ap (λ l. length (entries_by event_core before.view.core l)) whole ∙ ap length mine)
       in
       sym whole ∙ ap (λ l. before.view.seen ++ l) none ∙ append-nil before.view.seen
 
@@ -117,7 +117,7 @@ module _ {D : Type 0} (view : D → View) (t : TableState BoxKey) (before : PenH
         let mine = ap length holds.mine in
         let may = may_parts key.layout key.faults log (event ∷ []) (first_past key.start) (subst (LawfulBox key) drew.entry_last drew.legal_seen.told) in
         let none = is_seen key before.view.seen more before.view.core (subst (LawfulBox key) (sym whole) may.0) holds.busy
-          (ap (λ l. length (entries_by event_core before.view.core l)) whole ∙ omega (arith, counted, one, other, mine))
+        (ap (λ l. length (entries_by event_core before.view.core l)) whole ∙ omega (arith, counted, one, other, mine))
         in
         sym whole ∙ ap (λ l. before.view.seen ++ l) none ∙ append-nil before.view.seen
 

@@ -14,13 +14,13 @@ use Rattle.disk_box.specs.Desk.{wait_in}
 pub wait_put : (waits : List (Option Turn)) (core : ℕ) (turn : Option Turn) → core < length waits → (other : ℕ)
     → wait_in (slice_set waits core turn) other ≡ with_at (wait_in waits) core turn other
 wait_put waits core turn low other = elim (same_or_not other core) [
-    | inl same ↦
+  | inl same ↦
       unwrap_or-slice_get (slice_set waits core turn) other None ∙ (get_or-set_at waits core other turn None same low
       ∙ sym (at_same (wait_in waits) core turn other same))
-    | inr not ↦
+  | inr not ↦
       unwrap_or-slice_get (slice_set waits core turn) other None ∙ (get_or-set_other waits core other turn None not
       ∙ (sym (unwrap_or-slice_get waits other None) ∙ sym (at_other (wait_in waits) core turn other not)))
-  ]
+]
 
 -- what a list has for a core is what waits for it
 pub wait_read : (waits : List (Option Turn)) (at core : ℕ) (there : Option Turn) (known : ℕ → Option Turn) → ((c : ℕ) → wait_in waits c ≡ known c)

@@ -1,4 +1,5 @@
 pub mod Box
+pub mod Calls
 pub mod Desk
 pub mod Kind
 pub mod Pens

@@ -11,11 +11,7 @@ use slot_laws::Label;
 use std::sync::Wait;
 
 /// Takes the box, and what lies in it. It waits while another core has it.
-pub fn enter<R: Wait, D: Disk + Drop>(
-    rt: &R,
-    table: &BoxTable<D>,
-    pen: &mut Pen<D>,
-) -> Desk<D>
+pub fn enter<R: Wait, D: Disk + Drop>(rt: &R, table: &BoxTable<D>, pen: &mut Pen<D>) -> Desk<D>
     requires outside { IsOutside table.now pen.old }
     requires room { 0 < pen.old.room }
     ensures at { IsAtDesk D.view table.now pen.new result }

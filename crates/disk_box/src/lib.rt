@@ -8,6 +8,7 @@ mod key;
 mod kind;
 mod looking;
 mod meaning;
+mod steps;
 mod turns;
 
 pub use desk::{Desk, Phase, Slot};
@@ -17,4 +18,5 @@ pub use key::BoxKey;
 pub use kind::Kind;
 pub use looking::{halt, look};
 pub use meaning::{BoxMeaning, BoxTable, Pen};
+pub use steps::{fill_one, place_one, shut_one};
 pub use turns::{Fsync, note_turn};

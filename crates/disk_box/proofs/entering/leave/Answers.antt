@@ -17,7 +17,7 @@ pub let_go-requires-clause-home : goal.let_go-requires-clause-home
 let_go-requires-clause-home g c =
     let at = c.requires.at in
     let tells = subst (λ (d : TableName BoxKey). TellsFact (Lawful g.D.Disk.view d.given) (Stood g.D.Disk.view d.given) label.Gave c.args.pen.now
-      c.tell.new.self) (sym at.holds.table_is) c.tell.ensures
+    c.tell.new.self) (sym at.holds.table_is) c.tell.ensures
     in
     subst (λ (d : TableName BoxKey). EachFrom 0 (Stands (Lawful g.D.Disk.view d.given) (Stood g.D.Disk.view d.given) c.replace.new.self.view)
     c.replace.new.self.held) at.holds.table_is
@@ -28,7 +28,7 @@ pub returns-clause-own : goal.returns-clause-own
 returns-clause-own g c =
     let at = c.requires.at in
     let tells = subst (λ (d : TableName BoxKey). TellsFact (Lawful g.D.Disk.view d.given) (Stood g.D.Disk.view d.given) label.Gave c.args.pen.now
-      c.tell.new.self) (sym at.holds.table_is) c.tell.ensures
+    c.tell.new.self) (sym at.holds.table_is) c.tell.ensures
     in
     own_left g.D.Disk.view c.args.table.now c.args.pen.now at.holds c.args.desk at.fits at.space c.tell.new.self c.replace.new.self
     tells c.replace.ensures.new c.let_go.new.self c.let_go.ensures.lets_go c.let_go.ensures.left c.let_go.ensures.places
@@ -37,7 +37,7 @@ pub returns-clause-mine : goal.returns-clause-mine
 returns-clause-mine g c =
     let at = c.requires.at in
     let tells = subst (λ (d : TableName BoxKey). TellsFact (Lawful g.D.Disk.view d.given) (Stood g.D.Disk.view d.given) label.Gave c.args.pen.now
-      c.tell.new.self) (sym at.holds.table_is) c.tell.ensures
+    c.tell.new.self) (sym at.holds.table_is) c.tell.ensures
     in
     mine_left g.D.Disk.view c.args.table.now c.args.pen.now at.holds c.args.desk at.fits at.space c.tell.new.self c.replace.new.self
     tells c.replace.ensures.new c.let_go.new.self c.let_go.ensures.lets_go c.let_go.ensures.left c.let_go.ensures.places

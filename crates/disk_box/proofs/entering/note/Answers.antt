@@ -17,7 +17,7 @@ tell-requires-clause-may g c =
 pub returns-clause-holds : goal.returns-clause-holds
 returns-clause-holds g c =
     let tells = subst (λ (d : TableName BoxKey). TellsFact (Lawful g.D.Disk.view d.given) (Stood g.D.Disk.view d.given) c.args.label.now c.args.pen.now
-      c.tell.new.self) (sym c.requires.holds.table_is) c.tell.ensures
+    c.tell.new.self) (sym c.requires.holds.table_is) c.tell.ensures
     in
     holds_told g.D.Disk.view c.args.table.now c.args.pen.now c.requires.holds c.args.label.now c.tell.new.self tells
     (amid_busy c.args.pen.now.table.given.layout c.args.label.now c.args.pen.now.view.core (past_at c.args.pen.now) c.requires.amid ∙ c.requires.holds.busy)
@@ -25,7 +25,7 @@ returns-clause-holds g c =
 pub returns-clause-tells : goal.returns-clause-tells
 returns-clause-tells g c =
     let tells = subst (λ (d : TableName BoxKey). TellsFact (Lawful g.D.Disk.view d.given) (Stood g.D.Disk.view d.given) c.args.label.now c.args.pen.now
-      c.tell.new.self) (sym c.requires.holds.table_is) c.tell.ensures
+    c.tell.new.self) (sym c.requires.holds.table_is) c.tell.ensures
     in
     record {
       room = ap (λ (h : PenHand g.row.D.Denot). h.room) tells.frame;

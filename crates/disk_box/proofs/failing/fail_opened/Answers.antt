@@ -29,16 +29,16 @@ returns-clause-at g c =
     let now = c.turn.ensures.now in
     let rises : (past_at pen).moment ≤ turn.now = omega (arith, moment, now) in
     let rule = fail_rule pen.table.given.faults pen.view.core (past_at pen) turn (by.core_is ∙ c.number.ensures) looked rises by.did_is broken.calm
-      broken.risen
+    broken.risen
     in
     let low = broken.holds.core_is in
     let over = ap (λ (o : OwnTold). o.over) (own_after pen.table.given.layout pen.view.core (label.Noted turn) (past_at pen))
-      ∙ last_over turn ((past_at pen).owns pen.view.core) by.did_is
+    ∙ last_over turn ((past_at pen).owns pen.view.core) by.did_is
     in
     let owes = subst (λ w. 1 ≤ Rattle.disk_box.specs.Desk.owed_of ((past_at pen).owns pen.view.core) w) (sym looked) c.requires.owes in
     let ends = owed_ends pen.table.given.layout.cores pen.view.core 1 (past_at pen)
-      (after_label pen.table.given.layout pen.view.core (label.Noted turn) (past_at pen)) low owes over
-      (others_after pen.table.given.layout pen.view.core (label.Noted turn) (past_at pen)) (λ other. refl)
+    (after_label pen.table.given.layout pen.view.core (label.Noted turn) (past_at pen)) low owes over
+    (others_after pen.table.given.layout pen.view.core (label.Noted turn) (past_at pen)) (λ other. refl)
     in
     let spare = c.push.ensures.spare in
     let room = broken.room in

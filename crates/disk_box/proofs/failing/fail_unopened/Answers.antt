@@ -46,11 +46,11 @@ returns-clause-at g c =
     let calm_desk = broken.frame.failed ∙ broken.calm in
     let cut_faults = c.turn-cut.ensures.faults ∙ (ap (λ f. turn_faults desk.faults f (g.D.Disk.view desk.disk).faults) calm_desk ∙ broken.frame.faults) in
     let rule = cut_rule pen.table.given.faults pen.view.core (past_at pen) cut (cut_by.core_is ∙ c.number-core.ensures) c.requires.looked
-      (omega (arith, low_moment, cut_now)) cut_by.did_is broken.calm cut_faults
+    (omega (arith, low_moment, cut_now)) cut_by.did_is broken.calm cut_faults
     in
     let tells = c.note.ensures.tells in
     let on : GoesOnBroken g.D.Disk.view pen.view.core mid between = cut_goes_on g.D.Disk.view c.args.table.now pen mid cut desk between broken.holds
-      c.note.ensures.holds tells broken.frame broken.space broken.calm c.requires.looked rule cut_by.did_is cut_now refl c.push.ensures.items
+    c.note.ensures.holds tells broken.frame broken.space broken.calm c.requires.looked rule cut_by.did_is cut_now refl c.push.ensures.items
     in
     let core_same : mid.view.core ≡ pen.view.core = ap (λ (v : Sight TreeState (Event Label)). v.core) tells.goes.view in
     let key_same : mid.table.given ≡ pen.table.given = ap (λ (h : PenHand D). h.table.given) tells.goes.frame in
@@ -59,20 +59,20 @@ returns-clause-at g c =
     let now = c.turn.ensures.now in
     let mid_moment = on.frame.moment in
     let fail = fail_rule mid.table.given.faults mid.view.core (past_at mid) turn (by.core_is ∙ (c.number-core.ensures ∙ sym core_same))
-      (ap (λ n. (past_at mid).waits n) core_same ∙ on.looked) (omega (arith, mid_moment, now)) by.did_is on.calm
-      (subst (λ (k : BoxKey). Rattle.sfs_base.specs.Ends.HasRisen k.faults c.args.faults) (sym key_same) broken.risen)
+    (ap (λ n. (past_at mid).waits n) core_same ∙ on.looked) (omega (arith, mid_moment, now)) by.did_is on.calm
+    (subst (λ (k : BoxKey). Rattle.sfs_base.specs.Ends.HasRisen k.faults c.args.faults) (sym key_same) broken.risen)
     in
     let later = after_label mid.table.given.layout mid.view.core (label.Noted turn) (past_at mid) in
     let over = ap (λ n. (later.owns n).over) (sym core_same) ∙ (ap (λ (o : OwnTold). o.over) (own_after mid.table.given.layout mid.view.core (label.Noted turn) (past_at mid))
-      ∙ last_over turn ((past_at mid).owns mid.view.core) by.did_is)
+    ∙ last_over turn ((past_at mid).owns mid.view.core) by.did_is)
     in
     let others : (other : ℕ) → other ≢ pen.view.core → later.owns other ≡ (past_at pen).owns other = λ other not.
-      others_after mid.table.given.layout mid.view.core (label.Noted turn) (past_at mid) other (λ e. not (e ∙ core_same))
-      ∙ (ap (λ (p : BoxPast). p.owns other) tells.past ∙ others_after pen.table.given.layout pen.view.core (label.Noted cut) (past_at pen) other not)
+    others_after mid.table.given.layout mid.view.core (label.Noted turn) (past_at mid) other (λ e. not (e ∙ core_same))
+    ∙ (ap (λ (p : BoxPast). p.owns other) tells.past ∙ others_after pen.table.given.layout pen.view.core (label.Noted cut) (past_at pen) other not)
     in
     let owes = subst (λ w. 2 ≤ owed_of ((past_at pen).owns pen.view.core) w) (sym c.requires.looked) c.requires.owes in
     let ends = owed_ends pen.table.given.layout.cores pen.view.core 2 (past_at pen) later broken.holds.core_is owes over others
-      (λ other. ap (λ (p : BoxPast). p.waits other) tells.past)
+    (λ other. ap (λ (p : BoxPast). p.waits other) tells.past)
     in
     let spare = c.push.ensures.spare in
     let again = c.push-2.ensures.spare in

@@ -17,7 +17,7 @@ note-requires-clause-may g c κs within =
     let at = c.requires.at in
     let low = subst (λ n. pen.view.core < n) (sym at.fits.frame.cores) at.holds.core_is in
     let waits = wait_read c.args.desk.now.waits.items c.number-core.result.0 pen.view.core c.index.result.now (past_at pen).waits at.fits.frame.waits low
-      c.number-core.ensures c.index.ensures
+    c.number-core.ensures c.index.ensures
     in
     looked_rule pen.table.given pen.view.core (past_at pen) (past_fits_at c.args.table.now pen at.holds) c.in_ok-turn.turn (waits ∙ c.in_ok-turn.was)
 
@@ -28,7 +28,7 @@ returns-clause-at g c =
     let at = c.requires.at in
     let low = subst (λ n. pen.view.core < n) (sym at.fits.frame.cores) at.holds.core_is in
     let waits = wait_read desk.waits.items c.number-core.result.0 pen.view.core c.index.result.now (past_at pen).waits at.fits.frame.waits low
-      c.number-core.ensures c.index.ensures
+    c.number-core.ensures c.index.ensures
     in
     let now = record desk { waits = Rattle.std.specs.Vec.with_item desk.waits c.number-core.result.0 None } in
     at_told g.D.Disk.view c.args.table.now pen c.note.new.pen (label.Looked c.in_ok-turn.turn) c.note.ensures.holds c.note.ensures.tells desk now
@@ -42,7 +42,7 @@ returns-clause-some g c =
     let at = c.requires.at in
     let low = subst (λ n. pen.view.core < n) (sym at.fits.frame.cores) at.holds.core_is in
     let waits = wait_read c.args.desk.now.waits.items c.number-core.result.0 pen.view.core c.index.result.now (past_at pen).waits at.fits.frame.waits low
-      c.number-core.ensures c.index.ensures
+    c.number-core.ensures c.index.ensures
     in
     let own = owns_own c.args.table.now pen at.holds in
     subst (λ (o : OwnTold). Lands c.in_ok-turn.turn pen.view.core (Rattle.disk_box.specs.Pens.own_at pen) o) (sym c.note.ensures.tells.own)

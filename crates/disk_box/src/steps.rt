@@ -1,0 +1,9 @@
+// The steps at the box, each of one device call at most.
+mod filling;
+mod placing;
+mod shutting;
+mod writing;
+
+pub use filling::fill_one;
+pub use placing::place_one;
+pub use shutting::shut_one;
