@@ -1,0 +1,4 @@
+pub mod Flying
+pub mod Fronts
+pub mod Along
+pub mod Closing
