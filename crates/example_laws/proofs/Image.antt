@@ -75,10 +75,10 @@ ROOT_PART = TWO_PARTS 0
 abbrev pub ONE_PART : Part
 ONE_PART = TWO_PARTS 1
 
-root_raw : ROOT_PART.raw ≡ inode_bytes ROOT_INODE
+pub root_raw : ROOT_PART.raw ≡ inode_bytes ROOT_INODE
 root_raw = raw_of ROOT_BLOCK (inode_bytes ROOT_INODE)
 
-one_raw : ONE_PART.raw ≡ inode_bytes empty_directory
+pub one_raw : ONE_PART.raw ≡ inode_bytes empty_directory
 one_raw = raw_of ROOT_BLOCK (inode_bytes empty_directory)
 
 pub root_is : inode_in ROOT_PART ≡ ROOT_INODE

@@ -6,3 +6,5 @@ pub mod Telling
 pub mod Reserving
 pub mod Mapped
 pub mod Along
+pub mod Labels
+pub mod Resting

@@ -1,4 +1,5 @@
 -- The map of free space is right, and an fsync that changes nothing leaves it as it is.
+use Rattle.disk_change.specs.Written.{IsTransactionOf}
 use Rattle.disk_change.specs.Records.{written_of_built, written_of_gone}
 use Rattle.disk_change.specs.AllBuilt.{nodes_with_grant}
 use Rattle.std.proofs.Common.{◌++◌}
@@ -183,7 +184,7 @@ nothing_granted = record {
 }
 
 -- an empty grant changes nothing
-grants_none : (pool : Pool) (count : ℕ) → count ≡ 0 → Grants pool (as_u32 count) [] pool
+pub grants_none : (pool : Pool) (count : ℕ) → count ≡ 0 → Grants pool (as_u32 count) [] pool
 grants_none pool count none =
     subst (λ n. Grants pool n [] pool) (sym (ap as_u32 none)) (record {
       counted = refl;
@@ -202,14 +203,14 @@ reserved_none plan needs = record {
   least = sym (take_none (free_numbers TWO_TAKEN.inodes) (as_u32 (amount_planned plan).inodes) (ap as_u32 needs.inodes));
 }
 
-written_ascend : (plan : CommitPlan) → AscendByInode (records_written (change_planned plan) NO_GRANT)
+pub written_ascend : (plan : CommitPlan) → AscendByInode (records_written (change_planned plan) NO_GRANT)
 written_ascend plan =
     IsStrictlyIncreasing-from_sorted (map record_inode (records_written (change_planned plan) NO_GRANT))
     (ascend_sorted record_inode (records_written (change_planned plan) NO_GRANT) (ascending_ascends record_inode
     (filter_map written_of_built (nodes_with_grant (change_planned plan) NO_GRANT) ++ filter_map written_of_gone (change_planned plan).gone)))
 
 -- the transaction of a commit of such a plan
-abbrev tx_of : CommitPlan → Tx
+abbrev pub tx_of : CommitPlan → Tx
 tx_of plan = record {
   records = roomless (records_written (change_planned plan) NO_GRANT);
   fresh = roomless (fresh_of_commit (change_planned plan) NO_GRANT);
@@ -242,3 +243,9 @@ ended_none flushing needs = record {
         → IsLeftBySeat (change_planned (commit_plan flushing)).seats block ⊎ IsLeftByGone (change_planned (commit_plan flushing)).gone block → ⊥
     none_left block (inl left) = not_both left.left.given_up (needs.still left.seat left.one left.place)
     none_left block (inr left) = let low = left.one.1 in omega (arith, low)
+
+-- the same of its transaction alone
+pub transaction_none : (flushing : Flushing) → NeedsNone (commit_plan flushing)
+    → IsTransactionOf (change_planned (commit_plan flushing)) NO_GRANT (tx_of (commit_plan flushing))
+unfolding ended_none
+transaction_none flushing needs = (ended_none flushing needs).used.gives_up
