@@ -45,7 +45,7 @@ root_direct : (k : ℕ) → slice_index (11 ∷ replicate 107 0) k < 2 ^ 32
 root_direct zero = omega arith
 root_direct (suc k) = let e = zeros_read 107 k in omega arith
 
-root_inode : IsInode ROOT_INODE
+pub root_inode : IsInode ROOT_INODE
 root_inode = record {
   kind = omega arith;
   links = omega arith;
@@ -57,7 +57,7 @@ root_inode = record {
   free = λ none. absurd (let two : 2 ≡ 0 = none in omega arith);
 }
 
-one_inode : IsInode empty_directory
+pub one_inode : IsInode empty_directory
 one_inode = record {
   kind = omega arith;
   links = omega arith;

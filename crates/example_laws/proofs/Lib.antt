@@ -8,3 +8,4 @@ pub mod Mapped
 pub mod Along
 pub mod Labels
 pub mod Resting
+pub mod Bytes

@@ -1,4 +1,5 @@
 -- The mount of the two directories on a disk at rest closes.
+use Rattle.sfs_image.specs.Super.{IsLayout}
 use Rattle.std.proofs.Common.{◌∷◌, ◌++◌, ◌≡◌, ◌<◌, ◌≤◌, ◌*◌, ◌+◌, ◌^◌, ◌-◌, ℕ, List, [], subst, sym, refl, inl, zero, suc, arith, Some, false, slice_get, length, min}
 use Rattle.sfs_base.proofs.BasicOptions.{none_some, some_same}
 use Rattle.sfs_base.proofs.BasicTruth.{true_not_false}
@@ -98,6 +99,22 @@ told_fit disk laws (Told core fact ∷ log) past fits may told run =
     (lawful_fits TWELVE_BLOCKS 0 (Told core fact ∷ []) past fits (may.0, tt)) may.1 told.1
     (told_labels_fit disk TWELVE_BLOCKS 0 core.0 5 fact past fits may.0.1 told.0 laws run)
 
+-- the layout is one of twelve blocks
+pub layout_fits : IsLayout 12 TWELVE_BLOCKS
+layout_fits = record {
+  ranges = record {
+    blocks = omega arith;
+    inodes_low = omega arith;
+    inodes_high = omega arith;
+    cores_low = omega arith;
+    cores_high = omega arith;
+    slots_low = omega arith;
+    slots_high = omega arith;
+  };
+  room = omega arith;
+  within = omega arith;
+}
+
 module _ (share : ℕ) (image : List ℕ) (is : IsTwoImage image) where
   laws : (now : ℕ) → now < 2 ^ 64 → KeepsLaws (still_disk image now)
   laws now fits = record {
@@ -118,19 +135,7 @@ module _ (share : ℕ) (image : List ℕ) (is : IsTwoImage image) where
 
   began : BeganWith TWELVE_BLOCKS TWO_PARTS 5 (still_disk image 8)
   began = record {
-    fits = record {
-      ranges = record {
-        blocks = omega arith;
-        inodes_low = omega arith;
-        inodes_high = omega arith;
-        cores_low = omega arith;
-        cores_high = omega arith;
-        slots_low = omega arith;
-        slots_high = omega arith;
-      };
-      room = omega arith;
-      within = omega arith;
-    };
+    fits = layout_fits;
     counts = omega arith;
     left = λ other same. subst (IsImageOf TWELVE_BLOCKS nothing_open TWO_PARTS) (sym same) is.stands;
   }

@@ -1,6 +1,10 @@
 -- Two cores tell labels of a disk at rest: both reserve, the second one ends first, and neither writes anything.
-use Rattle.std.specs.Prelude.{◌≡◌, ◌*◌, ◌==◌, ◌∷◌, ◌++◌, ℕ, List, [], Some, if◌then◌else◌, length}
-use Rattle.sfs_image.specs.ImageOf.{IsImageOf}
+use Rattle.std.specs.Prelude.{◌≡◌, ◌*◌, ◌==◌, ◌∷◌, ◌++◌, if◌then◌else◌, ℕ, List, [], Some, length}
+use Rattle.sfs_image.specs.ImageOf.{IsImageOf, empty_directory}
+use Rattle.sfs_image.specs.Super.{super_bytes}
+use Rattle.sfs_image.specs.Bytes.{zeros}
+use Rattle.sfs_image.specs.Inode.{inode_bytes}
+use Rattle.sfs_image.specs.SlotBlock.{slots_bytes}
 use Rattle.sfs_dev.specs.Disk.{View}
 use Rattle.commit_one.specs.Change.{nothing_open}
 use Rattle.tree_laws.specs.declared.turns.Turn.{Turn}
@@ -12,12 +16,11 @@ use Rattle.stamp_table.specs.declared.event.Event.{Event}
 use Rattle.slot_laws.specs.declared.label.Label.{Label}
 use Rattle.slot_laws.specs.declared.label.Label.TheVariants as label
 use Rattle.slot_laws.specs.Worked.{own_hold, other_hold, seen_one}
-use Rattle.label_laws.specs.Maps.{Numbered, Telling, past_of}
+use Rattle.label_laws.specs.Maps.{Numbered, Telling}
 use Rattle.label_laws.specs.Beside.{IsToldBeside}
-use Rattle.close_laws.specs.Fronts.{AreTurnsOf}
 use Rattle.close_laws.specs.Close.{PensAgree, EndsMount}
 use Rattle.example_laws.specs.Fsyncs.{NO_GRANT, TWO_KEPT, entry_at}
-use Rattle.example_laws.specs.Image.{TWELVE_BLOCKS, TWO_DIRECTORIES, TWO_PARTS}
+use Rattle.example_laws.specs.Image.{TWELVE_BLOCKS, TWO_DIRECTORIES, TWO_PARTS, ROOT_INODE, ROOT_SLOTS}
 use Rattle.example_laws.specs.Map.{TWO_TAKEN}
 
 -- both reserve, and the second core's commit, which writes nothing, is durable at the fifth device call
@@ -67,6 +70,12 @@ pub record IsTwoImage (image : List ℕ) : Type 0 where
   pub whole : length image ≡ 4096 * 12
   pub stands : IsImageOf TWELVE_BLOCKS nothing_open TWO_PARTS image
 
+-- one in bytes: the superblock, two shut slots, the table, and the root's one block
+unfoldable pub TWO_IMAGE : List ℕ
+TWO_IMAGE =
+    super_bytes TWELVE_BLOCKS
+    ++ (zeros 32768 ++ (inode_bytes ROOT_INODE ++ (inode_bytes empty_directory ++ (zeros 7168 ++ slots_bytes ROOT_SLOTS))))
+
 -- All that is asked of the end of a mount is so of these: the labels are told beside what the two commits bring, both pens agree, the disk is in their run; and
 -- so the mount survives each crash and is read back.
 pub record TwoMountsClose (share : ℕ) (image : List ℕ) : Type 0 where
@@ -79,3 +88,7 @@ pub record TwoMountsClose (share : ℕ) (image : List ℕ) : Type 0 where
 -- So it is of each such image.
 abbrev pub TwoCoresClose : Type 0
 TwoCoresClose = (share : ℕ) (image : List ℕ) → IsTwoImage image → TwoMountsClose share image
+
+-- And there is one.
+abbrev pub TwoImageStands : Type 0
+TwoImageStands = IsTwoImage TWO_IMAGE
