@@ -14,7 +14,7 @@ use Rattle.disk_nodes.specs.declared.old.OldEntry.{OldEntry}
 use Rattle.cut_laws.specs.Rules.{IsOneOf}
 use Rattle.cut_laws.specs.Closure.{Flush}
 use Rattle.cut_laws.proofs.RunFacts.{in_filter}
-use Rattle.cut_laws.proofs.Basics.{in_right, in_either, in_left}
+use Rattle.cut_laws.proofs.Basics.{in_right, in_either}
 use Rattle.cut_laws.proofs.Listed.{to_map}
 use Rattle.flush_laws.specs.Volume.{Volume}
 use Rattle.turn_laws.specs.Books.{flush_at}
@@ -24,24 +24,24 @@ use Rattle.bringing_laws.specs.Imagined.{flush_brought}
 use Rattle.walk_laws.specs.Pairs.{bringing_under, commit_under}
 use Rattle.walk_laws.specs.Walk.{brought_under}
 use Rattle.stamp_table.specs.declared.event.Event.{Event}
-use Rattle.stamp_table.specs.declared.event.Event.TheVariants.{Told, Called}
+use Rattle.stamp_table.specs.declared.event.Event.TheVariants.{Told}
 use Rattle.slot_laws.specs.declared.label.Label.{Label}
 use Rattle.slot_laws.specs.declared.label.Label.TheVariants as label
-use Rattle.slot_laws.specs.Labels.{BoxPast, after_label, own_label, box_label, OwnTold, owner, SlotFlight, opened_flight, past_from, first_past}
+use Rattle.slot_laws.specs.Labels.{BoxPast, after_label, own_label, box_label, OwnTold, owner, SlotFlight, opened_flight}
 use Rattle.slot_laws.specs.Slots.{SlotWork, may_be_open}
 use Rattle.slot_laws.specs.Nodes.{ReservedCommit, commits_numbered}
-use Rattle.slot_laws.specs.Grants.{IsOpenNumbered, EndsGrant, SpaceDoes, SpaceGoes, GoesAlong}
+use Rattle.slot_laws.specs.Grants.{IsOpenNumbered, EndsGrant, SpaceDoes}
 use Rattle.slot_laws.specs.Rules.{SettledRule, OpenedRule, EmptyRule}
 use Rattle.slot_laws.proofs.Basics.{at_other, at_here, own_same}
 use Rattle.slot_image_laws.specs.Images.{RunStart, disk_books, DiskBooks, book_act}
-use Rattle.label_laws.specs.Own.{OwesTurn, owes_granted, owes_given_back, owes_nothing, TellsBeside, StandBeside}
-use Rattle.label_laws.specs.Maps.{Numbered, bringing_of, FitBringings}
-use Rattle.label_laws.specs.Beside.{BeginsLabels, stamps_under, brought_at, TellAlong}
-use Rattle.label_laws.proofs.Beginning.{place_step, place_first, PlaceSo}
+use Rattle.label_laws.specs.Own.{OwesTurn, owes_granted, owes_given_back, owes_nothing, TellsBeside}
+use Rattle.label_laws.specs.Maps.{Numbered, bringing_of}
+use Rattle.label_laws.specs.Beside.{BeginsLabels, stamps_under, brought_at}
+use Rattle.label_laws.proofs.Beginning.{PlaceSo}
 use Rattle.label_laws.proofs.Owing.{tells}
 use Rattle.label_laws.proofs.Opens.{AloftOpen, ReservedOpen}
 use Rattle.label_laws.proofs.Walking.{stamps_differ, done_more}
-use Rattle.close_laws.specs.Fronts.{AreOneRecord, IsOneRecord, DifferBy, WasOpened, AreTurnsOf, LabelsAreOneRecord}
+use Rattle.close_laws.specs.Fronts.{AreTurnsOf, AreOneRecord, IsOneRecord, DifferBy, WasOpened}
 use Rattle.close_laws.proofs.Flying.{FliesSo, FliesAt, front_quiet, books_on, books_stay, fronts_push, differ_more, durables_more, opened_on, differ_fewer, front_opened, durables_stay, FrontAt, as_record}
 use Rattle.close_laws.proofs.Fronts.{record_here, still, flight_stays, flight_other, aloft_of, from_front, front_here}
 
@@ -501,7 +501,7 @@ module _ (layout : Layout) (start : Volume) (entries : List OldEntry) (named : N
         other_so (label.Looked turn) other flight apart (at_other past.waits core.0 None flight.core apart)
 
     pub front_label : (fact : Label) → Here fact → There fact → SpaceDoes (Told core fact) past space next
-        → ((turn : Turn) → IsOneOf (later_of fact).turns turn → (bringing_under named.pairs turn.stamp.0).flush ≡ flush_at turn) → Then fact
+        → AreTurnsOf named (later_of fact).turns → Then fact
     front_label label.Took at then does ties = still_so label.Took refl refl (stays_so label.Took refl refl)
     front_label label.Gave at then does ties = still_so label.Gave refl refl (stays_so label.Gave refl refl)
     front_label (label.Noted turn) at then does ties = noted_so turn at
@@ -514,76 +514,13 @@ module _ (layout : Layout) (start : Volume) (entries : List OldEntry) (named : N
     front_label (label.Filled k piece ok) at then does ties = still_so (label.Filled k piece ok) refl refl (stays_so (label.Filled k piece ok) refl refl)
     front_label (label.Synced now) at then does ties = still_so (label.Synced now) refl refl (stays_so (label.Synced now) refl refl)
     front_label (label.Opened k ok cut opened) at then does ties =
-        opened_so k ok cut opened at (ties opened (in_right past.turns (cut ∷ opened ∷ []) opened (inr (inl refl))))
+        opened_so k ok cut opened at (ties opened (in_right past.turns (cut ∷ opened ∷ []) opened (inr (inl refl))) (inl at.drawing.owing.may.0.1.opened_is.did_is))
     front_label (label.Settled k turn) at then does ties =
-        settled_so k turn at then does (ties turn (in_right past.turns (turn ∷ []) turn (inl refl)))
+        settled_so k turn at then does (ties turn (in_right past.turns (turn ∷ []) turn (inl refl)) (inr at.drawing.owing.may.0.1.is.did_is))
     front_label (label.Looked turn) at then does ties = still_so (label.Looked turn) refl refl (looked_so turn at)
     front_label (label.Placed k n ok) at then does ties = still_so (label.Placed k n ok) refl refl (stays_so (label.Placed k n ok) refl refl)
     front_label (label.Shut k ok) at then does ties = still_so (label.Shut k ok) refl refl (stays_so (label.Shut k ok) refl refl)
     front_label (label.Idled k) at then does ties = still_so (label.Idled k) refl refl (stays_so (label.Idled k) refl refl)
     front_label (label.Empty commit cut opened durable) at then does ties =
-        empty_so commit cut opened durable at then does (ties opened (in_right past.turns (cut ∷ opened ∷ durable ∷ []) opened (inr (inl refl))))
-        (ties durable (in_right past.turns (cut ∷ opened ∷ durable ∷ []) durable (inr (inr (inl refl)))))
-
-  -- a turn stays in the record
-  label_keeps : (core : ℕ) (fact : Label) (past : BoxPast) (turn : Turn) → IsOneOf past.turns turn → IsOneOf (after_label layout core fact past).turns turn
-  label_keeps core label.Took past turn one = one
-  label_keeps core label.Gave past turn one = one
-  label_keeps core (label.Noted own) past turn one = in_left past.turns (own ∷ []) turn one
-  label_keeps core (label.Reserved commit seen grant) past turn one = one
-  label_keeps core (label.Returned commit) past turn one = one
-  label_keeps core (label.Began filling commit node stamp blocks inodes) past turn one = one
-  label_keeps core (label.Filled k piece ok) past turn one = one
-  label_keeps core (label.Synced now) past turn one = one
-  label_keeps core (label.Opened k ok cut opened) past turn one = in_left past.turns (cut ∷ opened ∷ []) turn one
-  label_keeps core (label.Settled k own) past turn one = in_left past.turns (own ∷ []) turn one
-  label_keeps core (label.Looked own) past turn one = one
-  label_keeps core (label.Placed k n ok) past turn one = one
-  label_keeps core (label.Shut k ok) past turn one = one
-  label_keeps core (label.Idled k) past turn one = one
-  label_keeps core (label.Empty commit cut opened durable) past turn one = in_left past.turns (cut ∷ opened ∷ durable ∷ []) turn one
-
-  turns_kept : (log : List (Event Label)) (past : BoxPast) (turn : Turn) → IsOneOf past.turns turn → IsOneOf (past_from layout log past).turns turn
-  turns_kept [] past turn one = one
-  turns_kept (Called entry ∷ log) past turn one = turns_kept log past turn one
-  turns_kept (Told core fact ∷ log) past turn one = turns_kept log (after_label layout core.0 fact past) turn (label_keeps core.0 fact past turn one)
-
-  pub fronts_along : (done rest : List (Event Label)) (past : BoxPast) (space now : Space) → Place done past rest space → Flies past → Fronts past.turns
-      → SpaceGoes layout rest past space now → FitBringings named rest → TellAlong layout start named rest past
-      → AreTurnsOf named (past_from layout rest past).turns → Fronts (past_from layout rest past).turns
-  fronts_along done [] past space now at flies fronts goes fit tell ties = fronts
-  fronts_along done (Called entry ∷ rest) past space now at flies fronts goes fit tell ties = absurd at.drawing.owing.may.0
-  fronts_along done (Told core fact ∷ rest) past space now at flies fronts goes fit tell ties =
-      let then = place_step layout start entries named first begins moment before done rest past core fact space goes.0.next at goes.0.does
-      (fit (Told core fact) (inl refl)) tell.0 in
-      let front = front_label done past core rest space goes.0.next flies fronts fact at then goes.0.does
-      (λ turn one. ties turn (turns_kept rest (after_label layout core.0 fact past) turn one)) in
-      fronts_along (done ++ Told core fact ∷ []) rest (after_label layout core.0 fact past) goes.0.next now then front.0 front.1 goes.1
-      (λ event among. fit event (inr among)) tell.1 ties
-
-  flies_first : Flies (first_past moment)
-  flies_first = record {
-    flown = λ number one. absurd one;
-    once = tt;
-    differ = tt;
-    flushes = refl;
-    opened = λ number one. absurd one;
-    own = λ stamp one. absurd one;
-  }
-
-  pub fronts_of : (log : List (Event Label)) (now : Space) → GoesAlong layout before moment log first now → StandBeside named.stamps log
-      → FitBringings named log → TellAlong layout start named log (first_past moment) → AreTurnsOf named (past_from layout log (first_past moment)).turns
-      → Fronts (past_from layout log (first_past moment)).turns
-  fronts_of log now along stand fit tell ties =
-      let at = place_first layout start entries named first begins moment before log now along stand in
-      fronts_along [] log (first_past moment) first now at flies_first
-      (λ front back e. subst (IsOneRecord start named run) (nil_front front back e)
-      (record_here layout start entries named first begins moment before [] (first_past moment) log first at flies_first)) along.goes fit tell ties
-    where
-      nil_front : (front back : List Turn) → ◌≡◌ {A = List Turn} [] (front ++ back) → ◌≡◌ {A = List Turn} [] front
-      nil_front [] back e = refl
-      nil_front (x ∷ front) back e = absurd (cc e)
-
-pub labels_are_one_record : LabelsAreOneRecord
-labels_are_one_record start entries named told is ties =
-    fronts_of told.layout start entries named told.first is.begins told.moment told.before told.log told.now is.is.along is.is.stand is.is.fit is.tell ties
+        empty_so commit cut opened durable at then does (ties opened (in_right past.turns (cut ∷ opened ∷ durable ∷ []) opened (inr (inl refl))) (inl at.drawing.owing.may.0.1.opened_is.did_is))
+        (ties durable (in_right past.turns (cut ∷ opened ∷ durable ∷ []) durable (inr (inr (inl refl)))) (inr at.drawing.owing.may.0.1.durable_is.did_is))

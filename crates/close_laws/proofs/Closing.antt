@@ -1,23 +1,10 @@
 -- Each image that a crash may leave is safe, and a read at the end gives exactly the durable fsyncs.
-use Rattle.close_laws.specs.Close.{TurnsClose}
-use Rattle.slot_laws.proofs.Lawful.{labels_rise, labels_merge_pens, labels_count_faults}
-use Rattle.merge_laws.proofs.ByTurns.{durables_survive, durables_read_back}
-use Rattle.merge_laws.proofs.Told.{merged_tell}
-use Rattle.merge_laws.proofs.Merged.{merged_turns}
-use Rattle.merge_laws.specs.Plays.{PensMerge}
-use Rattle.merge_laws.specs.LeftByTurns.{TellInTime}
-use Rattle.sfs_base.proofs.BasicOptions.{some_same}
-use Rattle.close_laws.specs.Close.{TableMountsClose}
-use Rattle.merge_laws.specs.LeftByTurns.{IsReadByTurns, SurvivesByTurns}
-use Rattle.sfs_dev.specs.Steps.{IfTold}
-use Rattle.crash_laws.specs.Survives.{HasFailure}
-use Rattle.slot_image_laws.specs.Run.{RisesFrom}
 use Rattle.std.specs.FinMap.{get}
-use Rattle.std.proofs.Common.{◌++◌, ◌≡◌, ◌∷◌, if◌then◌else◌, ◌∙◌, ◌≢◌, ◌<◌, ◌≤◌, List, ℕ, [], refl, Bool, map, filter, true, false, sym, inr, ap, inl, All, nat_le, arith, suc, subst, IsSome, append-nil, append_assoc}
+use Rattle.std.proofs.Common.{◌++◌, ◌≡◌, ◌∷◌, ◌∙◌, ◌≢◌, ◌<◌, ◌≤◌, List, ℕ, [], refl, map, filter, true, sym, inr, ap, inl, All, nat_le, arith, subst, IsSome, append-nil, append_assoc}
 use Rattle.std.proofs.lemmas.Bool.Decides.{nat_tests}
 use Rattle.std.proofs.lemmas.List.{map-append}
 use Rattle.std.proofs.lemmas.List.Elements.{filter-append, filter_map-append}
-use Rattle.sfs_image.specs.Part.{Part}
+use Rattle.sfs_base.proofs.BasicOptions.{some_same}
 use Rattle.sfs_image.specs.ImageOf.{IsImageOf, with_opened}
 use Rattle.sfs_image.specs.Super.{Layout}
 use Rattle.sfs_dev.specs.Disk.{View, LeftSince}
@@ -38,12 +25,13 @@ use Rattle.cut_laws.proofs.Basics.{in_left, in_right, in_either}
 use Rattle.cut_laws.proofs.Listed.{from_map, to_map, to_filter}
 use Rattle.cut_laws.proofs.Along.{tree_at-after}
 use Rattle.cut_laws.proofs.Prefixes.{live_node}
+use Rattle.crash_laws.specs.Survives.{HasFailure}
 use Rattle.crash_laws.specs.Listed.{StampsDiffer, IsListedFsync, MayBeWritten}
 use Rattle.flush_laws.specs.Volume.{Volume, tree_held}
 use Rattle.turn_laws.specs.Books.{flush_at}
 use Rattle.turn_laws.specs.LawsTurns.{durable_flush}
+use Rattle.merge_laws.specs.LeftByTurns.{TellInTime, IsReadByTurns, SurvivesByTurns, TimesRise, IsSafeByTurns, turns_until}
 use Rattle.merge_laws.specs.Plays.{durables}
-use Rattle.merge_laws.specs.LeftByTurns.{TimesRise, IsSafeByTurns, turns_until}
 use Rattle.merge_laws.specs.Laws.{IsFrontUntil}
 use Rattle.merge_laws.proofs.ByTurns.{of_durables, to_durables, moments_cut_turns}
 use Rattle.bringing_laws.specs.Brings.{Bringing, BringApart, Brings}
@@ -52,8 +40,8 @@ use Rattle.bringing_laws.proofs.Imagined.{all_end, imagined_are_those}
 use Rattle.walk_laws.specs.Walk.{brought_under}
 use Rattle.walk_laws.specs.Pairs.{IsOpenBeside, commit_under, bringing_under}
 use Rattle.walk_laws.proofs.Ended.{bring_apart}
-use Rattle.slot_image_laws.specs.Commits.{parts_over}
-use Rattle.slot_image_laws.specs.Images.{parts_kept, RunStart, LeavesPrefixes, Shows, disk_books}
+use Rattle.slot_image_laws.specs.Run.{RisesFrom}
+use Rattle.slot_image_laws.specs.Images.{RunStart, LeavesPrefixes, Shows, disk_books}
 use Rattle.slot_image_laws.proofs.Running.{records_are_left}
 use Rattle.imagined_laws.specs.Parts.{parts_once, StandsFor}
 use Rattle.imagined_laws.proofs.Parts.{images_are_read}
@@ -62,66 +50,9 @@ use Rattle.label_laws.specs.Beside.{run_told}
 use Rattle.label_laws.proofs.Beginning.{commits_begin_well}
 use Rattle.close_laws.specs.Fronts.{DifferBy, AreOneRecord, IsOneRecord}
 use Rattle.close_laws.specs.Close.{EndsMount}
-use Rattle.close_laws.proofs.Along.{labels_are_one_record}
+use Rattle.close_laws.proofs.Records.{labels_are_one_record}
 use Rattle.close_laws.proofs.Flying.{differ_fewer}
-
--- parts once some more were given
-once_both : (brought more : List Bringing) (base : ℕ → Part) → parts_once (brought ++ more) base ≡ parts_once more (parts_once brought base)
-once_both [] more base = refl
-once_both (one ∷ brought) more base = once_both brought more (parts_over one.parts base)
-
-kept_once : (named : Numbered) (kept : ℕ → Bool) (numbers : List ℕ) (base : ℕ → Part)
-    → parts_kept (λ number. (bringing_of named number).parts) kept numbers base ≡ parts_once (map (bringing_of named) (filter kept numbers)) base
-kept_once named kept [] base = refl
-kept_once named kept (number ∷ numbers) base =
-    by (kept number) (kept_once named kept numbers base) (kept_once named kept numbers (parts_over (bringing_of named number).parts base))
-  where
-    by : (b : Bool) → parts_kept (λ n. (bringing_of named n).parts) kept numbers base ≡ parts_once (map (bringing_of named) (filter kept numbers)) base
-        → parts_kept (λ n. (bringing_of named n).parts) kept numbers (parts_over (bringing_of named number).parts base)
-        ≡ parts_once (map (bringing_of named) (filter kept numbers)) (parts_over (bringing_of named number).parts base)
-        → parts_kept (λ n. (bringing_of named n).parts) kept numbers (if b then parts_over (bringing_of named number).parts base else base)
-        ≡ parts_once (map (bringing_of named) (if b then number ∷ filter kept numbers else filter kept numbers)) base
-    by true without more = more
-    by false without more = without
-
--- stamps that differ are those of fsyncs that differ
-stamps_apart : (flush_at_stamp : ℕ → Flush) (stamps : List ℕ) → DifferBy (λ stamp. stamp) stamps
-    → ((stamp : ℕ) → IsOneOf stamps stamp → (flush_at_stamp stamp).stamp ≡ stamp) → StampsDiffer (map flush_at_stamp stamps)
-stamps_apart flush_at_stamp [] differ own = tt
-stamps_apart flush_at_stamp (stamp ∷ stamps) differ own = (
-  (λ other one same.
-      let from = from_map flush_at_stamp stamps other one in
-      differ.0 from.0 from.1 (sym (own from.0 (inr from.1)) ∙ (ap (λ (f : Flush). f.stamp) from.2 ∙ (same ∙ own stamp (inl refl))))),
-  stamps_apart flush_at_stamp stamps differ.1 (λ other one. own other (inr one)),
-)
-
-differ_both : (xs ys : List ℕ) → DifferBy (λ stamp. stamp) xs → DifferBy (λ stamp. stamp) ys
-    → ((x y : ℕ) → IsOneOf xs x → IsOneOf ys y → y ≢ x) → DifferBy (λ stamp. stamp) (xs ++ ys)
-differ_both [] ys one two apart = two
-differ_both (x ∷ xs) ys one two apart = (
-  (λ other among. elim (in_either xs ys other among) [
-    | inl first ↦ one.0 other first
-    | inr second ↦ apart x other (inl refl) second
-  ]),
-  differ_both xs ys one.1 two (λ z y among there. apart z y (inr among) there),
-)
-
-mapped_differ : (key : ℕ → ℕ) (numbers : List ℕ) → DifferBy key numbers → DifferBy (λ stamp. stamp) (map key numbers)
-mapped_differ key [] differ = tt
-mapped_differ key (number ∷ numbers) differ = (
-  (λ other among. let from = from_map key numbers other among in λ same. differ.0 from.0 from.1 (from.2 ∙ same)),
-  mapped_differ key numbers differ.1,
-)
-
--- none of a list passes
-none_until : (moment : ℕ) (back : List Turn) → All (λ (turn : Turn). moment < turn.now) back → filter (λ (turn : Turn). nat_le turn.now moment) back ≡ []
-none_until moment [] all = refl
-none_until moment (turn ∷ back) all =
-    ap (λ b. if b then turn ∷ filter (λ (t : Turn). nat_le t.now moment) back else filter (λ (t : Turn). nat_le t.now moment) back) (late turn.now (all 0 turn (omega arith)))
-    ∙ none_until moment back (λ i d less. all (suc i) d (omega (arith, less)))
-  where
-    late : (now : ℕ) → moment < now → nat_le now moment ≡ false
-    late now less = grind (arith, nat_tests, less)
+use Rattle.close_laws.proofs.Lists.{once_both, kept_once, stamps_apart, differ_both, mapped_differ, none_until}
 
 module _ (start : Volume) (entries : List OldEntry) (named : Numbered) (told : Telling) (disk : View) (ends : EndsMount start entries named told disk)
     (tell : TellInTime start.history (past_of told).turns) where
@@ -405,7 +336,7 @@ module _ (start : Volume) (entries : List OldEntry) (named : Numbered) (told : T
               by_now : (now : ℕ) → now ≤ moment → nat_le now moment ≡ true
               by_now now low = grind (arith, nat_tests, low)
 
-  survives : (share : ℕ) → SurvivesByTurns share told.moment start.first history turns disk
+  pub survives : (share : ℕ) → SurvivesByTurns share told.moment start.first history turns disk
   survives share moment image from le left = safe_image share moment image from left
 
   -- the last moment of turns that rise
@@ -445,7 +376,7 @@ module _ (start : Volume) (entries : List OldEntry) (named : Numbered) (told : T
         (last.place.beside.opens (named.stamps number) flies.0).later.other_number (commit_under named.pairs stamp.0)
         (to_map (commit_under named.pairs) last.done stamp.0 stamp.1) (ap (λ s. (commit_under named.pairs s).number) same)
 
-    reads : IsReadByTurns share start.first history turns disk
+    pub reads : IsReadByTurns share start.first history turns disk
     reads =
         let image = ends.tells.content in
         let in_run = from_to told.moment disk.now turns ends.run.rises in
@@ -489,28 +420,3 @@ module _ (start : Volume) (entries : List OldEntry) (named : Numbered) (told : T
         of_front front back split late shows =
             let nothing = none_behind front back split late in
             of_all front (split ∙ (ap (λ l. front ++ l) nothing ∙ append-nil front)) (split ∙ ap (λ l. front ++ l) nothing) shows
-
-pub turns_close : (disk : View) → TurnsClose disk
-turns_close disk share start entries named told ends tell =
-    (survives start entries named told disk ends tell share, λ none_failed. reads start entries named told disk ends tell share none_failed)
-
-pub table_mounts_close : (disk : View) → TableMountsClose disk
-table_mounts_close disk share start entries named told pens ends with_pens =
-    let turns = (past_of told).turns in
-    let may = ends.labels.is.along.may in
-    let legal = ends.labels.begins.walk.stands.between.history_is.legal in
-    let merge : PensMerge start.first start.history turns =
-    merged_turns start.first start.history told.before with_pens.most turns pens legal (record {
-      cores = with_pens.cores;
-      each = with_pens.agrees;
-      merges = labels_merge_pens told.layout told.before told.log told.moment pens may with_pens.own with_pens.is;
-      counts = labels_count_faults told.layout told.before with_pens.most told.log told.moment may with_pens.few;
-    }) in
-    let tell : TellInTime start.history turns = record {
-      tell = merged_tell start.first start.history turns legal merge;
-      rise = labels_rise told.layout told.before told.log told.moment may;
-    } in
-    let close = turns_close disk share start entries named told ends tell in (
-      durables_survive disk share told.moment start.first start.history turns legal tell close.0,
-      durables_read_back disk share start.first start.history turns legal merge tell.rise close.1,
-    )

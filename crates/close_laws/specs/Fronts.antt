@@ -1,5 +1,5 @@
 -- What is so of each front of the record that labels make: it is one record of the volumes that are imagined along it and of the parts on the disk.
-use Rattle.std.specs.Prelude.{◌≡◌, ◌++◌, ◌∷◌, ◌≢◌, List, ℕ, map, []}
+use Rattle.std.specs.Prelude.{◌⊎◌, ◌≡◌, ◌++◌, ◌∷◌, ◌≢◌, List, ℕ, map, []}
 use Rattle.tree_laws.specs.declared.turns.TurnAct.TheVariants as act
 use Rattle.tree_laws.specs.declared.turns.Turn.{Turn}
 use Rattle.disk_nodes.specs.declared.old.OldEntry.{OldEntry}
@@ -50,9 +50,10 @@ pub record IsOneRecord (start : Volume) (named : Numbered) (run : RunStart) (fro
 abbrev pub AreOneRecord : Volume → Numbered → RunStart → List Turn → Type 0
 AreOneRecord start named run turns = (front back : List Turn) → turns ≡ front ++ back → IsOneRecord start named run front
 
--- Each turn is of the fsync whose commit stands under its stamp.
+-- Each turn that opens a commit or makes one durable is of the fsync whose commit stands under its stamp.
 abbrev pub AreTurnsOf : Numbered → List Turn → Type 0
-AreTurnsOf named turns = (turn : Turn) → IsOneOf turns turn → (bringing_under named.pairs turn.stamp.0).flush ≡ flush_at turn
+AreTurnsOf named turns = (turn : Turn) → IsOneOf turns turn → (turn.act ≡ act.Opened) ⊎ (turn.act ≡ act.Durable)
+    → (bringing_under named.pairs turn.stamp.0).flush ≡ flush_at turn
 
 -- So it is where labels are told beside what commits bring.
 abbrev pub LabelsAreOneRecord : Type 0

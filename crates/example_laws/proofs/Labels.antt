@@ -1,6 +1,5 @@
 -- The labels of the two cores are told beside what their commits bring.
-use Rattle.slot_laws.proofs.Lawful.{none_by}
-use Rattle.std.proofs.Common.{◌<◌, ◌≢◌, if◌then◌else◌, ◌++◌, ◌≡◌, ◌∙◌, ◌∷◌, nat_eq, ne_eqb, is_some, option_map, cond, Some, None, Bool, true, false, ℕ, List, [], subst, sym, ap, refl, inl, inr, zero, suc, arith, map}
+use Rattle.std.proofs.Common.{◌<◌, ◌++◌, ◌≡◌, ◌∙◌, nat_eq, ne_eqb, is_some, option_map, cond, Some, None, Bool, true, false, ℕ, List, [], subst, sym, ap, refl, inl, inr, zero, suc, arith, map}
 use Rattle.std.proofs.lemmas.Bool.{cases_eq}
 use Rattle.sfs_image.specs.Inode.{inode_bytes, inode_of}
 use Rattle.sfs_image.specs.Part.{inode_in}
@@ -35,6 +34,7 @@ use Rattle.slot_laws.specs.Rules.{MayFrom}
 use Rattle.slot_laws.specs.Grants.{SpaceDoes, SpaceStep, TakesGrant, EndsGrant, SpaceGoes, GoesAlong}
 use Rattle.slot_laws.specs.Lasts.{IsMadeAs}
 use Rattle.slot_laws.specs.Worked.{seen_one}
+use Rattle.slot_laws.proofs.Lawful.{none_by}
 use Rattle.slot_laws.proofs.WorkedBegins.{one_unmoved}
 use Rattle.slot_laws.proofs.Comes.{may_both}
 use Rattle.label_laws.specs.Own.{OwnStand, nothing_owed, StandBeside}

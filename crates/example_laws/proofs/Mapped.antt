@@ -1,12 +1,6 @@
 -- The map of free space is right, and an fsync that changes nothing leaves it as it is.
-use Rattle.disk_change.specs.Written.{IsTransactionOf}
-use Rattle.disk_change.specs.Records.{written_of_built, written_of_gone}
-use Rattle.disk_change.specs.AllBuilt.{nodes_with_grant}
-use Rattle.std.proofs.Common.{◌++◌}
 use Rattle.std.specs.List.{filter_map}
-use Rattle.space_map.specs.declared.status.Status.TheVariants.{Granted}
-use Rattle.space_map.specs.Pool.{Pool}
-use Rattle.std.proofs.Common.{◌≡◌, ◌∷◌, if◌then◌else◌, ◌-◌, ◌∙◌, ◌&&◌, ◌≤◌, ◌<◌, ◌↔◌, ◌≢◌, ◌||◌, ◌⊎◌, ℕ, [], inl, subst, sym, refl, inr, ap, slice_get, None, nat_lt, Some, arith, nat_le, false, true, replicate, zero, suc, Contains, Bool, count_by, sum_by, nat_eq, ne_eqb, cond, slice_index, map}
+use Rattle.std.proofs.Common.{◌++◌, ◌≡◌, ◌∷◌, if◌then◌else◌, ◌-◌, ◌∙◌, ◌&&◌, ◌≤◌, ◌<◌, ◌↔◌, ◌≢◌, ◌||◌, ◌⊎◌, ℕ, [], inl, subst, sym, refl, inr, ap, slice_get, None, nat_lt, Some, arith, nat_le, false, true, replicate, zero, suc, Contains, Bool, count_by, sum_by, nat_eq, ne_eqb, cond, slice_index, map}
 use Rattle.std.proofs.lemmas.Bool.{cases_eq}
 use Rattle.std.proofs.lemmas.Option.{slice_get_past}
 use Rattle.std.proofs.lemmas.Bool.Decides.{nat_tests}
@@ -19,16 +13,17 @@ use Rattle.sfs_image.specs.ImageOf.{empty_directory}
 use Rattle.sfs_image.specs.Seen.{FILE_BLOCKS}
 use Rattle.fmt_journal.specs.declared.tx.Tx.{Tx}
 use Rattle.fmt_journal.specs.Ascending.{AscendByInode}
-use Rattle.space_map.specs.Pool.{status_of, first_status, Grants, free_numbers}
-use Rattle.space_map.specs.declared.status.Status.TheVariants.{Taken, Free}
+use Rattle.space_map.specs.declared.status.Status.TheVariants.{Granted, Taken, Free}
+use Rattle.space_map.specs.Pool.{Pool, status_of, first_status, Grants, free_numbers}
 use Rattle.disk_nodes.specs.OldKept.{Kept}
 use Rattle.disk_nodes.specs.declared.old.OldEntry.{OldEntry}
 use Rattle.block_map.specs.Kept.{pointer_kept}
 use Rattle.block_map.specs.RemapLaws.{IsHeld}
+use Rattle.disk_change.specs.Written.{IsTransactionOf}
+use Rattle.disk_change.specs.Records.{written_of_built, written_of_gone, records_written, record_inode}
+use Rattle.disk_change.specs.AllBuilt.{nodes_with_grant, fresh_of_commit}
 use Rattle.disk_change.specs.GivenUp.{IsLeftByGone, IsLeftBySeat}
 use Rattle.disk_change.specs.Planned.{as_u32, enters, blocks_taken}
-use Rattle.disk_change.specs.Records.{records_written, record_inode}
-use Rattle.disk_change.specs.AllBuilt.{fresh_of_commit}
 use Rattle.commit_laws.specs.CommitOfPlan.{CommitPlan, change_planned}
 use Rattle.cut_laws.proofs.Basics.{below_or}
 use Rattle.space_laws.specs.Map.{IsMapOf}

@@ -1,30 +1,23 @@
 -- A plan that changes nothing of a directory needs nothing.
-use Rattle.sfs_image.specs.Inode.{inode_bytes}
-use Rattle.std.proofs.Common.{take}
-use Rattle.std.proofs.Common.{◌++◌, None, Some}
-use Rattle.std.specs.List.{cons_option}
-use Rattle.sfs_image.specs.Part.{tabulate}
-use Rattle.image_laws.specs.Need.{table_has_pointer}
-use Rattle.block_map.specs.Remap.{pointer_remapped, inode_remapped, fresh_for, TABLES}
-use Rattle.disk_change.specs.Lists.{ascending_by}
-use Rattle.disk_change.specs.Records.{records_written, record_inode, same_inode}
-use Rattle.std.specs.List.{list_any}
-use Rattle.std.proofs.Common.{◌≡◌, ◌∷◌, ◌||◌, ◌∙◌, ◌+◌, ◌-◌, ◌==◌, ◌&&◌, if◌then◌else◌, ◌*◌, ℕ, Bool, false, zero, refl, suc, cond, ap, arith, List, [], slice_index, nat_lt, le-ltb, not, nat_le, true, nat_eq, map, Option, sum_by, count_by, length, subst, sym, take_all, Contains}
+use Rattle.std.specs.List.{cons_option, list_any}
+use Rattle.std.proofs.Common.{◌++◌, ◌≡◌, ◌∷◌, ◌||◌, ◌∙◌, ◌+◌, ◌-◌, ◌==◌, ◌&&◌, if◌then◌else◌, ◌*◌, take, None, Some, ℕ, Bool, false, zero, refl, suc, cond, ap, arith, List, [], slice_index, nat_lt, le-ltb, not, nat_le, true, nat_eq, map, Option, sum_by, count_by, length, subst, sym, take_all, Contains}
 use Rattle.std.proofs.lemmas.Bool.{cond-false}
 use Rattle.std.proofs.lemmas.List.{length-map}
 use Rattle.sfs_base.proofs.BasicLists.{zeros_read}
-use Rattle.sfs_image.specs.Inode.{Inode}
+use Rattle.sfs_image.specs.Inode.{inode_bytes, Inode}
+use Rattle.sfs_image.specs.Part.{tabulate, directory_blocks}
 use Rattle.sfs_image.specs.Seen.{FILE_BLOCKS, PLACES}
 use Rattle.sfs_image.specs.ImageOf.{empty_directory}
 use Rattle.sfs_image.specs.SlotBlock.{slots_of}
-use Rattle.sfs_image.specs.Part.{directory_blocks}
 use Rattle.sfs_image.specs.Slot.{Row}
 use Rattle.sfs_image.proofs.SlotBlockLaws.{slots_of-slots_bytes}
-use Rattle.image_laws.specs.Need.{rank, takes_place, Rewrite, rewrites_table, first_block, changes_pointer, table_blocks, takes_data, takes_table, table_has_pointer, takes_in_row, place_in_row}
+use Rattle.image_laws.specs.Need.{table_has_pointer, rank, takes_place, Rewrite, rewrites_table, first_block, changes_pointer, table_blocks, takes_data, takes_table, takes_in_row, place_in_row}
 use Rattle.image_laws.proofs.Ranks.{rank_more}
 use Rattle.disk_nodes.specs.OldKept.{Kept}
-use Rattle.block_map.specs.Remap.{rewrite_of, gives_up}
+use Rattle.block_map.specs.Remap.{pointer_remapped, inode_remapped, fresh_for, TABLES, rewrite_of, gives_up}
 use Rattle.block_map.specs.Kept.{pointer_kept, tables_kept, kept_of, kept_tables, kept_slots}
+use Rattle.disk_change.specs.Lists.{ascending_by}
+use Rattle.disk_change.specs.Records.{records_written, record_inode, same_inode}
 use Rattle.disk_change.specs.Planned.{enters, blocks_taken}
 use Rattle.disk_change.specs.Seated.{Seated, directory_seated, changes_in, begun_old}
 use Rattle.disk_change.specs.declared.enter.Enter.{Enter}

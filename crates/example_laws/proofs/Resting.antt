@@ -1,8 +1,8 @@
 -- The mount of the two directories on a disk at rest closes.
-use Rattle.sfs_image.specs.Super.{IsLayout}
 use Rattle.std.proofs.Common.{◌∷◌, ◌++◌, ◌≡◌, ◌<◌, ◌≤◌, ◌*◌, ◌+◌, ◌^◌, ◌-◌, ℕ, List, [], subst, sym, refl, inl, zero, suc, arith, Some, false, slice_get, length, min}
 use Rattle.sfs_base.proofs.BasicOptions.{none_some, some_same}
 use Rattle.sfs_base.proofs.BasicTruth.{true_not_false}
+use Rattle.sfs_image.specs.Super.{IsLayout}
 use Rattle.sfs_image.specs.ImageOf.{IsImageOf}
 use Rattle.sfs_dev.specs.Disk.{View}
 use Rattle.commit_one.specs.Change.{nothing_open}
@@ -28,7 +28,7 @@ use Rattle.slot_image_laws.proofs.Running.{told_labels_fit, first_runs_fit, fail
 use Rattle.label_laws.specs.Maps.{past_of}
 use Rattle.close_laws.specs.Close.{PensAgree, EndsMount}
 use Rattle.close_laws.specs.Fronts.{AreTurnsOf}
-use Rattle.close_laws.proofs.Closing.{table_mounts_close}
+use Rattle.close_laws.proofs.Mounts.{table_mounts_close}
 use Rattle.example_laws.specs.Told.{TWO_TOLD, OTHER_AT_ONCE, OWN_AT_ONCE, AT_ONCE_PENS, TWO_NUMBERED, IsTwoImage, still_disk, UP_TO_THE_FIFTH, AT_THE_EIGHTH, TwoMountsClose, TwoCoresClose}
 use Rattle.example_laws.specs.Image.{TWO_DIRECTORIES, TWELVE_BLOCKS, TWO_PARTS}
 use Rattle.example_laws.proofs.Labels.{two_cores, may_five, may_eight, labels_stand_told}
@@ -81,8 +81,9 @@ pens_agree = record {
     agree (suc (suc core)) fsyncs e = absurd (none_some e)
 
 turns_of_them : AreTurnsOf TWO_NUMBERED (past_of TWO_TOLD).turns
-turns_of_them = of_each (λ (turn : Turn). (bringing_under TWO_NUMBERED.pairs turn.stamp.0).flush ≡ flush_at turn) (past_of TWO_TOLD).turns
-    (refl, (refl, (refl, (refl, (refl, (refl, tt))))))
+turns_of_them turn one did =
+    of_each (λ (turn : Turn). (bringing_under TWO_NUMBERED.pairs turn.stamp.0).flush ≡ flush_at turn) (past_of TWO_TOLD).turns
+    (refl, (refl, (refl, (refl, (refl, (refl, tt)))))) turn one
 
 -- labels that are all told of a disk as it is
 abbrev AllToldOf : List (Event Label) → View → Type 0

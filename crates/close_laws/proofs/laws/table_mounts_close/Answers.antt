@@ -1,4 +1,4 @@
-use Rattle.close_laws.proofs.Closing.{table_mounts_close as law}
+use Rattle.close_laws.proofs.Mounts.{table_mounts_close as law}
 use Rattle.close_laws.proofs.laws.table_mounts_close.Goals as goal
 
 pub returns : goal.returns

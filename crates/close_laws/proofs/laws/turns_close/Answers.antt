@@ -1,4 +1,4 @@
-use Rattle.close_laws.proofs.Closing.{turns_close as law}
+use Rattle.close_laws.proofs.Mounts.{turns_close as law}
 use Rattle.close_laws.proofs.laws.turns_close.Goals as goal
 
 pub returns : goal.returns
