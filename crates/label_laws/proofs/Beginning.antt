@@ -54,7 +54,7 @@ use Rattle.label_laws.proofs.Drawn.{Drawing}
 use Rattle.label_laws.proofs.Fsyncs.{part_low, AreBeside, fresh_apart, reached_apart, jobs_apart}
 use Rattle.label_laws.proofs.Opens.{ReservedOpen, AloftOpen}
 
-books_both : (gives : ℕ → List InodePart) (turns more : List Turn) (books : DiskBooks) → books_from gives (turns ++ more) books ≡ books_from gives more (books_from gives turns books)
+pub books_both : (gives : ℕ → List InodePart) (turns more : List Turn) (books : DiskBooks) → books_from gives (turns ++ more) books ≡ books_from gives more (books_from gives turns books)
 books_both gives [] more books = refl
 books_both gives (turn ∷ turns) more books = books_both gives turns more (book_act gives turn.act turn.commit books)
 
