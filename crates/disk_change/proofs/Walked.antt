@@ -40,9 +40,11 @@ item_last {X} key (y ∷ xs) x k e = by (nat_eq (key y) k) e (item_last key xs x
 pub ascends_last : {X : Type 0} (key : X → ℕ) (xs : List X) (x : X) → AscendBy key xs → All (λ one. key one < key x) xs → AscendBy key (xs ++ x ∷ [])
 ascends_last key [] x up below i j d lt within = absurd (omega arith)
 ascends_last key (y ∷ xs) x up below zero zero d lt within = absurd (omega arith)
-ascends_last {X} key (y ∷ xs) x up below zero (suc j) d lt within = first xs (λ k e low. up 0 (suc k) e (omega arith) (omega arith)) (below 0 y (omega arith)) j d (omega arith)
+ascends_last {X} key (y ∷ xs) x up below zero (suc j) d lt within =
+    first xs (λ k e low. up 0 (suc k) e (omega arith) (omega arith)) (below 0 y (omega arith)) j d (omega arith)
   where
-    first : (xs : List X) → All (λ one. key y < key one) xs → key y < key x → (j : ℕ) (d : X) → j < length (xs ++ x ∷ []) → key y < key (get_or (xs ++ x ∷ []) j d)
+    first : (xs : List X) → All (λ one. key y < key one) xs → key y < key x → (j : ℕ) (d : X) → j < length (xs ++ x ∷ [])
+        → key y < key (get_or (xs ++ x ∷ []) j d)
     first [] above last zero d within = last
     first [] above last (suc j) d within = absurd (omega arith)
     first (z ∷ xs) above last zero d within = above 0 d (omega arith)
@@ -96,7 +98,8 @@ module _ (directories : List ℕ) (net : List NetRow) (rows : List Row) (slots :
   more_touched : blocks_touched directories net (take (n + 1) slots) rows ≡ blocks_touched directories net (take n slots) rows ++ is_some after ∷ []
   more_touched =
       ap (λ l. blocks_touched directories net l rows) one_more ∙ touched_more directories net (take n slots) (get_or slots n []) rows
-      ∙ ap (λ b. blocks_touched directories net (take n slots) rows ++ b ∷ []) (sym (is_touched ∙ ap (block_is_touched directories net (get_or slots n [])) was.left))
+      ∙ ap (λ b. blocks_touched directories net (take n slots) rows ++ b ∷ [])
+      (sym (is_touched ∙ ap (block_is_touched directories net (get_or slots n [])) was.left))
 
   -- what is known of the first blocks and of this one is known of one more
   touched_all : (now : List PlacedSlots) → ((k : ℕ) → k < n → is_some (item_with slots_place k now) ≡ is_some (item_with slots_place k changed))

@@ -74,7 +74,8 @@ fn blocks_changed(
     ensures blocks { IfOk result (λ changed. with_placed changed.items slots.now
         ≡ old_blocks_after directories.now net.now slots.now (reverse waiting.old.items)) }
     ensures touched { IfOk result (λ changed. (n : ℕ) → n < length slots.now
-        → slice_index_or (blocks_touched directories.now net.now slots.now (reverse waiting.old.items)) n false ≡ is_some (item_with slots_place n changed.items)) }
+        → slice_index_or (blocks_touched directories.now net.now slots.now (reverse waiting.old.items)) n false
+        ≡ is_some (item_with slots_place n changed.items)) }
     ensures left { OnOk result (reverse waiting.new.items ≡ rows_behind directories.now net.now slots.now (reverse waiting.old.items)) }
     ensures within { IfOk result (λ changed. All (λ one. one.place < length slots.now) changed.items) }
     ensures ascending { IfOk result (λ changed. AscendBy slots_place changed.items) }

@@ -1,5 +1,5 @@
 -- What buckets tell, once one of them is changed.
-use Rattle.std.proofs.Common.{◌≡◌, ◌≢◌, ℕ, zero, suc, ◌+◌, ◌<◌, ◌≤◌, Bool, true, false, ◌||◌, List, [], ◌∷◌, length, get_or, take, Option, Some, None, inl, inr, ◌⊎◌, refl, sym, ap, subst, ◌∙◌, arith, nat_eq}
+use Rattle.std.proofs.Common.{◌≡◌, ◌≢◌, ℕ, zero, suc, ◌+◌, ◌<◌, Bool, true, false, ◌||◌, List, [], ◌∷◌, length, get_or, take, replicate, Option, Some, None, inl, inr, ◌⊎◌, refl, sym, ap, subst, ◌∙◌, arith, nat_eq}
 use Rattle.std.specs.List.{list_any}
 use Rattle.std.proofs.Math.ListN.{set}
 use Rattle.std.proofs.lemmas.Bool.{cases_Bool, eqb-true, eqb-false}
@@ -8,7 +8,7 @@ use Rattle.std.proofs.lemmas.List.{length-set, get_or-set_other, get_or-set_same
 use Rattle.std.proofs.lemmas.List.Folds.{list_any_at, list_any_none, Any-from_list_any}
 use Rattle.sfs_base.proofs.BasicNumbers.{same_number, not_same}
 use Rattle.sfs_base.proofs.BasicLists.{bytes_same}
-use Rattle.sfs_base.proofs.BasicTruth.{false_not_true}
+use Rattle.sfs_base.proofs.BasicTruth.{false_not_true, true_not_false}
 use Rattle.sfs_image.specs.Slot.{Row}
 use Rattle.disk_nodes.specs.Indexed.{has_name, slot_has_name}
 use Rattle.disk_nodes.specs.Names.{TellOf, bucket_place, bucket_with, crowded, is_noted, tells}
@@ -68,6 +68,39 @@ module _ (bucket : Bucket) (left : List ℕ) (place : ℕ) where
       by true e = refl
       by false e = still e
 
+-- where some notes are 0 and the others stay, nothing more is noted
+pub forget_less : (bucket : Bucket) (left : List ℕ) → length left ≡ length bucket.notes
+    → ((k : ℕ) → k < length left → (get_or left k 0 ≡ 0) ⊎ (get_or left k 0 ≡ get_or bucket.notes k 0))
+    → (other : ℕ) → is_noted bucket other ≡ false → is_noted (record bucket { notes = left }) other ≡ false
+forget_less bucket left long less other none =
+    list_any_none (λ note. nat_eq note (other + 1)) left
+    (λ k d within. ap (λ n. nat_eq n (other + 1)) (get_or_default left k d 0 within) ∙ by k within (less k within))
+  where
+    own : (k : ℕ) → k < length left → nat_eq (get_or bucket.notes k 0) (other + 1) ≡ false
+    own k within = elim (cases_Bool (nat_eq (get_or bucket.notes k 0) (other + 1))) [
+      | inl is ↦
+          absurd
+          (true_not_false
+          (sym (list_any_at (λ note. nat_eq note (other + 1)) bucket.notes k 0 (omega (arith, within, long)) is) ∙ none))
+      | inr unlike ↦ unlike
+    ]
+
+    by : (k : ℕ) → k < length left → (get_or left k 0 ≡ 0) ⊎ (get_or left k 0 ≡ get_or bucket.notes k 0) → nat_eq (get_or left k 0) (other + 1) ≡ false
+    by k within (inl nothing) = ap (λ n. nat_eq n (other + 1)) nothing ∙ not_same 0 (other + 1) (λ e. omega (arith, e))
+    by k within (inr same) = ap (λ n. nat_eq n (other + 1)) same ∙ own k within
+
+-- a bucket that tells nothing notes nothing
+pub none_noted : (buckets : List Bucket) (name : List ℕ) (n : ℕ) → length buckets ≡ 0 → is_noted (bucket_with buckets name) n ≡ false
+none_noted [] name n e =
+    list_any_none (λ note. nat_eq note (n + 1)) (replicate 16 0)
+    (λ k d within. ap (λ m. nat_eq m (n + 1)) (same_each 0 16 k d within) ∙ not_same 0 (n + 1) (λ same. omega (arith, same)))
+  where
+    same_each : (x count k d : ℕ) → k < length (replicate count x) → get_or (replicate count x) k d ≡ x
+    same_each x zero k d low = absurd (omega (arith, low))
+    same_each x (suc count) zero d low = refl
+    same_each x (suc count) (suc k) d low = same_each x count k d (omega (arith, low))
+none_noted (bucket ∷ buckets) name n e = absurd (omega (arith, e))
+
 -- one of several buckets is changed
 module _ (buckets : List Bucket) (at : ℕ) (bucket : Bucket) (within : at < length buckets) (name : List ℕ) where
   place_stays : bucket_place (length (set buckets at bucket)) name ≡ bucket_place (length buckets) name
@@ -75,6 +108,23 @@ module _ (buckets : List Bucket) (at : ℕ) (bucket : Bucket) (within : at < len
 
   pub told_own : at ≡ bucket_place (length buckets) name → bucket_with (set buckets at bucket) name ≡ bucket
   told_own same = get_or-set_at buckets at (bucket_place (length (set buckets at bucket)) name) bucket crowded (place_stays ∙ sym same) within
+
+  pub told_apart : (at ≢ bucket_place (length buckets) name) → bucket_with (set buckets at bucket) name ≡ bucket_with buckets name
+  told_apart apart =
+      ap (λ k. get_or (set buckets at bucket) k crowded) place_stays
+      ∙ get_or-set_other buckets at (bucket_place (length buckets) name) bucket crowded (λ e. apart (sym e))
+
+  -- and what is noted no more by it is noted no more
+  pub less_by : (n : ℕ) → (is_noted (get_or buckets at crowded) n ≡ false → is_noted bucket n ≡ false) → is_noted (bucket_with buckets name) n ≡ false
+      → is_noted (bucket_with (set buckets at bucket) name) n ≡ false
+  less_by n less none = by (cases_Bool (nat_eq at (bucket_place (length buckets) name)))
+    where
+      by : (nat_eq at (bucket_place (length buckets) name) ≡ true) ⊎ (nat_eq at (bucket_place (length buckets) name) ≡ false)
+          → is_noted (bucket_with (set buckets at bucket) name) n ≡ false
+      by (inl is) =
+          let same = eqb-true at (bucket_place (length buckets) name) is in
+          ap (λ b. is_noted b n) (told_own same) ∙ less (ap (λ k. is_noted (get_or buckets k crowded) n) same ∙ none)
+      by (inr other) = ap (λ b. is_noted b n) (told_apart (eqb-false at (bucket_place (length buckets) name) other)) ∙ none
 
   pub told_by : (n : ℕ) → (tells (get_or buckets at crowded) n ≡ true → tells bucket n ≡ true) → tells (bucket_with buckets name) n ≡ true
       → tells (bucket_with (set buckets at bucket) name) n ≡ true

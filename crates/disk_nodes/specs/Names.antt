@@ -1,5 +1,5 @@
 -- Which blocks of a directory have names of one bucket.
-use Rattle.std.specs.Prelude.{◌≡◌, ◌≢◌, ℕ, ◌+◌, ◌*◌, ◌%◌, ◌<◌, ◌||◌, ◌==◌, Bool, true, List, [], length, fold, replicate, slice_index_or, Option, Some, None}
+use Rattle.std.specs.Prelude.{◌≡◌, ◌≢◌, ℕ, ◌+◌, ◌*◌, ◌%◌, ◌<◌, ◌||◌, ◌==◌, Bool, true, false, List, [], length, fold, replicate, slice_index_or, Option, Some, None}
 use Rattle.std.specs.List.{list_any}
 use Rattle.sfs_image.specs.Slot.{Row}
 use Rattle.disk_nodes.specs.declared.bucket.Bucket.{Bucket}
@@ -44,3 +44,17 @@ TellOn before after = (name : List ℕ) (n : ℕ) → tells (bucket_with before 
 abbrev pub TellOnBut : ℕ → List Bucket → List Bucket → Type 0
 TellOnBut place before after =
     (name : List ℕ) (n : ℕ) → n ≢ place → tells (bucket_with before name) n ≡ true → tells (bucket_with after name) n ≡ true
+
+-- No row of a block lies in the bucket of a name, of so many.
+abbrev pub SharesNone : ℕ → List (Option Row) → List ℕ → Type 0
+SharesNone count block name = (k : ℕ) (row : Row) → slice_index_or block k None ≡ Some row → bucket_place count row.name ≢ bucket_place count name
+
+-- Buckets note of no row of a block that the block of this place has its name.
+abbrev pub NotesNone : List Bucket → ℕ → List (Option Row) → Type 0
+NotesNone buckets place block = (k : ℕ) (row : Row) → slice_index_or block k None ≡ Some row → is_noted (bucket_with buckets row.name) place ≡ false
+
+-- Once a block has got other slots, no bucket notes it in which only rows lay that it had.
+abbrev pub ForgetsRows : List Bucket → ℕ → List (Option Row) → List (Option Row) → Type 0
+ForgetsRows buckets place before after =
+    (k : ℕ) (row : Row) → slice_index_or before k None ≡ Some row → SharesNone (length buckets) after row.name
+    → is_noted (bucket_with buckets row.name) place ≡ false

@@ -1,5 +1,5 @@
 // Which blocks of a directory have names of one bucket.
-ghost use Rattle.std.specs.Prelude.{◌≡◌, ◌≢◌, ◌<◌, ◌+◌, ◌-◌, ◌^◌, ℕ, true, false, replicate, slice_index_or};
+ghost use Rattle.std.specs.Prelude.{◌≡◌, ◌≢◌, ◌⊎◌, ◌<◌, ◌+◌, ◌-◌, ◌^◌, ℕ, true, false, replicate, slice_index_or};
 ghost use Rattle.disk_nodes.specs.Names.{tells, is_noted};
 
 // How many blocks a bucket notes.
@@ -48,6 +48,7 @@ impl Bucket {
     // Forgets the block of a place.
     pub(crate) fn forget(&mut self, place: usize)
         ensures gone { place < 2 ^ 32 - 1 → is_noted self.new place ≡ false }
+        ensures less { (other : ℕ) → is_noted self.old other ≡ false → is_noted self.new other ≡ false }
         ensures others { (other : ℕ) → other ≢ place → tells self.old other ≡ true → tells self.new other ≡ true }
     {
         if place >= u32::MAX as usize {
@@ -73,6 +74,7 @@ fn place_of(notes: &[u32; NOTES], note: u32) -> usize
 fn without(notes: &[u32; NOTES], note: u32) -> [u32; NOTES]
     ensures gone { (k : ℕ) → k < 16 → 0 < note → slice_index_or result k 0 ≢ note }
     ensures others { (k : ℕ) → k < 16 → slice_index_or notes.now k 0 ≢ note → slice_index_or result k 0 ≡ slice_index_or notes.now k 0 }
+    ensures less { (k : ℕ) → k < 16 → (slice_index_or result k 0 ≡ 0) ⊎ (slice_index_or result k 0 ≡ slice_index_or notes.now k 0) }
 {
     let mut left = *notes;
     for k in 0..NOTES {

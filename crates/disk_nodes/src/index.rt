@@ -1,11 +1,12 @@
 // The index of a directory's blocks.
-ghost use Rattle.std.specs.Prelude.{◌≡◌, [], take, IfOk, IfSome};
+ghost use Rattle.std.specs.Prelude.{◌≡◌, ◌<◌, ◌/◌, ◌-◌, ◌^◌, [], take, IfOk, IfSome};
 ghost use Rattle.disk_nodes.specs.Indexed.{IsIndexOf};
-ghost use Rattle.disk_nodes.specs.Names.{bucket_with as bucket_of_name};
+ghost use Rattle.disk_nodes.specs.Names.{bucket_with as bucket_of_name, ForgetsRows, TellOf, TellOnBut};
+ghost use Rattle.disk_nodes.specs.Rooms.{GROUP_BLOCKS, AreFull, AreFullBut};
 
 use crate::bucket::Bucket;
 use crate::names::{bucket_with, empty_buckets, forget_block, note_block};
-use crate::rooms::{GROUP, look_from, open_groups};
+use crate::rooms::{GROUP, look_at, look_from, open_groups};
 use fmt_slots::SlotBlock;
 use sfs_base::NoMemory;
 use std::alloc::Global;
@@ -50,17 +51,6 @@ impl Index {
         })
     }
 
-    // An equal index.
-    pub(crate) fn copy(&self, alloc: Global) -> Result<Index, NoMemory>
-        ensures { IfOk result (λ copy. copy ≡ self.now) }
-    {
-        let mut buckets = Vec::new(alloc);
-        buckets.extend_from_slice(&self.buckets)?;
-        let mut full = Vec::new(alloc);
-        full.extend_from_slice(&self.full)?;
-        Ok(Index { buckets, full })
-    }
-
     // A larger one, where this one has too few buckets for so many blocks: it has enough for twice as many.
     pub(crate) fn grown(&self, alloc: Global, count: usize) -> Result<Option<Index>, NoMemory>
         ensures { IfOk result (λ larger. IfSome larger (IsIndexOf [])) }
@@ -80,6 +70,26 @@ impl Index {
             note_block(&mut self.buckets, place, &blocks[place]);
         }
         look_from(&mut self.full, blocks, from);
+    }
+
+    // Notes that the block of a place gets other slots, and forgets those that it had.
+    pub(crate) fn change(&mut self, place: usize, before: &SlotBlock, after: &SlotBlock)
+        ensures told { TellOf self.new.buckets place after.now }
+        ensures others { TellOnBut place self.old.buckets self.new.buckets }
+        ensures forgets { place < 2 ^ 32 - 1 → ForgetsRows self.new.buckets place before.now after.now }
+        ensures full { self.new.full ≡ self.old.full }
+    {
+        forget_block(&mut self.buckets, place, before);
+        note_block(&mut self.buckets, place, after);
+    }
+
+    // Looks again whether the group of a block is full.
+    pub(crate) fn look_at(&mut self, blocks: &[SlotBlock], place: usize)
+        requires { AreFullBut (place / GROUP_BLOCKS) self.old.full blocks.now }
+        ensures full { AreFull self.new.full blocks.now }
+        ensures buckets { self.new.buckets ≡ self.old.buckets }
+    {
+        look_at(&mut self.full, blocks, place);
     }
 
     // Forgets the blocks from a place on.

@@ -2,8 +2,8 @@
 //
 // A name lies in a bucket by its hash, and each bucket notes the blocks that have names of it. Buckets take no
 // memory once they are there.
-ghost use Rattle.std.specs.Prelude.{◌≡◌, ◌<◌, true, IfOk};
-ghost use Rattle.disk_nodes.specs.Names.{hash_of as hash_of_name, bucket_place, bucket_with as bucket_of_name, tells, TellOf, TellOn, TellOnBut};
+ghost use Rattle.std.specs.Prelude.{◌≡◌, ◌≢◌, ◌<◌, ◌-◌, ◌^◌, List, ℕ, true, false, length, IfOk};
+ghost use Rattle.disk_nodes.specs.Names.{hash_of as hash_of_name, bucket_place, bucket_with as bucket_of_name, is_noted, tells, NotesNone, SharesNone, TellOf, TellOn, TellOnBut};
 
 use crate::bucket::Bucket;
 use fmt_slots::SlotBlock;
@@ -56,6 +56,9 @@ pub(crate) fn bucket_with(buckets: &[Bucket], name: &[u8]) -> Bucket
 fn note_name(buckets: &mut Vec<Bucket>, place: usize, name: &[u8])
     ensures told { tells (bucket_of_name buckets.new.items name.now) place ≡ true }
     ensures others { TellOn buckets.old.items buckets.new.items }
+    ensures apart { (other : List ℕ) → bucket_place (length buckets.old.items) name.now ≢ bucket_place (length buckets.old.items) other
+        → bucket_of_name buckets.new.items other ≡ bucket_of_name buckets.old.items other }
+    ensures count { length buckets.new.items ≡ length buckets.old.items }
 {
     if !buckets.is_empty() {
         let at = place_of(name, buckets.len());
@@ -66,6 +69,10 @@ fn note_name(buckets: &mut Vec<Bucket>, place: usize, name: &[u8])
 // Forgets that the block of a place has a name.
 fn forget_name(buckets: &mut Vec<Bucket>, place: usize, name: &[u8])
     ensures others { TellOnBut place buckets.old.items buckets.new.items }
+    ensures gone { place < 2 ^ 32 - 1 → is_noted (bucket_of_name buckets.new.items name.now) place ≡ false }
+    ensures less { (other : List ℕ) → is_noted (bucket_of_name buckets.old.items other) place ≡ false
+        → is_noted (bucket_of_name buckets.new.items other) place ≡ false }
+    ensures count { length buckets.new.items ≡ length buckets.old.items }
 {
     if !buckets.is_empty() {
         let at = place_of(name, buckets.len());
@@ -77,6 +84,9 @@ fn forget_name(buckets: &mut Vec<Bucket>, place: usize, name: &[u8])
 pub(crate) fn note_block(buckets: &mut Vec<Bucket>, place: usize, block: &SlotBlock)
     ensures told { TellOf buckets.new.items place block.now }
     ensures others { TellOn buckets.old.items buckets.new.items }
+    ensures apart { (other : List ℕ) → SharesNone (length buckets.old.items) block.now other
+        → bucket_of_name buckets.new.items other ≡ bucket_of_name buckets.old.items other }
+    ensures count { length buckets.new.items ≡ length buckets.old.items }
 {
     for k in 0..block.len() {
         if let Some(row) = block.row(k) {
@@ -88,6 +98,8 @@ pub(crate) fn note_block(buckets: &mut Vec<Bucket>, place: usize, block: &SlotBl
 // Forgets the names that the block of a place had.
 pub(crate) fn forget_block(buckets: &mut Vec<Bucket>, place: usize, block: &SlotBlock)
     ensures others { TellOnBut place buckets.old.items buckets.new.items }
+    ensures gone { place < 2 ^ 32 - 1 → NotesNone buckets.new.items place block.now }
+    ensures count { length buckets.new.items ≡ length buckets.old.items }
 {
     for k in 0..block.len() {
         if let Some(row) = block.row(k) {

@@ -6,8 +6,7 @@ ghost use Rattle.disk_nodes.specs.Rooms.{has_empty};
 
 use crate::bucket::{Bucket, NOTES};
 use crate::index::Index;
-use crate::names::{forget_block, note_block};
-use crate::rooms::{look_at, room_from};
+use crate::rooms::room_from;
 use fmt_slots::{SlotBlock, SlotList};
 use sfs_base::NoMemory;
 use std::alloc::Global;
@@ -71,18 +70,6 @@ impl DirectorySlots {
         Ok(DirectorySlots { blocks, index })
     }
 
-    /// Equal blocks with an equal index. Only want of memory refuses it.
-    pub fn copy(&self, alloc: Global) -> Result<DirectorySlots, NoMemory>
-        ensures { IfOk result (λ copy. copy ≡ self.now) }
-    {
-        let mut blocks = Vec::with_capacity(alloc, self.blocks.len())?;
-        for block in &self.blocks {
-            blocks.push(block.copy()?)?;
-        }
-        let index = self.index.copy(alloc)?;
-        Ok(DirectorySlots { blocks, index })
-    }
-
     /// The blocks, in their order.
     pub fn as_slice(&self) -> &[SlotBlock]
         ensures { result.now ≡ self.now }
@@ -102,10 +89,9 @@ impl DirectorySlots {
         requires { place < length self.old }
         ensures { self.new ≡ slice_set self.old place block }
     {
-        forget_block(&mut self.index.buckets, place, &self.blocks[place]);
-        note_block(&mut self.index.buckets, place, &block);
+        self.index.change(place, &self.blocks[place], &block);
         self.blocks[place] = block;
-        look_at(&mut self.index.full, &self.blocks, place);
+        self.index.look_at(&self.blocks, place);
     }
 
     /// Drops the blocks behind the first `count`. It takes no memory.

@@ -124,12 +124,14 @@ module _ (nodes : List NodeId) (lent : List OldEntry) (whole part : OpenVolume) 
       ap (λ (v : OpenVolume). record v { stored = stored }) lends.others
       ∙ (λ i. record whole { known = sym (ap (λ (v : OpenVolume). v.known) lends.others) i; stored = stored })
 
-  pub put_back_whole : (stored : KeptNodes) → AreReplaced (map node_number nodes) lent part.stored stored → IsSameButRoom whole (record part { stored = stored })
+  pub put_back_whole : (stored : KeptNodes) → AreReplaced (map node_number nodes) lent part.stored stored
+      → IsSameButRoom whole (record part { stored = stored })
   put_back_whole stored back =
       subst (IsSameButRoom whole) (sym (back_again stored)) (whole_again part.known (record { cuts = refl; births = refl; inodes = refl }) stored back)
 
 -- Where nothing was reserved, it ends by why.
-pub unreserved_ends : (stamp : Stamp) (plan : FsyncPlan) (before : View) (whole new : OpenVolume) {Disk : Type 0} (disk : Disk) (given : SpaceFault) (need : Need)
+pub unreserved_ends : (stamp : Stamp) (plan : FsyncPlan) (before : View) (whole new : OpenVolume) {Disk : Type 0} (disk : Disk)
+    (given : SpaceFault) (need : Need)
     → need ≡ need_of_change plan.change → MatchOption (shortage whole.space need) (given ≡ fault.NoMemory) (λ due. given ≡ due) → IsSameButRoom whole new
     → PlanEnds (disk ≡ disk) stamp plan before before whole new (unreserved_answer given)
 unreserved_ends stamp plan before whole new disk (fault.NoSpace kind wanted free) need is cause same =

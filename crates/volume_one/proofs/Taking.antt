@@ -38,7 +38,8 @@ pub not_next : (nodes : List NodeId) (i n : ℕ) → i < length nodes → is_lis
 not_next nodes i n within unlisted =
     by (is_listed (map node_number (take i nodes)) n) refl (sym (listed_more node_number nodes i (record { 0 = 0 }) n within) ∙ unlisted)
   where
-    by : (b : Bool) → is_listed (map node_number (take i nodes)) n ≡ b → (is_listed (map node_number (take i nodes)) n || nat_eq (get_or nodes i (record { 0 = 0 })).0 n) ≡ false
+    by : (b : Bool) → is_listed (map node_number (take i nodes)) n ≡ b
+        → (is_listed (map node_number (take i nodes)) n || nat_eq (get_or nodes i (record { 0 = 0 })).0 n) ≡ false
         → (is_listed (map node_number (take i nodes)) n ≡ false) × ((get_or nodes i (record { 0 = 0 })).0 ≡ n → ⊥)
     by true t e = absurd (true_not_false ((λ j. sym t j || nat_eq (get_or nodes i (record { 0 = 0 })).0 n) ∙ e))
     by false t e = (
@@ -60,7 +61,8 @@ kept_of_entries kept (m ∷ numbers) node = by (old_at kept m) refl (nat_eq m no
   where
     by : (o : Option OldKept) → old_at kept m ≡ o → (b : Bool) → nat_eq m node ≡ b
         → kept_in (disk_entries_at kept numbers) node ≡ cond (is_listed numbers node) (old_at kept node) None
-        → kept_in (cons_option (disk_entry_with m o) (disk_entries_at kept numbers)) node ≡ cond (nat_eq m node || is_listed numbers node) (old_at kept node) None
+        → kept_in (cons_option (disk_entry_with m o) (disk_entries_at kept numbers)) node
+        ≡ cond (nat_eq m node || is_listed numbers node) (old_at kept node) None
     by None is true t rest =
         let none : old_at kept node ≡ None = ap (old_at kept) (sym (eqb-true m node t)) ∙ is in
         rest ∙ either (is_listed numbers node) none ∙ sym ((λ j. cond (t j || is_listed numbers node) (old_at kept node) None) ∙ none)

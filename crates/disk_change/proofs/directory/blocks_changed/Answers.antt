@@ -54,8 +54,8 @@ loop-place-preserved c =
             subst (λ (changed : List PlacedSlots). Walked dirs net rows slots c.next_place-place-in-loop-place.result changed rest)
             (sym (ap (λ v. v.items) w.changed-is ∙ w.in_ok-push.ensures.items))
             (on _
-            (walked_changed dirs net rows slots c.loop-place.place within c.loop-place.changed.items left c.loop-place.invariant.walked c.in_ok-slots.field-0 rest
-            filled is_left touched w.in-Some.slots w.in-Some.is));
+            (walked_changed dirs net rows slots c.loop-place.place within c.loop-place.changed.items left c.loop-place.invariant.walked
+            c.in_ok-slots.field-0 rest filled is_left touched w.in-Some.slots w.in-Some.is));
         within = next.within;
       }
       | in_default w ↦ record {
@@ -63,8 +63,8 @@ loop-place-preserved c =
             subst (λ (changed : List PlacedSlots). Walked dirs net rows slots c.next_place-place-in-loop-place.result changed rest)
             (sym (ap (λ v. v.items) w.changed-is))
             (on _
-            (walked_past dirs net rows slots c.loop-place.place within c.loop-place.changed.items left c.loop-place.invariant.walked c.in_ok-slots.field-0 rest
-            filled is_left touched w.in_default.is));
+            (walked_past dirs net rows slots c.loop-place.place within c.loop-place.changed.items left c.loop-place.invariant.walked
+            c.in_ok-slots.field-0 rest filled is_left touched w.in_default.is));
         within = next.within;
       }
     ]

@@ -18,7 +18,8 @@ returns-clause-built c =
     let slots =
     ap (λ l. take c.seat.inside.end (patched c.in_ok-patch.patch l)) (sym lent) ∙ c.in_ok-patch.ensures.slots
     ∙ ap
-    (λ l. map (block_numbered (λ node. unwrap_or (get nat_cmp c.args.numbers.now node) None) c.args.net.now) (take c.seat.inside.end (patched c.seat.inside.patch l)))
+    (λ l. map (block_numbered (λ node. unwrap_or (get nat_cmp c.args.numbers.now node) None) c.args.net.now)
+    (take c.seat.inside.end (patched c.seat.inside.patch l)))
     lent in
     rw (← c.seat.view_is) (λ i. record {
       node = c.seat.inside.node.0;

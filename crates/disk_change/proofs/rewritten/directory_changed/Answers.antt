@@ -27,7 +27,8 @@ loop-n-init c =
 
 pub push-requires-clause-above : goal.push-requires-clause-above
 push-requires-clause-above c =
-    rw c.in_ok-reserve.ensures.items (λ k d within. let below = c.loop-n.invariant.below k d within in let own = c.in-Some.ensures.own in omega (arith, below, own))
+    rw c.in_ok-reserve.ensures.items
+    (λ k d within. let below = c.loop-n.invariant.below k d within in let own = c.in-Some.ensures.own in omega (arith, below, own))
 
 pub loop-n-preserved : goal.loop-n-preserved
 loop-n-preserved c =
@@ -35,7 +36,8 @@ loop-n-preserved c =
     let blocks = patched c.args.patch.now c.args.slots.now in
     let next = c.next_said-n-in-loop-n.result in
     let on : (touched : List Bool) → TellsTouched c.args.slots.now c.args.patch.now touched
-    → filter_map (block_said pointers blocks touched) (range_with_len 0 next) ≡ filter_map (block_said pointers blocks touched) (range_with_len 0 (c.loop-n.n + 1)) =
+    → filter_map (block_said pointers blocks touched) (range_with_len 0 next)
+    ≡ filter_map (block_said pointers blocks touched) (range_with_len 0 (c.loop-n.n + 1)) =
     λ touched told.
     nothing_between (block_said pointers blocks touched) (c.loop-n.n + 1) next c.next_said-n-in-loop-n.ensures.on
     (λ k over under.

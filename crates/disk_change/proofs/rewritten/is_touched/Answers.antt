@@ -19,7 +19,8 @@ pub returns-in-Ok : goal.returns-in-Ok
 returns-in-Ok c = λ touched told.
     let by_key = c.in-Ok.ensures.position slots_place (answers_always _ _ _ (λ f a r h called. search rules)) in
     ap is_some
-    (search_finds slots_place c.patch.inside.changed.items c.patch.invariant c.args.n c.in-Ok.field-0 NO_SLOTS (rw (← c.deref.ensures.value) c.in-Ok.ensures.bound)
+    (search_finds slots_place c.patch.inside.changed.items c.patch.invariant c.args.n c.in-Ok.field-0 NO_SLOTS
+    (rw (← c.deref.ensures.value) c.in-Ok.ensures.bound)
     (rw (← c.deref.ensures.value) by_key))
     ∙ ap (λ (p : SlotsPatch). is_some (item_with slots_place c.args.n p.changed)) c.patch.view_is
     ∙ sym (told.there c.args.n (omega (arith, c.if-n-slots.false)))

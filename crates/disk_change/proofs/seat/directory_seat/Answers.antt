@@ -38,7 +38,8 @@ returns-clause-seat c =
     c.in_ok-changed.ensures (directory_touched dirs c.net_of-net.result.now slots)
     (subst (λ l. TellsTouched l c.in_ok-patch.patch (directory_touched dirs c.net_of-net.result.now slots)) (sym lent) c.in_ok-patch.ensures.touched)
     ∙ ap
-    (λ l. directory_changed (pointer_kept base c.begun.inside.tables.items) (patched c.in_ok-patch.patch l) (directory_touched dirs c.net_of-net.result.now slots))
+    (λ l. directory_changed (pointer_kept base c.begun.inside.tables.items) (patched c.in_ok-patch.patch l)
+    (directory_touched dirs c.net_of-net.result.now slots))
     lent
     ∙ (λ i. directory_changed (pointer_kept base c.begun.inside.tables.items) (blocks i) (touched i)) in
     rw (← c.begun.view_is) (λ i. record {

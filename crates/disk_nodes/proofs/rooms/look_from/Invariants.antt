@@ -1,4 +1,4 @@
-use Rattle.std.proofs.Common.{◌≡◌, ◌≤◌, length}
+use Rattle.std.proofs.Common.{◌≡◌, length}
 use Rattle.disk_nodes.specs.Rooms.{AreFullBefore}
 use Rattle.disk_nodes.proofs.rooms.look_from.Given as goal
 

@@ -1,4 +1,4 @@
-use Rattle.std.proofs.Common.{◌≡◌, ◌+◌, ◌<◌, ◌/◌, ◌∷◌, take, sym, ap, ◌∙◌, arith, length, false, get_or, []}
+use Rattle.std.proofs.Common.{◌<◌, ◌/◌, ◌∷◌, sym, ap, ◌∙◌, arith, false, get_or, []}
 use Rattle.std.proofs.lemmas.List.{length-take}
 use Rattle.disk_nodes.specs.Rooms.{has_empty}
 use Rattle.disk_nodes.specs.Indexed.{Indexed}

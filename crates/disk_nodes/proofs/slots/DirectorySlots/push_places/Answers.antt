@@ -1,7 +1,7 @@
-use Rattle.std.proofs.Common.{◌≡◌, ◌<◌, [], get_or, length, sym, ap, subst, ◌∙◌}
+use Rattle.std.proofs.Common.{◌<◌, [], get_or, length, sym, ap, subst, ◌∙◌}
 use Rattle.std.proofs.lemmas.Result.{on_ok_weaker}
 use Rattle.disk_nodes.specs.Indexed.{Indexed, has_name}
-use Rattle.disk_nodes.specs.Names.{bucket_with, tells}
+use Rattle.disk_nodes.specs.Names.{tells}
 use Rattle.disk_nodes.proofs.Telling.{noted_of, told_of_name}
 use Rattle.disk_nodes.proofs.slots.DirectorySlots.push_places.Goals as goal
 

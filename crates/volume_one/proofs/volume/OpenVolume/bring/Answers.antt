@@ -56,11 +56,13 @@ returns-in-Err-clause-ends g c whole lends =
     let stored = c.replace_entries.new.old in
     let need_is : c.need.result ≡ need_of_change c.args.plan.change = λ i. record { inodes = c.need.ensures.inodes i; blocks = c.need.ensures.blocks i } in
     let back : AreReplaced (map node_number nodes) lent volume.stored stored =
-    replaced_by c.as_slice.result.now nodes c.into_old-old.result.items lent volume.stored stored c.as_slice.ensures c.into_old-old.ensures c.replace_entries.ensures in
+    replaced_by c.as_slice.result.now nodes c.into_old-old.result.items lent volume.stored stored c.as_slice.ensures c.into_old-old.ensures
+    c.replace_entries.ensures in
     let same : IsSameButRoom whole (record volume { space = c.granted.new.space; stored = stored }) =
     subst (λ (s : Space). IsSameButRoom whole (record volume { space = s; stored = stored })) (sym c.in-Err.ensures.err)
     (put_back_whole nodes lent whole volume lends stored back) in
-    subst (PlanEnds (c.args.disk.now ≡ c.args.disk.now) c.args.stamp c.args.plan before before whole (record volume { space = c.granted.new.space; stored = stored }))
+    subst (PlanEnds (c.args.disk.now ≡ c.args.disk.now) c.args.stamp c.args.plan before before whole
+    (record volume { space = c.granted.new.space; stored = stored }))
     (sym c.unreserved.ensures)
     (unreserved_ends c.args.stamp c.args.plan before whole _ c.args.disk.now c.in-Err.fault c.need.result need_is
     (subst (λ (s : Space). MatchOption (shortage s c.need.result) (c.in-Err.fault ≡ fault.NoMemory) (λ due. c.in-Err.fault ≡ due))

@@ -83,12 +83,14 @@ returns-in-Err-clause-ends g c whole lends =
     let err = c.in-Err.ensures.err in
     let back : AreReplaced (map node_number nodes) lent c.args.self.now.stored stored =
     subst (λ (v : OpenVolume). AreReplaced (map node_number nodes) lent v.stored stored) c.in-Err.ensures.same.others
-    (replaced_by c.as_slice.result.now nodes c.in-Err.lent.old.items lent after.stored stored (c.as_slice.ensures ∙ err.nodes) err.old c.replace_entries.ensures) in
+    (replaced_by c.as_slice.result.now nodes c.in-Err.lent.old.items lent after.stored stored (c.as_slice.ensures ∙ err.nodes) err.old
+    c.replace_entries.ensures) in
     let room : OpenVolume = record whole { known = after.known; stored = stored } in
     let same = whole_again nodes lent whole c.args.self.now lends after.known c.in-Err.ensures.same.known stored back in
     let left : OpenVolume = record after { stored = stored; space = c.give_back.new.self } in
     let others : left ≡ with_space room c.give_back.new.self =
-    ap (λ (v : OpenVolume). record v { known = after.known; stored = stored; space = c.give_back.new.self }) (c.in-Err.ensures.same.others ∙ ap (λ (v : OpenVolume). record v { known = after.known }) lends.others) in
+    ap (λ (v : OpenVolume). record v { known = after.known; stored = stored; space = c.give_back.new.self })
+    (c.in-Err.ensures.same.others ∙ ap (λ (v : OpenVolume). record v { known = after.known }) lends.others) in
     let space : after.space ≡ whole.space = ap (λ (v : OpenVolume). v.space) c.in-Err.ensures.same.others ∙ lent_space nodes lent whole c.args.self.now lends in
     subst (λ (f : Flushed). GrantEnds (c.args.disk.now ≡ c.args.disk.now) c.args.stamp c.args.plan c.args.grant before before whole left f)
     (sym (c.refused.ensures ∙ ap (refused_with reply.NoMemory) c.once_returned-deed.ensures))

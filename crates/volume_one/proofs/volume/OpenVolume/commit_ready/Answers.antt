@@ -64,7 +64,8 @@ returns-in-Err-clause-ends g c whole lends =
     let stored = c.replace_entries.new.old in
     let space = c.give_back.new.self in
     let back : AreReplaced (map node_number nodes) lent volume.stored stored =
-    replaced_by c.as_slice.result.now nodes c.into_old-old.result.items lent volume.stored stored c.as_slice.ensures c.into_old-old.ensures c.replace_entries.ensures in
+    replaced_by c.as_slice.result.now nodes c.into_old-old.result.items lent volume.stored stored c.as_slice.ensures c.into_old-old.ensures
+    c.replace_entries.ensures in
     let room : OpenVolume = record whole { known = volume.known; stored = stored } in
     let same = whole_again nodes lent whole volume lends volume.known (record { cuts = refl; births = refl; inodes = refl }) stored back in
     let in_doubt : OpenVolume = record volume { space = space; failed = Some c.in-Err.doubt.faults; stored = stored } in
