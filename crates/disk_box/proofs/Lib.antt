@@ -3,7 +3,9 @@ pub mod Amid
 pub mod AtSlots
 pub mod Entered
 pub mod Failure
+pub mod Flights
 pub mod Frames
+pub mod GateOpened
 pub mod Left
 pub mod Looked
 pub mod Nexts

@@ -32,6 +32,12 @@ module _ {X : Type 0} (xs : List X) (k : ℕ) (x : X) where
       some_same (sym there ∙ (slice_get-get_or (slice_set xs k x) j x within
       ∙ ap Some (get_or-set_at xs k j x x same (omega (arith, length-set xs k x, low, same)))))
 
+  pub get_put : (y : X) → slice_get xs k ≡ Some y → slice_get (slice_set xs k x) k ≡ Some x
+  get_put y there =
+      let low = slice_get_within xs k y there in
+      let within : k < length xs = low in
+      slice_get-get_or (slice_set xs k x) k x (omega (arith, length-set xs k x, within)) ∙ ap Some (get_or-set_at xs k k x x refl within)
+
 -- a slot that is put fits, where it fits what is told of it
 pub slots_put : (layout : Layout) (told : Slots) (slots : List Slot) (k : ℕ) (work : Option SlotWork) (slot : Slot) → SlotsFit layout told slots
     → SlotFits (place_at layout k) work slot → SlotsFit layout (with_at told k work) (slice_set slots k slot)

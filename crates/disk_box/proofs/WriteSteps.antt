@@ -38,7 +38,7 @@ module _ {D : Type 0} (view : D → View) (t : TableState BoxKey) (before : PenH
   key = before.table.given
 
   -- its place's layout is the disk's
-  placed_at : (work : SlotWork) → (past_at before).slots k ≡ Some work → work.job.place.layout.blocks ≤ (view was.disk).size
+  pub placed_at : (work : SlotWork) → (past_at before).slots k ≡ Some work → work.job.place.layout.blocks ≤ (view was.disk).size
   placed_at work there =
       let place = (past_fits_at t before at.holds).numbers.place k work there in
       subst (λ (p : Place). p.layout.blocks ≤ (view was.disk).size) (sym place) at.fits.frame.large

@@ -1,10 +1,11 @@
 // The turns that a core takes at the disk, and their record.
-ghost use Rattle.std.specs.Prelude.{◌≡◌, ◌≢◌, ◌<◌, None};
+ghost use Rattle.std.specs.Prelude.{◌≡◌, ◌≢◌, ◌<◌, None, Some, length, slice_get};
 ghost use Rattle.slot_laws.specs.Labels.{after_label, fsync_told};
 ghost use Rattle.slot_laws.specs.Rules.{IsTurnBy, NotedRule};
 ghost use Rattle.slot_laws.specs.declared.label.Label.TheVariants as label;
 ghost use Rattle.tree_laws.specs.declared.turns.TurnAct.TheVariants as act;
 ghost use Rattle.disk_box.specs.Desk.{owed_by, turn_faults};
+ghost use Rattle.disk_box.specs.declared.desk.Slot.{Slot};
 ghost use Rattle.disk_box.specs.Pens.{IsAtDesk, TellsLabel, past_at};
 
 use crate::{BoxTable, Desk, Pen, note};
@@ -40,6 +41,22 @@ impl<D: Disk> Desk<D> {
             faults,
             act,
         }
+    }
+
+    /// The turn of a core for the commit in a slot, at this moment.
+    pub fn slot_turn(&self, core: CoreId, k: usize, act: TurnAct) -> Turn
+        requires within { k < length self.now.slots.items }
+        ensures by { (slot : Slot) → slice_get self.now.slots.items k ≡ Some slot
+            → IsTurnBy result act core.0 slot.commit (fsync_told slot.node slot.stamp) }
+        ensures now { result.now ≡ (D.view self.now.disk).now }
+        ensures faults { result.faults ≡ turn_faults self.now.faults self.now.failed (D.view self.now.disk).faults }
+    {
+        let slot = &self.slots[k];
+        let fsync = Fsync {
+            node: slot.node,
+            stamp: slot.stamp,
+        };
+        self.turn(core, slot.commit, fsync, act)
     }
 }
 
