@@ -70,15 +70,15 @@ module _ {D : Type 0} (view : D → View) (key : BoxKey) (core : ℕ) (past : Bo
   pub room_emptied : (past.owns core).over ≡ false → owed_by key.layout.cores later + 3 ≤ owed_by key.layout.cores past
   room_emptied over =
       let none : owed_of (later.owns core) (later.waits core) ≡ 0 = (λ i. owed_of (own_now i) (waits i))
-        ∙ owed_none view key core past fits was frame low number reserved (own_label (label.Empty number cut opened durable) (past.owns core)) refl idle
-        (past.owns core).over refl
+      ∙ owed_none view key core past fits was frame low number reserved (own_label (label.Empty number cut opened durable) (past.owns core)) refl idle
+      (past.owns core).over refl
       in
       let three_owed : owed_of (past.owns core) (past.waits core) ≡ 3 = ap (owed_of (past.owns core)) waits
-        ∙ owed_three view key core past fits was frame low number reserved (past.owns core) reserved over
+      ∙ owed_three view key core past fits was frame low number reserved (past.owns core) reserved over
       in
       owed_taken key.layout.cores core 3 past later low (omega (arith, none, three_owed)) (λ other below not.
       let same : owed_of (later.owns other) (later.waits other) ≡ owed_of (past.owns other) (past.waits other) =
-        ap (λ (o : OwnTold). owed_of o (past.waits other)) (others_after key.layout core (label.Empty number cut opened durable) past other not)
+      ap (λ (o : OwnTold). owed_of o (past.waits other)) (others_after key.layout core (label.Empty number cut opened durable) past other not)
       in
       omega (arith, same))
 

@@ -42,7 +42,7 @@ kept_but opens number other grant not was = record {
 
 in_map : {X : Type 0} (f : X → X) (xs : List X) (x : X) → IsOneOf xs x → IsOneOf (map f xs) (f x)
 in_map f [] x one = absurd one
-in_map f (y ∷ xs) x one = elim one [ | inl here ↦ inl (ap f here) | inr rest ↦ inr (in_map f xs x rest) ]
+in_map f (y ∷ xs) x one = elim one [ inl here ↦ inl (ap f here) | inr rest ↦ inr (in_map f xs x rest) ]
 
 -- one that gives up something has its number and grant
 giving_same : (other : ℕ) (numbers : GrantedNumbers) (commit : ReservedCommit)
@@ -180,20 +180,20 @@ granted_from layout before core (Told other fact ∷ log) past had fits has may 
     let next = label_fits layout before other.0 past fits fact may.0.1 in
     elim (same_or_not core other.0) [
       | inl same ↦
-        let own : HasIt core (after_label layout other.0 fact past) (grant_after fact had) =
+          let own : HasIt core (after_label layout other.0 fact past) (grant_after fact had) =
           subst (λ c. HasIt core (after_label layout c fact past) (grant_after fact had)) same
           (own_says layout before core past fits had has fact (subst (λ c. MayLabel layout before c fact past) (sym same) may.0.1))
-        in
-        subst (λ l. HasIt core (past_from layout log (after_label layout other.0 fact past)) (grant_from l had))
-        (sym (ap (λ b. cond b (Told other fact ∷ entries_by event_core core log) (entries_by event_core core log))
-        (ap (λ n. nat_eq n core) (sym same) ∙ same_number core)))
-        (granted_from layout before core log (after_label layout other.0 fact past) (grant_after fact had) next own may.1)
+          in
+          subst (λ l. HasIt core (past_from layout log (after_label layout other.0 fact past)) (grant_from l had))
+          (sym (ap (λ b. cond b (Told other fact ∷ entries_by event_core core log) (entries_by event_core core log))
+          (ap (λ n. nat_eq n core) (sym same) ∙ same_number core)))
+          (granted_from layout before core log (after_label layout other.0 fact past) (grant_after fact had) next own may.1)
       | inr not ↦
-        subst (λ l. HasIt core (past_from layout log (after_label layout other.0 fact past)) (grant_from l had))
-        (sym (ap (λ b. cond b (Told other fact ∷ entries_by event_core core log) (entries_by event_core core log))
-        (not_same other.0 core (λ e. not (sym e)))))
-        (granted_from layout before core log (after_label layout other.0 fact past) had next
-        (λ grant is. others_leave layout before core grant other.0 not past fits (has grant is) fact may.0.1) may.1)
+          subst (λ l. HasIt core (past_from layout log (after_label layout other.0 fact past)) (grant_from l had))
+          (sym (ap (λ b. cond b (Told other fact ∷ entries_by event_core core log) (entries_by event_core core log))
+          (not_same other.0 core (λ e. not (sym e)))))
+          (granted_from layout before core log (after_label layout other.0 fact past) had next
+          (λ grant is. others_leave layout before core grant other.0 not past fits (has grant is) fact may.0.1) may.1)
     ]
 
 -- What a pen has been granted, by its own labels, is granted to the open commit with the number that it has reserved.

@@ -76,8 +76,8 @@ module _ {D : Type 0} (asked : Asked) (before entered done after : PenHand D) (g
   pub empties_around : (result : Result Ack CommitFault) → Empties asked entered done result → Empties asked before after result
   empties_around (Ok ack) it =
       let by : (turn : Turn) (did : TurnAct) → IsTurnBy turn did entered.view.core ack.commit asked.flush
-          → IsTurnBy turn did before.view.core ack.commit asked.flush = λ turn did is.
-        record { did_is = is.did_is; core_is = is.core_is ∙ core_in; commit_is = is.commit_is; flush_is = is.flush_is }
+      → IsTurnBy turn did before.view.core ack.commit asked.flush = λ turn did is.
+      record { did_is = is.did_is; core_is = is.core_is ∙ core_in; commit_is = is.commit_is; flush_is = is.flush_is }
       in
       record {
         ends = record {

@@ -14,13 +14,13 @@ pub open_changed : (opens nexts : List (Option OpenView)) (core : ℕ) (entry : 
     → ((other : ℕ) → other ≢ core → option_map open_told (slice_index_or opens other None) ≡ open_for (owns other) (waits other)) → (other : ℕ)
     → option_map open_told (slice_index_or nexts other None) ≡ open_for (owns other) (waits other)
 open_changed opens nexts core entry owns waits low are own others other = elim (same_or_not other core) [
-    | inl is ↦
+  | inl is ↦
       ap (λ (l : List (Option OpenView)). option_map open_told (slice_index_or l other None)) are
       ∙ (ap (option_map open_told) (get_or-set_at opens core other entry None is low) ∙ (own ∙ ap (λ c. open_for (owns c) (waits c)) (sym is)))
-    | inr not ↦
+  | inr not ↦
       ap (λ (l : List (Option OpenView)). option_map open_told (slice_index_or l other None)) are
       ∙ (ap (option_map open_told) (get_or-set_other opens core other entry None not) ∙ others other not)
-  ]
+]
 
 -- An open commit of a ledger by its number and whether it has begun.
 pub record IsOpenAs (o : Option OpenView) (number : ℕ) (begun : Bool) : Type 0 where

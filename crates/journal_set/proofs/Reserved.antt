@@ -94,16 +94,16 @@ module _ {D : Type 0} (view : D → View) (key : BoxKey) (core : ℕ) (past : Bo
 
       open_entered : (other : ℕ) → option_map open_told (open_in next_ledger other) ≡ open_for (later.owns other) (past.waits other)
       open_entered other = elim (same_or_not other core) [
-          | inl is ↦
+        | inl is ↦
             ap (λ (l : List (Option OpenView)). option_map open_told (slice_index_or l other None)) opens_are
             ∙ (ap (option_map open_told) (get_or-set_at was.ledger.opens core other (Some entered) None is (subst (λ n. core < n) (sym frame.places) low))
             ∙ (sym (λ i. open_for (own_now i) (waits_none i)) ∙ ap (λ c. open_for (later.owns c) (past.waits c)) (sym is)))
-          | inr not ↦
+        | inr not ↦
             ap (λ (l : List (Option OpenView)). option_map open_told (slice_index_or l other None)) opens_are
             ∙ (ap (option_map open_told) (get_or-set_other was.ledger.opens core other (Some entered) None not)
             ∙ (frame.opens other ∙ ap (λ (o : OwnTold). open_for o (past.waits other))
             (sym (others_after key.layout core (label.Reserved number nodes grant) past other not))))
-        ]
+      ]
 
       pub entered_frame : FrameFits view key later (record was { ledger = next_ledger })
       entered_frame = record {

@@ -60,12 +60,12 @@ module _ {D : Type 0} (view : D → View) (key : BoxKey) (core : ℕ) (past : Bo
   pub room_returned : (past.owns core).over ≡ false → owed_by key.layout.cores later + 3 ≤ owed_by key.layout.cores past
   room_returned over =
       let none : owed_of (later.owns core) (later.waits core) ≡ 0 = (λ i. owed_of (own_now i) (none_waits i))
-        ∙ owed_none (own_label (label.Returned number) (past.owns core)) refl no_flight (past.owns core).over refl
+      ∙ owed_none (own_label (label.Returned number) (past.owns core)) refl no_flight (past.owns core).over refl
       in
       let three : owed_of (past.owns core) (past.waits core) ≡ 3 = ap (owed_of (past.owns core)) none_waits ∙ owed_three (past.owns core) reserved over in
       owed_taken key.layout.cores core 3 past later low (omega (arith, none, three)) (λ other below not.
       let same : owed_of (later.owns other) (later.waits other) ≡ owed_of (past.owns other) (past.waits other) =
-        ap (λ (o : OwnTold). owed_of o (past.waits other)) (others_after key.layout core (label.Returned number) past other not)
+      ap (λ (o : OwnTold). owed_of o (past.waits other)) (others_after key.layout core (label.Returned number) past other not)
       in
       omega (arith, same))
 

@@ -33,17 +33,17 @@ looked_none t pen holds idle =
 pub looked_due : {D : Type 0} (t : TableState BoxKey) (pen : PenHand D) → HoldsBox t pen → HasNothingDue (own_at pen)
     → (past_at pen).waits pen.view.core ≡ None
 looked_due t pen holds rests = elim rests [
-    | inl over ↦ ((past_fits_at t pen holds).over pen.view.core (ap (λ (o : OwnTold). o.over) (owns_own t pen holds) ∙ over)).0
-    | inr none ↦ looked_none t pen holds none.1
-  ]
+  | inl over ↦ ((past_fits_at t pen holds).over pen.view.core (ap (λ (o : OwnTold). o.over) (owns_own t pen holds) ∙ over)).0
+  | inr none ↦ looked_none t pen holds none.1
+]
 
 -- where none has failed, one that has nothing due has reserved no number and has no flight
 pub nothing_due : {D : Type 0} (t : TableState BoxKey) (pen : PenHand D) → HoldsBox t pen → (past_at pen).failed ≡ None → HasNothingDue (own_at pen)
     → ((own_at pen).reserved ≡ None) × ((own_at pen).flight ≡ None)
 nothing_due t pen holds calm rests = elim rests [
-    | inl over ↦ absurd (((past_fits_at t pen holds).over pen.view.core (ap (λ (o : OwnTold). o.over) (owns_own t pen holds) ∙ over)).1 calm)
-    | inr none ↦ none
-  ]
+  | inl over ↦ absurd (((past_fits_at t pen holds).over pen.view.core (ap (λ (o : OwnTold). o.over) (owns_own t pen holds) ∙ over)).1 calm)
+  | inr none ↦ none
+]
 
 -- until a commit has failed a turn has the count of faults of the box
 pub calm_faults : {D : Type 0} (view : D → View) (key : BoxKey) (past : BoxPast) (desk : Desk D) (turn : Turn) → FrameFits view key past desk
@@ -65,15 +65,15 @@ owed_noted turn own None = by (ends_all turn.act) own.over refl where
 
 pub owed_by_noted : (key : BoxKey) (core n : ℕ) (past : BoxPast) (turn : Turn) → owed_by n (after_label key.layout core (label.Noted turn) past) ≤ owed_by n past
 owed_by_noted key core n past turn = owed_less n past (after_label key.layout core (label.Noted turn) past) (λ other low. elim (same_or_not other core) [
-    | inl same ↦
+  | inl same ↦
       subst (λ (o : OwnTold). owed_of o (past.waits other) ≤ owed_of (past.owns other) (past.waits other))
       (sym (at_same past.owns core (own_label (label.Noted turn) (past.owns core)) other same))
       (subst (λ c. owed_of (own_label (label.Noted turn) (past.owns c)) (past.waits other) ≤ owed_of (past.owns other) (past.waits other)) same
       (owed_noted turn (past.owns other) (past.waits other)))
-    | inr not ↦
+  | inr not ↦
       subst (λ (o : OwnTold). owed_of o (past.waits other) ≤ owed_of (past.owns other) (past.waits other))
       (sym (at_other past.owns core (own_label (label.Noted turn) (past.owns core)) other not)) (omega arith)
-  ])
+])
 
 -- more room for turns leaves a desk fit
 pub desk_roomier : {D : Type 0} (view : D → View) (key : BoxKey) (past : BoxPast) (was now : Desk D) → DeskFits view key past was

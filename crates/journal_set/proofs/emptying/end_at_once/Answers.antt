@@ -28,11 +28,11 @@ push-requires g c =
     let reserved = ap (λ (o : OwnTold). o.reserved) own ∙ c.requires.reserved in
     let over = ap (λ (o : OwnTold). o.over) own ∙ c.requires.goes_on in
     let three = owed_three g.D.Disk.view pen.table.given pen.view.core (past_at pen) fits desk work.fits.frame work.holds.core_is c.args.number reserved
-      ((past_at pen).owns pen.view.core) reserved over
+    ((past_at pen).owns pen.view.core) reserved over
     in
     let room = room_for pen.table.given pen.view.core 3 (past_at pen) desk work.holds.core_is work.fits.room
-      (none_waits g.D.Disk.view pen.table.given pen.view.core (past_at pen) fits desk work.fits.frame work.holds.core_is c.args.number reserved)
-      (omega (arith, three))
+    (none_waits g.D.Disk.view pen.table.given pen.view.core (past_at pen) fits desk work.fits.frame work.holds.core_is c.args.number reserved)
+    (omega (arith, three))
     in
     omega (arith, room)
 
@@ -47,11 +47,11 @@ push-requires-2 g c =
     let reserved = ap (λ (o : OwnTold). o.reserved) own ∙ c.requires.reserved in
     let over = ap (λ (o : OwnTold). o.over) own ∙ c.requires.goes_on in
     let three = owed_three g.D.Disk.view pen.table.given pen.view.core (past_at pen) fits desk work.fits.frame work.holds.core_is c.args.number reserved
-      ((past_at pen).owns pen.view.core) reserved over
+    ((past_at pen).owns pen.view.core) reserved over
     in
     let room = room_for pen.table.given pen.view.core 3 (past_at pen) desk work.holds.core_is work.fits.room
-      (none_waits g.D.Disk.view pen.table.given pen.view.core (past_at pen) fits desk work.fits.frame work.holds.core_is c.args.number reserved)
-      (omega (arith, three))
+    (none_waits g.D.Disk.view pen.table.given pen.view.core (past_at pen) fits desk work.fits.frame work.holds.core_is c.args.number reserved)
+    (omega (arith, three))
     in
     let spare = c.push.ensures.spare in
     omega (arith, room, spare)
@@ -67,11 +67,11 @@ push-requires-3 g c =
     let reserved = ap (λ (o : OwnTold). o.reserved) own ∙ c.requires.reserved in
     let over = ap (λ (o : OwnTold). o.over) own ∙ c.requires.goes_on in
     let three = owed_three g.D.Disk.view pen.table.given pen.view.core (past_at pen) fits desk work.fits.frame work.holds.core_is c.args.number reserved
-      ((past_at pen).owns pen.view.core) reserved over
+    ((past_at pen).owns pen.view.core) reserved over
     in
     let room = room_for pen.table.given pen.view.core 3 (past_at pen) desk work.holds.core_is work.fits.room
-      (none_waits g.D.Disk.view pen.table.given pen.view.core (past_at pen) fits desk work.fits.frame work.holds.core_is c.args.number reserved)
-      (omega (arith, three))
+    (none_waits g.D.Disk.view pen.table.given pen.view.core (past_at pen) fits desk work.fits.frame work.holds.core_is c.args.number reserved)
+    (omega (arith, three))
     in
     let spare = c.push.ensures.spare in
     let again = c.push-2.ensures.spare in
@@ -89,7 +89,7 @@ note-requires-clause-may g c κs within =
     let two = c.turn-opened.ensures in
     let last = c.turn-durable.ensures in
     let three : ThreeTurns pen.table.given.faults pen.view.core c.args.number (view desk.disk).now flush c.turn-cut.result c.turn-opened.result
-        c.turn-durable.result = record {
+    c.turn-durable.result = record {
       cut_is = record { did_is = one.by.did_is; core_is = one.by.core_is ∙ c.number-core.ensures; commit_is = one.by.commit_is; flush_is = one.by.flush_is };
       opened_is = record { did_is = two.by.did_is; core_is = two.by.core_is ∙ c.number-core.ensures; commit_is = two.by.commit_is; flush_is = two.by.flush_is };
       durable_is = record { did_is = last.by.did_is; core_is = last.by.core_is ∙ c.number-core.ensures; commit_is = last.by.commit_is; flush_is = last.by.flush_is };
@@ -128,7 +128,7 @@ returns-clause-at g c =
     let two = c.turn-opened.ensures in
     let last = c.turn-durable.ensures in
     let three : ThreeTurns pen.table.given.faults pen.view.core c.args.number (view desk.disk).now flush c.turn-cut.result c.turn-opened.result
-        c.turn-durable.result = record {
+    c.turn-durable.result = record {
       cut_is = record { did_is = one.by.did_is; core_is = one.by.core_is ∙ c.number-core.ensures; commit_is = one.by.commit_is; flush_is = one.by.flush_is };
       opened_is = record { did_is = two.by.did_is; core_is = two.by.core_is ∙ c.number-core.ensures; commit_is = two.by.commit_is; flush_is = two.by.flush_is };
       durable_is = record { did_is = last.by.did_is; core_is = last.by.core_is ∙ c.number-core.ensures; commit_is = last.by.commit_is; flush_is = last.by.flush_is };
@@ -139,19 +139,19 @@ returns-clause-at g c =
     let has = has_reserved t pen no_numbers work.holds c.requires.grant in
     let same : has.number ≡ c.args.number = Rattle.sfs_base.proofs.BasicOptions.some_same (sym has.reserved ∙ reserved) in
     let there = ap (number_in desk.ledger) c.number-core.ensures
-      ∙ number_there view pen.table.given pen.view.core (past_at pen) fits desk work.fits.frame work.holds.core_is c.args.number reserved
+    ∙ number_there view pen.table.given pen.view.core (past_at pen) fits desk work.fits.frame work.holds.core_is c.args.number reserved
     in
     let turns : Rattle.slot_laws.specs.Rules.EmptyTurns = record { cut = c.turn-cut.result; opened = c.turn-opened.result; durable = c.turn-durable.result } in
     let goes = c.end_empty.ensures.goes (past_at pen) c.args.number turns work.fits.frame.ledger there
-      (subst (λ n. Rattle.commit_ledger.specs.Keeps.WasGranted (past_at pen).opens n no_numbers) same has.was)
+    (subst (λ n. Rattle.commit_ledger.specs.Keeps.WasGranted (past_at pen).opens n no_numbers) same has.was)
     in
     let opens = c.end_empty.ensures.ends.ends.opens ∙ ap (λ n. Rattle.std.proofs.Common.slice_set desk.ledger.opens n None) c.number-core.ensures in
     let now : Desk g.row.D.Denot = record desk { ledger = c.end_empty.new.self; turns = c.push-3.new.self } in
     let items = c.push-3.ensures.items ∙ ap (λ l. l ++ c.turn-durable.result ∷ []) (c.push-2.ensures.items
-      ∙ ap (λ l. l ++ c.turn-opened.result ∷ []) c.push.ensures.items)
+    ∙ ap (λ l. l ++ c.turn-opened.result ∷ []) c.push.ensures.items)
     in
     let all = items ∙ (ap (λ l. l ++ c.turn-durable.result ∷ []) (append_assoc desk.turns.items (c.turn-cut.result ∷ []) (c.turn-opened.result ∷ []))
-      ∙ append_assoc desk.turns.items (c.turn-cut.result ∷ c.turn-opened.result ∷ []) (c.turn-durable.result ∷ []))
+    ∙ append_assoc desk.turns.items (c.turn-cut.result ∷ c.turn-opened.result ∷ []) (c.turn-durable.result ∷ []))
     in
     let first = c.push.ensures.spare in
     let second = c.push-2.ensures.spare in

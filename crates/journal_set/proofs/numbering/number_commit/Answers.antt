@@ -54,12 +54,12 @@ enter-requires g c =
     let made = c.in_ok-prepared.prepared in
     let parts = c.parts_of-nodes.ensures in
     let nodes = same_nodes made.number parts.0 made.seen c.parts_of-nodes.result.0 made.grant c.parts_of-nodes.result.1
-      (sym c.label_for-label.ensures ∙ parts.1)
+    (sym c.label_for-label.ensures ∙ parts.1)
     in
     let places = subst (λ l. HasPlaces c.prepare.new.self.lasts l) (sym ok.seen_is ∙ ap (λ (r : Roomy Seen). r.items) nodes) ok.places in
     let enter = may_enter g.D.Disk.view pen.table.given pen.view.core (past_at pen) (past_fits_at c.args.table.now pen work.holds) desk work.fits.frame
-      work.holds.core_is (ap (λ (o : OwnTold). o.reserved) own ∙ c.requires.may.rests.0) (ap (λ (o : OwnTold). o.flight) own ∙ c.requires.may.rests.1)
-      c.prepare.new.self c.parts_of-nodes.result.0.items ok.taken.opens places
+    work.holds.core_is (ap (λ (o : OwnTold). o.reserved) own ∙ c.requires.may.rests.0) (ap (λ (o : OwnTold). o.flight) own ∙ c.requires.may.rests.1)
+    c.prepare.new.self c.parts_of-nodes.result.0.items ok.taken.opens places
     in
     let core_same = ap (λ (v : Sight TreeState (Event Label)). v.core) c.note.ensures.tells.goes.view in
     record { may = subst (λ n. MayEnter n c.parts_of-nodes.result.0.items c.prepare.new.self) (sym (c.number.ensures ∙ core_same)) enter }
@@ -88,21 +88,21 @@ returns-clause-ok g c =
     let unmoved = subst (λ l. (node last : ℕ) → last_seen l node ≡ Some last → (past_at pen).lasts node ≡ last_ended last) (sym ok.seen_is) c.requires.may.unmoved in
     let fits = past_fits_at t pen work.holds in
     let rule = reserved_rule g.D.Disk.view pen.table.given pen.view.core (past_at pen) fits desk work.fits.frame work.holds.core_is none rests made.number
-      made.seen made.grant work.calm next unmoved
+    made.seen made.grant work.calm next unmoved
     in
     let enters : Enters pen.view.core made.number made.seen.items c.prepare.new.self c.enter.new.self =
-      subst (λ (z : ℕ × Roomy Seen). Enters z.0 made.number z.1.items c.prepare.new.self c.enter.new.self) (λ i. ((c.number.ensures ∙ core_same) i, sym nodes i))
-      c.enter.ensures.enters
+    subst (λ (z : ℕ × Roomy Seen). Enters z.0 made.number z.1.items c.prepare.new.self c.enter.new.self) (λ i. ((c.number.ensures ∙ core_same) i, sym nodes i))
+    c.enter.ensures.enters
     in
     let goes : LedgerGoes told (past_at pen) desk.ledger c.enter.new.self =
-      subst (λ (r : Roomy Seen). LedgerGoes (label.Reserved made.number r made.grant) (past_at pen) desk.ledger c.enter.new.self) (sym nodes)
-      (c.enter.ensures.goes desk.ledger made.grant (past_at pen) ok.taken work.fits.frame.ledger
-      (subst (λ (z : ℕ × Roomy Seen). ReservedRule z.0 made.number z.1.items (past_at pen)) (λ i. (sym (c.number.ensures ∙ core_same) i, nodes i)) rule))
+    subst (λ (r : Roomy Seen). LedgerGoes (label.Reserved made.number r made.grant) (past_at pen) desk.ledger c.enter.new.self) (sym nodes)
+    (c.enter.ensures.goes desk.ledger made.grant (past_at pen) ok.taken work.fits.frame.ledger
+    (subst (λ (z : ℕ × Roomy Seen). ReservedRule z.0 made.number z.1.items (past_at pen)) (λ i. (sym (c.number.ensures ∙ core_same) i, nodes i)) rule))
     in
     let now : Desk D = record desk { ledger = c.enter.new.self } in
     let at = at_told g.D.Disk.view t pen after told c.note.ensures.holds tells desk now work.space (goes.space (record { 0 = pen.view.core }))
-      (entered_fits g.D.Disk.view pen.table.given pen.view.core (past_at pen) fits desk work.fits.frame work.holds.core_is none rests made.number made.seen
-      made.grant work.calm next unmoved c.prepare.new.self c.enter.new.self ok.taken.opens enters goes work.fits c.requires.may.room)
+    (entered_fits g.D.Disk.view pen.table.given pen.view.core (past_at pen) fits desk work.fits.frame work.holds.core_is none rests made.number made.seen
+    made.grant work.calm next unmoved c.prepare.new.self c.enter.new.self ok.taken.opens enters goes work.fits c.requires.may.room)
     in
     let key_same : after.table.given ≡ pen.table.given = ap (λ (h : PenHand D). h.table.given) tells.goes.frame in
     record {

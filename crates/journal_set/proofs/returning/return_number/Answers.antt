@@ -26,7 +26,7 @@ unreachable-requires g c =
     let at = c.requires.at in
     let has = has_reserved c.args.table.now pen c.args.grant at.holds c.requires.grant in
     let there = number_there g.D.Disk.view pen.table.given pen.view.core (past_at pen) (past_fits_at c.args.table.now pen at.holds) c.args.desk.now
-      at.fits.frame at.holds.core_is has.number has.reserved
+    at.fits.frame at.holds.core_is has.number has.reserved
     in
     some_not_none (sym there ∙ (ap (number_in c.args.desk.now.ledger) (sym c.number-core.ensures) ∙ (sym c.number.ensures ∙ c.in_default.is)))
 
@@ -36,7 +36,7 @@ note-requires-clause-may g c κs within =
     let at = c.requires.at in
     let has = has_reserved c.args.table.now pen c.args.grant at.holds c.requires.grant in
     let there = number_there g.D.Disk.view pen.table.given pen.view.core (past_at pen) (past_fits_at c.args.table.now pen at.holds) c.args.desk.now
-      at.fits.frame at.holds.core_is has.number has.reserved
+    at.fits.frame at.holds.core_is has.number has.reserved
     in
     has.reserved ∙ (sym there ∙ (ap (number_in c.args.desk.now.ledger) (sym c.number-core.ensures) ∙ (sym c.number.ensures ∙ c.in-Some.is)))
 
@@ -61,15 +61,15 @@ note_turn-requires-clause-at g c κs within =
     let fits = past_fits_at t pen at.holds in
     let there = number_there g.D.Disk.view pen.table.given pen.view.core (past_at pen) fits desk at.fits.frame at.holds.core_is has.number has.reserved in
     let same : has.number ≡ c.in-Some.number =
-      some_same (sym there ∙ (ap (number_in desk.ledger) (sym c.number-core.ensures) ∙ (sym c.number.ensures ∙ c.in-Some.is)))
+    some_same (sym there ∙ (ap (number_in desk.ledger) (sym c.number-core.ensures) ∙ (sym c.number.ensures ∙ c.in-Some.is)))
     in
     let reserved = has.reserved ∙ ap Some same in
     let returns : Returns pen.view.core c.args.grant desk.ledger c.give_back.new.self =
-      subst (λ n. Returns n c.args.grant desk.ledger c.give_back.new.self) c.number-core.ensures c.give_back.ensures.returns
+    subst (λ n. Returns n c.args.grant desk.ledger c.give_back.new.self) c.number-core.ensures c.give_back.ensures.returns
     in
     let goes : LedgerGoes (label.Returned c.in-Some.number) (past_at pen) desk.ledger c.give_back.new.self =
-      c.give_back.ensures.goes (past_at pen) c.in-Some.number at.fits.frame.ledger (sym c.number.ensures ∙ c.in-Some.is)
-      (subst (λ n. Rattle.commit_ledger.specs.Keeps.WasGranted (past_at pen).opens n c.args.grant) same has.was)
+    c.give_back.ensures.goes (past_at pen) c.in-Some.number at.fits.frame.ledger (sym c.number.ensures ∙ c.in-Some.is)
+    (subst (λ n. Rattle.commit_ledger.specs.Keeps.WasGranted (past_at pen).opens n c.args.grant) same has.was)
     in
     let over = ap (λ (o : OwnTold). o.over) (owns_own t pen at.holds) ∙ c.requires.goes_on in
     at_told g.D.Disk.view t pen c.note.new.pen (label.Returned c.in-Some.number) c.note.ensures.holds c.note.ensures.tells desk
@@ -88,17 +88,17 @@ note_turn-requires-clause-room g c κs within =
     let fits = past_fits_at t pen at.holds in
     let there = number_there g.D.Disk.view pen.table.given pen.view.core (past_at pen) fits desk at.fits.frame at.holds.core_is has.number has.reserved in
     let same : has.number ≡ c.in-Some.number =
-      some_same (sym there ∙ (ap (number_in desk.ledger) (sym c.number-core.ensures) ∙ (sym c.number.ensures ∙ c.in-Some.is)))
+    some_same (sym there ∙ (ap (number_in desk.ledger) (sym c.number-core.ensures) ∙ (sym c.number.ensures ∙ c.in-Some.is)))
     in
     let over = ap (λ (o : OwnTold). o.over) (owns_own t pen at.holds) ∙ c.requires.goes_on in
     let less = room_returned g.D.Disk.view pen.table.given pen.view.core (past_at pen) fits desk at.fits.frame at.holds.core_is c.in-Some.number
-      (has.reserved ∙ ap Some same) over
+    (has.reserved ∙ ap Some same) over
     in
     let tells = c.note.ensures.tells in
     let key : mid.table.given ≡ pen.table.given = ap (λ (h : PenHand g.row.D.Denot). h.table.given) tells.goes.frame in
     let now : owed_by mid.table.given.layout.cores (past_at mid) ≡ owed_by pen.table.given.layout.cores
-        (after_label pen.table.given.layout pen.view.core (label.Returned c.in-Some.number) (past_at pen)) =
-      λ i. owed_by (key i).layout.cores (tells.past i)
+    (after_label pen.table.given.layout pen.view.core (label.Returned c.in-Some.number) (past_at pen)) =
+    λ i. owed_by (key i).layout.cores (tells.past i)
     in
     let noted = owed_by_noted mid.table.given mid.view.core mid.table.given.layout.cores (past_at mid) c.turn-turn.result in
     let room = at.fits.room in
@@ -110,7 +110,7 @@ returns-clause-comes g c =
     let at = c.requires.at in
     let has = has_reserved c.args.table.now pen c.args.grant at.holds c.requires.grant in
     let there = number_there g.D.Disk.view pen.table.given pen.view.core (past_at pen) (past_fits_at c.args.table.now pen at.holds) c.args.desk.now
-      at.fits.frame at.holds.core_is has.number has.reserved
+    at.fits.frame at.holds.core_is has.number has.reserved
     in
     let by = c.turn-turn.ensures.by in
     record {
