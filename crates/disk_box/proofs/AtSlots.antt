@@ -1,26 +1,23 @@
 -- A slot with a commit, of a core at work: what was told of it, and of it once it was written for.
-use Rattle.std.specs.Prelude.{Vec, slice_get, option_map}
-use Rattle.std.specs.declared.alloc.Global.{Global}
-use Rattle.std.proofs.Common.{◌≡◌, ◌<◌, ◌≤◌, ◌∙◌, ℕ, List, length, true, false, Bool, Option, Some, None, Result, Ok, Err, OnOk, refl, sym, ap, subst, arith, slice_set}
+use Rattle.std.specs.Prelude.{slice_get, option_map}
+use Rattle.std.proofs.Common.{◌≡◌, ◌∙◌, ℕ, List, true, Bool, Option, Some, Result, Ok, Err, OnOk, sym, ap, subst, slice_set}
 use Rattle.std.specs.Result.{is_ok}
 use lib.ListN.{get_or}
 use Rattle.std.proofs.lemmas.Option.{get_or_from_slice_get}
 use Rattle.sfs_base.proofs.BasicOptions.{some_same}
 use Rattle.sfs_dev.specs.Disk.{View}
 use Rattle.sfs_image.specs.Super.{Layout}
-use Rattle.journal_one.specs.Job.{Job, Piece, Place, fill_piece, gate_piece, table_piece}
+use Rattle.journal_one.specs.Job.{Piece}
 use Rattle.slot_laws.specs.Slots.{SlotKnown, SlotWork, Slots, changed_slot, knowing, place_at, with_at}
 use Rattle.slot_laws.specs.Labels.{BoxPast}
 use Rattle.slot_image_laws.specs.Run.{Writes}
 use Rattle.stamp_table.specs.Table.{TableState}
 use Rattle.disk_box.specs.declared.key.BoxKey.{BoxKey}
 use Rattle.disk_box.specs.declared.desk.Desk.{Desk}
-use Rattle.disk_box.specs.declared.desk.Phase.{Phase}
 use Rattle.disk_box.specs.declared.desk.Slot.{Slot}
 use Rattle.disk_box.specs.declared.kind.Kind.{Kind}
-use Rattle.disk_box.specs.Calls.{next_piece}
 use Rattle.disk_box.specs.Kind.{HasKind, kind_of}
-use Rattle.disk_box.specs.Slots.{Notes, NotesWork, PhaseFits, SlotFits, SlotsFit}
+use Rattle.disk_box.specs.Slots.{Notes, NotesWork, PhaseFits, SlotsFit}
 use Rattle.disk_box.specs.Pens.{PenHand, past_at, IsAtWork}
 use Rattle.disk_box.proofs.Phases.{has_commit, work_told}
 use Rattle.disk_box.proofs.SlotLists.{slots_put}

@@ -1,5 +1,5 @@
 -- The flight of a slot's commit that is not durable, and what its core may take yet.
-use Rattle.std.proofs.Common.{◌≡◌, ◌+◌, ◌<◌, ◌≤◌, ◌∙◌, ℕ, Bool, true, false, Option, Some, None, is_some, refl, sym, ap, subst, arith}
+use Rattle.std.proofs.Common.{◌≡◌, ◌∙◌, ℕ, Bool, true, false, Option, Some, None, refl, sym, ap}
 use Rattle.sfs_base.proofs.BasicOptions.{none_some}
 use Rattle.slot_laws.specs.Slots.{SlotWork, may_be_open}
 use Rattle.slot_laws.specs.Labels.{BoxPast, OwnTold, SlotFlight, owner}

@@ -12,16 +12,13 @@ use Rattle.tree_laws.specs.declared.turns.Turn.{Turn}
 use Rattle.tree_laws.specs.declared.turns.TurnAct.{TurnAct}
 use Rattle.tree_laws.specs.declared.turns.TurnAct.TheVariants as act
 use Rattle.turn_laws.specs.Books.{CountsFaults}
-use Rattle.commit_ledger.specs.Keeps.{LedgerKeeps}
-use Rattle.commit_ledger.specs.View.{LedgerView, open_in}
 use Rattle.commit_ledger.proofs.Kept.{quiet_labels_keep_it as keeps_same}
 use Rattle.slot_laws.specs.declared.label.Label.TheVariants as label
 use Rattle.slot_laws.specs.Slots.{SlotWork, changed_slot, known_gated, knowing, open_gate, place_at}
 use Rattle.slot_laws.specs.Labels.{BoxPast, OwnTold, SlotFlight, after_label, fsync_told, opened_flight, own_label, owner}
 use Rattle.slot_laws.specs.Rules.{IsTurnBy, OpenedRule}
-use Rattle.slot_laws.proofs.Basics.{at_other, at_same}
 use Rattle.slot_image_laws.specs.Labels.{IsDoneBy}
-use Rattle.slot_image_laws.specs.Run.{RunFits, Writes}
+use Rattle.slot_image_laws.specs.Run.{Writes}
 use Rattle.slot_image_laws.proofs.Running.{done_labels_fit}
 use Rattle.stamp_table.specs.Table.{TableState}
 use Rattle.disk_box.specs.declared.key.BoxKey.{BoxKey}
@@ -31,7 +28,7 @@ use Rattle.disk_box.specs.declared.desk.Phase.TheVariants as phase
 use Rattle.disk_box.specs.declared.desk.Slot.{Slot}
 use Rattle.disk_box.specs.declared.kind.Kind.TheVariants as kind
 use Rattle.disk_box.specs.Calls.{FollowsWrite, WritesNext, blocks_of, next_piece}
-use Rattle.disk_box.specs.Desk.{FrameFits, open_for, open_told, owed_by, owed_of, turn_faults, wait_in}
+use Rattle.disk_box.specs.Desk.{FrameFits, open_for, owed_by, owed_of, turn_faults}
 use Rattle.disk_box.specs.Kind.{HasKind}
 use Rattle.disk_box.specs.Slots.{IsSealedOf, PhaseFits, SlotsFit}
 use Rattle.disk_box.specs.Pens.{PenHand, past_at, own_at, HoldsBox, TellsLabel, IsAtWork}
@@ -44,7 +41,7 @@ use Rattle.disk_box.proofs.Nexts.{next_opened}
 use Rattle.disk_box.proofs.Owes.{owns_own}
 use Rattle.disk_box.proofs.Phases.{sealed_is}
 use Rattle.disk_box.proofs.SlotLists.{get_put}
-use Rattle.disk_box.proofs.SlotSteps.{CalledAt, Framed, called_beside, steps_so}
+use Rattle.disk_box.proofs.SlotSteps.{steps_so}
 use Rattle.disk_box.proofs.WriteSteps.{placed_at}
 
 -- a core's open commit is the one that it was, and what it owes is two turns less

@@ -1,14 +1,14 @@
 -- What is known of a slot's commit once it was written for: the phase that comes next fits.
 use Rattle.std.proofs.Common.{◌≡◌, ◌+◌, ◌<◌, ◌≤◌, ◌||◌, ◌∙◌, ℕ, Bool, true, false, length, Some, inl, inr, refl, sym, ap, subst, arith}
 use Rattle.sfs_base.proofs.BasicNumbers.{same_number}
-use Rattle.journal_one.specs.Job.{Job, Place, fill_count, without_fresh}
-use Rattle.journal_one.specs.Stage.{Stage, left_to_fill, left_to_place, next_stage}
+use Rattle.journal_one.specs.Job.{Job, Place, fill_count}
+use Rattle.journal_one.specs.Stage.{Stage}
 use Rattle.merge_laws.proofs.Blocks.{same_or_not}
 use Rattle.slot_laws.specs.Slots.{SlotWork, knowing, known_filled, known_gated, known_placed, open_gate, shut_gate, with_number}
 use Rattle.disk_box.specs.declared.desk.Phase.{Phase}
 use Rattle.disk_box.specs.declared.desk.Phase.TheVariants as phase
 use Rattle.disk_box.specs.Calls.{FollowsWrite}
-use Rattle.disk_box.specs.Slots.{IsBeingFilled, IsBeingPlaced, IsClosingOf, IsCopiedOf, IsOpenedOf, IsSealedOf, PhaseFits}
+use Rattle.disk_box.specs.Slots.{IsBeingFilled, IsBeingPlaced, IsCopiedOf, IsSealedOf, PhaseFits}
 
 -- one more of the first numbers is marked
 marked_more : (marks : ℕ → Bool) (done n : ℕ) → ((m : ℕ) → m < done → marks m ≡ true) → n < done + 1 → with_number marks done n ≡ true

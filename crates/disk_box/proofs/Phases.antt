@@ -1,5 +1,5 @@
 -- The phases of slots that have a commit: what state they have, and that the commit was told.
-use Rattle.std.proofs.Common.{◌≡◌, ℕ, Bool, true, false, Option, Some, None, refl}
+use Rattle.std.proofs.Common.{◌≡◌, Bool, true, false, Option, Some, None, refl}
 use Rattle.journal_one.specs.Job.{Job, Place}
 use Rattle.journal_one.specs.Stage.{Stage}
 use Rattle.slot_laws.specs.Slots.{SlotWork}

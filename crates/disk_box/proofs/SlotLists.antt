@@ -1,5 +1,5 @@
 -- The slots of a desk, in a list, as one of them is put.
-use Rattle.std.proofs.Common.{◌≡◌, ◌≢◌, ◌<◌, ◌≤◌, ◌∙◌, ℕ, List, length, Option, Some, None, inl, inr, refl, sym, ap, subst, arith, slice_set}
+use Rattle.std.proofs.Common.{◌≡◌, ◌≢◌, ◌<◌, ◌∙◌, ℕ, List, length, Option, Some, inl, inr, refl, sym, ap, subst, arith, slice_set}
 use Rattle.std.specs.Prelude.{slice_get}
 use Rattle.std.proofs.lemmas.Bool.{cases_lt}
 use Rattle.std.proofs.lemmas.List.{get_or-set_other, length-set}

@@ -1,6 +1,5 @@
 -- A label of a slot's device call, or of a slot that is idle again: what is kept beside the slots goes on to fit.
 use Rattle.std.proofs.Common.{◌≡◌, ◌+◌, ◌<◌, ◌≤◌, ◌^◌, ◌∙◌, ℕ, length, true, false, Option, Some, None, Result, Ok, Err, OnOk, IfErr, refl, sym, ap, subst, arith}
-use Rattle.std.specs.Result.{is_ok}
 use Rattle.sfs_base.specs.Ends.{HasRisen}
 use Rattle.sfs_base.specs.declared.numbers.CoreId.{CoreId}
 use Rattle.sfs_image.specs.Super.{Layout}
@@ -13,14 +12,14 @@ use Rattle.slot_laws.specs.declared.label.Label.TheVariants as label
 use Rattle.slot_laws.specs.Labels.{BoxPast, after_label}
 use Rattle.slot_laws.specs.Rules.{MayLabel}
 use Rattle.slot_laws.specs.Grants.{SpaceDoes}
-use Rattle.slot_image_laws.specs.Run.{KeepsLaws, RunFits}
+use Rattle.slot_image_laws.specs.Run.{KeepsLaws}
 use Rattle.slot_image_laws.specs.Labels.{IsDoneBy}
 use Rattle.slot_image_laws.proofs.Running.{done_labels_fit}
 use Rattle.disk_box.specs.declared.key.BoxKey.{BoxKey}
 use Rattle.disk_box.specs.declared.desk.Desk.{Desk}
 use Rattle.disk_box.specs.Box.{SpaceFits}
 use Rattle.disk_box.specs.Calls.{AnswersCall}
-use Rattle.disk_box.specs.Desk.{DeskFits, FaultsFit, FrameFits, RoomFits}
+use Rattle.disk_box.specs.Desk.{FaultsFit, FrameFits, RoomFits}
 use Rattle.disk_box.specs.Slots.{SlotsFit}
 use Rattle.disk_box.specs.Pens.{PenHand, past_at, HoldsBox, TellsLabel, IsAtWork, IsBroken}
 use Rattle.disk_box.specs.Steps.{Steps}

@@ -1,18 +1,16 @@
 -- The steps of one write at a slot: when each label may be told, and what its core is at then.
-use Rattle.std.specs.Prelude.{Vec, slice_get}
+use Rattle.std.specs.Prelude.{Vec}
 use Rattle.std.specs.declared.alloc.Global.{Global}
-use Rattle.std.proofs.Common.{◌≡◌, ◌<◌, ◌≤◌, ◌∙◌, ℕ, List, length, true, false, Bool, Option, Some, None, Result, Ok, Err, OnOk, refl, sym, ap, subst, arith, slice_set}
+use Rattle.std.proofs.Common.{◌≡◌, ◌≤◌, ◌∙◌, ℕ, length, true, Bool, Some, Result, OnOk, refl, sym, ap, subst, arith, slice_set}
 use Rattle.std.specs.Result.{is_ok}
 use Rattle.std.proofs.lemmas.List.{length-set}
 use Rattle.sfs_dev.specs.Disk.{View}
-use Rattle.journal_one.specs.Job.{Job, Piece, Place, fill_count, fill_piece, gate_piece, table_piece, without_fresh}
+use Rattle.journal_one.specs.Job.{Job, Place, fill_count, fill_piece, gate_piece, table_piece, without_fresh}
 use Rattle.journal_one.specs.Stage.{Stage}
-use Rattle.slot_laws.specs.declared.label.Label.{Label}
 use Rattle.slot_laws.specs.declared.label.Label.TheVariants as label
 use Rattle.slot_laws.specs.Slots.{SlotWork, changed_slot, known_filled, known_gated, known_placed, knowing, place_at, shut_gate}
 use Rattle.slot_laws.specs.Labels.{owner}
-use Rattle.slot_laws.specs.Rules.{FilledRule, HasWork, IsOldestOf, MayLabel, PlacedRule, ShutRule}
-use Rattle.slot_image_laws.specs.Labels.{IsDoneBy}
+use Rattle.slot_laws.specs.Rules.{FilledRule, IsOldestOf, PlacedRule, ShutRule}
 use Rattle.slot_image_laws.specs.Run.{Writes}
 use Rattle.stamp_table.specs.Table.{TableState}
 use Rattle.disk_box.specs.declared.key.BoxKey.{BoxKey}
@@ -20,7 +18,6 @@ use Rattle.disk_box.specs.declared.desk.Desk.{Desk}
 use Rattle.disk_box.specs.declared.desk.Phase.{Phase}
 use Rattle.disk_box.specs.declared.desk.Phase.TheVariants as phase
 use Rattle.disk_box.specs.declared.desk.Slot.{Slot}
-use Rattle.disk_box.specs.declared.kind.Kind.{Kind}
 use Rattle.disk_box.specs.declared.kind.Kind.TheVariants as kind
 use Rattle.disk_box.specs.Calls.{FollowsWrite, HasMore, WritesNext, blocks_of, next_piece, written_of}
 use Rattle.disk_box.specs.Kind.{HasKind}
@@ -31,7 +28,7 @@ use Rattle.disk_box.proofs.After.{past_fits_at}
 use Rattle.disk_box.proofs.AtSlots.{IsTold, known_put, known_put_ok, of_there, ok_then, told_at, writes_as}
 use Rattle.disk_box.proofs.Nexts.{next_filled, next_placed, next_shut}
 use Rattle.disk_box.proofs.Phases.{copied_is, durable_is, filling_is}
-use Rattle.disk_box.proofs.SlotSteps.{CalledAt, IsOfSlots, framed_of_slots, steps_so}
+use Rattle.disk_box.proofs.SlotSteps.{CalledAt, framed_of_slots, steps_so}
 
 module _ {D : Type 0} (view : D → View) (t : TableState BoxKey) (before : PenHand D) (was : Desk D) (k : ℕ) (at : IsAtWork view t before was) where
   abbrev key : BoxKey

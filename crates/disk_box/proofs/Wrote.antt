@@ -1,14 +1,12 @@
 -- A write of a slot, by the states of journal_one.
-use Rattle.std.proofs.Common.{◌≡◌, ◌≤◌, ◌∙◌, ℕ, Bool, true, false, Result, Ok, Err, OnOk, OnErr, refl, sym, ap, subst}
+use Rattle.std.proofs.Common.{◌≡◌, ℕ, true, false, Result, Ok, Err, OnOk, OnErr, refl, sym, subst}
 use Rattle.std.specs.Result.{is_ok}
-use Rattle.sfs_base.specs.Ends.{HasCause}
 use Rattle.sfs_dev.specs.Disk.{View}
 use Rattle.journal_one.specs.Calls.{IsWrite}
-use Rattle.journal_one.specs.Job.{Piece}
 use Rattle.slot_image_laws.specs.Run.{Writes}
 use Rattle.disk_box.specs.declared.desk.Phase.{Phase}
 use Rattle.disk_box.specs.declared.desk.Slot.{Slot}
-use Rattle.disk_box.specs.Calls.{AnswersCall, FollowsWrite, WritesNext, next_piece}
+use Rattle.disk_box.specs.Calls.{FollowsWrite, WritesNext, next_piece}
 
 where_ok : {V E X : Type 0} (r : Result V E) → is_ok r ≡ true → OnOk r X → X
 where_ok (Ok v) is x = x

@@ -1,14 +1,9 @@
 -- What the box stands for at home, and what is so of a core that has it.
-use Rattle.std.specs.Prelude.{◌≡◌, ◌<◌, ◌∷◌, ℕ, List, [], Option, Some, None}
+use Rattle.std.specs.Prelude.{◌≡◌, List, [], Option, Some, None}
 use Rattle.sfs_dev.specs.Disk.{View}
 use Rattle.stamp_table.specs.declared.event.Event.{Event}
-use Rattle.stamp_table.specs.declared.held.HeldCell.{HeldCell}
-use Rattle.stamp_table.specs.Events.{event_core}
-use Rattle.stamp_table.specs.Rule.{entries_by}
-use Rattle.stamp_table.specs.Hand.{Hand}
-use Rattle.stamp_table.specs.Table.{TableState}
 use Rattle.slot_laws.specs.declared.label.Label.{Label}
-use Rattle.slot_laws.specs.Labels.{BoxPast, OwnTold, first_past, past_from, own_from, nothing_told}
+use Rattle.slot_laws.specs.Labels.{BoxPast, first_past, past_from}
 use Rattle.slot_laws.specs.Rules.{MayFrom}
 use Rattle.slot_laws.specs.Grants.{SpaceGoes}
 use Rattle.disk_box.specs.declared.key.BoxKey.{BoxKey}

@@ -1,5 +1,5 @@
 -- What a device call for one slot does to the slot and to the disk.
-use Rattle.std.specs.Prelude.{◌≡◌, ◌<◌, ℕ, List, [], length, Result, OnOk, IfErr}
+use Rattle.std.specs.Prelude.{◌≡◌, ◌<◌, ℕ, [], length, Result, OnOk, IfErr}
 use Rattle.std.specs.Result.{is_ok}
 use Rattle.sfs_base.specs.Ends.{HasCause}
 use Rattle.sfs_dev.specs.Disk.{View}

@@ -1,7 +1,7 @@
 -- What lies in the box fits what the labels come to.
-use Rattle.std.specs.Prelude.{◌≡◌, ◌+◌, ◌*◌, ◌<◌, ◌≤◌, ◌∷◌, ℕ, zero, suc, Bool, true, false, List, length, Option, Some, None, is_some, if◌then◌else◌, slice_get, unwrap_or, option_map}
+use Rattle.std.specs.Prelude.{◌≡◌, ◌+◌, ◌≤◌, ℕ, zero, suc, Bool, true, false, List, length, Option, Some, None, is_some, if◌then◌else◌, slice_get, unwrap_or, option_map}
 use Rattle.std.specs.Option.{option_or}
-use Rattle.sfs_image.specs.Super.{Layout, IsLayout}
+use Rattle.sfs_image.specs.Super.{IsLayout}
 use Rattle.sfs_image.specs.Settled.{slot_count}
 use Rattle.sfs_dev.specs.Disk.{View}
 use Rattle.tree_laws.specs.declared.turns.Turn.{Turn}

@@ -1,9 +1,8 @@
 -- A core at the box: what its pen has told and seen, and what is so while it has the box.
-use Rattle.std.specs.Prelude.{◌≡◌, ◌<◌, ◌∷◌, ◌++◌, ℕ, List, [], Option, Some, None}
+use Rattle.std.specs.Prelude.{◌≡◌, ◌<◌, ◌∷◌, ◌++◌, ℕ, [], Option, Some, None}
 use mathlib.Core.List.{IsPrefix}
 use Rattle.sfs_base.specs.Ends.{HasRisen}
 use Rattle.sfs_dev.specs.Disk.{View}
-use Rattle.stamp_table.specs.declared.held.HeldCell.{HeldCell}
 use Rattle.stamp_table.specs.declared.event.Event.TheVariants.{Told}
 use Rattle.stamp_table.specs.Events.{event_core}
 use Rattle.stamp_table.specs.Rule.{entries_by}

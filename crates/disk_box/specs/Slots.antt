@@ -1,11 +1,8 @@
 -- What a slot's state at run time says of the commit that is in it.
 use Rattle.std.specs.Prelude.{◌≡◌, ◌<◌, ℕ, true, false, List, length, map, Option, Some, None, slice_get}
-use Rattle.sfs_image.specs.Journal.{Entry}
 use Rattle.sfs_image.specs.Super.{Layout}
-use Rattle.sfs_image.specs.Settled.{slot_count}
 use Rattle.journal_one.specs.Job.{Place, Job, fill_count, without_fresh}
 use Rattle.journal_one.specs.Packed.{inode_of_entry}
-use Rattle.journal_one.specs.Stage.{Stage}
 use Rattle.slot_laws.specs.Slots.{shut_gate, open_gate, SlotWork, Slots, place_at}
 use Rattle.slot_laws.specs.Labels.{fsync_told}
 use Rattle.disk_box.specs.declared.desk.Phase.{Phase}

@@ -1,12 +1,11 @@
 -- What a step at the box comes to: one device call at most, and what is told of it.
-use Rattle.std.specs.Prelude.{◌≡◌, ◌<◌, ◌++◌, ◌∷◌, ◌⊎◌, ℕ, List, [], Bool, true, false, Option, Some, None, Result, OnOk, IfErr, slice_get}
+use Rattle.std.specs.Prelude.{◌≡◌, ◌++◌, ◌∷◌, ℕ, List, [], Bool, true, false, Some, Result, OnOk, IfErr}
 use Rattle.sfs_dev.specs.Disk.{View}
 use Rattle.tree_laws.specs.declared.turns.Turn.{Turn}
 use Rattle.tree_laws.specs.declared.turns.TurnAct.TheVariants as act
 use Rattle.stamp_table.specs.Table.{TableState}
 use Rattle.slot_laws.specs.Slots.{SlotWork, Slots}
-use Rattle.slot_laws.specs.Labels.{OwnTold, SlotFlight, own_label, opened_flight}
-use Rattle.slot_laws.specs.declared.label.Label.TheVariants as label
+use Rattle.slot_laws.specs.Labels.{OwnTold, SlotFlight, opened_flight}
 use Rattle.slot_laws.specs.Rules.{IsOldestOf, IsTurnBy}
 use Rattle.disk_box.specs.declared.key.BoxKey.{BoxKey}
 use Rattle.disk_box.specs.declared.desk.Desk.{Desk}
@@ -16,7 +15,7 @@ use Rattle.disk_box.specs.declared.desk.Phase.TheVariants as phase
 use Rattle.disk_box.specs.declared.kind.Kind.{Kind}
 use Rattle.disk_box.specs.declared.kind.Kind.TheVariants as kind
 use Rattle.disk_box.specs.Kind.{HasKind}
-use Rattle.disk_box.specs.Pens.{PenHand, PenGoes, IsAtWork, IsBroken, own_at}
+use Rattle.disk_box.specs.Pens.{PenHand, PenGoes, IsAtWork, IsBroken}
 
 module _ {D : Type 0} (view : D → View) (t : TableState BoxKey) where
   -- A pen with the box has made a step: it is at work still; or a device call of its failed, of which it has yet to tell.

@@ -1,4 +1,4 @@
-use Rattle.std.proofs.Common.{◌≡◌, ◌∙◌, Ok, Err, ap, refl, sym}
+use Rattle.std.proofs.Common.{◌∙◌, Ok, Err, ap, refl, sym}
 use Rattle.disk_box.specs.declared.desk.Phase.TheVariants as phase
 use Rattle.disk_box.specs.declared.desk.Slot.{Slot}
 use Rattle.disk_box.proofs.Wrote.{write_err, write_ok}
