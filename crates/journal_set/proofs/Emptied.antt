@@ -1,5 +1,5 @@
 -- A commit that writes nothing: what lies in the box goes on to fit.
-use Rattle.std.proofs.Common.{◌≡◌, ◌≢◌, ◌∷◌, ◌++◌, ◌+◌, ◌*◌, ◌<◌, ◌≤◌, ◌∙◌, ℕ, Bool, true, false, List, [], length, slice_set, slice_index_or, Option, Some, None, inl, inr, refl, sym, ap, subst, arith, option_map}
+use Rattle.std.proofs.Common.{◌≡◌, ◌∷◌, ◌++◌, ◌+◌, ◌<◌, ◌≤◌, ◌∙◌, ℕ, false, [], length, slice_set, Option, Some, None, refl, sym, ap, subst, arith}
 use Rattle.std.proofs.lemmas.List.{length-set}
 use Rattle.sfs_dev.specs.Disk.{View}
 use Rattle.tree_laws.specs.declared.turns.Turn.{Turn}
@@ -12,7 +12,6 @@ use Rattle.slot_laws.specs.Labels.{BoxPast, OwnTold, after_label, own_label}
 use Rattle.slot_laws.specs.Rules.{EmptyRule, IsTurnBy}
 use Rattle.slot_laws.specs.Fits.{PastFits}
 use Rattle.slot_image_laws.proofs.Running.{told_labels_fit}
-use Rattle.commit_ledger.specs.View.{LedgerView, open_in}
 use Rattle.commit_ledger.specs.Keeps.{LedgerGoes}
 use Rattle.disk_box.specs.declared.key.BoxKey.{BoxKey}
 use Rattle.disk_box.specs.declared.desk.Desk.{Desk}

@@ -1,6 +1,5 @@
 -- What a core has reserved is among the commits that are open, with its grant.
 use Rattle.std.proofs.Common.{◌≡◌, ◌≢◌, ◌∷◌, ◌++◌, ◌∙◌, ℕ, List, [], true, false, map, filter, cond, nat_eq, Option, Some, None, inl, inr, refl, sym, ap, subst}
-use Rattle.sfs_base.specs.Lists.{Roomy}
 use Rattle.sfs_base.proofs.BasicNumbers.{same_number, not_same}
 use Rattle.sfs_base.proofs.BasicOptions.{none_some, some_same}
 use Rattle.sfs_image.specs.Super.{Layout}
@@ -15,8 +14,7 @@ use Rattle.stamp_table.specs.Events.{event_core}
 use Rattle.stamp_table.specs.Rule.{entries_by}
 use Rattle.slot_laws.specs.declared.label.Label.{Label}
 use Rattle.slot_laws.specs.declared.label.Label.TheVariants as label
-use Rattle.slot_laws.specs.declared.label.Seen.{Seen}
-use Rattle.slot_laws.specs.Nodes.{ReservedCommit, commits_but, is_numbered_otherwise, giving_up, no_numbers, is_numbered}
+use Rattle.slot_laws.specs.Nodes.{ReservedCommit, commits_but, is_numbered_otherwise, giving_up, no_numbers}
 use Rattle.slot_laws.specs.Labels.{BoxPast, after_label, first_past, past_from}
 use Rattle.slot_laws.specs.Rules.{MayFrom, MayLabel, HasWork}
 use Rattle.slot_laws.specs.Fits.{PastFits}

@@ -1,5 +1,5 @@
 -- A commit that needs nothing.
-use Rattle.std.proofs.Common.{◌≡◌, ◌∙◌, ℕ, nat_lt, cond, List, [], Bool, true, false, length, Option, Some, None, Result, Ok, Err, refl, sym, ap, arith}
+use Rattle.std.proofs.Common.{◌≡◌, ◌∙◌, ℕ, nat_lt, cond, List, Bool, true, false, length, Some, None, Result, Ok, Err, refl, sym, ap, arith}
 use Rattle.sfs_base.proofs.BasicNumbers.{not_below}
 use Rattle.sfs_base.proofs.BasicOptions.{some_not_none}
 use Rattle.sfs_base.specs.declared.numbers.SpaceKind.TheVariants as kind

@@ -2,7 +2,7 @@
 use Rattle.std.proofs.Common.{◌≡◌, ◌≢◌, ◌<◌, ◌∙◌, ℕ, Bool, true, false, List, length, slice_set, slice_index_or, Option, Some, None, inl, inr, refl, sym, ap, option_map, is_some}
 use Rattle.std.proofs.lemmas.List.{get_or-set_other}
 use Rattle.std.proofs.lemmas.Grind.{get_or-set_at}
-use Rattle.sfs_base.proofs.BasicOptions.{none_of, some_same, none_some}
+use Rattle.sfs_base.proofs.BasicOptions.{some_same, none_some}
 use Rattle.merge_laws.proofs.Blocks.{same_or_not}
 use Rattle.tree_laws.specs.declared.turns.Turn.{Turn}
 use Rattle.slot_laws.specs.Labels.{OwnTold, SlotFlight}

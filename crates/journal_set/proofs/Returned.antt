@@ -1,21 +1,20 @@
 -- A core gives its number back: what lies in the box goes on to fit.
-use Rattle.std.proofs.Common.{◌≡◌, ◌≢◌, ◌+◌, ◌*◌, ◌<◌, ◌≤◌, ◌∙◌, ℕ, Bool, true, false, List, length, slice_set, slice_index_or, Option, Some, None, inl, inr, refl, sym, ap, subst, arith, option_map, is_some}
+use Rattle.std.proofs.Common.{◌≡◌, ◌+◌, ◌<◌, ◌≤◌, ◌∙◌, ℕ, Bool, true, false, length, Some, None, refl, sym, ap, subst, arith, option_map}
 use Rattle.std.proofs.lemmas.List.{length-set}
 use Rattle.sfs_base.proofs.BasicOptions.{none_of}
 use Rattle.sfs_dev.specs.Disk.{View}
 use Rattle.space_map.specs.Space.{GrantedNumbers}
-use Rattle.tree_laws.specs.declared.turns.Turn.{Turn}
 use Rattle.slot_laws.specs.declared.label.Label.TheVariants as label
-use Rattle.slot_laws.specs.Labels.{BoxPast, OwnTold, SlotFlight, after_label, own_label}
+use Rattle.slot_laws.specs.Labels.{BoxPast, OwnTold, after_label, own_label}
 use Rattle.slot_laws.specs.Fits.{PastFits}
 use Rattle.slot_image_laws.proofs.Running.{told_labels_fit}
 use Rattle.commit_ledger.specs.View.{LedgerView, OpenView, open_in, number_in}
-use Rattle.commit_ledger.specs.Keeps.{LedgerKeeps, LedgerGoes, WasGranted}
+use Rattle.commit_ledger.specs.Keeps.{LedgerGoes, WasGranted}
 use Rattle.commit_ledger.specs.Calls.{MayReturn, Returns}
 use Rattle.commit_ledger.proofs.Kept.{granted_may_return}
 use Rattle.disk_box.specs.declared.key.BoxKey.{BoxKey}
 use Rattle.disk_box.specs.declared.desk.Desk.{Desk}
-use Rattle.disk_box.specs.Desk.{DeskFits, FrameFits, RoomFits, open_for, open_told, owed_by, owed_of}
+use Rattle.disk_box.specs.Desk.{DeskFits, FrameFits, open_for, owed_by, owed_of}
 use Rattle.disk_box.proofs.Frames.{own_after, others_after, owed_taken}
 use Rattle.journal_set.proofs.Opens.{IsOpenAs, open_as, open_changed, open_nothing, open_reserved}
 

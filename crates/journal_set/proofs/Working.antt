@@ -1,13 +1,12 @@
 -- What a core that is at work with the box may note.
-use Rattle.std.proofs.Common.{◌≡◌, ◌∷◌, ◌++◌, ◌+◌, ◌*◌, ◌<◌, ◌≤◌, ◌∙◌, ℕ, Bool, List, [], length, option_map, Option, Some, None, inl, inr, refl, sym, ap, subst, arith, true, false}
-use Rattle.sfs_base.proofs.BasicOptions.{some_not_none}
+use Rattle.std.proofs.Common.{◌≡◌, ◌∷◌, ◌++◌, ◌*◌, ◌<◌, ◌≤◌, ◌∙◌, ℕ, Bool, [], length, option_map, Option, Some, None, inl, inr, refl, sym, ap, subst, arith, true, false}
 use Rattle.sfs_dev.specs.Disk.{View}
 use Rattle.stamp_table.specs.Table.{TableState}
 use Rattle.tree_laws.specs.declared.turns.Turn.{Turn}
 use Rattle.std.specs.Prelude.{◌||◌}
 use Rattle.merge_laws.proofs.Blocks.{same_or_not}
 use Rattle.slot_laws.specs.declared.label.Label.TheVariants as label
-use Rattle.slot_laws.specs.Labels.{BoxPast, OwnTold, SlotFlight, after_label, ends_all, own_label}
+use Rattle.slot_laws.specs.Labels.{BoxPast, OwnTold, after_label, ends_all, own_label}
 use Rattle.slot_laws.proofs.Basics.{at_same, at_other}
 use Rattle.disk_box.proofs.Frames.{owed_less}
 use Rattle.disk_box.specs.declared.key.BoxKey.{BoxKey}
@@ -17,7 +16,7 @@ use Rattle.disk_box.specs.Slots.{SlotsFit}
 use Rattle.slot_image_laws.specs.Run.{RunFits}
 use Rattle.commit_ledger.specs.Keeps.{LedgerKeeps}
 use Rattle.commit_ledger.specs.View.{open_in}
-use Rattle.disk_box.specs.Pens.{PenHand, HoldsBox, IsAtDesk, IsAtWork, past_at, own_at}
+use Rattle.disk_box.specs.Pens.{PenHand, HoldsBox, past_at, own_at}
 use Rattle.disk_box.proofs.After.{past_fits_at}
 use Rattle.disk_box.proofs.Owes.{owns_own}
 use Rattle.journal_set.specs.Ready.{HasNothingDue}

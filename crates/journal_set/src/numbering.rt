@@ -2,7 +2,7 @@
 ghost use Rattle.std.specs.Prelude.{◌≡◌, ◌*◌, ◌≤◌, ℕ, IfOk, IfErr, IfNone, OnOk, OnErr, MatchOption, None, length};
 ghost use Rattle.space_map.specs.Space.{shortage};
 ghost use Rattle.space_map.specs.declared.fault.SpaceFault.TheVariants.{NoMemory as WantsMemory};
-ghost use Rattle.journal_set.specs.Refusing.{MayReserve};
+ghost use Rattle.journal_set.specs.Refusing.{MayReserve, MOST_TURNS};
 ghost use Rattle.sfs_base.specs.Lists.{Roomy};
 ghost use Rattle.space_map.specs.Space.{GrantedNumbers};
 ghost use Rattle.slot_laws.specs.declared.label.Seen.{Seen};
@@ -30,7 +30,7 @@ const TURNS: u32 = 4;
 /// Makes room for all turns of a commit of this core, beside those that others may take yet.
 pub(crate) fn make_room<D>(desk: &mut Desk<D>) -> Result<(), NoMemory>
     requires { length desk.old.waits.items ≤ 16 }
-    ensures ok { OnOk result (4 * length desk.old.waits.items ≤ desk.new.turns.spare) }
+    ensures ok { OnOk result (MOST_TURNS * length desk.old.waits.items ≤ desk.new.turns.spare) }
     ensures same { desk.new ≡ record desk.old { turns = desk.new.turns } }
     ensures turns { (desk.new.turns.items ≡ desk.old.turns.items) × (desk.old.turns.spare ≤ desk.new.turns.spare) }
 {

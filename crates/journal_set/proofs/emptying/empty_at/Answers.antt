@@ -1,7 +1,5 @@
-use Rattle.std.proofs.Common.{◌≡◌, ◌∙◌, ℕ, List, [], true, false, length, Some, None, Bool, refl, sym, ap, subst}
-use Rattle.std.proofs.lemmas.List.{nil_from_length}
-use Rattle.space_map.specs.Space.{GrantedNumbers}
-use Rattle.slot_laws.specs.Labels.{OwnTold, fsync_told}
+use Rattle.std.proofs.Common.{◌∙◌, Some, ap}
+use Rattle.slot_laws.specs.Labels.{fsync_told}
 use Rattle.journal_set.specs.Emptying.{NOTHING}
 use Rattle.journal_set.proofs.Nothing.{empties_refused, grant_of_nothing, over_calm}
 use Rattle.journal_set.proofs.emptying.empty_at.Goals as goal

@@ -1,13 +1,11 @@
 use Rattle.std.proofs.Common.{◌≡◌, ◌+◌, ◌<◌, ◌≤◌, ◌∷◌, ◌++◌, ◌∙◌, ℕ, false, List, [], length, Some, None, refl, sym, ap, subst, arith, append_assoc}
 use Rattle.cut_laws.specs.Closure.{Flush}
-use Rattle.tree_laws.specs.declared.turns.Turn.{Turn}
 use Rattle.slot_laws.specs.declared.label.Label.TheVariants as label
-use Rattle.slot_laws.specs.Labels.{BoxPast, OwnTold, fsync_told}
+use Rattle.slot_laws.specs.Labels.{OwnTold, fsync_told}
 use Rattle.slot_laws.specs.Nodes.{no_numbers}
 use Rattle.commit_ledger.specs.Calls.{HasEntered}
 use Rattle.commit_ledger.specs.View.{number_in}
 use Rattle.disk_box.specs.declared.desk.Desk.{Desk}
-use Rattle.disk_box.specs.Desk.{owed_of}
 use Rattle.disk_box.specs.Pens.{past_at}
 use Rattle.disk_box.proofs.After.{at_told, past_fits_at}
 use Rattle.disk_box.proofs.Owes.{owns_own, room_for}

@@ -1,10 +1,10 @@
-use Rattle.std.proofs.Common.{◌≡◌, ◌+◌, ◌∷◌, ◌++◌, ◌∙◌, ℕ, List, [], length, Some, None, refl, sym, ap, subst}
+use Rattle.std.proofs.Common.{◌≡◌, ◌+◌, ◌∷◌, ◌++◌, ◌∙◌, ℕ, [], length, Some, None, refl, sym, ap, subst}
 use Rattle.sfs_base.specs.Lists.{Roomy}
 use Rattle.slot_laws.specs.declared.label.Label.{Label}
 use Rattle.slot_laws.specs.declared.label.Label.TheVariants as label
 use Rattle.slot_laws.specs.declared.label.Seen.{Seen}
 use Rattle.slot_laws.specs.Nodes.{last_ended, last_seen}
-use Rattle.slot_laws.specs.Labels.{BoxPast, OwnTold, own_label}
+use Rattle.slot_laws.specs.Labels.{OwnTold}
 use Rattle.slot_laws.specs.Rules.{MayLabel}
 use Rattle.slot_laws.specs.declared.label.Label.TheVariants as label
 use Rattle.tree_laws.specs.Tree.{TreeState}
@@ -22,7 +22,7 @@ use Rattle.disk_box.specs.declared.key.BoxKey.{BoxKey}
 use Rattle.disk_box.specs.declared.desk.Desk.{Desk}
 use Rattle.journal_set.specs.Grants.{grant_from}
 use Rattle.journal_set.proofs.Parts.{grant_more}
-use Rattle.disk_box.specs.Pens.{PenHand, TellsLabel, past_at, own_at}
+use Rattle.disk_box.specs.Pens.{PenHand, TellsLabel, past_at}
 use Rattle.disk_box.proofs.After.{at_told, failed_told, past_fits_at}
 use Rattle.disk_box.proofs.Owes.{owns_own}
 use Rattle.journal_set.proofs.Parts.{same_grant, same_nodes}

@@ -1,4 +1,4 @@
-use Rattle.std.proofs.Common.{◌≡◌, ◌*◌, ◌≤◌, ◌∙◌, ℕ, None, inl, refl, sym, ap, subst}
+use Rattle.std.proofs.Common.{◌*◌, ◌≤◌, ◌∙◌, inl, refl, sym, ap, subst}
 use Rattle.sfs_base.proofs.BasicOptions.{none_of}
 use Rattle.disk_box.specs.declared.desk.Desk.{Desk}
 use Rattle.disk_box.specs.Pens.{past_at}

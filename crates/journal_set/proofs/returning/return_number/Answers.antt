@@ -1,18 +1,12 @@
-use Rattle.std.proofs.Common.{◌≡◌, ◌+◌, ◌<◌, ◌≤◌, ◌∙◌, ℕ, false, Some, None, refl, sym, ap, subst, arith}
+use Rattle.std.proofs.Common.{◌≡◌, ◌∙◌, Some, sym, ap, subst, arith}
 use Rattle.sfs_base.proofs.BasicOptions.{some_not_none, some_same}
-use Rattle.tree_laws.specs.Tree.{TreeState}
-use Rattle.stamp_table.specs.declared.event.Event.{Event}
-use Rattle.stamp_table.specs.declared.view.View.{View as Sight}
-use Rattle.slot_laws.specs.declared.label.Label.{Label}
 use Rattle.slot_laws.specs.declared.label.Label.TheVariants as label
-use Rattle.slot_laws.specs.Labels.{BoxPast, OwnTold, after_label, own_label}
+use Rattle.slot_laws.specs.Labels.{OwnTold, after_label, own_label}
 use Rattle.commit_ledger.specs.View.{number_in}
 use Rattle.commit_ledger.specs.Calls.{MayReturn, Returns}
 use Rattle.commit_ledger.specs.Keeps.{LedgerGoes}
-use Rattle.disk_box.specs.declared.key.BoxKey.{BoxKey}
-use Rattle.disk_box.specs.declared.desk.Desk.{Desk}
 use Rattle.disk_box.specs.Desk.{owed_by}
-use Rattle.disk_box.specs.Pens.{PenHand, past_at, own_at}
+use Rattle.disk_box.specs.Pens.{PenHand, past_at}
 use Rattle.disk_box.proofs.After.{at_told, past_fits_at}
 use Rattle.disk_box.proofs.Owes.{owns_own}
 use Rattle.journal_set.proofs.Grants.{has_reserved}

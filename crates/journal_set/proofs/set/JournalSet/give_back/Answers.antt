@@ -1,4 +1,4 @@
-use Rattle.std.proofs.Common.{◌≡◌, ◌∙◌, None, ap}
+use Rattle.std.proofs.Common.{◌∙◌, None, ap}
 use Rattle.slot_laws.specs.declared.label.Label.TheVariants as label
 use Rattle.journal_set.specs.Grants.{grant_from}
 use Rattle.journal_set.proofs.Parts.{grant_more}
