@@ -64,7 +64,7 @@ fn main(rt: HostRuntime) -> io::Result<()> {
             figures.written / items.max(1)
         )?;
     }
-    for rows in [100, 32_768] {
+    for rows in [100, 32_767] {
         let Some(found) = fsyncs_of(&rt, alloc, rows)? else {
             println!(rt; "renames: no memory")?;
             return Ok(());

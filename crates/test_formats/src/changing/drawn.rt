@@ -315,8 +315,9 @@ fn drawn_changes_are_those_of_plain_slots(rt: HostRuntime) {
         let Some(root) = shelf.disk.find(ROOT.0) else {
             panic!(rt; "no root");
         };
-        if root.old.slots.len() > most {
-            most = root.old.slots.len();
+        let count = root.old.slots.len() as u64;
+        if count > most {
+            most = count;
         }
     }
     holds(&rt, most >= 2);
