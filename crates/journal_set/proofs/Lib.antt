@@ -1,4 +1,5 @@
 pub mod Around
+pub mod Begun
 pub mod Emptied
 pub mod Grants
 pub mod Nothing

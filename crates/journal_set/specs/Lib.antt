@@ -1,3 +1,4 @@
+pub mod Beginning
 pub mod Emptying
 pub mod Grants
 pub mod Numbering

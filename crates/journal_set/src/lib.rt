@@ -1,6 +1,7 @@
 //! The journals of all cores at one disk: reserve, commit, give back.
 #![tactic(auto)]
 
+mod beginning;
 mod emptying;
 mod fault;
 mod numbering;
