@@ -65,7 +65,7 @@ known_put layout told slots k work change was now fits there notes beside phase 
     (slots_put layout told slots k (Some (knowing change work)) now fits (record {
       fits = phase;
       notes = subst (λ (s : Slot). NotesWork s (knowing change work)) (sym beside)
-          (record { commit_is = notes.commit_is; flush_is = notes.flush_is; drawn_is = notes.drawn_is; inodes_are = notes.inodes_are });
+          (record { commit_is = notes.commit_is; flush_is = notes.flush_is; drawn_is = notes.drawn_is; inodes_are = notes.inodes_are; ascend = notes.ascend });
     }))
 
 pub known_put_ok : {V : Type 0} (result : Result V ℕ) (done : Bool) (change : Bool → SlotKnown → SlotKnown)

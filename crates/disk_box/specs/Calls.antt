@@ -3,7 +3,7 @@ use Rattle.std.specs.Prelude.{◌≡◌, ◌<◌, ℕ, [], length, Result, OnOk,
 use Rattle.std.specs.Result.{is_ok}
 use Rattle.sfs_base.specs.Ends.{HasCause}
 use Rattle.sfs_dev.specs.Disk.{View}
-use Rattle.journal_one.specs.Job.{Piece, fill_count, fill_piece, gate_piece, table_piece}
+use Rattle.journal_one.specs.Job.{Piece, fill_count, fill_piece, gate_piece, table_piece, without_fresh}
 use Rattle.journal_one.specs.Stage.{left_to_fill, left_to_place, next_stage}
 use Rattle.slot_image_laws.specs.Run.{Writes}
 use Rattle.disk_box.specs.declared.desk.Phase.{Phase}
@@ -59,3 +59,16 @@ pub record WritesNext {V : Type 0} (was now : Slot) (old new : View) (result : R
   pub writes : Writes (is_ok result) (next_piece was.phase) old new
   pub answers : AnswersCall old new result
   pub ok : OnOk result (FollowsWrite was.phase now.phase)
+
+-- what a slot's phase is once it has taken note of a sync, after which nothing is pending: fresh blocks are let go of
+abbrev pub FollowsSync : Phase → Phase → Type 0
+FollowsSync (phase.Filled filled) (phase.Sealed sealed) = sealed ≡ filled
+FollowsSync (phase.Opened opened) (phase.Durable durable) = durable ≡ record { job = without_fresh opened; done = 0 }
+FollowsSync (phase.Placed placed) (phase.Copied copied) = copied ≡ placed
+FollowsSync (phase.Closing closing) (phase.Idle idle) = idle ≡ closing.place
+FollowsSync _ _ = ⊥
+
+-- A slot has taken note of a sync, and nothing of it is another but its phase.
+pub record TakesSync (was now : Slot) : Type 0 where
+  pub beside : now ≡ record was { phase = now.phase }
+  pub follows : FollowsSync was.phase now.phase

@@ -2,7 +2,9 @@ pub mod Box
 pub mod Calls
 pub mod Desk
 pub mod Kind
+pub mod Oldest
 pub mod Pens
+pub mod Serving
 pub mod Slots
 pub mod Steps
 pub mod Turns

@@ -1,5 +1,6 @@
 -- What a slot's state at run time says of the commit that is in it.
 use Rattle.std.specs.Prelude.{◌≡◌, ◌<◌, ℕ, true, false, List, length, map, Option, Some, None, slice_get}
+use Rattle.std.specs.List.Sorted.{IsStrictlyIncreasing}
 use Rattle.sfs_image.specs.Super.{Layout}
 use Rattle.journal_one.specs.Job.{Place, Job, fill_count, without_fresh}
 use Rattle.journal_one.specs.Packed.{inode_of_entry}
@@ -64,12 +65,13 @@ PhaseFits (phase.Copied copied) place (Some work) = IsCopiedOf copied work
 PhaseFits (phase.Closing closing) place (Some work) = IsClosingOf closing work
 PhaseFits _ place work = ⊥
 
--- The slot has its commit's number, fsync, commit stamp and inodes.
+-- The slot has its commit's number, fsync, commit stamp and inodes, which ascend.
 pub record NotesWork (slot : Slot) (work : SlotWork) : Type 0 where
   pub commit_is : slot.commit ≡ work.commit
   pub flush_is : work.flush ≡ fsync_told slot.node slot.stamp
   pub drawn_is : slot.drawn ≡ work.job.stamp
   pub inodes_are : slot.inodes.items ≡ map inode_of_entry work.job.entries
+  pub ascend : IsStrictlyIncreasing slot.inodes.items
 
 -- where it has one
 abbrev pub Notes : Slot → Option SlotWork → Type 0

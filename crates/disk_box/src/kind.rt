@@ -1,6 +1,7 @@
 // Which phase a slot is in.
 ghost use Rattle.std.specs.Prelude.{◌≡◌, ◌<◌, length};
 ghost use Rattle.disk_box.specs.Kind.{kind_of, HasKind};
+ghost use Rattle.disk_box.specs.Steps.{is_lingering};
 
 use crate::{Desk, Phase};
 
@@ -17,6 +18,18 @@ pub enum Kind {
     Copied,
     Closing,
     Lost,
+}
+
+impl Kind {
+    /// Whether a durable commit is in a slot of this phase, of which records are to be placed or the gate is to be shut.
+    pub fn is_lingering(self) -> bool
+        ensures { result ≡ is_lingering self }
+    {
+        match self {
+            Kind::Durable | Kind::Placed | Kind::Copied | Kind::Closing => true,
+            _ => false,
+        }
+    }
 }
 
 impl Phase {

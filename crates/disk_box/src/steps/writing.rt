@@ -92,7 +92,7 @@ impl Phase {
 
 impl Slot {
     // Takes its phase out: it is lost.
-    fn take(&mut self) -> Phase
+    pub(crate) fn take(&mut self) -> Phase
         ensures phase { result ≡ self.old.phase }
         ensures lost { self.new ≡ record self.old { phase = phase.Lost } }
     {

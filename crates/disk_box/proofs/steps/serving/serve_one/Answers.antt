@@ -1,0 +1,20 @@
+use Rattle.std.proofs.Common.{refl}
+use Rattle.std.specs.Vec.{with_item}
+use Rattle.disk_box.specs.declared.kind.Kind.TheVariants as kind
+use Rattle.disk_box.proofs.AtSlots.{kind_read}
+use Rattle.disk_box.proofs.Served.{copied_now, sealed_now}
+use Rattle.disk_box.proofs.steps.serving.serve_one.Goals as goal
+
+pub returns-in-Filled-clause-serving : goal.returns-in-Filled-clause-serving
+returns-in-Filled-clause-serving g c =
+    let desk = c.args.desk.now in
+    let has = kind_read desk.slots.items c.args.k kind.Filled c.index_mut.result.now c.in-Filled.ensures c.index_mut.ensures.value in
+    sealed_now g.D.Disk.view c.args.table.now c.args.pen.now desk c.args.k c.requires.serving (with_item desk.slots c.args.k c.seal.new.self)
+    c.seal.new.self refl has c.seal.ensures
+
+pub returns-in-Placed-clause-serving : goal.returns-in-Placed-clause-serving
+returns-in-Placed-clause-serving g c =
+    let desk = c.args.desk.now in
+    let has = kind_read desk.slots.items c.args.k kind.Placed c.index_mut-in-Placed.result.now c.in-Placed.ensures c.index_mut-in-Placed.ensures.value in
+    copied_now g.D.Disk.view c.args.table.now c.args.pen.now desk c.args.k c.requires.serving (with_item desk.slots c.args.k c.copy.new.self)
+    c.copy.new.self refl has c.copy.ensures

@@ -1,0 +1,27 @@
+use Rattle.std.proofs.Common.{Err, Ok}
+use Rattle.disk_box.proofs.SyncSteps.{sync_failed, synced_now, syncs_as}
+use Rattle.disk_box.proofs.steps.syncing.sync_all.Goals as goal
+
+pub returns-in-Err-clause-steps : goal.returns-in-Err-clause-steps
+returns-in-Err-clause-steps g c =
+    let view = g.D.Disk.view in
+    let desk = c.args.desk.now in
+    let disk = c.sync.new.disk in
+    let sync = c.in-Err.ensures.sync in
+    sync_failed view c.args.table.now c.args.pen.now desk c.requires.work disk c.in-Err.doubt.faults
+    (syncs_as (view desk.disk) (view disk) (Err c.in-Err.doubt) sync) (record {
+      cause = record { never_falls = sync.call.cause.never_falls; risen = sync.call.cause.risen; kept = tt };
+      counted = c.in-Err.ensures.faults;
+    })
+
+pub serve_all-requires-clause-serving : goal.serve_all-requires-clause-serving
+serve_all-requires-clause-serving g c κs within =
+    let view = g.D.Disk.view in
+    let desk = c.args.desk.now in
+    let disk = c.sync.new.disk in
+    let sync = c.in_default.ensures.sync in
+    synced_now view c.args.table.now c.args.pen.now desk c.requires.work disk c.note.new.pen c.now-now.result c.note.ensures.holds c.note.ensures.tells
+    c.now-now.ensures.now (syncs_as (view desk.disk) (view disk) (Ok c.in_default.field-0) sync) (record {
+      cause = record { never_falls = sync.call.cause.never_falls; risen = tt; kept = sync.call.cause.kept };
+      counted = tt;
+    })

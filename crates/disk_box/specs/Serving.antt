@@ -1,0 +1,26 @@
+-- How slots are served behind a sync that answered Ok, one by one.
+use Rattle.std.specs.Prelude.{◌≡◌, ◌≤◌, ◌/◌, ℕ, Some}
+use Rattle.sfs_dev.specs.Disk.{View}
+use Rattle.journal_one.specs.Calls.{IsCalm}
+use Rattle.stamp_table.specs.Table.{TableState}
+use Rattle.slot_laws.specs.Slots.{SlotWork, known_synced}
+use Rattle.disk_box.specs.declared.key.BoxKey.{BoxKey}
+use Rattle.disk_box.specs.declared.desk.Desk.{Desk}
+use Rattle.disk_box.specs.Pens.{PenHand, PenGoes, IsAtWork, own_at, past_at}
+
+-- A core is at work, nothing has been pending on its disk since the last sync, and of the slots from the k-th on that is what is known.
+pub record IsServing {D : Type 0} (view : D → View) (t : TableState BoxKey) (pen : PenHand D) (desk : Desk D) (k : ℕ) : Type 0 where
+  pub at : IsAtWork view t pen desk
+  pub calm : IsCalm (view desk.disk)
+  pub moment : (past_at pen).synced ≡ (view desk.disk).now
+  pub known : (j : ℕ) (work : SlotWork) → k ≤ j → (past_at pen).slots j ≡ Some work → known_synced work.known ≡ work.known
+
+-- A pen has gone on, with as much room, and has told nothing of its own commits.
+pub record GoesBeside {D : Type 0} (before after : PenHand D) : Type 0 where
+  pub goes : PenGoes before after
+  pub room : after.room ≡ before.room
+  pub own : own_at after ≡ own_at before
+
+-- the core whose slot it is, of so many slots of so many cores
+abbrev pub owner_by : ℕ → ℕ → ℕ → ℕ
+owner_by slots cores k = k / (slots / cores)
