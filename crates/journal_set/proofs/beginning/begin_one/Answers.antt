@@ -1,4 +1,5 @@
 use Rattle.std.proofs.Common.{◌≡◌, ◌+◌, ◌<◌, ◌≤◌, ◌∙◌, ℕ, List, All, Some, None, option_map, refl, sym, ap, subst, arith, slice_set, false}
+use Rattle.std.specs.List.Sorted.{IsStrictlyIncreasing}
 use Rattle.std.proofs.lemmas.List.{set-set}
 use Rattle.sfs_base.proofs.BasicOptions.{some_not_none, some_same}
 use Rattle.sfs_base.specs.Lists.{Roomy}
@@ -182,6 +183,7 @@ returns-clause-work g c =
       stamps = c.next_stamp-drawn.result;
     }
     in
+    let noted = c.requires.written.noted ∙ ap (λ (j : Job). Rattle.std.proofs.Common.map inode_of_entry j.entries) (sym c.begin.ensures.job) in
     let later = begun_fits g.D.Disk.view key pen.view.core past (past_fits_at t pen work.holds) desk work.fits.frame work.holds.core_is b
     its.0 work.calm has.slot has.there c.requires.own idle.0
     (ap (λ (j : Job). j.place) c.begin.ensures.job ∙ idle.1)
@@ -201,7 +203,8 @@ returns-clause-work g c =
         commit_is = refl;
         flush_is = refl;
         drawn_is = sym (ap (λ (j : Job). j.stamp) c.begin.ensures.job);
-        inodes_are = c.requires.written.noted ∙ ap (λ (j : Job). Rattle.std.proofs.Common.map inode_of_entry j.entries) (sym c.begin.ensures.job);
+        inodes_are = noted;
+        ascend = subst IsStrictlyIncreasing (sym noted) c.begin.ensures.sound.are.ascend;
       };
     })
     in
