@@ -1,6 +1,6 @@
 -- That the next record of a durable commit in a slot is the oldest of its inode.
 use Rattle.std.specs.Prelude.{slice_get}
-use Rattle.std.proofs.Common.{◌≡◌, ◌<◌, ◌≤◌, ◌&&◌, ◌∙◌, ℕ, Bool, true, not, List, length, map, Some, get_or, inl, inr, refl, sym, ap, subst, arith, nat_eq, nat_lt}
+use Rattle.std.proofs.Common.{◌≡◌, ◌≢◌, ◌<◌, ◌≤◌, ◌+◌, ◌&&◌, ◌∙◌, ℕ, Bool, true, not, List, length, map, Some, get_or, inl, inr, refl, sym, ap, subst, arith, nat_eq, nat_lt}
 use Rattle.std.proofs.lemmas.Bool.{cases_lt, lt-ltb}
 use Rattle.std.proofs.lemmas.List.Folds.{list_any_at}
 use Rattle.std.proofs.lemmas.List.{get_or-map, get_or_past, length-map}
@@ -14,6 +14,7 @@ use Rattle.sfs_dev.specs.Disk.{View}
 use Rattle.journal_one.specs.Job.{no_entry}
 use Rattle.journal_one.specs.Packed.{inode_of_entry}
 use Rattle.journal_one.specs.Stage.{Stage}
+use Rattle.merge_laws.proofs.Blocks.{same_or_not}
 use Rattle.slot_laws.specs.Slots.{SlotWork, place_at}
 use Rattle.slot_laws.specs.Rules.{HasRecordOf, inode_of_nth}
 use Rattle.stamp_table.specs.Table.{TableState}
@@ -25,7 +26,8 @@ use Rattle.disk_box.specs.declared.desk.Slot.{Slot}
 use Rattle.disk_box.specs.declared.kind.Kind.TheVariants as kind
 use Rattle.disk_box.specs.Calls.{written_of}
 use Rattle.disk_box.specs.Kind.{HasKind, kind_of}
-use Rattle.disk_box.specs.Oldest.{IsOldestSlot, goes_before, is_next_oldest, next_inode}
+use Rattle.disk_box.specs.Oldest.{IsOldestSlot, OthersWrite, goes_before, is_next_oldest, is_writing, next_inode}
+use Rattle.disk_box.specs.Serving.{owner_by}
 use Rattle.disk_box.specs.Slots.{IsBeingPlaced, Notes, NotesWork, PhaseFits}
 use Rattle.disk_box.specs.Pens.{PenHand, past_at, IsAtWork}
 use Rattle.disk_box.specs.Steps.{NextIsOldest, is_lingering}
@@ -155,3 +157,49 @@ module _ {D : Type 0} (view : D → View) (t : TableState BoxKey) (pen : PenHand
             absurd (true_not_false (sym none ∙ ap not any))
         | inr not ↦ not
       ])
+
+-- as a step asks for it
+module _ {D : Type 0} (view : D → View) (t : TableState BoxKey) (pen : PenHand D) (desk : Desk D) (k : ℕ) (at : IsAtWork view t pen desk)
+    (has : HasKind desk.slots.items k kind.Durable) (slot : Slot) (there : slice_get desk.slots.items k ≡ Some slot) where
+  abbrev read : HasKind desk.slots.items k kind.Durable
+  read = record {
+    slot = slot;
+    there = there;
+    kind_is = ap (λ (s : Slot). kind_of s.phase) (some_same (sym there ∙ has.there)) ∙ has.kind_is;
+  }
+
+  pub oldest_may_place : IsOldestSlot desk.slots.items k → NextIsOldest (past_at pen).slots k slot
+  oldest_may_place oldest = oldest_places view t pen desk k at read oldest
+
+  pub next_may_place : is_next_oldest desk.slots.items slot ≡ true → NextIsOldest (past_at pen).slots k slot
+  next_may_place none = next_places view t pen desk k at read none
+
+-- none of the first slots is another core's and about to be written for
+abbrev pub NoneBefore : List Slot → ℕ → ℕ → ℕ → Type 0
+NoneBefore slots cores core k = (one : OthersWrite slots cores core) → one.slot < k → ⊥
+
+module _ (slots : List Slot) (cores core k : ℕ) (slot : Slot) (low : k < length slots) (read : slot ≡ get_or slots k slot) where
+  pub writes_here : owner_by (length slots) cores k ≢ core → is_writing (kind_of slot.phase) ≡ true → OthersWrite slots cores core
+  writes_here other writes = record {
+    slot = k;
+    what = kind_of slot.phase;
+    has = record { slot = slot; there = slice_get-get_or slots k slot low ∙ ap Some (sym read); kind_is = refl };
+    writes = writes;
+    other = other;
+  }
+
+  -- nor is this one
+  pub none_more : NoneBefore slots cores core k → (owner_by (length slots) cores k ≢ core → is_writing (kind_of slot.phase) ≡ true → ⊥)
+      → NoneBefore slots cores core (k + 1)
+  none_more none not one before = elim (same_or_not one.slot k) [
+    | inl same ↦
+        not (λ own. one.other (ap (owner_by (length slots) cores) same ∙ own))
+        (ap (λ (s : Slot). is_writing (kind_of s.phase))
+        (read ∙ get_or_from_slice_get slots k one.has.slot slot (ap (slice_get slots) (sym same) ∙ one.has.there))
+        ∙ (ap is_writing one.has.kind_is ∙ one.writes))
+    | inr apart ↦ none one (omega (arith, before, apart))
+  ]
+
+pub none_writes : (slots : List Slot) (cores core k : ℕ) → NoneBefore slots cores core k → length slots ≤ k → OthersWrite slots cores core → ⊥
+none_writes slots cores core k none past one =
+    none one (let low = slice_get_within slots one.slot one.has.slot one.has.there in omega (arith, low, past))

@@ -1,5 +1,5 @@
 -- Which durable commit in a slot is the oldest, and whether a slot's next record may be placed.
-use Rattle.std.specs.Prelude.{◌≡◌, ◌&&◌, ◌<◌, ◌≤◌, ℕ, Bool, true, List, Option, Some, None, nat_lt, not, slice_index_or}
+use Rattle.std.specs.Prelude.{◌≡◌, ◌≢◌, ◌&&◌, ◌<◌, ◌≤◌, ℕ, Bool, true, false, List, length, Option, Some, None, nat_lt, not, slice_index_or}
 use Rattle.std.specs.List.{list_any}
 use Rattle.std.specs.List.Sorted.{IsStrictlyIncreasing}
 use Rattle.sfs_base.specs.Listed.{is_listed}
@@ -7,7 +7,10 @@ use Rattle.sfs_image.specs.Super.{Layout}
 use Rattle.slot_laws.specs.Slots.{Slots}
 use Rattle.disk_box.specs.declared.desk.Slot.{Slot}
 use Rattle.disk_box.specs.Calls.{written_of}
-use Rattle.disk_box.specs.Kind.{kind_of}
+use Rattle.disk_box.specs.declared.kind.Kind.{Kind}
+use Rattle.disk_box.specs.declared.kind.Kind.TheVariants as kind
+use Rattle.disk_box.specs.Kind.{HasKind, kind_of}
+use Rattle.disk_box.specs.Serving.{owner_by}
 use Rattle.disk_box.specs.Slots.{SlotsFit}
 use Rattle.disk_box.specs.Steps.{Lingers, is_lingering}
 
@@ -48,3 +51,17 @@ pub record AreTold (slots : List Slot) : Type 0 where
   pub layout : Layout
   pub told : Slots
   pub fits : SlotsFit layout told slots
+
+-- whether a slot of this phase is about to be written for by its core: it is being filled, or its gate is to be opened
+abbrev pub is_writing : Kind → Bool
+is_writing kind.Filling = true
+is_writing kind.Sealed = true
+is_writing _ = false
+
+-- A slot of another of so many cores is about to be written for.
+pub record OthersWrite (slots : List Slot) (cores core : ℕ) : Type 0 where
+  pub slot : ℕ
+  pub what : Kind
+  pub has : HasKind slots slot what
+  pub writes : is_writing what ≡ true
+  pub other : owner_by (length slots) cores slot ≢ core

@@ -1,6 +1,7 @@
 // Which phase a slot is in.
 ghost use Rattle.std.specs.Prelude.{◌≡◌, ◌<◌, length};
 ghost use Rattle.disk_box.specs.Kind.{kind_of, HasKind};
+ghost use Rattle.disk_box.specs.Oldest.{is_writing};
 ghost use Rattle.disk_box.specs.Steps.{is_lingering};
 
 use crate::{Desk, Phase};
@@ -27,6 +28,16 @@ impl Kind {
     {
         match self {
             Kind::Durable | Kind::Placed | Kind::Copied | Kind::Closing => true,
+            _ => false,
+        }
+    }
+
+    /// Whether a slot of this phase is about to be written for by its core: it is being filled, or its gate is to be opened.
+    pub fn is_writing(self) -> bool
+        ensures { result ≡ is_writing self }
+    {
+        match self {
+            Kind::Filling | Kind::Sealed => true,
             _ => false,
         }
     }

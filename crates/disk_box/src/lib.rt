@@ -18,5 +18,7 @@ pub use key::BoxKey;
 pub use kind::Kind;
 pub use looking::{halt, look};
 pub use meaning::{BoxMeaning, BoxTable, Pen};
-pub use steps::{fill_one, may_place, oldest, open_one, place_one, shut_one, sync_all};
+pub use steps::{
+    fill_one, may_place, oldest, open_one, others_write, place_one, shut_one, step_oldest, sync_all,
+};
 pub use turns::{Fsync, note_turn};

@@ -6,6 +6,7 @@ mod opening;
 mod placing;
 mod serving;
 mod shutting;
+mod stepping;
 mod syncing;
 mod writing;
 
@@ -14,4 +15,5 @@ pub use lingering::{may_place, oldest};
 pub use opening::open_one;
 pub use placing::place_one;
 pub use shutting::shut_one;
+pub use stepping::{others_write, step_oldest};
 pub use syncing::sync_all;

@@ -12,7 +12,7 @@ use tree_laws::TurnAct;
 
 impl<D> Desk<D> {
     // Whose a slot is.
-    fn owner_of(&self, k: usize) -> usize
+    pub(crate) fn owner_of(&self, k: usize) -> usize
         requires cores { 0 < length self.now.waits.items }
         requires slots { length self.now.waits.items ≤ length self.now.slots.items }
         ensures { result ≡ owner_by (length self.now.slots.items) (length self.now.waits.items) k }
