@@ -1,8 +1,9 @@
 -- A slot is served behind a sync: where no label is told of it, and where it is idle again.
-use Rattle.std.specs.Prelude.{Vec}
+use Rattle.std.specs.Prelude.{slice_get, Vec}
 use Rattle.std.specs.declared.alloc.Global.{Global}
-use Rattle.std.proofs.Common.{◌≡◌, ◌+◌, ◌∙◌, ℕ, List, [], length, Some, None, inl, inr, refl, sym, ap, subst, arith, slice_set, append-nil}
+use Rattle.std.proofs.Common.{◌≡◌, ◌+◌, ◌∙◌, ℕ, List, [], length, Some, None, inl, inr, refl, sym, ap, subst, arith, slice_set, append-nil, false, true}
 use Rattle.std.proofs.lemmas.List.{length-set}
+use Rattle.sfs_base.proofs.BasicOptions.{some_same}
 use Rattle.sfs_image.specs.Super.{Layout}
 use Rattle.sfs_dev.specs.Disk.{View}
 use Rattle.journal_one.specs.Job.{Job, fill_count}
@@ -19,9 +20,10 @@ use Rattle.disk_box.specs.declared.desk.Desk.{Desk}
 use Rattle.disk_box.specs.declared.desk.Phase.{Phase}
 use Rattle.disk_box.specs.declared.desk.Phase.TheVariants as phase
 use Rattle.disk_box.specs.declared.desk.Slot.{Slot}
+use Rattle.disk_box.specs.declared.kind.Kind.{Kind}
 use Rattle.disk_box.specs.declared.kind.Kind.TheVariants as kind
-use Rattle.disk_box.specs.Calls.{FollowsSync, TakesSync}
-use Rattle.disk_box.specs.Kind.{HasKind}
+use Rattle.disk_box.specs.Calls.{FollowsSync, NoneAwaits, TakesSync, awaits_sync}
+use Rattle.disk_box.specs.Kind.{HasKind, kind_of}
 use Rattle.disk_box.specs.Serving.{GoesBeside, IsServing}
 use Rattle.disk_box.specs.Slots.{IsBeingFilled, IsBeingPlaced, IsClosingOf, Notes, NotesWork, PhaseFits, SlotFits, SlotsFit}
 use Rattle.disk_box.specs.Pens.{PenHand, past_at, own_at, HoldsBox, TellsLabel}
@@ -53,6 +55,30 @@ slots_kept layout told slots k slot fits put = record {
   ];
 }
 
+-- a slot that was served awaits no sync, nor do those before it
+pub awaits_next : (slots : List Slot) (k : ℕ) (new : Slot) → NoneAwaits slots k → awaits_sync (kind_of new.phase) ≡ false
+    → NoneAwaits (slice_set slots k new) (k + 1)
+awaits_next slots k new none served j what low has = elim (same_or_not j k) [
+  | inl same ↦
+      ap awaits_sync (sym has.kind_is) ∙ (ap (λ (s : Slot). awaits_sync (kind_of s.phase)) (get_same slots k new j has.slot same has.there) ∙ served)
+  | inr not ↦
+      none j what (omega (arith, low, not)) (record { slot = has.slot; there = sym (get_other slots k new j not) ∙ has.there; kind_is = has.kind_is })
+]
+
+-- one of another phase awaits none
+pub awaits_not : (what : Kind) → (what ≡ kind.Filled → ⊥) → (what ≡ kind.Opened → ⊥) → (what ≡ kind.Placed → ⊥) → (what ≡ kind.Closing → ⊥)
+    → awaits_sync what ≡ false
+awaits_not kind.Idle filled opened placed closing = refl
+awaits_not kind.Filling filled opened placed closing = refl
+awaits_not kind.Filled filled opened placed closing = absurd (filled refl)
+awaits_not kind.Sealed filled opened placed closing = refl
+awaits_not kind.Opened filled opened placed closing = absurd (opened refl)
+awaits_not kind.Durable filled opened placed closing = refl
+awaits_not kind.Placed filled opened placed closing = absurd (placed refl)
+awaits_not kind.Copied filled opened placed closing = refl
+awaits_not kind.Closing filled opened placed closing = absurd (closing refl)
+awaits_not kind.Lost filled opened placed closing = refl
+
 -- nothing changes for who has told nothing
 pub goes_still : {D : Type 0} (pen : PenHand D) → GoesBeside pen pen
 goes_still pen = record {
@@ -80,12 +106,18 @@ module _ {D : Type 0} (view : D → View) (t : TableState BoxKey) (pen : PenHand
   past = past_at pen
 
   -- a slot that is passed over
-  pub serves_next : IsServing view t pen was (k + 1)
-  serves_next = record {
+  pub serves_next : (what : Kind) → HasKind was.slots.items k what → awaits_sync what ≡ false → IsServing view t pen was (k + 1)
+  serves_next what has served = record {
     at = serving.at;
     calm = serving.calm;
     moment = serving.moment;
     known = λ j work low there. serving.known j work (omega (arith, low)) there;
+    served = λ j other low there. elim (same_or_not j k) [
+      | inl same ↦
+          ap awaits_sync (sym there.kind_is ∙ (ap (λ (s : Slot). kind_of s.phase)
+          (some_same (sym there.there ∙ (ap (slice_get was.slots.items) same ∙ has.there))) ∙ has.kind_is)) ∙ served
+      | inr not ↦ serving.served j other (omega (arith, low, not)) there
+    ];
   }
 
   -- and one that was put
@@ -121,8 +153,8 @@ module _ {D : Type 0} (view : D → View) (t : TableState BoxKey) (pen : PenHand
       moment = refl;
     }
 
-    served_quiet : SlotFits (place_at key.layout k) (past.slots k) new → IsServing view t pen now (k + 1)
-    served_quiet fits = record {
+    served_quiet : SlotFits (place_at key.layout k) (past.slots k) new → awaits_sync (kind_of new.phase) ≡ false → IsServing view t pen now (k + 1)
+    served_quiet fits served = record {
       at = record {
         holds = serving.at.holds;
         calm = serving.at.calm;
@@ -138,6 +170,7 @@ module _ {D : Type 0} (view : D → View) (t : TableState BoxKey) (pen : PenHand
       calm = serving.calm;
       moment = serving.moment;
       known = λ j work low there. serving.known j work (omega (arith, low)) there;
+      served = subst (λ l. NoneAwaits l (k + 1)) (sym put) (awaits_next was.slots.items k new serving.served served);
     }
 
     -- all that fills a slot is on the disk
@@ -153,7 +186,7 @@ module _ {D : Type 0} (view : D → View) (t : TableState BoxKey) (pen : PenHand
               (seals new.phase state.0 told.work fits (serving.known k told.work (omega arith) told.there)
               (subst (λ (p : Phase). FollowsSync p new.phase) state.1 takes.follows));
           notes = subst (Notes new) (sym told.there) (notes_kept has.slot new told.work takes.beside told.notes);
-        })
+        }) takes.served
       where
         seals : (next : Phase) (filled : Job) (work : SlotWork) → IsBeingFilled filled (fill_count filled) work → known_synced work.known ≡ work.known
             → FollowsSync (phase.Filled filled) next → PhaseFits next (place_at key.layout k) (Some work)
@@ -183,7 +216,7 @@ module _ {D : Type 0} (view : D → View) (t : TableState BoxKey) (pen : PenHand
               (copies new.phase state.0 told.work fits (serving.known k told.work (omega arith) told.there)
               (subst (λ (p : Phase). FollowsSync p new.phase) state.1 takes.follows));
           notes = subst (Notes new) (sym told.there) (notes_kept has.slot new told.work takes.beside told.notes);
-        })
+        }) takes.served
       where
         copies : (next : Phase) (placed : Job) (work : SlotWork) → IsBeingPlaced placed (length placed.entries) work → known_synced work.known ≡ work.known
             → FollowsSync (phase.Placed placed) next → PhaseFits next (place_at key.layout k) (Some work)
@@ -265,6 +298,7 @@ module _ {D : Type 0} (view : D → View) (t : TableState BoxKey) (pen : PenHand
           known = λ j work low there.
               serving.known j work (omega (arith, low))
               (sym (at_other past.slots k None j (λ e. absurd (omega (arith, low, e)))) ∙ (ap (λ (p : BoxPast). p.slots j) (sym tells.past) ∙ there));
+          served = subst (λ l. NoneAwaits l (k + 1)) (sym put) (awaits_next was.slots.items k new serving.served takes.served);
         }
 
 -- who tells of a slot goes beside its own

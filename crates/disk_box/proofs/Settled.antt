@@ -30,7 +30,7 @@ use Rattle.disk_box.specs.declared.desk.Phase.{Phase}
 use Rattle.disk_box.specs.declared.desk.Phase.TheVariants as phase
 use Rattle.disk_box.specs.declared.desk.Slot.{Slot}
 use Rattle.disk_box.specs.declared.kind.Kind.TheVariants as kind
-use Rattle.disk_box.specs.Calls.{FollowsSync, TakesSync}
+use Rattle.disk_box.specs.Calls.{FollowsSync, NoneAwaits, TakesSync}
 use Rattle.disk_box.specs.Desk.{DeskFits, FrameFits, open_for, open_told, owed_by, owed_of, turn_faults, wait_in}
 use Rattle.disk_box.specs.Kind.{HasKind}
 use Rattle.disk_box.specs.Serving.{IsServing, owner_by}
@@ -44,7 +44,7 @@ use Rattle.disk_box.proofs.Frames.{owed_taken}
 use Rattle.disk_box.proofs.GateOpened.{faults_calm, slot_turn_by}
 use Rattle.disk_box.proofs.Owes.{owed_within}
 use Rattle.disk_box.proofs.Phases.{opened_is}
-use Rattle.disk_box.proofs.Served.{gate_same, notes_kept}
+use Rattle.disk_box.proofs.Served.{awaits_next, gate_same, notes_kept}
 use Rattle.disk_box.proofs.SlotLists.{slots_put}
 use Rattle.disk_box.proofs.Waits.{wait_put}
 
@@ -325,4 +325,5 @@ module _ {D : Type 0} (view : D → View) (t : TableState BoxKey) (pen : PenHand
                   serving.known j work (omega (arith, low))
                   (sym (at_other past.slots k (option_map settled_work (past.slots k)) j (λ e. absurd (omega (arith, low, e))))
                   ∙ (ap (λ (p : BoxPast). p.slots j) (sym tells.past) ∙ there));
+              served = subst (λ l. NoneAwaits l (k + 1)) (sym put) (awaits_next was.slots.items k new serving.served takes.served);
             }

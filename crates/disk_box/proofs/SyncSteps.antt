@@ -192,6 +192,7 @@ module _ {D : Type 0} (view : D → View) (t : TableState BoxKey) (before : PenH
       known = λ j work low there.
           let found = mapped_some (knowing known_synced) (past.slots j) work (ap (λ (p : BoxPast). p.slots j) (sym tells.past) ∙ there) in
           subst (λ (w : SlotWork). known_synced w.known ≡ w.known) found.2 refl;
+      served = λ j what low has. absurd (omega (arith, low));
     }
 
     pub synced_goes : GoesBeside before after

@@ -1,5 +1,5 @@
 -- What a device call for one slot does to the slot and to the disk.
-use Rattle.std.specs.Prelude.{◌≡◌, ◌<◌, ℕ, [], length, Result, OnOk, IfErr}
+use Rattle.std.specs.Prelude.{◌≡◌, ◌<◌, ℕ, [], length, Result, OnOk, IfErr, Bool, true, false, List}
 use Rattle.std.specs.Result.{is_ok}
 use Rattle.sfs_base.specs.Ends.{HasCause}
 use Rattle.sfs_dev.specs.Disk.{View}
@@ -9,6 +9,9 @@ use Rattle.slot_image_laws.specs.Run.{Writes}
 use Rattle.disk_box.specs.declared.desk.Phase.{Phase}
 use Rattle.disk_box.specs.declared.desk.Phase.TheVariants as phase
 use Rattle.disk_box.specs.declared.desk.Slot.{Slot}
+use Rattle.disk_box.specs.declared.kind.Kind.{Kind}
+use Rattle.disk_box.specs.declared.kind.Kind.TheVariants as kind
+use Rattle.disk_box.specs.Kind.{HasKind, kind_of}
 
 -- A device call that failed has its cause, and answers the disk's count of faults.
 pub record AnswersCall {V : Type 0} (old new : View) (result : Result V ℕ) : Type 0 where
@@ -68,7 +71,20 @@ FollowsSync (phase.Placed placed) (phase.Copied copied) = copied ≡ placed
 FollowsSync (phase.Closing closing) (phase.Idle idle) = idle ≡ closing.place
 FollowsSync _ _ = ⊥
 
--- A slot has taken note of a sync, and nothing of it is another but its phase.
+-- whether a slot of this phase awaits a sync
+abbrev pub awaits_sync : Kind → Bool
+awaits_sync kind.Filled = true
+awaits_sync kind.Opened = true
+awaits_sync kind.Placed = true
+awaits_sync kind.Closing = true
+awaits_sync _ = false
+
+-- none of the first slots does
+abbrev pub NoneAwaits : List Slot → ℕ → Type 0
+NoneAwaits slots n = (j : ℕ) (what : Kind) → j < n → HasKind slots j what → awaits_sync what ≡ false
+
+-- A slot has taken note of a sync, and awaits none, and nothing of it is another but its phase.
 pub record TakesSync (was now : Slot) : Type 0 where
   pub beside : now ≡ record was { phase = now.phase }
+  pub served : awaits_sync (kind_of now.phase) ≡ false
   pub follows : FollowsSync was.phase now.phase

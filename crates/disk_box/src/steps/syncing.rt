@@ -1,5 +1,6 @@
 // The step that syncs the disk.
-ghost use Rattle.std.specs.Prelude.{◌≡◌};
+ghost use Rattle.std.specs.Prelude.{◌≡◌, OnOk, length};
+ghost use Rattle.disk_box.specs.Calls.{NoneAwaits};
 ghost use Rattle.disk_box.specs.Pens.{IsAtWork, own_at};
 ghost use Rattle.disk_box.specs.Steps.{Steps};
 
@@ -19,6 +20,7 @@ pub fn sync_all<D: Disk + Drop>(
     requires work { IsAtWork D.view table.now pen.old desk.old }
     ensures steps { Steps D.view table.now pen.old pen.new desk.new result }
     ensures own { own_at pen.new ≡ own_at pen.old }
+    ensures served { OnOk result (NoneAwaits desk.new.slots.items (length desk.new.slots.items)) }
 {
     if let Err(doubt) = sync(&mut desk.disk) {
         return Err(doubt.faults);

@@ -2,7 +2,7 @@ use Rattle.std.proofs.Common.{refl}
 use Rattle.std.specs.Vec.{with_item}
 use Rattle.disk_box.specs.declared.kind.Kind.TheVariants as kind
 use Rattle.disk_box.proofs.AtSlots.{kind_read}
-use Rattle.disk_box.proofs.Served.{copied_now, sealed_now}
+use Rattle.disk_box.proofs.Served.{awaits_not, copied_now, sealed_now, serves_next}
 use Rattle.disk_box.proofs.steps.serving.serve_one.Goals as goal
 
 pub returns-in-Filled-clause-serving : goal.returns-in-Filled-clause-serving
@@ -18,3 +18,8 @@ returns-in-Placed-clause-serving g c =
     let has = kind_read desk.slots.items c.args.k kind.Placed c.index_mut-in-Placed.result.now c.in-Placed.ensures c.index_mut-in-Placed.ensures.value in
     copied_now g.D.Disk.view c.args.table.now c.args.pen.now desk c.args.k c.requires.serving (with_item desk.slots c.args.k c.copy.new.self)
     c.copy.new.self refl has c.copy.ensures
+
+pub returns-in_default-clause-serving : goal.returns-in_default-clause-serving
+returns-in_default-clause-serving g c =
+    serves_next g.D.Disk.view c.args.table.now c.args.pen.now c.args.desk.now c.args.k c.requires.serving c.kind_at.result c.kind_at.ensures
+    (awaits_not c.kind_at.result c.in_default.not-Filled c.in_default.not-Opened c.in_default.not-Placed c.in_default.not-Closing)
