@@ -1,11 +1,13 @@
-//! How many calls and fsyncs a second a run makes on a disk in memory, and how many device calls and syncs they take. `bench_run measure`
-//! measures it; without the word the program says so. It is in no test.
+//! How many calls and fsyncs a second a run makes on a disk in memory, how many device calls and syncs they take, and what an fsync of one
+//! renamed row takes in a small and in a large directory. `bench_run measure` measures it; without the word the program says so. It is in no test.
 #![tactic(auto)]
 
 mod loads;
+mod renames;
 mod runs;
 
 use loads::{Load, begun};
+use renames::fsyncs_of;
 use runs::measured;
 use std::time::Instant;
 use std::{env, io};
@@ -60,6 +62,16 @@ fn main(rt: HostRuntime) -> io::Result<()> {
             "  {} bytes written, {} an item",
             figures.written,
             figures.written / items.max(1)
+        )?;
+    }
+    for rows in [100, 32_767] {
+        let Some(found) = fsyncs_of(&rt, alloc, rows)? else {
+            println!(rt; "renames: no memory")?;
+            return Ok(());
+        };
+        println!(rt;
+            "one rename in {rows} rows, all done: {}: an fsync in {} ns, {} device calls",
+            found.done, found.fsync, found.device_calls
         )?;
     }
     Ok(())

@@ -50,6 +50,20 @@ pub fn made<R: Threads + Wait + Sync>(
     outcome.disk.left(alloc, u64::MAX, 0)
 }
 
+/// What a script leaves on a disk, with no device call yet.
+pub fn left_by<R: Threads + Wait + Sync>(
+    rt: &R,
+    alloc: Global,
+    script: String,
+    disk: Memory,
+) -> Result<Memory, NoMemory> {
+    let words = words_of(alloc, &["run", "65536"])?;
+    let mut source = BytesSource::new(script.into_bytes(), Vec::new(alloc));
+    let mut sink = BytesSink::new(alloc, Vec::new(alloc));
+    let outcome = run(rt, alloc, &words, &mut source, &mut sink, disk, &NoGate);
+    outcome.disk.left(alloc, u64::MAX, 0)
+}
+
 /// Runs a script on a disk, with as many new nodes as there may be.
 pub fn measured<R: Threads + Wait + Sync>(
     rt: &R,

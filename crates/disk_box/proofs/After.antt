@@ -1,10 +1,7 @@
 -- Behind a label that a core with the box has told.
-use Rattle.std.proofs.Common.{◌≡◌, ◌<◌, ◌∷◌, ◌++◌, ◌∙◌, ℕ, List, [], Option, Some, None, refl, sym, ap, subst}
+use Rattle.std.proofs.Common.{◌≡◌, ◌∷◌, ◌∙◌, ℕ, [], Option, refl, sym, ap, subst}
 use Rattle.sfs_dev.specs.Disk.{View}
-use Rattle.sfs_base.specs.declared.numbers.CoreId.{CoreId}
-use Rattle.stamp_table.specs.declared.event.Event.{Event}
 use Rattle.stamp_table.specs.declared.event.Event.TheVariants.{Told}
-use Rattle.stamp_table.specs.Hand.{Desk as TableName}
 use Rattle.stamp_table.specs.Table.{TableState}
 use Rattle.slot_laws.specs.declared.label.Label.{Label}
 use Rattle.slot_laws.specs.Labels.{BoxPast, after_label, first_past}
@@ -13,9 +10,9 @@ use Rattle.slot_laws.specs.Fits.{PastFits}
 use Rattle.slot_laws.proofs.GrantsTold.{goes_both}
 use Rattle.disk_box.specs.declared.key.BoxKey.{BoxKey}
 use Rattle.disk_box.specs.declared.desk.Desk.{Desk}
-use Rattle.disk_box.specs.Box.{past_of, SpaceFits}
+use Rattle.disk_box.specs.Box.{SpaceFits}
 use Rattle.disk_box.specs.Desk.{DeskFits, FrameFits, RoomFits}
-use Rattle.disk_box.specs.Pens.{PenHand, past_at, HoldsBox, PenGoes, TellsLabel, IsAtDesk, IsAtWork, IsBroken}
+use Rattle.disk_box.specs.Pens.{PenHand, past_at, HoldsBox, TellsLabel, IsAtDesk}
 use Rattle.disk_box.proofs.Entered.{past_fits}
 
 module _ {D : Type 0} (view : D → View) (t : TableState BoxKey) (before after : PenHand D) (fact : Label) (holds : HoldsBox t after)

@@ -1,5 +1,5 @@
 -- A commit that fails.
-use Rattle.std.proofs.Common.{◌≡◌, ◌≢◌, ◌+◌, ◌<◌, ◌≤◌, ◌∷◌, ◌++◌, ◌∙◌, ℕ, List, [], true, Option, Some, None, refl, sym, ap, subst, arith}
+use Rattle.std.proofs.Common.{◌≡◌, ◌≤◌, ◌∷◌, ◌++◌, ◌∙◌, ℕ, [], Option, Some, None, sym, ap, subst, arith}
 use Rattle.std.specs.Option.{option_or}
 use Rattle.sfs_base.proofs.BasicOptions.{or_none, some_not_none}
 use Rattle.sfs_dev.specs.Disk.{View}
@@ -8,13 +8,13 @@ use Rattle.tree_laws.specs.declared.turns.TurnAct.{TurnAct}
 use Rattle.tree_laws.specs.declared.turns.TurnAct.TheVariants as act
 use Rattle.merge_laws.specs.Pens.{failure_by}
 use Rattle.stamp_table.specs.Table.{TableState}
-use Rattle.slot_laws.specs.Labels.{BoxPast, after_label, ends_all}
+use Rattle.slot_laws.specs.Labels.{BoxPast, after_label}
 use Rattle.slot_laws.specs.Rules.{NotedRule}
 use Rattle.slot_laws.specs.declared.label.Label.TheVariants as label
 use Rattle.disk_box.specs.declared.key.BoxKey.{BoxKey}
 use Rattle.disk_box.specs.declared.desk.Desk.{Desk}
 use Rattle.disk_box.specs.Box.{SpaceFits}
-use Rattle.disk_box.specs.Desk.{DeskFits, FaultsFit, FrameFits, owed_by}
+use Rattle.disk_box.specs.Desk.{FaultsFit, FrameFits, owed_by}
 use Rattle.disk_box.specs.Pens.{PenHand, past_at, HoldsBox, TellsLabel, IsAtDesk}
 use Rattle.disk_box.proofs.After.{at_told, failed_told, frame_told, past_fits_at, space_told}
 use Rattle.disk_box.proofs.Noted.{noted_frame}

@@ -1,17 +1,11 @@
 -- What is kept beside the slots, through labels that leave it as it is.
-use Rattle.std.proofs.Common.{◌≡◌, ◌≢◌, ◌+◌, ◌<◌, ◌≤◌, ◌∙◌, ℕ, zero, suc, List, Option, Some, None, inl, inr, refl, sym, ap, subst, arith}
-use Rattle.sfs_dev.specs.Disk.{View}
-use Rattle.tree_laws.specs.declared.turns.Turn.{Turn}
+use Rattle.std.proofs.Common.{◌≡◌, ◌≢◌, ◌+◌, ◌<◌, ◌≤◌, ◌∙◌, ℕ, zero, suc, inl, inr, refl, sym, ap, subst, arith}
 use Rattle.merge_laws.proofs.Blocks.{same_or_not}
 use Rattle.slot_laws.specs.Slots.{with_at}
-use Rattle.slot_laws.specs.Labels.{BoxPast, OwnTold, after_label, own_label}
+use Rattle.slot_laws.specs.Labels.{BoxPast, after_label, own_label}
 use Rattle.slot_laws.specs.declared.label.Label.{Label}
 use Rattle.slot_laws.proofs.Basics.{at_same, at_other}
-use Rattle.slot_image_laws.specs.Run.{RunFits}
-use Rattle.commit_ledger.specs.Keeps.{LedgerKeeps}
-use Rattle.disk_box.specs.declared.key.BoxKey.{BoxKey}
-use Rattle.disk_box.specs.declared.desk.Desk.{Desk}
-use Rattle.disk_box.specs.Desk.{FrameFits, DeskFits, owed_by, owed_of}
+use Rattle.disk_box.specs.Desk.{owed_by, owed_of}
 
 -- one put where it is already
 pub at_itself : {X : Type 0} (all : ℕ → X) (place : ℕ) (one : X) (other : ℕ) → one ≡ all place → with_at all place one other ≡ all other

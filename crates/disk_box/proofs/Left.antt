@@ -1,32 +1,24 @@
 -- A core brings the box home, with a desk that fits.
-use Rattle.std.proofs.Common.{◌≡◌, ◌+◌, ◌<◌, ◌≤◌, ◌∷◌, ◌++◌, ◌∙◌, ℕ, List, [], length, reverse, Option, Some, None, inl, refl, sym, ap, subst, arith, IsSome, append_assoc, option_map}
-use mathlib.Core.List.{IsPrefix}
-use Rattle.sfs_image.specs.Super.{Layout}
+use Rattle.std.proofs.Common.{◌≡◌, ◌+◌, ◌<◌, ◌∷◌, ◌++◌, ◌∙◌, ℕ, List, [], length, reverse, Option, Some, None, refl, sym, ap, subst, arith, IsSome}
 use Rattle.sfs_dev.specs.Disk.{View}
 use Rattle.tree_laws.specs.Tree.{TreeState}
 use Rattle.stamp_table.specs.declared.event.Event.{Event}
 use Rattle.stamp_table.specs.declared.event.Event.TheVariants.{Told}
 use Rattle.stamp_table.specs.declared.held.HeldCell.{HeldCell}
 use Rattle.stamp_table.specs.declared.view.View.{View as Sight}
-use Rattle.stamp_table.specs.Events.{event_core, is_call}
-use Rattle.stamp_table.specs.Rule.{Has, entries_by}
 use Rattle.stamp_table.specs.Hand.{Desk as TableName, places_of}
-use Rattle.stamp_table.specs.Table.{TableState, HoldsMore, TellsFact, MayTell, LetsGo, Stands, EachFrom, cell_at, with_value, left_below}
+use Rattle.stamp_table.specs.Table.{TableState, TellsFact, MayTell, LetsGo, Stands, EachFrom, cell_at, with_value, left_below}
 use Rattle.slot_laws.specs.declared.label.Label.{Label}
 use Rattle.slot_laws.specs.declared.label.Label.TheVariants as label
-use Rattle.slot_laws.specs.Labels.{BoxPast, OwnTold, after_label, first_past, own_from, nothing_told, past_from}
-use Rattle.slot_laws.specs.Fits.{PastFits}
-use Rattle.slot_laws.proofs.Lawful.{lawful_fits, first_fits}
+use Rattle.slot_laws.specs.Labels.{BoxPast, after_label, first_past, own_from, nothing_told}
 use Rattle.slot_laws.proofs.NodesTold.{past_parts}
-use Rattle.slot_image_laws.specs.Run.{RunFits}
-use Rattle.slot_image_laws.proofs.Running.{told_labels_fit}
 use Rattle.disk_box.specs.declared.key.BoxKey.{BoxKey}
 use Rattle.disk_box.specs.declared.desk.Desk.{Desk}
-use Rattle.disk_box.specs.Box.{past_of, LawfulBox, StandsBox, SpaceFits, IsHome}
+use Rattle.disk_box.specs.Box.{past_of, SpaceFits, IsHome}
 use Rattle.slot_laws.proofs.GrantsTold.{goes_both}
-use Rattle.disk_box.specs.Desk.{DeskFits, FrameFits, open_for, owed_of}
+use Rattle.disk_box.specs.Desk.{DeskFits}
 use Rattle.disk_box.specs.Pens.{PenHand, past_at, own_at, IsOutside, HoldsBox, PenGoes}
-use Rattle.disk_box.proofs.Telling.{Lawful, Stood, Met, may_tell, may_tell_here, own_more, past_told, seen_is, goes_told}
+use Rattle.disk_box.proofs.Telling.{Lawful, Stood, may_tell_here, own_more, seen_is, goes_told}
 use Rattle.disk_box.proofs.Entered.{gave_fits, past_fits}
 
 -- A core that has the box tells that it brings it home, and lets go of it with a desk that fits.

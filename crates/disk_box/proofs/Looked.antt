@@ -5,7 +5,6 @@ use Rattle.sfs_dev.specs.Disk.{View}
 use Rattle.tree_laws.specs.declared.turns.Turn.{Turn}
 use Rattle.tree_laws.specs.declared.turns.TurnAct.TheVariants as act
 use Rattle.merge_laws.proofs.Blocks.{same_or_not}
-use Rattle.stamp_table.specs.Table.{TableState}
 use Rattle.slot_laws.specs.Slots.{with_at}
 use Rattle.slot_laws.specs.Labels.{BoxPast, OwnTold, SlotFlight, after_label, own_label}
 use Rattle.slot_laws.specs.Rules.{IsTurnBy, LookedRule}

@@ -1,10 +1,8 @@
 -- How many turns cores may take yet, as one of them takes its last ones.
-use Rattle.std.proofs.Common.{◌≡◌, ◌≢◌, ◌⊎◌, ◌+◌, ◌<◌, ◌≤◌, ◌∙◌, ℕ, zero, suc, true, Option, Some, None, inl, inr, refl, sym, ap, subst, arith}
+use Rattle.std.proofs.Common.{◌≡◌, ◌≢◌, ◌⊎◌, ◌+◌, ◌<◌, ◌≤◌, ◌∙◌, ℕ, zero, suc, true, Option, Some, None, inl, inr, refl, sym, ap, arith}
 use Rattle.merge_laws.proofs.Blocks.{same_or_not}
 use Rattle.tree_laws.specs.declared.turns.Turn.{Turn}
 use Rattle.stamp_table.specs.Table.{TableState}
-use Rattle.stamp_table.specs.Events.{event_core}
-use Rattle.stamp_table.specs.Rule.{entries_by}
 use Rattle.std.specs.Prelude.{◌||◌}
 use Rattle.tree_laws.specs.declared.turns.TurnAct.{TurnAct}
 use Rattle.tree_laws.specs.declared.turns.TurnAct.TheVariants as act
@@ -15,7 +13,7 @@ use Rattle.slot_laws.specs.Labels.{BoxPast, OwnTold, after_label, own_label, own
 use Rattle.slot_laws.proofs.Lawful.{own_is}
 use Rattle.disk_box.specs.declared.key.BoxKey.{BoxKey}
 use Rattle.disk_box.specs.declared.desk.Desk.{Desk}
-use Rattle.disk_box.specs.Desk.{FrameFits, RoomFits, owed_by, owed_of}
+use Rattle.disk_box.specs.Desk.{RoomFits, owed_by, owed_of}
 use Rattle.disk_box.specs.Pens.{PenHand, past_at, own_at, HoldsBox, TellsLabel}
 use Rattle.disk_box.proofs.Frames.{owed_taken, own_after, others_after}
 

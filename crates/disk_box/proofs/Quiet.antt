@@ -1,7 +1,7 @@
 -- Through labels that leave nodes, turns and numbers as they are, what is kept beside the slots goes on to fit.
 use Rattle.std.specs.Prelude.{Vec}
 use Rattle.std.specs.declared.alloc.Global.{Global}
-use Rattle.std.proofs.Common.{option_map, ◌≡◌, ◌+◌, ◌<◌, ◌≤◌, ◌∙◌, ℕ, List, length, Option, refl, sym, ap, subst, arith}
+use Rattle.std.proofs.Common.{option_map, ◌≡◌, ◌≤◌, ◌∙◌, ℕ, length, Option, sym, ap, subst, arith}
 use Rattle.sfs_base.specs.Lists.{Roomy}
 use Rattle.sfs_dev.specs.Disk.{View}
 use Rattle.tree_laws.specs.declared.turns.Turn.{Turn}
@@ -13,7 +13,7 @@ use Rattle.commit_ledger.specs.View.{LedgerView, open_in}
 use Rattle.slot_laws.specs.Lasts.{KeepsNodes}
 use Rattle.disk_box.specs.declared.key.BoxKey.{BoxKey}
 use Rattle.disk_box.specs.declared.desk.Desk.{Desk}
-use Rattle.disk_box.specs.Desk.{FrameFits, RoomFits, owed_by, owed_of, open_for, open_told, wait_in}
+use Rattle.disk_box.specs.Desk.{FrameFits, RoomFits, owed_of, open_for, open_told, wait_in}
 use Rattle.disk_box.proofs.Frames.{owed_less}
 
 -- Nodes, turns and numbers are as they were told before, and no core may take more turns.

@@ -1,7 +1,7 @@
 -- A slot is served behind a sync: where no label is told of it, and where it is idle again.
 use Rattle.std.specs.Prelude.{slice_get, Vec}
 use Rattle.std.specs.declared.alloc.Global.{Global}
-use Rattle.std.proofs.Common.{◌≡◌, ◌+◌, ◌∙◌, ℕ, List, [], length, Some, None, inl, inr, refl, sym, ap, subst, arith, slice_set, append-nil, false, true}
+use Rattle.std.proofs.Common.{◌≡◌, ◌+◌, ◌∙◌, ℕ, List, [], length, Some, None, inl, inr, refl, sym, ap, subst, arith, slice_set, append-nil, false}
 use Rattle.std.proofs.lemmas.List.{length-set}
 use Rattle.sfs_base.proofs.BasicOptions.{some_same}
 use Rattle.sfs_image.specs.Super.{Layout}

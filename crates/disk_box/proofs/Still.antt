@@ -1,5 +1,5 @@
 -- While a core has the box nobody else tells a label.
-use Rattle.std.proofs.Common.{◌≡◌, ◌∷◌, ◌∙◌, ℕ, true, cond, List, [], Option, Some, None, refl, sym, ap, nat_eq}
+use Rattle.std.proofs.Common.{◌≡◌, ◌∷◌, ◌∙◌, ℕ, cond, List, [], Option, Some, refl, sym, ap, nat_eq}
 use Rattle.sfs_base.proofs.BasicOptions.{none_some, some_same}
 use Rattle.sfs_base.proofs.BasicNumbers.{same_number}
 use Rattle.sfs_image.specs.Super.{Layout}

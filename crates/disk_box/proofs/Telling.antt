@@ -1,8 +1,7 @@
 -- What a core tells while it has the box stands right behind what it has seen.
-use Rattle.std.proofs.Common.{◌≡◌, ◌+◌, ◌<◌, ◌∷◌, ◌++◌, ◌∙◌, ℕ, List, [], length, filter_map, Option, Some, None, inl, refl, sym, ap, subst, arith, length-append, append-nil}
+use Rattle.std.proofs.Common.{◌≡◌, ◌<◌, ◌∷◌, ◌++◌, ◌∙◌, ℕ, List, [], length, Option, Some, None, inl, refl, sym, ap, subst, arith, length-append, append-nil}
 use Rattle.std.proofs.lemmas.List.{nil_from_length}
 use Rattle.std.proofs.lemmas.List.Elements.{filter-append, filter_map-append}
-use mathlib.Core.List.{IsPrefix}
 use Rattle.sfs_dev.specs.Disk.{View}
 use Rattle.tree_laws.specs.Tree.{TreeState}
 use Rattle.tree_laws.specs.History.{IsLegal}
@@ -16,7 +15,7 @@ use Rattle.stamp_table.specs.Table.{TableState, TellsFact, MayTell}
 use Rattle.stamp_table.proofs.Logs.{own_comes}
 use Rattle.slot_laws.specs.declared.label.Label.{Label}
 use Rattle.slot_laws.specs.Labels.{OwnTold, after_label, own_label, own_from, first_past, past_from, nothing_told}
-use Rattle.slot_laws.specs.Rules.{HasTurn, MayFrom, MayLabel}
+use Rattle.slot_laws.specs.Rules.{HasTurn, MayLabel}
 use Rattle.slot_laws.proofs.NodesTold.{may_parts, past_parts}
 use Rattle.slot_laws.proofs.Comes.{may_both}
 use Rattle.disk_box.specs.declared.key.BoxKey.{BoxKey}

@@ -1,5 +1,5 @@
 -- The blocks of a directory after a net, block by block.
-use Rattle.std.proofs.Common.{◌≡◌, ℕ, zero, suc, ◌+◌, ◌<◌, true, List, [], ◌∷◌, ◌++◌, length, get_or, take, drop, map, replicate, filter_map, reverse, Option, refl, sym, ap, ◌∙◌, arith}
+use Rattle.std.proofs.Common.{◌≡◌, ℕ, zero, suc, ◌+◌, ◌<◌, ◌≤◌, Bool, true, false, List, [], ◌∷◌, ◌++◌, length, get_or, take, drop, map, replicate, filter_map, reverse, Option, refl, sym, ap, ◌∙◌, arith}
 use Rattle.std.specs.Prelude.{option_to_list}
 use Rattle.std.specs.List.{range_with_len}
 use Rattle.std.proofs.lemmas.List.{take_more, reverse-append, length-append, length-replicate}
@@ -80,3 +80,45 @@ length-directory directories net blocks =
         → length (blocks_touched directories net blocks rows) ≡ length (old_blocks_after directories net blocks rows)
     one_each [] rows = refl
     one_each (block ∷ blocks) rows = ap suc (one_each blocks _)
+
+-- which blocks change: those that are there by themselves, and all behind them
+module _ (directories : List ℕ) (net : List NetRow) (blocks : List (List (Option Row))) where
+  flags_long : (blocks : List (List (Option Row))) (rows : List Row) → length (blocks_touched directories net blocks rows) ≡ length blocks
+  flags_long [] rows = refl
+  flags_long (block ∷ blocks) rows = ap suc (flags_long blocks _)
+
+  pub flags_count : length (directory_touched directories net blocks)
+      ≡ length blocks + blocks_for (rows_behind directories net blocks (rows_new directories net))
+  flags_count =
+      length-append (blocks_touched directories net blocks (rows_new directories net))
+      (replicate (blocks_for (rows_behind directories net blocks (rows_new directories net))) true)
+      ∙ (λ i. flags_long blocks (rows_new directories net) i
+      + length-replicate (blocks_for (rows_behind directories net blocks (rows_new directories net))) true i)
+
+  pub flags_there : (n : ℕ) → n < length blocks
+      → get_or (directory_touched directories net blocks) n false ≡ get_or (blocks_touched directories net blocks (rows_new directories net)) n false
+  flags_there n low =
+      before (blocks_touched directories net blocks (rows_new directories net)) _ n
+      (let long = flags_long blocks (rows_new directories net) in omega (arith, long, low))
+    where
+      before : (xs ys : List Bool) (n : ℕ) → n < length xs → get_or (xs ++ ys) n false ≡ get_or xs n false
+      before [] ys n low = absurd (omega (arith, low))
+      before (x ∷ xs) ys zero low = refl
+      before (x ∷ xs) ys (suc n) low = before xs ys n (omega (arith, low))
+
+  pub flags_behind : (n : ℕ) → length blocks ≤ n → n < length (directory_touched directories net blocks)
+      → get_or (directory_touched directories net blocks) n false ≡ true
+  flags_behind n past low =
+      behind (blocks_touched directories net blocks (rows_new directories net))
+      (blocks_for (rows_behind directories net blocks (rows_new directories net))) n
+      (let long = flags_long blocks (rows_new directories net) in omega (arith, long, past)) low
+    where
+      all_true : (count n : ℕ) → n < length (replicate count true) → get_or (replicate count true) n false ≡ true
+      all_true zero n low = absurd (omega (arith, low))
+      all_true (suc count) zero low = refl
+      all_true (suc count) (suc n) low = all_true count n (omega (arith, low))
+
+      behind : (xs : List Bool) (count n : ℕ) → length xs ≤ n → n < length (xs ++ replicate count true) → get_or (xs ++ replicate count true) n false ≡ true
+      behind [] count n past low = all_true count n low
+      behind (x ∷ xs) count zero past low = absurd (omega (arith, past))
+      behind (x ∷ xs) count (suc n) past low = behind xs count n (omega (arith, past)) (omega (arith, low))

@@ -11,6 +11,7 @@ pub mod Names
 pub mod Needs
 pub mod Numbering
 pub mod NumbersGiven
+pub mod Passing
 pub mod Patches
 pub mod Putting
 pub mod Rewriting

@@ -48,11 +48,11 @@ same_begun old first parts same = by parts.own
     by None = refl
     by (Some number) = ap (λ (o : Option OldEntry). option_map_or (λ entry. entry.old.kept.slots) o []) same
 
-last_at : {X : Type 0} (xs : List X) (x d : X) → get_or (xs ++ x ∷ []) (length xs) d ≡ x
+pub last_at : {X : Type 0} (xs : List X) (x d : X) → get_or (xs ++ x ∷ []) (length xs) d ≡ x
 last_at [] x d = refl
 last_at (y ∷ xs) x d = last_at xs x d
 
-front_at : {X : Type 0} (xs : List X) (x d : X) (k : ℕ) → k < length xs → get_or (xs ++ x ∷ []) k d ≡ get_or xs k d
+pub front_at : {X : Type 0} (xs : List X) (x d : X) (k : ℕ) → k < length xs → get_or (xs ++ x ∷ []) k d ≡ get_or xs k d
 front_at [] x d k lt = absurd (omega arith)
 front_at (y ∷ xs) x d zero lt = refl
 front_at (y ∷ xs) x d (suc k) lt = front_at xs x d k (omega arith)

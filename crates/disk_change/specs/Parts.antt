@@ -1,5 +1,5 @@
 -- What a commit changes of its nodes, beside what the disk has of them.
-use Rattle.std.specs.Prelude.{◌≡◌, ℕ, ◌+◌, ◌≤◌, ◌⊎◌, List, [], take, map, length, All, Option, Some, None}
+use Rattle.std.specs.Prelude.{◌≡◌, ℕ, ◌+◌, ◌≤◌, List, [], take, map, length, All, Option, Some, None}
 use Rattle.std.specs.Option.{option_map_or}
 use Rattle.sfs_image.specs.Inode.{Inode, Table}
 use Rattle.sfs_image.specs.Slot.{Row}
@@ -51,7 +51,7 @@ abbrev pub HavePatches : List OldEntry → List DirectoryNet → List SeatParts 
 HavePatches old nets seats =
     All (λ parts. IsPatchFor (net_of_node nets parts.node) parts.end (slots_begun old parts.number parts.node) parts.patch) seats
 
--- What a commit makes of a node, with a patch in place of its slots, the number that it had, and room for all blocks where further ones come.
+-- What a commit makes of a node, with a patch in place of its slots, the number that it had, and of how many blocks there is room where further ones come.
 pub record BuiltParts : Type 0 where
   pub node : ℕ
   pub own : Option ℕ
@@ -63,7 +63,7 @@ pub record BuiltParts : Type 0 where
   pub end : ℕ
   pub changed : List ChangedBlock
   pub fates : List TableFate
-  pub room : ℕ
+  pub room : Option ℕ
 
 -- the node with these slots, patched
 abbrev pub built_with : List (List (Option Row)) → BuiltParts → Built
@@ -82,10 +82,15 @@ built_with slots parts = record {
 abbrev pub built_in : List OldEntry → BuiltParts → Built
 built_in old parts = built_with (slots_begun old parts.own parts.node) parts
 
--- A patch can be put into these slots without memory: where further blocks come, there is room for all.
+-- Where further blocks come there is room for all.
+abbrev pub HasRoom : List (List (Option Row)) → SlotsPatch → Option ℕ → Type 0
+HasRoom slots patch None = patch.further ≡ []
+HasRoom slots patch (Some room) = length slots + length patch.further ≤ room
+
+-- A patch can be put into these slots without memory.
 pub record CanBePut (slots : List (List (Option Row))) (parts : BuiltParts) : Type 0 where
   pub fits : FitsBlocks slots parts.patch
-  pub room : (parts.patch.further ≡ []) ⊎ (length slots + length parts.patch.further ≤ parts.room)
+  pub room : HasRoom slots parts.patch parts.room
 
 -- So can the patches of all nodes.
 abbrev pub CanAllBePut : List OldEntry → List BuiltParts → Type 0

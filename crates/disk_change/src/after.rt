@@ -1,17 +1,16 @@
 // What the disk has of a commit's nodes, as it was, and once the commit is durable.
-ghost use Rattle.std.specs.Prelude.{◌≡◌, ◌≢◌, ◌⊎◌, ◌+◌, ◌++◌, ◌≤◌, ℕ, [], take, map, length, vec_capacity, IfOk, OnOk};
+ghost use Rattle.std.specs.Prelude.{◌≡◌, ◌≢◌, ℕ, take, map, IfOk, OnOk};
 ghost use Rattle.keyed_list.specs.Ascending.{AscendBy, item_with};
 ghost use Rattle.disk_change.specs.AllBuilt.{entry_after};
 ghost use Rattle.disk_change.specs.Lists.{ascending_by, put_over};
-ghost use Rattle.disk_change.specs.Parts.{CanBePut, built_in, parts_keyed, parts_node, slots_begun};
+ghost use Rattle.disk_change.specs.Parts.{CanBePut, HasRoom, built_in, parts_keyed, parts_node, slots_begun};
 ghost use Rattle.disk_change.specs.Patched.{FitsBlocks, patched, with_placed};
 ghost use Rattle.disk_nodes.specs.Nodes.{entry_node};
 
 use crate::node_built::NodeBuilt;
 use crate::patch::SlotPatch;
 use crate::placed::PlacedSlots;
-use disk_nodes::{OldDisk, OldEntry, OldNode, take_old};
-use fmt_slots::{SlotBlock, SlotList};
+use disk_nodes::{DirectorySlots, OldDisk, OldEntry, OldNode, SlotsRoom, take_old};
 use sfs_base::{NoMemory, NodeId};
 use std::alloc::Global;
 use std::collections::BTreeMap;
@@ -84,88 +83,65 @@ fn put_node(old: &mut OldDisk, built: NodeBuilt) -> OldEntry
         end,
         changed: _,
         fates: _,
+        alloc,
         room,
     } = built;
-    let alloc = *room.allocator();
-    let blocks = put_patch(taken_slots(alloc, old, own, node), patch, end, room);
+    let slots = put_patch(taken_slots(alloc, old, own, node), patch, end, room);
     OldEntry {
         node,
         old: OldNode {
             inode: number,
             meta,
             tables,
-            slots: SlotList::from_vec(blocks),
+            slots,
         },
     }
 }
 
 // The slots that a node begins with, taken out of the list where it has an inode.
-fn taken_slots(alloc: Global, old: &mut OldDisk, own: Option<u32>, node: NodeId) -> Vec<SlotBlock>
-    ensures slots { result.items ≡ slots_begun old.old.items own node.0 }
+fn taken_slots(alloc: Global, old: &mut OldDisk, own: Option<u32>, node: NodeId) -> DirectorySlots
+    ensures slots { result ≡ slots_begun old.old.items own node.0 }
     ensures others { (other : ℕ) → other ≢ node.0 → item_with entry_node other old.new.items ≡ item_with entry_node other old.old.items }
 {
     if own.is_none() {
-        return Vec::new(alloc);
+        return DirectorySlots::new(alloc);
     }
     match take_old(old, node) {
-        Some(one) => one.slots.into_vec(),
-        None => Vec::new(alloc),
+        Some(one) => one.slots,
+        None => DirectorySlots::new(alloc),
     }
 }
 
 // Slots with a patch, as many blocks of them as stay. Where further blocks come, all move into the room.
 fn put_patch(
-    slots: Vec<SlotBlock>,
+    slots: DirectorySlots,
     patch: SlotPatch,
     end: usize,
-    room: Vec<SlotBlock>,
-) -> Vec<SlotBlock>
-    requires fits { FitsBlocks slots.items patch }
-    requires empty { room.items ≡ [] }
-    requires room { (patch.further ≡ []) ⊎ (length slots.items + length patch.further ≤ vec_capacity room) }
-    ensures { result.items ≡ take end (patched patch slots.items) }
+    room: Option<SlotsRoom>,
+) -> DirectorySlots
+    requires fits { FitsBlocks slots patch }
+    requires room { HasRoom slots patch room }
+    ensures { result ≡ take end (patched patch slots) }
 {
-    let SlotPatch {
-        changed,
-        mut further,
-    } = patch;
+    let SlotPatch { changed, further } = patch;
     let mut blocks = put_placed(slots, changed);
-    if !further.is_empty() {
-        blocks = joined(room, blocks, further);
+    if let Some(room) = room {
+        blocks = blocks.join(room, further);
     }
     blocks.truncate(end);
     blocks
 }
 
 // Blocks with those that get other slots.
-fn put_placed(mut slots: Vec<SlotBlock>, changed: Vec<PlacedSlots>) -> Vec<SlotBlock>
-    ensures { result.items ≡ with_placed changed.items slots.items }
+fn put_placed(mut slots: DirectorySlots, changed: Vec<PlacedSlots>) -> DirectorySlots
+    ensures { result ≡ with_placed changed.items slots }
 {
     for one in changed {
         if one.place < slots.len() {
-            slots[one.place] = one.slots;
+            slots.put(one.place, one.slots);
         }
     }
     slots
-}
-
-// Blocks and further ones behind them, in a vector that has room for all.
-fn joined(
-    mut room: Vec<SlotBlock>,
-    mut blocks: Vec<SlotBlock>,
-    mut further: Vec<SlotBlock>,
-) -> Vec<SlotBlock>
-    requires empty { room.items ≡ [] }
-    requires room { length blocks.items + length further.items ≤ vec_capacity room }
-    ensures { result.items ≡ blocks.items ++ further.items }
-{
-    let Ok(()) = room.append(&mut blocks) else {
-        unreachable!()
-    };
-    let Ok(()) = room.append(&mut further) else {
-        unreachable!()
-    };
-    room
 }
 
 // Nodes ascending; of those with one number the last one stays.

@@ -1,5 +1,5 @@
 // What a commit makes of all its nodes, with the numbers and the blocks of a grant.
-ghost use Rattle.std.specs.Prelude.{◌≡◌, ◌++◌, ◌↔◌, ◌⊎◌, ℕ, IfOk, OnOk, None, map, take, drop, Contains};
+ghost use Rattle.std.specs.Prelude.{◌≡◌, ◌++◌, ◌↔◌, ◌⊎◌, ℕ, IfOk, OnOk, None, [], map, take, drop, Contains};
 ghost use Rattle.std.specs.Ordering.{nat_cmp};
 ghost use Rattle.std.specs.BTreeMap.{get};
 ghost use Rattle.std.specs.Option.{unwrap_or, option_map_or};
@@ -22,7 +22,7 @@ use crate::pages::PageList;
 use crate::plans::Plans;
 use crate::seat::{Seat, net_of};
 use block_map::blocks_needed;
-use disk_nodes::OldDisk;
+use disk_nodes::{DirectorySlots, OldDisk};
 use fmt_journal::TxBlock;
 use fmt_slots::SlotBlock;
 use sfs_base::{NoMemory, NodeId};
@@ -59,12 +59,19 @@ pub(crate) fn nodes_built(
     let mut written = Vec::new(alloc);
     let mut freed = Vec::new(alloc);
     let mut left = fresh;
+    let none = DirectorySlots::new(alloc);
     for seat in seats {
-        let slots = slots_of(old, seat.number, seat.node);
+        let slots = slots_of(old, &none, seat.number, seat.node);
         let count = blocks_needed(&seat.meta, &seat.tables, &seat.changed) as usize;
         let one = build_seat(alloc, seat, slots, plans, numbers, first_of(left, count))?;
         left = rest_of(left, count);
-        push_blocks(alloc, &mut written, &one.built, slots, &plans.files)?;
+        push_blocks(
+            alloc,
+            &mut written,
+            &one.built,
+            slots.as_slice(),
+            &plans.files,
+        )?;
         freed.extend_from_slice(one.freed.as_slice())?;
         nodes.push(one.built)?;
     }
@@ -77,15 +84,21 @@ pub(crate) fn nodes_built(
 
 // The slots that a node begins with: those that the disk has of it where it has an inode, and none where it
 // enters.
-fn slots_of(old: &OldDisk, own: Option<u32>, node: NodeId) -> &[SlotBlock]
+fn slots_of<'a>(
+    old: &'a OldDisk,
+    none: &'a DirectorySlots,
+    own: Option<u32>,
+    node: NodeId,
+) -> &'a DirectorySlots
+    requires { none.now ≡ [] }
     ensures { result.now ≡ slots_begun old.now.items own node.0 }
 {
     if own.is_none() {
-        return &[];
+        return none;
     }
     match old.find(node.0) {
         Some(entry) => slots_kept(entry),
-        None => &[],
+        None => none,
     }
 }
 
@@ -115,7 +128,7 @@ fn rest_of(numbers: &[u32], count: usize) -> &[u32]
 fn build_seat(
     alloc: Global,
     seat: &Seat,
-    slots: &[SlotBlock],
+    slots: &DirectorySlots,
     plans: &Plans,
     numbers: &BTreeMap<u32, Option<u32>>,
     fresh: &[u32],

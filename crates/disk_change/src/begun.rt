@@ -5,9 +5,8 @@ ghost use Rattle.disk_change.specs.Seated.{begun_old, begun_entering, free_inode
 
 use crate::enter::Enter;
 use crate::kinds::DIRECTORY;
-use disk_nodes::OldEntry;
+use disk_nodes::{DirectorySlots, OldEntry};
 use fmt_inode::{Inode, Tables};
-use fmt_slots::SlotBlock;
 use sfs_base::{Kind, NoMemory, NodeId};
 use std::alloc::Global;
 use std::marker::Model;
@@ -109,8 +108,8 @@ fn first_links(kind: Kind) -> u32
 }
 
 // The slots that the disk has of a node.
-pub(crate) fn slots_kept(entry: &OldEntry) -> &[SlotBlock]
+pub(crate) fn slots_kept(entry: &OldEntry) -> &DirectorySlots
     ensures { result.now ≡ entry.now.old.kept.slots }
 {
-    entry.old.slots.as_slice()
+    &entry.old.slots
 }

@@ -10,7 +10,7 @@ use crate::net_list::NetList;
 use crate::plans::Plans;
 use crate::seat::{Seat, seat_of};
 use block_map::blocks_needed;
-use disk_nodes::OldDisk;
+use disk_nodes::{DirectorySlots, OldDisk};
 use sfs_base::{NoMemory, NodeList};
 use space_map::Need;
 use std::alloc::Global;
@@ -125,8 +125,9 @@ fn parts_of(
     };
     let leaving = numbers_of(alloc, leave)?;
     let mut seats = staying_seats(alloc, old, &leaving, &plans)?;
+    let none = DirectorySlots::new(alloc);
     for one in enter.as_slice() {
-        seats.push(seat_of(alloc, entering_node(alloc, *one), &[], &plans)?)?;
+        seats.push(seat_of(alloc, entering_node(alloc, *one), &none, &plans)?)?;
     }
     Ok(ChangeParts {
         seats,

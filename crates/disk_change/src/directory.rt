@@ -1,104 +1,128 @@
 // The blocks of a directory after a net.
-ghost use Rattle.std.specs.Prelude.{◌≡◌, ◌<◌, ◌++◌, ℕ, List, [], None, All, is_some, length, map, replicate, reverse, slice_index_or, true, false, IfOk, OnOk};
+ghost use Rattle.std.specs.Prelude.{◌≡◌, ◌<◌, ◌≤◌, ◌⊎◌, ℕ, List, [], None, All, Contains, is_none, is_some, length, map, reverse, slice_index_or, false, IfOk, OnOk};
+ghost use Rattle.std.specs.Ordering.{nat_cmp};
+ghost use Rattle.std.specs.List.Sorted.{IsSorted};
 ghost use Rattle.std.specs.List.{list_any, range_with_len};
 ghost use Rattle.std.specs.Option.{unwrap_or};
 ghost use Rattle.keyed_list.specs.Ascending.{AscendBy, item_with};
 ghost use Rattle.disk_change.specs.Lists.{NamesAscend};
 ghost use Rattle.disk_change.specs.Directory.{rows_new, row_new, block_moved, fill_front, rows_left, block_is_touched};
 ghost use Rattle.disk_change.specs.Directory.{block_added, blocks_for, blocks_touched, is_in_net, old_blocks_after, rows_behind, slot_blocks_after, directory_touched};
-ghost use Rattle.disk_change.specs.Patched.{IsPatchFor, patched, slots_place, with_placed};
+ghost use Rattle.disk_change.specs.Patched.{AreNamed, IsPatchFor, TellsTouched, patched, slots_place, with_placed};
 
 use crate::block::{brought, fill, has_name, has_room, move_rows};
 use crate::kinds::Directories;
 use crate::patch::SlotPatch;
 use crate::placed::PlacedSlots;
 use absorb::NetRow;
+use disk_nodes::DirectorySlots;
 use fmt_slots::{SLOTS, SlotBlock, SlotRow};
 use sfs_base::NoMemory;
 use std::alloc::Global;
 
-// What a net changes of a directory's blocks, and which of them change.
-#[derive(Drop)]
-pub(crate) struct DirectoryAfter {
-    pub(crate) patch: SlotPatch,
-    pub(crate) touched: Vec<bool>,
-}
-
 // What a net changes of a directory's blocks: names that are gone empty their slots, a name with another
-// child keeps its slot, and new names take the lowest empty slots. A block is copied where one of its slots
-// changes, and only there.
+// child keeps its slot, and new names take the lowest empty slots. Only blocks are looked at that have a name of
+// the net or may take new rows. A block is copied where one of its slots changes, and only there.
 pub(crate) fn directory_after(
     alloc: Global,
-    slots: &[SlotBlock],
+    slots: &DirectorySlots,
     net: &[NetRow],
     directories: &Directories,
-) -> Result<DirectoryAfter, NoMemory>
+) -> Result<SlotPatch, NoMemory>
     requires { NamesAscend net.now }
-    ensures blocks { IfOk result (λ after. patched after.patch slots.now ≡ slot_blocks_after directories.now net.now slots.now) }
-    ensures touched { IfOk result (λ after. after.touched.items ≡ directory_touched directories.now net.now slots.now) }
-    ensures patch { IfOk result (λ after. (end : ℕ) → IsPatchFor net.now end slots.now after.patch) }
+    ensures blocks { IfOk result (λ patch. patched patch slots.now ≡ slot_blocks_after directories.now net.now slots.now) }
+    ensures touched { IfOk result (λ patch. TellsTouched slots.now patch (directory_touched directories.now net.now slots.now)) }
+    ensures patch { IfOk result (λ patch. (end : ℕ) → IsPatchFor net.now end slots.now patch) }
 {
     let mut waiting = new_rows(alloc, net, directories)?;
-    let OldChanged {
-        changed,
-        mut touched,
-    } = blocks_changed(alloc, slots, net, directories, &mut waiting)?;
+    let named = named_places(alloc, slots, net)?;
+    let changed = blocks_changed(alloc, slots, net, &named, directories, &mut waiting)?;
     let further = blocks_behind(alloc, &mut waiting)?;
     if further.len() > usize::MAX - slots.len() {
         return Err(NoMemory);
     }
-    push_touched(&mut touched, further.len())?;
-    Ok(DirectoryAfter {
-        patch: SlotPatch { changed, further },
-        touched,
-    })
+    Ok(SlotPatch { changed, further })
 }
 
-// The blocks of a directory that change among those that are there, and which these are.
-#[derive(Drop)]
-struct OldChanged {
-    changed: Vec<PlacedSlots>,
-    touched: Vec<bool>,
+// The places of the blocks that have a name of a net, ascending.
+fn named_places(
+    alloc: Global,
+    slots: &DirectorySlots,
+    net: &[NetRow],
+) -> Result<Vec<usize>, NoMemory>
+    ensures { IfOk result (λ named. AreNamed net.now slots.now named.items) }
+{
+    let mut named = Vec::new(alloc);
+    for row in net {
+        slots.push_places(&mut named, row.name.bytes())?;
+    }
+    named.sort_unstable();
+    Ok(named)
 }
 
 // What a net changes of the blocks that are there, which take as many of the rows that wait as they have room for.
 fn blocks_changed(
     alloc: Global,
-    slots: &[SlotBlock],
+    slots: &DirectorySlots,
     net: &[NetRow],
+    named: &[usize],
     directories: &Directories,
     waiting: &mut Vec<SlotRow>,
-) -> Result<OldChanged, NoMemory>
-    requires { NamesAscend net.now }
-    ensures blocks { IfOk result (λ w. with_placed w.changed.items slots.now
+) -> Result<Vec<PlacedSlots>, NoMemory>
+    requires ascending { NamesAscend net.now }
+    requires named { AreNamed net.now slots.now named.now }
+    ensures blocks { IfOk result (λ changed. with_placed changed.items slots.now
         ≡ old_blocks_after directories.now net.now slots.now (reverse waiting.old.items)) }
-    ensures touched { IfOk result (λ w. w.touched.items ≡ blocks_touched directories.now net.now slots.now (reverse waiting.old.items)) }
+    ensures touched { IfOk result (λ changed. (n : ℕ) → n < length slots.now
+        → slice_index_or (blocks_touched directories.now net.now slots.now (reverse waiting.old.items)) n false
+        ≡ is_some (item_with slots_place n changed.items)) }
     ensures left { OnOk result (reverse waiting.new.items ≡ rows_behind directories.now net.now slots.now (reverse waiting.old.items)) }
-    ensures within { IfOk result (λ w. All (λ one. one.place < length slots.now) w.changed.items) }
-    ensures ascending { IfOk result (λ w. AscendBy slots_place w.changed.items) }
-    ensures alone { IfOk result (λ w. (n : ℕ) → n < length slots.now → item_with slots_place n w.changed.items ≡ None
+    ensures within { IfOk result (λ changed. All (λ one. one.place < length slots.now) changed.items) }
+    ensures ascending { IfOk result (λ changed. AscendBy slots_place changed.items) }
+    ensures alone { IfOk result (λ changed. (n : ℕ) → n < length slots.now → item_with slots_place n changed.items ≡ None
         → list_any (is_in_net net.now) (slice_index_or slots.now n []) ≡ false) }
 {
+    let blocks = slots.as_slice();
     let mut changed = Vec::new(alloc);
-    let mut touched = Vec::new(alloc);
-    for place in 0..slots.len() {
-        let after = block_after(&slots[place], net, directories, waiting)?;
-        touched.push(after.is_some())?;
-        if let Some(slots) = after {
+    let mut place = next_place(slots, named, waiting, 0);
+    while place < blocks.len() {
+        if let Some(slots) = block_after(&blocks[place], net, directories, waiting)? {
             changed.push(PlacedSlots { place, slots })?;
         }
+        place = next_place(slots, named, waiting, place + 1);
     }
-    Ok(OldChanged { changed, touched })
+    Ok(changed)
 }
 
-// So many further blocks change.
-fn push_touched(touched: &mut Vec<bool>, count: usize) -> Result<(), NoMemory>
-    ensures { OnOk result (touched.new.items ≡ touched.old.items ++ replicate count true) }
+// The first block from a place on that has a name of a net, or an empty slot where rows wait; behind the last block
+// where none has.
+fn next_place(slots: &DirectorySlots, named: &[usize], waiting: &Vec<SlotRow>, from: usize) -> usize
+    requires from { from ≤ length slots.now }
+    requires sorted { IsSorted nat_cmp named.now }
+    ensures on { from ≤ result }
+    ensures within { result ≤ length slots.now }
+    ensures passed { (n : ℕ) → from ≤ n → n < result
+        → (Contains named.now n → ⊥) × ((waiting.now.items ≡ []) ⊎ (list_any is_none (slice_index_or slots.now n []) ≡ false)) }
 {
-    for n in 0..count {
-        touched.push(true)?;
+    let next = first_from(named, from).min(slots.len());
+    if waiting.is_empty() {
+        next
+    } else {
+        next.min(slots.room_from(from))
     }
-    Ok(())
+}
+
+// The first of ascending numbers that is this one or above it, or the greatest number there is.
+fn first_from(numbers: &[usize], from: usize) -> usize
+    requires { IsSorted nat_cmp numbers.now }
+    ensures on { from ≤ result }
+    ensures passed { (n : ℕ) → from ≤ n → n < result → Contains numbers.now n → ⊥ }
+{
+    let at = numbers.partition_point(|number| *number < from);
+    match numbers.get(at) {
+        Some(number) => *number,
+        None => usize::MAX,
+    }
 }
 
 // The blocks that come behind all others: they take the rows that wait.

@@ -1,5 +1,5 @@
 // What a commit makes of one node, with its number and its fresh blocks.
-ghost use Rattle.std.specs.Prelude.{◌≡◌, ◌+◌, ◌≤◌, ◌⊎◌, [], None, map, take, length, vec_capacity, IfOk};
+ghost use Rattle.std.specs.Prelude.{◌≡◌, None, map, take, IfOk};
 ghost use Rattle.std.specs.Ordering.{nat_cmp};
 ghost use Rattle.std.specs.BTreeMap.{get};
 ghost use Rattle.std.specs.Option.{unwrap_or};
@@ -7,7 +7,7 @@ ghost use Rattle.block_map.specs.Remap.{AreFreed};
 ghost use Rattle.disk_change.specs.Lists.{NamesAscend};
 ghost use Rattle.disk_change.specs.Numbered.{block_numbered};
 ghost use Rattle.disk_change.specs.Built.{built, rewrite_in};
-ghost use Rattle.disk_change.specs.Parts.{CanBePut, built_with, seat_with};
+ghost use Rattle.disk_change.specs.Parts.{CanBePut, HasRoom, built_with, seat_with};
 ghost use Rattle.disk_change.specs.Patched.{FitsBlocks, IsPatchFor, patched};
 
 use crate::numbers::renumber;
@@ -16,6 +16,7 @@ use crate::placed::PlacedSlots;
 use crate::seat::Seat;
 use absorb::NetRow;
 use block_map::{Changed, TABLES, TableFate, remap};
+use disk_nodes::{DirectorySlots, SlotsRoom};
 use fmt_inode::{Inode, Tables};
 use fmt_slots::SlotBlock;
 use sfs_base::{BlockList, NoMemory, NodeId};
@@ -37,11 +38,11 @@ pub(crate) struct NodeBuilt {
     pub(crate) end: usize,
     pub(crate) changed: Changed,
     pub(crate) fates: [TableFate; TABLES],
-    pub(crate) room: Vec<SlotBlock>,
+    pub(crate) alloc: Global,
+    pub(crate) room: Option<SlotsRoom>,
 }
 
 impl Model for NodeBuilt {
-    ghost use Rattle.std.specs.Prelude.{◌≡◌, [], vec_capacity};
     ghost use Rattle.disk_change.specs.Parts.{BuiltParts};
     ghost use Rattle.disk_change.specs.Seated.{IsInUse};
 
@@ -58,10 +59,10 @@ impl Model for NodeBuilt {
       end = b.end;
       changed = b.changed.items;
       fates = b.fates;
-      room = vec_capacity b.room;
+      room = b.room;
     } };
 
-    ghost invariant = { λ b. IsInUse b.meta × (b.room.items ≡ []) };
+    ghost invariant = { λ b. IsInUse b.meta };
 }
 
 // A node that is built, and the blocks that it gives up.
@@ -75,7 +76,7 @@ pub(crate) struct BuiltAndFreed {
 pub(crate) fn build_node(
     alloc: Global,
     seat: &Seat,
-    slots: &[SlotBlock],
+    slots: &DirectorySlots,
     number: u32,
     net: &[NetRow],
     numbers: &BTreeMap<u32, Option<u32>>,
@@ -89,7 +90,7 @@ pub(crate) fn build_node(
     ensures put { IfOk result (λ r. CanBePut slots.now r.built) }
     ensures freed { IfOk result (λ r. AreFreed (rewrite_in (seat_with slots.now seat.now)) r.freed.items) }
 {
-    let patch = patch_numbered(alloc, slots, &seat.patch, seat.end, net, numbers)?;
+    let patch = patch_numbered(alloc, slots.as_slice(), &seat.patch, seat.end, net, numbers)?;
     let room = room_for(alloc, slots, &patch)?;
     let after = remap(alloc, &seat.meta, &seat.tables, &seat.changed, fresh)?;
     let changed = changed_copy(alloc, &seat.changed)?;
@@ -106,6 +107,7 @@ pub(crate) fn build_node(
             end: seat.end,
             changed,
             fates,
+            alloc,
             room,
         },
         freed: after.freed,
@@ -124,18 +126,16 @@ fn changed_copy(alloc: Global, changed: &Changed) -> Result<Changed, NoMemory>
 // Room for all blocks of slots with a patch, where it has further ones.
 fn room_for(
     alloc: Global,
-    slots: &[SlotBlock],
+    slots: &DirectorySlots,
     patch: &SlotPatch,
-) -> Result<Vec<SlotBlock>, NoMemory>
+) -> Result<Option<SlotsRoom>, NoMemory>
     requires { FitsBlocks slots.now patch.now }
-    ensures items { IfOk result (λ room. room.items ≡ []) }
-    ensures room { IfOk result (λ room. (patch.now.further ≡ [])
-        ⊎ (length slots.now + length patch.now.further ≤ vec_capacity room)) }
+    ensures { IfOk result (HasRoom slots.now patch.now) }
 {
     if patch.further.is_empty() {
-        return Ok(Vec::new(alloc));
+        return Ok(None);
     }
-    Ok(Vec::with_capacity(alloc, slots.len() + patch.further.len())?)
+    Ok(Some(slots.room_for(alloc, patch.further.len())?))
 }
 
 // A patch with the numbers of children: no other block up to an end has a name of the net.

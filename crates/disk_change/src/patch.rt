@@ -85,11 +85,9 @@ pub(crate) fn end_of(slots: &[SlotBlock], patch: &SlotPatch) -> usize
     requires { FitsBlocks slots.now patch.now }
     ensures { result ≡ rows_end (patched patch.now slots.now) }
 {
-    let mut end = 0;
-    for n in 0..count_of(slots, patch) {
-        if !is_empty_at(slots, patch, n) {
-            end = n + 1;
-        }
+    let mut end = count_of(slots, patch);
+    while end > 0 && is_empty_at(slots, patch, end - 1) {
+        end -= 1;
     }
     end
 }

@@ -1,12 +1,12 @@
 // Which blocks of a node a commit rewrites.
-ghost use Rattle.std.specs.Prelude.{◌≡◌, ◌<◌, ◌==◌, ◌&&◌, Bool, false, List, [], length, nat_le, not, slice_index_or, IfOk};
+ghost use Rattle.std.specs.Prelude.{◌≡◌, ◌<◌, ◌≤◌, ◌==◌, ◌&&◌, ℕ, Bool, false, List, [], length, nat_le, not, slice_index_or, IfOk, IfSome};
 ghost use Rattle.sfs_image.specs.Seen.{FILE_BLOCKS};
 ghost use Rattle.block_map.specs.Kept.{pointer_kept};
-ghost use Rattle.disk_change.specs.Patched.{FitsBlocks, patched};
+ghost use Rattle.disk_change.specs.Patched.{FitsBlocks, IsPassed, TellsTouched, patched};
 ghost use Rattle.disk_change.specs.Seat.{has_no_row, blocks_to_last_row as rows_end, directory_changed as blocks_changed, file_changed as pages_changed, block_said, page_said as said_of_page};
 
 use crate::pages::{Page, PageList};
-use crate::patch::{SlotPatch, end_of, is_empty_at};
+use crate::patch::{SlotPatch, count_of, is_empty_at};
 use block_map::{Changed, ChangedBlock, block_at};
 use fmt_inode::{Inode, LARGEST, Tables};
 use fmt_slots::SlotBlock;
@@ -26,30 +26,51 @@ pub(crate) fn is_empty(block: &SlotBlock) -> bool
     true
 }
 
-// The blocks of a directory that are rewritten, with a patch: those that change, and those that are there
-// behind the last one with a row.
+// The blocks of a directory that are rewritten, with a patch after which so many stay: those that change, and
+// those that are there behind the last one with a row.
 pub(crate) fn directory_changed(
     alloc: Global,
     inode: &Inode,
     tables: &Tables,
     slots: &[SlotBlock],
     patch: &SlotPatch,
-    touched: &[bool],
+    end: usize,
 ) -> Result<Changed, NoMemory>
     requires fits { FitsBlocks slots.now patch.now }
-    requires touched { length touched.now ≡ length (patched patch.now slots.now) }
-    ensures { IfOk result (λ changed. changed.items
-        ≡ blocks_changed (pointer_kept inode.now tables.now.items) (patched patch.now slots.now) touched.now) }
+    requires end { end ≡ rows_end (patched patch.now slots.now) }
+    ensures { (touched : List Bool) → TellsTouched slots.now patch.now touched
+        → IfOk result (λ changed. changed.items ≡ blocks_changed (pointer_kept inode.now tables.now.items) (patched patch.now slots.now) touched) }
 {
     let mut changed = Changed::new(alloc);
-    let end = end_of(slots, patch);
-    for n in 0..touched.len().min(LARGEST as usize) {
-        if let Some(one) = said_of(inode, tables, slots, patch, touched[n], end, n) {
+    let most = count_of(slots, patch).min(LARGEST as usize);
+    let mut n = next_said(slots, patch, end, most, 0);
+    while n < most {
+        if let Some(one) = said_of(inode, tables, slots, patch, end, n) {
             changed.reserve(1)?;
             changed.push(one);
         }
+        n = next_said(slots, patch, end, most, n + 1);
     }
     Ok(changed)
+}
+
+// The first block from a place on that may be rewritten, below a limit: one that changes, or one behind an end.
+fn next_said(slots: &[SlotBlock], patch: &SlotPatch, end: usize, most: usize, from: usize) -> usize
+    requires { from ≤ most }
+    ensures on { from ≤ result }
+    ensures within { result ≤ most }
+    ensures passed { (n : ℕ) → from ≤ n → n < result → IsPassed slots.now patch.now end n }
+{
+    let behind = end.min(slots.len());
+    if from >= behind {
+        return from;
+    }
+    let at = patch.changed.partition_point(|one| one.place < from);
+    let next = match patch.changed.get(at) {
+        Some(one) => one.place,
+        None => behind,
+    };
+    next.min(behind).min(most)
 }
 
 // What is said of a block of a directory, where it is rewritten.
@@ -58,22 +79,37 @@ fn said_of(
     tables: &Tables,
     slots: &[SlotBlock],
     patch: &SlotPatch,
-    is_touched: bool,
     end: usize,
     n: usize,
 ) -> Option<ChangedBlock>
     requires end { end ≡ rows_end (patched patch.now slots.now) }
     requires within { n < FILE_BLOCKS }
-    ensures { (touched : List Bool) → is_touched ≡ slice_index_or touched n false
+    requires there { n < length (patched patch.now slots.now) }
+    ensures said { (touched : List Bool) → TellsTouched slots.now patch.now touched
         → result ≡ block_said (pointer_kept inode.now tables.now.items) (patched patch.now slots.now) touched n }
+    ensures own { IfSome result (λ one. one.block ≡ n) }
 {
-    if is_touched {
+    if is_touched(slots, patch, n) {
         return Some(rewritten(slots, patch, n));
     }
     if is_behind(inode, tables, end, n) {
         return Some(rewritten(slots, patch, n));
     }
     None
+}
+
+// Whether the block of a place changes with a patch.
+fn is_touched(slots: &[SlotBlock], patch: &SlotPatch, n: usize) -> bool
+    requires { n < length (patched patch.now slots.now) }
+    ensures { (touched : List Bool) → TellsTouched slots.now patch.now touched → result ≡ slice_index_or touched n false }
+{
+    if n >= slots.len() {
+        return true;
+    }
+    match patch.changed.binary_search_by_key(&n, |one| one.place) {
+        Ok(_) => true,
+        Err(_) => false,
+    }
 }
 
 // A block of a directory that is rewritten.

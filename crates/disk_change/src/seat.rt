@@ -10,7 +10,7 @@ ghost use Rattle.disk_change.specs.Seat.{file_changed as blocks_of_pages};
 ghost use Rattle.disk_change.specs.Seated.{changes_in, seated, directory_seated, file_seated, net_of_node, size_of_blocks};
 
 use crate::begun::BegunNode;
-use crate::directory::{DirectoryAfter, directory_after};
+use crate::directory::directory_after;
 use crate::files::FileChangeList;
 use crate::kinds::{DIRECTORY, FILE};
 use crate::net_list::NetList;
@@ -19,6 +19,7 @@ use crate::plans::Plans;
 use crate::rewritten::{directory_changed, file_changed};
 use absorb::NetRow;
 use block_map::Changed;
+use disk_nodes::DirectorySlots;
 use fmt_inode::{Inode, Tables};
 use fmt_slots::SlotBlock;
 use sfs_base::{Kind, NoMemory, NodeId};
@@ -63,7 +64,7 @@ impl Model for Seat {
 pub(crate) fn seat_of(
     alloc: Global,
     begun: BegunNode,
-    slots: &[SlotBlock],
+    slots: &DirectorySlots,
     plans: &Plans,
 ) -> Result<Seat, NoMemory>
     ensures seat { IfOk result (λ seat. seat_with slots.now seat
@@ -71,7 +72,7 @@ pub(crate) fn seat_of(
     ensures patch { IfOk result (λ seat. IsPatchFor (net_of_node plans.now.nets.items seat.node) seat.end slots.now seat.patch) }
 {
     match begun.kind {
-        Kind::File => file_seat(alloc, begun, slots, plans),
+        Kind::File => file_seat(alloc, begun, slots.as_slice(), plans),
         Kind::Directory => directory_seat(alloc, begun, slots, plans),
     }
 }
@@ -80,7 +81,7 @@ pub(crate) fn seat_of(
 fn directory_seat(
     alloc: Global,
     begun: BegunNode,
-    slots: &[SlotBlock],
+    slots: &DirectorySlots,
     plans: &Plans,
 ) -> Result<Seat, NoMemory>
     ensures seat { IfOk result (λ seat. seat_with slots.now seat
@@ -96,9 +97,10 @@ fn directory_seat(
         tables,
     } = begun;
     let net = net_of(&plans.nets, node);
-    let DirectoryAfter { patch, touched } = directory_after(alloc, slots, net, &plans.directories)?;
-    let changed = directory_changed(alloc, &base, &tables, slots, &patch, &touched)?;
-    let end = end_of(slots, &patch);
+    let patch = directory_after(alloc, slots, net, &plans.directories)?;
+    let blocks = slots.as_slice();
+    let end = end_of(blocks, &patch);
+    let changed = directory_changed(alloc, &base, &tables, blocks, &patch, end)?;
     let links = plans.links.links_after(node, base.links);
     let meta = with(&base, DIRECTORY, links, size_of(end));
     Ok(Seat {

@@ -1,2 +1,5 @@
+pub mod Indexed
+pub mod Names
 pub mod Nodes
 pub mod OldKept
+pub mod Rooms

@@ -4,8 +4,8 @@ ghost use Rattle.std.specs.Option.{option_map};
 ghost use Rattle.keyed_list.specs.Ascending.{item_with, without};
 ghost use Rattle.disk_nodes.specs.Nodes.{entry_node, entry_old};
 
+use crate::slots::DirectorySlots;
 use fmt_inode::{Inode, Tables};
-use fmt_slots::SlotList;
 use keyed_list::{Keyed, KeyedList, Numbered};
 use sfs_base::NodeId;
 use std::marker::Model;
@@ -17,7 +17,7 @@ pub struct OldNode {
     pub inode: u32,
     pub meta: Inode,
     pub tables: Tables,
-    pub slots: SlotList,
+    pub slots: DirectorySlots,
 }
 
 impl Model for OldNode {
@@ -27,7 +27,7 @@ impl Model for OldNode {
 
     ghost view = { λ n. record {
       number = n.inode;
-      kept = record { inode = n.meta; tables = n.tables.items; slots = n.slots.items };
+      kept = record { inode = n.meta; tables = n.tables.items; slots = n.slots };
     } };
 }
 

@@ -45,7 +45,7 @@ root_direct : (k : ℕ) → slice_index (11 ∷ replicate 107 0) k < 2 ^ 32
 root_direct zero = omega arith
 root_direct (suc k) = let e = zeros_read 107 k in omega arith
 
-root_inode : IsInode ROOT_INODE
+pub root_inode : IsInode ROOT_INODE
 root_inode = record {
   kind = omega arith;
   links = omega arith;
@@ -57,7 +57,7 @@ root_inode = record {
   free = λ none. absurd (let two : 2 ≡ 0 = none in omega arith);
 }
 
-one_inode : IsInode empty_directory
+pub one_inode : IsInode empty_directory
 one_inode = record {
   kind = omega arith;
   links = omega arith;
@@ -75,10 +75,10 @@ ROOT_PART = TWO_PARTS 0
 abbrev pub ONE_PART : Part
 ONE_PART = TWO_PARTS 1
 
-root_raw : ROOT_PART.raw ≡ inode_bytes ROOT_INODE
+pub root_raw : ROOT_PART.raw ≡ inode_bytes ROOT_INODE
 root_raw = raw_of ROOT_BLOCK (inode_bytes ROOT_INODE)
 
-one_raw : ONE_PART.raw ≡ inode_bytes empty_directory
+pub one_raw : ONE_PART.raw ≡ inode_bytes empty_directory
 one_raw = raw_of ROOT_BLOCK (inode_bytes empty_directory)
 
 pub root_is : inode_in ROOT_PART ≡ ROOT_INODE

@@ -6,3 +6,6 @@ pub mod Telling
 pub mod Reserving
 pub mod Mapped
 pub mod Along
+pub mod Labels
+pub mod Resting
+pub mod Bytes

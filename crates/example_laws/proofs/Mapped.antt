@@ -1,11 +1,6 @@
 -- The map of free space is right, and an fsync that changes nothing leaves it as it is.
-use Rattle.disk_change.specs.Records.{written_of_built, written_of_gone}
-use Rattle.disk_change.specs.AllBuilt.{nodes_with_grant}
-use Rattle.std.proofs.Common.{◌++◌}
 use Rattle.std.specs.List.{filter_map}
-use Rattle.space_map.specs.declared.status.Status.TheVariants.{Granted}
-use Rattle.space_map.specs.Pool.{Pool}
-use Rattle.std.proofs.Common.{◌≡◌, ◌∷◌, if◌then◌else◌, ◌-◌, ◌∙◌, ◌&&◌, ◌≤◌, ◌<◌, ◌↔◌, ◌≢◌, ◌||◌, ◌⊎◌, ℕ, [], inl, subst, sym, refl, inr, ap, slice_get, None, nat_lt, Some, arith, nat_le, false, true, replicate, zero, suc, Contains, Bool, count_by, sum_by, nat_eq, ne_eqb, cond, slice_index, map}
+use Rattle.std.proofs.Common.{◌++◌, ◌≡◌, ◌∷◌, if◌then◌else◌, ◌-◌, ◌∙◌, ◌&&◌, ◌≤◌, ◌<◌, ◌↔◌, ◌≢◌, ◌||◌, ◌⊎◌, ℕ, [], inl, subst, sym, refl, inr, ap, slice_get, None, nat_lt, Some, arith, nat_le, false, true, replicate, zero, suc, Contains, Bool, count_by, sum_by, nat_eq, ne_eqb, cond, slice_index, map}
 use Rattle.std.proofs.lemmas.Bool.{cases_eq}
 use Rattle.std.proofs.lemmas.Option.{slice_get_past}
 use Rattle.std.proofs.lemmas.Bool.Decides.{nat_tests}
@@ -18,16 +13,17 @@ use Rattle.sfs_image.specs.ImageOf.{empty_directory}
 use Rattle.sfs_image.specs.Seen.{FILE_BLOCKS}
 use Rattle.fmt_journal.specs.declared.tx.Tx.{Tx}
 use Rattle.fmt_journal.specs.Ascending.{AscendByInode}
-use Rattle.space_map.specs.Pool.{status_of, first_status, Grants, free_numbers}
-use Rattle.space_map.specs.declared.status.Status.TheVariants.{Taken, Free}
+use Rattle.space_map.specs.declared.status.Status.TheVariants.{Granted, Taken, Free}
+use Rattle.space_map.specs.Pool.{Pool, status_of, first_status, Grants, free_numbers}
 use Rattle.disk_nodes.specs.OldKept.{Kept}
 use Rattle.disk_nodes.specs.declared.old.OldEntry.{OldEntry}
 use Rattle.block_map.specs.Kept.{pointer_kept}
 use Rattle.block_map.specs.RemapLaws.{IsHeld}
+use Rattle.disk_change.specs.Written.{IsTransactionOf}
+use Rattle.disk_change.specs.Records.{written_of_built, written_of_gone, records_written, record_inode}
+use Rattle.disk_change.specs.AllBuilt.{nodes_with_grant, fresh_of_commit}
 use Rattle.disk_change.specs.GivenUp.{IsLeftByGone, IsLeftBySeat}
 use Rattle.disk_change.specs.Planned.{as_u32, enters, blocks_taken}
-use Rattle.disk_change.specs.Records.{records_written, record_inode}
-use Rattle.disk_change.specs.AllBuilt.{fresh_of_commit}
 use Rattle.commit_laws.specs.CommitOfPlan.{CommitPlan, change_planned}
 use Rattle.cut_laws.proofs.Basics.{below_or}
 use Rattle.space_laws.specs.Map.{IsMapOf}
@@ -183,7 +179,7 @@ nothing_granted = record {
 }
 
 -- an empty grant changes nothing
-grants_none : (pool : Pool) (count : ℕ) → count ≡ 0 → Grants pool (as_u32 count) [] pool
+pub grants_none : (pool : Pool) (count : ℕ) → count ≡ 0 → Grants pool (as_u32 count) [] pool
 grants_none pool count none =
     subst (λ n. Grants pool n [] pool) (sym (ap as_u32 none)) (record {
       counted = refl;
@@ -202,14 +198,14 @@ reserved_none plan needs = record {
   least = sym (take_none (free_numbers TWO_TAKEN.inodes) (as_u32 (amount_planned plan).inodes) (ap as_u32 needs.inodes));
 }
 
-written_ascend : (plan : CommitPlan) → AscendByInode (records_written (change_planned plan) NO_GRANT)
+pub written_ascend : (plan : CommitPlan) → AscendByInode (records_written (change_planned plan) NO_GRANT)
 written_ascend plan =
     IsStrictlyIncreasing-from_sorted (map record_inode (records_written (change_planned plan) NO_GRANT))
     (ascend_sorted record_inode (records_written (change_planned plan) NO_GRANT) (ascending_ascends record_inode
     (filter_map written_of_built (nodes_with_grant (change_planned plan) NO_GRANT) ++ filter_map written_of_gone (change_planned plan).gone)))
 
 -- the transaction of a commit of such a plan
-abbrev tx_of : CommitPlan → Tx
+abbrev pub tx_of : CommitPlan → Tx
 tx_of plan = record {
   records = roomless (records_written (change_planned plan) NO_GRANT);
   fresh = roomless (fresh_of_commit (change_planned plan) NO_GRANT);
@@ -242,3 +238,9 @@ ended_none flushing needs = record {
         → IsLeftBySeat (change_planned (commit_plan flushing)).seats block ⊎ IsLeftByGone (change_planned (commit_plan flushing)).gone block → ⊥
     none_left block (inl left) = not_both left.left.given_up (needs.still left.seat left.one left.place)
     none_left block (inr left) = let low = left.one.1 in omega (arith, low)
+
+-- the same of its transaction alone
+pub transaction_none : (flushing : Flushing) → NeedsNone (commit_plan flushing)
+    → IsTransactionOf (change_planned (commit_plan flushing)) NO_GRANT (tx_of (commit_plan flushing))
+unfolding ended_none
+transaction_none flushing needs = (ended_none flushing needs).used.gives_up

@@ -1,21 +1,23 @@
 -- A plan that changes nothing of a directory needs nothing.
-use Rattle.std.specs.List.{list_any}
-use Rattle.std.proofs.Common.{◌≡◌, ◌∷◌, ◌||◌, ◌∙◌, ◌+◌, ◌-◌, ◌==◌, ◌&&◌, if◌then◌else◌, ◌*◌, ℕ, Bool, false, zero, refl, suc, cond, ap, arith, List, [], slice_index, nat_lt, le-ltb, not, nat_le, true, nat_eq, map, Option, sum_by, count_by, length, subst, sym, take_all, Contains}
+use Rattle.std.specs.List.{cons_option, list_any}
+use Rattle.std.proofs.Common.{◌++◌, ◌≡◌, ◌∷◌, ◌||◌, ◌∙◌, ◌+◌, ◌-◌, ◌==◌, ◌&&◌, if◌then◌else◌, ◌*◌, take, None, Some, ℕ, Bool, false, zero, refl, suc, cond, ap, arith, List, [], slice_index, nat_lt, le-ltb, not, nat_le, true, nat_eq, map, Option, sum_by, count_by, length, subst, sym, take_all, Contains}
 use Rattle.std.proofs.lemmas.Bool.{cond-false}
 use Rattle.std.proofs.lemmas.List.{length-map}
 use Rattle.sfs_base.proofs.BasicLists.{zeros_read}
-use Rattle.sfs_image.specs.Inode.{Inode}
+use Rattle.sfs_image.specs.Inode.{inode_bytes, Inode}
+use Rattle.sfs_image.specs.Part.{tabulate, directory_blocks}
 use Rattle.sfs_image.specs.Seen.{FILE_BLOCKS, PLACES}
 use Rattle.sfs_image.specs.ImageOf.{empty_directory}
 use Rattle.sfs_image.specs.SlotBlock.{slots_of}
-use Rattle.sfs_image.specs.Part.{directory_blocks}
 use Rattle.sfs_image.specs.Slot.{Row}
 use Rattle.sfs_image.proofs.SlotBlockLaws.{slots_of-slots_bytes}
-use Rattle.image_laws.specs.Need.{rank, takes_place, Rewrite, rewrites_table, first_block, changes_pointer, table_blocks, takes_data, takes_table, table_has_pointer, takes_in_row, place_in_row}
+use Rattle.image_laws.specs.Need.{table_has_pointer, rank, takes_place, Rewrite, rewrites_table, first_block, changes_pointer, table_blocks, takes_data, takes_table, takes_in_row, place_in_row}
 use Rattle.image_laws.proofs.Ranks.{rank_more}
 use Rattle.disk_nodes.specs.OldKept.{Kept}
-use Rattle.block_map.specs.Remap.{rewrite_of, gives_up}
+use Rattle.block_map.specs.Remap.{pointer_remapped, inode_remapped, fresh_for, TABLES, rewrite_of, gives_up}
 use Rattle.block_map.specs.Kept.{pointer_kept, tables_kept, kept_of, kept_tables, kept_slots}
+use Rattle.disk_change.specs.Lists.{ascending_by}
+use Rattle.disk_change.specs.Records.{records_written, record_inode, same_inode}
 use Rattle.disk_change.specs.Planned.{enters, blocks_taken}
 use Rattle.disk_change.specs.Seated.{Seated, directory_seated, changes_in, begun_old}
 use Rattle.disk_change.specs.declared.enter.Enter.{Enter}
@@ -181,3 +183,51 @@ serves_none plan enter needs = record {
   where
     seats : List Seated
     seats = (change_planned plan).seats
+
+-- where no block is rewritten and no indirect block is there each pointer stays
+module _ (inode : Inode) (none : (k : ℕ) → slice_index inode.indirect k ≡ 0) (fresh : List ℕ) where
+  pointer_stays : (place : ℕ) → pointer_remapped (rewrite_of inode [] []) fresh place ≡ pointer_kept inode [] place
+  pointer_stays place = by (nat_lt place FILE_BLOCKS)
+    where
+      by : (b : Bool)
+          → (if b then (if (rewrite_of inode [] []).is_rewritten place
+          then (if (rewrite_of inode [] []).is_zero place then 0 else fresh_for (rewrite_of inode [] []) fresh place) else pointer_kept inode [] place)
+          else (if rewrites_table (rewrite_of inode [] []) (place - FILE_BLOCKS)
+          then (if table_has_pointer (rewrite_of inode [] []) (place - FILE_BLOCKS) then fresh_for (rewrite_of inode [] []) fresh place else 0)
+          else pointer_kept inode [] place))
+          ≡ pointer_kept inode [] place
+      by true = refl
+      by false =
+          cond-false (rewrites_table (rewrite_of inode [] []) (place - FILE_BLOCKS)) _ _ (still inode none (place - FILE_BLOCKS))
+
+-- so both records stay as they are
+root_same : (fresh : List ℕ) → same_inode ROOT_INODE (inode_remapped (rewrite_in root_seat) fresh root_seat.meta) ≡ true
+unfolding tabulate
+root_same fresh =
+    ap (λ (f : ℕ → ℕ). same_inode ROOT_INODE (record root_seat.meta { direct = tabulate 108 f; indirect = tabulate TABLES (λ k. f (FILE_BLOCKS + k)) }))
+    (λ i place. pointer_stays root_seat.meta (λ k. zeros_read 16 k) fresh place i)
+
+one_same : (fresh : List ℕ) → same_inode empty_directory (inode_remapped (rewrite_in one_seat) fresh one_seat.meta) ≡ true
+unfolding tabulate
+one_same fresh =
+    ap (λ (f : ℕ → ℕ). same_inode empty_directory (record one_seat.meta { direct = tabulate 108 f; indirect = tabulate TABLES (λ k. f (FILE_BLOCKS + k)) }))
+    (λ i place. pointer_stays one_seat.meta (λ k. zeros_read 16 k) fresh place i)
+
+-- no record is written
+root_unwritten : records_written (change_planned (plan_kept 0 KEPT_ROOT)) NO_GRANT ≡ []
+root_unwritten =
+    let after : Inode = inode_remapped (rewrite_in root_seat) (take (blocks_taken root_seat) NO_GRANT.blocks) root_seat.meta in
+    ap (λ (b : Bool). ascending_by record_inode (cons_option (if b then None else Some (record { inode = 0; bytes = inode_bytes after })) [] ++ []))
+    (root_same (take (blocks_taken root_seat) NO_GRANT.blocks))
+
+one_unwritten : records_written (change_planned (plan_kept 1 KEPT_ONE)) NO_GRANT ≡ []
+one_unwritten =
+    let after : Inode = inode_remapped (rewrite_in one_seat) (take (blocks_taken one_seat) NO_GRANT.blocks) one_seat.meta in
+    ap (λ (b : Bool). ascending_by record_inode (cons_option (if b then None else Some (record { inode = 1; bytes = inode_bytes after })) [] ++ []))
+    (one_same (take (blocks_taken one_seat) NO_GRANT.blocks))
+
+pub first_unwritten : records_written (change_planned (commit_plan FIRST_FLUSH)) NO_GRANT ≡ []
+first_unwritten = subst (λ kept. records_written (change_planned (plan_kept 1 kept)) NO_GRANT ≡ []) (sym kept_one) one_unwritten
+
+pub second_unwritten : records_written (change_planned (commit_plan SECOND_FLUSH)) NO_GRANT ≡ []
+second_unwritten = subst (λ kept. records_written (change_planned (plan_kept 0 kept)) NO_GRANT ≡ []) (sym kept_root) root_unwritten

@@ -2,3 +2,4 @@ pub mod Image
 pub mod Fsyncs
 pub mod Map
 pub mod Laws
+pub mod Told

@@ -155,7 +155,7 @@ entry_logs tree stamp entry sound may =
     (made_node tree core d n c kind (subst (λ (z : Effect × Option Kind). Fits tree core z.0 z.1) (λ i. (adds i, make i)) fits)))
 
 -- what one core's entries log names nodes of the tree after all
-own_names : (first : TreeState) (stamp core : ℕ) (calls : List Entry) → IsSoundTree first → IsLegalFrom first stamp calls
+pub own_names : (first : TreeState) (stamp core : ℕ) (calls : List Entry) → IsSoundTree first → IsLegalFrom first stamp calls
     → All (NamesNodes (tree_after first calls)) (own_logged first core calls)
 own_names first stamp core [] sound legal = All-nil (NamesNodes first)
 own_names first stamp core (entry ∷ calls) sound legal =

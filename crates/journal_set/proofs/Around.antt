@@ -1,5 +1,5 @@
 -- What comes of reserving while a core has the box comes of it once the core has brought it home.
-use Rattle.std.proofs.Common.{◌≡◌, ◌∷◌, ◌++◌, ◌∙◌, ℕ, List, [], Option, Some, None, Result, Ok, Err, refl, sym, ap, subst, append_assoc}
+use Rattle.std.proofs.Common.{◌≡◌, ◌∷◌, ◌++◌, ◌∙◌, List, Some, Result, Ok, Err, sym, ap, subst, append_assoc}
 use mathlib.Core.List.{IsPrefix}
 use Rattle.tree_laws.specs.Tree.{TreeState}
 use Rattle.space_map.specs.Space.{GrantedNumbers}
@@ -14,11 +14,10 @@ use Rattle.commit_ledger.specs.Keeps.{LedgerKeeps}
 use Rattle.disk_box.specs.declared.key.BoxKey.{BoxKey}
 use Rattle.disk_box.specs.Box.{past_of}
 use Rattle.disk_box.specs.Pens.{PenHand, PenGoes, own_at}
-use Rattle.disk_box.specs.Turns.{Halts}
 use Rattle.journal_set.specs.declared.fault.CommitFault.{CommitFault}
 use Rattle.journal_set.specs.declared.fault.CommitFault.TheVariants as fault
 use Rattle.journal_set.specs.Grants.{grant_at}
-use Rattle.journal_set.specs.Reserving.{Asked, ReservesGrant, FindsShort, FindsStopped, FindsMoved, Reserves}
+use Rattle.journal_set.specs.Reserving.{Asked, Reserves}
 use Rattle.journal_set.proofs.Parts.{reserved_later}
 
 -- a front of what was seen is one of what was seen later

@@ -1,6 +1,5 @@
 -- What a core has reserved is among the commits that are open, with its grant.
 use Rattle.std.proofs.Common.{◌≡◌, ◌≢◌, ◌∷◌, ◌++◌, ◌∙◌, ℕ, List, [], true, false, map, filter, cond, nat_eq, Option, Some, None, inl, inr, refl, sym, ap, subst}
-use Rattle.sfs_base.specs.Lists.{Roomy}
 use Rattle.sfs_base.proofs.BasicNumbers.{same_number, not_same}
 use Rattle.sfs_base.proofs.BasicOptions.{none_some, some_same}
 use Rattle.sfs_image.specs.Super.{Layout}
@@ -15,8 +14,7 @@ use Rattle.stamp_table.specs.Events.{event_core}
 use Rattle.stamp_table.specs.Rule.{entries_by}
 use Rattle.slot_laws.specs.declared.label.Label.{Label}
 use Rattle.slot_laws.specs.declared.label.Label.TheVariants as label
-use Rattle.slot_laws.specs.declared.label.Seen.{Seen}
-use Rattle.slot_laws.specs.Nodes.{ReservedCommit, commits_but, is_numbered_otherwise, giving_up, no_numbers, is_numbered}
+use Rattle.slot_laws.specs.Nodes.{ReservedCommit, commits_but, is_numbered_otherwise, giving_up, no_numbers}
 use Rattle.slot_laws.specs.Labels.{BoxPast, after_label, first_past, past_from}
 use Rattle.slot_laws.specs.Rules.{MayFrom, MayLabel, HasWork}
 use Rattle.slot_laws.specs.Fits.{PastFits}
@@ -24,7 +22,10 @@ use Rattle.slot_laws.proofs.Labels.{label_fits}
 use Rattle.slot_laws.proofs.Lawful.{first_fits}
 use Rattle.commit_ledger.specs.Keeps.{WasGranted}
 use Rattle.disk_box.proofs.Frames.{own_after, others_after}
-use Rattle.journal_set.specs.Grants.{grant_after, grant_from}
+use Rattle.stamp_table.specs.Table.{TableState}
+use Rattle.disk_box.specs.declared.key.BoxKey.{BoxKey}
+use Rattle.disk_box.specs.Pens.{PenHand, HoldsBox, past_at}
+use Rattle.journal_set.specs.Grants.{grant_after, grant_at, grant_from}
 
 -- one of a list whose number is another is among those with another number
 kept_but : (opens : List ReservedCommit) (number other : ℕ) (grant : GrantedNumbers) → number ≢ other → WasGranted opens number grant
@@ -39,7 +40,7 @@ kept_but opens number other grant not was = record {
 
 in_map : {X : Type 0} (f : X → X) (xs : List X) (x : X) → IsOneOf xs x → IsOneOf (map f xs) (f x)
 in_map f [] x one = absurd one
-in_map f (y ∷ xs) x one = elim one [ | inl here ↦ inl (ap f here) | inr rest ↦ inr (in_map f xs x rest) ]
+in_map f (y ∷ xs) x one = elim one [ inl here ↦ inl (ap f here) | inr rest ↦ inr (in_map f xs x rest) ]
 
 -- one that gives up something has its number and grant
 giving_same : (other : ℕ) (numbers : GrantedNumbers) (commit : ReservedCommit)
@@ -177,20 +178,20 @@ granted_from layout before core (Told other fact ∷ log) past had fits has may 
     let next = label_fits layout before other.0 past fits fact may.0.1 in
     elim (same_or_not core other.0) [
       | inl same ↦
-        let own : HasIt core (after_label layout other.0 fact past) (grant_after fact had) =
+          let own : HasIt core (after_label layout other.0 fact past) (grant_after fact had) =
           subst (λ c. HasIt core (after_label layout c fact past) (grant_after fact had)) same
           (own_says layout before core past fits had has fact (subst (λ c. MayLabel layout before c fact past) (sym same) may.0.1))
-        in
-        subst (λ l. HasIt core (past_from layout log (after_label layout other.0 fact past)) (grant_from l had))
-        (sym (ap (λ b. cond b (Told other fact ∷ entries_by event_core core log) (entries_by event_core core log))
-        (ap (λ n. nat_eq n core) (sym same) ∙ same_number core)))
-        (granted_from layout before core log (after_label layout other.0 fact past) (grant_after fact had) next own may.1)
+          in
+          subst (λ l. HasIt core (past_from layout log (after_label layout other.0 fact past)) (grant_from l had))
+          (sym (ap (λ b. cond b (Told other fact ∷ entries_by event_core core log) (entries_by event_core core log))
+          (ap (λ n. nat_eq n core) (sym same) ∙ same_number core)))
+          (granted_from layout before core log (after_label layout other.0 fact past) (grant_after fact had) next own may.1)
       | inr not ↦
-        subst (λ l. HasIt core (past_from layout log (after_label layout other.0 fact past)) (grant_from l had))
-        (sym (ap (λ b. cond b (Told other fact ∷ entries_by event_core core log) (entries_by event_core core log))
-        (not_same other.0 core (λ e. not (sym e)))))
-        (granted_from layout before core log (after_label layout other.0 fact past) had next
-        (λ grant is. others_leave layout before core grant other.0 not past fits (has grant is) fact may.0.1) may.1)
+          subst (λ l. HasIt core (past_from layout log (after_label layout other.0 fact past)) (grant_from l had))
+          (sym (ap (λ b. cond b (Told other fact ∷ entries_by event_core core log) (entries_by event_core core log))
+          (not_same other.0 core (λ e. not (sym e)))))
+          (granted_from layout before core log (after_label layout other.0 fact past) had next
+          (λ grant is. others_leave layout before core grant other.0 not past fits (has grant is) fact may.0.1) may.1)
     ]
 
 -- What a pen has been granted, by its own labels, is granted to the open commit with the number that it has reserved.
@@ -199,3 +200,10 @@ pub granted_is : (layout : Layout) (before core moment : ℕ) (log : List (Event
     → HasReserved core (past_from layout log (first_past moment)) grant
 granted_is layout before core moment log grant may is =
     granted_from layout before core log (first_past moment) None (first_fits layout before moment) (λ g e. absurd (none_some e)) may grant is
+
+-- So it is of a pen that has the box.
+pub has_reserved : {D : Type 0} (t : TableState BoxKey) (pen : PenHand D) (grant : GrantedNumbers) → HoldsBox t pen → grant_at pen ≡ Some grant
+    → HasReserved pen.view.core (past_at pen) grant
+has_reserved t pen grant holds is =
+    granted_is pen.table.given.layout pen.table.given.faults pen.view.core pen.table.given.start pen.view.seen grant holds.lawful
+    (ap (λ l. grant_from l None) (sym holds.mine) ∙ is)

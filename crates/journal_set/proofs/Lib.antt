@@ -1,5 +1,10 @@
 pub mod Around
+pub mod Begun
+pub mod Emptied
 pub mod Grants
+pub mod Nothing
+pub mod Opens
 pub mod Parts
 pub mod Reserved
+pub mod Returned
 pub mod Working

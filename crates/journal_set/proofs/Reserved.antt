@@ -3,7 +3,7 @@ use Rattle.std.proofs.Common.{◌≡◌, ◌≢◌, ◌+◌, ◌*◌, ◌<◌, �
 use Rattle.std.proofs.lemmas.List.{get_or-set_other, length-set}
 use Rattle.std.proofs.lemmas.Grind.{get_or-set_at}
 use Rattle.sfs_base.specs.Lists.{Roomy}
-use Rattle.sfs_base.proofs.BasicOptions.{none_some, some_not_none}
+use Rattle.sfs_base.proofs.BasicOptions.{some_not_none}
 use Rattle.sfs_dev.specs.Disk.{View}
 use Rattle.space_map.specs.Space.{GrantedNumbers}
 use Rattle.tree_laws.specs.declared.turns.Turn.{Turn}
@@ -16,11 +16,11 @@ use Rattle.slot_laws.specs.Rules.{ReservedRule}
 use Rattle.slot_laws.specs.Fits.{PastFits}
 use Rattle.slot_image_laws.proofs.Running.{told_labels_fit}
 use Rattle.commit_ledger.specs.View.{LedgerView, OpenView, open_in, HasPlaces}
-use Rattle.commit_ledger.specs.Keeps.{LedgerKeeps, LedgerGoes}
-use Rattle.commit_ledger.specs.Calls.{Enters, HasTaken, MayEnter}
+use Rattle.commit_ledger.specs.Keeps.{LedgerGoes}
+use Rattle.commit_ledger.specs.Calls.{Enters, MayEnter}
 use Rattle.disk_box.specs.declared.key.BoxKey.{BoxKey}
 use Rattle.disk_box.specs.declared.desk.Desk.{Desk}
-use Rattle.disk_box.specs.Desk.{DeskFits, FaultsFit, FrameFits, open_for, open_told, owed_by, owed_by_flight, owed_in, owed_of}
+use Rattle.disk_box.specs.Desk.{DeskFits, FrameFits, open_for, open_told, owed_by, owed_in, owed_of}
 use Rattle.disk_box.proofs.Frames.{own_after, others_after}
 
 -- no core may take more turns than a commit has
@@ -94,16 +94,16 @@ module _ {D : Type 0} (view : D → View) (key : BoxKey) (core : ℕ) (past : Bo
 
       open_entered : (other : ℕ) → option_map open_told (open_in next_ledger other) ≡ open_for (later.owns other) (past.waits other)
       open_entered other = elim (same_or_not other core) [
-          | inl is ↦
+        | inl is ↦
             ap (λ (l : List (Option OpenView)). option_map open_told (slice_index_or l other None)) opens_are
             ∙ (ap (option_map open_told) (get_or-set_at was.ledger.opens core other (Some entered) None is (subst (λ n. core < n) (sym frame.places) low))
             ∙ (sym (λ i. open_for (own_now i) (waits_none i)) ∙ ap (λ c. open_for (later.owns c) (past.waits c)) (sym is)))
-          | inr not ↦
+        | inr not ↦
             ap (λ (l : List (Option OpenView)). option_map open_told (slice_index_or l other None)) opens_are
             ∙ (ap (option_map open_told) (get_or-set_other was.ledger.opens core other (Some entered) None not)
             ∙ (frame.opens other ∙ ap (λ (o : OwnTold). open_for o (past.waits other))
             (sym (others_after key.layout core (label.Reserved number nodes grant) past other not))))
-        ]
+      ]
 
       pub entered_frame : FrameFits view key later (record was { ledger = next_ledger })
       entered_frame = record {

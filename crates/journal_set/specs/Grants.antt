@@ -1,5 +1,5 @@
 -- The grant that a pen has, by its own labels.
-use Rattle.std.specs.Prelude.{◌≡◌, ◌∷◌, List, [], Option, Some, None}
+use Rattle.std.specs.Prelude.{◌∷◌, List, [], Option, Some, None}
 use Rattle.space_map.specs.Space.{GrantedNumbers}
 use Rattle.stamp_table.specs.declared.event.Event.{Event}
 use Rattle.stamp_table.specs.declared.event.Event.TheVariants.{Called, Told}

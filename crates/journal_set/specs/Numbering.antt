@@ -1,6 +1,5 @@
 -- What reserving a number comes to.
-use Rattle.std.specs.Prelude.{◌≡◌, ◌++◌, ◌∷◌, ℕ, List, Option, Some, None, length}
-use Rattle.sfs_base.specs.declared.numbers.CoreId.{CoreId}
+use Rattle.std.specs.Prelude.{◌≡◌, ◌++◌, ◌∷◌, ℕ, List, Some, None, length}
 use Rattle.sfs_dev.specs.Disk.{View}
 use Rattle.space_map.specs.Space.{Space, GrantedNumbers, shortage}
 use Rattle.space_map.specs.declared.grant.Need.{Need}
@@ -10,7 +9,7 @@ use Rattle.stamp_table.specs.Table.{TableState}
 use Rattle.slot_laws.specs.declared.label.Label.{Label}
 use Rattle.slot_laws.specs.declared.label.Label.TheVariants as label
 use Rattle.slot_laws.specs.declared.label.Seen.{Seen}
-use Rattle.slot_laws.specs.Labels.{OwnTold, first_past}
+use Rattle.slot_laws.specs.Labels.{first_past}
 use Rattle.slot_laws.specs.Grants.{SpaceGoes}
 use Rattle.disk_box.specs.declared.key.BoxKey.{BoxKey}
 use Rattle.disk_box.specs.declared.desk.Desk.{Desk}

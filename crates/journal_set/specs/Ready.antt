@@ -1,5 +1,5 @@
 -- When a pen may begin anew.
-use Rattle.std.specs.Prelude.{◌≡◌, ◌⊎◌, ◌<◌, ℕ, true, None}
+use Rattle.std.specs.Prelude.{◌≡◌, ◌⊎◌, ◌<◌, true, None}
 use Rattle.stamp_table.specs.Table.{TableState}
 use Rattle.slot_laws.specs.Labels.{OwnTold}
 use Rattle.disk_box.specs.declared.key.BoxKey.{BoxKey}

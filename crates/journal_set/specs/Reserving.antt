@@ -1,5 +1,5 @@
 -- What comes of reserving, by cases of the answer.
-use Rattle.std.specs.Prelude.{◌≡◌, ◌+◌, ◌++◌, ◌∷◌, ℕ, List, [], Option, Some, None, Result, Ok, Err}
+use Rattle.std.specs.Prelude.{◌≡◌, ◌++◌, ◌∷◌, ℕ, List, Some, Result, Ok, Err}
 use mathlib.Core.List.{IsPrefix}
 use Rattle.sfs_base.specs.declared.numbers.NodeId.{NodeId}
 use Rattle.sfs_base.specs.declared.numbers.SpaceKind.{SpaceKind}
@@ -14,12 +14,11 @@ use Rattle.stamp_table.specs.declared.event.Event.TheVariants.{Told}
 use Rattle.slot_laws.specs.declared.label.Label.{Label}
 use Rattle.slot_laws.specs.declared.label.Label.TheVariants as label
 use Rattle.slot_laws.specs.declared.label.Seen.{Seen}
-use Rattle.slot_laws.specs.Labels.{OwnTold, own_label, first_past}
+use Rattle.slot_laws.specs.Labels.{own_label, first_past}
 use Rattle.slot_laws.specs.Rules.{IsTurnBy}
 use Rattle.slot_laws.specs.Grants.{SpaceGoes}
 use Rattle.commit_ledger.specs.View.{LedgerView, moved_in}
 use Rattle.commit_ledger.specs.Keeps.{LedgerKeeps}
-use Rattle.disk_box.specs.declared.key.BoxKey.{BoxKey}
 use Rattle.disk_box.specs.Box.{past_of}
 use Rattle.disk_box.specs.Pens.{PenHand, own_at}
 use Rattle.disk_box.specs.Turns.{Halts}

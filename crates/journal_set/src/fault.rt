@@ -16,7 +16,9 @@ pub struct Ack {
 #[derive(Clone, Copy, Debug, PartialEq, Eq, Drop)]
 pub enum CommitFault {
     /// A device call of this commit failed, and the disk counted so many faults then.
-    DiskFailed { faults: u64 },
+    DiskFailed {
+        faults: u64,
+    },
     /// So much was needed, and so much is free.
     NoSpace {
         kind: SpaceKind,
@@ -24,9 +26,14 @@ pub enum CommitFault {
         free: u32,
     },
     /// An earlier commit had failed, with this count of faults.
-    Stopped { faults: u64 },
+    Stopped {
+        faults: u64,
+    },
     /// A node's last commit is this one, and not the one that was seen, or it has not ended.
-    Moved { node: NodeId, last: u64 },
+    Moved {
+        node: NodeId,
+        last: u64,
+    },
     NoMemory,
 }
 

@@ -2,8 +2,7 @@
 ghost use Rattle.std.specs.Prelude.{◌≡◌, ◌*◌, ◌≤◌, ℕ, IfOk, IfErr, IfNone, OnOk, OnErr, MatchOption, None, length};
 ghost use Rattle.space_map.specs.Space.{shortage};
 ghost use Rattle.space_map.specs.declared.fault.SpaceFault.TheVariants.{NoMemory as WantsMemory};
-ghost use Rattle.slot_laws.specs.Nodes.{last_seen, last_ended};
-ghost use Rattle.disk_box.specs.Pens.{IsAtWork, own_at, past_at};
+ghost use Rattle.journal_set.specs.Refusing.{MayReserve, MOST_TURNS};
 ghost use Rattle.sfs_base.specs.Lists.{Roomy};
 ghost use Rattle.space_map.specs.Space.{GrantedNumbers};
 ghost use Rattle.slot_laws.specs.declared.label.Seen.{Seen};
@@ -19,6 +18,7 @@ use space_map::{Grant, Need, SpaceFault};
 use std::alloc::Global;
 
 /// A number for a core's next commit, and what it was granted.
+#[derive(Drop)]
 pub(crate) struct Numbered {
     pub(crate) number: u64,
     pub(crate) grant: Grant,
@@ -30,7 +30,7 @@ const TURNS: u32 = 4;
 /// Makes room for all turns of a commit of this core, beside those that others may take yet.
 pub(crate) fn make_room<D>(desk: &mut Desk<D>) -> Result<(), NoMemory>
     requires { length desk.old.waits.items ≤ 16 }
-    ensures ok { OnOk result (4 * length desk.old.waits.items ≤ desk.new.turns.spare) }
+    ensures ok { OnOk result (MOST_TURNS * length desk.old.waits.items ≤ desk.new.turns.spare) }
     ensures same { desk.new ≡ record desk.old { turns = desk.new.turns } }
     ensures turns { (desk.new.turns.items ≡ desk.old.turns.items) × (desk.old.turns.spare ≤ desk.new.turns.spare) }
 {
@@ -47,10 +47,7 @@ pub(crate) fn number_commit<D: Disk + Drop>(
     seen: &[Seen],
     need: Need,
 ) -> Result<Numbered, SpaceFault>
-    requires work { IsAtWork D.view table.now pen.old desk.old }
-    requires rests { ((own_at pen.old).reserved ≡ None) × ((own_at pen.old).flight ≡ None) }
-    requires room { 4 * pen.old.table.given.layout.cores ≤ desk.old.turns.spare }
-    requires unmoved { (node last : ℕ) → last_seen seen.now node ≡ Some last → (past_at pen.old).lasts node ≡ last_ended last }
+    requires may { MayReserve D.view table.now seen.now pen.old desk.old }
     ensures ok { IfOk result (λ made. Numbers D.view table.now seen.now need made pen.old pen.new desk.old desk.new) }
     ensures cause { IfErr result (λ fault. MatchOption (shortage desk.old.ledger.space need) (fault ≡ WantsMemory) (λ due. fault ≡ due)) }
     ensures err { OnErr result ((pen.new ≡ pen.old) × (desk.new ≡ desk.old)) }

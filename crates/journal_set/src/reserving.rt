@@ -1,14 +1,15 @@
 // A core reserves what a commit needs.
-ghost use Rattle.std.specs.Prelude.{◌≡◌, ◌*◌, ◌<◌, ◌≤◌, ℕ, IfOk, IfErr, None, length};
+ghost use Rattle.std.specs.Prelude.{◌≡◌};
 ghost use Rattle.slot_laws.specs.Labels.{fsync_told};
-ghost use Rattle.slot_laws.specs.Nodes.{last_seen, last_ended};
-ghost use Rattle.disk_box.specs.Pens.{IsAtDesk, IsAtWork, IsOutside, PenGoes, own_at, past_at};
+ghost use Rattle.disk_box.specs.Pens.{IsAtDesk, IsOutside, PenGoes, own_at};
 ghost use Rattle.journal_set.specs.Ready.{HasNothingDue, IsReady};
+ghost use Rattle.journal_set.specs.Refusing.{MayReserve};
 ghost use Rattle.journal_set.specs.Reserving.{Reserves};
 
-use crate::numbering::{Numbered, make_room, number_commit};
+use crate::numbering::{Numbered, number_commit};
+use crate::refusing::look_first;
 use crate::{CommitFault, JournalSet};
-use disk_box::{BoxTable, Desk, Fsync, Pen, enter, halt, leave, note_turn};
+use disk_box::{BoxTable, Desk, Fsync, Pen, enter, leave, note_turn};
 use sfs_base::{NodeId, Stamp};
 use sfs_dev::Disk;
 use slot_laws::Seen;
@@ -62,18 +63,10 @@ fn reserve_at<D: Disk + Drop>(
     ensures room { pen.new.room ≡ pen.old.room }
     ensures comes { Reserves (record { flush = fsync_told fsync.node fsync.stamp; seen = seen.now; need = need }) pen.old pen.new result }
 {
-    make_room(desk)?;
-    if desk.failed.is_some() {
-        let faults = halt(table, pen, desk, 0, fsync);
-        return Err(CommitFault::Stopped { faults });
+    match look_first(table, pen, desk, fsync, seen) {
+        Ok(()) => grant_or_refuse(alloc, table, pen, desk, fsync, seen, need),
+        Err(fault) => Err(fault),
     }
-    if let Some(moved) = desk.ledger.moved(seen) {
-        return Err(CommitFault::Moved {
-            node: moved.node,
-            last: moved.last,
-        });
-    }
-    grant_or_refuse(alloc, table, pen, desk, fsync, seen, need)
 }
 
 // The same, where no commit has failed and none of the nodes has moved.
@@ -86,10 +79,7 @@ fn grant_or_refuse<D: Disk + Drop>(
     seen: &[Seen],
     need: Need,
 ) -> Result<Grant, CommitFault>
-    requires work { IsAtWork D.view table.now pen.old desk.old }
-    requires rests { ((own_at pen.old).reserved ≡ None) × ((own_at pen.old).flight ≡ None) }
-    requires room { 4 * pen.old.table.given.layout.cores ≤ desk.old.turns.spare }
-    requires unmoved { (node last : ℕ) → last_seen seen.now node ≡ Some last → (past_at pen.old).lasts node ≡ last_ended last }
+    requires may { MayReserve D.view table.now seen.now pen.old desk.old }
     ensures at { IsAtDesk D.view table.now pen.new desk.new }
     ensures goes { PenGoes pen.old pen.new }
     ensures room { pen.new.room ≡ pen.old.room }

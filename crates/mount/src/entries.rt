@@ -4,7 +4,7 @@ ghost use Rattle.keyed_list.specs.Ascending.{AscendBy};
 ghost use Rattle.disk_nodes.specs.Nodes.{entry_node};
 ghost use Rattle.mount.specs.Mounted.{entry_mounted};
 
-use disk_nodes::{OldDisk, OldEntry, OldNode};
+use disk_nodes::{DirectorySlots, OldDisk, OldEntry, OldNode};
 use disk_tree::{KeptPart, PartList};
 use sfs_base::{NoMemory, NodeId};
 use std::alloc::Global;
@@ -16,14 +16,14 @@ pub fn entries_of(alloc: Global, parts: PartList) -> Result<OldDisk, NoMemory>
 {
     let mut entries = Vec::new(alloc);
     for part in parts.into_vec() {
-        entries.push(entry_of(part))?;
+        entries.push(entry_of(alloc, part)?)?;
     }
     Ok(OldDisk::from_vec(entries))
 }
 
 // The entry of a part.
-fn entry_of(part: KeptPart) -> OldEntry
-    ensures { result ≡ entry_mounted part }
+fn entry_of(alloc: Global, part: KeptPart) -> Result<OldEntry, NoMemory>
+    ensures { IfOk result (λ entry. entry ≡ entry_mounted part) }
 {
     let KeptPart {
         inode,
@@ -31,13 +31,13 @@ fn entry_of(part: KeptPart) -> OldEntry
         tables,
         slots,
     } = part;
-    OldEntry {
+    Ok(OldEntry {
         node: NodeId(inode),
         old: OldNode {
             inode,
             meta,
             tables,
-            slots,
+            slots: DirectorySlots::from_list(alloc, slots)?,
         },
-    }
+    })
 }

@@ -50,7 +50,7 @@ caller_past (entry ∷ calls) zero le = absurd (omega (arith, le))
 caller_past (entry ∷ calls) (suc stamp) le = caller_past calls stamp (omega (arith, le))
 
 -- an entry of an fsync that waits for its answer is of a node that is alive
-waits_alive : (tree : TreeState) (stamp : ℕ) (entry : Entry) (node : ℕ) → MayCome tree stamp entry → entry.call ≡ call.Fsync (record { 0 = node })
+pub waits_alive : (tree : TreeState) (stamp : ℕ) (entry : Entry) (node : ℕ) → MayCome tree stamp entry → entry.call ≡ call.Fsync (record { 0 = node })
     → entry.reply ≡ reply.NoMemory → is_alive tree node ≡ true
 waits_alive tree stamp entry node may fsync waits =
     by (is_alive tree node) refl

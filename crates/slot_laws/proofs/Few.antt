@@ -14,7 +14,7 @@ use Rattle.slot_laws.specs.Labels.{OwnTold, own_label, BoxPast, first_past, afte
 use Rattle.slot_laws.specs.Slots.{with_at}
 use Rattle.slot_laws.specs.Rules.{MayLabel, MayFrom}
 use Rattle.slot_laws.specs.Fits.{PastFits}
-use Rattle.slot_laws.specs.Laws.{StampsAreFew}
+use Rattle.slot_laws.specs.Laws.{StampsAreFew, StampsAreLeft}
 use Rattle.slot_laws.proofs.Basics.{at_same, at_other, none_there}
 use Rattle.slot_laws.proofs.Labels.{label_fits}
 use Rattle.slot_laws.proofs.Lawful.{first_fits}
@@ -154,15 +154,38 @@ module _ (layout : Layout) (before core : ℕ) (past : BoxPast) (all : PastFits 
   begun_label (label.Idled k) rule = keeps (label.Idled k) refl refl (inl refl)
   begun_label (label.Empty commit cut opened durable) rule = keeps (label.Empty commit cut opened durable) refl refl (inr refl)
 
+-- so it is of what was told, and it fits
 begun_all : (layout : Layout) (before : ℕ) (log : List (Event Label)) (past : BoxPast) → PastFits layout before past → NumbersBegun past
-    → MayFrom layout before log past → (past_from layout log past).stamps ≤ (past_from layout log past).commits
-begun_all layout before [] past all fits may = let many = fits.many in let low = few past.commits fits.begun fits.differ fits.within in omega (arith, many, low)
+    → MayFrom layout before log past → PastFits layout before (past_from layout log past) × NumbersBegun (past_from layout log past)
+begun_all layout before [] past all fits may = (all, fits)
 begun_all layout before (Called entry ∷ log) past all fits may = absurd may.0
 begun_all layout before (Told core fact ∷ log) past all fits may =
     begun_all layout before log (after_label layout core.0 fact past) (label_fits layout before core.0 past all fact may.0.1)
     (begun_label layout before core.0 past all fits fact may.0.1) may.1
 
-pub stamps_are_few : StampsAreFew
-stamps_are_few layout before log moment may =
+begun_told : (layout : Layout) (before : ℕ) (log : List (Event Label)) (moment : ℕ) → MayFrom layout before log (first_past moment)
+    → PastFits layout before (past_from layout log (first_past moment)) × NumbersBegun (past_from layout log (first_past moment))
+begun_told layout before log moment may =
     begun_all layout before log (first_past moment) (first_fits layout before moment)
     (record { begun = []; many = refl; differ = tt; within = λ n one. absurd one; free = λ core n is. none_there is }) may
+
+pub stamps_are_few : StampsAreFew
+stamps_are_few layout before log moment may =
+    let past = past_from layout log (first_past moment) in
+    let fits = (begun_told layout before log moment may).1 in
+    let many = fits.many in
+    let low = few past.commits fits.begun fits.differ fits.within in
+    omega (arith, many, low)
+
+pub stamps_are_left : StampsAreLeft
+stamps_are_left layout before log moment core number may reserved =
+    let past = past_from layout log (first_past moment) in
+    let told = begun_told layout before log moment may in
+    let fits = told.1 in
+    let free = fits.free core number reserved in
+    let many = fits.many in
+    let low = few past.commits (number ∷ fits.begun) (λ n one same. free.1 (subst (IsOneOf fits.begun) same one), fits.differ) (λ n one. elim one [
+      | inl same ↦ subst (λ (m : ℕ). (0 < m) × (m ≤ past.commits)) same (free.0, told.0.numbers.given core number reserved)
+      | inr rest ↦ fits.within n rest
+    ]) in
+    omega (arith, many, low)

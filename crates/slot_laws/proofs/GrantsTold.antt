@@ -25,7 +25,7 @@ use Rattle.slot_laws.proofs.GrantsHeld.{take_fits, return_fits, end_fits_granted
 
 module _ (layout : Layout) (before : ℕ) (core : CoreId) (past : BoxPast) where
   -- what an event makes of the map goes on to be granted so
-  grants_label : (fact : Label) (old new : Space) → LastsOf past → MayLabel layout before core.0 fact past
+  pub grants_label : (fact : Label) (old new : Space) → LastsOf past → MayLabel layout before core.0 fact past
       → SpaceDoes (Told core fact) past old new → AreTheirGrants past.opens old → AreTheirGrants (after_label layout core.0 fact past).opens new
   grants_label (label.Reserved commit seen grant) old new fits rule does held =
       let told : ReservedCommit = record { number = commit; seen = seen.items; grant = grant; gives_up = no_numbers } in
@@ -75,7 +75,7 @@ module _ (layout : Layout) (before : ℕ) where
       (grants_label layout before core past fact old goes.0.next fits may.0.1 goes.0.does held)
 
 -- before the first label nothing is granted
-none_granted : (part : GrantedNumbers → List ℕ) (pool : Pool) → NoneGranted pool → AreGranted part [] pool
+pub none_granted : (part : GrantedNumbers → List ℕ) (pool : Pool) → NoneGranted pool → AreGranted part [] pool
 none_granted part pool none = record {
   own = λ one number never has. absurd never;
   apart = λ one other number never there differ has. absurd never;

@@ -121,7 +121,7 @@ labels_rise layout before log moment may =
     (lawful_fits layout before log (first_past moment) (first_fits layout before moment) may).times.rise
 
 -- a core of which no event is tells nothing
-none_by : (log : List (Event Label)) (cores core : ℕ) → AreOfCores cores log → cores ≤ core → entries_by event_core core log ≡ []
+pub none_by : (log : List (Event Label)) (cores core : ℕ) → AreOfCores cores log → cores ≤ core → entries_by event_core core log ≡ []
 none_by [] cores core all above = refl
 none_by (event ∷ log) cores core all above =
     ap (λ (b : Bool). cond b (event ∷ entries_by event_core core log) (entries_by event_core core log))

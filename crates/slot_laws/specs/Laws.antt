@@ -64,3 +64,9 @@ LabelsMergePens = (layout : Layout) (before : ℕ) (log : List (Event Label)) (m
 abbrev pub StampsAreFew : Type 0
 StampsAreFew = (layout : Layout) (before : ℕ) (log : List (Event Label)) (moment : ℕ) → MayFrom layout before log (first_past moment)
     → (past_from layout log (first_past moment)).stamps ≤ (past_from layout log (first_past moment)).commits
+
+-- Where a core has reserved a number that has not begun, one number more was given than commit stamps were drawn.
+abbrev pub StampsAreLeft : Type 0
+StampsAreLeft = (layout : Layout) (before : ℕ) (log : List (Event Label)) (moment core number : ℕ) → MayFrom layout before log (first_past moment)
+    → ((past_from layout log (first_past moment)).owns core).reserved ≡ Some number
+    → (past_from layout log (first_past moment)).stamps < (past_from layout log (first_past moment)).commits

@@ -2,7 +2,7 @@
 ghost use Rattle.slot_laws.specs.Counting.{PlacingsTakeTheOldest, SlotsCountUntilSynced};
 ghost use Rattle.slot_laws.specs.Grants.{GrantsAreOnes, ReservingsTakeTheLeast, TakenUntilGivenUp};
 ghost use Rattle.slot_laws.specs.Lasts.{LabelsKeepTheBox, NodesCount, NodesFit, NotedTurnsKeepNodes, ReservingsKnew, ReturnsRestore};
-ghost use Rattle.slot_laws.specs.Laws.{LabelsCountFaults, LabelsMergePens, LabelsRise, LawfulFits, OwnIs, PensMakeTheRecord, StampsAreFew};
+ghost use Rattle.slot_laws.specs.Laws.{LabelsCountFaults, LabelsMergePens, LabelsRise, LawfulFits, OwnIs, PensMakeTheRecord, StampsAreFew, StampsAreLeft};
 ghost use Rattle.slot_laws.specs.Rings.{GreaterStampsAreNewer, SlotsCloseInOrder};
 ghost use Rattle.slot_laws.specs.Worked.{LabelsCanBeMet};
 ghost use Rattle.slot_laws.specs.WorkedLonger.{LingeringSlotsCanBeMet};
@@ -55,6 +55,11 @@ pub fn greater_stamps_are_newer()
 /// No commit stamp is above the number of numbers that were given.
 pub fn stamps_are_few()
     ensures { StampsAreFew }
+{}
+
+/// Where a core has reserved a number that has not begun, there are more numbers given than commit stamps drawn.
+pub fn stamps_are_left()
+    ensures { StampsAreLeft }
 {}
 
 /// The last commits of nodes fit the commits that are open and those that have ended.

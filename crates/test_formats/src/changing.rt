@@ -9,10 +9,9 @@ use disk_change::{
     DirectoryNet, DiskChange, Enter, EnterList, FileChange, FileChangeList, NetList, Page,
     PageList, build, need,
 };
-use disk_nodes::{OldDisk, OldEntry, OldNode};
+use disk_nodes::{DirectorySlots, OldDisk, OldEntry, OldNode};
 use fmt_inode::{Inode, Tables};
 use fmt_journal::Tx;
-use fmt_slots::SlotList;
 use sfs_base::{Kind, Name, NoMemory, NodeId, NodeList, SpaceKind, Stamp};
 use space_map::{Need, SpaceFault, SpaceMap};
 use std::alloc::Global;
@@ -38,7 +37,7 @@ pub(crate) fn root_alone(rt: &impl Abort, alloc: Global) -> OldDisk {
         inode: 0,
         meta: root,
         tables: Tables::new(alloc),
-        slots: SlotList::new(alloc),
+        slots: DirectorySlots::new(alloc),
     };
     got(rt, disk.add(OldEntry { node: ROOT, old }));
     disk

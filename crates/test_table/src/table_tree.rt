@@ -6,9 +6,8 @@ ghost use Rattle.begun_tables.specs.Begun.{IsBuiltTree};
 
 use crate::helpers::{got, holds};
 use begun_tables::{put_node, put_row, root_alone};
-use disk_nodes::{OldDisk, OldEntry, OldNode};
+use disk_nodes::{DirectorySlots, OldDisk, OldEntry, OldNode};
 use fmt_inode::{Inode, Tables};
-use fmt_slots::SlotList;
 use mem_begin::make;
 use mem_files::FileBytes;
 use mem_values::{Cell, CellId, FileCore, FileShared, has_inode, hold_cells, value_of};
@@ -86,7 +85,7 @@ fn kept(alloc: Global, inode: u32, kind: u8, links: u32, size: u64) -> OldNode {
         inode,
         meta,
         tables: Tables::new(alloc),
-        slots: SlotList::new(alloc),
+        slots: DirectorySlots::new(alloc),
     }
 }
 

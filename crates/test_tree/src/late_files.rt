@@ -3,10 +3,9 @@
 use crate::helpers::{got, holds, same};
 use dep_closure::{DirectoryChanges, Gathered, NodeBirth, NodeCut};
 use disk_change::{FileChange, need};
-use disk_nodes::{OldDisk, OldEntry, OldNode};
+use disk_nodes::{DirectorySlots, OldDisk, OldEntry, OldNode};
 use flush_plan::{concerned, file_change, plan};
 use fmt_inode::{Inode, Tables};
-use fmt_slots::SlotList;
 use mem_files::FileBytes;
 use sfs_base::{Kind, Name, NodeId, NodeList, RoomyList, Stamp};
 use space_map::Need;
@@ -117,7 +116,7 @@ fn put(rt: &impl Abort, alloc: Global, old: &mut OldDisk, node: NodeId, kind: u8
             indirect: [0; 16],
         },
         tables: Tables::new(alloc),
-        slots: SlotList::new(alloc),
+        slots: DirectorySlots::new(alloc),
     };
     if old.find(node.0).is_none() {
         got(rt, old.add(OldEntry { node, old: one }));

@@ -45,7 +45,7 @@ use Rattle.volume_one.proofs.Committing.{IsGranted, own_fsync, planned_for, is_o
 use Rattle.volume_one.proofs.Flushes.{none_holds, none_wrote, some_holds, some_wrote, doubt_wrote, job_held}
 use Rattle.volume_one.proofs.Granting.{granted, was_known}
 use Rattle.volume_one.proofs.Leading.{members_flushed}
-use Rattle.volume_one.proofs.Remembering.{IsLeft, left_remembers, known_remembers, back_left, back_remembers}
+use Rattle.volume_one.proofs.Remembering.{IsLeft, left_remembers, known_remembers, room_remembers, back_left, back_remembers}
 use Rattle.volume_one.proofs.Settling.{remembers_after}
 
 abbrev is_doubt : Result ℕ Doubt → Bool
@@ -225,20 +225,20 @@ module _ (Same : Type 0) (before after : View) (same_view : Same → after ≡ b
       (plan : FsyncPlan) (was : WasPlanned volume node stamp plan) where
     plan_makes : volume.failed ≡ None → (new : OpenVolume) (flushed : Flushed) → PlanEnds Same stamp plan before after volume new flushed
         → FsyncMakes Same (λ k. k) kept (fsync_at node stamp) before after volume new flushed flushed.reply
-    plan_makes working new _ (short still new_is kind need free lacks) = record {
+    plan_makes working new _ (short still back kind need free lacks) = record {
       same = still;
-      remembers = subst (Remembers kept) (sym new_is) remembers;
-      failed = ap (λ (v : OpenVolume). v.failed) new_is;
-      numbered = ap (λ (v : OpenVolume). v.commits) new_is;
+      remembers = room_remembers kept volume new remembers back;
+      failed = ap (λ (v : OpenVolume). v.failed) back.others;
+      numbered = ap (λ (v : OpenVolume). v.commits) back.others;
       refused = refl;
       did = (refl, was_short kept node stamp volume remembers counted alive plan was kind need free lacks);
     }
-    plan_makes working new _ (unreserved still new_is fits) =
+    plan_makes working new _ (unreserved still back fits) =
         record {
           same = still;
-          remembers = subst (Remembers kept) (sym new_is) remembers;
-          failed = ap (λ (v : OpenVolume). v.failed) new_is;
-          numbered = ap (λ (v : OpenVolume). v.commits) new_is;
+          remembers = room_remembers kept volume new remembers back;
+          failed = ap (λ (v : OpenVolume). v.failed) back.others;
+          numbered = ap (λ (v : OpenVolume). v.commits) back.others;
           refused = refl;
           did = tt;
         }
@@ -271,7 +271,7 @@ module _ (Same : Type 0) (before after : View) (same_view : Same → after ≡ b
     flush_makes new _ (unplanned still alive working known) =
         record {
           same = still;
-          remembers = known_remembers kept old new remembers known;
+          remembers = room_remembers kept old new remembers known;
           failed = ap (λ (v : OpenVolume). v.failed) known.others;
           numbered = ap (λ (v : OpenVolume). v.commits) known.others;
           refused = refl;

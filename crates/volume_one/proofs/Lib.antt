@@ -17,8 +17,10 @@ pub mod Flushes
 pub mod Granting
 pub mod Leading
 pub mod NoneGranted
+pub mod Lending
 pub mod Placing
 pub mod Remembering
 pub mod Reserving
 pub mod Settling
 pub mod Spaces
+pub mod Taking

@@ -90,6 +90,21 @@ known_remembers kept old new remembers is =
       granted = subst HasNoneGranted (sym (ap (λ (v : OpenVolume). v.space) is.others)) remembers.disk.granted;
     })
 
+-- and so may what is kept of the disk's nodes
+pub room_remembers : (kept : Volume) (old new : OpenVolume) → Remembers kept old → IsSameButRoom old new → Remembers kept new
+room_remembers kept old new remembers is =
+    left_remembers kept old new remembers
+    (record {
+      tree = ap (λ (v : OpenVolume). v.tree) is.others;
+      files = ap (λ (v : OpenVolume). v.files) is.others;
+      logs = ap (λ (v : OpenVolume). v.logs) is.others;
+      layout = ap (λ (v : OpenVolume). v.layout) is.others;
+      known = is.known;
+      entries = is.entries;
+      space = subst (IsMapOf kept.layout (disk_entries_in old.stored)) (sym (ap (λ (v : OpenVolume). v.space) is.others)) remembers.disk.space;
+      granted = subst HasNoneGranted (sym (ap (λ (v : OpenVolume). v.space) is.others)) remembers.disk.granted;
+    })
+
 -- what was granted may be free again, whatever room there is
 module _ (kept : Volume) (volume : OpenVolume) (node : NodeId) (stamp : Stamp) (plan : FsyncPlan) (grant : GrantedNumbers) (space : Space)
     (is : IsGranted kept volume node stamp plan grant space) (room new : OpenVolume) (same : IsSameButRoom (with_space volume space) room)

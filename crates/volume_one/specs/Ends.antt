@@ -12,7 +12,8 @@ use Rattle.journal_one.specs.Packed.{Contents}
 use Rattle.journal_one.specs.declared.doubt.Doubt.{Doubt}
 use Rattle.space_map.specs.Pool.{BecomeAll, Grants, free_numbers}
 use Rattle.space_map.specs.Space.{Space, GrantedNumbers, shortage}
-use Rattle.space_map.specs.declared.fault.SpaceFault.TheVariants.{NoSpace}
+use Rattle.space_map.specs.declared.fault.SpaceFault.{SpaceFault}
+use Rattle.space_map.specs.declared.fault.SpaceFault.TheVariants.{NoSpace, NoMemory}
 use Rattle.space_map.specs.declared.grant.Need.{Need}
 use Rattle.space_map.specs.declared.status.Status.TheVariants.{Free}
 use Rattle.disk_change.specs.Planned.{Planned, as_u32, blocks_taken, enters}
@@ -32,6 +33,11 @@ use Rattle.volume_one.specs.declared.volume.OpenVolume.{OpenVolume}
 -- an answer without a moment, with what was done
 abbrev pub refused_with : Reply → Deed → Flushed
 refused_with given deed = record { reply = given; ack = None; deed = deed }
+
+-- the answer where what a plan needs was not reserved
+abbrev pub unreserved_answer : SpaceFault → Flushed
+unreserved_answer (NoSpace kind need free) = refused_with (reply.NoSpace kind need free) deeds.Short
+unreserved_answer NoMemory = refused_with reply.NoMemory deeds.Nothing
 
 -- Ok, at a moment, with what was done
 abbrev pub acknowledged : ℕ → Deed → Flushed
@@ -96,9 +102,9 @@ pub data GrantEnds (Same : Type 0) (stamp : Stamp) (plan : FsyncPlan) (grant : G
 
 -- What a plan needs is reserved, where enough is free; where it needs nothing the map of free space is left alone.
 pub data PlanEnds (Same : Type 0) (stamp : Stamp) (plan : FsyncPlan) (before after : View) (old new : OpenVolume) : Flushed → Type 0 where
-  short : Same → new ≡ old → (kind : SpaceKind) (need free : ℕ) → shortage old.space (need_of_change plan.change) ≡ Some (NoSpace kind need free)
+  short : Same → IsSameButRoom old new → (kind : SpaceKind) (need free : ℕ) → shortage old.space (need_of_change plan.change) ≡ Some (NoSpace kind need free)
       → PlanEnds Same stamp plan before after old new (refused_with (reply.NoSpace kind need free) deeds.Short)
-  unreserved : Same → new ≡ old → shortage old.space (need_of_change plan.change) ≡ None
+  unreserved : Same → IsSameButRoom old new → shortage old.space (need_of_change plan.change) ≡ None
       → PlanEnds Same stamp plan before after old new (refused_with reply.NoMemory deeds.Nothing)
   reserved : (flushed : Flushed) (grant : GrantedNumbers) (space : Space) → IsReserved plan old.space grant space
       → GrantEnds Same stamp plan grant before after (with_space old space) new flushed → PlanEnds Same stamp plan before after old new flushed
@@ -108,7 +114,7 @@ pub data FlushEnds (Same : Type 0) (stamp : Stamp) (node : NodeId) (before after
   dead : Same → new ≡ old → is_alive old.tree node.0 ≡ false → FlushEnds Same stamp node before after old new (refused_with (reply.Error NoEntry) deeds.Nothing)
   stopped : Same → new ≡ old → is_alive old.tree node.0 ≡ true → (faults : ℕ) → old.failed ≡ Some faults
       → FlushEnds Same stamp node before after old new (refused_with (reply.Stopped faults) deeds.Halted)
-  unplanned : Same → is_alive old.tree node.0 ≡ true → old.failed ≡ None → IsSameKnown old new
+  unplanned : Same → is_alive old.tree node.0 ≡ true → old.failed ≡ None → IsSameButRoom old new
       → FlushEnds Same stamp node before after old new (refused_with reply.NoMemory deeds.Nothing)
   planned : (flushed : Flushed) → is_alive old.tree node.0 ≡ true → old.failed ≡ None → (plan : FsyncPlan) (known : OpenVolume)
       → WasPlanned old node stamp plan → IsSameKnown old known → PlanEnds Same stamp plan before after known new flushed

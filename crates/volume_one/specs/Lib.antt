@@ -7,6 +7,7 @@ pub mod Entries
 pub mod Finished
 pub mod Fsync
 pub mod May
+pub mod Lent
 pub mod Memory
 pub mod Planned
 pub mod Ready

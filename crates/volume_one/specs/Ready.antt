@@ -12,6 +12,9 @@ use Rattle.disk_change.specs.Written.{IsTransactionOf}
 use Rattle.flush_plan.specs.declared.plans.FsyncPlan.{FsyncPlan}
 use Rattle.node_lists.specs.Known.{HasSameNodes}
 use Rattle.volume_one.specs.Entries.{HaveDiskPlaces, HasSameEntries}
+use Rattle.disk_change.specs.Planned.{Planned}
+use Rattle.volume_one.specs.declared.preparing.Done.{Done}
+use Rattle.volume_one.specs.declared.preparing.Lent.{Lent}
 use Rattle.volume_one.specs.declared.preparing.Ready.{Ready}
 use Rattle.volume_one.specs.declared.preparing.Unpacked.{Unpacked}
 use Rattle.volume_one.specs.declared.volume.OpenVolume.{OpenVolume}
@@ -27,6 +30,20 @@ pub record IsUnpacked (tx : Tx) (unpacked : Unpacked) : Type 0 where
   pub freed_inodes : unpacked.freed_inodes.items ≡ tx.freed_inodes.items
   pub counted : unpacked.fresh ≡ length tx.fresh.items
   pub packed : IsPackedOf tx unpacked.packed
+
+-- A change was built with a grant: what the disk has of its nodes beside what it then has, and its transaction, unpacked.
+pub record IsDoneOf (change : Planned) (grant : GrantedNumbers) (done : Done) : Type 0 where
+  pub tx : Tx
+  pub built : IsTransactionOf change grant tx
+  pub old : done.changes.old ≡ change.old
+  pub after : done.changes.after ≡ after_commit change grant
+  pub ascend : AscendBy entry_node done.changes.after
+  pub unpacked : IsUnpacked tx done.unpacked
+
+-- What is given back is what a plan has of the disk's nodes, with its nodes.
+pub record IsLentTo (plan : FsyncPlan) (lent : Lent) : Type 0 where
+  pub nodes : lent.nodes.items ≡ plan.nodes.items
+  pub old : lent.old.items ≡ plan.change.old
 
 -- A commit is that of a plan with a grant: its nodes, what the disk has of them afterwards, and its transaction.
 pub record IsReadyFor (plan : FsyncPlan) (grant : GrantedNumbers) (ready : Ready) : Type 0 where

@@ -1,5 +1,5 @@
-// What memory keeps of the disk's nodes: copied for a plan, and replaced once a commit is durable.
-ghost use Rattle.std.specs.Prelude.{◌≡◌, ◌==◌, ℕ, map, IfOk, OnOk, if◌then◌else◌};
+// What memory keeps of the disk's nodes: taken out for a plan, and put back, or replaced once a commit is durable.
+ghost use Rattle.std.specs.Prelude.{◌≡◌, ◌==◌, ℕ, map, IfOk, OnOk, OnErr, if◌then◌else◌};
 ghost use Rattle.std.specs.Option.{option_copied};
 ghost use Rattle.std.specs.Ordering.{nat_cmp};
 ghost use Rattle.std.specs.BTreeMap.{IsOrdered};
@@ -8,9 +8,9 @@ ghost use Rattle.tree_laws.specs.NameRow.{node_number};
 ghost use Rattle.keyed_list.specs.Ascending.{item_with};
 ghost use Rattle.disk_nodes.specs.Nodes.{entry_node};
 ghost use Rattle.volume_one.specs.Entries.{old_at, kept_in, disk_entries_at, AreReplaced, HaveDiskPlaces, HasDiskPlace, HasSameEntries};
+ghost use Rattle.volume_one.specs.Lent.{LendsEntries};
 
 use disk_nodes::{OldDisk, OldEntry, OldNode, take_old};
-use fmt_slots::copy_list;
 use sfs_base::{NoMemory, NodeId};
 use std::alloc::Global;
 use std::collections::BTreeMap;
@@ -28,38 +28,47 @@ pub(crate) fn old_at(old: &DiskNodes, node: NodeId) -> Option<&OldNode>
     }
 }
 
-/// The entries of those of some nodes that have one, which ascend.
-pub(crate) fn entries_of(
+/// Takes out the entries of those of some nodes that have one; the nodes ascend and have places. Where memory is
+/// wanting, none is taken.
+pub(crate) fn taken_entries(
     alloc: Global,
-    old: &DiskNodes,
+    old: &mut DiskNodes,
     nodes: &[NodeId],
 ) -> Result<OldDisk, NoMemory>
-    requires { IsStrictlyIncreasing (map node_number nodes.now) }
-    ensures { IfOk result (λ entries. entries.items ≡ disk_entries_at old.now (map node_number nodes.now)) }
+    requires ascending { IsStrictlyIncreasing (map node_number nodes.now) }
+    requires places { HaveDiskPlaces old.old (map node_number nodes.now) }
+    ensures entries { IfOk result (λ entries. entries.items ≡ disk_entries_at old.old (map node_number nodes.now)) }
+    ensures lent { IfOk result (λ entries. LendsEntries (map node_number nodes.now) entries.items old.old old.new) }
+    ensures places { HaveDiskPlaces old.new (map node_number nodes.now) }
+    ensures err { OnErr result (old.new ≡ old.old) }
 {
-    let mut entries = Vec::new(alloc);
+    let mut entries = Vec::with_capacity(alloc, nodes.len())?;
     for node in nodes {
-        match old_at(old, *node) {
-            Some(one) => entries.push(entry_of(alloc, *node, one)?)?,
-            None => {}
+        if let Some(one) = take_one(old, *node) {
+            entries.push_reserved(OldEntry {
+                node: *node,
+                old: one,
+            });
         }
     }
     Ok(OldDisk::from_vec(entries))
 }
 
-// The entry of a node with a copy of what is kept of it.
-fn entry_of(alloc: Global, node: NodeId, old: &OldNode) -> Result<OldEntry, NoMemory>
-    ensures { IfOk result (λ entry. entry ≡ record { node = node; old = old.now }) }
+// Takes out what a node, which has a place, has there.
+fn take_one(old: &mut DiskNodes, node: NodeId) -> Option<OldNode>
+    requires { HasDiskPlace old.old node.0 }
+    ensures value { result ≡ old_at old.old node.0 }
+    ensures others { (other : ℕ) → (node.0 ≡ other → ⊥) → old_at old.new other ≡ old_at old.old other }
+    ensures places { (other : ℕ) → HasDiskPlace old.old other → HasDiskPlace old.new other }
+    ensures ordered { IsOrdered nat_cmp old.new }
 {
-    Ok(OldEntry {
-        node,
-        old: OldNode {
-            inode: old.inode,
-            meta: old.meta,
-            tables: old.tables.copy()?,
-            slots: copy_list(alloc, &old.slots)?,
-        },
-    })
+    let Ok(before) = old.insert(node.0, None) else {
+        unreachable!()
+    };
+    match before {
+        Some(one) => one,
+        None => None,
+    }
 }
 
 /// Gives each of some nodes a place, which has nothing where it is new.

@@ -11,15 +11,18 @@ ghost use Rattle.space_map.specs.Pool.{Grants, free_numbers};
 ghost use Rattle.space_map.specs.Space.{AllGranted, shortage};
 ghost use Rattle.volume_one.specs.Carry.{CarriesPacked, MayCarry};
 ghost use Rattle.volume_one.specs.Ends.{FlushEnds, GrantEnds, PlanEnds, ReadyEnds};
+ghost use Rattle.volume_one.specs.Entries.{HaveDiskPlaces};
 ghost use Rattle.volume_one.specs.Fsync.{FsyncGoesOn, IsFsyncAnswer};
+ghost use Rattle.volume_one.specs.Lent.{LendsOf};
 ghost use Rattle.volume_one.specs.May.{MayCarryGrant, MayCarryPlan};
-ghost use Rattle.volume_one.specs.Ready.{HasReadyRoom};
+ghost use Rattle.volume_one.specs.Ready.{HasReadyRoom, IsSameButRoom};
 ghost use Rattle.volume_one.specs.Stands.{IsStandingAt};
 
 use crate::OpenVolume;
 use crate::deed::Deed;
+use crate::entries::replace_entries;
 use crate::flushed::Flushed;
-use crate::preparing::Ready;
+use crate::preparing::{Lent, Ready};
 use commit_one::{Committed, commit};
 use disk_change::need;
 use flush_plan::FsyncPlan;
@@ -81,16 +84,19 @@ impl OpenVolume {
         requires fits { IsLayout self.old.layout.blocks self.old.layout }
         requires large { self.old.layout.blocks ≤ (D.view disk.old).size }
         requires ascending { IsStrictlyIncreasing (map node_number plan.nodes.items) }
+        requires places { HaveDiskPlaces self.old.stored (map node_number plan.nodes.items) }
         requires may { MayCarryPlan self.old plan }
-        ensures ends { PlanEnds (disk.new ≡ disk.old) stamp plan (D.view disk.old) (D.view disk.new) self.old self.new result }
+        ensures ends { (whole : OpenVolume) → LendsOf plan.nodes.items plan.change.old whole self.old
+            → PlanEnds (disk.new ≡ disk.old) stamp plan (D.view disk.old) (D.view disk.new) whole self.new result }
         ensures advances { Advances (D.view disk.old) (D.view disk.new) }
     {
         match granted(self.alloc, &mut self.space, need(&plan.change)) {
             Ok(grant) => self.commit_granted(disk, stamp, plan, grant),
-            Err(SpaceFault::NoSpace { kind, need, free }) => {
-                Flushed::refused(Reply::NoSpace { kind, need, free }, Deed::Short)
+            Err(fault) => {
+                let old = plan.change.into_old();
+                replace_entries(&mut self.stored, plan.nodes.as_slice(), old);
+                Flushed::unreserved(fault)
             }
-            Err(SpaceFault::NoMemory) => Flushed::refused(Reply::NoMemory, Deed::Nothing),
         }
     }
 
@@ -107,14 +113,18 @@ impl OpenVolume {
         requires inodes { AllGranted self.old.space.inodes grant.inodes }
         requires blocks { AllGranted self.old.space.blocks grant.blocks }
         requires ascending { IsStrictlyIncreasing (map node_number plan.nodes.items) }
+        requires places { HaveDiskPlaces self.old.stored (map node_number plan.nodes.items) }
         requires may { MayCarryGrant self.old.layout plan grant }
-        ensures ends { GrantEnds (disk.new ≡ disk.old) stamp plan grant (D.view disk.old) (D.view disk.new) self.old self.new result }
+        ensures ends { (whole : OpenVolume) → LendsOf plan.nodes.items plan.change.old whole self.old
+            → GrantEnds (disk.new ≡ disk.old) stamp plan grant (D.view disk.old) (D.view disk.new) whole self.new result }
         ensures advances { Advances (D.view disk.old) (D.view disk.new) }
     {
         match self.ready(plan, &grant) {
             Ok(ready) => self.commit_ready(disk, stamp, ready, grant),
-            Err(_) => {
+            Err(lent) => {
+                let Lent { nodes, old } = lent;
                 let deed = Deed::once_returned(&grant);
+                replace_entries(&mut self.stored, nodes.as_slice(), old);
                 self.space.give_back(grant);
                 Flushed::refused(Reply::NoMemory, deed)
             }
@@ -135,7 +145,9 @@ impl OpenVolume {
         requires blocks { AllGranted self.old.space.blocks grant.blocks }
         requires room { HasReadyRoom self.old ready }
         requires may { MayCarry self.old.layout ready.packed }
-        ensures ends { ReadyEnds (disk.new ≡ disk.old) stamp ready grant (D.view disk.old) (D.view disk.new) self.old self.new result }
+        ensures ends { (whole : OpenVolume) → LendsOf ready.nodes.items ready.changes.old whole self.old
+            → (room : OpenVolume) × IsSameButRoom whole room
+            × ReadyEnds (disk.new ≡ disk.old) stamp ready grant (D.view disk.old) (D.view disk.new) room self.new result }
         ensures advances { Advances (D.view disk.old) (D.view disk.new) }
     {
         let deed = Deed::once_durable(&ready, &grant);
@@ -150,9 +162,11 @@ impl OpenVolume {
                 }
             }
             Err(doubt) => {
+                let deed = Deed::in_doubt(ready.fresh, began, disk.now());
                 self.space.give_back(grant);
                 self.failed = Some(doubt.faults);
-                let deed = Deed::in_doubt(ready.fresh, began, disk.now());
+                let old = ready.changes.into_old();
+                replace_entries(&mut self.stored, ready.nodes.as_slice(), old);
                 Flushed::refused(Reply::DiskFailed, deed)
             }
         }

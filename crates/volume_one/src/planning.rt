@@ -1,12 +1,15 @@
 // What an fsync comes to, by what memory keeps.
-ghost use Rattle.std.specs.Prelude.{◌≡◌, IfOk};
+ghost use Rattle.std.specs.Prelude.{◌≡◌, IfOk, OnErr};
 ghost use Rattle.std.specs.Option.{option_copied};
 ghost use Rattle.dep_closure.specs.Gathered.{IsOrderly};
-ghost use Rattle.volume_one.specs.Planned.{IsOwnChange, IsPlannedByGathered, WasPlanned, IsSameKnown};
+ghost use Rattle.volume_one.specs.Entries.{HasSameEntries};
+ghost use Rattle.volume_one.specs.Lent.{AreLentTo, HasLent};
+ghost use Rattle.volume_one.specs.Planned.{IsOwnChange, IsPlannedByGathered, WasPlanned};
+ghost use Rattle.volume_one.specs.Ready.{IsSameButRoom};
 ghost use Rattle.volume_one.specs.Stands.{IsStandingAt};
 
 use crate::OpenVolume;
-use crate::entries::{DiskNodes, entries_of};
+use crate::entries::{DiskNodes, make_places, replace_entries, taken_entries};
 use dep_closure::Gathered;
 use disk_change::FileChange;
 use flush_plan::{FsyncPlan, concerned, file_change, plan};
@@ -15,16 +18,18 @@ use sfs_base::{NoMemory, NodeId, Stamp};
 use std::alloc::Global;
 
 impl OpenVolume {
-    // The plan of an fsync of a node at the next stamp.
+    // The plan of an fsync of a node at the next stamp, which has what memory keeps of its nodes. Where memory is
+    // wanting, all of it is back.
     pub(crate) fn planned(&mut self, node: NodeId, stamp: Stamp) -> Result<FsyncPlan, NoMemory>
         requires standing { IsStandingAt self.old stamp.0 }
         ensures planned { IfOk result (WasPlanned self.old node stamp) }
-        ensures same { IsSameKnown self.old self.new }
+        ensures lent { IfOk result (HasLent self.old self.new) }
+        ensures same { OnErr result (IsSameButRoom self.old self.new) }
     {
         let logs = self.logs.gather(self.alloc, stamp)?;
         let gathered = self.known.lend(self.alloc, logs);
         let file = self.files.get(node);
-        let plan = plan_of(self.alloc, node, stamp, &gathered, &self.stored, file);
+        let plan = plan_of(self.alloc, node, stamp, &gathered, &mut self.stored, file);
         self.known.take_back(gathered);
         plan
     }
@@ -36,28 +41,44 @@ fn plan_of(
     node: NodeId,
     stamp: Stamp,
     gathered: &Gathered,
-    old: &DiskNodes,
+    old: &mut DiskNodes,
     file: Option<&FileBytes>,
 ) -> Result<FsyncPlan, NoMemory>
     requires { IsOrderly gathered.now }
-    ensures { IfOk result (IsPlannedByGathered node stamp gathered.now old.now (option_copied file.entry)) }
+    ensures planned { IfOk result (IsPlannedByGathered node stamp gathered.now old.old (option_copied file.entry)) }
+    ensures lent { IfOk result (AreLentTo old.old old.new) }
+    ensures same { OnErr result (HasSameEntries old.old old.new) }
 {
     let concern = concerned(alloc, node, stamp, gathered)?;
-    let entries = entries_of(alloc, old, concern.nodes.as_slice())?;
     let change = own_change(alloc, node, gathered, file)?;
+    let nodes = numbers_copied(alloc, concern.nodes.as_slice())?;
+    make_places(old, &nodes)?;
+    let lent = taken_entries(alloc, old, &nodes)?;
     match plan(
         alloc,
         node,
         stamp,
         gathered,
         concern,
-        entries,
+        lent,
         file.is_some(),
         change,
     ) {
         Ok(plan) => Ok(plan),
-        Err(_) => Err(NoMemory),
+        Err(back) => {
+            replace_entries(old, &nodes, back);
+            Err(NoMemory)
+        }
     }
+}
+
+// The same nodes.
+fn numbers_copied(alloc: Global, nodes: &[NodeId]) -> Result<Vec<NodeId>, NoMemory>
+    ensures { IfOk result (λ copy. copy.items ≡ nodes.now) }
+{
+    let mut copy = Vec::new(alloc);
+    copy.extend_from_slice(nodes)?;
+    Ok(copy)
 }
 
 // The change of a node's file from the node's cut on, where it is one.

@@ -1,12 +1,14 @@
 // What a commit needs of memory, before its first device call.
-ghost use Rattle.std.specs.Prelude.{map, IfOk};
+ghost use Rattle.std.specs.Prelude.{◌≡◌, map, IfErr, IfOk};
 ghost use Rattle.std.specs.List.Sorted.{IsStrictlyIncreasing};
 ghost use Rattle.tree_laws.specs.NameRow.{node_number};
-ghost use Rattle.volume_one.specs.Ready.{IsReadyFor, HasReadyRoom, IsSameButRoom, IsUnpacked};
+ghost use Rattle.volume_one.specs.Entries.{HaveDiskPlaces};
+ghost use Rattle.volume_one.specs.Planned.{IsSameKnown};
+ghost use Rattle.volume_one.specs.Ready.{IsDoneOf, IsLentTo, IsReadyFor, HasReadyRoom, IsUnpacked};
 
 use crate::OpenVolume;
-use crate::entries::make_places;
-use disk_change::{Built, NodeChanges, build};
+use disk_change::{Built, DiskChange, NodeChanges, build};
+use disk_nodes::OldDisk;
 use flush_plan::FsyncPlan;
 use fmt_journal::Tx;
 use journal_one::Packed;
@@ -27,13 +29,24 @@ pub struct Ready {
     pub packed: Option<Packed>,
 }
 
+/// What a plan has of the disk's nodes, with all nodes that it concerns: it is given back.
+#[derive(Drop)]
+pub(crate) struct Lent {
+    pub(crate) nodes: NodeList,
+    pub(crate) old: OldDisk,
+}
+
 impl OpenVolume {
-    // The commit of a plan, with a grant of what it needs.
-    pub(crate) fn ready(&mut self, plan: FsyncPlan, grant: &Grant) -> Result<Ready, NoMemory>
+    // The commit of a plan, with a grant of what it needs. Where memory is wanting it gives back what the plan has
+    // of the disk's nodes.
+    pub(crate) fn ready(&mut self, plan: FsyncPlan, grant: &Grant) -> Result<Ready, Lent>
         requires ascending { IsStrictlyIncreasing (map node_number plan.nodes.items) }
+        requires places { HaveDiskPlaces self.old.stored (map node_number plan.nodes.items) }
         ensures ready { IfOk result (IsReadyFor plan grant.now) }
         ensures room { IfOk result (HasReadyRoom self.new) }
-        ensures same { IsSameButRoom self.old self.new }
+        ensures same { IsSameKnown self.old self.new }
+        ensures lent { IfOk result (λ ready. ready.changes.old ≡ plan.change.old) }
+        ensures err { IfErr result (IsLentTo plan) }
     {
         let FsyncPlan {
             members,
@@ -42,26 +55,54 @@ impl OpenVolume {
             change,
         } = plan;
         let count = members.as_slice().len().max(nodes.as_slice().len());
-        self.known.reserve(count)?;
-        make_places(&mut self.stored, nodes.as_slice())?;
-        let Ok(Built { tx, nodes: changes }) = build(self.alloc, change, grant) else {
-            return Err(NoMemory);
+        let Ok(()) = self.known.reserve(count) else {
+            let old = change.into_old();
+            return Err(Lent { nodes, old });
         };
-        let Unpacked {
-            freed_blocks,
-            freed_inodes,
-            fresh,
-            packed,
-        } = unpack(self.alloc, tx)?;
-        Ok(Ready {
-            members,
-            nodes,
-            changes,
-            freed_blocks,
-            freed_inodes,
-            fresh,
-            packed,
-        })
+        match built_of(self.alloc, change, grant) {
+            Ok(done) => {
+                let Done { changes, unpacked } = done;
+                let Unpacked {
+                    freed_blocks,
+                    freed_inodes,
+                    fresh,
+                    packed,
+                } = unpacked;
+                Ok(Ready {
+                    members,
+                    nodes,
+                    changes,
+                    freed_blocks,
+                    freed_inodes,
+                    fresh,
+                    packed,
+                })
+            }
+            Err(old) => Err(Lent { nodes, old }),
+        }
+    }
+}
+
+// What is built of a change, with its transaction unpacked.
+struct Done {
+    changes: NodeChanges,
+    unpacked: Unpacked,
+}
+
+// Builds a change and unpacks its transaction, or gives back what the disk has of its nodes.
+fn built_of(alloc: Global, change: DiskChange, grant: &Grant) -> Result<Done, OldDisk>
+    ensures done { IfOk result (IsDoneOf change grant.now) }
+    ensures err { IfErr result (λ old. old.items ≡ change.old) }
+{
+    match build(alloc, change, grant) {
+        Ok(Built { tx, nodes }) => match unpack(alloc, tx) {
+            Ok(unpacked) => Ok(Done {
+                changes: nodes,
+                unpacked,
+            }),
+            Err(_) => Err(nodes.into_old()),
+        },
+        Err(change) => Err(change.into_old()),
     }
 }
 

@@ -14,7 +14,7 @@ use Rattle.flush_laws.specs.Laws.{IsStoreLeft}
 use Rattle.flush_laws.specs.Volume.{Volume, OneFsync, volume_left}
 use Rattle.volume_laws.specs.Volume.{IsVolumeStanding}
 use Rattle.volume_laws.proofs.Stores.{store_left, commits_stay_standing}
-use Rattle.bringing_laws.specs.Brings.{BringApart, brought_by, Bringing}
+use Rattle.bringing_laws.specs.Brings.{BringApart, brought_by, Bringing, Brings}
 use Rattle.bringing_laws.specs.Imagined.{Imagines, one_brought}
 use Rattle.bringing_laws.proofs.Brings.{bringings_stay}
 use Rattle.walk_laws.specs.Pairs.{Pair, commit_under, bringing_under, run_with, PairsBeside, ArePairsApart, IsOpenBeside}
@@ -42,6 +42,7 @@ pub record Ending (pairs : ℕ → Pair) : Type 0 where
   pub among : IsOneOf opens own
   pub stands : IsVolumeStanding volume
   pub beside : PairsBeside pairs done opens volume
+  pub brings : Brings volume (bringing_under pairs own)
 
 module _ (pairs : ℕ → Pair) (ending : Ending pairs) where
   abbrev volume : Volume
@@ -76,7 +77,7 @@ module _ (pairs : ℕ → Pair) (ending : Ending pairs) where
 
   -- the fsync that brings it
   abbrev pub ended_one : OneFsync
-  ended_one = brought_by (bringing_under pairs own) (beside.opens own among).brings
+  ended_one = brought_by (bringing_under pairs own) ending.brings
 
   abbrev blocks : ℕ → List ℕ
   blocks = store_planned volume.store (bringing_under pairs own).plan (bringing_under pairs own).grant
@@ -86,16 +87,16 @@ module _ (pairs : ℕ → Pair) (ending : Ending pairs) where
   ended = volume_left volume ended_one blocks
 
   pub left_blocks : IsStoreLeft volume ended_one blocks
-  left_blocks = store_left volume ended_one (beside.opens own among).brings.planned
+  left_blocks = store_left volume ended_one ending.brings.planned
 
   pub raises : RaisesTo run commit ended.cut ended.inodes
   raises = record {
     raises =
         subst (λ (f : Flush). IsRaised volume.first volume.history every_entry volume.cut volume.inodes f ended.cut) (sym its.flush)
-        (beside.opens own among).brings.planned.raises;
+        ending.brings.planned.raises;
     inodes_after =
         subst (λ (f : Flush). AreInodesAfter volume.first volume.history every_entry volume.cut volume.inodes f ended.cut ended.inodes) (sym its.flush)
-        (beside.opens own among).brings.planned.inodes_after;
+        ending.brings.planned.inodes_after;
   }
 
   is_ready : IsReadyToEnd run commit
@@ -144,7 +145,7 @@ module _ (pairs : ℕ → Pair) (ending : Ending pairs) where
         later = later_still other one differ;
         brings = bringings_stay volume (bringing_under pairs other) (bringing_under pairs own) blocks (record {
           stays = was.brings;
-          ends = (beside.opens own among).brings;
+          ends = ending.brings;
           apart = bring_apart (pairs other) (pairs own) was.nodes its.nodes apart;
           left = left_blocks;
         });
@@ -167,10 +168,10 @@ module _ (pairs : ℕ → Pair) (ending : Ending pairs) where
 
   pub ended_stands : IsVolumeStanding ended
   ended_stands =
-      commits_stay_standing volume ended_one blocks stands (beside.opens own among).brings.planned (beside.opens own among).brings.comes left_blocks
+      commits_stay_standing volume ended_one blocks stands ending.brings.planned ending.brings.comes left_blocks
 
   -- which is the one that is imagined with one more
   pub ended_imagines : (start : Volume) → Imagines start (brought_under pairs done) volume → Imagines start (brought_under pairs (done ++ own ∷ [])) ended
   ended_imagines start imagines =
       subst (λ (l : List Bringing). Imagines start l ended) (sym (map-append (bringing_under pairs) done (own ∷ [])))
-      (one_brought (brought_under pairs done) volume (bringing_under pairs own) imagines (beside.opens own among).brings)
+      (one_brought (brought_under pairs done) volume (bringing_under pairs own) imagines ending.brings)

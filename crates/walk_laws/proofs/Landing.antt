@@ -188,6 +188,7 @@ module _ (kept : Bookkeeping) (place : TurnAt kept) where
       among = here;
       stands = calm.imagined.stands;
       beside = calm.imagined.beside;
+      brings = (calm.imagined.beside.opens own here).brings;
     }
 
     landed_within : (stamp : ℕ) → IsOneOf (open_stamps landed) stamp → IsOneOf opens stamp × (stamp ≢ own)

@@ -57,7 +57,7 @@ module _ (kept : Bookkeeping) (before most : ℕ) (begins : BeginsWalk kept.star
   abbrev start : Volume
   start = kept.start
 
-  standing_first : Standing (run_with start [])
+  pub standing_first : Standing (run_with start [])
   standing_first = record {
     flushed =
         subst (λ (c : Cut). AreFlushed start.first start.history every_entry [] c start.inodes) (sym begins.cut)

@@ -142,7 +142,7 @@ fn stands(
     place: usize,
     row: u32,
 ) -> bool {
-    let held = match root.old.slots.get((place / 15) as u64) {
+    let held = match root.old.slots.as_slice().get(place / 15) {
         Some(block) => block.row(place % 15),
         None => None,
     };
@@ -174,7 +174,7 @@ fn assert_like(rt: &impl Abort, alloc: Global, shelf: &Shelf, slots: &Slots, bef
     }
     same(
         rt,
-        &(root.old.slots.len(), root.old.meta.size),
+        &(root.old.slots.len() as u64, root.old.meta.size),
         &(blocks, blocks.wrapping_mul(4_096)),
     );
     for place in 0..60usize {
@@ -315,8 +315,9 @@ fn drawn_changes_are_those_of_plain_slots(rt: HostRuntime) {
         let Some(root) = shelf.disk.find(ROOT.0) else {
             panic!(rt; "no root");
         };
-        if root.old.slots.len() > most {
-            most = root.old.slots.len();
+        let count = root.old.slots.len() as u64;
+        if count > most {
+            most = count;
         }
     }
     holds(&rt, most >= 2);

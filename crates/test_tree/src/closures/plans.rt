@@ -4,10 +4,9 @@ ghost use Rattle.space_map.specs.Space.{AllGranted};
 use super::{NODES, Watched};
 use crate::helpers::{got, holds, same};
 use disk_change::{DiskChange, build, need};
-use disk_nodes::{OldDisk, OldEntry, OldNode, take_old};
+use disk_nodes::{DirectorySlots, OldDisk, OldEntry, OldNode, take_old};
 use flush_plan::{concerned, file_change, plan};
 use fmt_inode::{Inode, Tables};
-use fmt_slots::SlotList;
 use mem_files::FileBytes;
 use sfs_base::{Kind, NodeId, NodeList, Stamp};
 use space_map::{Grant, Need, SpaceMap};
@@ -35,7 +34,7 @@ pub(super) fn made(rt: &impl Abort, alloc: Global) -> OnDisk {
             indirect: [0; 16],
         },
         tables: Tables::new(alloc),
-        slots: SlotList::new(alloc),
+        slots: DirectorySlots::new(alloc),
     };
     put(rt, &mut nodes, NodeId(0), root);
     OnDisk {

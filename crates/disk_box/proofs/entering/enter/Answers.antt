@@ -1,4 +1,4 @@
-use Rattle.std.proofs.Common.{◌≡◌, ◌∙◌, sym, ap}
+use Rattle.std.proofs.Common.{◌∙◌, sym, ap}
 use Rattle.disk_box.specs.Pens.{PenHand}
 use Rattle.disk_box.proofs.Entered.{fits_now, holds_now, is_desk, may_take, mine_now, own_now, space_now}
 use Rattle.disk_box.proofs.entering.enter.Goals as goal

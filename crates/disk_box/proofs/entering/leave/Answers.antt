@@ -1,4 +1,4 @@
-use Rattle.std.proofs.Common.{◌≡◌, sym, subst}
+use Rattle.std.proofs.Common.{sym, subst}
 use Rattle.stamp_table.specs.Hand.{Desk as TableName}
 use Rattle.stamp_table.specs.Table.{EachFrom, MayTell, Stands, TellsFact}
 use Rattle.slot_laws.specs.declared.label.Label.TheVariants as label

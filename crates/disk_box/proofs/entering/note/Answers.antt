@@ -1,4 +1,4 @@
-use Rattle.std.proofs.Common.{◌≡◌, ◌∙◌, ap, sym, subst}
+use Rattle.std.proofs.Common.{◌∙◌, ap, sym, subst}
 use Rattle.stamp_table.specs.Hand.{Desk as TableName}
 use Rattle.stamp_table.specs.Table.{MayTell, TellsFact}
 use Rattle.disk_box.specs.declared.key.BoxKey.{BoxKey}

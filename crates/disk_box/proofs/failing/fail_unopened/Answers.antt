@@ -1,4 +1,4 @@
-use Rattle.std.proofs.Common.{◌≡◌, ◌≢◌, ◌≤◌, ◌∙◌, ℕ, None, Some, refl, sym, ap, subst, true, arith}
+use Rattle.std.proofs.Common.{◌≡◌, ◌≢◌, ◌≤◌, ◌∙◌, ℕ, Some, refl, sym, ap, subst, arith}
 use Rattle.tree_laws.specs.Tree.{TreeState}
 use Rattle.tree_laws.specs.declared.turns.Turn.{Turn}
 use Rattle.stamp_table.specs.declared.event.Event.{Event}
@@ -6,7 +6,6 @@ use Rattle.stamp_table.specs.declared.view.View.{View as Sight}
 use Rattle.slot_laws.specs.declared.label.Label.{Label}
 use Rattle.slot_laws.specs.declared.label.Label.TheVariants as label
 use Rattle.slot_laws.specs.Labels.{BoxPast, OwnTold, after_label}
-use Rattle.disk_box.specs.declared.desk.Desk.{Desk}
 use Rattle.disk_box.specs.declared.key.BoxKey.{BoxKey}
 use Rattle.disk_box.specs.Desk.{owed_by, owed_of, turn_faults}
 use Rattle.disk_box.specs.Pens.{PenHand, past_at}

@@ -1,5 +1,4 @@
-use Rattle.std.proofs.Common.{◌≡◌, ◌∙◌, ap, true}
-use Rattle.tree_laws.specs.declared.turns.TurnAct.{TurnAct}
+use Rattle.std.proofs.Common.{ap}
 use Rattle.slot_laws.specs.Labels.{ends_all}
 use Rattle.disk_box.specs.Pens.{past_at}
 use Rattle.disk_box.proofs.Owes.{ended_room}

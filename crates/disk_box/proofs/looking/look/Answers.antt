@@ -1,7 +1,6 @@
-use Rattle.std.proofs.Common.{◌≡◌, ◌<◌, ◌∙◌, ℕ, None, Some, refl, sym, ap, subst}
+use Rattle.std.proofs.Common.{◌<◌, ◌∙◌, None, refl, sym, ap, subst}
 use Rattle.std.proofs.Common.{slice_set}
 use Rattle.slot_laws.specs.Labels.{OwnTold, own_label}
-use Rattle.slot_laws.specs.Rules.{LookedRule}
 use Rattle.slot_laws.specs.declared.label.Label.TheVariants as label
 use Rattle.disk_box.specs.Pens.{past_at}
 use Rattle.disk_box.specs.Turns.{Lands}

@@ -1,4 +1,4 @@
-use Rattle.std.proofs.Common.{◌≡◌, refl, arith}
+use Rattle.std.proofs.Common.{refl, arith}
 use Rattle.disk_box.proofs.After.{at_told, past_fits_at}
 use Rattle.disk_box.proofs.Noted.{noted_fits}
 use Rattle.slot_laws.specs.declared.label.Label.TheVariants as label

@@ -5,18 +5,17 @@ use Rattle.disk_change.specs.Parts.{BuiltParts, CanBePut, built_in, slots_begun}
 use Rattle.disk_change.specs.Patched.{patched}
 use Rattle.disk_change.proofs.after.put_node.Goals as goal
 
-pub put_patch-blocks-requires : goal.put_patch-blocks-requires
-put_patch-blocks-requires c =
+pub put_patch-slots-requires : goal.put_patch-slots-requires
+put_patch-slots-requires c =
     let begun = c.taken_slots.ensures.slots ∙ ap (λ (b : BuiltParts). slots_begun c.args.old.now.items b.own b.node) c.built.view_is in
     let can =
-    subst (λ (b : BuiltParts). CanBePut c.taken_slots.result.items b) (sym c.built.view_is) (subst (λ l. CanBePut l c.args.built) (sym begun) c.requires) in
-    record { fits = can.fits; empty = c.built.invariant.1; room = can.room }
+    subst (λ (b : BuiltParts). CanBePut c.taken_slots.result b) (sym c.built.view_is) (subst (λ l. CanBePut l c.args.built) (sym begun) c.requires) in
+    record { fits = can.fits; room = can.room }
 
 pub returns : goal.returns
 returns c =
     let inside = c.built.inside in
-    let slots =
-    ap (λ r. r.items) c.from_vec.ensures ∙ c.put_patch-blocks.ensures ∙ ap (λ l. take inside.end (patched inside.patch l)) c.taken_slots.ensures.slots in
+    let slots = c.put_patch-slots.ensures ∙ ap (λ l. take inside.end (patched inside.patch l)) c.taken_slots.ensures.slots in
     record {
       entry =
           (λ i. old_entry (record { 0 = inside.node.0 }) inside.number inside.meta inside.tables.items (slots i))

@@ -9,16 +9,15 @@ use Rattle.disk_change.proofs.after.put_placed.Goals as goal
 
 pub loop-one-preserved-then-one-len : goal.loop-one-preserved-then-one-len
 loop-one-preserved-then-one-len c =
-    ap (λ l. set l c.in-Some.one.place c.in-Some.one.slots) c.loop-one.invariant
-    ∙ sym (placed_last c.loop-one.yielded c.in-Some.one c.args.slots.items)
+    c.put.ensures ∙ ap (λ l. set l c.in-Some.one.place c.in-Some.one.slots) c.loop-one.invariant
+    ∙ sym (placed_last c.loop-one.yielded c.in-Some.one c.args.slots)
 
 pub loop-one-preserved : goal.loop-one-preserved
 loop-one-preserved c =
-    let long = c.len.ensures ∙ c.loop-one.slots.ok.0 in
     sym
-    (placed_last c.loop-one.yielded c.in-Some.one c.args.slots.items
+    (placed_last c.loop-one.yielded c.in-Some.one c.args.slots
     ∙ ap (λ l. set l c.in-Some.one.place c.in-Some.one.slots) (sym c.loop-one.invariant)
-    ∙ set_past c.loop-one.slots.items c.in-Some.one.place c.in-Some.one.slots (omega (arith, long, c.if-one-len.false)))
+    ∙ set_past c.loop-one.slots c.in-Some.one.place c.in-Some.one.slots (omega (arith, c.len.ensures, c.if-one-len.false)))
 
 pub returns : goal.returns
 returns c =
@@ -27,4 +26,4 @@ returns c =
     YieldsList-end
     (YieldsList-from_vec c.args.changed.items gives.0 (gives.1 ∙ c.args.changed.ok.0)) c.loop-one.yielded c.loop-one.one-iterator c.loop-one.yielded_by
     _ c.next.new.self c.in-None.is c.next.ensures.steps in
-    c.loop-one.invariant ∙ ap (λ l. with_placed l c.args.slots.items) (sym (map_itself c.loop-one.yielded) ∙ end.0)
+    c.loop-one.invariant ∙ ap (λ l. with_placed l c.args.slots) (sym (map_itself c.loop-one.yielded) ∙ end.0)

@@ -46,6 +46,7 @@ loop-seat-preserved c =
     let left = c.loop-seat.invariant.left in
     let count : c.blocks_needed-count.result ≡ blocks_taken (seat_in old seat) =
     c.blocks_needed-count.ensures ∙ ap (λ (s : SeatParts). blocks_taken (seat_with [] s)) c.seat.view_is in
+    let lent = c.as_slice.ensures in
     let first = c.first_of.ensures ∙ (λ j. take (count j) (left j)) in
     let next : map (seat_in old) (take (i + 1) seats) ≡ before ++ seat_in old seat ∷ [] =
     map_more (seat_in old) seats i seat c.loop-seat-test.true ∙ ap (λ s. before ++ seat_in old s ∷ []) (sym c.seat-item.is) in
@@ -57,7 +58,8 @@ loop-seat-preserved c =
           ap (map (built_in old)) nodes ∙ map-append (built_in old) c.loop-seat.nodes.items (one ∷ []) ∙ (λ j. c.loop-seat.invariant.nodes j ++ own j ∷ [])
           ∙ sym (ap (λ l. built_of_seats changes numbers l c.args.fresh.now) next ∙ built_last changes numbers before (seat_in old seat) c.args.fresh.now);
       written =
-          c.in_ok-push_blocks.ensures ∙ (λ j. c.loop-seat.invariant.written j ++ fresh_of_node files (sym built j))
+          c.in_ok-push_blocks.ensures ∙ ap (λ l. c.loop-seat.written.items ++ fresh_of_node files (built_with l one)) lent
+          ∙ (λ j. c.loop-seat.invariant.written j ++ fresh_of_node files (sym built j))
           ∙ sym
           (ap (λ l. flat_map (fresh_of_node files) (map (built_in old) l)) nodes
           ∙ ap (flat_map (fresh_of_node files)) (map-append (built_in old) c.loop-seat.nodes.items (one ∷ []))

@@ -4,8 +4,9 @@ use Rattle.sfs_base.specs.declared.numbers.Kind.TheVariants.{File}
 use Rattle.disk_nodes.specs.declared.old.OldEntry.{OldEntry}
 use Rattle.disk_change.specs.declared.enter.Enter.{Enter}
 use Rattle.disk_change.specs.Parts.{SeatParts, HavePatches, seat_in, seat_with}
+use Rattle.disk_change.specs.Patched.{IsPatchFor}
 use Rattle.disk_change.specs.Planned.{seated_old, seated_entering, has_listed_node}
-use Rattle.disk_change.specs.Seated.{CommitChanges, changes_in, begun_entering, seated}
+use Rattle.disk_change.specs.Seated.{CommitChanges, changes_in, begun_entering, net_of_node, seated}
 use Rattle.disk_change.proofs.Staying.{seated_in, patch_in, patches_more}
 use Rattle.disk_change.proofs.change.parts_of.Goals as goal
 
@@ -27,7 +28,10 @@ loop-one-preserved c =
     let one : Enter = get_or enter c.loop-one.one-index NO_ENTER in
     let begun = c.entering_node.ensures ∙ ap (λ l. begun_entering (get_or l c.loop-one.one-index NO_ENTER)) same in
     let seat : SeatParts = c.in_ok-seat_of.field-0 in
-    let is : seat_with [] seat ≡ seated changes (begun_entering one) = c.in_ok-seat_of.ensures.seat ∙ ap (λ b. seated changes (record b { slots = [] })) begun in
+    let none = c.new-none.ensures in
+    let is : seat_with [] seat ≡ seated changes (begun_entering one) =
+    ap (λ l. seat_with l seat) (sym none) ∙ c.in_ok-seat_of.ensures.seat ∙ ap (λ l. seated changes (record c.entering_node.result { slots = l })) none
+    ∙ ap (λ b. seated changes (record b { slots = [] })) begun in
     let now = c.in_ok-push.ensures.items in
     subst
     (λ those. record {
@@ -44,7 +48,8 @@ loop-one-preserved c =
           ∙ ap (λ l. map (seat_in old) c.in_ok-seats.seats.items ++ l) (sym (map_more (seated_entering changes) enter c.loop-one.one-index NO_ENTER within));
       patches =
           patches_more old nets c.loop-one.seats.items seat c.loop-one.invariant.patches
-          (patch_in changes old seat [] (begun_entering one) is nets refl c.in_ok-seat_of.ensures.patch);
+          (patch_in changes old seat [] (begun_entering one) is nets refl
+          (subst (λ l. IsPatchFor (net_of_node nets seat.node) seat.end l seat.patch) none c.in_ok-seat_of.ensures.patch));
     })
 
 pub returns : goal.returns

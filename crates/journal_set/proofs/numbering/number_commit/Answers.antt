@@ -1,10 +1,10 @@
-use Rattle.std.proofs.Common.{◌≡◌, ◌+◌, ◌∷◌, ◌++◌, ◌∙◌, ℕ, List, [], length, Some, None, refl, sym, ap, subst}
+use Rattle.std.proofs.Common.{◌≡◌, ◌+◌, ◌∷◌, ◌++◌, ◌∙◌, ℕ, [], length, Some, None, refl, sym, ap, subst}
 use Rattle.sfs_base.specs.Lists.{Roomy}
 use Rattle.slot_laws.specs.declared.label.Label.{Label}
 use Rattle.slot_laws.specs.declared.label.Label.TheVariants as label
 use Rattle.slot_laws.specs.declared.label.Seen.{Seen}
 use Rattle.slot_laws.specs.Nodes.{last_ended, last_seen}
-use Rattle.slot_laws.specs.Labels.{BoxPast, OwnTold, own_label}
+use Rattle.slot_laws.specs.Labels.{OwnTold}
 use Rattle.slot_laws.specs.Rules.{MayLabel}
 use Rattle.slot_laws.specs.declared.label.Label.TheVariants as label
 use Rattle.tree_laws.specs.Tree.{TreeState}
@@ -22,7 +22,7 @@ use Rattle.disk_box.specs.declared.key.BoxKey.{BoxKey}
 use Rattle.disk_box.specs.declared.desk.Desk.{Desk}
 use Rattle.journal_set.specs.Grants.{grant_from}
 use Rattle.journal_set.proofs.Parts.{grant_more}
-use Rattle.disk_box.specs.Pens.{PenHand, TellsLabel, past_at, own_at}
+use Rattle.disk_box.specs.Pens.{PenHand, TellsLabel, past_at}
 use Rattle.disk_box.proofs.After.{at_told, failed_told, past_fits_at}
 use Rattle.disk_box.proofs.Owes.{owns_own}
 use Rattle.journal_set.proofs.Parts.{same_grant, same_nodes}
@@ -33,33 +33,33 @@ pub note-requires-clause-may : goal.note-requires-clause-may
 note-requires-clause-may g c κs within =
     let pen = c.args.pen.now in
     let desk = c.args.desk.now in
-    let work = c.requires.work in
+    let work = c.requires.may.work in
     let own = owns_own c.args.table.now pen work.holds in
     let ok = c.in_ok-prepared.ensures.ok in
     let made = c.in_ok-prepared.prepared in
     let next = ok.number ∙ ap (λ n. n + 1) work.fits.frame.ledger.commits in
-    let unmoved = subst (λ l. (node last : ℕ) → last_seen l node ≡ Some last → (past_at pen).lasts node ≡ last_ended last) (sym ok.seen_is) c.requires.unmoved in
+    let unmoved = subst (λ l. (node last : ℕ) → last_seen l node ≡ Some last → (past_at pen).lasts node ≡ last_ended last) (sym ok.seen_is) c.requires.may.unmoved in
     subst (λ (l : Label). MayLabel pen.table.given.layout pen.table.given.faults pen.view.core l (past_at pen)) (sym c.label_for-label.ensures)
     (reserved_rule g.D.Disk.view pen.table.given pen.view.core (past_at pen) (past_fits_at c.args.table.now pen work.holds) desk work.fits.frame
-    work.holds.core_is (ap (λ (o : OwnTold). o.reserved) own ∙ c.requires.rests.0) (ap (λ (o : OwnTold). o.flight) own ∙ c.requires.rests.1) made.number
+    work.holds.core_is (ap (λ (o : OwnTold). o.reserved) own ∙ c.requires.may.rests.0) (ap (λ (o : OwnTold). o.flight) own ∙ c.requires.may.rests.1) made.number
     made.seen made.grant work.calm next unmoved)
 
 pub enter-requires : goal.enter-requires
 enter-requires g c =
     let pen = c.args.pen.now in
     let desk = c.args.desk.now in
-    let work = c.requires.work in
+    let work = c.requires.may.work in
     let own = owns_own c.args.table.now pen work.holds in
     let ok = c.in_ok-prepared.ensures.ok in
     let made = c.in_ok-prepared.prepared in
     let parts = c.parts_of-nodes.ensures in
     let nodes = same_nodes made.number parts.0 made.seen c.parts_of-nodes.result.0 made.grant c.parts_of-nodes.result.1
-      (sym c.label_for-label.ensures ∙ parts.1)
+    (sym c.label_for-label.ensures ∙ parts.1)
     in
     let places = subst (λ l. HasPlaces c.prepare.new.self.lasts l) (sym ok.seen_is ∙ ap (λ (r : Roomy Seen). r.items) nodes) ok.places in
     let enter = may_enter g.D.Disk.view pen.table.given pen.view.core (past_at pen) (past_fits_at c.args.table.now pen work.holds) desk work.fits.frame
-      work.holds.core_is (ap (λ (o : OwnTold). o.reserved) own ∙ c.requires.rests.0) (ap (λ (o : OwnTold). o.flight) own ∙ c.requires.rests.1)
-      c.prepare.new.self c.parts_of-nodes.result.0.items ok.taken.opens places
+    work.holds.core_is (ap (λ (o : OwnTold). o.reserved) own ∙ c.requires.may.rests.0) (ap (λ (o : OwnTold). o.flight) own ∙ c.requires.may.rests.1)
+    c.prepare.new.self c.parts_of-nodes.result.0.items ok.taken.opens places
     in
     let core_same = ap (λ (v : Sight TreeState (Event Label)). v.core) c.note.ensures.tells.goes.view in
     record { may = subst (λ n. MayEnter n c.parts_of-nodes.result.0.items c.prepare.new.self) (sym (c.number.ensures ∙ core_same)) enter }
@@ -71,7 +71,7 @@ returns-clause-ok g c =
     let pen = c.args.pen.now in
     let after = c.note.new.pen in
     let desk = c.args.desk.now in
-    let work = c.requires.work in
+    let work = c.requires.may.work in
     let own = owns_own t pen work.holds in
     let ok = c.in_ok-prepared.ensures.ok in
     let made = c.in_ok-prepared.prepared in
@@ -82,27 +82,27 @@ returns-clause-ok g c =
     let grants = same_grant made.number parts.0 made.seen c.parts_of-nodes.result.0 made.grant c.parts_of-nodes.result.1 both in
     let tells : TellsLabel told pen after = subst (λ (l : Label). TellsLabel l pen after) c.label_for-label.ensures c.note.ensures.tells in
     let core_same = ap (λ (v : Sight TreeState (Event Label)). v.core) tells.goes.view in
-    let none = ap (λ (o : OwnTold). o.reserved) own ∙ c.requires.rests.0 in
-    let rests = ap (λ (o : OwnTold). o.flight) own ∙ c.requires.rests.1 in
+    let none = ap (λ (o : OwnTold). o.reserved) own ∙ c.requires.may.rests.0 in
+    let rests = ap (λ (o : OwnTold). o.flight) own ∙ c.requires.may.rests.1 in
     let next = ok.number ∙ ap (λ n. n + 1) work.fits.frame.ledger.commits in
-    let unmoved = subst (λ l. (node last : ℕ) → last_seen l node ≡ Some last → (past_at pen).lasts node ≡ last_ended last) (sym ok.seen_is) c.requires.unmoved in
+    let unmoved = subst (λ l. (node last : ℕ) → last_seen l node ≡ Some last → (past_at pen).lasts node ≡ last_ended last) (sym ok.seen_is) c.requires.may.unmoved in
     let fits = past_fits_at t pen work.holds in
     let rule = reserved_rule g.D.Disk.view pen.table.given pen.view.core (past_at pen) fits desk work.fits.frame work.holds.core_is none rests made.number
-      made.seen made.grant work.calm next unmoved
+    made.seen made.grant work.calm next unmoved
     in
     let enters : Enters pen.view.core made.number made.seen.items c.prepare.new.self c.enter.new.self =
-      subst (λ (z : ℕ × Roomy Seen). Enters z.0 made.number z.1.items c.prepare.new.self c.enter.new.self) (λ i. ((c.number.ensures ∙ core_same) i, sym nodes i))
-      c.enter.ensures.enters
+    subst (λ (z : ℕ × Roomy Seen). Enters z.0 made.number z.1.items c.prepare.new.self c.enter.new.self) (λ i. ((c.number.ensures ∙ core_same) i, sym nodes i))
+    c.enter.ensures.enters
     in
     let goes : LedgerGoes told (past_at pen) desk.ledger c.enter.new.self =
-      subst (λ (r : Roomy Seen). LedgerGoes (label.Reserved made.number r made.grant) (past_at pen) desk.ledger c.enter.new.self) (sym nodes)
-      (c.enter.ensures.goes desk.ledger made.grant (past_at pen) ok.taken work.fits.frame.ledger
-      (subst (λ (z : ℕ × Roomy Seen). ReservedRule z.0 made.number z.1.items (past_at pen)) (λ i. (sym (c.number.ensures ∙ core_same) i, nodes i)) rule))
+    subst (λ (r : Roomy Seen). LedgerGoes (label.Reserved made.number r made.grant) (past_at pen) desk.ledger c.enter.new.self) (sym nodes)
+    (c.enter.ensures.goes desk.ledger made.grant (past_at pen) ok.taken work.fits.frame.ledger
+    (subst (λ (z : ℕ × Roomy Seen). ReservedRule z.0 made.number z.1.items (past_at pen)) (λ i. (sym (c.number.ensures ∙ core_same) i, nodes i)) rule))
     in
     let now : Desk D = record desk { ledger = c.enter.new.self } in
     let at = at_told g.D.Disk.view t pen after told c.note.ensures.holds tells desk now work.space (goes.space (record { 0 = pen.view.core }))
-      (entered_fits g.D.Disk.view pen.table.given pen.view.core (past_at pen) fits desk work.fits.frame work.holds.core_is none rests made.number made.seen
-      made.grant work.calm next unmoved c.prepare.new.self c.enter.new.self ok.taken.opens enters goes work.fits c.requires.room)
+    (entered_fits g.D.Disk.view pen.table.given pen.view.core (past_at pen) fits desk work.fits.frame work.holds.core_is none rests made.number made.seen
+    made.grant work.calm next unmoved c.prepare.new.self c.enter.new.self ok.taken.opens enters goes work.fits c.requires.may.room)
     in
     let key_same : after.table.given ≡ pen.table.given = ap (λ (h : PenHand D). h.table.given) tells.goes.frame in
     record {

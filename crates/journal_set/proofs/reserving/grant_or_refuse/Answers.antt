@@ -1,8 +1,6 @@
-use Rattle.std.proofs.Common.{◌≡◌, ◌+◌, ◌*◌, ◌<◌, ◌≤◌, ◌∷◌, ◌++◌, ◌∙◌, ℕ, List, [], Some, None, refl, sym, ap, subst, arith}
-use mathlib.Core.List.{IsPrefix}
+use Rattle.std.proofs.Common.{◌≡◌, ◌*◌, ◌<◌, ◌≤◌, ◌∙◌, None, sym, ap, subst, arith}
 use Rattle.tree_laws.specs.Tree.{TreeState}
 use Rattle.stamp_table.specs.declared.event.Event.{Event}
-use Rattle.stamp_table.specs.declared.event.Event.TheVariants.{Told}
 use Rattle.stamp_table.specs.declared.view.View.{View as Sight}
 use Rattle.slot_laws.specs.declared.label.Label.{Label}
 use Rattle.slot_laws.specs.declared.label.Label.TheVariants as label
@@ -23,9 +21,9 @@ note_turn-requires-clause-may g c κs within =
     let desk = c.number_commit.new.desk in
     let same = c.in-Err-NoSpace.ensures.err in
     let work : IsAtWork g.D.Disk.view t pen desk =
-      subst (λ (z : PenHand g.row.D.Denot × Desk g.row.D.Denot). IsAtWork g.D.Disk.view t z.0 z.1) (λ i. (sym same.0 i, sym same.1 i)) c.requires.work
+    subst (λ (z : PenHand g.row.D.Denot × Desk g.row.D.Denot). IsAtWork g.D.Disk.view t z.0 z.1) (λ i. (sym same.0 i, sym same.1 i)) c.requires.may.work
     in
-    let idle = ap (λ (h : PenHand g.row.D.Denot). (own_at h).flight) same.0 ∙ c.requires.rests.1 in
+    let idle = ap (λ (h : PenHand g.row.D.Denot). (own_at h).flight) same.0 ∙ c.requires.may.rests.1 in
     let by = c.turn-turn.ensures.by in
     let moment = work.fits.frame.moment in
     let now = c.turn-turn.ensures.now in
@@ -39,9 +37,9 @@ note_turn-requires-clause-room g c κs within =
     let pen = c.number_commit.new.pen in
     let same = c.in-Err-NoSpace.ensures.err in
     let room = subst (λ (z : PenHand g.row.D.Denot × Desk g.row.D.Denot). 4 * z.0.table.given.layout.cores ≤ z.1.turns.spare) (λ i. (sym same.0 i, sym same.1 i))
-      c.requires.room
+    c.requires.may.room
     in
-    let low = subst (λ (h : PenHand g.row.D.Denot). h.view.core < h.table.given.layout.cores) (sym same.0) c.requires.work.holds.core_is in
+    let low = subst (λ (h : PenHand g.row.D.Denot). h.view.core < h.table.given.layout.cores) (sym same.0) c.requires.may.work.holds.core_is in
     room_beside pen.table.given.layout.cores pen.view.core c.number_commit.new.desk.turns.spare _ low room
 
 pub note_turn-requires-2-clause-may : goal.note_turn-requires-2-clause-may
@@ -49,7 +47,7 @@ note_turn-requires-2-clause-may g c κs within =
     let t = c.args.table.now in
     let pen = c.number_commit.new.pen in
     let ok = c.in-Ok.ensures.ok in
-    let idle = ap (λ (o : OwnTold). o.flight) ok.own ∙ c.requires.rests.1 in
+    let idle = ap (λ (o : OwnTold). o.flight) ok.own ∙ c.requires.may.rests.1 in
     let by = c.turn-turn-2.ensures.by in
     let moment = ok.work.fits.frame.moment in
     let now = c.turn-turn-2.ensures.now in
@@ -64,8 +62,8 @@ note_turn-requires-2-clause-room g c κs within =
     let ok = c.in-Ok.ensures.ok in
     let key_same : pen.table.given ≡ c.args.pen.now.table.given = ap (λ (h : PenHand g.row.D.Denot). h.table.given) ok.goes.frame in
     let room : 4 * pen.table.given.layout.cores ≤ c.number_commit.new.desk.turns.spare =
-      subst (λ (z : BoxKey × Rattle.sfs_base.specs.Lists.Roomy Rattle.tree_laws.specs.declared.turns.Turn.Turn). 4 * z.0.layout.cores ≤ z.1.spare)
-      (λ i. (sym key_same i, sym ok.turns i)) c.requires.room
+    subst (λ (z : BoxKey × Rattle.sfs_base.specs.Lists.Roomy Rattle.tree_laws.specs.declared.turns.Turn.Turn). 4 * z.0.layout.cores ≤ z.1.spare)
+    (λ i. (sym key_same i, sym ok.turns i)) c.requires.may.room
     in
     room_beside pen.table.given.layout.cores pen.view.core c.number_commit.new.desk.turns.spare _ ok.work.holds.core_is room
 

@@ -1,6 +1,7 @@
-use Rattle.std.proofs.Common.{◌≡◌, true, refl, sym, subst}
-use Rattle.tree_laws.specs.Tree.{is_alive}
+use Rattle.std.proofs.Common.{◌≡◌, refl, sym, subst}
 use Rattle.volume_one.specs.Ends.{FlushEnds, dead, stopped, unplanned, planned}
+use Rattle.volume_one.specs.May.{MayCarryPlan}
+use Rattle.volume_one.specs.Planned.{IsSameKnown}
 use Rattle.volume_one.specs.declared.flushed.Flushed.{Flushed}
 use Rattle.volume_one.specs.declared.volume.OpenVolume.{OpenVolume}
 use Rattle.volume_one.proofs.Granting.{plan_carried, was_known}
@@ -24,15 +25,25 @@ returns-in-Some-clause-ends g c =
 pub bring-requires-clause-may : goal.bring-requires-clause-may
 bring-requires-clause-may g c κs within =
     let is = c.requires.standing in
-    let same = c.in-Ok.ensures.same in
-    plan_carried is.kept c.args.node c.args.stamp c.planned.new.self (known_remembers is.kept c.args.self.now c.planned.new.self is.remembers same) is.counted
-    (subst (λ (v : OpenVolume). is_alive v.tree c.args.node.0 ≡ true) (sym same.others) (sym c.if-not-is_alive.ensures))
-    c.in-Ok.plan (was_known c.args.node c.args.stamp c.args.self.now c.planned.new.self same c.in-Ok.plan c.in-Ok.ensures.planned)
+    let old = c.args.self.now in
+    let lent = c.in-Ok.ensures.lent in
+    let whole : OpenVolume = record old { known = c.planned.new.self.known } in
+    let same : IsSameKnown old whole = record { known = lent.known; others = refl } in
+    subst (λ (v : OpenVolume). MayCarryPlan v c.in-Ok.plan) (sym lent.others)
+    (plan_carried is.kept c.args.node c.args.stamp whole (known_remembers is.kept old whole is.remembers same) is.counted
+    (sym c.if-not-is_alive.ensures)
+    c.in-Ok.plan (was_known c.args.node c.args.stamp old whole same c.in-Ok.plan c.in-Ok.ensures.planned))
+
+pub bring-requires-clause-places : goal.bring-requires-clause-places
+bring-requires-clause-places g c κs within = c.in-Ok.ensures.lent.lent.places
 
 pub returns-in-Ok-clause-ends : goal.returns-in-Ok-clause-ends
 returns-in-Ok-clause-ends g c =
+    let lent = c.in-Ok.ensures.lent in
+    let whole : OpenVolume = record c.args.self.now { known = c.planned.new.self.known } in
     planned c.bring.result
-    (sym c.if-not-is_alive.ensures) c.in_default.is c.in-Ok.plan c.planned.new.self c.in-Ok.ensures.planned c.in-Ok.ensures.same c.bring.ensures.ends
+    (sym c.if-not-is_alive.ensures) c.in_default.is c.in-Ok.plan whole c.in-Ok.ensures.planned (record { known = lent.known; others = refl })
+    (c.bring.ensures.ends whole (record { entries = lent.lent.entries; others = lent.others }))
 
 pub returns-in-Err-clause-ends : goal.returns-in-Err-clause-ends
 returns-in-Err-clause-ends g c =

@@ -1,8 +1,9 @@
-use Rattle.std.proofs.Common.{Option, refl, sym, subst}
+use Rattle.std.proofs.Common.{Option, refl, sym, subst, ◌∙◌}
 use Rattle.std.specs.Option.{option_copied}
-use Rattle.std.proofs.lemmas.Result.{IfOk-weaker}
+use Rattle.std.proofs.lemmas.Result.{IfOk-weaker, on_err_weaker}
 use Rattle.core_logs.specs.Logs.{AreGathered}
 use Rattle.mem_files.specs.File.{File}
+use Rattle.volume_one.specs.Lent.{AreLentTo}
 use Rattle.volume_one.specs.Planned.{IsPlannedByGathered, WasPlanned}
 use Rattle.volume_one.proofs.Leading.{orderly_logs}
 use Rattle.volume_one.proofs.volume.OpenVolume.planned.Goals as goal
@@ -34,4 +35,32 @@ returns-clause-planned c =
       orderly = orderly;
       planned = subst (λ (f : Option File). IsPlannedByGathered c.args.node c.args.stamp gathered volume.stored f plan) c.get-file.ensures planned;
     })
-    c.plan_of-plan.ensures
+    c.plan_of-plan.ensures.planned
+
+pub returns-clause-lent : goal.returns-clause-lent
+returns-clause-lent c =
+    IfOk-weaker c.plan_of-plan.result (AreLentTo c.args.self.now.stored c.plan_of-plan.new.old) _
+    (λ plan lent. record {
+      known = record {
+        cuts = sym c.take_back.ensures.cuts ∙ c.lend-gathered.ensures.gathered.cuts;
+        births = sym c.take_back.ensures.births ∙ c.lend-gathered.ensures.gathered.births;
+        inodes = sym c.take_back.ensures.inodes ∙ c.lend-gathered.ensures.gathered.inodes;
+      };
+      lent = lent;
+      others = refl;
+    })
+    c.plan_of-plan.ensures.lent
+
+pub returns-clause-same : goal.returns-clause-same
+returns-clause-same c =
+    on_err_weaker c.plan_of-plan.result
+    (λ entries. record {
+      known = record {
+        cuts = sym c.take_back.ensures.cuts ∙ c.lend-gathered.ensures.gathered.cuts;
+        births = sym c.take_back.ensures.births ∙ c.lend-gathered.ensures.gathered.births;
+        inodes = sym c.take_back.ensures.inodes ∙ c.lend-gathered.ensures.gathered.inodes;
+      };
+      entries = entries;
+      others = refl;
+    })
+    c.plan_of-plan.ensures.same

@@ -1,0 +1,21 @@
+use Rattle.std.proofs.Common.{◌∙◌, None, ap}
+use Rattle.tree_laws.specs.Tree.{TreeState}
+use Rattle.stamp_table.specs.declared.event.Event.{Event}
+use Rattle.stamp_table.specs.declared.view.View.{View as Sight}
+use Rattle.slot_laws.specs.declared.label.Label.{Label}
+use Rattle.slot_laws.specs.declared.label.Label.TheVariants as label
+use Rattle.slot_laws.specs.Labels.{fsync_told}
+use Rattle.journal_set.specs.Emptying.{NOTHING}
+use Rattle.journal_set.specs.Grants.{grant_from}
+use Rattle.journal_set.proofs.Nothing.{empties_around}
+use Rattle.journal_set.proofs.Parts.{grant_more}
+use Rattle.journal_set.proofs.set.JournalSet.commit_empty.Goals as goal
+
+pub returns-clause-comes : goal.returns-clause-comes
+returns-clause-comes g c =
+    let done = c.empty_at-result.new.pen in
+    empties_around (record { flush = fsync_told c.args.fsync.node c.args.fsync.stamp; seen = c.args.seen.now; need = NOTHING })
+    c.args.pen.now c.enter-desk.new.pen done c.leave.new.pen c.enter-desk.ensures.goes c.leave.ensures.goes c.enter-desk.ensures.own c.leave.ensures.own
+    (ap (λ l. grant_from l None) c.leave.ensures.mine ∙ grant_more done.view.mine label.Gave done.view.core None)
+    (ap (λ (v : Sight TreeState (Event Label)). v.core) c.empty_at-result.ensures.goes.view)
+    c.empty_at-result.result c.empty_at-result.ensures.comes

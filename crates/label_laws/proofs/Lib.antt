@@ -1,0 +1,8 @@
+pub mod Owing
+pub mod Opens
+pub mod Same
+pub mod Drawn
+pub mod Along
+pub mod Fsyncs
+pub mod Walking
+pub mod Beginning

@@ -1,0 +1,4 @@
+//! What labels of journal slots come to beside what commits bring.
+#![tactic(auto)]
+
+pub mod laws;

@@ -1,0 +1,5 @@
+pub mod There
+pub mod Later
+pub mod Known
+pub mod Telling
+pub mod Own
