@@ -17,13 +17,13 @@ use Rattle.slot_laws.proofs.Lasts.{reserve_fits}
 use Rattle.slot_laws.proofs.GrantsHeld.{take_fits}
 use Rattle.commit_ledger.specs.View.{OpenView, LedgerView, last_in, open_in}
 use Rattle.commit_ledger.specs.Keeps.{LedgerKeeps, IsTold, LedgerGoes}
-use Rattle.commit_ledger.specs.Calls.{HasTaken, MayEnter, Enters}
+use Rattle.commit_ledger.specs.Calls.{HasTaken, MayEnter, EntersCommit}
 use Rattle.commit_ledger.proofs.Places.{found_after, found_put, found_kept}
 
 -- A reserving: a ledger as it was, one from whose map the grant was taken, and one in which the commit is open.
 pub record Reserves (core number : ℕ) (seen : Roomy Seen) (grant : GrantedNumbers) (before old new : LedgerView) (past : BoxPast) : Type 0 where
   pub may : MayEnter core seen.items old
-  pub enters : Enters core number seen.items old new
+  pub enters : EntersCommit core number seen.items old new
   pub taken : HasTaken grant before old
   pub keeps : LedgerKeeps before past
   pub rule : ReservedRule core number seen.items past

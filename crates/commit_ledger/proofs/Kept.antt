@@ -19,7 +19,7 @@ use Rattle.slot_laws.specs.Labels.{BoxPast}
 use Rattle.slot_laws.specs.Grants.{AreGranted, inodes_granted, blocks_granted}
 use Rattle.slot_laws.proofs.Numbered.{find_split, at_seam}
 use Rattle.slot_laws.proofs.GrantsHeld.{same_commit}
-use Rattle.commit_ledger.specs.View.{DebtView, OpenView, LedgerView, last_in, open_in, is_moved, as_it_is, HasPlaces}
+use Rattle.commit_ledger.specs.View.{DebtView, OpenView, LedgerView, last_in, open_in, is_moved, as_it_is, HaveNodePlaces}
 use Rattle.commit_ledger.specs.Keeps.{LedgerKeeps, IsTold, HasDebt, Owes}
 use Rattle.commit_ledger.specs.Calls.{HasOpen, IsOut}
 use Rattle.commit_ledger.specs.Laws.{QuietLabelsKeepIt, UnmovedAreAsSeen, IsToldOnce, OpenOnesAreToldOnce, OpenOnesHavePlaces, GrantedMayReturn, BegunMayEnd}
@@ -101,7 +101,7 @@ module _ (ledger : LedgerView) (past : BoxPast) (keeps : LedgerKeeps ledger past
       keeps.fits.counts told.commit node told.among (subst (λ (seen : List Seen). is_some (last_seen seen node) ≡ true) (sym told.seen_is) held)
       ∙ ap (λ (n : ℕ). record { number = n; ended = false }) told.number_is
 
-  open_places : HasPlaces ledger.lasts one.seen
+  open_places : HaveNodePlaces ledger.lasts one.seen
   open_places =
       All-from_recursion (λ (seen : Seen). seen.node.0 < length ledger.lasts) one.seen
       (seen_pass (length ledger.lasts) one.seen

@@ -8,7 +8,7 @@ use Rattle.slot_laws.specs.declared.label.Seen.{Seen}
 use Rattle.slot_laws.specs.Nodes.{last_seen, last_ended, returned_last, reserved_lasts}
 use Rattle.slot_laws.specs.Grants.{TakesGrant}
 use Rattle.commit_ledger.specs.declared.beginning.Prepared.{Prepared}
-use Rattle.commit_ledger.specs.View.{DebtView, OpenView, LedgerView, last_in, open_in, HasPlaces}
+use Rattle.commit_ledger.specs.View.{DebtView, OpenView, LedgerView, last_in, open_in, HaveNodePlaces}
 
 -- A grant was taken from a ledger's map, and nothing else has changed of what it says.
 pub record HasTaken (grant : GrantedNumbers) (old new : LedgerView) : Type 0 where
@@ -25,16 +25,16 @@ pub record Prepares (seen : List Seen) (need : Need) (prepared : Prepared) (old 
   pub inodes : length prepared.grant.inodes ≡ need.inodes
   pub blocks : length prepared.grant.blocks ≡ need.blocks
   pub taken : HasTaken prepared.grant old new
-  pub places : HasPlaces new.lasts seen
+  pub places : HaveNodePlaces new.lasts seen
 
 -- A core of the ledger has no open commit, and each of these nodes has its place.
 pub record MayEnter (core : ℕ) (seen : List Seen) (ledger : LedgerView) : Type 0 where
   pub within : core < length ledger.opens
   pub none : open_in ledger core ≡ None
-  pub places : HasPlaces ledger.lasts seen
+  pub places : HaveNodePlaces ledger.lasts seen
 
 -- A commit is a core's open one, with the last number given, and the last one of each of its nodes.
-pub record Enters (core number : ℕ) (seen : List Seen) (old new : LedgerView) : Type 0 where
+pub record EntersCommit (core number : ℕ) (seen : List Seen) (old new : LedgerView) : Type 0 where
   pub space : new.space ≡ old.space
   pub commits : new.commits ≡ number
   pub lasts : (node : ℕ) → last_in new node ≡ reserved_lasts number seen (last_in old) node
@@ -45,7 +45,7 @@ pub record Enters (core number : ℕ) (seen : List Seen) (old new : LedgerView) 
 pub record HasOpen (core : ℕ) (ledger : LedgerView) : Type 0 where
   pub one : OpenView
   pub there : open_in ledger core ≡ Some one
-  pub places : HasPlaces ledger.lasts one.seen
+  pub places : HaveNodePlaces ledger.lasts one.seen
 
 -- One that has not begun in a slot.
 pub record HasEntered (core : ℕ) (ledger : LedgerView) : Type 0 where

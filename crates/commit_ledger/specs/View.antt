@@ -51,5 +51,5 @@ abbrev pub moved_in : LedgerView → List Seen → Option Seen
 moved_in ledger seen = option_map (as_it_is ledger) (find (is_moved ledger) seen)
 
 -- a list by node has a place for each of these nodes
-abbrev pub HasPlaces : List LastCommit → List Seen → Type 0
-HasPlaces lasts seen = All (λ (one : Seen). one.node.0 < length lasts) seen
+abbrev pub HaveNodePlaces : List LastCommit → List Seen → Type 0
+HaveNodePlaces lasts seen = All (λ (one : Seen). one.node.0 < length lasts) seen

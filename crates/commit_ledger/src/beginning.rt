@@ -7,7 +7,7 @@ ghost use Rattle.slot_laws.specs.Rules.{ReservedRule};
 ghost use Rattle.slot_laws.specs.declared.label.Label.TheVariants as label;
 ghost use Rattle.commit_ledger.specs.View.{LedgerView, last_at};
 ghost use Rattle.commit_ledger.specs.Keeps.{LedgerKeeps, LedgerGoes};
-ghost use Rattle.commit_ledger.specs.Calls.{HasTaken, Prepares, MayEnter, Enters};
+ghost use Rattle.commit_ledger.specs.Calls.{HasTaken, Prepares, MayEnter, EntersCommit};
 
 use crate::Ledger;
 use crate::last::{Last, NO_LAST, set_all};
@@ -60,7 +60,7 @@ impl Ledger {
     /// no memory.
     pub fn enter(&mut self, core: CoreId, number: u64, seen: RoomyList<Seen>)
         requires may { MayEnter core.0 seen.items self.old }
-        ensures enters { Enters core.0 number seen.items self.old self.new }
+        ensures enters { EntersCommit core.0 number seen.items self.old self.new }
         ensures goes { (before : LedgerView) (grant : GrantedNumbers) (past : BoxPast)
             → HasTaken grant before self.old → LedgerKeeps before past
             → ReservedRule core.0 number seen.items past

@@ -8,7 +8,7 @@ ghost use Rattle.slot_laws.specs.Labels.{BoxPast};
 ghost use Rattle.slot_laws.specs.Nodes.{no_numbers, last_seen, last_ended};
 ghost use Rattle.slot_laws.specs.Rules.{EmptyTurns};
 ghost use Rattle.slot_laws.specs.declared.label.Label.TheVariants as label;
-ghost use Rattle.commit_ledger.specs.View.{number_in, open_in, last_at, HasPlaces};
+ghost use Rattle.commit_ledger.specs.View.{number_in, open_in, last_at, HaveNodePlaces};
 ghost use Rattle.commit_ledger.specs.Keeps.{LedgerKeeps, LedgerGoes, WasGranted};
 ghost use Rattle.commit_ledger.specs.Calls.{HasEntered, MayReturn, MayEnd, Returns, TakesDebt, PaysDebt, EndsEmpty};
 
@@ -120,7 +120,7 @@ impl Ledger {
 
 // Each of these nodes has the commit with this number as its last, which has ended.
 fn set_ended(lasts: &mut Vec<Last>, number: u64, seen: &[Seen])
-    requires { HasPlaces lasts.old.items seen.now }
+    requires { HaveNodePlaces lasts.old.items seen.now }
     ensures long { length lasts.new.items ≡ length lasts.old.items }
     ensures set { (node : ℕ) → last_at lasts.new.items node ≡
         (if is_some (last_seen seen.now node) then last_ended number else last_at lasts.old.items node) }

@@ -1,7 +1,7 @@
 // Of each node the last commit that concerned it.
 ghost use Rattle.std.specs.Prelude.{◌≡◌, ◌≤◌, ◌<◌, ◌&&◌, ◌==◌, ℕ, length, if◌then◌else◌, is_some, slice_index_or};
 ghost use Rattle.slot_laws.specs.Nodes.{last_seen, returned_last, no_last};
-ghost use Rattle.commit_ledger.specs.View.{last_at, HasPlaces};
+ghost use Rattle.commit_ledger.specs.View.{last_at, HaveNodePlaces};
 
 use slot_laws::Seen;
 use std::marker::Model;
@@ -31,7 +31,7 @@ pub(crate) const NO_LAST: Last = Last {
 
 // Each of these nodes has this last commit. It takes no memory.
 pub(crate) fn set_all(lasts: &mut Vec<Last>, seen: &[Seen], last: Last)
-    requires { HasPlaces lasts.old.items seen.now }
+    requires { HaveNodePlaces lasts.old.items seen.now }
     ensures long { length lasts.new.items ≡ length lasts.old.items }
     ensures set { (node : ℕ) → last_at lasts.new.items node ≡
         (if is_some (last_seen seen.now node) then last else last_at lasts.old.items node) }
@@ -44,7 +44,7 @@ pub(crate) fn set_all(lasts: &mut Vec<Last>, seen: &[Seen], last: Last)
 // Each of these nodes has the last commit that was seen of it, which has ended; of a node that is listed
 // twice the first counts. It takes no memory.
 pub(crate) fn set_seen(lasts: &mut Vec<Last>, seen: &[Seen])
-    requires { HasPlaces lasts.old.items seen.now }
+    requires { HaveNodePlaces lasts.old.items seen.now }
     ensures long { length lasts.new.items ≡ length lasts.old.items }
     ensures set { (node : ℕ) → last_at lasts.new.items node
         ≡ returned_last (last_seen seen.now node) (last_at lasts.old.items node) }

@@ -18,7 +18,7 @@ use Rattle.disk_box.specs.declared.desk.Slot.{Slot}
 use Rattle.disk_box.specs.declared.kind.Kind.{Kind}
 use Rattle.disk_box.specs.Kind.{HasKind, kind_of}
 use Rattle.disk_box.specs.Slots.{Notes, NotesWork, PhaseFits, SlotsFit}
-use Rattle.disk_box.specs.Pens.{PenHand, past_at, IsAtWork}
+use Rattle.disk_box.specs.Pens.{PenHand, past_at, WorksAtDesk}
 use Rattle.disk_box.proofs.Phases.{has_commit, work_told}
 use Rattle.disk_box.proofs.SlotLists.{slots_put}
 
@@ -42,7 +42,7 @@ pub record IsTold (past : BoxPast) (layout : Layout) (k : ℕ) (slot : Slot) : T
   pub notes : NotesWork slot work
 
 pub told_at : {D : Type 0} (view : D → View) (t : TableState BoxKey) (pen : PenHand D) (desk : Desk D) (k : ℕ) (what : Kind)
-    → IsAtWork view t pen desk → (has : HasKind desk.slots.items k what) → has_commit what ≡ true
+    → WorksAtDesk view t pen desk → (has : HasKind desk.slots.items k what) → has_commit what ≡ true
     → IsTold (past_at pen) pen.table.given.layout k has.slot
 told_at view t pen desk k what at has busy =
     let layout = pen.table.given.layout in

@@ -31,7 +31,7 @@ use Rattle.disk_box.specs.Calls.{FollowsWrite, WritesNext, blocks_of, next_piece
 use Rattle.disk_box.specs.Desk.{FrameFits, open_for, owed_by, owed_of, turn_faults}
 use Rattle.disk_box.specs.Kind.{HasKind}
 use Rattle.disk_box.specs.Slots.{IsSealedOf, PhaseFits, SlotsFit}
-use Rattle.disk_box.specs.Pens.{PenHand, past_at, own_at, HoldsBox, TellsLabel, IsAtWork}
+use Rattle.disk_box.specs.Pens.{PenHand, past_at, own_at, HoldsBox, TellsLabel, WorksAtDesk}
 use Rattle.disk_box.specs.Steps.{OpensFlight, Steps}
 use Rattle.disk_box.proofs.After.{past_fits_at, space_told}
 use Rattle.disk_box.proofs.AtSlots.{IsTold, known_put, known_put_ok, of_there, ok_then, told_at, writes_as}
@@ -83,7 +83,7 @@ pub faults_calm : {D : Type 0} (view : D → View) (key : BoxKey) (past : BoxPas
 faults_calm view key past desk faults now frame calm is =
     is ∙ (ap (λ f. turn_faults desk.faults f now) (frame.failed ∙ calm) ∙ frame.faults)
 
-module _ {D : Type 0} (view : D → View) (t : TableState BoxKey) (before : PenHand D) (was : Desk D) (k : ℕ) (at : IsAtWork view t before was)
+module _ {D : Type 0} (view : D → View) (t : TableState BoxKey) (before : PenHand D) (was : Desk D) (k : ℕ) (at : WorksAtDesk view t before was)
     (own : owner before.table.given.layout k ≡ before.view.core) (has : HasKind was.slots.items k kind.Sealed) where
   abbrev key : BoxKey
   key = before.table.given
@@ -233,7 +233,7 @@ module _ {D : Type 0} (view : D → View) (t : TableState BoxKey) (before : PenH
       }
 
       pub open_steps : Steps view t before after now result
-      open_steps = steps_so view t before after (label.Opened k done cut opened) was now result at holds tells (record {
+      open_steps = steps_so view t before after (label.Opened k done cut opened) was now result tt refl at holds tells (record {
         frame = frame_now;
         room = room_now;
         calm = at.calm;
@@ -247,7 +247,7 @@ module _ {D : Type 0} (view : D → View) (t : TableState BoxKey) (before : PenH
           (next_opened (place_at key.layout k) told.work state.0 fits new.phase (subst (λ (p : Phase). FollowsWrite p new.phase) state.1 follows)))
           wrote.ok)))
 
-      pub opens_flight : OpensFlight (own_at before) (own_at after)
+      pub opens_flight : OpensFlight before.view.core (own_at before) (own_at after)
       opens_flight =
           let same = owns_own t before at.holds in
           let flew = ap (λ (o : OwnTold). o.flight) (sym same) ∙ flies.flies_is in
@@ -261,13 +261,13 @@ module _ {D : Type 0} (view : D → View) (t : TableState BoxKey) (before : PenH
                 ∙ (λ i. record (own_at before) { flight = option_map opened_flight (flew i); told = (own_at before).told ++ cut ∷ opened ∷ [] });
             cut_by = record {
               did_is = turns.cut_by.did_is;
-              core_is = refl;
+              core_is = turns.cut_by.core_is;
               commit_is = turns.cut_by.commit_is ∙ (told.notes.commit_is ∙ flies.commit_is);
               flush_is = turns.cut_by.flush_is ∙ (sym told.notes.flush_is ∙ flies.flush_is);
             };
             opened_by = record {
               did_is = turns.opened_by.did_is;
-              core_is = turns.opened_by.core_is ∙ sym turns.cut_by.core_is;
+              core_is = turns.opened_by.core_is;
               commit_is = turns.opened_by.commit_is ∙ (told.notes.commit_is ∙ flies.commit_is);
               flush_is = turns.opened_by.flush_is ∙ (sym told.notes.flush_is ∙ flies.flush_is);
             };

@@ -14,12 +14,14 @@ pub mod Noted
 pub mod NotedRules
 pub mod Older
 pub mod Owes
+pub mod Owners
 pub mod Phases
 pub mod Quiet
 pub mod Served
 pub mod Settled
 pub mod SlotLists
 pub mod SlotSteps
+pub mod StepsTold
 pub mod Still
 pub mod SyncSteps
 pub mod Telling

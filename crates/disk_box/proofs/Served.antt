@@ -26,7 +26,8 @@ use Rattle.disk_box.specs.Calls.{FollowsSync, NoneAwaits, TakesSync, awaits_sync
 use Rattle.disk_box.specs.Kind.{HasKind, kind_of}
 use Rattle.disk_box.specs.Serving.{GoesBeside, IsServing}
 use Rattle.disk_box.specs.Slots.{IsBeingFilled, IsBeingPlaced, IsClosingOf, Notes, NotesWork, PhaseFits, SlotFits, SlotsFit}
-use Rattle.disk_box.specs.Pens.{PenHand, past_at, own_at, HoldsBox, TellsLabel}
+use Rattle.disk_box.specs.Pens.{IsOfStep, PenHand, past_at, own_at, HoldsBox, TellsLabel}
+use Rattle.disk_box.proofs.StepsTold.{step_told, steps_none}
 use Rattle.disk_box.proofs.After.{at_told, failed_told, past_fits_at}
 use Rattle.disk_box.proofs.AtSlots.{IsTold, told_at}
 use Rattle.disk_box.proofs.Phases.{closing_is, filled_is, placed_is}
@@ -97,6 +98,7 @@ pub goes_still : {D : Type 0} (pen : PenHand D) → GoesBeside pen pen
 goes_still pen = record {
   goes = record { frame = refl; view = refl; seen = ([], append-nil pen.view.seen) };
   room = refl;
+  tells = steps_none pen;
   own = refl;
 }
 
@@ -304,5 +306,10 @@ module _ {D : Type 0} (view : D → View) (t : TableState BoxKey) (pen : PenHand
 
 -- who tells of a slot goes beside its own
 pub goes_told : {D : Type 0} (before after : PenHand D) (fact : Rattle.slot_laws.specs.declared.label.Label.Label) → TellsLabel fact before after
-    → Rattle.slot_laws.specs.Labels.own_label fact (own_at before) ≡ own_at before → GoesBeside before after
-goes_told before after fact tells same = record { goes = tells.goes; room = tells.room; own = tells.own ∙ same }
+    → IsOfStep fact → Rattle.slot_laws.specs.Labels.own_label fact (own_at before) ≡ own_at before → GoesBeside before after
+goes_told before after fact tells of same = record {
+  goes = tells.goes;
+  room = tells.room;
+  tells = step_told before after fact tells of;
+  own = tells.own ∙ same;
+}

@@ -4,7 +4,7 @@ use Rattle.std.proofs.Common.{◌≡◌, ◌≢◌, ◌<◌, ◌≤◌, ◌+◌,
 use Rattle.std.proofs.lemmas.Grind.{get_or-set_at}
 use Rattle.std.proofs.lemmas.List.{get_or-set_other, length-set}
 use Rattle.std.proofs.lemmas.Option.{slice_get_within}
-use Rattle.std.proofs.Math.Nat.{div-lt_iff_lt-mul, le-mul_of_pos_right, mul-div_cancel_left}
+use Rattle.std.proofs.Math.Nat.{div-lt_iff_lt-mul}
 use Rattle.sfs_dev.specs.Disk.{View}
 use Rattle.journal_one.specs.Job.{Job, without_fresh}
 use Rattle.journal_one.specs.Stage.{Stage}
@@ -94,10 +94,7 @@ module _ {D : Type 0} (view : D → View) (t : TableState BoxKey) (pen : PenHand
   -- whose the slot is
   module _ (within : k < length was.slots.items) where
     pub owner_is : owner_by (length was.slots.items) (length was.waits.items) k ≡ owner key.layout k
-    owner_is =
-        let cores = serving.at.fits.frame.layout.ranges.cores_low in
-        let some : 0 < key.layout.cores = omega (arith, cores) in
-        ap (λ n. k / n) ((λ i. serving.at.fits.frame.count i / serving.at.fits.frame.cores i) ∙ mul-div_cancel_left key.layout.slots some)
+    owner_is = Rattle.disk_box.proofs.Owners.owner_is view key past was serving.at.fits.frame k
 
     pub owner_low : owner key.layout k < key.layout.cores
     owner_low =
@@ -107,18 +104,10 @@ module _ {D : Type 0} (view : D → View) (t : TableState BoxKey) (pen : PenHand
         (div-lt_iff_lt-mul some).1 low
 
     pub waits_some : 0 < length was.waits.items
-    waits_some =
-        let cores = serving.at.fits.frame.layout.ranges.cores_low in
-        let count = serving.at.fits.frame.cores in
-        omega (arith, cores, count)
+    waits_some = Rattle.disk_box.proofs.Owners.waits_some view key past was serving.at.fits.frame
 
     pub slots_many : length was.waits.items ≤ length was.slots.items
-    slots_many =
-        let slots = serving.at.fits.frame.layout.ranges.slots_low in
-        let count = serving.at.fits.frame.count in
-        let cores = serving.at.fits.frame.cores in
-        let most : key.layout.cores ≤ key.layout.cores * key.layout.slots = le-mul_of_pos_right key.layout.cores (omega (arith, slots)) in
-        omega (arith, count, cores, most)
+    slots_many = Rattle.disk_box.proofs.Owners.slots_many view key past was serving.at.fits.frame
 
     pub owner_fits : owner key.layout k < 256
     owner_fits = (let low = owner_low in let most = serving.at.fits.frame.layout.ranges.cores_high in omega (arith, low, most))

@@ -1,5 +1,5 @@
 -- A label of a slot's device call, or of a slot that is idle again: what is kept beside the slots goes on to fit.
-use Rattle.std.proofs.Common.{◌≡◌, ◌+◌, ◌<◌, ◌≤◌, ◌^◌, ◌∙◌, ℕ, length, true, false, Option, Some, None, Result, Ok, Err, OnOk, IfErr, refl, sym, ap, subst, arith}
+use Rattle.std.proofs.Common.{◌≡◌, ◌+◌, ◌<◌, ◌≤◌, ◌^◌, ◌∙◌, ℕ, length, true, false, Option, Some, None, Result, Ok, Err, OnErr, OnOk, IfErr, refl, sym, ap, subst, arith}
 use Rattle.sfs_base.specs.Ends.{HasRisen}
 use Rattle.sfs_base.specs.declared.numbers.CoreId.{CoreId}
 use Rattle.sfs_image.specs.Super.{Layout}
@@ -7,6 +7,7 @@ use Rattle.sfs_dev.specs.Disk.{View, Elapses}
 use Rattle.space_map.specs.Space.{Space}
 use Rattle.stamp_table.specs.declared.event.Event.TheVariants.{Told}
 use Rattle.stamp_table.specs.Table.{TableState}
+use Rattle.tree_laws.specs.declared.turns.Turn.{Turn}
 use Rattle.slot_laws.specs.declared.label.Label.{Label}
 use Rattle.slot_laws.specs.declared.label.Label.TheVariants as label
 use Rattle.slot_laws.specs.Labels.{BoxPast, after_label}
@@ -21,8 +22,9 @@ use Rattle.disk_box.specs.Box.{SpaceFits}
 use Rattle.disk_box.specs.Calls.{AnswersCall}
 use Rattle.disk_box.specs.Desk.{FaultsFit, FrameFits, RoomFits}
 use Rattle.disk_box.specs.Slots.{SlotsFit}
-use Rattle.disk_box.specs.Pens.{PenHand, past_at, HoldsBox, TellsLabel, IsAtWork, IsBroken}
+use Rattle.disk_box.specs.Pens.{IsOfStep, PenHand, past_at, HoldsBox, TellsLabel, WorksAtDesk, IsBroken}
 use Rattle.disk_box.specs.Steps.{Steps}
+use Rattle.disk_box.proofs.StepsTold.{step_told}
 use Rattle.disk_box.proofs.After.{failed_told, fits_told, frame_told, key_same, room_told, space_told}
 use Rattle.disk_box.proofs.Entered.{open_same, owed_same}
 use Rattle.disk_box.proofs.Quiet.{LeavesKept, SameBeside, frame_same, room_same}
@@ -170,7 +172,7 @@ module _ {D V : Type 0} (view : D → View) (t : TableState BoxKey) (before afte
       subst (λ (f : Option ℕ). FaultsFit key.faults f (view now.disk).faults) (sym still) (stayed ∙ before_is)
 
   at_ok : (r : Result V ℕ) → HoldsBox t after → TellsLabel fact before after → Framed → OnOk r (FaultsFit key.faults later.failed (view now.disk).faults)
-      → OnOk r (SlotsFit key.layout later.slots now.slots.items) → OnOk r (IsAtWork view t after now)
+      → OnOk r (SlotsFit key.layout later.slots now.slots.items) → OnOk r (WorksAtDesk view t after now)
   at_ok (Err e) holds tells framed faults slots = tt
   at_ok (Ok v) holds tells framed faults slots = record {
     holds = holds;
@@ -203,17 +205,24 @@ module _ {D V : Type 0} (view : D → View) (t : TableState BoxKey) (before afte
             (subst (λ (z : ℕ × ℕ). HasRisen z.0 z.1) (λ i. (before_is i, sym counted i)) rose);
       }
 
-  pub steps_so : IsAtWork view t before was → HoldsBox t after → TellsLabel fact before after → Framed
+  -- what is so however a call ends is so where it failed
+  on_err : {P : Type 0} (r : Result V ℕ) → P → OnErr r P
+  on_err (Ok x) p = tt
+  on_err (Err e) p = p
+
+  pub steps_so : IsOfStep fact → later.waits ≡ (past_at before).waits → WorksAtDesk view t before was → HoldsBox t after → TellsLabel fact before after → Framed
       → OnOk result (SlotsFit key.layout later.slots now.slots.items) → Steps view t before after now result
-  steps_so at holds tells framed slots = record {
+  steps_so of still at holds tells framed slots = record {
     goes = tells.goes;
     room = tells.room;
+    tells = step_told before after fact tells of;
     ok = at_ok result holds tells framed (faults_ok result refl at.fits.faults at.calm framed.answers framed.calm) slots;
+    waits = on_err result (ap (λ (p : BoxPast). p.waits before.view.core) tells.past ∙ ap (λ (w : ℕ → Option Turn). w before.view.core) still);
     err = broken_so result refl holds tells framed at.fits.faults at.calm;
   }
 
   -- of a label of slots
-  pub framed_of_slots : IsAtWork view t before was → HoldsBox t after → TellsLabel fact before after → IsOfSlots fact
+  pub framed_of_slots : WorksAtDesk view t before was → HoldsBox t after → TellsLabel fact before after → IsOfSlots fact
       → MayLabel key.layout key.faults before.view.core fact (past_at before)
       → IsDoneBy fact (past_at before).slots (view was.disk) (view now.disk) → CalledAt view was now result → Framed
   framed_of_slots at holds tells of may done called =

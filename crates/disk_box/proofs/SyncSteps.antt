@@ -23,10 +23,11 @@ use Rattle.disk_box.specs.Calls.{AnswersCall}
 use Rattle.disk_box.specs.Desk.{FaultsFit}
 use Rattle.disk_box.specs.Serving.{GoesBeside, IsServing}
 use Rattle.disk_box.specs.Slots.{Notes, PhaseFits, SlotsFit}
-use Rattle.disk_box.specs.Pens.{PenHand, past_at, HoldsBox, TellsLabel, IsAtWork}
+use Rattle.disk_box.specs.Pens.{PenHand, past_at, HoldsBox, TellsLabel, WorksAtDesk}
 use Rattle.disk_box.specs.Steps.{Steps}
 use Rattle.disk_box.proofs.Quiet.{LeavesKept, frame_same}
 use Rattle.disk_box.proofs.Served.{goes_still, kept_itself}
+use Rattle.disk_box.proofs.StepsTold.{step_told, steps_both}
 use Rattle.disk_box.proofs.Wrote.{where_err, where_ok}
 use Rattle.disk_box.proofs.SlotSteps.{CalledAt, called_beside, framed_of_slots, steps_so}
 
@@ -45,6 +46,7 @@ goes_both before mid after first second = record {
     );
   };
   room = second.room ∙ first.room;
+  tells = steps_both before mid after first.tells second.tells;
   own = second.own ∙ first.own;
 }
 
@@ -120,7 +122,7 @@ module _ {V E : Type 0} (old new : View) (r : Result V E) (synced : IsSync old n
     size = synced.call.size;
   }
 
-module _ {D : Type 0} (view : D → View) (t : TableState BoxKey) (before : PenHand D) (was : Desk D) (at : IsAtWork view t before was) (disk : D) where
+module _ {D : Type 0} (view : D → View) (t : TableState BoxKey) (before : PenHand D) (was : Desk D) (at : WorksAtDesk view t before was) (disk : D) where
   abbrev key : BoxKey
   key = before.table.given
 
@@ -145,7 +147,9 @@ module _ {D : Type 0} (view : D → View) (t : TableState BoxKey) (before : PenH
       record {
         goes = still.goes;
         room = refl;
+        tells = still.tells;
         ok = tt;
+        waits = refl;
         err = record {
           holds = at.holds;
           calm = at.calm;
@@ -163,7 +167,7 @@ module _ {D : Type 0} (view : D → View) (t : TableState BoxKey) (before : PenH
       (is : now ≡ (view disk).now) (syncs : Syncs true (view was.disk) (view disk))
       (answers : AnswersCall {V = Unit {0}} (view was.disk) (view disk) (Ok tt)) where
     synced_steps : Steps view t {V = Unit {0}} before after mid (Ok tt)
-    synced_steps = steps_so view t before after (label.Synced now) was mid (Ok tt) at holds tells
+    synced_steps = steps_so view t before after (label.Synced now) was mid (Ok tt) tt refl at holds tells
         (framed_of_slots view t before after (label.Synced now) was mid (Ok tt) at holds tells tt at.calm (is, syncs) (called_sync (Ok tt) true syncs answers))
         (synced_fit key.layout past.slots was.slots.items (at.fits.slots at.calm))
 
@@ -179,12 +183,12 @@ module _ {D : Type 0} (view : D → View) (t : TableState BoxKey) (before : PenH
     }
 
     pub synced_goes : GoesBeside before after
-    synced_goes = record { goes = tells.goes; room = tells.room; own = tells.own }
+    synced_goes = record { goes = tells.goes; room = tells.room; tells = step_told before after (label.Synced now) tells tt; own = tells.own }
 
   -- and served
   pub served_steps : (after : PenHand D) (desk : Desk D) (k : ℕ) → IsServing view t after desk k → GoesBeside before after
       → Steps view t {V = Unit {0}} before after desk (Ok tt)
-  served_steps after desk k serving goes = record { goes = goes.goes; room = goes.room; ok = serving.at; err = tt }
+  served_steps after desk k serving goes = record { goes = goes.goes; room = goes.room; tells = goes.tells; ok = serving.at; waits = tt; err = tt }
 
 -- as many slots as before
 pub count_kept : {D : Type 0} (view : D → View) (t : TableState BoxKey) (before after : PenHand D) (was now : Desk D) (j k : ℕ)

@@ -22,7 +22,7 @@ use Rattle.disk_box.specs.declared.kind.Kind.TheVariants as kind
 use Rattle.disk_box.specs.Calls.{FollowsWrite, HasMore, WritesNext, blocks_of, next_piece, written_of}
 use Rattle.disk_box.specs.Kind.{HasKind}
 use Rattle.disk_box.specs.Slots.{IsBeingFilled, IsBeingPlaced, IsCopiedOf, PhaseFits, SlotsFit}
-use Rattle.disk_box.specs.Pens.{PenHand, past_at, HoldsBox, TellsLabel, IsAtWork}
+use Rattle.disk_box.specs.Pens.{PenHand, past_at, HoldsBox, TellsLabel, WorksAtDesk}
 use Rattle.disk_box.specs.Steps.{NextIsOldest, Steps}
 use Rattle.disk_box.proofs.After.{past_fits_at}
 use Rattle.disk_box.proofs.AtSlots.{IsTold, known_put, known_put_ok, of_there, ok_then, told_at, writes_as}
@@ -30,7 +30,7 @@ use Rattle.disk_box.proofs.Nexts.{next_filled, next_placed, next_shut}
 use Rattle.disk_box.proofs.Phases.{copied_is, durable_is, filling_is}
 use Rattle.disk_box.proofs.SlotSteps.{CalledAt, framed_of_slots, steps_so}
 
-module _ {D : Type 0} (view : D → View) (t : TableState BoxKey) (before : PenHand D) (was : Desk D) (k : ℕ) (at : IsAtWork view t before was) where
+module _ {D : Type 0} (view : D → View) (t : TableState BoxKey) (before : PenHand D) (was : Desk D) (k : ℕ) (at : WorksAtDesk view t before was) where
   abbrev key : BoxKey
   key = before.table.given
 
@@ -78,7 +78,7 @@ module _ {D : Type 0} (view : D → View) (t : TableState BoxKey) (before : PenH
       fill_steps holds tells may called wrote put counts =
           let count = counts.0 ∙ ap written_of state.1 in
           let change = λ (b : Bool). known_filled b piece in
-          steps_so view t before after (label.Filled k piece done) was now result at holds tells
+          steps_so view t before after (label.Filled k piece done) was now result tt refl at holds tells
           (framed_of_slots view t before after (label.Filled k piece done) was now result at holds tells tt may
           (of_there (λ work. Writes done (fill_piece work.job piece) (view was.disk) (view now.disk)) (past_at before).slots k told.work told.there
           (writes_as result done (next_piece has.slot.phase) (fill_piece told.work.job piece) (view was.disk) (view now.disk) counts.1
@@ -133,7 +133,7 @@ module _ {D : Type 0} (view : D → View) (t : TableState BoxKey) (before : PenH
       place_steps holds tells may called wrote put counts =
           let count = counts.0 ∙ ap written_of state_durable.1 in
           let change = λ (b : Bool). known_placed b n in
-          steps_so view t before after (label.Placed k n done) was now result at holds tells
+          steps_so view t before after (label.Placed k n done) was now result tt refl at holds tells
           (framed_of_slots view t before after (label.Placed k n done) was now result at holds tells tt may
           (of_there (λ work. Writes done (table_piece work.job n) (view was.disk) (view now.disk)) (past_at before).slots k told_durable.work
           told_durable.there
@@ -182,7 +182,7 @@ module _ {D : Type 0} (view : D → View) (t : TableState BoxKey) (before : PenH
           → done ≡ is_ok result → Steps view t before after now result
       shut_steps holds tells called wrote put is =
           let change = λ (b : Bool). known_gated b shut_gate in
-          steps_so view t before after (label.Shut k done) was now result at holds tells
+          steps_so view t before after (label.Shut k done) was now result tt refl at holds tells
           (framed_of_slots view t before after (label.Shut k done) was now result at holds tells tt shut_may
           (of_there (λ work. Writes done (gate_piece work.job.place 0) (view was.disk) (view now.disk)) (past_at before).slots k told_copied.work
           told_copied.there

@@ -1,9 +1,10 @@
 -- A core at the box: what its pen has told and seen, and what is so while it has the box.
-use Rattle.std.specs.Prelude.{◌≡◌, ◌<◌, ◌∷◌, ◌++◌, ℕ, [], Option, Some, None}
+use Rattle.std.specs.Prelude.{◌≡◌, ◌<◌, ◌∷◌, ◌++◌, ℕ, List, [], Option, Some, None}
 use mathlib.Core.List.{IsPrefix}
 use Rattle.sfs_base.specs.Ends.{HasRisen}
 use Rattle.sfs_dev.specs.Disk.{View}
-use Rattle.stamp_table.specs.declared.event.Event.TheVariants.{Told}
+use Rattle.stamp_table.specs.declared.event.Event.{Event}
+use Rattle.stamp_table.specs.declared.event.Event.TheVariants.{Called, Told}
 use Rattle.stamp_table.specs.Events.{event_core}
 use Rattle.stamp_table.specs.Rule.{entries_by}
 use Rattle.stamp_table.specs.Hand.{Hand}
@@ -71,7 +72,7 @@ module _ {D : Type 0} where
     pub space : SpaceFits pen.table.given pen.view.seen desk
 
   -- So it is, and no commit has failed.
-  pub record IsAtWork (view : D → View) (t : TableState BoxKey) (pen : PenHand D) (desk : Desk D) : Type 0 where
+  pub record WorksAtDesk (view : D → View) (t : TableState BoxKey) (pen : PenHand D) (desk : Desk D) : Type 0 where
     pub holds : HoldsBox t pen
     pub calm : (past_at pen).failed ≡ None
     pub fits : DeskFits view pen.table.given (past_at pen) desk
@@ -86,6 +87,30 @@ module _ {D : Type 0} where
     pub space : SpaceFits pen.table.given pen.view.seen desk
     pub counted : faults ≡ (view desk.disk).faults
     pub risen : HasRisen pen.table.given.faults faults
+
+-- whether a label tells of a step at a slot, or of what a sync has made of one: it neither reserves, begins, ends nor gives back a commit without a slot, and
+-- notes no turn
+abbrev pub IsOfStep : Label → Type 0
+IsOfStep (label.Filled slot piece done) = Unit {0}
+IsOfStep (label.Synced now) = Unit {0}
+IsOfStep (label.Opened slot done cut opened) = Unit {0}
+IsOfStep (label.Settled slot turn) = Unit {0}
+IsOfStep (label.Placed slot n done) = Unit {0}
+IsOfStep (label.Shut slot done) = Unit {0}
+IsOfStep (label.Idled slot) = Unit {0}
+IsOfStep _ = ⊥
+
+-- so does each event of a list
+abbrev pub AreSteps : List (Event Label) → Type 0
+AreSteps [] = Unit {0}
+AreSteps (Called entry ∷ log) = ⊥
+AreSteps (Told core fact ∷ log) = IsOfStep fact × AreSteps log
+
+-- A pen has told of steps, perhaps, and of nothing else.
+pub record TellsSteps {D : Type 0} (before after : PenHand D) : Type 0 where
+  pub more : List (Event Label)
+  pub mine_is : after.view.mine ≡ before.view.mine ++ more
+  pub steps : AreSteps more
 
 -- whether a label is told while a core has the box: each is but for those by which it takes it and brings it home
 abbrev pub IsAmid : Label → Type 0

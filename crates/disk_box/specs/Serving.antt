@@ -7,21 +7,22 @@ use Rattle.slot_laws.specs.Slots.{SlotWork, known_synced}
 use Rattle.disk_box.specs.declared.key.BoxKey.{BoxKey}
 use Rattle.disk_box.specs.declared.desk.Desk.{Desk}
 use Rattle.disk_box.specs.Calls.{NoneAwaits}
-use Rattle.disk_box.specs.Pens.{PenHand, PenGoes, IsAtWork, own_at, past_at}
+use Rattle.disk_box.specs.Pens.{PenHand, PenGoes, TellsSteps, WorksAtDesk, own_at, past_at}
 
 -- A core is at work, nothing has been pending on its disk since the last sync; of the slots from the k-th on that is what is known, and those
 -- before it await no sync any more.
 pub record IsServing {D : Type 0} (view : D → View) (t : TableState BoxKey) (pen : PenHand D) (desk : Desk D) (k : ℕ) : Type 0 where
-  pub at : IsAtWork view t pen desk
+  pub at : WorksAtDesk view t pen desk
   pub calm : IsCalm (view desk.disk)
   pub moment : (past_at pen).synced ≡ (view desk.disk).now
   pub known : (j : ℕ) (work : SlotWork) → k ≤ j → (past_at pen).slots j ≡ Some work → known_synced work.known ≡ work.known
   pub served : NoneAwaits desk.slots.items k
 
--- A pen has gone on, with as much room, and has told nothing of its own commits.
+-- A pen has gone on, with as much room, and has told of slots alone, and nothing of its own commits.
 pub record GoesBeside {D : Type 0} (before after : PenHand D) : Type 0 where
   pub goes : PenGoes before after
   pub room : after.room ≡ before.room
+  pub tells : TellsSteps before after
   pub own : own_at after ≡ own_at before
 
 -- the core whose slot it is, of so many slots of so many cores

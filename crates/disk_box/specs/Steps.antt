@@ -1,5 +1,5 @@
 -- What a step at the box comes to: one device call at most, and what is told of it.
-use Rattle.std.specs.Prelude.{◌≡◌, ◌++◌, ◌∷◌, ℕ, List, [], Bool, true, false, Some, Result, OnOk, IfErr}
+use Rattle.std.specs.Prelude.{◌≡◌, ◌++◌, ◌∷◌, ℕ, List, [], Bool, true, false, Some, Result, OnOk, OnErr, IfErr}
 use Rattle.sfs_dev.specs.Disk.{View}
 use Rattle.tree_laws.specs.declared.turns.Turn.{Turn}
 use Rattle.tree_laws.specs.declared.turns.TurnAct.TheVariants as act
@@ -15,26 +15,29 @@ use Rattle.disk_box.specs.declared.desk.Phase.TheVariants as phase
 use Rattle.disk_box.specs.declared.kind.Kind.{Kind}
 use Rattle.disk_box.specs.declared.kind.Kind.TheVariants as kind
 use Rattle.disk_box.specs.Kind.{HasKind}
-use Rattle.disk_box.specs.Pens.{PenHand, PenGoes, IsAtWork, IsBroken}
+use Rattle.disk_box.specs.Pens.{PenHand, PenGoes, TellsSteps, WorksAtDesk, IsBroken, past_at}
 
 module _ {D : Type 0} (view : D → View) (t : TableState BoxKey) where
-  -- A pen with the box has made a step: it is at work still; or a device call of its failed, of which it has yet to tell.
+  -- A pen with the box has made a step, and told of it: it is at work still; or a device call of its failed, of which it has yet to tell.
   pub record Steps {V : Type 0} (before after : PenHand D) (desk : Desk D) (result : Result V ℕ) : Type 0 where
     pub goes : PenGoes before after
     pub room : after.room ≡ before.room
-    pub ok : OnOk result (IsAtWork view t after desk)
+    pub tells : TellsSteps before after
+    pub ok : OnOk result (WorksAtDesk view t after desk)
+    -- no turn came to wait for the core in a call that failed
+    pub waits : OnErr result ((past_at after).waits before.view.core ≡ (past_at before).waits before.view.core)
     pub err : IfErr result (λ faults. IsBroken view t after desk faults)
 
--- What opening the gate of a flight makes of what its core told: two turns, by which the commit begins and is opened.
-pub record OpensFlight (before after : OwnTold) : Type 0 where
+-- What opening the gate of a core's flight makes of what it told: two turns, by which the commit begins and is opened.
+pub record OpensFlight (core : ℕ) (before after : OwnTold) : Type 0 where
   pub flight : SlotFlight
   pub cut : Turn
   pub opened : Turn
   pub flew : before.flight ≡ Some flight
   pub shut : flight.opened ≡ false
   pub after_is : after ≡ record before { flight = Some (opened_flight flight); told = before.told ++ cut ∷ opened ∷ [] }
-  pub cut_by : IsTurnBy cut act.CutAt cut.core.0 flight.commit flight.flush
-  pub opened_by : IsTurnBy opened act.Opened cut.core.0 flight.commit flight.flush
+  pub cut_by : IsTurnBy cut act.CutAt core flight.commit flight.flush
+  pub opened_by : IsTurnBy opened act.Opened core flight.commit flight.flush
 
 -- whether a durable commit is in a slot of this phase, of which records are to be placed or the gate is to be shut
 abbrev pub is_lingering : Kind → Bool

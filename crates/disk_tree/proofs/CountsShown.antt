@@ -86,7 +86,7 @@ module _ (image : SeenInodes) (inodes : List Inode) (rows : List (Roomy Row)) (s
             ∙ ap (map (entry_of_row i)) (sym (shows.others i within (eqb-false _ _ other)))
       ]
 
-  counted : (p : Key × ℕ → Bool) → count_by p (entries (image_rows image)) ≡ count_by p (row_entries rows image.count)
+  pub counted : (p : Key × ℕ → Bool) → count_by p (entries (image_rows image)) ≡ count_by p (row_entries rows image.count)
   counted p = ap (λ (m : FinMap key_cmp ℕ). count_by p (entries m)) rows_are ∙ counted_from p (row_entries rows image.count) (own_entries rows own image.count)
 
   pub count_is : (x : ℕ) → count_of (image_rows image) x ≡ naming_below rows (length inodes) x

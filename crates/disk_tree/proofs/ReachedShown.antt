@@ -45,11 +45,11 @@ module _ (image : SeenInodes) (inodes : List Inode) (rows : List (Roomy Row)) (s
   stay_more q xs ys x is = find-append key_cmp q xs ys ∙ ap (λ o. option_or o (find key_cmp q ys)) is
 
   -- a row of the tree, as the row of a place
-  record RowBack (d : ℕ) (name : List ℕ) (x n : ℕ) : Type 0 where
-    within : d < n
-    k : ℕ
-    inside : k < length (rows_of_inode rows d)
-    is : (row_at (rows_of_inode rows d) k).inode ≡ x
+  pub record RowBack (d : ℕ) (name : List ℕ) (x n : ℕ) : Type 0 where
+    pub within : d < n
+    pub k : ℕ
+    pub inside : k < length (rows_of_inode rows d)
+    pub is : (row_at (rows_of_inode rows d) k).inode ≡ x
 
   record InRows (d : ℕ) (x : ℕ) (own : List Row) : Type 0 where
     k : ℕ
@@ -108,7 +108,7 @@ module _ (image : SeenInodes) (inodes : List Inode) (rows : List (Roomy Row)) (s
             is = subst (λ (j : ℕ). (row_at (rows_of_inode rows j) own.k).inode ≡ x) e own.is;
           })
 
-  row_back : (d : ℕ) (name : List ℕ) (x : ℕ) → row_of tree d name ≡ Some x → RowBack d name x image.count
+  pub row_back : (d : ℕ) (name : List ℕ) (x : ℕ) → row_of tree d name ≡ Some x → RowBack d name x image.count
   row_back d name x is =
       in_entries image.count d name x
       (sym
@@ -151,7 +151,7 @@ module _ (image : SeenInodes) (inodes : List Inode) (rows : List (Roomy Row)) (s
         ∙ ap (find key_cmp key) (more_entries rows (d + 1 + j))
         ∙ stay_more key (row_entries rows (d + 1 + j)) (entries_at rows (d + 1 + j)) (row_at (rows_of_inode rows d) k).inode (to_all j)
 
-    row_forth : d < image.count → row_of tree d (row_at (rows_of_inode rows d) k).name ≡ Some (row_at (rows_of_inode rows d) k).inode
+    pub row_forth : d < image.count → row_of tree d (row_at (rows_of_inode rows d) k).name ≡ Some (row_at (rows_of_inode rows d) k).inode
     row_forth within =
         ap (λ (m : FinMap key_cmp ℕ). get m key) (rows_are image inodes rows shows long once)
         ∙ get-from_entries key_cmp_total (row_entries rows image.count) key
@@ -161,7 +161,7 @@ module _ (image : SeenInodes) (inodes : List Inode) (rows : List (Roomy Row)) (s
   module _ (placed : NonePasses image.count (breaks_tenth inodes rows)) (rootless : NonePasses image.count (breaks_eleventh rows))
       (few : NonePasses image.count (breaks_twelfth inodes rows (length inodes))) where
     -- an inode with a row is one of the image's
-    holds_rows : (d k : ℕ) → k < length (rows_of_inode rows d) → d < image.count
+    pub holds_rows : (d k : ℕ) → k < length (rows_of_inode rows d) → d < image.count
     holds_rows d k inside = elim (cases_lt d image.count) [
       | inl within ↦ within
       | inr past ↦
@@ -180,23 +180,23 @@ module _ (image : SeenInodes) (inodes : List Inode) (rows : List (Roomy Row)) (s
           (placed d (holds_rows d k inside)))
     ]
 
-    child_within : (d k : ℕ) → k < length (rows_of_inode rows d) → (row_at (rows_of_inode rows d) k).inode < image.count
+    pub child_within : (d k : ℕ) → k < length (rows_of_inode rows d) → (row_at (rows_of_inode rows d) k).inode < image.count
     child_within d k inside =
         (let both = or_parts (not (nat_lt (row_at (rows_of_inode rows d) k).inode (length inodes))) _ (placed_at d k inside) in
         let h = ltb-true _ _ (not_false _ both.0) in
         let c = shows.count in
         omega arith)
 
-    child_kind : (d k : ℕ) → k < length (rows_of_inode rows d)
+    pub child_kind : (d k : ℕ) → k < length (rows_of_inode rows d)
         → (inode_at inodes (row_at (rows_of_inode rows d) k).inode).kind ≡ kind_byte (row_at (rows_of_inode rows d) k).kind
     child_kind d k inside =
         eqb-true _ _ (not_false _ (or_parts (not (nat_lt (row_at (rows_of_inode rows d) k).inode (length inodes))) _ (placed_at d k inside)).1)
 
-    kind_again : (kind : Kind) → kind_byte kind ≡ 2 → is_directory_kind kind ≡ true
+    pub kind_again : (kind : Kind) → kind_byte kind ≡ 2 → is_directory_kind kind ≡ true
     kind_again File e = absurd (let h : 1 ≡ 2 = e in omega arith)
     kind_again Directory e = refl
 
-    kind_forth : (kind : Kind) → is_directory_kind kind ≡ true → kind_byte kind ≡ 2
+    pub kind_forth : (kind : Kind) → is_directory_kind kind ≡ true → kind_byte kind ≡ 2
     kind_forth File e = absurd (not_both_of true refl (sym e))
     kind_forth Directory e = refl
 
@@ -207,7 +207,7 @@ module _ (image : SeenInodes) (inodes : List Inode) (rows : List (Roomy Row)) (s
         (rootless d (holds_rows d k inside))
 
     -- the holder of a directory is the one of a row that names it
-    holder_is : (d k : ℕ) → k < length (rows_of_inode rows d) → is_directory_kind (row_at (rows_of_inode rows d) k).kind ≡ true
+    pub holder_is : (d k : ℕ) → k < length (rows_of_inode rows d) → is_directory_kind (row_at (rows_of_inode rows d) k).kind ≡ true
         → holder_of tree (row_at (rows_of_inode rows d) k).inode ≡ Some d
     holder_is d k inside kind =
         let x = (row_at (rows_of_inode rows d) k).inode in

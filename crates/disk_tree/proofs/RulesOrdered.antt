@@ -65,7 +65,7 @@ module _ (inodes : List Inode) (rows : List (Roomy Row)) where
   rows_within kept i within = placed_within (rows_of_inode rows i) (kept 10 i (omega arith) (omega arith) within)
 
 -- the directories have no more rows than their blocks have slots
-few_rows : (rows : List (Roomy Row)) → AreFewRows rows → (n : ℕ) → named_rows rows n ≤ 32775 * n
+pub few_rows : (rows : List (Roomy Row)) → AreFewRows rows → (n : ℕ) → named_rows rows n ≤ 32775 * n
 few_rows rows few zero = omega arith
 few_rows rows few (suc n) = (let h = few_rows rows few n in let own = few n in omega arith)
 

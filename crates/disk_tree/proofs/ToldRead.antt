@@ -93,7 +93,7 @@ module _ (layout : Layout) (parts others : ℕ → Part) (same : (i : ℕ) → i
       (λ i low high. let within : i < layout.inodes = omega arith in λ j. kept_if_used (λ _. same i within j) i)
 
 module _ (image : List ℕ) (layout : Layout) (records : List (List ℕ)) (settles : SettlesRecords image layout records) where
-  parts_are : (parts : ℕ → Part) → AreReadParts (Some image) layout records parts → (i : ℕ) → i < layout.inodes → parts i ≡ parts_of layout image i
+  pub parts_are : (parts : ℕ → Part) → AreReadParts (Some image) layout records parts → (i : ℕ) → i < layout.inodes → parts i ≡ parts_of layout image i
   parts_are parts read i within =
       one_part image (slice_index_or records i []) (parts i) (part_of (image_block image) (slice_index_or records i [])) (read i within)
       (unread_is_read (Some image) (slice_index_or records i []))

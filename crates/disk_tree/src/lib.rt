@@ -21,8 +21,12 @@ mod stages;
 
 pub use fault::TreeFault;
 pub use found::{Found, KeptPart, PartList};
+pub use inodes::{DIRECTORY, FILE};
+pub use judge::first_with_wrong_links;
 pub use laws::{
     count_tests_are_rules, faultless_parts_are_ruled, faults_are_the_images, found_is_the_images,
     reached_test_is_rule, read_parts_show_rows, row_tests_are_rules,
 };
-pub use read::read_tree;
+pub use ordered::{judge_rows, judged_naming};
+pub use read::{ReadInodes, read_all, read_tree};
+pub use rows::{RowList, count_named, gather_rows};

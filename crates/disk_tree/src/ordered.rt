@@ -35,8 +35,8 @@ pub fn judged_naming(
     Ok(named)
 }
 
-// The rules that speak of the rows of one directory: 8 to 11.
-fn judge_rows(alloc: Global, inodes: &[Inode], rows: &[RowList]) -> Result<(), TreeFault>
+/// The rules that speak of the rows of one directory: 8 to 11. It answers the first fault.
+pub fn judge_rows(alloc: Global, inodes: &[Inode], rows: &[RowList]) -> Result<(), TreeFault>
     requires few { length inodes.now ≤ 16384 }
     requires count { length rows.now ≡ length inodes.now }
     ensures ok { OnOk result ((reached : List Bool) → KeepEarlier inodes.now rows.now reached 12) }

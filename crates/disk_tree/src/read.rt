@@ -52,8 +52,10 @@ pub fn read_tree<D: Disk>(
     Ok(Found { tree, parts })
 }
 
-// Reads what the disk has of all inodes, where none of them breaks a rule on bytes.
-fn read_all<D: Disk>(
+/// Reads what the disk has of all inodes, where none of them breaks one of the first seven rules, which
+/// speak of the bytes of an inode and of the blocks that it holds. It answers the first fault, and
+/// writes nothing.
+pub fn read_all<D: Disk>(
     alloc: Global,
     disk: &mut D,
     layout: &Layout,

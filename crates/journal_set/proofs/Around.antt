@@ -17,7 +17,7 @@ use Rattle.disk_box.specs.Pens.{PenHand, PenGoes, own_at}
 use Rattle.journal_set.specs.declared.fault.CommitFault.{CommitFault}
 use Rattle.journal_set.specs.declared.fault.CommitFault.TheVariants as fault
 use Rattle.journal_set.specs.Grants.{grant_at}
-use Rattle.journal_set.specs.Reserving.{Asked, Reserves}
+use Rattle.journal_set.specs.Reserving.{ReserveRequest, Reserves}
 use Rattle.journal_set.proofs.Parts.{reserved_later}
 
 -- a front of what was seen is one of what was seen later
@@ -25,7 +25,7 @@ pub front_later : (front log later : List (Event Label)) → IsPrefix front log 
 front_later front log later one two =
     (one.0 ++ two.0, sym (append_assoc front one.0 two.0) ∙ (ap (λ l. l ++ two.0) one.1 ∙ two.1))
 
-module _ {D : Type 0} (asked : Asked) (before entered done after : PenHand D) (goes_in : PenGoes before entered) (goes_out : PenGoes done after)
+module _ {D : Type 0} (asked : ReserveRequest) (before entered done after : PenHand D) (goes_in : PenGoes before entered) (goes_out : PenGoes done after)
     (own_in : own_at entered ≡ own_at before) (own_out : own_at after ≡ own_at done) (grant_out : grant_at after ≡ grant_at done)
     (core_same : done.view.core ≡ entered.view.core) where
   core_in : entered.view.core ≡ before.view.core

@@ -29,7 +29,7 @@ use Rattle.disk_box.specs.declared.desk.Slot.{Slot}
 use Rattle.disk_box.specs.Desk.{DeskFits, FrameFits, open_for, open_told, owed_by, owed_of}
 use Rattle.disk_box.specs.declared.kind.Kind.TheVariants as kind
 use Rattle.disk_box.specs.Kind.{HasKind}
-use Rattle.disk_box.specs.Pens.{PenHand, past_at, IsAtWork}
+use Rattle.disk_box.specs.Pens.{PenHand, past_at, WorksAtDesk}
 use Rattle.disk_box.specs.Slots.{PhaseFits, SlotFits, SlotsFit}
 use Rattle.disk_box.proofs.Frames.{own_after, others_after, owed_less}
 use Rattle.disk_box.proofs.After.{past_fits_at}
@@ -182,7 +182,7 @@ module _ {D : Type 0} (view : D → View) (key : BoxKey) (core : ℕ) (past : Bo
 
 module _ {D : Type 0} (view : D → View) (t : TableState BoxKey) (pen : PenHand D) (desk : Desk D) where
   -- in an idle slot of a core at work there is no commit, and its state has its place
-  pub idle_at : (k : ℕ) (idle : Place) → IsAtWork view t pen desk → (has : HasKind desk.slots.items k kind.Idle) → has.slot.phase ≡ phase.Idle idle
+  pub idle_at : (k : ℕ) (idle : Place) → WorksAtDesk view t pen desk → (has : HasKind desk.slots.items k kind.Idle) → has.slot.phase ≡ phase.Idle idle
       → ((past_at pen).slots k ≡ None) × (idle ≡ place_at pen.table.given.layout k)
   idle_at k idle work has is =
       let place = place_at pen.table.given.layout k in
@@ -190,7 +190,7 @@ module _ {D : Type 0} (view : D → View) (t : TableState BoxKey) (pen : PenHand
       idle_fits idle place ((past_at pen).slots k) (subst (λ p. PhaseFits p place ((past_at pen).slots k)) is fits.fits)
 
   -- the number that its ledger has is the one that it has reserved, with what it was granted
-  pub its_number : (grant : GrantedNumbers) (number : ℕ) → IsAtWork view t pen desk → grant_at pen ≡ Some grant
+  pub its_number : (grant : GrantedNumbers) (number : ℕ) → WorksAtDesk view t pen desk → grant_at pen ≡ Some grant
       → number_in desk.ledger pen.view.core ≡ Some number
       → (((past_at pen).owns pen.view.core).reserved ≡ Some number) × WasGranted (past_at pen).opens number grant
   its_number grant number work is given =

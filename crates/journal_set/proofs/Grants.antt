@@ -127,17 +127,27 @@ module _ (layout : Layout) (before core : ℕ) (grant : GrantedNumbers) where
 abbrev HasIt : ℕ → BoxPast → Option GrantedNumbers → Type 0
 HasIt core past had = (grant : GrantedNumbers) → had ≡ Some grant → HasReserved core past grant
 
-module _ (layout : Layout) (before core : ℕ) (past : BoxPast) (fits : PastFits layout before past) (had : Option GrantedNumbers) (has : HasIt core past had) where
+module _ (layout : Layout) (before core : ℕ) (past : BoxPast) (fits : PastFits layout before past) (had : Option GrantedNumbers)
+    (has : HasIt core past had) where
   own_still : (fact : Label) → (Rattle.slot_laws.specs.Labels.own_label fact (past.owns core)).reserved ≡ (past.owns core).reserved → (grant : GrantedNumbers)
       → (is : had ≡ Some grant) → ((after_label layout core fact past).owns core).reserved ≡ Some (has grant is).number
   own_still fact same grant is =
       ap (λ (o : Rattle.slot_laws.specs.Labels.OwnTold). o.reserved) (own_after layout core fact past) ∙ (same ∙ (has grant is).reserved)
 
+  -- what a label leaves that changes neither what is reserved nor which commits are open
+  has_still : (fact : Label) → (Rattle.slot_laws.specs.Labels.own_label fact (past.owns core)).reserved ≡ (past.owns core).reserved
+      → past.opens ≡ (after_label layout core fact past).opens → HasIt core (after_label layout core fact past) had
+  has_still fact same opens grant is = record {
+    number = (has grant is).number;
+    reserved = own_still fact same grant is;
+    was = subst (λ l. WasGranted l (has grant is).number grant) opens (has grant is).was;
+  }
+
   -- A core's own labels say what it has.
   own_says : (fact : Label) → MayLabel layout before core fact past → HasIt core (after_label layout core fact past) (grant_after fact had)
-  own_says label.Took rule grant is = record { number = (has grant is).number; reserved = own_still label.Took refl grant is; was = (has grant is).was }
-  own_says label.Gave rule grant is = record { number = (has grant is).number; reserved = own_still label.Gave refl grant is; was = (has grant is).was }
-  own_says (label.Noted t) rule grant is = record { number = (has grant is).number; reserved = own_still (label.Noted t) refl grant is; was = (has grant is).was }
+  own_says label.Took rule grant is = has_still label.Took refl refl grant is
+  own_says label.Gave rule grant is = has_still label.Gave refl refl grant is
+  own_says (label.Noted t) rule grant is = has_still (label.Noted t) refl refl grant is
   own_says (label.Reserved c s g) rule grant is = record {
     number = c;
     reserved = ap (λ (o : Rattle.slot_laws.specs.Labels.OwnTold). o.reserved) (own_after layout core (label.Reserved c s g) past);
@@ -151,9 +161,9 @@ module _ (layout : Layout) (before core : ℕ) (past : BoxPast) (fits : PastFits
   }
   own_says (label.Returned c) rule grant is = absurd (none_some is)
   own_says (label.Began f c n s b i) rule grant is = absurd (none_some is)
-  own_says (label.Filled k p d) rule grant is = record { number = (has grant is).number; reserved = own_still (label.Filled k p d) refl grant is; was = (has grant is).was }
-  own_says (label.Synced n) rule grant is = record { number = (has grant is).number; reserved = own_still (label.Synced n) refl grant is; was = (has grant is).was }
-  own_says (label.Opened k d u o) rule grant is = record { number = (has grant is).number; reserved = own_still (label.Opened k d u o) refl grant is; was = (has grant is).was }
+  own_says (label.Filled k p d) rule grant is = has_still (label.Filled k p d) refl refl grant is
+  own_says (label.Synced n) rule grant is = has_still (label.Synced n) refl refl grant is
+  own_says (label.Opened k d u o) rule grant is = has_still (label.Opened k d u o) refl refl grant is
   own_says (label.Settled k t) rule grant is =
       let old = has grant is in
       record {
@@ -162,10 +172,10 @@ module _ (layout : Layout) (before core : ℕ) (past : BoxPast) (fits : PastFits
         was = kept_but past.opens old.number t.commit grant
             (λ e. fits.numbers.unused core old.number k rule.has.work old.reserved rule.has.there (sym (e ∙ rule.is.commit_is))) old.was;
       }
-  own_says (label.Looked t) rule grant is = record { number = (has grant is).number; reserved = own_still (label.Looked t) refl grant is; was = (has grant is).was }
-  own_says (label.Placed k n d) rule grant is = record { number = (has grant is).number; reserved = own_still (label.Placed k n d) refl grant is; was = (has grant is).was }
-  own_says (label.Shut k d) rule grant is = record { number = (has grant is).number; reserved = own_still (label.Shut k d) refl grant is; was = (has grant is).was }
-  own_says (label.Idled k) rule grant is = record { number = (has grant is).number; reserved = own_still (label.Idled k) refl grant is; was = (has grant is).was }
+  own_says (label.Looked t) rule grant is = has_still (label.Looked t) refl refl grant is
+  own_says (label.Placed k n d) rule grant is = has_still (label.Placed k n d) refl refl grant is
+  own_says (label.Shut k d) rule grant is = has_still (label.Shut k d) refl refl grant is
+  own_says (label.Idled k) rule grant is = has_still (label.Idled k) refl refl grant is
   own_says (label.Empty c u o d) rule grant is = absurd (none_some is)
 
 -- So it is along a history.

@@ -27,7 +27,7 @@ use Rattle.disk_box.proofs.Owes.{owns_own}
 use Rattle.journal_set.specs.declared.fault.CommitFault.{CommitFault}
 use Rattle.journal_set.specs.declared.fault.CommitFault.TheVariants as fault
 use Rattle.journal_set.specs.Emptying.{Empties, NOTHING}
-use Rattle.journal_set.specs.Reserving.{Asked, Reserves}
+use Rattle.journal_set.specs.Reserving.{ReserveRequest, Reserves}
 use Rattle.journal_set.specs.Grants.{grant_at}
 use Rattle.journal_set.specs.declared.fault.Ack.{Ack}
 use Rattle.journal_set.proofs.Around.{reserves_around}
@@ -67,7 +67,7 @@ empties_refused flush seen before after (fault.Moved node last) comes = comes
 empties_refused flush seen before after fault.NoMemory comes = comes
 
 -- What comes of it while a core has the box comes of it once the core has brought it home.
-module _ {D : Type 0} (asked : Asked) (before entered done after : PenHand D) (goes_in : PenGoes before entered) (goes_out : PenGoes done after)
+module _ {D : Type 0} (asked : ReserveRequest) (before entered done after : PenHand D) (goes_in : PenGoes before entered) (goes_out : PenGoes done after)
     (own_in : own_at entered ≡ own_at before) (own_out : own_at after ≡ own_at done) (grant_out : grant_at after ≡ grant_at done)
     (core_same : done.view.core ≡ entered.view.core) where
   core_in : entered.view.core ≡ before.view.core

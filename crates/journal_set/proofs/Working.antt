@@ -62,7 +62,8 @@ owed_noted turn own None = by (ends_all turn.act) own.over refl where
   by true over is = omega arith
   by false over is = omega arith
 
-pub owed_by_noted : (key : BoxKey) (core n : ℕ) (past : BoxPast) (turn : Turn) → owed_by n (after_label key.layout core (label.Noted turn) past) ≤ owed_by n past
+pub owed_by_noted : (key : BoxKey) (core n : ℕ) (past : BoxPast) (turn : Turn)
+    → owed_by n (after_label key.layout core (label.Noted turn) past) ≤ owed_by n past
 owed_by_noted key core n past turn = owed_less n past (after_label key.layout core (label.Noted turn) past) (λ other low. elim (same_or_not other core) [
   | inl same ↦
       subst (λ (o : OwnTold). owed_of o (past.waits other) ≤ owed_of (past.owns other) (past.waits other))

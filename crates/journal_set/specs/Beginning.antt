@@ -15,7 +15,7 @@ pub record CanBeWritten (layout : Layout) (writing : Writing) : Type 0 where
   pub in_data : All (LiesInData layout) writing.packed.fresh
 
 -- A core's commit has begun in a slot, with the number that it had reserved.
-pub record BeginsIn (k : ℕ) (flush : Flush) (before after : OwnTold) : Type 0 where
+pub record BeginsInSlot (k : ℕ) (flush : Flush) (before after : OwnTold) : Type 0 where
   pub number : ℕ
   pub had : before.reserved ≡ Some number
   pub after_is : after ≡ record before { reserved = None; flight = Some (record { slot = k; commit = number; flush = flush; opened = false }) }

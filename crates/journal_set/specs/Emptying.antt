@@ -13,7 +13,7 @@ use Rattle.journal_set.specs.declared.fault.Ack.{Ack}
 use Rattle.journal_set.specs.declared.fault.CommitFault.{CommitFault}
 use Rattle.journal_set.specs.declared.fault.CommitFault.TheVariants as fault
 use Rattle.journal_set.specs.Numbering.{WasReserved}
-use Rattle.journal_set.specs.Reserving.{Asked, FindsMoved, FindsStopped}
+use Rattle.journal_set.specs.Reserving.{ReserveRequest, FindsMoved, FindsStopped}
 
 -- the need of nothing
 abbrev pub NOTHING : Need
@@ -30,7 +30,7 @@ pub record EndsTogether (core : ℕ) (flush : Flush) (ack : Ack) (before after :
   pub moments : (cut.now ≡ ack.moment) × (opened.now ≡ ack.moment) × (durable.now ≡ ack.moment)
   pub after_is : after ≡ own_label (label.Empty ack.commit cut opened durable) before
 
-module _ {D : Type 0} (asked : Asked) (before after : PenHand D) where
+module _ {D : Type 0} (asked : ReserveRequest) (before after : PenHand D) where
   -- A number was reserved with nothing, and in the same turn at the box the commit has ended.
   pub record EndsAtOnce (ack : Ack) : Type 0 where
     pub ends : EndsTogether before.view.core asked.flush ack (record (own_at before) { reserved = Some ack.commit }) (own_at after)

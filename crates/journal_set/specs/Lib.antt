@@ -1,7 +1,12 @@
 pub mod Beginning
+pub mod Committing
 pub mod Emptying
+pub mod Flying
+pub mod Fresh
 pub mod Grants
+pub mod Making
 pub mod Numbering
+pub mod OwnSlots
 pub mod Ready
 pub mod Refusing
 pub mod Reserving

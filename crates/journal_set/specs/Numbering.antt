@@ -13,7 +13,7 @@ use Rattle.slot_laws.specs.Labels.{first_past}
 use Rattle.slot_laws.specs.Grants.{SpaceGoes}
 use Rattle.disk_box.specs.declared.key.BoxKey.{BoxKey}
 use Rattle.disk_box.specs.declared.desk.Desk.{Desk}
-use Rattle.disk_box.specs.Pens.{PenHand, PenGoes, IsAtWork, own_at}
+use Rattle.disk_box.specs.Pens.{PenHand, PenGoes, WorksAtDesk, own_at}
 use Rattle.journal_set.specs.declared.numbering.Numbered.{Numbered}
 use Rattle.journal_set.specs.Grants.{grant_at}
 
@@ -38,5 +38,5 @@ pub record Numbers {D : Type 0} (view : D → View) (t : TableState BoxKey) (see
   pub own : own_at after ≡ record (own_at before) { reserved = Some made.number }
   pub grant : grant_at after ≡ Some made.grant
   pub reserved : WasReserved after.table.given after.view.seen after.view.core made.number seen need made.grant
-  pub work : IsAtWork view t after now
+  pub work : WorksAtDesk view t after now
   pub turns : now.turns ≡ was.turns

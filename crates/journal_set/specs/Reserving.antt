@@ -28,12 +28,12 @@ use Rattle.journal_set.specs.Grants.{grant_at}
 use Rattle.journal_set.specs.Numbering.{WasReserved}
 
 -- What is asked: for which fsync, for which nodes as they were seen, and how much.
-pub record Asked : Type 0 where
+pub record ReserveRequest : Type 0 where
   pub flush : Flush
   pub seen : List Seen
   pub need : Need
 
-module _ {D : Type 0} (asked : Asked) (before after : PenHand D) where
+module _ {D : Type 0} (asked : ReserveRequest) (before after : PenHand D) where
   -- A number was reserved with a grant of what is needed, which was free, and the turn Granted was taken.
   pub record ReservesGrant (grant : GrantedNumbers) : Type 0 where
     pub number : ℕ

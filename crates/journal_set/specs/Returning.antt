@@ -8,7 +8,7 @@ use Rattle.slot_laws.specs.Labels.{OwnTold, own_label}
 use Rattle.slot_laws.specs.Rules.{IsTurnBy}
 
 -- A core has given back the number that it had reserved, and the turn GivenBack was taken.
-pub record GivesBack (core : ℕ) (flush : Flush) (before after : OwnTold) : Type 0 where
+pub record ReturnsNumber (core : ℕ) (flush : Flush) (before after : OwnTold) : Type 0 where
   pub number : ℕ
   pub had : before.reserved ≡ Some number
   pub turn : Turn

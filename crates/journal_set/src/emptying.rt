@@ -2,7 +2,7 @@
 ghost use Rattle.std.specs.Prelude.{◌≡◌, ◌≤◌, Some, false};
 ghost use Rattle.slot_laws.specs.Labels.{fsync_told};
 ghost use Rattle.slot_laws.specs.Nodes.{no_numbers};
-ghost use Rattle.disk_box.specs.Pens.{IsAtDesk, IsAtWork, IsOutside, PenGoes, own_at};
+ghost use Rattle.disk_box.specs.Pens.{IsAtDesk, WorksAtDesk, IsOutside, PenGoes, own_at};
 ghost use Rattle.journal_set.specs.Ready.{HasNothingDue, IsReady};
 ghost use Rattle.journal_set.specs.Emptying.{Empties, EndsTogether, NOTHING};
 ghost use Rattle.journal_set.specs.Grants.{grant_at};
@@ -84,7 +84,7 @@ fn end_at_once<D: Disk + Drop>(
     number: u64,
     fsync: Fsync,
 ) -> Ack
-    requires work { IsAtWork D.view table.now pen.old desk.old }
+    requires work { WorksAtDesk D.view table.now pen.old desk.old }
     requires reserved { (own_at pen.old).reserved ≡ Some number }
     requires grant { grant_at pen.old ≡ Some no_numbers }
     requires goes_on { (own_at pen.old).over ≡ false }

@@ -3,7 +3,7 @@ ghost use Rattle.std.specs.Prelude.{◌≡◌, ◌<◌, Some, None, false};
 ghost use Rattle.slot_laws.specs.Labels.{fsync_told};
 ghost use Rattle.disk_box.specs.Pens.{IsAtDesk, IsOutside, PenGoes, own_at};
 ghost use Rattle.journal_set.specs.Grants.{grant_at};
-ghost use Rattle.journal_set.specs.Returning.{GivesBack};
+ghost use Rattle.journal_set.specs.Returning.{ReturnsNumber};
 
 use crate::JournalSet;
 use disk_box::{BoxTable, Desk, Fsync, Pen, enter, leave, note, note_turn};
@@ -24,7 +24,7 @@ impl<D: Disk + Drop> JournalSet<D> {
         ensures outside { IsOutside self.now pen.new }
         ensures goes { PenGoes pen.old pen.new }
         ensures room { pen.new.room ≡ pen.old.room }
-        ensures comes { GivesBack pen.old.view.core (fsync_told fsync.node fsync.stamp) (own_at pen.old) (own_at pen.new) }
+        ensures comes { ReturnsNumber pen.old.view.core (fsync_told fsync.node fsync.stamp) (own_at pen.old) (own_at pen.new) }
     {
         let mut desk = enter(rt, &self.table, pen);
         return_number(&self.table, pen, &mut desk, fsync, grant);
@@ -46,7 +46,7 @@ pub(crate) fn return_number<D: Disk + Drop>(
     ensures at { IsAtDesk D.view table.now pen.new desk.new }
     ensures goes { PenGoes pen.old pen.new }
     ensures room { pen.new.room ≡ pen.old.room }
-    ensures comes { GivesBack pen.old.view.core (fsync_told fsync.node fsync.stamp) (own_at pen.old) (own_at pen.new) }
+    ensures comes { ReturnsNumber pen.old.view.core (fsync_told fsync.node fsync.stamp) (own_at pen.old) (own_at pen.new) }
 {
     let core = pen.number();
     let Some(number) = desk.ledger.number(core) else {

@@ -1,6 +1,8 @@
 -- The cores of a table that begins.
-use Rattle.std.proofs.Common.{◌≡◌, ℕ, zero, suc, ◌+◌, ◌<◌, ◌≤◌, true, List, [], ◌∷◌, ◌++◌, length, Option, Some, slice_get, sym, refl, ap, ◌∙◌, subst, arith, get_or, replicate}
+use Rattle.std.proofs.Common.{◌≡◌, ℕ, zero, suc, ◌+◌, ◌<◌, ◌≤◌, true, List, [], ◌∷◌, ◌++◌, length, Option, Some, slice_get, sym, refl, ap, ◌∙◌, subst, arith, get_or, set, replicate}
+use Rattle.std.specs.Global.{Vec}
 use Rattle.std.specs.Prelude.{All}
+use Rattle.std.specs.Vec.{vec_capacity}
 use Rattle.std.proofs.lemmas.List.Elements.{All-cons, All-nil}
 use lib.ListN.{get_elem?}
 use mathlib.Core.Option.{some, some-injective}
@@ -12,7 +14,7 @@ use Rattle.stamp_table.specs.Placing.{IsOneToOne, FillsSlots, at_slots}
 use Rattle.stamp_table.specs.Steps.{gatherer, one_more, newcomer}
 use Rattle.stamp_table.specs.Events.{event_core, is_call, stands_for, SeatView, LawfulFrom, StandsFrom}
 use Rattle.stamp_table.specs.Hand.{Hand, Desk}
-use Rattle.stamp_table.specs.Table.{TableState, IsIdleCore, AreIdleFrom, IsNew, AreNew, IsBetweenCalls, IsSameCore, AreAllCores, first_leads}
+use Rattle.stamp_table.specs.Table.{TableState, IsIdleCore, AreIdleFrom, IsNew, AreNew, AreInSlots, CoresHaveRoom, HaveRoomFor, IsBetweenCalls, IsSameCore, AreAllCores, first_leads}
 use Rattle.stamp_table.proofs.Gathering.{may_split, begins}
 use Rattle.stamp_table.proofs.Keeps.{get_elem_within}
 
@@ -31,6 +33,17 @@ pub all_zero : (count place : ℕ) → let none : ℕ = 0 in get_or (replicate c
 all_zero zero place = refl
 all_zero (suc count) zero = refl
 all_zero (suc count) (suc place) = all_zero count place
+
+-- one empty list more with room
+pub held_snoc : {A : Type 0} (room : ℕ) (lists : List (Vec A)) (list : Vec A) → HaveRoomFor room lists → (list.items ≡ []) × (room ≤ vec_capacity list)
+    → HaveRoomFor room (lists ++ list ∷ [])
+held_snoc room [] list have next = (next, tt)
+held_snoc room (l ∷ lists) list have next = (have.0, held_snoc room lists list have.1 next)
+
+-- room for some cells is room for none
+pub held_none : {A : Type 0} (room : ℕ) (lists : List (Vec A)) → HaveRoomFor room lists → HaveRoomFor 0 lists
+held_none room [] have = tt
+held_none room (list ∷ lists) have = ((have.0.0, omega arith), held_none room lists have.1)
 
 module _ {C X G : Type 0} where
   pub ready_snoc : (table : Desk G) (cores number : ℕ) (hands : List (Hand C X G)) (hand : Hand C X G) → AreIdleFrom table cores number hands
@@ -57,19 +70,43 @@ module _ {C X G : Type 0} where
   asks_split lawful stands start id number cores lt few =
       may_split event_core is_call (LawfulFrom lawful) (StandsFrom stands) start id (gatherer_with start number) refl refl (omega (arith, lt, few))
 
-  -- values that stand by their places stand by their slots
-  pub laid_stood : (stands : G → TreeState → List (Event X) → ℕ → C → Type 0) (start : TreeState × (G × ℕ)) (slot_at place_at : ℕ → ℕ → ℕ)
-      (cells : List C) (slots : List (Option C)) → IsOneToOne (slot_at start.1.1) (place_at start.1.1)
-      → FillsSlots (length cells) (slot_at start.1.1) (place_at start.1.1) → length slots ≡ length cells
-      → ((place : ℕ) (value : C) → slice_get cells place ≡ Some value → get_elem? slots (slot_at start.1.1 place) ≡ some (Some value))
-      → ((place : ℕ) (value : C) → slice_get cells place ≡ Some value → stands start.1.0 start.0 [] place value)
+  pub room_snoc : (room : ℕ) (hands : List (Hand C X G)) (hand : Hand C X G) → CoresHaveRoom room hands → room ≤ hand.room
+      → CoresHaveRoom room (hands ++ hand ∷ [])
+  room_snoc room [] hand have next = (next, tt)
+  room_snoc room (h ∷ hands) hand have next = (have.0, room_snoc room hands hand have.1 next)
+
+  -- the first core may be put anew
+  pub room_led : (room : ℕ) (hands : List (Hand C X G)) (old new : Hand C X G) → CoresHaveRoom room hands → old ≡ get_or hands 0 old → 0 < length hands
+      → new.room ≡ old.room → CoresHaveRoom room (set hands 0 new)
+  room_led room [] old new have read long same = absurd (omega (arith, long))
+  room_led room (hand ∷ hands) old new have read long same =
+      (subst (λ n. room ≤ n) (ap (λ (h : Hand C X G). h.room) (sym read) ∙ sym same) have.0, have.1)
+
+  -- values that are laid out by their places stand by their slots
+  pub laid_in_slots : (stands : G → TreeState → List (Event X) → ℕ → C → Type 0) (given : G) (measure : ℕ) (first : TreeState)
+      (slot_at place_at : ℕ → ℕ → ℕ) (cells : List C) (slots : List (Option C)) → IsOneToOne (slot_at measure) (place_at measure)
+      → FillsSlots (length cells) (slot_at measure) (place_at measure) → length slots ≡ length cells
+      → ((place : ℕ) (value : C) → slice_get cells place ≡ Some value → get_elem? slots (slot_at measure place) ≡ some (Some value))
+      → ((place : ℕ) (value : C) → slice_get cells place ≡ Some value → stands given first [] place value)
+      → AreInSlots stands place_at given measure first slots
+  laid_in_slots stands given measure first slot_at place_at cells slots one fills long laid stood = record {
+    each = λ slot low.
+        let lt : slot < length cells = subst (λ n. slot < n) long low in
+        let there = elem_there cells (place_at measure slot) (fills.places slot lt) in (
+          there.0,
+          ap (get_elem? slots) (sym (one.forth slot)) ∙ laid (place_at measure slot) there.0 there.1,
+          stood (place_at measure slot) there.0 there.1,
+        );
+  }
+
+  -- values in slots are what their cells stand for
+  pub in_slots_stood : (stands : G → TreeState → List (Event X) → ℕ → C → Type 0) (start : TreeState × (G × ℕ)) (place_at : ℕ → ℕ → ℕ)
+      (slots : List (Option C)) → AreInSlots stands place_at start.1.0 start.1.1 start.0 slots
       → (slot : ℕ) (x : Option C) → get_elem? slots slot ≡ some x → stands_for (at_slots place_at stands start.1) start.0 [] slot x
-  laid_stood stands start slot_at place_at cells slots one fills long laid stood slot x at =
-      let lt : slot < length cells = subst (λ n. slot < n) long (get_elem_within slots slot x at) in
-      let there = elem_there cells (place_at start.1.1 slot) (fills.places slot lt) in
-      let same : Some there.0 ≡ x = some-injective (Some there.0) x
-      (sym (laid (place_at start.1.1 slot) there.0 there.1) ∙ (ap (get_elem? slots) (one.forth slot) ∙ at)) in
-      subst (λ y. stands_for (at_slots place_at stands start.1) start.0 [] slot y) same (stood (place_at start.1.1 slot) there.0 there.1)
+  in_slots_stood stands start place_at slots are slot x at =
+      let one = are.each slot (get_elem_within slots slot x at) in
+      let same : Some one.0 ≡ x = some-injective (Some one.0) x (sym one.1 ∙ at) in
+      subst (λ y. stands_for (at_slots place_at stands start.1) start.0 [] slot y) same one.2
 
   -- the rule holds of a table that begins
   pub asks_new : (lawful : G → TreeState → List (Event X) → Type 0) (stands : G → TreeState → List (Event X) → ℕ → C → Type 0) (start : TreeState × G)

@@ -2,7 +2,11 @@
 use mathlib.Core.List.{IsPrefix}
 use Rattle.std.specs.Prelude.{◌≡◌, ℕ, suc, map, slice_get, ◌+◌, ◌<◌, ◌≤◌, ◌==◌, true, false, List, [], ◌∷◌, ◌++◌, Option, Some, None, length, refl, Bool, nat_le, reverse, if◌then◌else◌}
 use Rattle.std.specs.List.{find}
+use Rattle.std.specs.Global.{Vec}
+use Rattle.std.specs.Vec.{vec_capacity}
 use Rattle.std.specs.Coded.{Coded, code_by, coded×, coded_ℕ}
+use lib.ListN.{get_elem?}
+use mathlib.Core.Option.{some}
 use Rattle.atomic_table.specs.Seated.{TableId}
 use Rattle.atomic_table.specs.Table.{Me, rest}
 use Rattle.atomic_table.specs.declared.shared.Seat.{Seat}
@@ -295,3 +299,27 @@ pub record AreAtHome {C X : Type 0} (stands : TreeState → List (Event X) → �
     (values : List C) : Type 0 where
   pub count : length values ≡ slots
   pub each : (place : ℕ) (value : C) → slice_get values place ≡ Some value → stands first log place value
+
+-- each of these lists is empty, with room for so many cells
+abbrev pub HaveRoomFor : {A : Type 0} → ℕ → List (Vec A) → Type 0
+HaveRoomFor room [] = Unit {0}
+HaveRoomFor room (list ∷ lists) = ((list.items ≡ []) × (room ≤ vec_capacity list)) × HaveRoomFor room lists
+
+-- each of these cores has room for so many cells
+abbrev pub CoresHaveRoom : {C X G : Type 0} → ℕ → List (Hand C X G) → Type 0
+CoresHaveRoom room [] = Unit {0}
+CoresHaveRoom room (hand ∷ hands) = (room ≤ hand.room) × CoresHaveRoom room hands
+
+-- The values of a table that begins lie in the slots of its memory, each slot with one that stands for what no call leaves of the cell whose place is that
+-- slot's.
+pub record AreInSlots {C X G : Type 0} (stands : G → TreeState → List (Event X) → ℕ → C → Type 0) (place_at : ℕ → ℕ → ℕ) (given : G) (measure : ℕ)
+    (first : TreeState) (slots : List (Option C)) : Type 0 where
+  pub each : (slot : ℕ) → slot < length slots → (value : C) × (get_elem? slots slot ≡ some (Some value)) × stands given first [] (place_at measure slot) value
+
+-- A table is over a tree and what was given beside it, with this measure and so many cells, and has as many cores as the tree.
+pub record IsTableOf {G : Type 0} (first : TreeState) (given : G) (measure cells : ℕ) (t : TableState G) : Type 0 where
+  pub first_is : t.first ≡ first
+  pub given_is : t.table.given ≡ given
+  pub measure_is : t.table.measure ≡ measure
+  pub cells_are : t.table.id.slots ≡ cells
+  pub made : t.cores ≡ length t.first.made

@@ -1,5 +1,5 @@
 // The beginning of a table and of its cores.
-ghost use Rattle.std.specs.Prelude.{◌≡◌, ◌<◌, ◌≤◌, ◌^◌, ℕ, [], ◌∷◌, true, false, length, map, replicate, slice_get, Some, None, IfOk, OnOk};
+ghost use Rattle.std.specs.Prelude.{◌≡◌, ◌<◌, ◌≤◌, ◌^◌, ℕ, [], ◌∷◌, ◌+◌, true, false, length, map, replicate, slice_get, Some, None, IfOk, IfErr};
 ghost use mathlib.Core.Option.{some};
 ghost use lib.ListN.{get_elem?};
 ghost use Rattle.tree_laws.specs.Tree.{TreeState};
@@ -7,24 +7,34 @@ ghost use Rattle.stamp_table.specs.Placing.{MOST_CELLS, IsLaidOut};
 ghost use Rattle.stamp_table.specs.Steps.{gatherer, newcomer};
 ghost use Rattle.stamp_table.specs.Events.{tree_view};
 ghost use Rattle.stamp_table.specs.Hand.{IsLead};
-ghost use Rattle.stamp_table.specs.Table.{AreAllCores, AreIdleFrom, AreNew, IsIdleCore, IsNew, IsBegun};
+ghost use Rattle.stamp_table.specs.Table.{AreAllCores, AreIdleFrom, AreInSlots, AreNew, CoresHaveRoom, HaveRoomFor, IsIdleCore, IsNew, IsBegun, IsTableOf};
+ghost use Rattle.std.specs.Vec.{vec_capacity};
+ghost use Rattle.stamp_table.specs.Rule.{LOCKS};
 
 use crate::meaning::Make;
 use crate::shared::{CoreSeat, Key, LOCKS};
-use crate::{Core, Event, Law, Meaning, Shared, View};
+use crate::{Core, Event, HeldCell, Law, Meaning, Shared, View};
 use atomic_table::{Refused, Table};
 use sfs_base::{CoreId, NoMemory};
 use sfs_tree::Tree;
 use std::alloc::Global;
 use std::marker::PhantomData;
 use std::snapshot::Snapshot;
+use tree_laws::Entry;
 
 // How many cells a table has at most.
 const MOST_CELLS: usize = 1 << 32;
 
 impl<C: Drop, X, G, M: Meaning<C, X, G>> Core<C, X, G, M> {
-    // A core that begins. It takes no memory.
-    fn begin(alloc: Global, seat: CoreSeat<C, X, G>, number: CoreId, cores: u8) -> Core<C, X, G, M>
+    // A core that begins, with room for cells. It takes no memory.
+    fn begin(
+        alloc: Global,
+        seat: CoreSeat<C, X, G>,
+        number: CoreId,
+        cores: u8,
+        held: Vec<HeldCell<C>>,
+    ) -> Core<C, X, G, M>
+        requires none { held.items ≡ [] }
         requires number { seat.me.0.core ≡ number.0 }
         requires view { IsBegun seat }
         ensures ready { IsIdleCore (record { id = seat.table_id; given = seat.me.0.first.1.0; measure = seat.me.0.first.1.1 }) cores seat.me.0.core result }
@@ -32,6 +42,7 @@ impl<C: Drop, X, G, M: Meaning<C, X, G>> Core<C, X, G, M> {
         ensures leads { result.leads ≡ false }
         ensures entries { result.entries ≡ [] }
         ensures waiting { result.waiting ≡ None }
+        ensures room { result.room ≡ vec_capacity held }
     {
         Core {
             seat,
@@ -40,7 +51,7 @@ impl<C: Drop, X, G, M: Meaning<C, X, G>> Core<C, X, G, M> {
             cores,
             entries: Vec::new(alloc),
             waiting: None,
-            held: Vec::new(alloc),
+            held,
             apart: [0; 8],
             meaning: PhantomData,
         }
@@ -73,6 +84,53 @@ fn empty<C: Drop>(alloc: Global, count: usize) -> Result<Vec<Option<C>>, NoMemor
     Ok(slots)
 }
 
+// So many lists, each with room for so many cells.
+fn held_lists<C: Drop>(
+    alloc: Global,
+    count: u8,
+    room: u32,
+) -> Result<Vec<Vec<HeldCell<C>>>, NoMemory>
+    ensures count { IfOk result (λ lists. length lists.items ≡ count) }
+    ensures room { IfOk result (λ lists. HaveRoomFor room lists.items) }
+{
+    let mut lists = Vec::with_capacity(alloc, count as usize)?;
+    for _ in 0..count {
+        let list = Vec::with_capacity(alloc, room as usize)?;
+        lists.push_reserved(list);
+    }
+    Ok(lists)
+}
+
+// The memory of a table beside its values: its words, and room for its cores' lists, for its values at the end, for its cores, and for what each
+// of these holds.
+struct Room<C: Drop, X, G, M: Meaning<C, X, G>> {
+    words: Vec<u64>,
+    parts: Vec<Vec<Entry>>,
+    values: Vec<C>,
+    hands: Vec<Core<C, X, G, M>>,
+    held: Vec<Vec<HeldCell<C>>>,
+}
+
+impl<C: Drop, X, G, M: Meaning<C, X, G>> Room<C, X, G, M> {
+    // That of a table of so many cells and cores, each of which can hold so many cells.
+    fn new(alloc: Global, cells: usize, cores: u8, room: u32) -> Result<Self, NoMemory>
+        requires few { cells ≤ MOST_CELLS }
+        ensures words { IfOk result (λ room. room.words.items ≡ replicate (LOCKS + cells) 0) }
+        ensures parts { IfOk result (λ room. (room.parts.items ≡ []) × (cores ≤ vec_capacity room.parts)) }
+        ensures values { IfOk result (λ room. (room.values.items ≡ []) × (cells ≤ vec_capacity room.values)) }
+        ensures hands { IfOk result (λ room. (room.hands.items ≡ []) × (cores ≤ vec_capacity room.hands)) }
+        ensures held { IfOk result (λ made. (length made.held.items ≡ cores) × HaveRoomFor room made.held.items) }
+    {
+        Ok(Room {
+            words: zeros(alloc, LOCKS + cells)?,
+            parts: Vec::with_capacity(alloc, cores as usize)?,
+            values: Vec::with_capacity(alloc, cells)?,
+            hands: Vec::with_capacity(alloc, cores as usize)?,
+            held: held_lists(alloc, cores, room)?,
+        })
+    }
+}
+
 impl<C: Drop, X, G, M: Meaning<C, X, G>> Shared<C, X, G, M> {
     // The cores of a table, by their numbers.
     fn cores_of(
@@ -80,23 +138,28 @@ impl<C: Drop, X, G, M: Meaning<C, X, G>> Shared<C, X, G, M> {
         table: &Table<Option<C>, View<(Tree, (G, usize)), Event<X>>, Key<G>, Law<M>, Global>,
         lead: &mut CoreSeat<C, X, G>,
         cores: u8,
-    ) -> Result<Vec<Core<C, X, G, M>>, NoMemory>
+        mut hands: Vec<Core<C, X, G, M>>,
+        held: Vec<Vec<HeldCell<C>>>,
+    ) -> Vec<Core<C, X, G, M>>
         requires words { 0 < table.now.shared.table_id.words }
+        requires room { (hands.items ≡ []) × (cores ≤ vec_capacity hands) }
+        requires held { (length held.items ≡ cores) × HaveRoomFor 0 held.items }
         requires lead { (lead.old.table_id ≡ table.now.shared.table_id)
             × (lead.old.me ≡ (gatherer (table.now.shared.key.0.value, (table.now.shared.key.1.0.value, table.now.shared.key.1.1.value)), [])) }
-        ensures count { IfOk result (λ hands. length hands.items ≡ cores) }
-        ensures ready { IfOk result (λ hands.
-            AreIdleFrom (record { id = table.now.shared.table_id; given = table.now.shared.key.1.0.value; measure = table.now.shared.key.1.1.value }) cores 0
-            hands.items) }
-        ensures new { IfOk result (λ hands. AreNew table.now.shared.key.0.value hands.items) }
-        ensures lead { OnOk result (IsLead table.now.shared.table_id cores lead.new) }
+        ensures count { length result.items ≡ cores }
+        ensures ready { AreIdleFrom (record { id = table.now.shared.table_id; given = table.now.shared.key.1.0.value; measure = table.now.shared.key.1.1.value }) cores 0
+            result.items }
+        ensures new { AreNew table.now.shared.key.0.value result.items }
+        ensures lead { IsLead table.now.shared.table_id cores lead.new }
+        ensures room { (room : ℕ) → HaveRoomFor room held.items → CoresHaveRoom room result.items }
     {
-        let mut hands = Vec::with_capacity(alloc, cores as usize)?;
-        for number in 0..cores {
+        let mut number = 0;
+        for list in held {
             let seat = table.shared.split_seat::<Make>(lead);
-            hands.push_reserved(Core::begin(alloc, seat, CoreId(number), cores));
+            hands.push_reserved(Core::begin(alloc, seat, CoreId(number), cores, list));
+            number += 1;
         }
-        Ok(hands)
+        hands
     }
 
     // The values, each in the slot of its place.
@@ -139,20 +202,58 @@ impl<C: Drop, X, G, M: Meaning<C, X, G>> Shared<C, X, G, M> {
         ensures cores { IfOk result (λ made. AreAllCores made.0 made.1.items) }
         ensures new { IfOk result (λ made. AreNew first.now made.1.items) }
     {
-        let count = cells.len();
-        if count > MOST_CELLS {
+        if cells.len() > MOST_CELLS {
             return Err(NoMemory);
         }
-        let words = zeros(alloc, LOCKS + count)?;
-        let parts = Vec::with_capacity(alloc, cores as usize)?;
-        let values = Vec::with_capacity(alloc, count)?;
         let slots = Self::slots_of(alloc, measure, cells)?;
+        match Self::make_of_slots(alloc, first, given, measure, slots, (cores, 0)) {
+            Ok(made) => Ok(made),
+            Err(_) => Err(NoMemory),
+        }
+    }
+
+    /// The same of values that lie in the slots of their places already, and with room in each core for so many cells: `cores` has the count of
+    /// cores and that of cells. Where memory is wanting the values are handed back.
+    pub fn make_of_slots(
+        alloc: Global,
+        first: &Tree,
+        given: Snapshot<G>,
+        measure: usize,
+        slots: Vec<Option<C>>,
+        cores: (u8, u32),
+    ) -> Result<(Shared<C, X, G, M>, Vec<Core<C, X, G, M>>), Vec<Option<C>>>
+        requires cores { (0 < cores.0) × (cores.0 ≡ length first.now.made) }
+        requires cells { AreInSlots M.stands M.place_at given.value measure first.now slots.items }
+        requires lawful { M.lawful given.value first.now [] }
+        requires laid { IsLaidOut (length slots.items) (M.slot_at measure) (M.place_at measure) measure }
+        ensures table { IfOk result (λ made. IsTableOf first.now given.value measure (length slots.items) made.0) }
+        ensures count { IfOk result (λ made. length made.1.items ≡ cores.0) }
+        ensures cores { IfOk result (λ made. AreAllCores made.0 made.1.items) }
+        ensures new { IfOk result (λ made. AreNew first.now made.1.items) }
+        ensures room { IfOk result (λ made. CoresHaveRoom cores.1 made.1.items) }
+        ensures back { IfErr result (λ back. back.items ≡ slots.items) }
+    {
+        let count = slots.len();
+        let (cores, room) = cores;
+        if count > MOST_CELLS {
+            return Err(slots);
+        }
+        let Ok(room) = Room::new(alloc, count, cores, room) else {
+            return Err(slots);
+        };
+        let Room {
+            words,
+            parts,
+            values,
+            hands,
+            held,
+        } = room;
         let key = (Snapshot::of(first), (given, Snapshot::of(&measure)));
         let (table, mut lead) = match Table::new(alloc, words.as_slice(), slots, &key) {
             Ok(made) => made,
-            Err(_) => return Err(NoMemory),
+            Err(Refused { slots }) => return Err(slots),
         };
-        let mut hands = Self::cores_of(alloc, &table, &mut lead, cores)?;
+        let mut hands = Self::cores_of(alloc, &table, &mut lead, cores, hands, held);
         hands[0].lead_with(lead);
         let shared = Shared {
             table,

@@ -10,8 +10,8 @@ use Rattle.space_map.specs.Pool.{Pool, Grants, status_of}
 use Rattle.space_map.specs.Space.{GrantedNumbers, AllGranted}
 use Rattle.space_map.proofs.Others.{free_now}
 use Rattle.slot_laws.specs.declared.label.Seen.{Seen}
-use Rattle.commit_ledger.specs.View.{DebtView, OpenView, LedgerView, HasPlaces}
-use Rattle.commit_ledger.specs.Calls.{HasTaken, MayEnter, Enters, MayReturn, MayEnd, TakesDebt}
+use Rattle.commit_ledger.specs.View.{DebtView, OpenView, LedgerView, HaveNodePlaces}
+use Rattle.commit_ledger.specs.Calls.{HasTaken, MayEnter, EntersCommit, MayReturn, MayEnd, TakesDebt}
 use Rattle.commit_ledger.proofs.Kept.{all_listed}
 use Rattle.commit_ledger.proofs.Places.{found_within}
 
@@ -27,7 +27,7 @@ taken_out old new count numbers grants =
 
 -- what a commit was granted as it was prepared it may return once it has entered
 pub entered_may_return : (core number : ℕ) (seen : List Seen) (grant : GrantedNumbers) (before old new : LedgerView) → HasTaken grant before old
-    → MayEnter core seen old → Enters core number seen old new → MayReturn core grant new
+    → MayEnter core seen old → EntersCommit core number seen old new → MayReturn core grant new
 entered_may_return core number seen grant before old new taken may enters =
     let own : OpenView = record { number = number; seen = seen; debt = None } in
     record {
@@ -56,7 +56,7 @@ owing_may_end core debt old new may owes =
       own = record {
         one = one;
         there = get_or-set_same old.opens core (Some one) None within;
-        places = subst (λ (v : OpenView). HasPlaces old.lasts v.seen) same own.places;
+        places = subst (λ (v : OpenView). HaveNodePlaces old.lasts v.seen) same own.places;
       };
       debt = debt;
       owes = refl;

@@ -3,7 +3,7 @@ ghost use Rattle.std.specs.Prelude.{◌≡◌};
 ghost use Rattle.slot_laws.specs.Labels.{owner};
 ghost use Rattle.disk_box.specs.declared.kind.Kind.TheVariants as kind;
 ghost use Rattle.disk_box.specs.Kind.{HasKind};
-ghost use Rattle.disk_box.specs.Pens.{IsAtWork, own_at};
+ghost use Rattle.disk_box.specs.Pens.{WorksAtDesk, own_at};
 ghost use Rattle.disk_box.specs.Steps.{OpensFlight, Steps};
 
 use crate::{BoxTable, Desk, Pen, note};
@@ -19,11 +19,11 @@ pub fn open_one<D: Disk + Drop>(
     desk: &mut Desk<D>,
     k: usize,
 ) -> Result<(), u64>
-    requires work { IsAtWork D.view table.now pen.old desk.old }
+    requires work { WorksAtDesk D.view table.now pen.old desk.old }
     requires own { owner pen.old.table.given.layout k ≡ pen.old.view.core }
     requires kind { HasKind desk.old.slots.items k kind.Sealed }
     ensures steps { Steps D.view table.now pen.old pen.new desk.new result }
-    ensures own { OpensFlight (own_at pen.old) (own_at pen.new) }
+    ensures own { OpensFlight pen.old.view.core (own_at pen.old) (own_at pen.new) }
 {
     let result = desk.slots[k].open(&mut desk.disk);
     let done = result.is_ok();

@@ -3,7 +3,7 @@ ghost use Rattle.std.specs.Prelude.{◌≡◌, Some, slice_get};
 ghost use Rattle.disk_box.specs.declared.desk.Slot.{Slot};
 ghost use Rattle.disk_box.specs.declared.kind.Kind.TheVariants as kind;
 ghost use Rattle.disk_box.specs.Kind.{HasKind};
-ghost use Rattle.disk_box.specs.Pens.{IsAtWork, own_at, past_at};
+ghost use Rattle.disk_box.specs.Pens.{WorksAtDesk, own_at, past_at};
 ghost use Rattle.disk_box.specs.Steps.{NextIsOldest, Steps};
 
 use crate::{BoxTable, Desk, Pen, note};
@@ -17,7 +17,7 @@ pub fn place_one<D: Disk + Drop>(
     desk: &mut Desk<D>,
     k: usize,
 ) -> Result<(), u64>
-    requires work { IsAtWork D.view table.now pen.old desk.old }
+    requires work { WorksAtDesk D.view table.now pen.old desk.old }
     requires kind { HasKind desk.old.slots.items k kind.Durable }
     requires oldest { (slot : Slot) → slice_get desk.old.slots.items k ≡ Some slot → NextIsOldest (past_at pen.old).slots k slot }
     ensures steps { Steps D.view table.now pen.old pen.new desk.new result }

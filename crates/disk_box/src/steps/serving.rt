@@ -11,8 +11,8 @@ use slot_laws::Label;
 use tree_laws::TurnAct;
 
 impl<D> Desk<D> {
-    // Whose a slot is.
-    pub(crate) fn owner_of(&self, k: usize) -> usize
+    /// Whose a slot is.
+    pub fn owner_of(&self, k: usize) -> usize
         requires cores { 0 < length self.now.waits.items }
         requires slots { length self.now.waits.items ≤ length self.now.slots.items }
         ensures { result ≡ owner_by (length self.now.slots.items) (length self.now.waits.items) k }

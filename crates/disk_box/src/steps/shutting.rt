@@ -2,7 +2,7 @@
 ghost use Rattle.std.specs.Prelude.{◌≡◌};
 ghost use Rattle.disk_box.specs.declared.kind.Kind.TheVariants as kind;
 ghost use Rattle.disk_box.specs.Kind.{HasKind};
-ghost use Rattle.disk_box.specs.Pens.{IsAtWork, own_at};
+ghost use Rattle.disk_box.specs.Pens.{WorksAtDesk, own_at};
 ghost use Rattle.disk_box.specs.Steps.{Steps};
 
 use crate::{BoxTable, Desk, Pen, note};
@@ -16,7 +16,7 @@ pub fn shut_one<D: Disk + Drop>(
     desk: &mut Desk<D>,
     k: usize,
 ) -> Result<(), u64>
-    requires work { IsAtWork D.view table.now pen.old desk.old }
+    requires work { WorksAtDesk D.view table.now pen.old desk.old }
     requires kind { HasKind desk.old.slots.items k kind.Copied }
     ensures steps { Steps D.view table.now pen.old pen.new desk.new result }
     ensures own { own_at pen.new ≡ own_at pen.old }

@@ -1,7 +1,7 @@
 // The step that syncs the disk.
 ghost use Rattle.std.specs.Prelude.{◌≡◌, OnOk, length};
 ghost use Rattle.disk_box.specs.Calls.{NoneAwaits};
-ghost use Rattle.disk_box.specs.Pens.{IsAtWork, own_at};
+ghost use Rattle.disk_box.specs.Pens.{WorksAtDesk, own_at};
 ghost use Rattle.disk_box.specs.Steps.{Steps};
 
 use super::serving::serve_all;
@@ -17,7 +17,7 @@ pub fn sync_all<D: Disk + Drop>(
     pen: &mut Pen<D>,
     desk: &mut Desk<D>,
 ) -> Result<(), u64>
-    requires work { IsAtWork D.view table.now pen.old desk.old }
+    requires work { WorksAtDesk D.view table.now pen.old desk.old }
     ensures steps { Steps D.view table.now pen.old pen.new desk.new result }
     ensures own { own_at pen.new ≡ own_at pen.old }
     ensures served { OnOk result (NoneAwaits desk.new.slots.items (length desk.new.slots.items)) }

@@ -5,7 +5,8 @@ use Rattle.journal_set.proofs.Nothing.{empties_refused, grant_of_nothing, over_c
 use Rattle.journal_set.proofs.emptying.empty_at.Goals as goal
 
 pub returns-in-Err-clause-comes : goal.returns-in-Err-clause-comes
-returns-in-Err-clause-comes g c = empties_refused (fsync_told c.args.fsync.node c.args.fsync.stamp) c.args.seen.now c.args.pen.now c.look_first.new.pen c.in-Err.fault (c.in-Err.ensures.err NOTHING)
+returns-in-Err-clause-comes g c = empties_refused (fsync_told c.args.fsync.node c.args.fsync.stamp) c.args.seen.now c.args.pen.now c.look_first.new.pen
+    c.in-Err.fault (c.in-Err.ensures.err NOTHING)
 
 pub end_at_once-requires-clause-grant : goal.end_at_once-requires-clause-grant
 end_at_once-requires-clause-grant g c κs within =

@@ -1,8 +1,10 @@
 use Rattle.std.proofs.Common.{◌≡◌, ◌+◌, ◌<◌, ◌≤◌, ◌∷◌, ◌++◌, ◌∙◌, ℕ, false, List, [], length, Some, None, refl, sym, ap, subst, arith, append_assoc}
+use Rattle.tree_laws.specs.declared.turns.TurnAct.TheVariants as act
 use Rattle.cut_laws.specs.Closure.{Flush}
 use Rattle.slot_laws.specs.declared.label.Label.TheVariants as label
 use Rattle.slot_laws.specs.Labels.{OwnTold, fsync_told}
 use Rattle.slot_laws.specs.Nodes.{no_numbers}
+use Rattle.slot_laws.specs.Rules.{IsTurnBy}
 use Rattle.commit_ledger.specs.Calls.{HasEntered}
 use Rattle.commit_ledger.specs.View.{number_in}
 use Rattle.disk_box.specs.declared.desk.Desk.{Desk}
@@ -88,9 +90,9 @@ note-requires-clause-may g c κs within =
     let last = c.turn-durable.ensures in
     let three : ThreeTurns pen.table.given.faults pen.view.core c.args.number (view desk.disk).now flush c.turn-cut.result c.turn-opened.result
     c.turn-durable.result = record {
-      cut_is = record { did_is = one.by.did_is; core_is = one.by.core_is ∙ c.number-core.ensures; commit_is = one.by.commit_is; flush_is = one.by.flush_is };
-      opened_is = record { did_is = two.by.did_is; core_is = two.by.core_is ∙ c.number-core.ensures; commit_is = two.by.commit_is; flush_is = two.by.flush_is };
-      durable_is = record { did_is = last.by.did_is; core_is = last.by.core_is ∙ c.number-core.ensures; commit_is = last.by.commit_is; flush_is = last.by.flush_is };
+      cut_is = subst (λ n. IsTurnBy c.turn-cut.result act.CutAt n c.args.number flush) c.number-core.ensures one.by;
+      opened_is = subst (λ n. IsTurnBy c.turn-opened.result act.Opened n c.args.number flush) c.number-core.ensures two.by;
+      durable_is = subst (λ n. IsTurnBy c.turn-durable.result act.Durable n c.args.number flush) c.number-core.ensures last.by;
       cut_now = (one.now, calm_faults view pen.table.given (past_at pen) desk c.turn-cut.result work.fits.frame work.calm one.faults);
       opened_now = (two.now, calm_faults view pen.table.given (past_at pen) desk c.turn-opened.result work.fits.frame work.calm two.faults);
       durable_now = (last.now, calm_faults view pen.table.given (past_at pen) desk c.turn-durable.result work.fits.frame work.calm last.faults);
@@ -127,9 +129,9 @@ returns-clause-at g c =
     let last = c.turn-durable.ensures in
     let three : ThreeTurns pen.table.given.faults pen.view.core c.args.number (view desk.disk).now flush c.turn-cut.result c.turn-opened.result
     c.turn-durable.result = record {
-      cut_is = record { did_is = one.by.did_is; core_is = one.by.core_is ∙ c.number-core.ensures; commit_is = one.by.commit_is; flush_is = one.by.flush_is };
-      opened_is = record { did_is = two.by.did_is; core_is = two.by.core_is ∙ c.number-core.ensures; commit_is = two.by.commit_is; flush_is = two.by.flush_is };
-      durable_is = record { did_is = last.by.did_is; core_is = last.by.core_is ∙ c.number-core.ensures; commit_is = last.by.commit_is; flush_is = last.by.flush_is };
+      cut_is = subst (λ n. IsTurnBy c.turn-cut.result act.CutAt n c.args.number flush) c.number-core.ensures one.by;
+      opened_is = subst (λ n. IsTurnBy c.turn-opened.result act.Opened n c.args.number flush) c.number-core.ensures two.by;
+      durable_is = subst (λ n. IsTurnBy c.turn-durable.result act.Durable n c.args.number flush) c.number-core.ensures last.by;
       cut_now = (one.now, calm_faults view pen.table.given (past_at pen) desk c.turn-cut.result work.fits.frame work.calm one.faults);
       opened_now = (two.now, calm_faults view pen.table.given (past_at pen) desk c.turn-opened.result work.fits.frame work.calm two.faults);
       durable_now = (last.now, calm_faults view pen.table.given (past_at pen) desk c.turn-durable.result work.fits.frame work.calm last.faults);

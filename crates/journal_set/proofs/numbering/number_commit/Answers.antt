@@ -15,9 +15,9 @@ use Rattle.stamp_table.specs.declared.view.View.{View as Sight}
 use Rattle.slot_laws.specs.Labels.{first_past}
 use Rattle.slot_laws.specs.Grants.{SpaceGoes}
 use Rattle.slot_laws.specs.Rules.{ReservedRule}
-use Rattle.commit_ledger.specs.Calls.{Enters, MayEnter}
+use Rattle.commit_ledger.specs.Calls.{EntersCommit, MayEnter}
 use Rattle.commit_ledger.specs.Keeps.{LedgerGoes}
-use Rattle.commit_ledger.specs.View.{HasPlaces}
+use Rattle.commit_ledger.specs.View.{HaveNodePlaces}
 use Rattle.disk_box.specs.declared.key.BoxKey.{BoxKey}
 use Rattle.disk_box.specs.declared.desk.Desk.{Desk}
 use Rattle.journal_set.specs.Grants.{grant_from}
@@ -38,7 +38,8 @@ note-requires-clause-may g c κs within =
     let ok = c.in_ok-prepared.ensures.ok in
     let made = c.in_ok-prepared.prepared in
     let next = ok.number ∙ ap (λ n. n + 1) work.fits.frame.ledger.commits in
-    let unmoved = subst (λ l. (node last : ℕ) → last_seen l node ≡ Some last → (past_at pen).lasts node ≡ last_ended last) (sym ok.seen_is) c.requires.may.unmoved in
+    let unmoved = subst (λ l. (node last : ℕ) → last_seen l node ≡ Some last → (past_at pen).lasts node ≡ last_ended last) (sym ok.seen_is)
+    c.requires.may.unmoved in
     subst (λ (l : Label). MayLabel pen.table.given.layout pen.table.given.faults pen.view.core l (past_at pen)) (sym c.label_for-label.ensures)
     (reserved_rule g.D.Disk.view pen.table.given pen.view.core (past_at pen) (past_fits_at c.args.table.now pen work.holds) desk work.fits.frame
     work.holds.core_is (ap (λ (o : OwnTold). o.reserved) own ∙ c.requires.may.rests.0) (ap (λ (o : OwnTold). o.flight) own ∙ c.requires.may.rests.1) made.number
@@ -56,7 +57,7 @@ enter-requires g c =
     let nodes = same_nodes made.number parts.0 made.seen c.parts_of-nodes.result.0 made.grant c.parts_of-nodes.result.1
     (sym c.label_for-label.ensures ∙ parts.1)
     in
-    let places = subst (λ l. HasPlaces c.prepare.new.self.lasts l) (sym ok.seen_is ∙ ap (λ (r : Roomy Seen). r.items) nodes) ok.places in
+    let places = subst (λ l. HaveNodePlaces c.prepare.new.self.lasts l) (sym ok.seen_is ∙ ap (λ (r : Roomy Seen). r.items) nodes) ok.places in
     let enter = may_enter g.D.Disk.view pen.table.given pen.view.core (past_at pen) (past_fits_at c.args.table.now pen work.holds) desk work.fits.frame
     work.holds.core_is (ap (λ (o : OwnTold). o.reserved) own ∙ c.requires.may.rests.0) (ap (λ (o : OwnTold). o.flight) own ∙ c.requires.may.rests.1)
     c.prepare.new.self c.parts_of-nodes.result.0.items ok.taken.opens places
@@ -85,13 +86,18 @@ returns-clause-ok g c =
     let none = ap (λ (o : OwnTold). o.reserved) own ∙ c.requires.may.rests.0 in
     let rests = ap (λ (o : OwnTold). o.flight) own ∙ c.requires.may.rests.1 in
     let next = ok.number ∙ ap (λ n. n + 1) work.fits.frame.ledger.commits in
-    let unmoved = subst (λ l. (node last : ℕ) → last_seen l node ≡ Some last → (past_at pen).lasts node ≡ last_ended last) (sym ok.seen_is) c.requires.may.unmoved in
+    let unmoved = subst (λ l. (node last : ℕ) → last_seen l node ≡ Some last → (past_at pen).lasts node ≡ last_ended last) (sym ok.seen_is)
+    c.requires.may.unmoved in
     let fits = past_fits_at t pen work.holds in
     let rule = reserved_rule g.D.Disk.view pen.table.given pen.view.core (past_at pen) fits desk work.fits.frame work.holds.core_is none rests made.number
     made.seen made.grant work.calm next unmoved
     in
-    let enters : Enters pen.view.core made.number made.seen.items c.prepare.new.self c.enter.new.self =
-    subst (λ (z : ℕ × Roomy Seen). Enters z.0 made.number z.1.items c.prepare.new.self c.enter.new.self) (λ i. ((c.number.ensures ∙ core_same) i, sym nodes i))
+    let enters : EntersCommit pen.view.core made.number made.seen.items c.prepare.new.self c.enter.new.self =
+    subst (λ (z : ℕ × Roomy Seen). EntersCommit z.0 made.number z.1.items c.prepare.new.self c.enter.new.self) (λ i. (
+      (c.number.ensures ∙ core_same) i,
+      sym
+          nodes i,
+    ))
     c.enter.ensures.enters
     in
     let goes : LedgerGoes told (past_at pen) desk.ledger c.enter.new.self =

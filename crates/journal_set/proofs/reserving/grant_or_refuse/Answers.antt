@@ -7,7 +7,7 @@ use Rattle.slot_laws.specs.declared.label.Label.TheVariants as label
 use Rattle.slot_laws.specs.Labels.{OwnTold, own_label}
 use Rattle.disk_box.specs.declared.key.BoxKey.{BoxKey}
 use Rattle.disk_box.specs.declared.desk.Desk.{Desk}
-use Rattle.disk_box.specs.Pens.{PenHand, IsAtWork, past_at, own_at}
+use Rattle.disk_box.specs.Pens.{PenHand, WorksAtDesk, past_at, own_at}
 use Rattle.disk_box.proofs.NotedRules.{granted_rule, short_rule}
 use Rattle.journal_set.specs.Grants.{grant_from}
 use Rattle.journal_set.proofs.Parts.{grant_more, reserved_later}
@@ -20,8 +20,8 @@ note_turn-requires-clause-may g c κs within =
     let pen = c.number_commit.new.pen in
     let desk = c.number_commit.new.desk in
     let same = c.in-Err-NoSpace.ensures.err in
-    let work : IsAtWork g.D.Disk.view t pen desk =
-    subst (λ (z : PenHand g.row.D.Denot × Desk g.row.D.Denot). IsAtWork g.D.Disk.view t z.0 z.1) (λ i. (sym same.0 i, sym same.1 i)) c.requires.may.work
+    let work : WorksAtDesk g.D.Disk.view t pen desk =
+    subst (λ (z : PenHand g.row.D.Denot × Desk g.row.D.Denot). WorksAtDesk g.D.Disk.view t z.0 z.1) (λ i. (sym same.0 i, sym same.1 i)) c.requires.may.work
     in
     let idle = ap (λ (h : PenHand g.row.D.Denot). (own_at h).flight) same.0 ∙ c.requires.may.rests.1 in
     let by = c.turn-turn.ensures.by in
@@ -36,7 +36,11 @@ note_turn-requires-clause-room g c κs within =
     let t = c.args.table.now in
     let pen = c.number_commit.new.pen in
     let same = c.in-Err-NoSpace.ensures.err in
-    let room = subst (λ (z : PenHand g.row.D.Denot × Desk g.row.D.Denot). 4 * z.0.table.given.layout.cores ≤ z.1.turns.spare) (λ i. (sym same.0 i, sym same.1 i))
+    let room = subst (λ (z : PenHand g.row.D.Denot × Desk g.row.D.Denot). 4 * z.0.table.given.layout.cores ≤ z.1.turns.spare) (λ i. (
+      sym same.0 i,
+      sym same.1
+          i,
+    ))
     c.requires.may.room
     in
     let low = subst (λ (h : PenHand g.row.D.Denot). h.view.core < h.table.given.layout.cores) (sym same.0) c.requires.may.work.holds.core_is in

@@ -18,4 +18,4 @@ returns-clause-serving g c =
     (with_item desk.slots c.args.k c.close.new.self) c.close.new.self refl c.note.ensures.holds c.note.ensures.tells c.close.ensures
 
 pub returns-clause-beside : goal.returns-clause-beside
-returns-clause-beside g c = goes_told c.args.pen.now c.note.new.pen (label.Idled c.args.k) c.note.ensures.tells refl
+returns-clause-beside g c = goes_told c.args.pen.now c.note.new.pen (label.Idled c.args.k) c.note.ensures.tells tt refl

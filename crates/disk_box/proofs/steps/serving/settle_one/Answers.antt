@@ -107,4 +107,4 @@ returns-clause-serving g c =
     }) refl c.land.ensures (c.end.ensures.goes (past_at pen) k turn serving.at.fits.frame.ledger number)
 
 pub returns-clause-beside : goal.returns-clause-beside
-returns-clause-beside g c = goes_told c.args.pen.now c.note.new.pen (label.Settled c.args.k c.slot_turn-turn.result) c.note.ensures.tells refl
+returns-clause-beside g c = goes_told c.args.pen.now c.note.new.pen (label.Settled c.args.k c.slot_turn-turn.result) c.note.ensures.tells tt refl

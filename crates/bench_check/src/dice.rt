@@ -1,0 +1,27 @@
+// Numbers that are drawn, the same in each run.
+ghost use Rattle.std.specs.Prelude.{◌<◌};
+
+/// What numbers are drawn from.
+#[derive(Drop)]
+pub struct Dice {
+    state: u64,
+}
+
+impl Dice {
+    /// The numbers of this seed.
+    pub fn of(seed: u64) -> Dice {
+        Dice { state: seed }
+    }
+
+    /// A number below `sides`.
+    pub fn below(&mut self, sides: u64) -> u64
+        requires { 0 < sides }
+        ensures { result < sides }
+    {
+        self.state = self
+            .state
+            .wrapping_mul(6_364_136_223_846_793_005)
+            .wrapping_add(1_442_695_040_888_963_407);
+        (self.state >> 33) % sides
+    }
+}

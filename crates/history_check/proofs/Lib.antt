@@ -1,0 +1,11 @@
+pub mod CallTexts
+pub mod Deeds
+pub mod FirstWords
+pub mod Followed
+pub mod Histories
+pub mod LineTexts
+pub mod Reached
+pub mod ReadValues
+pub mod ReplyTexts
+pub mod Solid
+pub mod Spelled

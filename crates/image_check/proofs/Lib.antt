@@ -1,0 +1,17 @@
+pub mod Accepted
+pub mod Certified
+pub mod Climbed
+pub mod ClimbsShown
+pub mod Faultless
+pub mod FilesCounted
+pub mod FirstFaults
+pub mod HoldersRead
+pub mod ImageJudged
+pub mod ImageRead
+pub mod Items
+pub mod Listed
+pub mod One
+pub mod OwnersRead
+pub mod PlacesTold
+pub mod Reaching
+pub mod Writing

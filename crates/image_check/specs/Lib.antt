@@ -1,0 +1,13 @@
+pub mod Agreed
+pub mod Cause
+pub mod Checks
+pub mod Climbs
+pub mod Entries
+pub mod Gathered
+pub mod Holders
+pub mod Laws
+pub mod Made
+pub mod Owners
+pub mod Read
+pub mod Valid
+pub mod Writes

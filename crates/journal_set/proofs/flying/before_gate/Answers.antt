@@ -1,0 +1,44 @@
+use Rattle.std.proofs.Common.{inl, false, sym, subst}
+use Rattle.disk_box.specs.Pens.{own_at}
+use Rattle.journal_set.specs.Flying.{IsUnderWay}
+use Rattle.journal_set.proofs.Aloft.{under_own}
+use Rattle.journal_set.proofs.Failing.{at_of_work, fails_shut, owes_shut, progress_comes, risen_still, still_looked}
+use Rattle.journal_set.proofs.flying.before_gate.Goals as goal
+
+pub fill_or_seal-requires-clause-own : goal.fill_or_seal-requires-clause-own
+fill_or_seal-requires-clause-own g c κs within =
+    under_own g.D.Disk.view c.args.table.now c.args.pen.now c.args.desk.now c.requires.work c.requires.looked c.args.flight.now false c.requires.under
+
+pub fail_unopened-requires-clause-looked : goal.fail_unopened-requires-clause-looked
+fail_unopened-requires-clause-looked g c κs within = still_looked g.D.Disk.view c.args.table.now c.args.pen.now c.fill_or_seal.new.pen
+    c.fill_or_seal.new.desk c.in-Err.faults c.in-Err.ensures.steps c.requires.looked
+
+pub fail_unopened-requires-clause-owes : goal.fail_unopened-requires-clause-owes
+fail_unopened-requires-clause-owes g c κs within =
+    owes_shut g.D.Disk.view c.args.table.now c.args.pen.now c.fill_or_seal.new.pen c.fill_or_seal.new.desk c.in-Err.faults c.in-Err.ensures.steps
+    c.requires.looked
+    c.args.flight.now (subst (IsUnderWay c.args.flight.now false) (sym c.fill_or_seal.ensures.own) c.requires.under)
+
+pub returns-in-Ok-clause-at : goal.returns-in-Ok-clause-at
+returns-in-Ok-clause-at g c = at_of_work g.D.Disk.view c.args.table.now c.fill_or_seal.new.pen c.fill_or_seal.new.desk c.in-Ok.ensures.steps.ok
+
+pub returns-in-Ok-clause-comes : goal.returns-in-Ok-clause-comes
+returns-in-Ok-clause-comes g c =
+    progress_comes c.args.flight.now c.args.pen.now.view.core (own_at c.args.pen.now) (own_at c.fill_or_seal.new.pen) c.in-Ok.progress
+    c.in-Ok.ensures.progress (inl c.fill_or_seal.ensures.own)
+
+pub returns-in-Err-clause-comes : goal.returns-in-Err-clause-comes
+returns-in-Err-clause-comes g c =
+    fails_shut g.D.Disk.view c.args.table.now c.args.pen.now c.fill_or_seal.new.pen c.fail_unopened.new.pen
+    c.in-Err.faults c.args.flight.now c.fill_or_seal.new.flight c.requires.under c.in-Err.ensures.steps.goes c.fill_or_seal.ensures.own
+    c.fill_or_seal.ensures.same c.fail_unopened.ensures.fails
+
+pub returns-in-Err-clause-cause : goal.returns-in-Err-clause-cause
+returns-in-Err-clause-cause g c = risen_still g.D.Disk.view c.args.table.now c.args.pen.now c.fill_or_seal.new.pen c.fill_or_seal.new.desk c.in-Err.faults
+    c.in-Err.ensures.steps c.requires.looked
+    c.fail_unopened.new.pen c.fail_unopened.ensures.goes
+
+pub returns-in-Err-clause-goes : goal.returns-in-Err-clause-goes
+returns-in-Err-clause-goes g c =
+    Rattle.journal_set.proofs.Turned.goes_twice c.args.pen.now c.fill_or_seal.new.pen c.fail_unopened.new.pen c.in-Err.ensures.steps.goes
+    c.fail_unopened.ensures.goes

@@ -1,0 +1,42 @@
+use Rattle.std.proofs.Common.{◌∙◌, inl, inr, false, sym, ap, subst}
+use Rattle.disk_box.specs.Pens.{own_at}
+use Rattle.journal_set.proofs.Aloft.{under_own}
+use Rattle.journal_set.proofs.Failing.{at_of_work, fails_opened, owes_opened, risen_still, still_looked}
+use Rattle.journal_set.proofs.Turned.{goes_twice, opened_under}
+use Rattle.journal_set.proofs.flying.open_turn.Goals as goal
+
+pub open_one-requires-clause-own : goal.open_one-requires-clause-own
+open_one-requires-clause-own g c κs within =
+    under_own g.D.Disk.view c.args.table.now c.args.pen.now c.args.desk.now c.requires.work c.requires.looked c.args.flight.now false c.requires.under
+
+pub fail_opened-requires-clause-looked : goal.fail_opened-requires-clause-looked
+fail_opened-requires-clause-looked g c κs within = still_looked g.D.Disk.view c.args.table.now c.args.pen.now c.open_one.new.pen c.open_one.new.desk
+    c.in-Err.faults c.in-Err.ensures.steps c.requires.looked
+
+pub fail_opened-requires-clause-owes : goal.fail_opened-requires-clause-owes
+fail_opened-requires-clause-owes g c κs within =
+    owes_opened g.D.Disk.view c.args.table.now c.args.pen.now c.open_one.new.pen c.open_one.new.desk c.in-Err.faults c.in-Err.ensures.steps c.requires.looked
+    c.args.flight.now (opened_under c.args.flight.now false c.args.pen.now.view.core (own_at c.args.pen.now) (own_at c.open_one.new.pen) c.requires.under
+    c.open_one.ensures.own)
+
+pub returns-in-Ok-clause-at : goal.returns-in-Ok-clause-at
+returns-in-Ok-clause-at g c = at_of_work g.D.Disk.view c.args.table.now c.open_one.new.pen c.open_one.new.desk c.in-Ok.ensures.steps.ok
+
+pub returns-in-Ok-clause-comes : goal.returns-in-Ok-clause-comes
+returns-in-Ok-clause-comes g c = inr c.open_one.ensures.own
+
+pub returns-in-Err-clause-comes : goal.returns-in-Err-clause-comes
+returns-in-Err-clause-comes g c =
+    fails_opened g.D.Disk.view c.args.table.now c.args.pen.now c.open_one.new.pen c.fail_opened.new.pen
+    c.in-Err.faults c.args.flight.now c.args.flight.now (opened_under c.args.flight.now false c.args.pen.now.view.core (own_at c.args.pen.now)
+    (own_at c.open_one.new.pen) c.requires.under c.open_one.ensures.own) c.in-Err.ensures.steps.goes (inr c.open_one.ensures.own)
+    (λ opened. Rattle.std.proofs.Common.refl) c.fail_opened.ensures.fails
+
+pub returns-in-Err-clause-cause : goal.returns-in-Err-clause-cause
+returns-in-Err-clause-cause g c = risen_still g.D.Disk.view c.args.table.now c.args.pen.now c.open_one.new.pen c.open_one.new.desk c.in-Err.faults
+    c.in-Err.ensures.steps c.requires.looked
+    c.fail_opened.new.pen c.fail_opened.ensures.goes
+
+pub returns-in-Err-clause-goes : goal.returns-in-Err-clause-goes
+returns-in-Err-clause-goes g c =
+    goes_twice c.args.pen.now c.open_one.new.pen c.fail_opened.new.pen c.in-Err.ensures.steps.goes c.fail_opened.ensures.goes

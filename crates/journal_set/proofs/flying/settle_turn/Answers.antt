@@ -1,0 +1,36 @@
+use Rattle.std.proofs.Common.{inl, true, sym, subst}
+use Rattle.journal_set.specs.Flying.{IsUnderWay}
+use Rattle.journal_set.proofs.Failing.{at_of_work, fails_opened, owes_opened, risen_still, still_looked}
+use Rattle.journal_set.proofs.Turned.{goes_twice}
+use Rattle.journal_set.proofs.flying.settle_turn.Goals as goal
+
+pub fail_opened-requires-clause-looked : goal.fail_opened-requires-clause-looked
+fail_opened-requires-clause-looked g c κs within = still_looked g.D.Disk.view c.args.table.now c.args.pen.now c.shut_or_settle.new.pen
+    c.shut_or_settle.new.desk c.in-Err.faults c.in-Err.ensures.steps c.requires.looked
+
+pub fail_opened-requires-clause-owes : goal.fail_opened-requires-clause-owes
+fail_opened-requires-clause-owes g c κs within =
+    owes_opened g.D.Disk.view c.args.table.now c.args.pen.now c.shut_or_settle.new.pen c.shut_or_settle.new.desk c.in-Err.faults c.in-Err.ensures.steps
+    c.requires.looked
+    c.args.flight.now (subst (IsUnderWay c.args.flight.now true) (sym c.shut_or_settle.ensures.own) c.requires.under)
+
+pub returns-in-Ok-clause-at : goal.returns-in-Ok-clause-at
+returns-in-Ok-clause-at g c = at_of_work g.D.Disk.view c.args.table.now c.shut_or_settle.new.pen c.shut_or_settle.new.desk c.in-Ok.ensures.steps.ok
+
+pub returns-in-Ok-clause-comes : goal.returns-in-Ok-clause-comes
+returns-in-Ok-clause-comes g c = inl c.shut_or_settle.ensures.own
+
+pub returns-in-Err-clause-comes : goal.returns-in-Err-clause-comes
+returns-in-Err-clause-comes g c =
+    fails_opened g.D.Disk.view c.args.table.now c.args.pen.now c.shut_or_settle.new.pen c.fail_opened.new.pen
+    c.in-Err.faults c.args.flight.now c.shut_or_settle.new.flight (subst (IsUnderWay c.args.flight.now true) (sym c.shut_or_settle.ensures.own)
+    c.requires.under) c.in-Err.ensures.steps.goes (inl c.shut_or_settle.ensures.own) c.shut_or_settle.ensures.same c.fail_opened.ensures.fails
+
+pub returns-in-Err-clause-cause : goal.returns-in-Err-clause-cause
+returns-in-Err-clause-cause g c = risen_still g.D.Disk.view c.args.table.now c.args.pen.now c.shut_or_settle.new.pen c.shut_or_settle.new.desk
+    c.in-Err.faults c.in-Err.ensures.steps c.requires.looked
+    c.fail_opened.new.pen c.fail_opened.ensures.goes
+
+pub returns-in-Err-clause-goes : goal.returns-in-Err-clause-goes
+returns-in-Err-clause-goes g c =
+    goes_twice c.args.pen.now c.shut_or_settle.new.pen c.fail_opened.new.pen c.in-Err.ensures.steps.goes c.fail_opened.ensures.goes

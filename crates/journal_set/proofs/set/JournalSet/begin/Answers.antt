@@ -1,0 +1,56 @@
+use Rattle.std.proofs.Common.{◌<◌, ◌∙◌, Ok, Some, sym, ap, subst}
+use Rattle.slot_laws.specs.Labels.{OwnTold}
+use Rattle.journal_set.specs.declared.beginning.Writing.{Writing}
+use Rattle.journal_set.specs.declared.waiting.Beginning.{Beginning}
+use Rattle.journal_set.specs.Committing.{BeginComes, WaitsToBegin}
+use Rattle.journal_set.proofs.BegunAround.{begins_still, fails_still, written_still}
+use Rattle.journal_set.proofs.Turned.{core_kept, goes_twice}
+use Rattle.journal_set.proofs.set.JournalSet.begin.Goals as goal
+
+pub begin_turn-requires-clause-room : goal.begin_turn-requires-clause-room
+begin_turn-requires-clause-room g c κs within = subst (λ n. 0 < n) (sym c.loop.invariant.room) c.requires.room
+
+pub begin_turn-requires-clause-grant : goal.begin_turn-requires-clause-grant
+begin_turn-requires-clause-grant g c κs within =
+    c.loop.invariant.grant ∙ (c.requires.grant ∙ ap Some (sym (ap (λ (w : Writing). w.grant) c.loop.invariant.writing)))
+
+pub begin_turn-requires-clause-goes_on : goal.begin_turn-requires-clause-goes_on
+begin_turn-requires-clause-goes_on g c κs within = ap (λ (o : OwnTold). o.over) c.loop.invariant.own ∙ c.requires.goes_on
+
+pub begin_turn-requires-clause-written : goal.begin_turn-requires-clause-written
+begin_turn-requires-clause-written g c κs within =
+    written_still c.args.writing c.loop.writing c.args.pen.now c.loop.pen c.loop.invariant.goes c.loop.invariant.writing c.requires.written
+
+pub loop-preserved : goal.loop-preserved
+loop-preserved g c =
+    let was = c.loop.invariant in
+    let it : WaitsToBegin c.loop.writing c.in-Ok-Waits.still c.loop.pen c.begin_turn.new.pen =
+    subst (λ (b : Beginning). BeginComes c.loop.writing c.loop.pen c.begin_turn.new.pen (Ok b)) c.in-Ok-Waits.field-0-is c.in-Ok-Waits.ensures.comes
+    in
+    record {
+      outside = c.begin_turn.ensures.outside;
+      goes = goes_twice c.args.pen.now c.loop.pen c.begin_turn.new.pen was.goes c.begin_turn.ensures.goes;
+      room = c.begin_turn.ensures.room ∙ was.room;
+      own = it.own ∙ was.own;
+      grant = it.grant ∙ was.grant;
+      writing = (λ i. record (it.same i) { patience = c.args.writing.patience }) ∙ was.writing;
+    }
+
+pub returns-in-Ok-Begun-clause-comes : goal.returns-in-Ok-Begun-clause-comes
+returns-in-Ok-Begun-clause-comes g c =
+    let was = c.loop.invariant in
+    begins_still c.args.writing c.loop.writing c.args.pen.now c.loop.pen c.begin_turn.new.pen was.own
+    (core_kept c.args.pen.now c.loop.pen was.goes) was.writing c.in-Ok-Begun.flight
+    (subst (λ (b : Beginning). BeginComes c.loop.writing c.loop.pen c.begin_turn.new.pen (Ok b)) c.in-Ok-Begun.field-0-is c.in-Ok-Begun.ensures.comes)
+
+pub returns-in-Ok-Begun-clause-goes : goal.returns-in-Ok-Begun-clause-goes
+returns-in-Ok-Begun-clause-goes g c = goes_twice c.args.pen.now c.loop.pen c.begin_turn.new.pen c.loop.invariant.goes c.begin_turn.ensures.goes
+
+pub returns-in-Err-clause-comes : goal.returns-in-Err-clause-comes
+returns-in-Err-clause-comes g c =
+    let was = c.loop.invariant in
+    fails_still c.args.writing c.loop.writing c.args.pen.now c.loop.pen c.begin_turn.new.pen was.own
+    (core_kept c.args.pen.now c.loop.pen was.goes) was.writing c.in-Err.fault c.in-Err.ensures.comes
+
+pub returns-in-Err-clause-goes : goal.returns-in-Err-clause-goes
+returns-in-Err-clause-goes g c = goes_twice c.args.pen.now c.loop.pen c.begin_turn.new.pen c.loop.invariant.goes c.begin_turn.ensures.goes

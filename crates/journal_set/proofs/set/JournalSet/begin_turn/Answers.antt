@@ -1,0 +1,43 @@
+use Rattle.std.proofs.Common.{◌∙◌, None, ap, sym, subst}
+use Rattle.slot_laws.specs.declared.label.Label.TheVariants as label
+use Rattle.slot_laws.specs.Labels.{OwnTold}
+use Rattle.disk_box.specs.declared.key.BoxKey.{BoxKey}
+use Rattle.disk_box.specs.Pens.{PenHand}
+use Rattle.journal_set.specs.Beginning.{CanBeWritten}
+use Rattle.journal_set.specs.Grants.{grant_from}
+use Rattle.journal_set.proofs.BegunAround.{begin_around, cause_err}
+use Rattle.journal_set.proofs.Parts.{grant_more}
+use Rattle.journal_set.proofs.Turned.{core_kept, goes_twice}
+use Rattle.journal_set.proofs.set.JournalSet.begin_turn.Goals as goal
+
+pub begin_at-result-requires-clause-grant : goal.begin_at-result-requires-clause-grant
+begin_at-result-requires-clause-grant g c κs within =
+    let pen = c.args.pen.now in
+    ap (λ l. grant_from l None) c.enter-desk.ensures.mine ∙ (grant_more pen.view.mine label.Took pen.view.core None ∙ c.requires.grant)
+
+pub begin_at-result-requires-clause-goes_on : goal.begin_at-result-requires-clause-goes_on
+begin_at-result-requires-clause-goes_on g c κs within = ap (λ (o : OwnTold). o.over) c.enter-desk.ensures.own ∙ c.requires.goes_on
+
+pub begin_at-result-requires-clause-written : goal.begin_at-result-requires-clause-written
+begin_at-result-requires-clause-written g c κs within =
+    subst (λ (k : BoxKey). CanBeWritten k.layout c.args.writing) (sym (ap (λ (h : PenHand g.row.D.Denot). h.table.given) c.enter-desk.ensures.goes.frame))
+    c.requires.written
+
+pub returns-clause-goes : goal.returns-clause-goes
+returns-clause-goes g c =
+    goes_twice c.args.pen.now c.enter-desk.new.pen c.leave.new.pen c.enter-desk.ensures.goes
+    (goes_twice c.enter-desk.new.pen c.begin_at-result.new.pen c.leave.new.pen c.begin_at-result.ensures.goes c.leave.ensures.goes)
+
+pub returns-clause-comes : goal.returns-clause-comes
+returns-clause-comes g c =
+    let pen = c.args.pen.now in
+    let done = c.begin_at-result.new.pen in
+    begin_around c.args.writing pen c.enter-desk.new.pen done c.leave.new.pen c.enter-desk.ensures.own c.leave.ensures.own
+    (core_kept pen c.enter-desk.new.pen c.enter-desk.ensures.goes)
+    (ap (λ l. grant_from l None) c.enter-desk.ensures.mine ∙ grant_more pen.view.mine label.Took pen.view.core None)
+    (ap (λ l. grant_from l None) c.leave.ensures.mine ∙ grant_more done.view.mine label.Gave done.view.core None)
+    c.begin_at-result.result c.begin_at-result.ensures.comes
+
+pub returns-clause-cause : goal.returns-clause-cause
+returns-clause-cause g c =
+    cause_err c.begin_at-result.new.pen c.leave.new.pen c.leave.ensures.goes c.begin_at-result.result c.begin_at-result.ensures.cause

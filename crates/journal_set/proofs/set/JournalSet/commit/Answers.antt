@@ -1,0 +1,45 @@
+use Rattle.std.proofs.Common.{◌≡◌, ◌<◌, ◌∙◌, ℕ, Some, Err, sym, ap, subst}
+use Rattle.slot_laws.specs.Labels.{fsync_told}
+use Rattle.disk_box.specs.declared.turns.Fsync.{Fsync}
+use Rattle.disk_box.specs.Pens.{own_at}
+use Rattle.journal_set.specs.Committing.{Commits}
+use Rattle.journal_set.proofs.Committed.{begin_commits, begun_under, ends_commits, packed_can_be_written}
+use Rattle.journal_set.proofs.Turned.{core_kept, goes_twice}
+use Rattle.journal_set.proofs.set.JournalSet.commit.Goals as goal
+
+pub give_back-requires-clause-grant : goal.give_back-requires-clause-grant
+give_back-requires-clause-grant g c κs within = c.requires.grant ∙ ap Some (sym c.in-Err.ensures.back)
+
+pub begin-requires-clause-grant : goal.begin-requires-clause-grant
+begin-requires-clause-grant g c κs within = c.requires.grant ∙ ap Some (sym c.in-Ok.ensures.ok.grant_is)
+
+pub begin-requires-clause-written : goal.begin-requires-clause-written
+begin-requires-clause-written g c κs within =
+    packed_can_be_written c.args.pen.now.table.given.layout c.args.tx c.args.grant c.args.fsync c.in-Ok.writing c.requires.written c.in-Ok.ensures.ok
+
+pub land-requires-clause-room : goal.land-requires-clause-room
+land-requires-clause-room g c κs within = subst (λ n. 0 < n) (sym c.begin.ensures.room) c.requires.room
+
+pub land-requires-clause-under : goal.land-requires-clause-under
+land-requires-clause-under g c κs within =
+    begun_under c.begin.new.pen.view.core c.in-Ok-begin.flight (own_at c.args.pen.now) (own_at c.begin.new.pen) c.in-Ok-begin.ensures.comes.0
+    c.requires.goes_on
+
+pub returns-in-Ok-begin-clause-comes : goal.returns-in-Ok-begin-clause-comes
+returns-in-Ok-begin-clause-comes g c =
+    let begins = c.in-Ok-begin.ensures.comes in
+    let fsync : c.in-Ok-begin.flight.fsync ≡ c.args.fsync = begins.1 ∙ c.in-Ok.ensures.ok.fsync_is in
+    let core = core_kept c.args.pen.now c.begin.new.pen c.begin.ensures.goes in
+    subst (λ (z : ℕ × Fsync). Commits z.0 (fsync_told z.1.node z.1.stamp) (own_at c.args.pen.now) (own_at c.land.new.pen) c.land.result)
+    (λ i. (core i, fsync i))
+    (ends_commits c.begin.new.pen.view.core c.in-Ok-begin.flight (own_at c.args.pen.now) (own_at c.begin.new.pen) begins.0 c.requires.goes_on
+    (own_at c.land.new.pen) c.land.result c.land.ensures.comes)
+
+pub returns-in-Ok-begin-clause-goes : goal.returns-in-Ok-begin-clause-goes
+returns-in-Ok-begin-clause-goes g c = goes_twice c.args.pen.now c.begin.new.pen c.land.new.pen c.begin.ensures.goes c.land.ensures.goes
+
+pub returns-in-Err-begin-clause-comes : goal.returns-in-Err-begin-clause-comes
+returns-in-Err-begin-clause-comes g c =
+    subst (λ (f : Fsync). Commits c.args.pen.now.view.core (fsync_told f.node f.stamp) (own_at c.args.pen.now) (own_at c.begin.new.pen)
+    (Err c.in-Err-begin.fault)) c.in-Ok.ensures.ok.fsync_is
+    (begin_commits c.in-Ok.writing c.args.pen.now c.begin.new.pen c.in-Err-begin.fault c.in-Err-begin.ensures.comes)

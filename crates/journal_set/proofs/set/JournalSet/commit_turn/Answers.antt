@@ -1,0 +1,27 @@
+use Rattle.std.proofs.Common.{sym, subst}
+use Rattle.journal_set.specs.Flying.{IsUnderWay}
+use Rattle.journal_set.proofs.BegunAround.{cause_err}
+use Rattle.journal_set.proofs.Turned.{core_kept, goes_twice, turn_around}
+use Rattle.journal_set.proofs.set.JournalSet.commit_turn.Goals as goal
+
+pub turn_at-result-requires-clause-under : goal.turn_at-result-requires-clause-under
+turn_at-result-requires-clause-under g c κs within =
+    (c.requires.under.0, subst (IsUnderWay c.args.flight.now c.requires.under.0) (sym c.enter-desk.ensures.own) c.requires.under.1)
+
+pub returns-clause-goes : goal.returns-clause-goes
+returns-clause-goes g c =
+    goes_twice c.args.pen.now c.enter-desk.new.pen c.leave.new.pen c.enter-desk.ensures.goes
+    (goes_twice c.enter-desk.new.pen c.turn_at-result.new.pen c.leave.new.pen c.turn_at-result.ensures.goes c.leave.ensures.goes)
+
+pub returns-clause-comes : goal.returns-clause-comes
+returns-clause-comes g c =
+    let pen = c.args.pen.now in
+    let at = c.enter-desk.new.pen in
+    let done = c.turn_at-result.new.pen in
+    turn_around c.args.flight.now pen.view.core at.view.core (core_kept pen at c.enter-desk.ensures.goes) (Rattle.disk_box.specs.Pens.own_at pen)
+    (Rattle.disk_box.specs.Pens.own_at at) (Rattle.disk_box.specs.Pens.own_at done) (Rattle.disk_box.specs.Pens.own_at c.leave.new.pen)
+    c.enter-desk.ensures.own c.leave.ensures.own c.turn_at-result.result c.turn_at-result.ensures.comes
+
+pub returns-clause-cause : goal.returns-clause-cause
+returns-clause-cause g c =
+    cause_err c.turn_at-result.new.pen c.leave.new.pen c.leave.ensures.goes c.turn_at-result.result c.turn_at-result.ensures.cause

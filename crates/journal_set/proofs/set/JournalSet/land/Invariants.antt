@@ -1,0 +1,13 @@
+use Rattle.std.proofs.Common.{◌≡◌, Bool}
+use Rattle.disk_box.specs.Pens.{IsOutside, PenGoes, own_at}
+use Rattle.journal_set.specs.Flying.{GoesOn, flight_of}
+use Rattle.journal_set.proofs.set.JournalSet.land.Given as goal
+
+abbrev pub invariant-loop : goal.invariant-loop
+invariant-loop g l = record {
+  outside : IsOutside l.self l.pen;
+  goes : PenGoes l.fn.pen l.pen;
+  room : l.pen.room ≡ l.fn.pen.room;
+  flight : (opened : Bool) → flight_of l.flight opened ≡ flight_of l.fn.flight opened;
+  own : GoesOn l.fn.pen.view.core (own_at l.fn.pen) (own_at l.pen);
+}

@@ -1,0 +1,241 @@
+// A commit under way in a slot of its core's own.
+ghost use Rattle.std.specs.Prelude.{◌≡◌, ◌<◌, length, Bool, None, IfOk, IfErr, true, false};
+ghost use Rattle.slot_laws.specs.Labels.{owner};
+ghost use Rattle.disk_box.specs.Kind.{HasKind};
+ghost use Rattle.disk_box.specs.declared.kind.Kind.TheVariants as kind;
+ghost use Rattle.disk_box.specs.Pens.{IsAtDesk, PenGoes, WorksAtDesk, own_at, past_at};
+ghost use Rattle.disk_box.specs.Steps.{Steps};
+ghost use Rattle.journal_set.specs.Flying.{IsCausedBy, IsUnderWay, NotLanded, TurnComes, flight_of};
+
+use crate::own_slots::{lets_others_write, own_to_place, own_with};
+use crate::{Ack, CommitFault};
+use disk_box::{
+    BoxTable, Desk, Fsync, Kind, Pen, fail_opened, fail_unopened, fill_one, halt, look, open_one,
+    place_one, shut_one, sync_all,
+};
+use sfs_dev::Disk;
+
+/// How often a core lets others write before a sync of its own at most.
+pub(crate) const PATIENCE: u32 = 64;
+
+/// A commit in a slot of its core's own: the slot, its number and its fsync. It keeps whether the gate was told that the slot is filled,
+/// and how often the core lets others write yet before it syncs.
+#[derive(Clone, Copy)]
+pub struct Flight {
+    pub(crate) slot: usize,
+    pub(crate) commit: u64,
+    pub(crate) fsync: Fsync,
+    pub(crate) told: bool,
+    pub(crate) patience: u32,
+}
+
+/// How far a turn has brought a commit.
+#[derive(Clone, Copy)]
+pub enum Progress {
+    /// It goes on.
+    Goes,
+    /// All that fills its slot is written, and the gate is told so before the next turn.
+    Filled,
+    /// It is durable.
+    Durable { ack: Ack },
+}
+
+/// One turn of a commit under way, while the core has the box: it looks whether the commit is durable, and whether another has failed, and
+/// makes one device call at most.
+pub(crate) fn turn_at<D: Disk + Drop>(
+    table: &BoxTable<D>,
+    pen: &mut Pen<D>,
+    desk: &mut Desk<D>,
+    flight: &mut Flight,
+) -> Result<Progress, CommitFault>
+    requires at { IsAtDesk D.view table.now pen.old desk.old }
+    requires under { (opened : Bool) × IsUnderWay flight.old opened (own_at pen.old) }
+    ensures at { IsAtDesk D.view table.now pen.new desk.new }
+    ensures goes { PenGoes pen.old pen.new }
+    ensures room { pen.new.room ≡ pen.old.room }
+    ensures same { (opened : Bool) → flight_of flight.new opened ≡ flight_of flight.old opened }
+    ensures comes { TurnComes flight.old pen.old.view.core (own_at pen.old) (own_at pen.new) result }
+    ensures cause { IfErr result (IsCausedBy pen.new) }
+{
+    if let Some(turn) = look(table, pen, desk) {
+        let ack = Ack {
+            moment: turn.now,
+            commit: turn.commit,
+        };
+        return Ok(Progress::Durable { ack });
+    }
+    if desk.failed.is_some() {
+        let faults = halt(table, pen, desk, flight.commit, flight.fsync);
+        return Err(CommitFault::Stopped { faults });
+    }
+    advance(table, pen, desk, flight)
+}
+
+// The same, where its core has looked and no commit has failed.
+fn advance<D: Disk + Drop>(
+    table: &BoxTable<D>,
+    pen: &mut Pen<D>,
+    desk: &mut Desk<D>,
+    flight: &mut Flight,
+) -> Result<Progress, CommitFault>
+    requires work { WorksAtDesk D.view table.now pen.old desk.old }
+    requires under { (opened : Bool) × IsUnderWay flight.old opened (own_at pen.old) }
+    requires looked { (past_at pen.old).waits pen.old.view.core ≡ None }
+    ensures at { IsAtDesk D.view table.now pen.new desk.new }
+    ensures goes { PenGoes pen.old pen.new }
+    ensures room { pen.new.room ≡ pen.old.room }
+    ensures same { (opened : Bool) → flight_of flight.new opened ≡ flight_of flight.old opened }
+    ensures comes { TurnComes flight.old pen.old.view.core (own_at pen.old) (own_at pen.new) result }
+    ensures cause { IfErr result (IsCausedBy pen.new) }
+{
+    match desk.kind_at(flight.slot) {
+        Kind::Filling => before_gate(table, pen, desk, flight),
+        Kind::Filled => before_gate(table, pen, desk, flight),
+        Kind::Sealed => open_turn(table, pen, desk, flight),
+        Kind::Opened => settle_turn(table, pen, desk, flight),
+        _ => unreachable!(),
+    }
+}
+
+// A turn before its gate is opened.
+fn before_gate<D: Disk + Drop>(
+    table: &BoxTable<D>,
+    pen: &mut Pen<D>,
+    desk: &mut Desk<D>,
+    flight: &mut Flight,
+) -> Result<Progress, CommitFault>
+    requires work { WorksAtDesk D.view table.now pen.old desk.old }
+    requires within { flight.old.slot < length desk.old.slots.items }
+    requires under { IsUnderWay flight.old false (own_at pen.old) }
+    requires looked { (past_at pen.old).waits pen.old.view.core ≡ None }
+    ensures at { IsAtDesk D.view table.now pen.new desk.new }
+    ensures goes { PenGoes pen.old pen.new }
+    ensures room { pen.new.room ≡ pen.old.room }
+    ensures same { (opened : Bool) → flight_of flight.new opened ≡ flight_of flight.old opened }
+    ensures comes { TurnComes flight.old pen.old.view.core (own_at pen.old) (own_at pen.new) result }
+    ensures cause { IfErr result (IsCausedBy pen.new) }
+{
+    match fill_or_seal(table, pen, desk, flight) {
+        Ok(progress) => Ok(progress),
+        Err(faults) => {
+            fail_unopened(table, pen, desk, flight.commit, flight.fsync, faults);
+            Err(CommitFault::DiskFailed { faults })
+        }
+    }
+}
+
+// A turn that opens it, once the gate of tests was told.
+fn open_turn<D: Disk + Drop>(
+    table: &BoxTable<D>,
+    pen: &mut Pen<D>,
+    desk: &mut Desk<D>,
+    flight: &mut Flight,
+) -> Result<Progress, CommitFault>
+    requires work { WorksAtDesk D.view table.now pen.old desk.old }
+    requires kind { HasKind desk.old.slots.items flight.old.slot kind.Sealed }
+    requires under { IsUnderWay flight.old false (own_at pen.old) }
+    requires looked { (past_at pen.old).waits pen.old.view.core ≡ None }
+    ensures at { IsAtDesk D.view table.now pen.new desk.new }
+    ensures goes { PenGoes pen.old pen.new }
+    ensures room { pen.new.room ≡ pen.old.room }
+    ensures same { (opened : Bool) → flight_of flight.new opened ≡ flight_of flight.old opened }
+    ensures comes { TurnComes flight.old pen.old.view.core (own_at pen.old) (own_at pen.new) result }
+    ensures cause { IfErr result (IsCausedBy pen.new) }
+{
+    if !flight.told {
+        flight.told = true;
+        return Ok(Progress::Filled);
+    }
+    match open_one(table, pen, desk, flight.slot) {
+        Ok(()) => {
+            flight.patience = PATIENCE;
+            Ok(Progress::Goes)
+        }
+        Err(faults) => {
+            fail_opened(table, pen, desk, flight.commit, flight.fsync, faults);
+            Err(CommitFault::DiskFailed { faults })
+        }
+    }
+}
+
+// A turn behind that.
+fn settle_turn<D: Disk + Drop>(
+    table: &BoxTable<D>,
+    pen: &mut Pen<D>,
+    desk: &mut Desk<D>,
+    flight: &mut Flight,
+) -> Result<Progress, CommitFault>
+    requires work { WorksAtDesk D.view table.now pen.old desk.old }
+    requires under { IsUnderWay flight.old true (own_at pen.old) }
+    requires looked { (past_at pen.old).waits pen.old.view.core ≡ None }
+    ensures at { IsAtDesk D.view table.now pen.new desk.new }
+    ensures goes { PenGoes pen.old pen.new }
+    ensures room { pen.new.room ≡ pen.old.room }
+    ensures same { (opened : Bool) → flight_of flight.new opened ≡ flight_of flight.old opened }
+    ensures comes { TurnComes flight.old pen.old.view.core (own_at pen.old) (own_at pen.new) result }
+    ensures cause { IfErr result (IsCausedBy pen.new) }
+{
+    match shut_or_settle(table, pen, desk, flight) {
+        Ok(()) => Ok(Progress::Goes),
+        Err(faults) => {
+            fail_opened(table, pen, desk, flight.commit, flight.fsync, faults);
+            Err(CommitFault::DiskFailed { faults })
+        }
+    }
+}
+
+// Before its gate is opened: the slot is filled; records of its core's own durable commits are placed that may be; then the disk is synced.
+fn fill_or_seal<D: Disk + Drop>(
+    table: &BoxTable<D>,
+    pen: &mut Pen<D>,
+    desk: &mut Desk<D>,
+    flight: &mut Flight,
+) -> Result<Progress, u64>
+    requires work { WorksAtDesk D.view table.now pen.old desk.old }
+    requires within { flight.old.slot < length desk.old.slots.items }
+    requires own { owner pen.old.table.given.layout flight.old.slot ≡ pen.old.view.core }
+    ensures steps { Steps D.view table.now pen.old pen.new desk.new result }
+    ensures own { own_at pen.new ≡ own_at pen.old }
+    ensures same { (opened : Bool) → flight_of flight.new opened ≡ flight_of flight.old opened }
+    ensures progress { IfOk result NotLanded }
+{
+    let core = pen.number();
+    if let Kind::Filling = desk.kind_at(flight.slot) {
+        fill_one(table, pen, desk, flight.slot)?;
+        return Ok(Progress::Goes);
+    }
+    if let Some(slot) = own_to_place(desk, core) {
+        place_one(table, pen, desk, slot)?;
+        return Ok(Progress::Goes);
+    }
+    if !flight.told {
+        flight.told = true;
+        return Ok(Progress::Filled);
+    }
+    if !lets_others_write(desk, core, &mut flight.patience) {
+        sync_all(table, pen, desk)?;
+    }
+    Ok(Progress::Goes)
+}
+
+// Behind its gate: gates of its core's own commits are shut whose records are on the disk; then the disk is synced.
+fn shut_or_settle<D: Disk + Drop>(
+    table: &BoxTable<D>,
+    pen: &mut Pen<D>,
+    desk: &mut Desk<D>,
+    flight: &mut Flight,
+) -> Result<(), u64>
+    requires work { WorksAtDesk D.view table.now pen.old desk.old }
+    ensures steps { Steps D.view table.now pen.old pen.new desk.new result }
+    ensures own { own_at pen.new ≡ own_at pen.old }
+    ensures same { (opened : Bool) → flight_of flight.new opened ≡ flight_of flight.old opened }
+{
+    let core = pen.number();
+    if let Some(slot) = own_with(desk, core, Kind::Copied) {
+        return shut_one(table, pen, desk, slot);
+    }
+    if lets_others_write(desk, core, &mut flight.patience) {
+        return Ok(());
+    }
+    sync_all(table, pen, desk)
+}

@@ -1,0 +1,4 @@
+mod Counted
+mod InTurn
+mod Named
+pub mod Ready

@@ -1,0 +1,13 @@
+use Rattle.std.proofs.Common.{List, ◌+◌, ◌-◌, ◌++◌, ap, ◌∙◌}
+use Rattle.script.specs.declared.commands.Line.{Line}
+use Rattle.made_script.specs.Made.{each, flush_line}
+use Rattle.made_script.proofs.InTurn.{turn_done}
+use Rattle.made_script.proofs.phases.flushes.Goals as goal
+
+pub loop-worker-preserved : goal.loop-worker-preserved
+loop-worker-preserved c =
+    let worker = c.loop-worker.worker in
+    let workers = c.args.workers in
+    ap (λ (l : List Line). l ++ each flush_line (worker + 1) (workers - (worker + 1))) c.in_ok-push_flush.ensures
+    ∙ turn_done flush_line c.loop-worker.lines.items worker workers c.loop-worker-test.true
+    ∙ c.loop-worker.invariant

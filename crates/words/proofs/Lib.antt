@@ -1,0 +1,4 @@
+pub mod Decided
+pub mod Entered
+mod Plain
+mod Walked
