@@ -1,6 +1,6 @@
 -- The words of the program's command line.
 use Rattle.std.specs.Prelude.{ℕ, List, ◌∷◌, Option, Some, None, if◌then◌else◌}
-use Rattle.scalefs_run.specs.Words.{begins_with_dash}
+use Rattle.words.specs.Words.{begins_with_dash}
 
 -- the image's word, and those of the command
 pub record Parted : Type 0 where

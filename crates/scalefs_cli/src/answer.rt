@@ -1,6 +1,6 @@
 ghost use Rattle.std.specs.Prelude.{◌≡◌, map, string_bytes};
 ghost use Rattle.std.specs.Option.{option_map};
-ghost use Rattle.scalefs_run.specs.Words.{begins_with_dash};
+ghost use Rattle.words.specs.Words.{begins_with_dash};
 ghost use Rattle.scalefs_cli.specs.Words.{Parted, parted};
 
 use dev_file::FileDisk;

@@ -1,6 +1,7 @@
 //! The program. `scalefs IMAGE mkfs BLOCKS INODES CORES [SLOTS]` makes an image file, `scalefs IMAGE show` recovers
 //! it and writes its tree, and `scalefs IMAGE run [NODES]` mounts it, runs the script on standard input and writes the
-//! text of its history.
+//! text of its history. `scalefs IMAGE load SEED COUNT WORKERS` runs a script that is made of the three numbers. `scalefs
+//! IMAGE check [NODES]` checks the text of a history on standard input, and `scalefs IMAGE verify` certifies the image.
 #![tactic(auto)]
 
 mod answer;

@@ -22,7 +22,7 @@ use Rattle.scalefs_run.specs.Outcome.{HasStatus}
 use Rattle.scalefs_run.specs.Served.{was_mounted}
 use Rattle.scalefs_run.specs.Turns.{HasTurns, HasTurnsBy}
 use Rattle.scalefs_run.specs.declared.outcome.Status.{Status}
-use Rattle.scalefs_run.specs.declared.outcome.Status.TheVariants.{Done, BadWords, BadScript, ReadFault, WriteFault, DiskFault, BadImage, NoMemory, TooManyWorkers, TooLong, TooSmall}
+use Rattle.scalefs_run.specs.declared.outcome.Status.TheVariants.{Done, BadWords, BadScript, ReadFault, WriteFault, DiskFault, BadImage, NoMemory, TooManyWorkers, TooLong, TooSmall, WrongHistory, NotAccepted}
 
 -- a status of a call for which Done is due, where nothing failed
 is_done : (Source Sink Disk : Type 0) (status : Status) → HasStatus Done Source Sink Disk status → (Source → ⊥) → (Sink → ⊥) → (Disk → ⊥) → IsDone status
@@ -37,6 +37,8 @@ is_done Source Sink Disk (BadImage fault) is no_source no_sink no_disk = absurd 
 is_done Source Sink Disk (TooManyWorkers asked have) is no_source no_sink no_disk = absurd (let never : Done ≡ TooManyWorkers asked have = is in cc)
 is_done Source Sink Disk (TooLong measure) is no_source no_sink no_disk = absurd (let never : Done ≡ TooLong measure = is in cc)
 is_done Source Sink Disk (TooSmall need have) is no_source no_sink no_disk = absurd (let never : Done ≡ TooSmall need have = is in cc)
+is_done Source Sink Disk (WrongHistory line) is no_source no_sink no_disk = absurd (let never : Done ≡ WrongHistory line = is in cc)
+is_done Source Sink Disk NotAccepted is no_source no_sink no_disk = absurd (let never : Done ≡ NotAccepted = is in cc)
 
 -- the same of one for which something due is Done
 due_done : (Source Sink Disk : Type 0) (due status : Status) → due ≡ Done → HasStatus due Source Sink Disk status → (Source → ⊥) → (Sink → ⊥)
@@ -107,7 +109,7 @@ no_call status [] (inr want) not = refl
 no_call status (entry ∷ history) (inr want) not = absurd (true_not_false (subst (λ (s : Status). was_mounted s (entry ∷ history) ≡ false) want not))
 
 pub runs_are_complete : (old new : View) → RunsAreComplete old new
-runs_are_complete old new due_by nodes phases ends before after status history turns served due nothing =
+runs_are_complete old new due_by nodes phases writing ends before after status history turns served due nothing =
     by (was_mounted status history) refl served.turns_are
   where
     done : IsDone status

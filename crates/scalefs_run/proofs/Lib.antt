@@ -1,5 +1,7 @@
 pub mod Called
+pub mod Checking
 mod Complete
+mod Crowding
 pub mod Dated
 pub mod Ended
 pub mod Going
@@ -10,5 +12,8 @@ pub mod Pushed
 pub mod Serving
 pub mod Steps
 pub mod Still
+mod Telling
 pub mod Turning
+mod Unread
 pub mod Within
+mod Written

@@ -1,5 +1,6 @@
 -- A run ends.
-use Rattle.std.proofs.Common.{◌≡◌, ℕ, ◌+◌, ◌<◌, ◌≤◌, Bool, true, false, List, [], ◌∷◌, length, Option, Some, None, Result, Ok, Err, cond, nat_lt, refl, sym, ap, subst, ◌∙◌, arith}
+use Rattle.std.proofs.Common.{◌≡◌, ℕ, ◌+◌, ◌<◌, ◌≤◌, Bool, true, false, List, [], ◌∷◌, length, Option}
+use Rattle.std.proofs.Common.{Some, None, Result, Ok, Err, cond, nat_lt, refl, sym, ap, subst, ◌∙◌, arith}
 use Rattle.std.proofs.lemmas.List.{length-append, append-nil}
 use Rattle.std.specs.FinMap.{empty}
 use Rattle.std.specs.Io.KnownBytes.{Consumes}
@@ -31,12 +32,12 @@ use Rattle.script.specs.Faults.{IsShort}
 use Rattle.script.specs.Follows.{Follows, FollowsSoFar}
 use Rattle.script.specs.Lines.{lines}
 use Rattle.script.specs.Phases.{phases_of}
-use Rattle.script.specs.Texts.{history_text}
 use Rattle.script.proofs.FollowLemmas.{FollowsSoFar-whole}
 use borrow.Author.Tests.{lt-ltb, le-ltb}
 use Rattle.scalefs_run.specs.declared.engine.Engine.{Engine}
 use Rattle.scalefs_run.specs.declared.outcome.Status.{Status}
-use Rattle.scalefs_run.specs.declared.outcome.Status.TheVariants.{Done, BadWords, BadScript, ReadFault, WriteFault, DiskFault, BadImage, NoMemory, TooManyWorkers, TooLong, TooSmall}
+use Rattle.scalefs_run.specs.declared.outcome.Status.TheVariants.{Done, BadWords, BadScript, ReadFault, WriteFault}
+use Rattle.scalefs_run.specs.declared.outcome.Status.TheVariants.{DiskFault, BadImage, NoMemory, TooManyWorkers, TooLong, TooSmall, WrongHistory, NotAccepted}
 use Rattle.scalefs_run.specs.Acks.{AcksRise, MomentsRise}
 use Rattle.scalefs_run.specs.Begun.{RunBegins}
 use Rattle.scalefs_run.specs.Due.{Judgement, IsJudged, due, judged_status, mounted_status, workers_status, script_status, phases_in}
@@ -48,8 +49,11 @@ use Rattle.turn_laws.specs.Need.{ImageState}
 use Rattle.turn_laws.specs.Recorded.{IsRecorded}
 use Rattle.scalefs_run.specs.Turns.{IsImageAtFirst, HasTurnsBy}
 use Rattle.scalefs_run.specs.RunInvariant.{EndsRun}
-use Rattle.scalefs_run.specs.Served.{Served, ServedScript, IsCaused, run_ends, run_told, was_mounted}
+use Rattle.scalefs_run.specs.Served.{RunTold, Served, ServedScript, IsCaused, run_ends, run_told, was_mounted}
 use Rattle.scalefs_run.specs.WithoutCore.{worker_without_core}
+use Rattle.scalefs_run.specs.Writing.{text_behind}
+use Rattle.scalefs_run.specs.declared.writing.Writing.{Writing}
+use Rattle.scalefs_run.specs.declared.writing.Writing.TheVariants.{History}
 use Rattle.scalefs_run.proofs.Ended.{survives}
 
 -- each moment of a call shows what the image at its entry does
@@ -78,7 +82,7 @@ judged_with : (fault : Fault) (told : Option (List ℕ)) → IfTold told (λ ima
 judged_with fault told is image there = record { fault_is = sym (is image there); cores_are = (judged_told told image there).cores_are }
 
 -- a tree for a run that has none
-no_tree : TreeState
+pub no_tree : TreeState
 no_tree = record { rows = empty; nodes = empty; first = 0; share = 0; made = [] }
 
 -- no call of a script's was made yet
@@ -98,6 +102,8 @@ write_status Sink Disk NoMemory h = tt
 write_status Sink Disk (TooManyWorkers asked have) h = absurd h
 write_status Sink Disk (TooLong measure) h = absurd h
 write_status Sink Disk (TooSmall need have) h = absurd h
+write_status Sink Disk (WrongHistory line) h = absurd h
+write_status Sink Disk NotAccepted h = absurd h
 
 -- an image that stands at the begin of a call does so of a longer one
 image_on : (old mid new : View) (first : TreeState) (image : ImageState) → Advances mid new → IsImageAtFirst old mid first image
@@ -123,13 +129,14 @@ none_told first image start now [] recorded = refl
 none_told first image start now (turn ∷ turns) recorded = absurd (recorded.each turn (Rattle.std.proofs.Common.inl refl)).fsync.among
 
 -- no call was made, on an image that was not mounted
-pub served_unmounted : (due_by : Judgement → Status) (nodes : ℕ) (phases : List (List Line)) (Source Sink : Type 0) (before after : Option (List ℕ))
-    (old new : View) (status : Status)
+pub served_unmounted : (due_by : Judgement → Status) (nodes : ℕ) (phases : List (List Line)) (writing : Writing) (Source Sink : Type 0)
+    (before after : Option (List ℕ)) (old new : View) (status : Status)
     → IsCaused due_by
-    (run_ends Source Sink before after old new) status → HasHistory phases [] status → HasText (history_text []) before after status → was_mounted status [] ≡ false
+    (run_ends Source Sink before after old new) status → HasHistory phases [] status
+    → HasText (text_behind writing no_tree []) before after status → was_mounted status [] ≡ false
     → ShowsEntry old new → old.now ≤ new.now
-    → Served due_by nodes phases (run_ends Source Sink before after old new) (run_told status [] [])
-served_unmounted due_by nodes phases Source Sink before after old new status caused calls text not_mounted shows later = record {
+    → Served due_by nodes phases writing (run_ends Source Sink before after old new) (run_told status [] [])
+served_unmounted due_by nodes phases writing Source Sink before after old new status caused calls text not_mounted shows later = record {
   caused = caused;
   first = no_tree;
   first_is = λ was. absurd (false_not_true (sym not_mounted ∙ was));
@@ -143,7 +150,7 @@ served_unmounted due_by nodes phases Source Sink before after old new status cau
 }
 
 -- a refused image: its status is due
-module _ (nodes : ℕ) (phases : List (List Line)) (Sink : Type 0) (written : Option (List ℕ)) (old new : View) (shows : ShowsEntry old new)
+module _ (nodes : ℕ) (phases : List (List Line)) (writing : Writing) (Sink : Type 0) (written : Option (List ℕ)) (old new : View) (shows : ShowsEntry old new)
     (later : old.now ≤ new.now) where
   abbrev due_by : Judgement → Status
   due_by judged = judged_status judged phases
@@ -161,11 +168,11 @@ module _ (nodes : ℕ) (phases : List (List Line)) (Sink : Type 0) (written : Op
       by (Some fault) = (tt, tt)
 
   ends_refused : (fault : Fault) (status : Status) → IfTold old.content (λ image. fault_of image ≡ Some fault) → Unwritten old new
-      → BadImage (Rattle.scalefs_run.specs.Image.fault_named fault) ≡ status → Served due_by nodes phases (run_ends ⊥ Sink written written old new)
+      → BadImage (Rattle.scalefs_run.specs.Image.fault_named fault) ≡ status → Served due_by nodes phases writing (run_ends ⊥ Sink written written old new)
       (run_told status [] [])
   ends_refused fault status is unwritten same =
-      subst (λ (s : Status). Served due_by nodes phases (run_ends ⊥ Sink written written old new) (run_told s [] [])) same
-      (served_unmounted due_by nodes phases ⊥ Sink written written old new (BadImage (Rattle.scalefs_run.specs.Image.fault_named fault))
+      subst (λ (s : Status). Served due_by nodes phases writing (run_ends ⊥ Sink written written old new) (run_told s [] [])) same
+      (served_unmounted due_by nodes phases writing ⊥ Sink written written old new (BadImage (Rattle.scalefs_run.specs.Image.fault_named fault))
       (record {
         judged = record { fault = Some fault; cores = (judged_of old.content).cores };
         judged_told = judged_with fault old.content is;
@@ -176,9 +183,9 @@ module _ (nodes : ℕ) (phases : List (List Line)) (Sink : Type 0) (written : Op
 
   pub served_refused : (fault : RecoverFault) → IfTold old.content (λ image. IsFaultOf image fault) → LeavesRefused old new fault
       → HasReadCause {V = Engine} is_recover_disk_fault old.faults new.faults (Err fault)
-      → Served due_by nodes phases (run_ends ⊥ Sink written written old new) (run_told (status_of_recovery fault) [] [])
+      → Served due_by nodes phases writing (run_ends ⊥ Sink written written old new) (run_told (status_of_recovery fault) [] [])
   served_refused recover.DiskFailed is left cause =
-      served_unmounted due_by nodes phases ⊥ Sink written written old new DiskFault
+      served_unmounted due_by nodes phases writing ⊥ Sink written written old new DiskFault
       (record {
         judged = judged_of old.content;
         judged_told = judged_told old.content;
@@ -190,7 +197,7 @@ module _ (nodes : ℕ) (phases : List (List Line)) (Sink : Type 0) (written : Op
   served_refused (recover.BadJournal core slot at) is left cause = ends_refused (JournalFault (record { core = core; slot = slot; at = at })) _ is left refl
   served_refused (recover.BadImage inode rule) is left cause = ends_refused (TreeFault (record { rule = rule; inode = inode })) _ is left refl
   served_refused recover.NoMemory is left cause =
-      served_unmounted due_by nodes phases ⊥ Sink written written old new NoMemory
+      served_unmounted due_by nodes phases writing ⊥ Sink written written old new NoMemory
       (record {
         judged = judged_of old.content;
         judged_told = judged_told old.content;
@@ -200,8 +207,8 @@ module _ (nodes : ℕ) (phases : List (List Line)) (Sink : Type 0) (written : Op
       (none_so_far phases) refl refl shows later
 
 -- a mounted image has no fault, and as many cores as there are
-module _ (nodes : ℕ) (phases : List (List Line)) (Sink : Type 0) (before after : Option (List ℕ)) (first engine : Engine) (old mid new : View)
-    (begins : RunBegins nodes first old mid) where
+module _ (nodes : ℕ) (phases : List (List Line)) (writing : Writing) (Sink : Type 0) (before after : Option (List ℕ)) (first engine : Engine)
+    (old mid new : View) (begins : RunBegins nodes first old mid) where
   abbrev judged : Judgement
   judged = record { fault = None; cores = first.volume.layout.cores }
 
@@ -216,9 +223,9 @@ module _ (nodes : ℕ) (phases : List (List Line)) (Sink : Type 0) (before after
   -- a worker has no core
   pub served_without_core : (asked have : ℕ) → have ≡ first.volume.layout.cores → worker_without_core first.volume.layout.cores phases ≡ Some asked
       → before ≡ after → ShowsEntry old new → old.now ≤ new.now
-      → Served (λ judged. judged_status judged phases) nodes phases (run_ends ⊥ Sink before after old new) (run_told (TooManyWorkers asked have) [] [])
+      → Served (λ judged. judged_status judged phases) nodes phases writing (run_ends ⊥ Sink before after old new) (run_told (TooManyWorkers asked have) [] [])
   served_without_core asked have is none same shows later =
-      served_unmounted (λ judged. judged_status judged phases) nodes phases ⊥ Sink before after old new (TooManyWorkers asked have)
+      served_unmounted (λ judged. judged_status judged phases) nodes phases writing ⊥ Sink before after old new (TooManyWorkers asked have)
       (record {
         judged = judged;
         judged_told = judged_is;
@@ -244,8 +251,8 @@ module _ (nodes : ℕ) (phases : List (List Line)) (Sink : Type 0) (before after
   -- a script was run
   pub served_run : (status : Status) → EndsRun first engine mid new → old.now ≤ mid.now → Advances mid new
       → worker_without_core first.volume.layout.cores phases ≡ None → (made ≡ [] → ShowsEntry old new)
-      → IsWriteStatus Sink status → HasHistory phases made status → HasText (history_text made) before after status
-      → Served (λ judged. judged_status judged phases) nodes phases (run_ends ⊥ Sink before after old new) (run_told status made engine.turns.items)
+      → IsWriteStatus Sink status → HasHistory phases made status → HasText (text_behind writing begins.kept.first made) before after status
+      → Served (λ judged. judged_status judged phases) nodes phases writing (run_ends ⊥ Sink before after old new) (run_told status made engine.turns.items)
   served_run status ends begun goes none shows is calls text =
       let ended = ends old.faults begins.image begins.kept begins.stands in
       record {
@@ -311,6 +318,8 @@ write_history Sink phases history NoMemory h follows =
 write_history Sink phases history (TooManyWorkers asked have) h follows = absurd h
 write_history Sink phases history (TooLong measure) h follows = absurd h
 write_history Sink phases history (TooSmall need have) h follows = absurd h
+write_history Sink phases history (WrongHistory line) h follows = absurd h
+write_history Sink phases history NotAccepted h follows = absurd h
 
 pub write_reached : (Sink : Type 0) (status : Status) → IsWriteStatus Sink status → Rattle.scalefs_run.specs.Outcome.reaches_disk status ≡ true
 write_reached Sink Done h = refl
@@ -324,6 +333,8 @@ write_reached Sink NoMemory h = refl
 write_reached Sink (TooManyWorkers asked have) h = absurd h
 write_reached Sink (TooLong measure) h = absurd h
 write_reached Sink (TooSmall need have) h = absurd h
+write_reached Sink (WrongHistory line) h = absurd h
+write_reached Sink NotAccepted h = absurd h
 
 -- why the source could not be read, of the script that it gave
 pub read_fault : (Source : Type 0) (left rest : Option (List ℕ)) (taken : List ℕ) (fault : ReadAllFault) → Consumes left rest taken
@@ -395,16 +406,16 @@ served_unread nodes left script Source Sink written disk status is fault = (scri
     judged = judged_of disk.content
 
     ends : (status : Status) → HasStatus (due judged script) Source Sink (HasRisen disk.faults disk.faults) status
-        → (IsImageRefused status → Unwritten disk disk) → HasHistory phases [] status → HasText (history_text []) written written status
+        → (IsImageRefused status → Unwritten disk disk) → HasHistory phases [] status → HasText (text_behind History no_tree []) written written status
         → was_mounted status [] ≡ false
-        → Served (λ judged. due judged script) nodes phases (run_ends Source Sink written written disk disk) (run_told status [] [])
+        → Served (λ judged. due judged script) nodes phases History (run_ends Source Sink written written disk disk) (run_told status [] [])
     ends status status_is refused calls text not =
-        served_unmounted (λ judged. due judged script) nodes phases Source Sink written written disk disk status
+        served_unmounted (λ judged. due judged script) nodes phases History Source Sink written written disk disk status
         (record { judged = judged; judged_told = judged_told disk.content; status_is = status_is; refused = refused }) calls text not (shows_untouched disk)
         (omega arith)
 
     by : (status : Status) → HasReadFault script Source status
-        → Served (λ judged. due judged script) nodes phases (run_ends Source Sink written written disk disk) (run_told status [] [])
+        → Served (λ judged. due judged script) nodes phases History (run_ends Source Sink written written disk disk) (run_told status [] [])
     by (BadScript line) fault =
         ends (BadScript line) (due_read judged script fault.0 ∙ ap (script_status judged) fault.1) (λ refused. absurd refused) refl refl refl
     by ReadFault fault = ends ReadFault (fault, due_command judged script) (λ refused. absurd refused) refl refl refl
@@ -413,11 +424,62 @@ served_unread nodes left script Source Sink written disk status is fault = (scri
     by (TooLong Lines) fault = ends (TooLong Lines) (due_lines judged script fault.0 fault.1) (λ refused. absurd refused) refl refl refl
     by _ fault = absurd fault
 
+-- a status that no failure of a source caused is one for each source
+any_source : (Source Sink Disk : Type 0) (due : Status) (status : Status) → HasStatus due ⊥ Sink Disk status → HasStatus due Source Sink Disk status
+any_source Source Sink Disk due ReadFault h = absurd h.0
+any_source Source Sink Disk due Done h = h
+any_source Source Sink Disk due (BadWords place) h = h
+any_source Source Sink Disk due (BadScript line) h = h
+any_source Source Sink Disk due WriteFault h = h
+any_source Source Sink Disk due DiskFault h = h
+any_source Source Sink Disk due (BadImage fault) h = h
+any_source Source Sink Disk due NoMemory h = h
+any_source Source Sink Disk due (TooManyWorkers asked have) h = h
+any_source Source Sink Disk due (TooLong measure) h = h
+any_source Source Sink Disk due (TooSmall need have) h = h
+any_source Source Sink Disk due (WrongHistory line) h = h
+any_source Source Sink Disk due NotAccepted h = h
+
+-- a run of a made script, whatever source is there
+pub served_made : (due_by : Judgement → Status) (nodes : ℕ) (phases : List (List Line)) (writing : Writing) (Source Sink : Type 0)
+    (before after : Option (List ℕ)) (old new : View) (told : RunTold)
+    → Served due_by nodes phases writing (run_ends ⊥ Sink before after old new) told
+    → Served due_by nodes phases writing (run_ends Source Sink before after old new) told
+served_made due_by nodes phases writing Source Sink before after old new told served = record {
+  caused = record {
+    judged = served.caused.judged;
+    judged_told = served.caused.judged_told;
+    status_is = any_source Source Sink (HasRisen old.faults new.faults) (due_by served.caused.judged) told.status served.caused.status_is;
+    refused = served.caused.refused;
+  };
+  first = served.first;
+  first_is = served.first_is;
+  legal = served.legal;
+  calls = served.calls;
+  text = served.text;
+  answers = served.answers;
+  acks = served.acks;
+  turns_are = served.turns_are;
+  images = served.images;
+}
+
+-- memory was refused before a script was there
+pub served_no_memory : (nodes : ℕ) (phases : List (List Line)) (writing : Writing) (Source Sink : Type 0) (written : Option (List ℕ)) (disk : View)
+    → Served (λ judged. judged_status judged phases) nodes phases writing (run_ends Source Sink written written disk disk) (run_told NoMemory [] [])
+served_no_memory nodes phases writing Source Sink written disk =
+    served_unmounted (λ judged. judged_status judged phases) nodes phases writing Source Sink written written disk disk NoMemory
+    (record {
+      judged = judged_of disk.content;
+      judged_told = judged_told disk.content;
+      status_is = (judged_comes nodes phases writing Sink written disk disk (shows_untouched disk) (omega arith) (judged_of disk.content)).1;
+      refused = λ refused. absurd refused;
+    }) (none_so_far phases) refl refl (shows_untouched disk) (omega arith)
+
 -- the script was read, and run
 pub served_read : (nodes : ℕ) (left : Option (List ℕ)) (script : List ℕ) (phases : List (List Line)) (Source Sink : Type 0) (before after : Option (List ℕ))
     (old new : View) (status : Status) (history : List Entry) (turns : List Turn)
     → IsOf left script → IsShort script → phases_of script ≡ Ok phases
-    → Served (λ judged. judged_status judged phases) nodes phases (run_ends ⊥ Sink before after old new) (run_told status history turns)
+    → Served (λ judged. judged_status judged phases) nodes phases History (run_ends ⊥ Sink before after old new) (run_told status history turns)
     → ServedScript nodes left (run_ends Source Sink before after old new) (run_told status history turns)
 served_read nodes left script phases Source Sink before after old new status history turns is short read served = (
   script,
@@ -426,7 +488,7 @@ served_read nodes left script phases Source Sink before after old new status his
     caused = record {
       judged = served.caused.judged;
       judged_told = served.caused.judged_told;
-      status_is = any_source (due served.caused.judged script) status
+      status_is = any_source Source Sink (HasRisen old.faults new.faults) (due served.caused.judged script) status
           (subst (λ (d : Status). HasStatus d ⊥ Sink (HasRisen old.faults new.faults) status)
           (sym (due_read served.caused.judged script short ∙ ap (script_status served.caused.judged) read)) served.caused.status_is);
       refused = served.caused.refused;
@@ -442,17 +504,3 @@ served_read nodes left script phases Source Sink before after old new status his
     images = served.images;
   },
 )
-  where
-    any_source : (due : Status) (status : Status) → HasStatus due ⊥ Sink (HasRisen old.faults new.faults) status
-        → HasStatus due Source Sink (HasRisen old.faults new.faults) status
-    any_source due Done h = h
-    any_source due (BadWords place) h = h
-    any_source due (BadScript line) h = h
-    any_source due ReadFault h = absurd h.0
-    any_source due WriteFault h = h
-    any_source due DiskFault h = h
-    any_source due (BadImage fault) h = h
-    any_source due NoMemory h = h
-    any_source due (TooManyWorkers asked have) h = h
-    any_source due (TooLong measure) h = h
-    any_source due (TooSmall need have) h = h

@@ -1,5 +1,5 @@
 -- What is due where nothing fails, and that there are disks of which all is asked.
-use Rattle.std.specs.Prelude.{◌≡◌, ◌⊎◌, ℕ, Bool, true, List, Option, Some, None}
+use Rattle.std.specs.Prelude.{◌≡◌, ◌⊎◌, ℕ, ◌≤◌, Bool, true, List, length, Option, Some, None}
 use Rattle.sfs_base.specs.Ends.{HasRisen}
 use Rattle.sfs_base.specs.declared.numbers.NodeId.{NodeId}
 use Rattle.sfs_base.specs.declared.numbers.SpaceKind.{SpaceKind}
@@ -8,7 +8,11 @@ use Rattle.sfs_dev.specs.Memory.{memory_view, IsFresh}
 use Rattle.sfs_dev.specs.Run.{CountsOn}
 use Rattle.sfs_dev.specs.declared.memory.Memory.{Memory}
 use Rattle.sfs_image.specs.Super.{Layout}
-use Rattle.image_laws.specs.Image.{fault_of}
+use Rattle.sfs_image.specs.Settled.{layout_of}
+use Rattle.image_laws.specs.Image.{fault_of, tree_of}
+use Rattle.history_check.specs.Legal.{IsLegalText, IsFirstWrong}
+use Rattle.history_check.specs.declared.checking.TheConstants.{LONGEST_HISTORY}
+use Rattle.mount.specs.Mounted.{share_of_nodes}
 use Rattle.script.specs.declared.commands.Line.{Line}
 use Rattle.tree_laws.specs.declared.history.Entry.{Entry}
 use Rattle.tree_laws.specs.declared.reply.Reply.{Reply}
@@ -20,10 +24,13 @@ use Rattle.tree_laws.specs.Tree.{TreeState}
 use Rattle.cut_laws.specs.Rules.{IsOneOf}
 use Rattle.turn_laws.specs.Recorded.{IsLiveFsync}
 use Rattle.scalefs_run.specs.declared.outcome.Status.{Status}
-use Rattle.scalefs_run.specs.declared.outcome.Status.TheVariants.{Done, NoMemory}
+use Rattle.scalefs_run.specs.declared.outcome.Status.TheVariants.{Done, NoMemory, WrongHistory}
+use Rattle.scalefs_run.specs.Checked.{ChecksHistory}
 use Rattle.scalefs_run.specs.Due.{Judgement}
-use Rattle.scalefs_run.specs.Image.{making_due, MakesImage, ShowsImage}
+use Rattle.scalefs_run.specs.Image.{making_due, showing_due, MakesImage, ShowsImage}
+use Rattle.scalefs_run.specs.Verified.{VerifiesImage}
 use Rattle.scalefs_run.specs.Images.{IfToldAndCalm}
+use Rattle.scalefs_run.specs.declared.writing.Writing.{Writing}
 use Rattle.scalefs_run.specs.Served.{Served, run_ends, run_told}
 
 -- the counts of faults of a source and a sink, before a call and after it
@@ -71,9 +78,10 @@ pub record WentWell (first : TreeState) (status : Status) (history : List Entry)
 
 -- Where nothing failed and no other status was due than Done, a run went well.
 abbrev pub RunsAreComplete : View → View → Type 0
-RunsAreComplete old new = (due_by : Judgement → Status) (nodes : ℕ) (phases : List (List Line)) (ends : EndFaults) (before after : Option (List ℕ))
+RunsAreComplete old new = (due_by : Judgement → Status) (nodes : ℕ) (phases : List (List Line)) (writing : Writing) (ends : EndFaults)
+    (before after : Option (List ℕ))
     (status : Status) (history : List Entry) (turns : List Turn)
-    → (served : Served due_by nodes phases
+    → (served : Served due_by nodes phases writing
     (run_ends (HasRisen ends.source_before ends.source_after) (HasRisen ends.sink_before ends.sink_after) before after old new)
     (run_told status history turns))
     → due_by served.caused.judged ≡ Done → NothingFailed ends old new → WentWell served.first status history turns
@@ -88,6 +96,27 @@ abbrev pub ShowingsAreComplete : View → View → Type 0
 ShowingsAreComplete old new = (ends : EndFaults) (before after : Option (List ℕ)) (status : Status) (image : List ℕ)
     → ShowsImage (HasRisen ends.sink_before ends.sink_after) before after old new status → old.content ≡ Some image → fault_of image ≡ None
     → NothingFailed ends old new → IsDone status
+
+-- what a status tells of a text over a tree: that it is legal, or its first wrong line; want of memory tells nothing
+abbrev pub TellsOfText : TreeState → List ℕ → Status → Type 0
+TellsOfText first text Done = (count : ℕ) × IsLegalText first text count
+TellsOfText first text (WrongHistory line) = IsFirstWrong first text line
+TellsOfText first text NoMemory = Unit {0}
+TellsOfText first text _ = ⊥
+
+-- And `check` of a text that is not too long tells of it over the tree of an image without a fault, whose cores share the new nodes.
+abbrev pub ChecksAreComplete : View → View → Type 0
+ChecksAreComplete old new = (nodes : ℕ) (ends : EndFaults) (before after : Option (List ℕ)) (status : Status) (image text : List ℕ) (first : TreeState)
+    → ChecksHistory nodes (Some text)
+    (run_ends (HasRisen ends.source_before ends.source_after) (HasRisen ends.sink_before ends.sink_after) before after old new) status
+    → length text ≤ LONGEST_HISTORY → old.content ≡ Some image → tree_of image (share_of_nodes nodes (layout_of image)) ≡ Some first
+    → NothingFailed ends old new → TellsOfText first text status
+
+-- And `verify` tells an image's first fault, or that it has none, but for want of memory.
+abbrev pub VerdictsAreComplete : View → View → Type 0
+VerdictsAreComplete old new = (ends : EndFaults) (before after : Option (List ℕ)) (status : Status) (image : List ℕ)
+    → VerifiesImage (HasRisen ends.sink_before ends.sink_after) before after old new status → old.content ≡ Some image → NothingFailed ends old new
+    → (status ≡ showing_due (fault_of image)) ⊎ (status ≡ NoMemory)
 
 -- Of a disk in memory of which no call was made yet all is asked, up to each later one whose count goes on.
 abbrev pub FreshDisksAreAsked : Type 0

@@ -1,8 +1,10 @@
 pub mod Acks
 pub mod Begun
 pub mod Calls
+pub mod Checked
 pub mod Commands
 pub mod Complete
+pub mod Crowded
 pub mod Due
 pub mod Image
 pub mod Images
@@ -12,5 +14,6 @@ pub mod Replies
 pub mod RunInvariant
 pub mod Served
 pub mod Turns
+pub mod Verified
 pub mod WithoutCore
-pub mod Words
+pub mod Writing

@@ -3,6 +3,8 @@ use Rattle.std.specs.Prelude.{◌≡◌, ℕ, ◌≤◌, ◌<◌, Bool, true, fa
 use Rattle.std.specs.Io.KnownBytes.{Appends}
 use Rattle.sfs_base.specs.declared.transfer.ReadAllFault.{ReadAllFault}
 use Rattle.sfs_base.specs.declared.transfer.ReadAllFault.TheVariants as source
+use Rattle.words.specs.declared.command.WordsFault.{WordsFault}
+use Rattle.words.specs.declared.command.WordsFault.TheVariants as words
 use Rattle.script.specs.declared.fault.ScriptFault.{ScriptFault}
 use Rattle.script.specs.declared.fault.ScriptFault.TheVariants as script
 use Rattle.sfs_base.specs.declared.numbers.Measure.{Measure}
@@ -16,7 +18,7 @@ use Rattle.script.specs.Faults.{MOST_BYTES, MOST_LINES, IsShort}
 use Rattle.scalefs_run.specs.declared.outcome.ImageFault.{ImageFault}
 use Rattle.scalefs_run.specs.declared.outcome.ImageFault.TheVariants.{Super, Journal, Tree}
 use Rattle.scalefs_run.specs.declared.outcome.Status.{Status}
-use Rattle.scalefs_run.specs.declared.outcome.Status.TheVariants.{Done, BadWords, BadScript, ReadFault, WriteFault, DiskFault, BadImage, NoMemory, TooManyWorkers, TooLong, TooSmall}
+use Rattle.scalefs_run.specs.declared.outcome.Status.TheVariants.{Done, BadWords, BadScript, ReadFault, WriteFault, DiskFault, BadImage, NoMemory, TooManyWorkers, TooLong, TooSmall, WrongHistory, NotAccepted}
 
 -- these are the bytes that were told, where they were
 abbrev pub IsOf : Option (List ℕ) → List ℕ → Type 0
@@ -50,6 +52,13 @@ HasStatus due source sink disk NoMemory = IsCommand due
 HasStatus due source sink disk (TooManyWorkers asked have) = due ≡ TooManyWorkers asked have
 HasStatus due source sink disk (TooLong measure) = due ≡ TooLong measure
 HasStatus due source sink disk (TooSmall need have) = due ≡ TooSmall need have
+HasStatus due source sink disk (WrongHistory line) = due ≡ WrongHistory line
+HasStatus due source sink disk NotAccepted = due ≡ NotAccepted
+
+-- the status of a call whose words were refused
+abbrev pub status_of_words : WordsFault → Status
+status_of_words (words.BadWords place) = BadWords place
+status_of_words words.NoMemory = NoMemory
 
 -- the status of a run whose source could not be read
 abbrev pub status_of_source : ReadAllFault → Status
@@ -104,6 +113,8 @@ reaches_disk DiskFault = true
 reaches_disk (BadImage fault) = true
 reaches_disk NoMemory = true
 reaches_disk (TooManyWorkers asked have) = true
+reaches_disk (WrongHistory line) = true
+reaches_disk NotAccepted = true
 reaches_disk _ = false
 
 -- the number with which the program ends
@@ -119,6 +130,8 @@ status_number NoMemory = 8
 status_number (TooManyWorkers asked have) = 9
 status_number (TooLong measure) = 10
 status_number (TooSmall need have) = 11
+status_number (WrongHistory line) = 13
+status_number NotAccepted = 15
 
 -- what is wrong in an image: a byte of the superblock or of a journal slot, or an inode and the rule that it breaks
 abbrev pub fault_text : ImageFault → List ℕ
@@ -139,3 +152,5 @@ status_text NoMemory = codes "out of memory"
 status_text (TooManyWorkers asked have) = (codes "worker " ++ decimal asked) ++ (codes " of " ++ decimal have)
 status_text (TooLong measure) = codes "script too long"
 status_text (TooSmall need have) = (codes "too small: need " ++ decimal need) ++ (codes " blocks, have " ++ decimal have)
+status_text (WrongHistory line) = codes "wrong history at line " ++ decimal line
+status_text NotAccepted = codes "the image changed"

@@ -14,16 +14,19 @@ use Rattle.image_laws.specs.Image.{tree_of}
 use Rattle.mount.specs.Mounted.{share_of_nodes}
 use Rattle.script.specs.declared.commands.Line.{Line}
 use Rattle.script.specs.Phases.{phases_of}
-use Rattle.script.specs.Texts.{history_text}
 use Rattle.scalefs_run.specs.declared.outcome.Status.{Status}
 use Rattle.scalefs_run.specs.declared.outcome.Status.TheVariants.{Done, WriteFault, NoMemory}
 use Rattle.scalefs_run.specs.Acks.{AcksRise}
-use Rattle.scalefs_run.specs.Due.{Judgement, IsJudged, due, phases_in}
+use Rattle.scalefs_run.specs.Due.{Judgement, IsJudged, due, judged_status, phases_in}
 use Rattle.scalefs_run.specs.Image.{IsImageRefused}
 use Rattle.scalefs_run.specs.Images.{IfToldAndCalm, HasImagesBy}
 use Rattle.scalefs_run.specs.Outcome.{IsOf, HasStatus, HasHistory, HasText}
 use Rattle.scalefs_run.specs.Replies.{HasAnswers}
 use Rattle.scalefs_run.specs.Turns.{HasTurnsBy}
+use Rattle.scalefs_run.specs.Writing.{text_behind}
+use Rattle.scalefs_run.specs.declared.writing.Writing.{Writing}
+use Rattle.scalefs_run.specs.declared.writing.Writing.TheVariants.{History, Load}
+use Rattle.made_script.specs.Made.{made}
 
 -- whether the image was mounted and the script begun: memory may have been refused before its first call
 abbrev pub was_mounted : Status → List Entry → Bool
@@ -68,8 +71,8 @@ pub record IsFirstTree (nodes : ℕ) (old : View) (first : TreeState) : Type 0 w
   pub sound : IsSoundTree first
   pub told : IfTold old.content (λ image. tree_of image (share_of_nodes nodes (layout_of image)) ≡ Some first)
 
--- A run over a script with these phases, in which so many nodes may be made, had these ends and told this.
-pub record Served (due_by : Judgement → Status) (nodes : ℕ) (phases : List (List Line)) (ends : RunEnds) (told : RunTold) : Type 0 where
+-- A run over a script with these phases, in which so many nodes may be made, that writes this at its end had these ends and told this.
+pub record Served (due_by : Judgement → Status) (nodes : ℕ) (phases : List (List Line)) (writing : Writing) (ends : RunEnds) (told : RunTold) : Type 0 where
   -- the status has its cause
   pub caused : IsCaused due_by ends told.status
   -- the tree of the image that was mounted
@@ -80,7 +83,7 @@ pub record Served (due_by : Judgement → Status) (nodes : ℕ) (phases : List (
   -- it holds each worker's calls, each once, in their order, phase by phase
   pub calls : HasHistory phases told.history told.status
   -- its text was written
-  pub text : HasText (history_text told.history) ends.before ends.after told.status
+  pub text : HasText (text_behind writing first told.history) ends.before ends.after told.status
   -- each fsync is answered as it is for its cause
   pub answers : HasAnswers ends.old.faults ends.new.faults first told.history
   -- while the count of device calls has not come to its last value, the moments of acknowledgement do not fall, and lie within the run
@@ -93,4 +96,13 @@ pub record Served (due_by : Judgement → Status) (nodes : ℕ) (phases : List (
 -- the same of the script that the source gave
 abbrev pub ServedScript : ℕ → Option (List ℕ) → RunEnds → RunTold → Type 0
 ServedScript nodes left ends told =
-    (script : List ℕ) × IsOf left script × Served (λ judged. due judged script) nodes (phases_in (phases_of script)) ends told
+    (script : List ℕ) × IsOf left script × Served (λ judged. due judged script) nodes (phases_in (phases_of script)) History ends told
+
+-- how many nodes `load` may make
+abbrev pub LOAD_NODES : ℕ
+LOAD_NODES = 65536
+
+-- the same of a made script in place of the source's
+abbrev pub ServedLoad : ℕ → ℕ → ℕ → RunEnds → RunTold → Type 0
+ServedLoad seed count workers ends told =
+    Served (λ judged. judged_status judged (made seed count workers)) LOAD_NODES (made seed count workers) (Load seed count workers) ends told

@@ -1,14 +1,17 @@
-//! The top call: it makes an image, shows one, or runs a script and writes its history.
+//! The top call: it makes an image, shows or verifies one, runs a script and writes its history, or checks a history.
 #![tactic(auto)]
 
+mod checked;
 mod engine;
 mod image;
 pub mod laws;
 mod outcome;
+mod refused;
 mod top;
 mod turns;
+mod verified;
 mod without_core;
-mod words;
+mod writing;
 
 pub use outcome::{ImageFault, Outcome, Status, status_line};
 pub use top::run;

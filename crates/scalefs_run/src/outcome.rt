@@ -43,6 +43,10 @@ pub enum Status {
     TooLong { measure: Measure },
     /// An image of so many blocks has no room for its parts, or the disk has none for so many.
     TooSmall { need: u32, have: u32 },
+    /// The first line of a history's text, counted from 1, that is not that of a legal history.
+    WrongHistory { line: u32 },
+    /// The certificate of an image was not accepted: the disk was not the same when it was read again.
+    NotAccepted,
 }
 
 impl Status {
@@ -64,6 +68,8 @@ impl Status {
             Status::TooManyWorkers { asked: _, have: _ } => 9,
             Status::TooLong { measure: _ } => 10,
             Status::TooSmall { need: _, have: _ } => 11,
+            Status::WrongHistory { line: _ } => 13,
+            Status::NotAccepted => 15,
         }
     }
 }
@@ -88,6 +94,8 @@ pub fn status_line(alloc: Global, status: &Status) -> Result<String, NoMemory>
         Status::TooSmall { need, have } => Ok(format!(in alloc;
             "too small: need {need} blocks, have {have}"
         )?),
+        Status::WrongHistory { line } => Ok(format!(in alloc; "wrong history at line {line}")?),
+        Status::NotAccepted => Ok(String::from_str(alloc, "the image changed")?),
     }
 }
 

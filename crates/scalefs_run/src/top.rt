@@ -3,34 +3,44 @@ ghost use Rattle.std.specs.List.{All};
 ghost use Rattle.sfs_base.specs.Ends.{HasRisen};
 ghost use Rattle.sfs_dev.specs.Run.{Advances};
 ghost use Rattle.script.specs.Phases.{phases_of};
-ghost use Rattle.script.specs.Texts.{history_text};
 ghost use Rattle.script.specs.Faults.{IsShort};
 ghost use Rattle.script.specs.Ready.{LinesMayRun};
 ghost use Rattle.scalefs_run.specs.Commands.{ServedWords, ServedCommand};
 ghost use Rattle.scalefs_run.specs.Due.{judged_status};
-ghost use Rattle.scalefs_run.specs.Outcome.{IsOf, HasText, IsWriteStatus, HasReadFault, status_of_source, status_of_script, reaches_disk};
-ghost use Rattle.scalefs_run.specs.Words.{MOST_NODES, IsInRange, command_asked};
-ghost use Rattle.scalefs_run.specs.Served.{Served, ServedScript, run_ends, run_told};
+ghost use Rattle.scalefs_run.specs.Outcome.{IsOf, HasReadFault, reaches_disk};
+ghost use Rattle.scalefs_run.specs.Served.{Served, ServedScript, ServedLoad, run_ends, run_told};
+ghost use Rattle.words.specs.Words.{MOST_NODES, MOST_ITEMS, MOST_CORES, IsInRange, command_asked};
 
+use crate::checked::check_source;
 use crate::engine::{Engine, core_count, mount, serve};
-use crate::image::{make_image, show_image, status_of_recovery, write_text};
+use crate::image::{make_image, show_image, status_of_recovery};
+use crate::refused::{status_of_script, status_of_source, status_of_words};
+use crate::verified::verify_image;
 use crate::without_core::first_worker_without_core;
-use crate::words::{Command, command_asked};
+use crate::writing::{Writing, write_end};
 use crate::{Outcome, Status};
 use fmt_super::Layout;
-use script::{LONGEST_SCRIPT, Script, ScriptFault};
-use sfs_base::{Gate, Measure, ReadAllFault, Sink, Source, read_all};
+use made_script::made;
+use script::{LONGEST_SCRIPT, Script};
+use sfs_base::{Gate, Sink, Source, read_all};
 use sfs_dev::Disk;
 use std::alloc::Global;
 use std::sync::Wait;
 use std::thread::Threads;
 use tree_laws::{History, Turns};
+use words::{Command, command_asked};
+
+/// How many nodes `load` may make.
+const LOAD_NODES: u32 = 65_536;
 
 /// Does what the words say. `mkfs BLOCKS INODES CORES` or `mkfs BLOCKS INODES CORES SLOTS`, the number of each
 /// core's journal slots, makes an empty image on the disk and writes its numbers. `show` recovers the image of the disk and writes the text of its tree. `run` or `run NODES`, the
 /// number of new nodes, mounts the image of the disk and runs a script on it: the source gives it, the sink
 /// takes the text of the history, and the disk keeps what was flushed. The disk is not touched before the
-/// whole script is in the grammar. No thread is started yet, and the gate is not asked.
+/// whole script is in the grammar. `load SEED COUNT WORKERS` runs a script that is made of the three numbers, with
+/// 65,536 new nodes, and writes a line of what it comes to. `check` or `check NODES` recovers the image and checks whether
+/// the text from the source is that of a legal history over it. `verify` certifies the image, which is only read, and
+/// writes the certificate. No thread is started yet, and the gate is not asked.
 pub fn run<R: Threads + Wait + Sync, S: Source, K: Sink, D: Disk, G: Gate>(
     _rt: &R,
     alloc: Global,
@@ -71,10 +81,10 @@ fn serve_words<S: Source, K: Sink, D: Disk>(
     ensures untouched { reaches_disk result.0 ≡ false → disk.new ≡ disk.old }
     ensures advances { Advances (D.view disk.old) (D.view disk.new) }
 {
-    match command_asked(words) {
+    match command_asked(alloc, words) {
         Ok(command) => serve_command(alloc, command, source, sink, disk),
-        Err(place) => {
-            let status = Status::BadWords { place };
+        Err(fault) => {
+            let status = status_of_words(fault);
             (status, History::new(alloc), Turns::new(alloc))
         },
     }
@@ -117,6 +127,19 @@ fn serve_command<S: Source, K: Sink, D: Disk>(
             (status, History::new(alloc), Turns::new(alloc))
         }
         Command::Run { nodes } => serve_source(alloc, nodes, source, sink, disk),
+        Command::Load {
+            seed,
+            count,
+            workers,
+        } => serve_load(alloc, seed, count, workers, sink, disk),
+        Command::Check { nodes } => {
+            let status = check_source(alloc, nodes, source, sink, disk);
+            (status, History::new(alloc), Turns::new(alloc))
+        }
+        Command::Verify => {
+            let status = verify_image(alloc, sink, disk);
+            (status, History::new(alloc), Turns::new(alloc))
+        }
     }
 }
 
@@ -138,7 +161,36 @@ fn serve_source<S: Source, K: Sink, D: Disk>(
 {
     match read_script(alloc, source) {
         Err(status) => (status, History::new(alloc), Turns::new(alloc)),
-        Ok(script) => serve_script(alloc, nodes, &script, sink, disk),
+        Ok(script) => serve_script(alloc, nodes, &script, Writing::History, sink, disk),
+    }
+}
+
+// Runs a made script and writes its line.
+fn serve_load<K: Sink, D: Disk>(
+    alloc: Global,
+    seed: u32,
+    count: u32,
+    workers: u32,
+    sink: &mut K,
+    disk: &mut D,
+) -> (Status, History, Turns)
+    requires items { count ≤ MOST_ITEMS }
+    requires workers { workers ≤ MOST_CORES }
+    ensures served { ServedLoad seed count workers
+        (run_ends ⊥ (HasRisen (K.faults sink.old) (K.faults sink.new))
+        (K.written sink.old) (K.written sink.new) (D.view disk.old) (D.view disk.new))
+        (run_told result.0 result.1 result.2.items) }
+    ensures untouched { reaches_disk result.0 ≡ false → disk.new ≡ disk.old }
+    ensures advances { Advances (D.view disk.old) (D.view disk.new) }
+{
+    let writing = Writing::Load {
+        seed,
+        count,
+        workers,
+    };
+    match made(alloc, seed, count, workers) {
+        Err(_) => (Status::NoMemory, History::new(alloc), Turns::new(alloc)),
+        Ok(script) => serve_script(alloc, LOAD_NODES, &script, writing, sink, disk),
     }
 }
 
@@ -158,40 +210,19 @@ fn read_script<S: Source>(alloc: Global, source: &mut S) -> Result<Script, Statu
     }
 }
 
-fn status_of_source(fault: ReadAllFault) -> Status
-    ensures { result ≡ status_of_source fault }
-{
-    match fault {
-        ReadAllFault::ReadFault => Status::ReadFault,
-        ReadAllFault::TooLong => Status::TooLong {
-            measure: Measure::Bytes,
-        },
-        ReadAllFault::NoMemory => Status::NoMemory,
-    }
-}
-
-fn status_of_script(fault: ScriptFault) -> Status
-    ensures { result ≡ status_of_script fault }
-{
-    match fault {
-        ScriptFault::TooLong { measure } => Status::TooLong { measure },
-        ScriptFault::BadLine { line } => Status::BadScript { line },
-        ScriptFault::NoMemory => Status::NoMemory,
-    }
-}
-
-// Mounts the disk, runs the phases and writes the text of their history, where there is a core for
+// Mounts the disk, runs the phases and writes what is due of their history, where there is a core for
 // each worker.
 fn serve_script<K: Sink, D: Disk>(
     alloc: Global,
     nodes: u32,
     script: &Script,
+    writing: Writing,
     sink: &mut K,
     disk: &mut D,
 ) -> (Status, History, Turns)
     requires most { nodes ≤ MOST_NODES }
     requires ready { All LinesMayRun script.now }
-    ensures served { Served (λ judged. judged_status judged script.now) nodes script.now
+    ensures served { Served (λ judged. judged_status judged script.now) nodes script.now writing
         (run_ends ⊥ (HasRisen (K.faults sink.old) (K.faults sink.new))
         (K.written sink.old) (K.written sink.new) (D.view disk.old) (D.view disk.new))
         (run_told result.0 result.1 result.2.items) }
@@ -215,25 +246,14 @@ fn serve_script<K: Sink, D: Disk>(
     }
     let served = serve(&mut engine, disk, script.phases());
     let Engine {
-        volume: _,
+        volume,
         entries,
         turns,
     } = engine;
     let history = History::from_entries(entries);
     let status = match served {
         Err(_) => Status::NoMemory,
-        Ok(()) => write_history(alloc, &history, sink),
+        Ok(()) => write_end(alloc, writing, &volume.tree, &history, sink),
     };
     (status, history, turns)
-}
-
-// Writes the text of a history.
-fn write_history<K: Sink>(alloc: Global, history: &History, sink: &mut K) -> Status
-    ensures status { IsWriteStatus (HasRisen (K.faults sink.old) (K.faults sink.new)) result }
-    ensures text { HasText (history_text history.now) (K.written sink.old) (K.written sink.new) result }
-{
-    let Ok(text) = script::text(alloc, history) else {
-        return Status::NoMemory;
-    };
-    write_text(sink, &text)
 }

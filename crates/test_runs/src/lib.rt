@@ -16,6 +16,10 @@ mod histories;
 #[cfg(test)]
 mod images;
 #[cfg(test)]
+mod made;
+#[cfg(test)]
+mod refusals;
+#[cfg(test)]
 mod rings;
 #[cfg(test)]
 mod rows;
@@ -27,5 +31,3 @@ mod statuses;
 mod sweeps;
 #[cfg(test)]
 mod turns;
-#[cfg(test)]
-mod words;

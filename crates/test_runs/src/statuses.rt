@@ -52,7 +52,7 @@ fn each_status_has_its_number_and_line(rt: HostRuntime) {
 }
 
 #[test]
-fn images_and_disks_have_their_lines(rt: HostRuntime) {
+fn images_disks_and_histories_have_their_lines(rt: HostRuntime) {
     let alloc = rt.alloc();
     let fault = ImageFault::Super { at: 4095 };
     let line = "bad image: superblock byte 4095";
@@ -69,4 +69,7 @@ fn images_and_disks_have_their_lines(rt: HostRuntime) {
     assert_shown(&rt, alloc, Status::BadImage { fault }, 7, line);
     let small = Status::TooSmall { need: 12, have: 8 };
     assert_shown(&rt, alloc, small, 11, "too small: need 12 blocks, have 8");
+    let wrong = Status::WrongHistory { line: 5 };
+    assert_shown(&rt, alloc, wrong, 13, "wrong history at line 5");
+    assert_shown(&rt, alloc, Status::NotAccepted, 15, "the image changed");
 }

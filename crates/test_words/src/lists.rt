@@ -5,7 +5,7 @@ use std::process::Abort;
 use words::{Command, WordsFault, command_asked};
 
 // Words and what they ask for.
-static ASKED: [(&[&str], Answer); 12] = [
+static ASKED: [(&[&str], Answer); 16] = [
     (&["show"], Answer::Show),
     (&["run"], Answer::Run(4096)),
     (&["run", "1"], Answer::Run(1)),
@@ -27,69 +27,100 @@ static ASKED: [(&[&str], Answer); 12] = [
         &["load", "4294967295", "4000", "16"],
         Answer::Load(4_294_967_295, 4000, 16),
     ),
+    (&["check"], Answer::Check(4096)),
+    (&["check", "1"], Answer::Check(1)),
+    (&["check", "65536"], Answer::Check(65_536)),
+    (&["verify"], Answer::Verify),
 ];
 
-// Words and the place at which they are bad.
-static FAULTY: [(&[&str], u32); 107] = [
-    (&[], 0),
-    (&[""], 0),
-    (&[" "], 0),
-    (&["help"], 0),
-    (&["version"], 0),
-    (&["Run"], 0),
-    (&["runs"], 0),
-    (&["ru"], 0),
-    (&["run "], 0),
-    (&[" run"], 0),
-    (&["run 1"], 0),
-    (&["run\n"], 0),
-    (&["list"], 0),
-    (&["help", "run"], 0),
-    (&["help", "mkfs"], 0),
-    (&["mount"], 0),
-    (&["MKFS", "1024", "64", "2"], 0),
-    (&["1024", "64", "2"], 0),
-    (&["0"], 0),
-    (&["run", "1", "2"], 0),
-    (&["run", "1", "2", "3"], 0),
-    (&["run", "", ""], 0),
-    (&["show", "1"], 0),
-    (&["show", ""], 0),
-    (&["show", "show"], 0),
-    (&["show", "a", "b", "c", "d", "e"], 0),
-    (&["mkfs"], 0),
-    (&["mkfs", "8"], 0),
-    (&["mkfs", "8", "16"], 0),
-    (&["mkfs", "8", "16", "1", "1", "1"], 0),
-    (&["mkfs", "8", "16", "1", "1", "1", "1"], 0),
-    (&["load"], 0),
-    (&["load", "1"], 0),
-    (&["load", "1", "4"], 0),
-    (&["load", "1", "4", "1", "1"], 0),
-    (&["load", "1", "4", "1", "1", "1"], 0),
-    (&["load", "load"], 0),
-    (&["--help"], 0),
-    (&["-h"], 0),
-    (&["-"], 0),
-    (&["--"], 0),
-    (&["-V"], 0),
-    (&["--version"], 0),
-    (&["run", "-1"], 0),
-    (&["run", "--help"], 0),
-    (&["run", "-h"], 0),
-    (&["show", "--help"], 0),
-    (&["show", "-"], 0),
-    (&["--", "run"], 0),
-    (&["run", "--", "1"], 0),
-    (&["mkfs", "-8", "16", "1"], 0),
-    (&["mkfs", "8", "-16", "1"], 0),
-    (&["mkfs", "8", "16", "-1"], 0),
-    (&["mkfs", "8", "16", "1", "-1"], 0),
-    (&["load", "-1", "4", "1"], 0),
-    (&["load", "1", "-4", "1"], 0),
-    (&["load", "1", "4", "-1"], 0),
-    (&["mkfs", "x", "-"], 0),
-    (&["run", "99999999", "-x"], 0),
+// Words that are no command, or of which one begins with `-`.
+static NO_COMMAND: [&[&str]; 75] = [
+    &[],
+    &[""],
+    &[" "],
+    &["help"],
+    &["version"],
+    &["Run"],
+    &["runs"],
+    &["ru"],
+    &["run "],
+    &[" run"],
+    &["run 1"],
+    &["run\n"],
+    &["list"],
+    &["help", "run"],
+    &["help", "mkfs"],
+    &["mount"],
+    &["MKFS", "1024", "64", "2"],
+    &["1024", "64", "2"],
+    &["0"],
+    &["run", "1", "2"],
+    &["run", "1", "2", "3"],
+    &["run", "", ""],
+    &["show", "1"],
+    &["show", ""],
+    &["show", "show"],
+    &["show", "a", "b", "c", "d", "e"],
+    &["mkfs"],
+    &["mkfs", "8"],
+    &["mkfs", "8", "16"],
+    &["mkfs", "8", "16", "1", "1", "1"],
+    &["mkfs", "8", "16", "1", "1", "1", "1"],
+    &["load"],
+    &["load", "1"],
+    &["load", "1", "4"],
+    &["load", "1", "4", "1", "1"],
+    &["load", "1", "4", "1", "1", "1"],
+    &["load", "load"],
+    &["--help"],
+    &["-h"],
+    &["-"],
+    &["--"],
+    &["-V"],
+    &["--version"],
+    &["run", "-1"],
+    &["run", "--help"],
+    &["run", "-h"],
+    &["show", "--help"],
+    &["show", "-"],
+    &["--", "run"],
+    &["run", "--", "1"],
+    &["mkfs", "-8", "16", "1"],
+    &["mkfs", "8", "-16", "1"],
+    &["mkfs", "8", "16", "-1"],
+    &["mkfs", "8", "16", "1", "-1"],
+    &["load", "-1", "4", "1"],
+    &["load", "1", "-4", "1"],
+    &["load", "1", "4", "-1"],
+    &["mkfs", "x", "-"],
+    &["run", "99999999", "-x"],
+    &["Check"],
+    &["chec"],
+    &["checks"],
+    &["check", "1", "2"],
+    &["check", "", ""],
+    &["check", "-1"],
+    &["check", "--help"],
+    &["help", "check"],
+    &["Verify"],
+    &["verif"],
+    &["verify", ""],
+    &["verify", "1"],
+    &["verify", "verify"],
+    &["verify", "-"],
+    &["verify", "--help"],
+    &["help", "verify"],
+];
+
+// Words with numbers, and the place of the first that is none of its range.
+static BAD_NUMBERS: [(&[&str], u32); 55] = [
+    (&["check", "0"], 1),
+    (&["check", "65537"], 1),
+    (&["check", "01"], 1),
+    (&["check", ""], 1),
+    (&["check", "a"], 1),
+    (&["check", "1 "], 1),
+    (&["check", "18446744073709551617"], 1),
     (&["run", "0"], 1),
     (&["run", "65537"], 1),
     (&["run", "01"], 1),
@@ -147,6 +178,8 @@ enum Answer {
     Run(u32),
     Mkfs(u32, u32, u32, u32),
     Load(u32, u32, u32),
+    Check(u32),
+    Verify,
     Bad(u32),
     NoMemory,
 }
@@ -171,6 +204,8 @@ fn answer_to(rt: &impl Abort, alloc: Global, words: &[&str]) -> Answer {
                 count,
                 workers,
             } => Answer::Load(seed, count, workers),
+            Command::Check { nodes } => Answer::Check(nodes),
+            Command::Verify => Answer::Verify,
         },
         Err(fault) => match fault {
             WordsFault::BadWords { place } => Answer::Bad(place),
@@ -182,6 +217,12 @@ fn answer_to(rt: &impl Abort, alloc: Global, words: &[&str]) -> Answer {
 fn assert_asked(rt: &impl Abort, alloc: Global, rows: &[(&[&str], Answer)]) {
     for (row, (words, wanted)) in rows.iter().enumerate() {
         same_at(rt, &answer_to(rt, alloc, words), wanted, row);
+    }
+}
+
+fn assert_none(rt: &impl Abort, alloc: Global, rows: &[&[&str]]) {
+    for (row, words) in rows.iter().enumerate() {
+        same_at(rt, &answer_to(rt, alloc, words), &Answer::Bad(0), row);
     }
 }
 
@@ -197,6 +238,11 @@ fn words_ask_for_commands(rt: HostRuntime) {
 }
 
 #[test]
-fn bad_words_are_named_by_their_place(rt: HostRuntime) {
-    assert_faulty(&rt, rt.alloc(), &FAULTY);
+fn words_that_are_no_command_are_bad_at_0(rt: HostRuntime) {
+    assert_none(&rt, rt.alloc(), &NO_COMMAND);
+}
+
+#[test]
+fn bad_numbers_are_named_by_their_place(rt: HostRuntime) {
+    assert_faulty(&rt, rt.alloc(), &BAD_NUMBERS);
 }

@@ -1,5 +1,5 @@
 -- Words that don't begin with `-` are read by clap as a first word and the values behind it, or they are no command.
-use Rattle.std.proofs.Common.{◌≡◌, ◌⊎◌, inl, inr, ℕ, ◌<◌, true, false, List, [], ◌∷◌, length, Some}
+use Rattle.std.proofs.Common.{◌≡◌, ◌⊎◌, inl, inr, ℕ, ◌<◌, Bool, true, false, List, [], ◌∷◌, length, Some}
 use Rattle.std.proofs.Common.{None, Err, cond, refl, sym, ap, subst, ◌∙◌, ◌||◌, arith, codes, find, fold}
 use Rattle.std.specs.Prelude.{option_map, unwrap_or}
 use Rattle.std.specs.List.{list_any}
@@ -7,13 +7,13 @@ use Rattle.std.specs.Str.{bytes_eq}
 use Rattle.std.proofs.lemmas.Slice.Eq.{bytes_eq-Decides}
 use Rattle.std.proofs.lemmas.Bool.Decides.{nat_tests, same_from_decides}
 use Rattle.sfs_base.proofs.BasicTruth.{or_first, or_second, true_or_false}
-use Rattle.clap.specs.Walk.{Text, Row, all_of, answers_to, nothing_held, rows_after, takes_several, walked}
+use Rattle.clap.specs.Walk.{Text, Row, Names, all_of, answers_to, nothing_held, rows_after, takes_several, walked}
 use Rattle.clap.specs.Kinds.{Kinds, or_else, range_kinds}
 use Rattle.clap.specs.Faults.{defaults_fault, fault_of, level_fault, turn_fault, walk_fault}
 use Rattle.clap.specs.Simple.{subcommand_of}
 use Rattle.clap.specs.declared.error.kind.ErrorKind.{ErrorKind}
 use Rattle.words.specs.Grammar.{NUMBERS, grammar}
-use Rattle.words.specs.Words.{begins_with_dash, command_in, load_asked, mkfs_asked, run_asked, show_asked}
+use Rattle.words.specs.Words.{begins_with_dash, check_asked, command_in, load_asked, mkfs_asked, run_asked, show_asked, verify_asked}
 use Rattle.words.proofs.Entered.{entered_is, fault_is, names, rest_of, start, stray_is, stray_value_is, top}
 use Rattle.words.proofs.Walked.{argument, end_fault, level_is, subcommand, values_are}
 
@@ -91,6 +91,12 @@ show = codes "show"
 abbrev load : Text
 load = codes "load"
 
+abbrev check : Text
+check = codes "check"
+
+abbrev verify : Text
+verify = codes "verify"
+
 mkfs_fault : (values : List Text)
     → fault_of grammar (mkfs ∷ values) ≡ level_fault (subcommand mkfs (argument 3 4 ∷ [])) [] nothing_held values false []
 unfolding walked
@@ -126,6 +132,24 @@ show_entered : (values : List Text) → subcommand_of grammar (show ∷ values) 
 unfolding walked
 show_entered = entered_is show (subcommand show []) refl refl refl
 
+check_fault : (values : List Text)
+    → fault_of grammar (check ∷ values) ≡ level_fault (subcommand check (argument 0 1 ∷ [])) [] nothing_held values false []
+unfolding walked
+check_fault = fault_is check (subcommand check (argument 0 1 ∷ [])) refl refl refl
+
+check_entered : (values : List Text) → subcommand_of grammar (check ∷ values) ≡ Some (check, rows_after (argument 0 1 ∷ []) [] values)
+unfolding walked
+check_entered = entered_is check (subcommand check (argument 0 1 ∷ [])) refl refl refl
+
+verify_fault : (values : List Text)
+    → fault_of grammar (verify ∷ values) ≡ level_fault (subcommand verify []) [] nothing_held values false []
+unfolding walked
+verify_fault = fault_is verify (subcommand verify []) refl refl refl
+
+verify_entered : (values : List Text) → subcommand_of grammar (verify ∷ values) ≡ Some (verify, rows_after [] [] values)
+unfolding walked
+verify_entered = entered_is verify (subcommand verify []) refl refl refl
+
 -- `mkfs` takes three values or four
 mkfs_decided : (values : List Text) → list_any begins_with_dash values ≡ false → Decided (mkfs ∷ values)
 unfolding walk_fault defaults_fault
@@ -148,17 +172,21 @@ mkfs_decided (a ∷ b ∷ c ∷ d ∷ e ∷ values) not = inr (record {
   none = refl;
 })
 
--- `run` takes one value or none
-run_decided : (values : List Text) → list_any begins_with_dash values ≡ false → Decided (run ∷ values)
-unfolding walk_fault defaults_fault
-run_decided [] not =
-    inl (record { word = run; rows = []; faultless = run_fault []; entered = run_entered []; is = refl })
-run_decided (a ∷ []) not = inl (taken_values (a ∷ []) not run 0 1 refl (run_fault (a ∷ [])) (run_entered (a ∷ [])) refl a [] refl)
-run_decided (a ∷ b ∷ values) not = inr (record {
-  fault = refused_values (a ∷ b ∷ values) not run 0 1 refl (run_fault (a ∷ b ∷ values))
-      (too_many 0 1 (length (a ∷ b ∷ values)) (omega arith)) a (b ∷ values) refl;
-  none = refl;
-})
+-- a name that takes one value or none
+module _ (name : Text)
+    (fault : (values : List Text)
+    → fault_of grammar (name ∷ values) ≡ level_fault (subcommand name (argument 0 1 ∷ [])) [] nothing_held values false [])
+    (enters : (values : List Text) → subcommand_of grammar (name ∷ values) ≡ Some (name, rows_after (argument 0 1 ∷ []) [] values))
+    (many : (a b : Text) (values : List Text) → command_in (name ∷ a ∷ b ∷ values) ≡ Err 0) where
+  one_decided : (values : List Text) → list_any begins_with_dash values ≡ false → Decided (name ∷ values)
+  unfolding walk_fault defaults_fault
+  one_decided [] not = inl (record { word = name; rows = []; faultless = fault []; entered = enters []; is = refl })
+  one_decided (a ∷ []) not = inl (taken_values (a ∷ []) not name 0 1 refl (fault (a ∷ [])) (enters (a ∷ [])) refl a [] refl)
+  one_decided (a ∷ b ∷ values) not = inr (record {
+    fault = refused_values (a ∷ b ∷ values) not name 0 1 refl (fault (a ∷ b ∷ values))
+        (too_many 0 1 (length (a ∷ b ∷ values)) (omega arith)) a (b ∷ values) refl;
+    none = many a b values;
+  })
 
 -- `load` takes three
 load_decided : (values : List Text) → list_any begins_with_dash values ≡ false → Decided (load ∷ values)
@@ -180,50 +208,70 @@ load_decided (a ∷ b ∷ c ∷ d ∷ values) not = inr (record {
   none = refl;
 })
 
--- `show` takes none
-show_decided : (values : List Text) → list_any begins_with_dash values ≡ false → Decided (show ∷ values)
-unfolding walk_fault defaults_fault
-show_decided [] not = inl (record { word = show; rows = []; faultless = show_fault []; entered = show_entered []; is = refl })
-show_decided (a ∷ values) not = inr (record {
-  fault = λ e. first_stays (turn_fault (subcommand show []) [] start a) (walk_fault (subcommand show []) [] (walked [] [] start a) values)
-      (end_fault (subcommand show []) (fold (walked [] []) start (a ∷ values))) (stray_value_is show a (or_first _ _ not)) (sym (show_fault (a ∷ values)) ∙ e);
-  none = refl;
-})
+-- a name that takes none
+module _ (name : Text)
+    (fault : (values : List Text) → fault_of grammar (name ∷ values) ≡ level_fault (subcommand name []) [] nothing_held values false [])
+    (enters : (values : List Text) → subcommand_of grammar (name ∷ values) ≡ Some (name, rows_after [] [] values))
+    (some : (a : Text) (values : List Text) → command_in (name ∷ a ∷ values) ≡ Err 0) where
+  bare_decided : (values : List Text) → list_any begins_with_dash values ≡ false → Decided (name ∷ values)
+  unfolding walk_fault defaults_fault
+  bare_decided [] not = inl (record { word = name; rows = []; faultless = fault []; entered = enters []; is = refl })
+  bare_decided (a ∷ values) not = inr (record {
+    fault = λ e. first_stays (turn_fault (subcommand name []) [] start a) (walk_fault (subcommand name []) [] (walked [] [] start a) values)
+        (end_fault (subcommand name []) (fold (walked [] []) start (a ∷ values))) (stray_value_is name a (or_first _ _ not))
+        (sym (fault (a ∷ values)) ∙ e);
+    none = some a values;
+  })
 
 bytes_eq-sym : (a b : Text) → bytes_eq a b ≡ bytes_eq b a
 bytes_eq-sym a b =
     let there = bytes_eq-Decides b a in
     same_from_decides (bytes_eq a b) (bytes_eq b a) (bytes_eq-Decides a b) (λ e. sym (there.0 e), λ e. there.1 (sym e))
 
+-- a word is no name
+record NoName (word : Text) : Type 0 where
+  mkfs_not : bytes_eq word mkfs ≡ false
+  show_not : bytes_eq word show ≡ false
+  run_not : bytes_eq word run ≡ false
+  load_not : bytes_eq word load ≡ false
+  check_not : bytes_eq word check ≡ false
+  verify_not : bytes_eq word verify ≡ false
+
+skip : {A : Type 0} (b : Bool) (x y : A) → b ≡ false → cond b x y ≡ y
+skip b x y not = ap (λ c. cond c x y) not
+
+-- it names none of the subcommands
+passes : (word name : Text) (later : Names) → bytes_eq word name ≡ false
+    → find (answers_to word) ((name, []) ∷ later) ≡ find (answers_to word) later
+passes word name later not =
+    ap (λ b. cond (b || false) (Some (name, [])) (find (answers_to word) later)) (bytes_eq-sym name word ∙ not)
+
+none_answers : (word : Text) → NoName word → find (answers_to word) names ≡ None
+none_answers word not =
+    passes word mkfs ((run, []) ∷ (load, []) ∷ (check, []) ∷ (show, []) ∷ (verify, []) ∷ []) not.mkfs_not
+    ∙ passes word run ((load, []) ∷ (check, []) ∷ (show, []) ∷ (verify, []) ∷ []) not.run_not
+    ∙ passes word load ((check, []) ∷ (show, []) ∷ (verify, []) ∷ []) not.load_not
+    ∙ passes word check ((show, []) ∷ (verify, []) ∷ []) not.check_not
+    ∙ passes word show ((verify, []) ∷ []) not.show_not
+    ∙ passes word verify [] not.verify_not
+
 -- no other first word is a name
-other_decided : (word : Text) (values : List Text) → begins_with_dash word ≡ false → bytes_eq word mkfs ≡ false → bytes_eq word run ≡ false
-    → bytes_eq word show ≡ false → bytes_eq word load ≡ false → IsNone (word ∷ values)
+other_decided : (word : Text) (values : List Text) → begins_with_dash word ≡ false → NoName word → IsNone (word ∷ values)
 unfolding walk_fault
-other_decided word values not no_mkfs no_run no_show no_load = record {
+other_decided word values plain not = record {
   fault = λ e. first_stays (turn_fault top names start word) (walk_fault top names (walked [] names start word) values)
-      (rest_of (fold (walked [] names) start (word ∷ values))) (stray_is word not none) e;
+      (rest_of (fold (walked [] names) start (word ∷ values)))
+      (stray_is word plain (ap (λ o. option_map (λ (s : Text × List Text). s.0) o) (none_answers word not))) e;
   none =
-      ap (λ b. cond b (mkfs_asked values) (cond (bytes_eq word show) (show_asked values) (cond (bytes_eq word run) (run_asked values)
-      (cond (bytes_eq word load) (load_asked values) (Err 0))))) no_mkfs
-      ∙ ap (λ b. cond b (show_asked values) (cond (bytes_eq word run) (run_asked values) (cond (bytes_eq word load) (load_asked values) (Err 0)))) no_show
-      ∙ ap (λ b. cond b (run_asked values) (cond (bytes_eq word load) (load_asked values) (Err 0))) no_run
-      ∙ ap (λ b. cond b (load_asked values) (Err 0)) no_load;
+      skip (bytes_eq word mkfs) (mkfs_asked values) _ not.mkfs_not ∙ skip (bytes_eq word show) (show_asked values) _ not.show_not
+      ∙ skip (bytes_eq word run) (run_asked values) _ not.run_not ∙ skip (bytes_eq word load) (load_asked values) _ not.load_not
+      ∙ skip (bytes_eq word check) (check_asked values) _ not.check_not ∙ skip (bytes_eq word verify) (verify_asked values) _ not.verify_not;
 }
-  where
-    none : option_map (λ (s : Text × List Text). s.0) (find (answers_to word) names) ≡ None
-    none =
-        ap (λ b. option_map (λ (s : Text × List Text). s.0) (cond (b || false) (Some (mkfs, []))
-        (find (answers_to word) ((run, []) ∷ (load, []) ∷ (show, []) ∷ [])))) (bytes_eq-sym mkfs word ∙ no_mkfs)
-        ∙ ap (λ b. option_map (λ (s : Text × List Text). s.0) (cond (b || false) (Some (run, []))
-        (find (answers_to word) ((load, []) ∷ (show, []) ∷ [])))) (bytes_eq-sym run word ∙ no_run)
-        ∙ ap (λ b. option_map (λ (s : Text × List Text). s.0) (cond (b || false) (Some (load, [])) (find (answers_to word) ((show, []) ∷ []))))
-        (bytes_eq-sym load word ∙ no_load)
-        ∙ ap (λ b. option_map (λ (s : Text × List Text). s.0) (cond (b || false) (Some (show, [])) None)) (bytes_eq-sym show word ∙ no_show)
 
 pub decided : (words : List Text) → list_any begins_with_dash words ≡ false → Decided words
 unfolding walk_fault defaults_fault
 decided [] not = inr (record { fault = some_kind; none = refl })
-decided (word ∷ values) not = by_mkfs (true_or_false (bytes_eq word mkfs))
+decided (word ∷ values) not = all
   where
     behind : list_any begins_with_dash values ≡ false
     behind = or_second (begins_with_dash word) _ not
@@ -231,19 +279,15 @@ decided (word ∷ values) not = by_mkfs (true_or_false (bytes_eq word mkfs))
     same : (name : Text) → bytes_eq word name ≡ true → Decided (name ∷ values) → Decided (word ∷ values)
     same name is = subst (λ w. Decided (w ∷ values)) (sym ((bytes_eq-Decides word name).0 is))
 
-    by_load : bytes_eq word mkfs ≡ false → bytes_eq word run ≡ false → bytes_eq word show ≡ false
-        → (bytes_eq word load ≡ true) ⊎ (bytes_eq word load ≡ false) → Decided (word ∷ values)
-    by_load no_mkfs no_run no_show (inl is) = same load is (load_decided values behind)
-    by_load no_mkfs no_run no_show (inr no_load) = inr (other_decided word values (or_first _ _ not) no_mkfs no_run no_show no_load)
+    -- the name is this one, or there are the others
+    by : (name : Text) → Decided (name ∷ values) → (bytes_eq word name ≡ false → Decided (word ∷ values)) → Decided (word ∷ values)
+    by name is other = elim (true_or_false (bytes_eq word name)) [ inl yes_it ↦ same name yes_it is | inr not_it ↦ other not_it ]
 
-    by_show : bytes_eq word mkfs ≡ false → bytes_eq word run ≡ false → (bytes_eq word show ≡ true) ⊎ (bytes_eq word show ≡ false) → Decided (word ∷ values)
-    by_show no_mkfs no_run (inl is) = same show is (show_decided values behind)
-    by_show no_mkfs no_run (inr no_show) = by_load no_mkfs no_run no_show (true_or_false (bytes_eq word load))
-
-    by_run : bytes_eq word mkfs ≡ false → (bytes_eq word run ≡ true) ⊎ (bytes_eq word run ≡ false) → Decided (word ∷ values)
-    by_run no_mkfs (inl is) = same run is (run_decided values behind)
-    by_run no_mkfs (inr no_run) = by_show no_mkfs no_run (true_or_false (bytes_eq word show))
-
-    by_mkfs : (bytes_eq word mkfs ≡ true) ⊎ (bytes_eq word mkfs ≡ false) → Decided (word ∷ values)
-    by_mkfs (inl is) = same mkfs is (mkfs_decided values behind)
-    by_mkfs (inr no_mkfs) = by_run no_mkfs (true_or_false (bytes_eq word run))
+    all : Decided (word ∷ values)
+    all =
+        by mkfs (mkfs_decided values behind) (λ m. by run (one_decided run run_fault run_entered (λ a b v. refl) values behind)
+        (λ r. by show (bare_decided show show_fault show_entered (λ a v. refl) values behind) (λ s. by load (load_decided values behind)
+        (λ l. by check (one_decided check check_fault check_entered (λ a b v. refl) values behind)
+        (λ c. by verify (bare_decided verify verify_fault verify_entered (λ a v. refl) values behind)
+        (λ v. inr (other_decided word values (or_first _ _ not)
+        (record { mkfs_not = m; show_not = s; run_not = r; load_not = l; check_not = c; verify_not = v }))))))))

@@ -24,7 +24,7 @@ is_plain = refl
 abbrev pub shapes : List Shape
 shapes =
     subcommand (codes "mkfs") (argument 3 4 ∷ []) ∷ subcommand (codes "run") (argument 0 1 ∷ []) ∷ subcommand (codes "load") (argument 3 3 ∷ [])
-    ∷ subcommand (codes "show") [] ∷ []
+    ∷ subcommand (codes "check") (argument 0 1 ∷ []) ∷ subcommand (codes "show") [] ∷ subcommand (codes "verify") [] ∷ []
 
 shapes_are : (built grammar).subs ≡ shapes
 shapes_are = refl

@@ -1,5 +1,5 @@
 -- What clap is told of the words.
-use Rattle.std.specs.Prelude.{ℕ, true, Some, codes, nat_lt}
+use Rattle.std.specs.Prelude.{ℕ, true, [], ◌∷◌, Some, codes, fold, nat_lt}
 use Rattle.clap.specs.Walk.{Text, Rule}
 use Rattle.clap.specs.Simple.{App, new_app, new_rule, new_shape, on_top, with_rule, with_subcommand}
 
@@ -28,7 +28,6 @@ bare = on_top (λ s. record s {
 -- the command with its subcommands
 abbrev pub grammar : App
 grammar =
-    with_subcommand
-    (with_subcommand (with_subcommand (with_subcommand bare (numbered (codes "mkfs") 3 4).top) (numbered (codes "run") 0 1).top)
-    (numbered (codes "load") 3 3).top)
-    (new_shape (codes "show"))
+    fold with_subcommand bare
+    ((numbered (codes "mkfs") 3 4).top ∷ (numbered (codes "run") 0 1).top ∷ (numbered (codes "load") 3 3).top ∷ (numbered (codes "check") 0 1).top
+    ∷ new_shape (codes "show") ∷ new_shape (codes "verify") ∷ [])

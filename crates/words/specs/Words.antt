@@ -5,14 +5,14 @@ use Rattle.script.specs.Words.{number_up_to}
 use Rattle.sfs_image.specs.declared.limits.TheConstants.{MOST_SLOTS}
 use Rattle.sfs_image.specs.Super.{Layout}
 use Rattle.words.specs.declared.command.Command.{Command}
-use Rattle.words.specs.declared.command.Command.TheVariants.{Mkfs, Show, Run, Load}
+use Rattle.words.specs.declared.command.Command.TheVariants.{Mkfs, Show, Run, Load, Check, Verify}
 
 -- whether a word begins with `-`
 abbrev pub begins_with_dash : List ℕ → Bool
 begins_with_dash [] = false
 begins_with_dash (byte ∷ bytes) = byte == 45
 
--- how many new nodes a run may make where its words don't say
+-- how many new nodes a run may make, or a history that is checked, where the words don't say
 abbrev pub NODES : ℕ
 NODES = 4096
 
@@ -114,6 +114,22 @@ abbrev pub load_asked : List (List ℕ) → Result Command ℕ
 load_asked (seed ∷ count ∷ workers ∷ []) = script_asked seed count workers
 load_asked _ = Err 0
 
+-- `check`, with this number of new nodes
+abbrev pub check_of : Result ℕ ℕ → Result Command ℕ
+check_of (Ok nodes) = Ok (Check nodes)
+check_of (Err place) = Err place
+
+-- `check` or `check NODES`, by the words behind its first
+abbrev pub check_asked : List (List ℕ) → Result Command ℕ
+check_asked [] = Ok (Check NODES)
+check_asked (nodes ∷ []) = check_of (number_asked 1 1 MOST_NODES nodes)
+check_asked _ = Err 0
+
+-- `verify`
+abbrev pub verify_asked : List (List ℕ) → Result Command ℕ
+verify_asked [] = Ok Verify
+verify_asked _ = Err 0
+
 -- the command of a first word, by the words behind it; no other first word has one
 abbrev pub command_of : List ℕ → List (List ℕ) → Result Command ℕ
 command_of word values =
@@ -121,6 +137,8 @@ command_of word values =
     if bytes_eq word (codes "show") then show_asked values else
     if bytes_eq word (codes "run") then run_asked values else
     if bytes_eq word (codes "load") then load_asked values else
+    if bytes_eq word (codes "check") then check_asked values else
+    if bytes_eq word (codes "verify") then verify_asked values else
     Err 0
 
 -- the command of words that don't begin with `-`
@@ -143,6 +161,8 @@ IsInRange (Mkfs blocks inodes cores slots) =
     IsFromTo LEAST_BLOCKS MOST_BLOCKS blocks × IsFromTo LEAST_INODES MOST_INODES inodes × IsFromTo 1 MOST_CORES cores × IsFromTo 1 MOST_SLOTS slots
 IsInRange Show = Unit {0}
 IsInRange (Run nodes) = nodes ≤ MOST_NODES
+IsInRange (Check nodes) = nodes ≤ MOST_NODES
+IsInRange Verify = Unit {0}
 IsInRange (Load seed count workers) = (count ≤ MOST_ITEMS) × IsFromTo 1 MOST_CORES workers
 
 -- the layout that the numbers of `mkfs` ask for

@@ -25,6 +25,12 @@ pub enum Command {
         count: u32,
         workers: u32,
     },
+    /// Whether a printed history is legal, in whose tree so many nodes may be made.
+    Check {
+        nodes: u32,
+    },
+    /// A verdict on an image.
+    Verify,
 }
 
 /// Why the words ask for nothing.

@@ -19,7 +19,9 @@ pub fn grammar<'a>(alloc: Global) -> Result<Command<'a>, AllocError>
     let mkfs = numbered(alloc, "mkfs", 3, 4)?;
     let run = numbered(alloc, "run", 0, 1)?;
     let load = numbered(alloc, "load", 3, 3)?;
+    let check = numbered(alloc, "check", 0, 1)?;
     let show = Command::new(alloc, "show");
+    let verify = Command::new(alloc, "verify");
     Command::new(alloc, "scalefs")
         .no_binary_name(true)
         .disable_help_flag(true)
@@ -28,7 +30,9 @@ pub fn grammar<'a>(alloc: Global) -> Result<Command<'a>, AllocError>
         .subcommand(mkfs)?
         .subcommand(run)?
         .subcommand(load)?
-        .subcommand(show)
+        .subcommand(check)?
+        .subcommand(show)?
+        .subcommand(verify)
 }
 
 // A subcommand with from so many to so many numbers.

@@ -1,13 +1,13 @@
 // The numbers of a command, which the program reads itself.
 ghost use Rattle.std.specs.Prelude.{◌≡◌, map, option_map, IfOk};
-ghost use Rattle.words.specs.Words.{command_of, number_asked, mkfs_asked, image_asked, load_asked, script_asked, slots_asked, show_asked, run_asked, IsInRange, IsFromTo};
+ghost use Rattle.words.specs.Words.{command_of, number_asked, mkfs_asked, image_asked, load_asked, script_asked, slots_asked, show_asked, run_asked, check_asked, verify_asked, IsInRange, IsFromTo};
 ghost use Rattle.sfs_image.specs.declared.limits.TheConstants.{MOST_SLOTS as SLOTS_HIGH};
 
 use crate::Command;
 use fmt_super::MOST_SLOTS;
 use script::number_up_to;
 
-/// How many new nodes a run may make where its words don't say.
+/// How many new nodes a run may make, or a history that is checked, where the words don't say.
 const NODES: u32 = 4096;
 
 /// How many they may be at most.
@@ -42,6 +42,8 @@ pub fn command_of(word: &str, values: &[&str]) -> Result<Command, u32>
         "show" => show_asked(values),
         "run" => run_asked(values),
         "load" => load_asked(values),
+        "check" => check_asked(values),
+        "verify" => verify_asked(values),
         _ => Err(0),
     }
 }
@@ -106,6 +108,31 @@ fn run_asked(values: &[&str]) -> Result<Command, u32>
             let nodes = number_asked(1, 1, MOST_NODES, nodes)?;
             Ok(Command::Run { nodes })
         }
+        _ => Err(0),
+    }
+}
+
+// A check of a history, with so many new nodes if that is said.
+fn check_asked(values: &[&str]) -> Result<Command, u32>
+    ensures command { result ≡ check_asked (map (λ value. value.now) values.now) }
+    ensures ranges { IfOk result IsInRange }
+{
+    match values {
+        [] => Ok(Command::Check { nodes: NODES }),
+        [nodes] => {
+            let nodes = number_asked(1, 1, MOST_NODES, nodes)?;
+            Ok(Command::Check { nodes })
+        }
+        _ => Err(0),
+    }
+}
+
+fn verify_asked(values: &[&str]) -> Result<Command, u32>
+    ensures command { result ≡ verify_asked (map (λ value. value.now) values.now) }
+    ensures ranges { IfOk result IsInRange }
+{
+    match values {
+        [] => Ok(Command::Verify),
         _ => Err(0),
     }
 }
