@@ -1,18 +1,12 @@
 -- Each image that a crash may leave is safe, and a read at the end gives exactly the durable fsyncs.
 use Rattle.std.specs.FinMap.{get}
-use Rattle.std.proofs.Common.{◌++◌, ◌≡◌, ◌∷◌, ◌∙◌, ◌≢◌, ◌<◌, ◌≤◌, List, ℕ, [], refl, map, filter, true, sym, inr, ap, inl, All, nat_le, arith, subst, IsSome, append-nil, append_assoc}
+use Rattle.std.proofs.Common.{◌++◌, ◌≡◌, ◌∷◌, ◌∙◌, ◌<◌, ◌≤◌, List, ℕ, [], refl, map, filter, true, sym, inr, ap, inl, All, nat_le, arith, subst, IsSome, append-nil, append_assoc}
 use Rattle.std.proofs.lemmas.Bool.Decides.{nat_tests}
-use Rattle.std.proofs.lemmas.List.{map-append}
 use Rattle.std.proofs.lemmas.List.Elements.{filter-append, filter_map-append}
 use Rattle.sfs_base.proofs.BasicOptions.{some_same}
-use Rattle.sfs_image.specs.ImageOf.{IsImageOf, with_opened}
-use Rattle.sfs_image.specs.Super.{Layout}
 use Rattle.sfs_dev.specs.Disk.{View, LeftSince}
 use Rattle.tree_laws.specs.declared.history.Entry.{Entry}
 use Rattle.tree_laws.specs.declared.turns.Turn.{Turn}
-use Rattle.tree_laws.specs.Laws.{IsSoundTree}
-use Rattle.tree_laws.specs.History.{IsLegal}
-use Rattle.tree_laws.specs.Tree.{TreeState}
 use Rattle.image_laws.specs.Image.{IsReadAsTree}
 use Rattle.disk_nodes.specs.declared.old.OldEntry.{OldEntry}
 use Rattle.cut_laws.specs.Closure.{Flush, AreFlushed, every_entry, HasLiveNode, HasNode}
@@ -20,39 +14,31 @@ use Rattle.cut_laws.specs.Rules.{IsOneOf}
 use Rattle.cut_laws.specs.Cut.{tree_at_cut}
 use Rattle.cut_laws.specs.Covers.{IsAcknowledged}
 use Rattle.cut_laws.proofs.Lists.{lists_keep, histories_are_covered}
-use Rattle.cut_laws.proofs.RunFacts.{in_filter}
 use Rattle.cut_laws.proofs.Basics.{in_left, in_right, in_either}
 use Rattle.cut_laws.proofs.Listed.{from_map, to_map, to_filter}
 use Rattle.cut_laws.proofs.Along.{tree_at-after}
 use Rattle.cut_laws.proofs.Prefixes.{live_node}
 use Rattle.crash_laws.specs.Survives.{HasFailure}
-use Rattle.crash_laws.specs.Listed.{StampsDiffer, IsListedFsync, MayBeWritten}
-use Rattle.flush_laws.specs.Volume.{Volume, tree_held}
+use Rattle.crash_laws.specs.Listed.{IsListedFsync, MayBeWritten}
+use Rattle.flush_laws.specs.Volume.{Volume}
 use Rattle.turn_laws.specs.Books.{flush_at}
 use Rattle.turn_laws.specs.LawsTurns.{durable_flush}
 use Rattle.merge_laws.specs.LeftByTurns.{TellInTime, IsReadByTurns, SurvivesByTurns, TimesRise, IsSafeByTurns, turns_until}
 use Rattle.merge_laws.specs.Plays.{durables}
 use Rattle.merge_laws.specs.Laws.{IsFrontUntil}
 use Rattle.merge_laws.proofs.ByTurns.{of_durables, to_durables, moments_cut_turns}
-use Rattle.bringing_laws.specs.Brings.{Bringing, BringApart, Brings}
-use Rattle.bringing_laws.specs.Imagined.{AllApart, Imagines, IsImagined, flush_brought}
-use Rattle.bringing_laws.proofs.Imagined.{all_end, imagined_are_those}
+use Rattle.bringing_laws.specs.Brings.{Bringing}
+use Rattle.bringing_laws.specs.Imagined.{flush_brought}
 use Rattle.walk_laws.specs.Walk.{brought_under}
-use Rattle.walk_laws.specs.Pairs.{IsOpenBeside, commit_under, bringing_under}
-use Rattle.walk_laws.proofs.Ended.{bring_apart}
+use Rattle.walk_laws.specs.Pairs.{commit_under, bringing_under}
 use Rattle.slot_image_laws.specs.Run.{RisesFrom}
-use Rattle.slot_image_laws.specs.Images.{RunStart, LeavesPrefixes, Shows, disk_books}
-use Rattle.slot_image_laws.proofs.Running.{records_are_left}
-use Rattle.imagined_laws.specs.Parts.{parts_once, StandsFor}
-use Rattle.imagined_laws.proofs.Parts.{images_are_read}
+use Rattle.slot_image_laws.specs.Images.{RunStart, Shows, disk_books}
 use Rattle.label_laws.specs.Maps.{Telling, past_of, Numbered, bringing_of}
 use Rattle.label_laws.specs.Beside.{run_told}
-use Rattle.label_laws.proofs.Beginning.{commits_begin_well}
-use Rattle.close_laws.specs.Fronts.{DifferBy, AreOneRecord, IsOneRecord}
+use Rattle.close_laws.specs.Fronts.{IsOneRecord}
 use Rattle.close_laws.specs.Close.{EndsMount}
-use Rattle.close_laws.proofs.Records.{labels_are_one_record}
-use Rattle.close_laws.proofs.Flying.{differ_fewer}
-use Rattle.close_laws.proofs.Lists.{once_both, kept_once, stamps_apart, differ_both, mapped_differ, none_until}
+use Rattle.close_laws.proofs.Lists.{none_until}
+use Rattle.close_laws.proofs.Shown.{sound, legal, leaves, later, flushed_there, live_there, stamps_differ_there, tree_there, read_there, kept_listed, fronts}
 
 module _ (start : Volume) (entries : List OldEntry) (named : Numbered) (told : Telling) (disk : View) (ends : EndsMount start entries named told disk)
     (tell : TellInTime start.history (past_of told).turns) where
@@ -65,179 +51,11 @@ module _ (start : Volume) (entries : List OldEntry) (named : Numbered) (told : T
   abbrev history : List Entry
   history = start.history
 
-  pub fronts : AreOneRecord start named run turns
-  fronts = labels_are_one_record start entries named told ends.labels ends.turns
-
-  leaves : LeavesPrefixes run turns disk
-  leaves = records_are_left disk run (past_of told) ends.run ends.began (commits_begin_well start entries named told ends.labels)
-
-  sound : IsSoundTree start.first
-  sound = ends.labels.begins.walk.stands.between.history_is.sound
-
-  legal : IsLegal start.first history
-  legal = ends.labels.begins.walk.stands.between.history_is.legal
-
-  -- what is so of an image that shows a front
-  module _ (share : ℕ) (image : List ℕ) (front back : List Turn) (split : turns ≡ front ++ back)
-      (shows : Shows run.gives run.layout (disk_books run front) image) where
-    at : IsOneRecord start named run front
-    at = fronts front back split
-
-    numbers : List ℕ
-    numbers = filter shows.kept (disk_books run front).flying
-
-    bringings : List Bringing
-    bringings = map (bringing_of named) (filter shows.kept (disk_books run front).flying)
-
-    brought : List Bringing
-    brought = brought_under named.pairs (fronts front back split).done
-
-    flying_of : (number : ℕ) → IsOneOf (filter shows.kept (disk_books run front).flying) number → IsOneOf (disk_books run front).flying number
-    flying_of number one = (in_filter shows.kept (disk_books run front).flying number one).0
-
-    open_of : (number : ℕ) → IsOneOf (filter shows.kept (disk_books run front).flying) number
-        → IsOpenBeside (fronts front back split).place.volume (map (commit_under named.pairs) (fronts front back split).done) (named.pairs (named.stamps number))
-    open_of number one =
-        (fronts front back split).place.beside.opens (named.stamps number) ((fronts front back split).flies number (flying_of number one)).0
-
-    all_apart : (some : List ℕ) → DifferBy named.stamps some → ((number : ℕ) → IsOneOf some number → IsOneOf (filter shows.kept (disk_books run front).flying) number)
-        → AllApart (map (bringing_of named) some)
-    all_apart [] differ within = tt
-    all_apart (number ∷ some) differ within = (
-      (λ other one.
-          let from = from_map (bringing_of named) some other one in
-          let mine = within from.0 (inr from.1) in
-          let theirs = within number (inl refl) in
-          subst (λ b. BringApart b (bringing_of named number)) from.2
-          (bring_apart (named.pairs (named.stamps from.0)) (named.pairs (named.stamps number)) (open_of from.0 mine).nodes (open_of number theirs).nodes
-          ((fronts front back split).place.beside.apart (named.stamps from.0) (named.stamps number) ((fronts front back split).flies from.0 (flying_of from.0 mine)).0
-          ((fronts front back split).flies number (flying_of number theirs)).0 (differ.0 from.0 from.1)))),
-      all_apart some differ.1 (λ other one. within other (inr one)),
-    )
-
-    pub later : (volume : Volume) × Imagines start (brought_under named.pairs (fronts front back split).done ++ map (bringing_of named) (filter shows.kept (disk_books run front).flying)) volume
-    later =
-        all_end start (fronts front back split).place.volume (brought_under named.pairs (fronts front back split).done)
-        (map (bringing_of named) (filter shows.kept (disk_books run front).flying)) (record {
-          imagines = (fronts front back split).place.imagines;
-          brings = λ one among.
-              let from = from_map (bringing_of named) (filter shows.kept (disk_books run front).flying) one among in
-              subst (Brings (fronts front back split).place.volume) from.2 (open_of from.0 from.1).brings;
-          apart = all_apart (filter shows.kept (disk_books run front).flying)
-              (differ_fewer named.stamps shows.kept (disk_books run front).flying (fronts front back split).once.1) (λ number one. one);
-        })
-
-    abbrev all_brought_there : List Bringing
-    all_brought_there = brought_under named.pairs (fronts front back split).done ++ map (bringing_of named) (filter shows.kept (disk_books run front).flying)
-
-    imagined : IsImagined start all_brought_there later.0
-    imagined = imagined_are_those start later.0 all_brought_there ends.labels.begins.walk.stands later.1
-
-    stands_for : StandsFor start.layout (parts_once all_brought_there start.parts) image
-    stands_for = record {
-      opened = shows.opened;
-      below = shows.table;
-      image_of = subst (λ l. IsImageOf l shows.opened shows.table image) (sym ends.labels.begins.layout_is) shows.stands;
-      same = λ i within.
-          ap (λ l. with_opened l shows.opened shows.table i) ends.labels.begins.layout_is
-          ∙ (shows.parts i (subst (λ (l : Layout). i < l.inodes) ends.labels.begins.layout_is within)
-          ∙ ap (λ f. f i)
-          (kept_once named shows.kept (disk_books run front).flying (disk_books run front).base
-          ∙ (ap (parts_once (map (bringing_of named) (filter shows.kept (disk_books run front).flying))) (fronts front back split).base
-          ∙ sym (once_both (brought_under named.pairs (fronts front back split).done) (map (bringing_of named) (filter shows.kept (disk_books run front).flying)) start.parts))));
-    }
-
-    pub read_there : IsReadAsTree image share (tree_held later.0)
-    read_there =
-        images_are_read start later.0 all_brought_there image share
-        (record { stands = ends.labels.begins.walk.stands; spelled = ends.labels.begins.spelled }) later.1 stands_for
-
-    same_first : later.0.first ≡ start.first
-    same_first = imagined.first
-
-    flushes_are : later.0.flushes ≡ durables front ++ map flush_brought (map (bringing_of named) (filter shows.kept (disk_books run front).flying))
-    flushes_are =
-        imagined.flushes
-        ∙ (ap (λ l. l ++ map flush_brought all_brought_there) ends.none
-        ∙ (map-append flush_brought (brought_under named.pairs (fronts front back split).done) (map (bringing_of named) (filter shows.kept (disk_books run front).flying))
-        ∙ ap (λ l. l ++ map flush_brought (map (bringing_of named) (filter shows.kept (disk_books run front).flying))) (fronts front back split).flushes))
-
-    pub flushed_there : AreFlushed start.first history every_entry
-        (durables front ++ map flush_brought (map (bringing_of named) (filter shows.kept (disk_books run front).flying))) later.0.cut later.0.inodes
-    flushed_there =
-        subst (λ l. AreFlushed start.first history every_entry l later.0.cut later.0.inodes) flushes_are
-        (subst (λ (p : TreeState × List Entry). AreFlushed p.0 p.1 every_entry later.0.flushes later.0.cut later.0.inodes)
-        (λ i. (imagined.first i, imagined.history i)) imagined.stands.between.flushed)
-
-    pub tree_there : tree_held later.0 ≡ tree_at_cut start.first history later.0.cut
-    tree_there = ap (λ (p : TreeState × List Entry). tree_at_cut p.0 p.1 later.0.cut) (λ i. (imagined.first i, imagined.history i))
-
-    pub live_there : (flush : Flush) → IsOneOf (durables front ++ map flush_brought (map (bringing_of named) (filter shows.kept (disk_books run front).flying))) flush
-        → HasLiveNode start.first history flush
-    live_there flush one =
-        subst (λ (p : TreeState × List Entry). HasLiveNode p.0 p.1 flush) (λ i. (imagined.first i, imagined.history i))
-        (imagined.stands.among.live flush (subst (λ l. IsOneOf l flush) (sym flushes_are) one))
-
-    -- all of them by their stamps
-    abbrev all_stamps : List ℕ
-    all_stamps = (fronts front back split).done ++ map named.stamps (filter shows.kept (disk_books run front).flying)
-
-    kept_flushes : (some : List ℕ) → map flush_brought (map (bringing_of named) some) ≡ map (λ s. (bringing_under named.pairs s).flush) (map named.stamps some)
-    kept_flushes [] = refl
-    kept_flushes (number ∷ some) = ap (λ l. (bringing_of named number).flush ∷ l) (kept_flushes some)
-
-    done_flushes : (some : List ℕ) → map flush_brought (brought_under named.pairs some) ≡ map (λ s. (bringing_under named.pairs s).flush) some
-    done_flushes [] = refl
-    done_flushes (stamp ∷ some) = ap (λ l. (bringing_under named.pairs stamp).flush ∷ l) (done_flushes some)
-
-    by_stamps : durables front ++ map flush_brought (map (bringing_of named) (filter shows.kept (disk_books run front).flying))
-        ≡ map (λ s. (bringing_under named.pairs s).flush) all_stamps
-    by_stamps =
-        ap (λ (p : List Flush × List Flush). p.0 ++ p.1)
-        (λ i. (
-          (sym (fronts front back split).flushes ∙ done_flushes (fronts front back split).done) i,
-          kept_flushes (filter shows.kept (disk_books run front).flying) i,
-        ))
-        ∙ sym (map-append (λ s. (bringing_under named.pairs s).flush) (fronts front back split).done (map named.stamps (filter shows.kept (disk_books run front).flying)))
-
-    own_stamp : (stamp : ℕ) → IsOneOf all_stamps stamp → (bringing_under named.pairs stamp).flush.stamp ≡ stamp
-    own_stamp stamp one = elim (in_either (fronts front back split).done (map named.stamps (filter shows.kept (disk_books run front).flying)) stamp one) [
-      | inl old ↦ (fronts front back split).own stamp old
-      | inr kept ↦
-          let from = from_map named.stamps (filter shows.kept (disk_books run front).flying) stamp kept in
-          let was = ((fronts front back split).flies from.0 (flying_of from.0 from.1)).1 in
-          subst (λ s. (bringing_under named.pairs s).flush.stamp ≡ s) from.2 (ap (λ (f : Flush). f.stamp) was.own ∙ was.stamp_is)
-    ]
-
-    pub stamps_differ_there : StampsDiffer (durables front ++ map flush_brought (map (bringing_of named) (filter shows.kept (disk_books run front).flying)))
-    stamps_differ_there =
-        subst StampsDiffer (sym by_stamps)
-        (stamps_apart (λ s. (bringing_under named.pairs s).flush) all_stamps
-        (differ_both (fronts front back split).done (map named.stamps (filter shows.kept (disk_books run front).flying)) (fronts front back split).once.0
-        (mapped_differ named.stamps (filter shows.kept (disk_books run front).flying)
-        (differ_fewer named.stamps shows.kept (disk_books run front).flying (fronts front back split).once.1)) cross) own_stamp)
-      where
-        cross : (x y : ℕ) → IsOneOf (fronts front back split).done x → IsOneOf (map named.stamps (filter shows.kept (disk_books run front).flying)) y → y ≢ x
-        cross x y old kept same =
-            let from = from_map named.stamps (filter shows.kept (disk_books run front).flying) y kept in
-            (open_of from.0 from.1).later.other_number (commit_under named.pairs x)
-            (to_map (commit_under named.pairs) (fronts front back split).done x old)
-            (ap (λ s. (commit_under named.pairs s).number) (sym same ∙ sym from.2))
-
-    pub kept_listed : (flush : Flush) → IsOneOf (map flush_brought (map (bringing_of named) (filter shows.kept (disk_books run front).flying))) flush
-        → IsListedFsync history flush
-    kept_listed flush one =
-        let bringing = from_map flush_brought (map (bringing_of named) (filter shows.kept (disk_books run front).flying)) flush one in
-        let from = from_map (bringing_of named) (filter shows.kept (disk_books run front).flying) bringing.0 bringing.1 in
-        let was = ((fronts front back split).flies from.0 (flying_of from.0 from.1)).1 in
-        let among : IsOneOf turns was.turn = subst (λ l. IsOneOf l was.turn) (sym split) (in_left front back was.turn was.among) in
-        subst (IsListedFsync history) (sym was.own ∙ (ap flush_brought from.2 ∙ bringing.2)) (tell.tell.answered was.turn among was.did)
-
   -- the node of a live fsync is there
   node_there : (flush : Flush) → HasLiveNode start.first history flush → HasNode start.first history flush
   node_there flush live =
       subst (λ tree. IsSome (get tree.nodes flush.node)) (tree_at-after start.first history flush.stamp)
-      (live_node start.first history sound legal flush live flush.stamp (omega arith))
+      (live_node start.first history (sound start entries named told disk ends tell) (legal start entries named told disk ends tell) flush live flush.stamp (omega arith))
 
   -- a durable fsync is listed
   durable_listed : (some : List Turn) → ((turn : Turn) → IsOneOf some turn → IsOneOf turns turn) → (flush : Flush) → IsOneOf (durables some) flush
@@ -262,23 +80,23 @@ module _ (start : Volume) (entries : List OldEntry) (named : Numbered) (told : T
   safe_image : (share moment : ℕ) (image : List ℕ) → told.moment ≤ moment → LeftSince disk moment image
       → IsSafeByTurns share start.first history turns moment image
   safe_image share moment image from left =
-      let shown = leaves ends.tells.content ends.tells.tells ends.tells.counts moment image from left in
+      let shown = leaves start entries named told disk ends tell ends.tells.content ends.tells.tells ends.tells.counts moment image from left in
       of_front shown.front shown.back shown.split shown.later shown.shows
     where
       of_front : (front back : List Turn) (split : turns ≡ front ++ back) → All (λ (turn : Turn). moment < turn.now) back
           → (shows : Shows run.gives run.layout (disk_books run front) image) → IsSafeByTurns share start.first history turns moment image
       of_front front back split late shows = record {
         flushes = durables front ++ map flush_brought (map (bringing_of named) (filter shows.kept (disk_books run front).flying));
-        cut = (later share image front back split shows).0.cut;
-        inodes = (later share image front back split shows).0.inodes;
-        closed = (lists_keep start.first history all (later share image front back split shows).0.cut (later share image front back split shows).0.inodes sound legal
-            (flushed_there share image front back split shows)).kept.closed;
-        covers = histories_are_covered start.first history all (later share image front back split shows).0.cut (later share image front back split shows).0.inodes
-            moment sound legal (flushed_there share image front back split shows)
-            (λ flush one. node_there flush (live_there share image front back split shows flush one)) covered;
-        begins = record { others = others; whole = whole; answered = answered; once = stamps_differ_there share image front back split shows };
-        raised = flushed_there share image front back split shows;
-        read = subst (IsReadAsTree image share) (tree_there share image front back split shows) (read_there share image front back split shows);
+        cut = (later start entries named told disk ends tell share image front back split shows).0.cut;
+        inodes = (later start entries named told disk ends tell share image front back split shows).0.inodes;
+        closed = (lists_keep start.first history all (later start entries named told disk ends tell share image front back split shows).0.cut (later start entries named told disk ends tell share image front back split shows).0.inodes (sound start entries named told disk ends tell) (legal start entries named told disk ends tell)
+            (flushed_there start entries named told disk ends tell share image front back split shows)).kept.closed;
+        covers = histories_are_covered start.first history all (later start entries named told disk ends tell share image front back split shows).0.cut (later start entries named told disk ends tell share image front back split shows).0.inodes
+            moment (sound start entries named told disk ends tell) (legal start entries named told disk ends tell) (flushed_there start entries named told disk ends tell share image front back split shows)
+            (λ flush one. node_there flush (live_there start entries named told disk ends tell share image front back split shows flush one)) covered;
+        begins = record { others = others; whole = whole; answered = answered; once = stamps_differ_there start entries named told disk ends tell share image front back split shows };
+        raised = flushed_there start entries named told disk ends tell share image front back split shows;
+        read = subst (IsReadAsTree image share) (tree_there start entries named told disk ends tell share image front back split shows) (read_there start entries named told disk ends tell share image front back split shows);
       }
         where
           all : List Flush
@@ -320,7 +138,7 @@ module _ (start : Volume) (entries : List OldEntry) (named : Numbered) (told : T
           answered flush one =
               elim (in_either (durables cut_front.behind) (map flush_brought (map (bringing_of named) (filter shows.kept (disk_books run front).flying))) flush one) [
                 | inl old ↦ durable_listed cut_front.behind behind_within flush old
-                | inr kept ↦ kept_listed share image front back split shows flush kept
+                | inr kept ↦ kept_listed start entries named told disk ends tell share image front back split shows flush kept
               ]
 
           covered : (flush : Flush) (ack : ℕ) → IsAcknowledged history flush ack → ack ≤ moment → IsOneOf all flush
@@ -356,7 +174,7 @@ module _ (start : Volume) (entries : List OldEntry) (named : Numbered) (told : T
   -- where no fsync has failed
   module _ (share : ℕ) (none_failed : HasFailure history → ⊥) where
     abbrev last : IsOneRecord start named run turns
-    last = fronts turns [] (sym (append-nil turns))
+    last = fronts start entries named told disk ends tell turns [] (sym (append-nil turns))
 
     -- no commit flies at the end
     none_fly : (number : ℕ) → IsOneOf (disk_books run turns).flying number → ⊥
@@ -381,7 +199,7 @@ module _ (start : Volume) (entries : List OldEntry) (named : Numbered) (told : T
         let image = ends.tells.content in
         let in_run = from_to told.moment disk.now turns ends.run.rises in
         let left : LeftSince disk disk.now image = (disk.now, omega arith, omega arith, ends.tells.laws.read_is_left image ends.tells.tells) in
-        let shown = leaves image ends.tells.tells ends.tells.counts disk.now image in_run left in
+        let shown = leaves start entries named told disk ends tell image ends.tells.tells ends.tells.counts disk.now image in_run left in
         of_front shown.front shown.back shown.split shown.later shown.shows
       where
         none_behind : (front back : List Turn) → turns ≡ front ++ back → All (λ (turn : Turn). disk.now < turn.now) back → back ≡ []
@@ -401,18 +219,18 @@ module _ (start : Volume) (entries : List OldEntry) (named : Numbered) (told : T
             ap (λ l. durables front ++ map flush_brought (map (bringing_of named) l)) nothing
             ∙ (append-nil (durables front) ∙ ap durables (sym whole)) in
             record {
-              cut = (later share ends.tells.content front [] split shows).0.cut;
-              inodes = (later share ends.tells.content front [] split shows).0.inodes;
+              cut = (later start entries named told disk ends tell share ends.tells.content front [] split shows).0.cut;
+              inodes = (later start entries named told disk ends tell share ends.tells.content front [] split shows).0.inodes;
               raised = subst
-                  (λ l. AreFlushed start.first history every_entry l (later share ends.tells.content front [] split shows).0.cut
-                  (later share ends.tells.content front [] split shows).0.inodes)
-                  flushes (flushed_there share ends.tells.content front [] split shows);
+                  (λ l. AreFlushed start.first history every_entry l (later start entries named told disk ends tell share ends.tells.content front [] split shows).0.cut
+                  (later start entries named told disk ends tell share ends.tells.content front [] split shows).0.inodes)
+                  flushes (flushed_there start entries named told disk ends tell share ends.tells.content front [] split shows);
               read = λ content told_so.
                   subst
-                  (λ bytes. IsReadAsTree bytes share (tree_at_cut start.first history (later share ends.tells.content front [] split shows).0.cut))
+                  (λ bytes. IsReadAsTree bytes share (tree_at_cut start.first history (later start entries named told disk ends tell share ends.tells.content front [] split shows).0.cut))
                   (some_same (sym ends.tells.tells ∙ told_so))
-                  (subst (IsReadAsTree ends.tells.content share) (tree_there share ends.tells.content front [] split shows)
-                  (read_there share ends.tells.content front [] split shows));
+                  (subst (IsReadAsTree ends.tells.content share) (tree_there start entries named told disk ends tell share ends.tells.content front [] split shows)
+                  (read_there start entries named told disk ends tell share ends.tells.content front [] split shows));
             }
 
         of_front : (front back : List Turn) (split : turns ≡ front ++ back) → All (λ (turn : Turn). disk.now < turn.now) back

@@ -26,7 +26,7 @@ use Rattle.slot_image_laws.specs.Images.{DiskBooks, book_act, RunStart, disk_boo
 use Rattle.imagined_laws.specs.Parts.{parts_once}
 use Rattle.label_laws.specs.Maps.{Numbered, bringing_of}
 use Rattle.label_laws.specs.Beside.{BeginsLabels, stamps_under, brought_at}
-use Rattle.label_laws.proofs.Beginning.{books_both}
+use Rattle.label_laws.proofs.Books.{books_both}
 use Rattle.close_laws.specs.Fronts.{DifferBy, WasOpened, IsOneRecord, AreOneRecord, ImaginedPlace}
 
 -- turns that neither open a commit nor make one durable

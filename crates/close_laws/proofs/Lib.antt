@@ -1,7 +1,13 @@
 pub mod Flying
 pub mod Fronts
+pub mod Labelled
+pub mod SettledFronts
+pub mod OpenedFronts
+pub mod EmptyFronts
 pub mod Along
 pub mod Records
 pub mod Lists
+pub mod Shown
 pub mod Closing
 pub mod Mounts
+pub mod PensClose

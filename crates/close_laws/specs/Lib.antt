@@ -1,2 +1,3 @@
 pub mod Fronts
 pub mod Close
+pub mod Pens

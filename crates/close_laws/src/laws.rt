@@ -1,6 +1,7 @@
 //! What is proved of the end of a mount: each function's contract is a law.
 ghost use Rattle.close_laws.specs.Close.{TableMountsClose, TurnsClose};
 ghost use Rattle.close_laws.specs.Fronts.{LabelsAreOneRecord};
+ghost use Rattle.close_laws.specs.Pens.{PensAreTurnsOf, PensMountsClose};
 
 use sfs_dev::Disk;
 
@@ -17,4 +18,14 @@ pub fn turns_close<D: Disk>(disk: &D)
 /// So a mount of many cores that ends with its pens survives each crash, and is read back at its end.
 pub fn table_mounts_close<D: Disk>(disk: &D)
     ensures { TableMountsClose (D.view disk.now) }
+{}
+
+/// Where pens tell turn by turn at the box and are at rest, each turn of the record is of the fsync whose commit stands under its stamp.
+pub fn pens_are_turns_of()
+    ensures { PensAreTurnsOf }
+{}
+
+/// So such a mount survives each crash, and is read back at its end.
+pub fn pens_mounts_close<D: Disk>(disk: &D)
+    ensures { PensMountsClose (D.view disk.now) }
 {}

@@ -26,7 +26,8 @@ use Rattle.disk_box.specs.Calls.{FollowsSync, NoneAwaits, TakesSync, awaits_sync
 use Rattle.disk_box.specs.Kind.{HasKind, kind_of}
 use Rattle.disk_box.specs.Serving.{GoesBeside, IsServing}
 use Rattle.disk_box.specs.Slots.{IsBeingFilled, IsBeingPlaced, IsClosingOf, Notes, NotesWork, PhaseFits, SlotFits, SlotsFit}
-use Rattle.disk_box.specs.Pens.{IsOfStep, PenHand, past_at, own_at, HoldsBox, TellsLabel}
+use Rattle.slot_laws.specs.Telling.{IsOfStep}
+use Rattle.disk_box.specs.Pens.{PenHand, past_at, own_at, HoldsBox, TellsLabel}
 use Rattle.disk_box.proofs.StepsTold.{step_told, steps_none}
 use Rattle.disk_box.proofs.After.{at_told, failed_told, past_fits_at}
 use Rattle.disk_box.proofs.AtSlots.{IsTold, told_at}

@@ -22,7 +22,8 @@ use Rattle.disk_box.specs.Box.{SpaceFits}
 use Rattle.disk_box.specs.Calls.{AnswersCall}
 use Rattle.disk_box.specs.Desk.{FaultsFit, FrameFits, RoomFits}
 use Rattle.disk_box.specs.Slots.{SlotsFit}
-use Rattle.disk_box.specs.Pens.{IsOfStep, PenHand, past_at, HoldsBox, TellsLabel, WorksAtDesk, IsBroken}
+use Rattle.slot_laws.specs.Telling.{IsOfStep}
+use Rattle.disk_box.specs.Pens.{PenHand, past_at, HoldsBox, TellsLabel, WorksAtDesk, IsBroken}
 use Rattle.disk_box.specs.Steps.{Steps}
 use Rattle.disk_box.proofs.StepsTold.{step_told}
 use Rattle.disk_box.proofs.After.{failed_told, fits_told, frame_told, key_same, room_told, space_told}

@@ -46,7 +46,7 @@ goes_both before mid after first second = record {
     );
   };
   room = second.room ∙ first.room;
-  tells = steps_both before mid after first.tells second.tells;
+  tells = steps_both before mid after first.goes first.tells second.tells;
   own = second.own ∙ first.own;
 }
 

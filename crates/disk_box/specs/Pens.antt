@@ -11,6 +11,7 @@ use Rattle.stamp_table.specs.Hand.{Hand}
 use Rattle.stamp_table.specs.Table.{TableState}
 use Rattle.slot_laws.specs.declared.label.Label.{Label}
 use Rattle.slot_laws.specs.declared.label.Label.TheVariants as label
+use Rattle.slot_laws.specs.Telling.{AreSteps, labels_by}
 use Rattle.slot_laws.specs.Labels.{BoxPast, OwnTold, own_from, own_label, after_label, nothing_told}
 use Rattle.disk_box.specs.declared.key.BoxKey.{BoxKey}
 use Rattle.disk_box.specs.declared.desk.Desk.{Desk}
@@ -88,29 +89,15 @@ module _ {D : Type 0} where
     pub counted : faults ≡ (view desk.disk).faults
     pub risen : HasRisen pen.table.given.faults faults
 
--- whether a label tells of a step at a slot, or of what a sync has made of one: it neither reserves, begins, ends nor gives back a commit without a slot, and
--- notes no turn
-abbrev pub IsOfStep : Label → Type 0
-IsOfStep (label.Filled slot piece done) = Unit {0}
-IsOfStep (label.Synced now) = Unit {0}
-IsOfStep (label.Opened slot done cut opened) = Unit {0}
-IsOfStep (label.Settled slot turn) = Unit {0}
-IsOfStep (label.Placed slot n done) = Unit {0}
-IsOfStep (label.Shut slot done) = Unit {0}
-IsOfStep (label.Idled slot) = Unit {0}
-IsOfStep _ = ⊥
-
--- so does each event of a list
-abbrev pub AreSteps : List (Event Label) → Type 0
-AreSteps [] = Unit {0}
-AreSteps (Called entry ∷ log) = ⊥
-AreSteps (Told core fact ∷ log) = IsOfStep fact × AreSteps log
+-- A pen has told these labels, in this order, and no others.
+abbrev pub Tells : {D : Type 0} → List Label → PenHand D → PenHand D → Type 0
+Tells facts before after = after.view.mine ≡ before.view.mine ++ labels_by before.view.core facts
 
 -- A pen has told of steps, perhaps, and of nothing else.
 pub record TellsSteps {D : Type 0} (before after : PenHand D) : Type 0 where
-  pub more : List (Event Label)
-  pub mine_is : after.view.mine ≡ before.view.mine ++ more
-  pub steps : AreSteps more
+  pub facts : List Label
+  pub mine_is : Tells facts before after
+  pub steps : AreSteps facts
 
 -- whether a label is told while a core has the box: each is but for those by which it takes it and brings it home
 abbrev pub IsAmid : Label → Type 0

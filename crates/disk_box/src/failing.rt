@@ -3,7 +3,7 @@ ghost use Rattle.std.specs.Prelude.{◌≡◌, ◌≤◌, None};
 ghost use Rattle.slot_laws.specs.Labels.{fsync_told};
 ghost use Rattle.disk_box.specs.Desk.{owed_of};
 ghost use Rattle.disk_box.specs.Pens.{IsAtDesk, IsBroken, PenGoes, own_at, past_at};
-ghost use Rattle.disk_box.specs.Turns.{Fails, FailsBegun};
+ghost use Rattle.disk_box.specs.Turns.{Fails, FailsBegun, TellsBegunFailure, TellsFailure};
 
 use crate::{BoxTable, Desk, Fsync, Pen, note};
 use sfs_dev::Disk;
@@ -26,6 +26,7 @@ pub fn fail_unopened<D: Disk + Drop>(
     ensures goes { PenGoes pen.old pen.new }
     ensures room { pen.new.room ≡ pen.old.room }
     ensures fails { Fails commit (fsync_told fsync.node fsync.stamp) pen.old.view.core faults (own_at pen.old) (own_at pen.new) }
+    ensures tells { TellsFailure commit (fsync_told fsync.node fsync.stamp) pen.old pen.new faults }
 {
     let core = pen.number();
     let cut = desk.turn(core, commit, fsync, TurnAct::CutAt);
@@ -56,6 +57,7 @@ pub fn fail_opened<D: Disk + Drop>(
     ensures goes { PenGoes pen.old pen.new }
     ensures room { pen.new.room ≡ pen.old.room }
     ensures fails { FailsBegun commit (fsync_told fsync.node fsync.stamp) pen.old.view.core faults (own_at pen.old) (own_at pen.new) }
+    ensures tells { TellsBegunFailure commit (fsync_told fsync.node fsync.stamp) pen.old pen.new faults }
 {
     let failed = Turn {
         faults,

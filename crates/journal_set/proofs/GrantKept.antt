@@ -1,12 +1,13 @@
 -- A core that tells of steps keeps its grant.
-use Rattle.std.proofs.Common.{◌≡◌, ◌∷◌, ◌++◌, ◌∙◌, List, [], Option, refl, ap}
+use Rattle.std.proofs.Common.{◌≡◌, ◌∷◌, ◌++◌, ◌∙◌, ℕ, List, [], Option, refl, ap}
 use Rattle.std.specs.Prelude.{None}
 use Rattle.space_map.specs.Space.{GrantedNumbers}
 use Rattle.stamp_table.specs.declared.event.Event.{Event}
 use Rattle.stamp_table.specs.declared.event.Event.TheVariants.{Called, Told}
 use Rattle.slot_laws.specs.declared.label.Label.{Label}
 use Rattle.slot_laws.specs.declared.label.Label.TheVariants as label
-use Rattle.disk_box.specs.Pens.{AreSteps, IsOfStep, PenHand, TellsSteps}
+use Rattle.slot_laws.specs.Telling.{AreSteps, IsOfStep, labels_by}
+use Rattle.disk_box.specs.Pens.{PenHand, TellsSteps}
 use Rattle.journal_set.specs.Grants.{grant_after, grant_at, grant_from}
 
 grant_step : (fact : Label) (had : Option GrantedNumbers) → IsOfStep fact → grant_after fact had ≡ had
@@ -26,10 +27,9 @@ grant_step (label.Began filling commit node stamp blocks inodes) had step = absu
 grant_step (label.Looked turn) had step = absurd step
 grant_step (label.Empty commit cut opened durable) had step = absurd step
 
-grant_steps : (more : List (Event Label)) (had : Option GrantedNumbers) → AreSteps more → grant_from more had ≡ had
-grant_steps [] had steps = refl
-grant_steps (Called entry ∷ more) had steps = absurd steps
-grant_steps (Told core fact ∷ more) had steps = ap (grant_from more) (grant_step fact had steps.0) ∙ grant_steps more had steps.1
+grant_steps : (core : ℕ) (facts : List Label) (had : Option GrantedNumbers) → AreSteps facts → grant_from (labels_by core facts) had ≡ had
+grant_steps core [] had steps = refl
+grant_steps core (fact ∷ facts) had steps = ap (grant_from (labels_by core facts)) (grant_step fact had steps.0) ∙ grant_steps core facts had steps.1
 
 -- the grant behind some events and then others
 pub grant_both : (log more : List (Event Label)) (had : Option GrantedNumbers) → grant_from (log ++ more) had ≡ grant_from more (grant_from log had)
@@ -39,4 +39,4 @@ grant_both (Told core fact ∷ log) more had = grant_both log more (grant_after 
 
 pub grant_kept : {D : Type 0} (before after : PenHand D) → TellsSteps before after → grant_at after ≡ grant_at before
 grant_kept before after tells =
-    ap (λ l. grant_from l None) tells.mine_is ∙ (grant_both before.view.mine tells.more None ∙ grant_steps tells.more (grant_at before) tells.steps)
+    ap (λ l. grant_from l None) tells.mine_is ∙ (grant_both before.view.mine (labels_by before.view.core tells.facts) None ∙ grant_steps before.view.core tells.facts (grant_at before) tells.steps)

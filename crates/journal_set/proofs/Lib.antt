@@ -20,3 +20,10 @@ pub mod Stepped
 pub mod Turned
 pub mod Unbegun
 pub mod Working
+pub mod Told
+pub mod ToldCommits
+pub mod ToldCalls
+pub mod Ties
+pub mod TiedCommits
+pub mod WaysGone
+pub mod PensTied

@@ -11,3 +11,6 @@ pub mod Ready
 pub mod Refusing
 pub mod Reserving
 pub mod Returning
+pub mod Telling
+pub mod Ties
+pub mod Ways

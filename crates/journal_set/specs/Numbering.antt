@@ -1,5 +1,5 @@
 -- What reserving a number comes to.
-use Rattle.std.specs.Prelude.{◌≡◌, ◌++◌, ◌∷◌, ℕ, List, Some, None, length}
+use Rattle.std.specs.Prelude.{◌≡◌, ◌++◌, ◌∷◌, ℕ, List, [], Some, None, length}
 use Rattle.sfs_dev.specs.Disk.{View}
 use Rattle.space_map.specs.Space.{Space, GrantedNumbers, shortage}
 use Rattle.space_map.specs.declared.grant.Need.{Need}
@@ -13,7 +13,7 @@ use Rattle.slot_laws.specs.Labels.{first_past}
 use Rattle.slot_laws.specs.Grants.{SpaceGoes}
 use Rattle.disk_box.specs.declared.key.BoxKey.{BoxKey}
 use Rattle.disk_box.specs.declared.desk.Desk.{Desk}
-use Rattle.disk_box.specs.Pens.{PenHand, PenGoes, WorksAtDesk, own_at}
+use Rattle.disk_box.specs.Pens.{PenHand, PenGoes, Tells, WorksAtDesk, own_at}
 use Rattle.journal_set.specs.declared.numbering.Numbered.{Numbered}
 use Rattle.journal_set.specs.Grants.{grant_at}
 
@@ -38,5 +38,6 @@ pub record Numbers {D : Type 0} (view : D → View) (t : TableState BoxKey) (see
   pub own : own_at after ≡ record (own_at before) { reserved = Some made.number }
   pub grant : grant_at after ≡ Some made.grant
   pub reserved : WasReserved after.table.given after.view.seen after.view.core made.number seen need made.grant
+  pub tells : Tells (label.Reserved made.number reserved.told made.grant ∷ []) before after
   pub work : WorksAtDesk view t after now
   pub turns : now.turns ≡ was.turns

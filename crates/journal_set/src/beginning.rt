@@ -8,6 +8,7 @@ ghost use Rattle.disk_box.specs.Pens.{WorksAtDesk, PenGoes, own_at};
 ghost use Rattle.journal_set.specs.Beginning.{BeginsInSlot, CanBeWritten};
 ghost use Rattle.journal_set.specs.Committing.{IsPackedOf};
 ghost use Rattle.journal_set.specs.Grants.{grant_at};
+ghost use Rattle.journal_set.specs.Telling.{OfReserved, TellsAtBox, TellsBegin, written_in};
 ghost use Rattle.sfs_base.specs.Lists.{Roomy};
 ghost use Rattle.sfs_base.specs.declared.numbers.NodeId.{NodeId as NodeOf};
 ghost use Rattle.sfs_base.specs.declared.numbers.Stamp.{Stamp as StampOf};
@@ -160,6 +161,8 @@ pub(crate) fn begin_one<D: Disk + Drop>(
     ensures goes { PenGoes pen.old pen.new }
     ensures room { pen.new.room ≡ pen.old.room }
     ensures begins { BeginsInSlot k (fsync_told writing.fsync.node writing.fsync.stamp) (own_at pen.old) (own_at pen.new) }
+    ensures tells { TellsAtBox (OfReserved (own_at pen.old) (TellsBegin pen.old.view.core (fsync_told writing.fsync.node writing.fsync.stamp)
+        (written_in writing))) pen.old pen.new }
 {
     let Writing {
         packed,

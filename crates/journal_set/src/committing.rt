@@ -4,8 +4,9 @@ ghost use Rattle.slot_laws.specs.Labels.{fsync_told};
 ghost use Rattle.disk_box.specs.Pens.{IsOutside, PenGoes, own_at};
 ghost use Rattle.journal_set.specs.Beginning.{CanBeWritten};
 ghost use Rattle.journal_set.specs.Committing.{BeginComes, CanBeCommitted, Commits, HasBegun};
-ghost use Rattle.journal_set.specs.Flying.{EndsFlight, IsCausedBy, IsUnderWay, TurnComes, flight_of};
+ghost use Rattle.journal_set.specs.Flying.{EndsFlight, IsCausedBy, IsUnderWay, TurnComes, flight_of, flush_of};
 ghost use Rattle.journal_set.specs.Grants.{grant_at};
+ghost use Rattle.journal_set.specs.Telling.{AreTurnsTo, IsOneTurn, OfReserved, TellsCall, TellsGoing, TellsWork, begin_labels, begun_labels, commit_labels, end_labels, flight_labels, written_in, written_of};
 
 use crate::beginning::Writing;
 use crate::flying::{Flight, Progress, turn_at};
@@ -43,6 +44,8 @@ impl<D: Disk + Drop> JournalSet<D> {
         ensures goes { PenGoes pen.old pen.new }
         ensures room { pen.new.room ≡ pen.old.room }
         ensures comes { Commits pen.old.view.core (fsync_told fsync.node fsync.stamp) (own_at pen.old) (own_at pen.new) result }
+        ensures tells { TellsCall (OfReserved (own_at pen.old) (λ number. commit_labels pen.old.view.core (fsync_told fsync.node fsync.stamp)
+            (written_of tx) number result)) pen.old pen.new }
         ensures cause { IfErr result (IsCausedBy pen.new) }
     {
         let writing = match Writing::new(alloc, tx, grant, fsync) {
@@ -74,6 +77,8 @@ impl<D: Disk + Drop> JournalSet<D> {
         ensures goes { PenGoes pen.old pen.new }
         ensures room { pen.new.room ≡ pen.old.room }
         ensures comes { HasBegun writing pen.old pen.new result }
+        ensures tells { TellsCall (OfReserved (own_at pen.old) (λ number. AreTurnsTo TellsWork (begun_labels pen.old.view.core
+            (fsync_told writing.fsync.node writing.fsync.stamp) (written_in writing) number result))) pen.old pen.new }
         ensures cause { IfErr result (IsCausedBy pen.new) }
     {
         for _ in rt.forever() {
@@ -102,6 +107,8 @@ impl<D: Disk + Drop> JournalSet<D> {
         ensures goes { PenGoes pen.old pen.new }
         ensures room { pen.new.room ≡ pen.old.room }
         ensures comes { BeginComes writing pen.old pen.new result }
+        ensures tells { TellsCall (IsOneTurn (OfReserved (own_at pen.old) (λ number. begin_labels pen.old.view.core
+            (fsync_told writing.fsync.node writing.fsync.stamp) (written_in writing) number result))) pen.old pen.new }
         ensures cause { IfErr result (IsCausedBy pen.new) }
     {
         let mut desk = enter(rt, &self.table, pen);
@@ -125,6 +132,8 @@ impl<D: Disk + Drop> JournalSet<D> {
         ensures goes { PenGoes pen.old pen.new }
         ensures room { pen.new.room ≡ pen.old.room }
         ensures comes { EndsFlight flight pen.old.view.core (own_at pen.old) (own_at pen.new) result }
+        ensures tells { TellsCall (AreTurnsTo (TellsGoing pen.old.view.core flight.commit (flush_of flight))
+            (end_labels pen.old.view.core flight.commit (flush_of flight) result)) pen.old pen.new }
         ensures cause { IfErr result (IsCausedBy pen.new) }
     {
         for _ in rt.forever() {
@@ -153,6 +162,7 @@ impl<D: Disk + Drop> JournalSet<D> {
         ensures room { pen.new.room ≡ pen.old.room }
         ensures same { (opened : Bool) → flight_of flight.new opened ≡ flight_of flight.old opened }
         ensures comes { TurnComes flight.old pen.old.view.core (own_at pen.old) (own_at pen.new) result }
+        ensures tells { TellsCall (IsOneTurn (flight_labels pen.old.view.core flight.old.commit (flush_of flight.old) result)) pen.old pen.new }
         ensures cause { IfErr result (IsCausedBy pen.new) }
     {
         let mut desk = enter(rt, &self.table, pen);

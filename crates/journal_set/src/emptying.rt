@@ -5,6 +5,7 @@ ghost use Rattle.slot_laws.specs.Nodes.{no_numbers};
 ghost use Rattle.disk_box.specs.Pens.{IsAtDesk, WorksAtDesk, IsOutside, PenGoes, own_at};
 ghost use Rattle.journal_set.specs.Ready.{HasNothingDue, IsReady};
 ghost use Rattle.journal_set.specs.Emptying.{Empties, EndsTogether, NOTHING};
+ghost use Rattle.journal_set.specs.Telling.{IsOneTurn, TellsAtBox, TellsCall, TellsEnd, empty_labels};
 ghost use Rattle.journal_set.specs.Grants.{grant_at};
 
 use crate::numbering::number_commit;
@@ -34,6 +35,8 @@ impl<D: Disk + Drop> JournalSet<D> {
         ensures goes { PenGoes pen.old pen.new }
         ensures room { pen.new.room ≡ pen.old.room }
         ensures comes { Empties (record { flush = fsync_told fsync.node fsync.stamp; seen = seen.now; need = NOTHING }) pen.old pen.new result }
+        ensures tells { TellsCall (IsOneTurn (empty_labels pen.old.view.core
+            (record { flush = fsync_told fsync.node fsync.stamp; seen = seen.now; need = NOTHING }) result)) pen.old pen.new }
     {
         let mut desk = enter(rt, &self.table, pen);
         let result = empty_at(alloc, &self.table, pen, &mut desk, fsync, seen);
@@ -57,6 +60,8 @@ fn empty_at<D: Disk + Drop>(
     ensures goes { PenGoes pen.old pen.new }
     ensures room { pen.new.room ≡ pen.old.room }
     ensures comes { Empties (record { flush = fsync_told fsync.node fsync.stamp; seen = seen.now; need = NOTHING }) pen.old pen.new result }
+    ensures tells { TellsAtBox (empty_labels pen.old.view.core
+        (record { flush = fsync_told fsync.node fsync.stamp; seen = seen.now; need = NOTHING }) result) pen.old pen.new }
 {
     match look_first(table, pen, desk, fsync, seen) {
         Ok(()) => {}
@@ -93,6 +98,7 @@ fn end_at_once<D: Disk + Drop>(
     ensures room { pen.new.room ≡ pen.old.room }
     ensures ends { EndsTogether pen.old.view.core (fsync_told fsync.node fsync.stamp) result (own_at pen.old) (own_at pen.new) }
     ensures commit { result.commit ≡ number }
+    ensures tells { TellsEnd (fsync_told fsync.node fsync.stamp) result pen.old pen.new }
 {
     let core = pen.number();
     let cut = desk.turn(core, number, fsync, TurnAct::CutAt);

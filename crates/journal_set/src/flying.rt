@@ -5,7 +5,8 @@ ghost use Rattle.disk_box.specs.Kind.{HasKind};
 ghost use Rattle.disk_box.specs.declared.kind.Kind.TheVariants as kind;
 ghost use Rattle.disk_box.specs.Pens.{IsAtDesk, PenGoes, WorksAtDesk, own_at, past_at};
 ghost use Rattle.disk_box.specs.Steps.{Steps};
-ghost use Rattle.journal_set.specs.Flying.{IsCausedBy, IsUnderWay, NotLanded, TurnComes, flight_of};
+ghost use Rattle.journal_set.specs.Flying.{IsCausedBy, IsUnderWay, NotLanded, TurnComes, flight_of, flush_of};
+ghost use Rattle.journal_set.specs.Telling.{TellsAtBox, flight_labels};
 
 use crate::own_slots::{lets_others_write, own_to_place, own_with};
 use crate::{Ack, CommitFault};
@@ -55,6 +56,7 @@ pub(crate) fn turn_at<D: Disk + Drop>(
     ensures room { pen.new.room ≡ pen.old.room }
     ensures same { (opened : Bool) → flight_of flight.new opened ≡ flight_of flight.old opened }
     ensures comes { TurnComes flight.old pen.old.view.core (own_at pen.old) (own_at pen.new) result }
+    ensures tells { TellsAtBox (flight_labels pen.old.view.core flight.old.commit (flush_of flight.old) result) pen.old pen.new }
     ensures cause { IfErr result (IsCausedBy pen.new) }
 {
     if let Some(turn) = look(table, pen, desk) {
@@ -86,6 +88,7 @@ fn advance<D: Disk + Drop>(
     ensures room { pen.new.room ≡ pen.old.room }
     ensures same { (opened : Bool) → flight_of flight.new opened ≡ flight_of flight.old opened }
     ensures comes { TurnComes flight.old pen.old.view.core (own_at pen.old) (own_at pen.new) result }
+    ensures tells { TellsAtBox (flight_labels pen.old.view.core flight.old.commit (flush_of flight.old) result) pen.old pen.new }
     ensures cause { IfErr result (IsCausedBy pen.new) }
 {
     match desk.kind_at(flight.slot) {
@@ -113,6 +116,7 @@ fn before_gate<D: Disk + Drop>(
     ensures room { pen.new.room ≡ pen.old.room }
     ensures same { (opened : Bool) → flight_of flight.new opened ≡ flight_of flight.old opened }
     ensures comes { TurnComes flight.old pen.old.view.core (own_at pen.old) (own_at pen.new) result }
+    ensures tells { TellsAtBox (flight_labels pen.old.view.core flight.old.commit (flush_of flight.old) result) pen.old pen.new }
     ensures cause { IfErr result (IsCausedBy pen.new) }
 {
     match fill_or_seal(table, pen, desk, flight) {
@@ -140,6 +144,7 @@ fn open_turn<D: Disk + Drop>(
     ensures room { pen.new.room ≡ pen.old.room }
     ensures same { (opened : Bool) → flight_of flight.new opened ≡ flight_of flight.old opened }
     ensures comes { TurnComes flight.old pen.old.view.core (own_at pen.old) (own_at pen.new) result }
+    ensures tells { TellsAtBox (flight_labels pen.old.view.core flight.old.commit (flush_of flight.old) result) pen.old pen.new }
     ensures cause { IfErr result (IsCausedBy pen.new) }
 {
     if !flight.told {
@@ -173,6 +178,7 @@ fn settle_turn<D: Disk + Drop>(
     ensures room { pen.new.room ≡ pen.old.room }
     ensures same { (opened : Bool) → flight_of flight.new opened ≡ flight_of flight.old opened }
     ensures comes { TurnComes flight.old pen.old.view.core (own_at pen.old) (own_at pen.new) result }
+    ensures tells { TellsAtBox (flight_labels pen.old.view.core flight.old.commit (flush_of flight.old) result) pen.old pen.new }
     ensures cause { IfErr result (IsCausedBy pen.new) }
 {
     match shut_or_settle(table, pen, desk, flight) {

@@ -7,6 +7,7 @@ mod committing;
 mod emptying;
 mod fault;
 mod flying;
+pub mod laws;
 mod making;
 mod numbering;
 mod own_slots;

@@ -6,6 +6,7 @@ ghost use Rattle.disk_box.specs.Pens.{IsAtDesk, PenGoes, own_at};
 ghost use Rattle.journal_set.specs.Ready.{HasNothingDue};
 ghost use Rattle.journal_set.specs.Refusing.{MayReserve};
 ghost use Rattle.journal_set.specs.Reserving.{Reserves};
+ghost use Rattle.journal_set.specs.Telling.{TellsAtBox, TellsRefusal};
 
 use crate::CommitFault;
 use crate::numbering::make_room;
@@ -30,6 +31,7 @@ pub(crate) fn look_first<D: Disk + Drop>(
     ensures ok { OnOk result ((pen.new ≡ pen.old) × MayReserve D.view table.now seen.now pen.new desk.new) }
     ensures err { IfErr result (λ fault. (need : Need)
         → Reserves (record { flush = fsync_told fsync.node fsync.stamp; seen = seen.now; need = need }) pen.old pen.new (Err fault)) }
+    ensures tells { IfErr result (λ fault. TellsAtBox (TellsRefusal pen.old.view.core (fsync_told fsync.node fsync.stamp) fault) pen.old pen.new) }
 {
     make_room(desk)?;
     if desk.failed.is_some() {

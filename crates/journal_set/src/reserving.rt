@@ -5,6 +5,7 @@ ghost use Rattle.disk_box.specs.Pens.{IsAtDesk, IsOutside, PenGoes, own_at};
 ghost use Rattle.journal_set.specs.Ready.{HasNothingDue, IsReady};
 ghost use Rattle.journal_set.specs.Refusing.{MayReserve};
 ghost use Rattle.journal_set.specs.Reserving.{Reserves};
+ghost use Rattle.journal_set.specs.Telling.{IsOneTurn, TellsAtBox, TellsCall, reserve_labels};
 
 use crate::numbering::{Numbered, number_commit};
 use crate::refusing::look_first;
@@ -38,6 +39,8 @@ impl<D: Disk + Drop> JournalSet<D> {
         ensures goes { PenGoes pen.old pen.new }
         ensures room { pen.new.room ≡ pen.old.room }
         ensures comes { Reserves (record { flush = fsync_told fsync.node fsync.stamp; seen = seen.now; need = need }) pen.old pen.new result }
+        ensures tells { TellsCall (IsOneTurn (reserve_labels pen.old.view.core
+            (record { flush = fsync_told fsync.node fsync.stamp; seen = seen.now; need = need }) result)) pen.old pen.new }
     {
         let mut desk = enter(rt, &self.table, pen);
         let result = reserve_at(alloc, &self.table, pen, &mut desk, fsync, seen, need);
@@ -62,6 +65,8 @@ fn reserve_at<D: Disk + Drop>(
     ensures goes { PenGoes pen.old pen.new }
     ensures room { pen.new.room ≡ pen.old.room }
     ensures comes { Reserves (record { flush = fsync_told fsync.node fsync.stamp; seen = seen.now; need = need }) pen.old pen.new result }
+    ensures tells { TellsAtBox (reserve_labels pen.old.view.core
+        (record { flush = fsync_told fsync.node fsync.stamp; seen = seen.now; need = need }) result) pen.old pen.new }
 {
     match look_first(table, pen, desk, fsync, seen) {
         Ok(()) => grant_or_refuse(alloc, table, pen, desk, fsync, seen, need),
@@ -84,6 +89,8 @@ fn grant_or_refuse<D: Disk + Drop>(
     ensures goes { PenGoes pen.old pen.new }
     ensures room { pen.new.room ≡ pen.old.room }
     ensures comes { Reserves (record { flush = fsync_told fsync.node fsync.stamp; seen = seen.now; need = need }) pen.old pen.new result }
+    ensures tells { TellsAtBox (reserve_labels pen.old.view.core
+        (record { flush = fsync_told fsync.node fsync.stamp; seen = seen.now; need = need }) result) pen.old pen.new }
 {
     let Numbered { number, grant } = match number_commit(alloc, table, pen, desk, seen, need) {
         Ok(numbered) => numbered,

@@ -4,6 +4,7 @@ ghost use Rattle.slot_laws.specs.Labels.{fsync_told};
 ghost use Rattle.disk_box.specs.Pens.{IsAtDesk, IsOutside, PenGoes, own_at};
 ghost use Rattle.journal_set.specs.Grants.{grant_at};
 ghost use Rattle.journal_set.specs.Returning.{ReturnsNumber};
+ghost use Rattle.journal_set.specs.Telling.{IsOneTurn, OfReserved, TellsAtBox, TellsCall, TellsReturn};
 
 use crate::JournalSet;
 use disk_box::{BoxTable, Desk, Fsync, Pen, enter, leave, note, note_turn};
@@ -25,6 +26,8 @@ impl<D: Disk + Drop> JournalSet<D> {
         ensures goes { PenGoes pen.old pen.new }
         ensures room { pen.new.room ≡ pen.old.room }
         ensures comes { ReturnsNumber pen.old.view.core (fsync_told fsync.node fsync.stamp) (own_at pen.old) (own_at pen.new) }
+        ensures tells { TellsCall (IsOneTurn (OfReserved (own_at pen.old) (λ number. TellsReturn pen.old.view.core number
+            (fsync_told fsync.node fsync.stamp)))) pen.old pen.new }
     {
         let mut desk = enter(rt, &self.table, pen);
         return_number(&self.table, pen, &mut desk, fsync, grant);
@@ -47,6 +50,8 @@ pub(crate) fn return_number<D: Disk + Drop>(
     ensures goes { PenGoes pen.old pen.new }
     ensures room { pen.new.room ≡ pen.old.room }
     ensures comes { ReturnsNumber pen.old.view.core (fsync_told fsync.node fsync.stamp) (own_at pen.old) (own_at pen.new) }
+    ensures tells { TellsAtBox (OfReserved (own_at pen.old) (λ number. TellsReturn pen.old.view.core number (fsync_told fsync.node fsync.stamp)))
+        pen.old pen.new }
 {
     let core = pen.number();
     let Some(number) = desk.ledger.number(core) else {

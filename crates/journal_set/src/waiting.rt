@@ -1,6 +1,6 @@
 // A commit that has reserved begins in an idle slot of its core's own; while there is none its core works towards one.
 ghost use Rattle.std.specs.Prelude.{◌≡◌, Some, IfErr, false, length};
-ghost use Rattle.slot_laws.specs.Labels.{owner};
+ghost use Rattle.slot_laws.specs.Labels.{fsync_told, owner};
 ghost use Rattle.disk_box.specs.Calls.{awaits_sync};
 ghost use Rattle.disk_box.specs.Kind.{HasKind};
 ghost use Rattle.disk_box.specs.Pens.{IsAtDesk, PenGoes, WorksAtDesk, own_at};
@@ -10,6 +10,7 @@ ghost use Rattle.journal_set.specs.Committing.{BeginComes, BeginsFlight};
 ghost use Rattle.journal_set.specs.Flying.{IsCausedBy};
 ghost use Rattle.journal_set.specs.Grants.{grant_at};
 ghost use Rattle.journal_set.specs.OwnSlots.{NoneIdle};
+ghost use Rattle.journal_set.specs.Telling.{OfReserved, TellsAtBox, TellsBegin, begin_labels, written_in};
 
 use crate::CommitFault;
 use crate::beginning::{Writing, begin_one};
@@ -43,6 +44,8 @@ pub(crate) fn begin_at<D: Disk + Drop>(
     ensures goes { PenGoes pen.old pen.new }
     ensures room { pen.new.room ≡ pen.old.room }
     ensures comes { BeginComes writing pen.old pen.new result }
+    ensures tells { TellsAtBox (OfReserved (own_at pen.old) (λ number. begin_labels pen.old.view.core
+        (fsync_told writing.fsync.node writing.fsync.stamp) (written_in writing) number result)) pen.old pen.new }
     ensures cause { IfErr result (IsCausedBy pen.new) }
 {
     let core = pen.number();
@@ -82,6 +85,8 @@ fn begin_in<D: Disk + Drop>(
     ensures room { pen.new.room ≡ pen.old.room }
     ensures begins { BeginsFlight result (own_at pen.old) (own_at pen.new) }
     ensures fsync { result.fsync ≡ writing.fsync }
+    ensures tells { TellsAtBox (OfReserved (own_at pen.old) (TellsBegin pen.old.view.core (fsync_told writing.fsync.node writing.fsync.stamp)
+        (written_in writing))) pen.old pen.new }
 {
     let fsync = writing.fsync;
     begin_one(table, pen, desk, k, writing);
@@ -110,6 +115,8 @@ fn free_slot<D: Disk + Drop>(
     ensures goes { PenGoes pen.old pen.new }
     ensures room { pen.new.room ≡ pen.old.room }
     ensures comes { BeginComes writing pen.old pen.new result }
+    ensures tells { TellsAtBox (OfReserved (own_at pen.old) (λ number. begin_labels pen.old.view.core
+        (fsync_told writing.fsync.node writing.fsync.stamp) (written_in writing) number result)) pen.old pen.new }
     ensures cause { IfErr result (IsCausedBy pen.new) }
 {
     let Some(k) = oldest(desk) else {

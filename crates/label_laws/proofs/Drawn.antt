@@ -1,5 +1,5 @@
 -- The map of free space along turns, drawn from the one along labels.
-use Rattle.std.proofs.Common.{◌≡◌, ◌+◌, ◌∷◌, ◌<◌, ◌^◌, ◌∙◌, if◌then◌else◌, ◌⊎◌, ◌++◌, false, [], length, arith, ℕ, not, nat_eq, refl, List, ap, subst, sym, take, option_map, true, Some, inl, inr, Bool, eqb-true, All}
+use Rattle.std.proofs.Common.{◌≡◌, ◌+◌, ◌∷◌, ◌<◌, ◌^◌, ◌∙◌, if◌then◌else◌, ◌⊎◌, ◌++◌, ◌≢◌, false, [], length, arith, ℕ, not, nat_eq, refl, List, ap, subst, sym, take, option_map, true, Some, inl, inr, Bool, eqb-true, All}
 use Rattle.std.proofs.lemmas.List.Elements.{All-nil, All-cons}
 use Rattle.sfs_base.specs.Listed.{is_listed}
 use Rattle.sfs_base.specs.declared.numbers.CoreId.{CoreId}
@@ -176,9 +176,9 @@ module _ (named : Numbered) (layout : Layout) (before : ℕ) (first : Space) whe
     pub drawn : Space
     pub goes : MapGoes named.pairs first turns drawn
     pub same : ((core : ℕ) → (own core).owes ≡ owes_nothing) → AreSameMaps drawn space
-    pub to_grant : (core number : ℕ) → (own core).owes ≡ owes_granted number
+    pub to_grant : (core number : ℕ) → (own core).may ≡ owes_granted number
         → WasReserved (bringing_of named number).plan drawn (bringing_of named number).grant space
-    pub to_return : (core number : ℕ) → (own core).owes ≡ owes_given_back number → WasReturned drawn (bringing_of named number).grant space
+    pub to_return : (core number : ℕ) → (own core).may ≡ owes_given_back number → WasReturned drawn (bringing_of named number).grant space
     pub had : HadTurns opens own turns
 
   -- All that is known at a place of a history.
@@ -242,14 +242,14 @@ module _ (named : Numbered) (layout : Layout) (before : ℕ) (first : Space) whe
 
     -- behind a label after which nobody owes a turn
     pub free_drawn : (later : List ReservedCommit) (own_then : ℕ → OwnOwed) (more : List Turn) (next drawn : Space)
-        → ((core : ℕ) → (own_then core).owes ≡ owes_nothing) → WereOpen opens later → MapGoes named.pairs first (turns ++ more) drawn → AreSameMaps drawn next
+        → ((core : ℕ) → (own_then core).may ≡ owes_nothing) → WereOpen opens later → MapGoes named.pairs first (turns ++ more) drawn → AreSameMaps drawn next
         → DrawnSo later (turns ++ more) own_then next
     free_drawn later own_then more next drawn none were goes same = record {
       drawn = drawn;
       goes = goes;
       same = λ _. same;
-      to_grant = λ core number owes. let never = sym (none core) ∙ owes in absurd (cc never);
-      to_return = λ core number owes. let never = sym (none core) ∙ owes in absurd (cc never);
+      to_grant = λ core number may. let never = sym (none core) ∙ may in absurd (cc never);
+      to_return = λ core number may. let never = sym (none core) ∙ may in absurd (cc never);
       had = had_then later own_then more were;
     }
 
@@ -265,7 +265,7 @@ module _ (named : Numbered) (layout : Layout) (before : ℕ) (first : Space) whe
     abbrev pub owing_later : Owing layout before named.stamps (done ++ Told core fact ∷ []) later rest
     owing_later = owing_then layout before named.stamps done past core fact rest at.owing
 
-    pub tells_now : TellsBeside named.stamps (at.owing.own core.0).owes (past.owns core.0) fact
+    pub tells_now : TellsBeside named.stamps (at.owing.own core.0).owes (at.owing.own core.0).may (past.owns core.0) fact
     tells_now = tells layout before named.stamps done past core fact rest at.owing
 
     pub nobody_now : (at.owing.own core.0).owes ≡ owes_nothing → (c : ℕ) → (at.owing.own c).owes ≡ owes_nothing
@@ -284,10 +284,10 @@ module _ (named : Numbered) (layout : Layout) (before : ℕ) (first : Space) whe
       so = subst (λ own. DrawnSo later.opens later.turns own next) (sym own_is) so;
     }
 
-  -- what becomes of a core's debt where a label leaves it
-  module _ (past : BoxPast) (core : ℕ) (own : ℕ → OwnOwed) (nobody_owes : (c : ℕ) → (own c).owes ≡ owes_nothing) where
-    pub none_then : (fact : Label) → (own_owed fact (own core)).owes ≡ owes_nothing → (c : ℕ) → (with_at own core (own_owed fact (own core)) c).owes ≡ owes_nothing
+  -- no turn may be told next where a label leaves none
+  module _ (past : BoxPast) (core : ℕ) (own : ℕ → OwnOwed) (others : (c : ℕ) → c ≢ core → (own c).may ≡ owes_nothing) where
+    pub none_then : (fact : Label) → (own_owed fact (own core)).may ≡ owes_nothing → (c : ℕ) → (with_at own core (own_owed fact (own core)) c).may ≡ owes_nothing
     none_then fact none c = elim (same_or_not c core) [
-      | inl same ↦ ap (λ (o : OwnOwed). o.owes) (at_same own core (own_owed fact (own core)) c same) ∙ none
-      | inr apart ↦ ap (λ (o : OwnOwed). o.owes) (at_other own core (own_owed fact (own core)) c apart) ∙ nobody_owes c
+      | inl same ↦ ap (λ (o : OwnOwed). o.may) (at_same own core (own_owed fact (own core)) c same) ∙ none
+      | inr apart ↦ ap (λ (o : OwnOwed). o.may) (at_other own core (own_owed fact (own core)) c apart) ∙ others c apart
     ]

@@ -2,7 +2,14 @@ pub mod Owing
 pub mod Opens
 pub mod Same
 pub mod Drawn
+pub mod QuietLabels
+pub mod TurnLabels
+pub mod NotedLabels
+pub mod GrantLabels
 pub mod Along
 pub mod Fsyncs
 pub mod Walking
+pub mod Books
 pub mod Beginning
+pub mod PensStand
+pub mod PensFit

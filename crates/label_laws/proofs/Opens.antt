@@ -286,7 +286,7 @@ module _ (named : Numbered) where
         opens = past.opens ++ new ∷ []
 
     pub opens_label : (teller : CoreId) → teller.0 ≡ core → (fact : Label) → MayLabel layout before core fact past
-        → TellsBeside named.stamps (own core).owes (past.owns core) fact
+        → TellsBeside named.stamps (own core).owes (own core).may (past.owns core) fact
         → FitsBringing named (Told teller fact) → SoThen fact
     opens_label teller at_core label.Took rule tells told = quiet_fit label.Took refl refl refl same_slots
     opens_label teller at_core label.Gave rule tells told = quiet_fit label.Gave refl refl refl same_slots
@@ -294,13 +294,13 @@ module _ (named : Numbered) where
     opens_label teller at_core (label.Reserved commit seen grant) rule tells told = reserved_fit commit seen grant told
     opens_label teller at_core (label.Returned commit) rule tells told = leaves_fit (label.Returned commit) commit rule refl
     opens_label teller at_core (label.Began filling commit node stamp blocks inodes) rule tells told =
-        began_fit filling commit node stamp blocks inodes rule (freely (own core).owes tells) told
+        began_fit filling commit node stamp blocks inodes rule (freely (own core).owes (own core).may tells) told
       where
-        freely : (o : OwesTurn) → TellsBeside named.stamps o (past.owns core) (label.Began filling commit node stamp blocks inodes)
+        freely : (o may : OwesTurn) → TellsBeside named.stamps o may (past.owns core) (label.Began filling commit node stamp blocks inodes)
             → stamp.0 ≡ named.stamps commit
-        freely owes_nothing is = is
-        freely (owes_granted n) is = absurd (cc is.is)
-        freely (owes_given_back n) is = absurd (cc is.is)
+        freely owes_nothing may is = is
+        freely (owes_granted n) may is = absurd (cc is.is)
+        freely (owes_given_back n) may is = absurd (cc is.is)
     opens_label teller at_core (label.Filled k piece done) rule tells told =
         quiet_fit (label.Filled k piece done) refl refl refl (changed_slots k (known_filled done piece))
     opens_label teller at_core (label.Synced now) rule tells told =

@@ -1,5 +1,4 @@
 -- Which core owes a turn along a history, and that the turns that reserve or give back stand beside their labels.
-use Rattle.slot_laws.specs.declared.label.Seen.{Seen}
 use Rattle.std.proofs.Common.{◌≡◌, ◌⊎◌, ◌++◌, ◌∷◌, ◌≢◌, ◌∙◌, if◌then◌else◌, ℕ, Option, Some, refl, None, inl, inr, List, [], true, subst, cond, sym, ap, Bool, false, nat_eq, append-nil, append_assoc}
 use Rattle.std.proofs.lemmas.List.Elements.{filter-append}
 use Rattle.sfs_base.specs.Lists.{Roomy}
@@ -15,6 +14,7 @@ use Rattle.stamp_table.specs.declared.event.Event.{Event}
 use Rattle.stamp_table.specs.declared.event.Event.TheVariants.{Called, Told}
 use Rattle.stamp_table.specs.Rule.{entries_by}
 use Rattle.stamp_table.specs.Events.{event_core}
+use Rattle.slot_laws.specs.declared.label.Seen.{Seen}
 use Rattle.slot_laws.specs.Slots.{with_at}
 use Rattle.slot_laws.specs.declared.label.Label.{Label}
 use Rattle.slot_laws.specs.declared.label.Label.TheVariants as label
@@ -27,7 +27,7 @@ use Rattle.label_laws.specs.Maps.{owed_from, StandsByReserving, StandsByReturnin
 
 -- a label that is of no sort but those of which nothing is owed
 pub record IsOther (fact : Label) : Type 0 where
-  pub stays : (own : OwnOwed) → own_owed fact own ≡ own
+  pub stays : (own : OwnOwed) → own_owed fact own ≡ record own { may = owes_nothing }
   pub no_note : (turn : Turn) → fact ≡ label.Noted turn → ⊥
   pub busy : (layout : Layout) (core : ℕ) (past : BoxPast) → (box_label layout core fact past).busy ≡ past.busy
   pub turn : (core : ℕ) (busy : Option ℕ) → HasTurn core fact busy → busy ≡ Some core
@@ -78,19 +78,22 @@ turn_is core fact busy (is_returned commit) has = inr has
 turn_is core fact busy (is_other other) has = inr (other.turn core busy has)
 
 -- a label that notes no turn is told where none is owed
-pub free_where : (stamps : ℕ → ℕ) (told : OwnTold) (fact : Label) → ((turn : Turn) → fact ≡ label.Noted turn → ⊥) → (o : OwesTurn)
-    → TellsBeside stamps o told fact → o ≡ owes_nothing
-free_where stamps told fact none owes_nothing tells = refl
-free_where stamps told fact none (owes_granted n) tells = absurd (none tells.turn tells.is)
-free_where stamps told fact none (owes_given_back n) tells = absurd (none tells.turn tells.is)
+pub free_where : (stamps : ℕ → ℕ) (told : OwnTold) (fact : Label) → ((turn : Turn) → fact ≡ label.Noted turn → ⊥) → (o may : OwesTurn)
+    → TellsBeside stamps o may told fact → o ≡ owes_nothing
+free_where stamps told fact none owes_nothing may tells = refl
+free_where stamps told fact none (owes_granted n) may tells = absurd (none tells.turn tells.is)
+free_where stamps told fact none (owes_given_back n) may tells = absurd (none tells.turn tells.is)
 
--- the last event of a history reserves under a number, with something granted, or gives back
+-- what a core owes it may tell
+abbrev pub IsDue : OwnOwed → Type 0
+IsDue own = (own.owes ≡ owes_nothing) ⊎ (own.owes ≡ own.may)
+
+-- the last event of a history reserves under a number, or gives back
 pub record LastReserved (done : List (Event Label)) (core number : ℕ) : Type 0 where
   pub rest : List (Event Label)
   pub one : Reserving
   pub own : one.core.0 ≡ core
   pub whole : done ≡ rest ++ told_reserving one ∷ []
-  pub some : has_numbers one.grant ≡ true
   pub number_is : one.commit ≡ number
 
 pub record LastReturned (done : List (Event Label)) (core number : ℕ) : Type 0 where
@@ -105,76 +108,65 @@ owed_more (Called entry ∷ log) more own = owed_more log more own
 owed_more (Told core fact ∷ log) more own = owed_more log more (own_owed fact own)
 
 -- what its own label leaves a core to tell
-module _ (layout : Layout) (stamps : ℕ → ℕ) (done : List (Event Label)) (past : BoxPast) (core : CoreId) (here : OwnOwed)
-    (busy_before : (here.owes ≡ owes_nothing) ⊎ (past.busy ≡ Some core.0)) where
+module _ (layout : Layout) (stamps : ℕ → ℕ) (done : List (Event Label)) (past : BoxPast) (core : CoreId) (here : OwnOwed) where
   abbrev done_with : Label → List (Event Label)
   done_with fact = done ++ Told core fact ∷ []
 
   abbrev Told_so : Label → Type 0
-  Told_so fact = TellsBeside stamps here.owes (past.owns core.0) fact
+  Told_so fact = TellsBeside stamps here.owes here.may (past.owns core.0) fact
 
-  busy_here : (fact : Label) → Sort fact → HasTurn core.0 fact past.busy → Told_so fact
-      → ((own_owed fact here).owes ≡ owes_nothing) ⊎ ((box_label layout core.0 fact past).busy ≡ Some core.0)
-  busy_here _ is_took has tells = elim busy_before [
-    | inl none ↦ inl none
-    | inr busy ↦ absurd (let never : ◌≡◌ {A = Option ℕ} None (Some core.0) = sym has ∙ busy in cc never)
-  ]
-  busy_here _ is_gave has tells = inl (free_where stamps (past.owns core.0) label.Gave (λ turn e. cc e) here.owes tells)
-  busy_here _ (is_noted turn) has tells = inl refl
-  busy_here _ (is_reserved commit seen grant) has tells = inr has
-  busy_here _ (is_returned commit) has tells = inr has
-  busy_here fact (is_other other) has tells = inr (other.busy layout core.0 past ∙ other.turn core.0 past.busy has)
+  busy_here : (fact : Label) → Sort fact → HasTurn core.0 fact past.busy
+      → ((own_owed fact here).may ≡ owes_nothing) ⊎ ((box_label layout core.0 fact past).busy ≡ Some core.0)
+  busy_here _ is_took has = inl refl
+  busy_here _ is_gave has = inl refl
+  busy_here _ (is_noted turn) has = inl refl
+  busy_here _ (is_reserved commit seen grant) has = inr has
+  busy_here _ (is_returned commit) has = inr has
+  busy_here fact (is_other other) has = inr (other.busy layout core.0 past ∙ other.turn core.0 past.busy has)
 
-  owes_if : (b : Bool) (number : ℕ) (o : OwesTurn) → ◌≡◌ {A = OwesTurn} (if b then owes_granted number else owes_nothing) o → (n : ℕ) → o ≡ owes_granted n
-      → (b ≡ true) × (number ≡ n)
-  owes_if true number o is n same = let e : ◌≡◌ {A = OwesTurn} (owes_granted number) (owes_granted n) = is ∙ same in (refl, cc e)
-  owes_if false number o is n same = let e : ◌≡◌ {A = OwesTurn} owes_nothing (owes_granted n) = is ∙ same in absurd (cc e)
-
-  reserved_here : (fact : Label) → Sort fact → Told_so fact → (n : ℕ) → (own_owed fact here).owes ≡ owes_granted n → LastReserved (done_with fact) core.0 n
-  reserved_here _ is_took tells n owes = let e = sym (free_where stamps (past.owns core.0) label.Took (λ turn e. cc e) here.owes tells) ∙ owes in absurd (cc e)
-  reserved_here _ is_gave tells n owes = let e = sym (free_where stamps (past.owns core.0) label.Gave (λ turn e. cc e) here.owes tells) ∙ owes in absurd (cc e)
-  reserved_here _ (is_noted turn) tells n owes = absurd (cc owes)
-  reserved_here _ (is_reserved commit seen grant) tells n owes =
-      let is = owes_if (has_numbers grant) commit (own_owed (label.Reserved commit seen grant) here).owes refl n owes in
-      record {
-        rest = done;
-        one = record { core = core; commit = commit; seen = seen; grant = grant };
-        own = refl;
-        whole = refl;
-        some = is.0;
-        number_is = is.1;
-      }
-  reserved_here _ (is_returned commit) tells n owes = by here.granted owes
+  -- what it owes behind it it may tell
+  due_here : (fact : Label) → Sort fact → Told_so fact → IsDue (own_owed fact here)
+  due_here _ is_took tells = inl (free_where stamps (past.owns core.0) label.Took (λ turn e. cc e) here.owes here.may tells)
+  due_here _ is_gave tells = inl (free_where stamps (past.owns core.0) label.Gave (λ turn e. cc e) here.owes here.may tells)
+  due_here _ (is_noted turn) tells = inl refl
+  due_here _ (is_reserved commit seen grant) tells = by (has_numbers grant) refl
     where
-      by : (b : Bool) → ◌≡◌ {A = OwesTurn} (if b then owes_given_back commit else owes_nothing) (owes_granted n)
-          → LastReserved (done_with (label.Returned commit)) core.0 n
-      by true e = absurd (cc e)
-      by false e = absurd (cc e)
-  reserved_here fact (is_other other) tells n owes =
-      let e = sym (free_where stamps (past.owns core.0) fact other.no_note here.owes tells) ∙ (sym (ap (λ (o : OwnOwed). o.owes) (other.stays here)) ∙ owes) in
-      absurd (cc e)
+      by : (b : Bool) → has_numbers grant ≡ b → IsDue (own_owed (label.Reserved commit seen grant) here)
+      by true is = inr (ap (λ c. if c then owes_granted commit else owes_nothing) is)
+      by false is = inl (ap (λ c. if c then owes_granted commit else owes_nothing) is)
+  due_here _ (is_returned commit) tells = by here.granted refl
+    where
+      by : (b : Bool) → here.granted ≡ b → IsDue (own_owed (label.Returned commit) here)
+      by true is = inr (ap (λ c. if c then owes_given_back commit else owes_nothing) is)
+      by false is = inl (ap (λ c. if c then owes_given_back commit else owes_nothing) is)
+  due_here fact (is_other other) tells =
+      inl (ap (λ (o : OwnOwed). o.owes) (other.stays here) ∙ free_where stamps (past.owns core.0) fact other.no_note here.owes here.may tells)
 
-  returned_here : (fact : Label) → Sort fact → Told_so fact → (n : ℕ) → (own_owed fact here).owes ≡ owes_given_back n → LastReturned (done_with fact) core.0 n
-  returned_here _ is_took tells n owes = let e = sym (free_where stamps (past.owns core.0) label.Took (λ turn e. cc e) here.owes tells) ∙ owes in absurd (cc e)
-  returned_here _ is_gave tells n owes = let e = sym (free_where stamps (past.owns core.0) label.Gave (λ turn e. cc e) here.owes tells) ∙ owes in absurd (cc e)
-  returned_here _ (is_noted turn) tells n owes = absurd (cc owes)
-  returned_here _ (is_reserved commit seen grant) tells n owes = by (has_numbers grant) owes
-    where
-      by : (b : Bool) → ◌≡◌ {A = OwesTurn} (if b then owes_granted commit else owes_nothing) (owes_given_back n)
-          → LastReturned (done_with (label.Reserved commit seen grant)) core.0 n
-      by true e = absurd (cc e)
-      by false e = absurd (cc e)
-  returned_here _ (is_returned commit) tells n owes = by here.granted owes
-    where
-      by : (b : Bool) → ◌≡◌ {A = OwesTurn} (if b then owes_given_back commit else owes_nothing) (owes_given_back n)
-          → LastReturned (done_with (label.Returned commit)) core.0 n
-      by true e =
-          let same : commit ≡ n = cc e in
-          record { rest = done; teller = core; own = refl; whole = ap (λ m. done ++ Told core (label.Returned m) ∷ []) same }
-      by false e = absurd (cc e)
-  returned_here fact (is_other other) tells n owes =
-      let e = sym (free_where stamps (past.owns core.0) fact other.no_note here.owes tells) ∙ (sym (ap (λ (o : OwnOwed). o.owes) (other.stays here)) ∙ owes) in
-      absurd (cc e)
+  reserved_here : (fact : Label) → Sort fact → (n : ℕ) → (own_owed fact here).may ≡ owes_granted n → LastReserved (done_with fact) core.0 n
+  reserved_here _ is_took n may = absurd (cc may)
+  reserved_here _ is_gave n may = absurd (cc may)
+  reserved_here _ (is_noted turn) n may = absurd (cc may)
+  reserved_here _ (is_reserved commit seen grant) n may = record {
+    rest = done;
+    one = record { core = core; commit = commit; seen = seen; grant = grant };
+    own = refl;
+    whole = refl;
+    number_is = cc may;
+  }
+  reserved_here _ (is_returned commit) n may = absurd (cc may)
+  reserved_here fact (is_other other) n may =
+      let never : ◌≡◌ {A = OwesTurn} owes_nothing (owes_granted n) = sym (ap (λ (o : OwnOwed). o.may) (other.stays here)) ∙ may in absurd (cc never)
+
+  returned_here : (fact : Label) → Sort fact → (n : ℕ) → (own_owed fact here).may ≡ owes_given_back n → LastReturned (done_with fact) core.0 n
+  returned_here _ is_took n may = absurd (cc may)
+  returned_here _ is_gave n may = absurd (cc may)
+  returned_here _ (is_noted turn) n may = absurd (cc may)
+  returned_here _ (is_reserved commit seen grant) n may = absurd (cc may)
+  returned_here _ (is_returned commit) n may =
+      let same : commit ≡ n = cc may in
+      record { rest = done; teller = core; own = refl; whole = ap (λ m. done ++ Told core (label.Returned m) ∷ []) same }
+  returned_here fact (is_other other) n may =
+      let never : ◌≡◌ {A = OwesTurn} owes_nothing (owes_given_back n) = sym (ap (λ (o : OwnOwed). o.may) (other.stays here)) ∙ may in absurd (cc never)
 
 module _ (layout : Layout) (before : ℕ) (stamps : ℕ → ℕ) where
   -- A history so far, what it comes to, and what comes behind it: what each core owes, of whom at most the one that has the box owes a turn, and then the
@@ -183,9 +175,10 @@ module _ (layout : Layout) (before : ℕ) (stamps : ℕ → ℕ) where
     pub own : ℕ → OwnOwed
     pub may : MayFrom layout before rest past
     pub stand : (core : ℕ) → OwnStand stamps (past.owns core) (own core) (entries_by event_core core rest)
-    pub busy : (core : ℕ) → ((own core).owes ≡ owes_nothing) ⊎ (past.busy ≡ Some core)
-    pub reserved : (core number : ℕ) → (own core).owes ≡ owes_granted number → LastReserved done core number
-    pub returned : (core number : ℕ) → (own core).owes ≡ owes_given_back number → LastReturned done core number
+    pub busy : (core : ℕ) → ((own core).may ≡ owes_nothing) ⊎ (past.busy ≡ Some core)
+    pub due : (core : ℕ) → IsDue (own core)
+    pub reserved : (core number : ℕ) → (own core).may ≡ owes_granted number → LastReserved done core number
+    pub returned : (core number : ℕ) → (own core).may ≡ owes_given_back number → LastReturned done core number
     pub owed : (core : ℕ) → own core ≡ owed_from (entries_by event_core core done) nothing_owed
 
   module _ (done : List (Event Label)) (past : BoxPast) (core : CoreId) (fact : Label) (rest : List (Event Label))
@@ -207,17 +200,20 @@ module _ (layout : Layout) (before : ℕ) (stamps : ℕ → ℕ) where
         subst (λ b. OwnStand stamps (past.owns core.0) here (cond b (event ∷ entries_by event_core core.0 rest) (entries_by event_core core.0 rest)))
         (same_number core.0) (at.stand core.0)
 
-    pub tells : TellsBeside stamps here.owes (past.owns core.0) fact
+    pub tells : TellsBeside stamps here.owes here.may (past.owns core.0) fact
     tells = own_stands.0
 
-    pub others_owe : (c : ℕ) → c ≢ core.0 → (at.own c).owes ≡ owes_nothing
-    others_owe c apart = elim (at.busy c) [
+    pub others_may : (c : ℕ) → c ≢ core.0 → (at.own c).may ≡ owes_nothing
+    others_may c apart = elim (at.busy c) [
       | inl none ↦ none
       | inr busy ↦ elim (turn_is core.0 fact past.busy (sort_of fact) at.may.0.0) [
         | inl free ↦ absurd (let never : ◌≡◌ {A = Option ℕ} None (Some c) = sym free ∙ busy in cc never)
         | inr own ↦ absurd (apart (let same : ◌≡◌ {A = Option ℕ} (Some c) (Some core.0) = sym busy ∙ own in cc same))
       ]
     ]
+
+    pub others_owe : (c : ℕ) → c ≢ core.0 → (at.own c).owes ≡ owes_nothing
+    others_owe c apart = elim (at.due c) [ inl none ↦ none | inr may ↦ may ∙ others_may c apart ]
 
     -- where this core owes nothing, none does
     pub nobody : here.owes ≡ owes_nothing → (c : ℕ) → (at.own c).owes ≡ owes_nothing
@@ -245,20 +241,20 @@ module _ (layout : Layout) (before : ℕ) (stamps : ℕ → ℕ) where
           (not_same core.0 c (λ same. apart (sym same))) (at.stand c))
     ]
 
-    busy_then : (c : ℕ) → ((own_then c).owes ≡ owes_nothing) ⊎ (later.busy ≡ Some c)
+    tells_other : (c : ℕ) → c ≢ core.0 → (own_then c).may ≡ owes_nothing
+    tells_other c apart = ap (λ (o : OwnOwed). o.may) (then_other c apart) ∙ others_may c apart
+
+    busy_then : (c : ℕ) → ((own_then c).may ≡ owes_nothing) ⊎ (later.busy ≡ Some c)
     busy_then c = elim (same_or_not c core.0) [
-      | inl same ↦ elim (busy_here layout stamps done past core here (at.busy core.0) fact (sort_of fact) at.may.0.0 tells) [
-        | inl none ↦ inl (ap (λ (o : OwnOwed). o.owes) (then_here c same) ∙ none)
+      | inl same ↦ elim (busy_here layout stamps done past core here fact (sort_of fact) at.may.0.0) [
+        | inl none ↦ inl (ap (λ (o : OwnOwed). o.may) (then_here c same) ∙ none)
         | inr busy ↦ inr (busy ∙ ap Some (sym same))
       ]
-      | inr apart ↦ inl (ap (λ (o : OwnOwed). o.owes) (then_other c apart) ∙ others_owe c apart)
+      | inr apart ↦ inl (tells_other c apart)
     ]
 
     abbrev done_then : List (Event Label)
     done_then = done ++ event ∷ []
-
-    owes_other : (c : ℕ) → c ≢ core.0 → (own_then c).owes ≡ owes_nothing
-    owes_other c apart = ap (λ (o : OwnOwed). o.owes) (then_other c apart) ∙ others_owe c apart
 
     owed_then : (c : ℕ) → own_then c ≡ owed_from (entries_by event_core c done_then) nothing_owed
     owed_then c = sym (
@@ -282,17 +278,23 @@ module _ (layout : Layout) (before : ℕ) (stamps : ℕ → ℕ) where
       may = at.may.1;
       stand = stand_then;
       busy = busy_then;
-      reserved = λ c n owes. elim (same_or_not c core.0) [
+      due = λ c. elim (same_or_not c core.0) [
+        | inl same ↦
+            subst IsDue (sym (then_here c same))
+            (due_here layout stamps done past core here fact (sort_of fact) tells)
+        | inr apart ↦ subst IsDue (sym (then_other c apart)) (at.due c)
+      ];
+      reserved = λ c n may. elim (same_or_not c core.0) [
         | inl same ↦
             subst (λ m. LastReserved done_then m n) (sym same)
-            (reserved_here layout stamps done past core here (at.busy core.0) fact (sort_of fact) tells n (sym (ap (λ (o : OwnOwed). o.owes) (then_here c same)) ∙ owes))
-        | inr apart ↦ let e = sym (owes_other c apart) ∙ owes in absurd (cc e)
+            (reserved_here layout stamps done past core here fact (sort_of fact) n (sym (ap (λ (o : OwnOwed). o.may) (then_here c same)) ∙ may))
+        | inr apart ↦ let never : ◌≡◌ {A = OwesTurn} owes_nothing (owes_granted n) = sym (tells_other c apart) ∙ may in absurd (cc never)
       ];
-      returned = λ c n owes. elim (same_or_not c core.0) [
+      returned = λ c n may. elim (same_or_not c core.0) [
         | inl same ↦
             subst (λ m. LastReturned done_then m n) (sym same)
-            (returned_here layout stamps done past core here (at.busy core.0) fact (sort_of fact) tells n (sym (ap (λ (o : OwnOwed). o.owes) (then_here c same)) ∙ owes))
-        | inr apart ↦ let e = sym (owes_other c apart) ∙ owes in absurd (cc e)
+            (returned_here layout stamps done past core here fact (sort_of fact) n (sym (ap (λ (o : OwnOwed). o.may) (then_here c same)) ∙ may))
+        | inr apart ↦ let never : ◌≡◌ {A = OwesTurn} owes_nothing (owes_given_back n) = sym (tells_other c apart) ∙ may in absurd (cc never)
       ];
       owed = owed_then;
     }
@@ -309,8 +311,9 @@ module _ (layout : Layout) (before : ℕ) (stamps : ℕ → ℕ) where
     may = may;
     stand = stand;
     busy = λ c. inl refl;
-    reserved = λ c n owes. absurd (cc owes);
-    returned = λ c n owes. absurd (cc owes);
+    due = λ c. inl refl;
+    reserved = λ c n may. absurd (cc may);
+    returned = λ c n may. absurd (cc may);
     owed = λ c. refl;
   }
 
@@ -328,42 +331,45 @@ module _ (layout : Layout) (before : ℕ) (stamps : ℕ → ℕ) where
       subst (λ l. Owing l (past_from layout front (after_label layout core.0 fact past)) back) (append_assoc done (Told core fact ∷ []) front)
       (owing_at (done ++ Told core fact ∷ []) front back (after_label layout core.0 fact past) (owing_then done past core fact (front ++ back) at))
 
-  -- a turn that is noted by what is owed
-  noted_granted : (done : List (Event Label)) (core : CoreId) (told : OwnTold) (turn : Turn) (o : OwesTurn)
-      → ((n : ℕ) → o ≡ owes_granted n → LastReserved done core.0 n) → TellsBeside stamps o told (label.Noted turn) → turn.act ≡ act.Granted
+  -- a turn that is noted by what is owed, or may be told
+  by_reserving : (done : List (Event Label)) (core : CoreId) (turn : Turn) (n : ℕ) → LastReserved done core.0 n → turn.stamp.0 ≡ stamps n
       → StandsByReserving stamps done core turn
-  noted_granted done core told turn owes_nothing last tells did = absurd (tells.no_grant did)
-  noted_granted done core told turn (owes_granted n) last tells did =
-      let found = last n refl in
+  by_reserving done core turn n found stamp = record {
+    rest = found.rest;
+    one = found.one;
+    own = found.own;
+    whole = found.whole;
+    stamp_is = stamp ∙ ap stamps (sym found.number_is);
+  }
+
+  by_returning : (done : List (Event Label)) (core : CoreId) (turn : Turn) (n : ℕ) → LastReturned done core.0 n → turn.stamp.0 ≡ stamps n
+      → StandsByReturning stamps done core turn
+  by_returning done core turn n found stamp =
+      record { rest = found.rest; commit = n; teller = found.teller; own = found.own; whole = found.whole; stamp_is = stamp }
+
+  noted_granted : (done : List (Event Label)) (core : CoreId) (told : OwnTold) (turn : Turn) (o may : OwesTurn) → (o ≡ owes_nothing) ⊎ (o ≡ may)
+      → ((n : ℕ) → may ≡ owes_granted n → LastReserved done core.0 n) → TellsBeside stamps o may told (label.Noted turn) → turn.act ≡ act.Granted
+      → StandsByReserving stamps done core turn
+  noted_granted done core told turn owes_nothing may due last tells did =
+      let free = tells.own_grant did in by_reserving done core turn free.number (last free.number free.may_is) free.stamp_is
+  noted_granted done core told turn (owes_granted n) may due last tells did =
       let same : turn ≡ tells.turn = cc tells.is in
-      record {
-        rest = found.rest;
-        one = found.one;
-        own = found.own;
-        whole = found.whole;
-        some = found.some;
-        stamp_is = ap (λ (t : Turn). t.stamp.0) same ∙ (tells.stamp_is ∙ ap stamps (sym found.number_is));
-      }
-  noted_granted done core told turn (owes_given_back n) last tells did =
+      let may_is : may ≡ owes_granted n = elim due [ inl none ↦ absurd (cc none) | inr is ↦ sym is ] in
+      by_reserving done core turn n (last n may_is) (ap (λ (t : Turn). t.stamp.0) same ∙ tells.stamp_is)
+  noted_granted done core told turn (owes_given_back n) may due last tells did =
       let same : turn ≡ tells.turn = cc tells.is in
       let never : ◌≡◌ {A = TurnAct} act.Granted act.GivenBack = sym did ∙ (ap (λ (t : Turn). t.act) same ∙ tells.did_is) in absurd (cc never)
 
-  noted_returned : (done : List (Event Label)) (core : CoreId) (told : OwnTold) (turn : Turn) (o : OwesTurn)
-      → ((n : ℕ) → o ≡ owes_given_back n → LastReturned done core.0 n) → TellsBeside stamps o told (label.Noted turn) → turn.act ≡ act.GivenBack
+  noted_returned : (done : List (Event Label)) (core : CoreId) (told : OwnTold) (turn : Turn) (o may : OwesTurn) → (o ≡ owes_nothing) ⊎ (o ≡ may)
+      → ((n : ℕ) → may ≡ owes_given_back n → LastReturned done core.0 n) → TellsBeside stamps o may told (label.Noted turn) → turn.act ≡ act.GivenBack
       → StandsByReturning stamps done core turn
-  noted_returned done core told turn owes_nothing last tells did = absurd (tells.no_return did)
-  noted_returned done core told turn (owes_given_back n) last tells did =
-      let found = last n refl in
+  noted_returned done core told turn owes_nothing may due last tells did =
+      let free = tells.own_return did in by_returning done core turn free.number (last free.number free.may_is) free.stamp_is
+  noted_returned done core told turn (owes_given_back n) may due last tells did =
       let same : turn ≡ tells.turn = cc tells.is in
-      record {
-        rest = found.rest;
-        commit = n;
-        teller = found.teller;
-        own = found.own;
-        whole = found.whole;
-        stamp_is = ap (λ (t : Turn). t.stamp.0) same ∙ tells.stamp_is;
-      }
-  noted_returned done core told turn (owes_granted n) last tells did =
+      let may_is : may ≡ owes_given_back n = elim due [ inl none ↦ absurd (cc none) | inr is ↦ sym is ] in
+      by_returning done core turn n (last n may_is) (ap (λ (t : Turn). t.stamp.0) same ∙ tells.stamp_is)
+  noted_returned done core told turn (owes_granted n) may due last tells did =
       let same : turn ≡ tells.turn = cc tells.is in
       let never : ◌≡◌ {A = TurnAct} act.GivenBack act.Granted = sym did ∙ (ap (λ (t : Turn). t.act) same ∙ tells.did_is) in absurd (cc never)
 
@@ -372,11 +378,11 @@ module _ (layout : Layout) (before : ℕ) (stamps : ℕ → ℕ) where
     granted = λ turn noted did.
         let at = place turn noted in
         noted_granted noted.front noted.core ((past_from layout noted.front (first_past moment)).owns noted.core.0) turn (at.own noted.core.0).owes
-        (at.reserved noted.core.0) (tells noted.front (past_from layout noted.front (first_past moment)) noted.core (label.Noted turn) noted.back at) did;
+        (at.own noted.core.0).may (at.due noted.core.0) (at.reserved noted.core.0) (tells noted.front (past_from layout noted.front (first_past moment)) noted.core (label.Noted turn) noted.back at) did;
     given_back = λ turn noted did.
         let at = place turn noted in
         noted_returned noted.front noted.core ((past_from layout noted.front (first_past moment)).owns noted.core.0) turn (at.own noted.core.0).owes
-        (at.returned noted.core.0) (tells noted.front (past_from layout noted.front (first_past moment)) noted.core (label.Noted turn) noted.back at) did;
+        (at.own noted.core.0).may (at.due noted.core.0) (at.returned noted.core.0) (tells noted.front (past_from layout noted.front (first_past moment)) noted.core (label.Noted turn) noted.back at) did;
     durable = λ turn noted did. (place turn noted).may.0.1.no_durable did;
   }
     where

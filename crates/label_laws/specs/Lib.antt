@@ -1,3 +1,4 @@
 pub mod Own
 pub mod Maps
 pub mod Beside
+pub mod Pens

@@ -1,5 +1,5 @@
 -- That the map of free space along turns is drawn from the one that goes along labels.
-use Rattle.std.specs.Prelude.{◌≡◌, ◌∷◌, ◌++◌, ◌≢◌, length, ℕ, List, [], true}
+use Rattle.std.specs.Prelude.{◌≡◌, ◌∷◌, ◌++◌, ◌≢◌, length, ℕ, List, []}
 use Rattle.sfs_base.specs.declared.numbers.CoreId.{CoreId}
 use Rattle.sfs_image.specs.Super.{Layout}
 use Rattle.fmt_journal.specs.declared.tx.Tx.{Tx}
@@ -30,7 +30,7 @@ use Rattle.slot_laws.specs.Grants.{GoesAlong}
 use Rattle.slot_laws.specs.Lasts.{Reserving, told_reserving, IsMadeAs}
 use Rattle.slot_laws.specs.Rules.{MayFrom}
 use Rattle.slot_laws.specs.declared.label.Seen.{Seen}
-use Rattle.label_laws.specs.Own.{StandBeside, OwnOwed, own_owed, nothing_owed, owes_nothing, has_numbers}
+use Rattle.label_laws.specs.Own.{StandBeside, OwnOwed, own_owed, nothing_owed, owes_nothing}
 
 -- The grant under a number serves what its fsync brings: it is the one that was brought with, and is as much as the plan needs, which fits words.
 pub record GrantFits (one : Bringing) (grant : GrantedNumbers) : Type 0 where
@@ -130,13 +130,12 @@ pub record IsDrawn (named : Numbered) (told : Telling) : Type 0 where
 abbrev pub MapsAreDrawn : Type 0
 MapsAreDrawn = (named : Numbered) (told : Telling) → IsTold named told → IsDrawn named told
 
--- A turn that reserves was noted in a history right behind the label that does, of a commit of its fsync that was granted something.
+-- A turn that reserves was noted in a history right behind the label that does, of a commit of its fsync.
 pub record StandsByReserving (stamps : ℕ → ℕ) (front : List (Event Label)) (core : CoreId) (turn : Turn) : Type 0 where
   pub rest : List (Event Label)
   pub one : Reserving
   pub own : one.core.0 ≡ core.0
   pub whole : front ≡ rest ++ told_reserving one ∷ []
-  pub some : has_numbers one.grant ≡ true
   pub stamp_is : turn.stamp.0 ≡ stamps one.commit
 
 -- A turn that gives back was noted right behind the label that does, of a commit of its fsync.

@@ -24,3 +24,4 @@ pub mod Worked
 pub mod WorkedMaps
 pub mod WorkedLonger
 pub mod WorkedAlong
+pub mod Telling

@@ -2,6 +2,7 @@ pub mod Slots
 pub mod Nodes
 pub mod Labels
 pub mod Rules
+pub mod Telling
 pub mod Fits
 pub mod Laws
 pub mod Rings

@@ -4,6 +4,7 @@ ghost use Rattle.slot_laws.specs.Grants.{GrantsAreOnes, ReservingsTakeTheLeast, 
 ghost use Rattle.slot_laws.specs.Lasts.{LabelsKeepTheBox, NodesCount, NodesFit, NotedTurnsKeepNodes, ReservingsKnew, ReturnsRestore};
 ghost use Rattle.slot_laws.specs.Laws.{LabelsCountFaults, LabelsMergePens, LabelsRise, LawfulFits, OwnIs, PensMakeTheRecord, StampsAreFew, StampsAreLeft};
 ghost use Rattle.slot_laws.specs.Rings.{GreaterStampsAreNewer, SlotsCloseInOrder};
+ghost use Rattle.slot_laws.specs.Telling.{PensGoOn, PensTellTurns, TurnsAreOfOne};
 ghost use Rattle.slot_laws.specs.Worked.{LabelsCanBeMet};
 ghost use Rattle.slot_laws.specs.WorkedLonger.{LingeringSlotsCanBeMet};
 
@@ -123,4 +124,19 @@ pub fn placings_take_the_oldest()
 /// A slot has its durable commit, and so counts, until the sync after its gate was written shut.
 pub fn slots_count_until_synced()
     ensures { SlotsCountUntilSynced }
+{}
+
+/// What a pen has told goes on with more turns at the box.
+pub fn pens_go_on()
+    ensures { PensGoOn }
+{}
+
+/// A pen's turns are those that its core's turns at the box tell, in their order.
+pub fn pens_tell_turns()
+    ensures { PensTellTurns }
+{}
+
+/// The turns that are told in one turn at the box are of its core and of its fsync.
+pub fn turns_are_of_one()
+    ensures { TurnsAreOfOne }
 {}

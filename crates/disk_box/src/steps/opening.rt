@@ -5,6 +5,7 @@ ghost use Rattle.disk_box.specs.declared.kind.Kind.TheVariants as kind;
 ghost use Rattle.disk_box.specs.Kind.{HasKind};
 ghost use Rattle.disk_box.specs.Pens.{WorksAtDesk, own_at};
 ghost use Rattle.disk_box.specs.Steps.{OpensFlight, Steps};
+ghost use Rattle.disk_box.specs.Turns.{TellsOpening};
 
 use crate::{BoxTable, Desk, Pen, note};
 use sfs_dev::Disk;
@@ -24,6 +25,7 @@ pub fn open_one<D: Disk + Drop>(
     requires kind { HasKind desk.old.slots.items k kind.Sealed }
     ensures steps { Steps D.view table.now pen.old pen.new desk.new result }
     ensures own { OpensFlight pen.old.view.core (own_at pen.old) (own_at pen.new) }
+    ensures tells { TellsOpening k pen.old pen.new }
 {
     let result = desk.slots[k].open(&mut desk.disk);
     let done = result.is_ok();

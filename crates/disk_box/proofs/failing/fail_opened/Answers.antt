@@ -43,3 +43,13 @@ returns-clause-at g c =
     fail_at g.D.Disk.view c.args.table.now pen c.note.new.pen turn desk (record desk { turns = c.push.new.self; failed = Some c.args.faults })
     broken.holds c.note.ensures.holds c.note.ensures.tells broken.frame broken.space broken.calm rule by.did_is (broken.counted, now) refl
     c.push.ensures.items (omega (arith, ends, spare, room))
+
+pub returns-clause-tells : goal.returns-clause-tells
+returns-clause-tells g c =
+    let by = c.turn.ensures.by in
+    record {
+      fail = record c.turn.result { faults = c.args.faults };
+      by = record { did_is = by.did_is; core_is = by.core_is ∙ c.number.ensures; commit_is = by.commit_is; flush_is = by.flush_is };
+      counts = refl;
+      mine_is = c.note.ensures.tells.mine_is;
+    }

@@ -1,4 +1,4 @@
-use Rattle.std.proofs.Common.{◌≡◌, ◌≢◌, ◌≤◌, ◌∙◌, ℕ, Some, refl, sym, ap, subst, arith}
+use Rattle.std.proofs.Common.{◌≡◌, ◌≢◌, ◌≤◌, ◌∷◌, ◌∙◌, ℕ, [], Some, refl, sym, ap, subst, arith}
 use Rattle.tree_laws.specs.Tree.{TreeState}
 use Rattle.tree_laws.specs.declared.turns.Turn.{Turn}
 use Rattle.stamp_table.specs.declared.event.Event.{Event}
@@ -12,6 +12,7 @@ use Rattle.disk_box.specs.Pens.{PenHand, past_at}
 use Rattle.disk_box.proofs.Failure.{GoesOnBroken, cut_goes_on, fail_at}
 use Rattle.disk_box.proofs.Frames.{own_after, others_after}
 use Rattle.disk_box.proofs.NotedRules.{cut_rule, fail_rule}
+use Rattle.disk_box.proofs.StepsTold.{tells_both}
 use Rattle.disk_box.proofs.Owes.{room_for, owed_ends, last_over}
 use Rattle.disk_box.proofs.failing.fail_unopened.Goals as goal
 
@@ -80,3 +81,20 @@ returns-clause-at g c =
     fail_at g.D.Disk.view c.args.table.now mid c.note-2.new.pen turn between (record desk { turns = c.push-2.new.self; failed = Some c.args.faults })
     c.note.ensures.holds c.note-2.ensures.holds c.note-2.ensures.tells on.frame on.space on.calm fail by.did_is (broken.counted, now) refl
     c.push-2.ensures.items (omega (arith, ends, spare, again, room, cores))
+
+pub returns-clause-tells : goal.returns-clause-tells
+returns-clause-tells g c =
+    let pen = c.args.pen.now in
+    let cut = c.turn-cut.result in
+    let cut_by = c.turn-cut.ensures.by in
+    let by = c.turn.ensures.by in
+    let fail : Turn = record c.turn.result { faults = c.args.faults } in
+    record {
+      cut = cut;
+      fail = fail;
+      cut_by = record { did_is = cut_by.did_is; core_is = cut_by.core_is ∙ c.number-core.ensures; commit_is = cut_by.commit_is; flush_is = cut_by.flush_is };
+      fail_by = record { did_is = by.did_is; core_is = by.core_is ∙ c.number-core.ensures; commit_is = by.commit_is; flush_is = by.flush_is };
+      counts = refl;
+      mine_is = tells_both pen c.note.new.pen c.note-2.new.pen (label.Noted cut ∷ []) (label.Noted fail ∷ []) c.note.ensures.tells.goes
+          c.note.ensures.tells.mine_is c.note-2.ensures.tells.mine_is;
+    }

@@ -47,3 +47,6 @@ returns-clause-some g c =
     subst (λ (o : OwnTold). Lands c.in_ok-turn.turn pen.view.core (Rattle.disk_box.specs.Pens.own_at pen) o) (sym c.note.ensures.tells.own)
     (subst (λ (o : OwnTold). Lands c.in_ok-turn.turn pen.view.core o (own_label (label.Looked c.in_ok-turn.turn) o)) own
     (lands pen.table.given pen.view.core (past_at pen) (past_fits_at c.args.table.now pen at.holds) c.in_ok-turn.turn (waits ∙ c.in_ok-turn.was)))
+
+pub returns-clause-tells : goal.returns-clause-tells
+returns-clause-tells g c = c.note.ensures.tells.mine_is

@@ -1,13 +1,14 @@
-use Rattle.std.proofs.Common.{◌≡◌, ◌+◌, ◌<◌, ◌≤◌, ◌∙◌, ℕ, List, All, Some, None, option_map, refl, sym, ap, subst, arith, slice_set, false}
 use Rattle.std.specs.List.Sorted.{IsStrictlyIncreasing}
+use Rattle.std.proofs.Common.{◌≡◌, ◌<◌, ◌∙◌, ℕ, All, Some, None, option_map, refl, sym, ap, subst, arith, slice_set, false}
 use Rattle.std.proofs.lemmas.List.{set-set}
-use Rattle.sfs_base.proofs.BasicOptions.{some_not_none, some_same}
 use Rattle.sfs_base.specs.Lists.{Roomy}
+use Rattle.sfs_base.proofs.BasicOptions.{some_not_none, some_same}
 use Rattle.sfs_image.specs.Journal.{Entry}
 use Rattle.journal_one.specs.Job.{Job, LiesInData, Place}
 use Rattle.journal_one.specs.Packed.{inode_of_entry}
 use Rattle.journal_one.specs.Stage.{Stage}
 use Rattle.slot_laws.specs.Labels.{OwnTold, fsync_told}
+use Rattle.slot_laws.specs.Telling.{turn_begins}
 use Rattle.slot_laws.proofs.Few.{stamps_are_left}
 use Rattle.commit_ledger.specs.View.{OpenView, number_in}
 use Rattle.commit_ledger.specs.Keeps.{LedgerGoes}
@@ -214,4 +215,30 @@ returns-clause-work g c =
       fits = fits_told g.D.Disk.view t pen c.note.new.pen (label_of b) c.note.ensures.holds c.note.ensures.tells now (later work.fits);
       space = space_told g.D.Disk.view t pen c.note.new.pen (label_of b) c.note.ensures.holds c.note.ensures.tells desk now work.space
           (goes.space (record { 0 = pen.view.core }));
+    }
+
+pub returns-clause-tells : goal.returns-clause-tells
+returns-clause-tells g c =
+    let t = c.args.table.now in
+    let work = c.requires.work in
+    let pen = c.args.pen.now in
+    let its = its_number g.D.Disk.view t pen c.args.desk.now c.args.writing.grant c.in-Some.number work c.requires.grant
+    (ap (number_in c.args.desk.now.ledger) (sym c.number-core.ensures) ∙ (sym c.number.ensures ∙ c.in-Some.is))
+    in
+    record {
+      one = turn_begins c.begin.result c.in-Some.number c.args.writing.fsync.node c.args.writing.fsync.stamp c.args.writing.freed_blocks
+          c.args.writing.freed_inodes;
+      is = record {
+        number = c.in-Some.number;
+        had = sym (ap (λ (o : OwnTold). o.reserved) (owns_own t pen work.holds)) ∙ its.0;
+        is = (
+          refl,
+          refl,
+          ap (λ (j : Job). j.entries) c.begin.ensures.job,
+          ap (λ (j : Job). j.fresh) c.begin.ensures.job,
+          refl,
+          refl,
+        );
+      };
+      mine_is = c.note.ensures.tells.mine_is;
     }

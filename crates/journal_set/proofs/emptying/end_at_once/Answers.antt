@@ -1,4 +1,4 @@
-use Rattle.std.proofs.Common.{◌≡◌, ◌+◌, ◌<◌, ◌≤◌, ◌∷◌, ◌++◌, ◌∙◌, ℕ, false, List, [], length, Some, None, refl, sym, ap, subst, arith, append_assoc}
+use Rattle.std.proofs.Common.{◌≡◌, ◌∷◌, ◌++◌, ◌∙◌, [], None, refl, sym, ap, subst, arith, append_assoc}
 use Rattle.tree_laws.specs.declared.turns.TurnAct.TheVariants as act
 use Rattle.cut_laws.specs.Closure.{Flush}
 use Rattle.slot_laws.specs.declared.label.Label.TheVariants as label
@@ -160,3 +160,17 @@ returns-clause-at g c =
     c.note.ensures.tells desk now work.space (goes.space (record { 0 = pen.view.core }))
     (emptied_fits view pen.table.given pen.view.core (past_at pen) fits desk work.fits.frame work.holds.core_is c.args.number reserved work.calm flush
     c.turn-cut.result c.turn-opened.result c.turn-durable.result three now refl opens goes all (omega (arith, first, second, third)) work.fits over)
+
+pub returns-clause-tells : goal.returns-clause-tells
+returns-clause-tells g c =
+    let flush : Flush = fsync_told c.args.fsync.node c.args.fsync.stamp in
+    record {
+      cut = c.turn-cut.result;
+      opened = c.turn-opened.result;
+      durable = c.turn-durable.result;
+      cut_by = subst (λ n. IsTurnBy c.turn-cut.result act.CutAt n c.args.number flush) c.number-core.ensures c.turn-cut.ensures.by;
+      opened_by = subst (λ n. IsTurnBy c.turn-opened.result act.Opened n c.args.number flush) c.number-core.ensures c.turn-opened.ensures.by;
+      durable_by = subst (λ n. IsTurnBy c.turn-durable.result act.Durable n c.args.number flush) c.number-core.ensures c.turn-durable.ensures.by;
+      moment = refl;
+      mine_is = c.note.ensures.tells.mine_is;
+    }

@@ -1,9 +1,12 @@
-use Rattle.std.proofs.Common.{inl, false, sym, subst}
+use Rattle.std.proofs.Common.{inl, false, sym, subst, Ok}
 use Rattle.disk_box.specs.Pens.{own_at}
-use Rattle.journal_set.specs.Flying.{IsUnderWay}
+use Rattle.journal_set.specs.Flying.{IsUnderWay, flush_of}
+use Rattle.journal_set.specs.Telling.{flight_labels}
 use Rattle.journal_set.proofs.Aloft.{under_own}
 use Rattle.journal_set.proofs.Failing.{at_of_work, fails_shut, owes_shut, progress_comes, risen_still, still_looked}
 use Rattle.journal_set.proofs.flying.before_gate.Goals as goal
+use Rattle.journal_set.proofs.Told.{tells_work}
+use Rattle.journal_set.proofs.ToldCommits.{going_is, fails_in_slot}
 
 pub fill_or_seal-requires-clause-own : goal.fill_or_seal-requires-clause-own
 fill_or_seal-requires-clause-own g c κs within =
@@ -42,3 +45,16 @@ pub returns-in-Err-clause-goes : goal.returns-in-Err-clause-goes
 returns-in-Err-clause-goes g c =
     Rattle.journal_set.proofs.Turned.goes_twice c.args.pen.now c.fill_or_seal.new.pen c.fail_unopened.new.pen c.in-Err.ensures.steps.goes
     c.fail_unopened.ensures.goes
+
+pub returns-in-Ok-clause-tells : goal.returns-in-Ok-clause-tells
+returns-in-Ok-clause-tells g c =
+    let pen = c.args.pen.now in
+    let flight = c.args.flight.now in
+    tells_work pen c.fill_or_seal.new.pen c.in-Ok.ensures.steps.tells c.fill_or_seal.ensures.own
+    (flight_labels pen.view.core flight.commit (flush_of flight) (Ok c.in-Ok.progress))
+    (going_is pen.view.core flight.commit (flush_of flight) c.in-Ok.progress c.in-Ok.ensures.progress)
+
+pub returns-in-Err-clause-tells : goal.returns-in-Err-clause-tells
+returns-in-Err-clause-tells g c =
+    fails_in_slot c.args.pen.now c.fill_or_seal.new.pen c.fail_unopened.new.pen c.in-Err.faults c.args.flight.now c.fill_or_seal.new.flight
+    c.fill_or_seal.ensures.same c.in-Err.ensures.steps.goes c.in-Err.ensures.steps.tells c.fill_or_seal.ensures.own c.fail_unopened.ensures.tells

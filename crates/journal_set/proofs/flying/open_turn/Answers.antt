@@ -1,9 +1,13 @@
-use Rattle.std.proofs.Common.{◌∙◌, inl, inr, false, sym, ap, subst}
+use Rattle.std.proofs.Common.{inr, false}
 use Rattle.disk_box.specs.Pens.{own_at}
+use Rattle.journal_set.specs.Telling.{TellsGoing}
+use Rattle.journal_set.specs.Flying.{flush_of}
 use Rattle.journal_set.proofs.Aloft.{under_own}
 use Rattle.journal_set.proofs.Failing.{at_of_work, fails_opened, owes_opened, risen_still, still_looked}
 use Rattle.journal_set.proofs.Turned.{goes_twice, opened_under}
 use Rattle.journal_set.proofs.flying.open_turn.Goals as goal
+use Rattle.journal_set.proofs.ToldCommits.{opens_under, fails_opening}
+use Rattle.journal_set.proofs.Told.{tells_nothing}
 
 pub open_one-requires-clause-own : goal.open_one-requires-clause-own
 open_one-requires-clause-own g c κs within =
@@ -40,3 +44,16 @@ returns-in-Err-clause-cause g c = risen_still g.D.Disk.view c.args.table.now c.a
 pub returns-in-Err-clause-goes : goal.returns-in-Err-clause-goes
 returns-in-Err-clause-goes g c =
     goes_twice c.args.pen.now c.open_one.new.pen c.fail_opened.new.pen c.in-Err.ensures.steps.goes c.fail_opened.ensures.goes
+
+pub returns-in-Ok-clause-tells : goal.returns-in-Ok-clause-tells
+returns-in-Ok-clause-tells g c =
+    opens_under c.args.pen.now c.open_one.new.pen c.args.flight.now false c.requires.under c.open_one.ensures.tells c.open_one.ensures.own
+
+pub returns-in-Err-clause-tells : goal.returns-in-Err-clause-tells
+returns-in-Err-clause-tells g c =
+    fails_opening c.args.pen.now c.open_one.new.pen c.fail_opened.new.pen c.in-Err.faults c.args.flight.now false c.requires.under
+    c.in-Err.ensures.steps.goes c.open_one.ensures.tells c.open_one.ensures.own c.fail_opened.ensures.tells
+
+pub returns-then-not-flight-clause-tells : goal.returns-then-not-flight-clause-tells
+returns-then-not-flight-clause-tells g c =
+    tells_nothing c.args.pen.now (TellsGoing c.args.pen.now.view.core c.args.flight.now.commit (flush_of c.args.flight.now)) tt

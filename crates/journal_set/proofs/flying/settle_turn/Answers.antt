@@ -1,8 +1,11 @@
 use Rattle.std.proofs.Common.{inl, true, sym, subst}
-use Rattle.journal_set.specs.Flying.{IsUnderWay}
+use Rattle.journal_set.specs.Flying.{IsUnderWay, flush_of}
+use Rattle.journal_set.specs.Telling.{TellsGoing}
 use Rattle.journal_set.proofs.Failing.{at_of_work, fails_opened, owes_opened, risen_still, still_looked}
 use Rattle.journal_set.proofs.Turned.{goes_twice}
 use Rattle.journal_set.proofs.flying.settle_turn.Goals as goal
+use Rattle.journal_set.proofs.Told.{tells_work}
+use Rattle.journal_set.proofs.ToldCommits.{fails_working}
 
 pub fail_opened-requires-clause-looked : goal.fail_opened-requires-clause-looked
 fail_opened-requires-clause-looked g c κs within = still_looked g.D.Disk.view c.args.table.now c.args.pen.now c.shut_or_settle.new.pen
@@ -34,3 +37,15 @@ returns-in-Err-clause-cause g c = risen_still g.D.Disk.view c.args.table.now c.a
 pub returns-in-Err-clause-goes : goal.returns-in-Err-clause-goes
 returns-in-Err-clause-goes g c =
     goes_twice c.args.pen.now c.shut_or_settle.new.pen c.fail_opened.new.pen c.in-Err.ensures.steps.goes c.fail_opened.ensures.goes
+
+pub returns-in-Ok-clause-tells : goal.returns-in-Ok-clause-tells
+returns-in-Ok-clause-tells g c =
+    let pen = c.args.pen.now in
+    let flight = c.args.flight.now in
+    tells_work pen c.shut_or_settle.new.pen c.in-Ok.ensures.steps.tells c.shut_or_settle.ensures.own
+    (TellsGoing pen.view.core flight.commit (flush_of flight)) (λ facts work. work)
+
+pub returns-in-Err-clause-tells : goal.returns-in-Err-clause-tells
+returns-in-Err-clause-tells g c =
+    fails_working c.args.pen.now c.shut_or_settle.new.pen c.fail_opened.new.pen c.in-Err.faults c.args.flight.now c.shut_or_settle.new.flight
+    c.shut_or_settle.ensures.same c.in-Err.ensures.steps.goes c.in-Err.ensures.steps.tells c.shut_or_settle.ensures.own c.fail_opened.ensures.tells

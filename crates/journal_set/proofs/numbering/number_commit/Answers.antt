@@ -1,31 +1,27 @@
 use Rattle.std.proofs.Common.{◌≡◌, ◌+◌, ◌∷◌, ◌++◌, ◌∙◌, ℕ, [], length, Some, None, refl, sym, ap, subst}
 use Rattle.sfs_base.specs.Lists.{Roomy}
+use Rattle.space_map.specs.Space.{GrantedNumbers}
+use Rattle.tree_laws.specs.Tree.{TreeState}
+use Rattle.stamp_table.specs.declared.event.Event.{Event}
+use Rattle.stamp_table.specs.declared.event.Event.TheVariants.{Told}
+use Rattle.stamp_table.specs.declared.view.View.{View as Sight}
 use Rattle.slot_laws.specs.declared.label.Label.{Label}
 use Rattle.slot_laws.specs.declared.label.Label.TheVariants as label
 use Rattle.slot_laws.specs.declared.label.Seen.{Seen}
 use Rattle.slot_laws.specs.Nodes.{last_ended, last_seen}
-use Rattle.slot_laws.specs.Labels.{OwnTold}
-use Rattle.slot_laws.specs.Rules.{MayLabel}
-use Rattle.slot_laws.specs.declared.label.Label.TheVariants as label
-use Rattle.tree_laws.specs.Tree.{TreeState}
-use Rattle.space_map.specs.Space.{GrantedNumbers}
-use Rattle.stamp_table.specs.declared.event.Event.{Event}
-use Rattle.stamp_table.specs.declared.event.Event.TheVariants.{Told}
-use Rattle.stamp_table.specs.declared.view.View.{View as Sight}
-use Rattle.slot_laws.specs.Labels.{first_past}
+use Rattle.slot_laws.specs.Labels.{OwnTold, first_past}
+use Rattle.slot_laws.specs.Rules.{MayLabel, ReservedRule}
 use Rattle.slot_laws.specs.Grants.{SpaceGoes}
-use Rattle.slot_laws.specs.Rules.{ReservedRule}
 use Rattle.commit_ledger.specs.Calls.{EntersCommit, MayEnter}
 use Rattle.commit_ledger.specs.Keeps.{LedgerGoes}
 use Rattle.commit_ledger.specs.View.{HaveNodePlaces}
 use Rattle.disk_box.specs.declared.key.BoxKey.{BoxKey}
 use Rattle.disk_box.specs.declared.desk.Desk.{Desk}
-use Rattle.journal_set.specs.Grants.{grant_from}
-use Rattle.journal_set.proofs.Parts.{grant_more}
 use Rattle.disk_box.specs.Pens.{PenHand, TellsLabel, past_at}
 use Rattle.disk_box.proofs.After.{at_told, failed_told, past_fits_at}
 use Rattle.disk_box.proofs.Owes.{owns_own}
-use Rattle.journal_set.proofs.Parts.{same_grant, same_nodes}
+use Rattle.journal_set.specs.Grants.{grant_from}
+use Rattle.journal_set.proofs.Parts.{grant_more, same_grant, same_nodes}
 use Rattle.journal_set.proofs.Reserved.{entered_fits, may_enter, reserved_rule}
 use Rattle.journal_set.proofs.numbering.number_commit.Goals as goal
 
@@ -129,6 +125,8 @@ returns-clause-ok g c =
         inodes = ap (λ (n : GrantedNumbers). length n.inodes) (sym grants) ∙ ok.inodes;
         blocks = ap (λ (n : GrantedNumbers). length n.blocks) (sym grants) ∙ ok.blocks;
       };
+      tells = tells.mine_is
+          ∙ (λ i. pen.view.mine ++ Told (record { 0 = pen.view.core }) (label.Reserved made.number made.seen (grants i)) ∷ []);
       work = record {
         holds = at.holds;
         calm = failed_told g.D.Disk.view t pen after told c.note.ensures.holds tells None work.calm;

@@ -1,11 +1,15 @@
 use Rattle.std.proofs.Common.{◌*◌, ◌≤◌, ◌∙◌, inl, refl, sym, ap, subst}
 use Rattle.sfs_base.proofs.BasicOptions.{none_of}
+use Rattle.slot_laws.specs.Labels.{fsync_told}
+use Rattle.commit_ledger.specs.Keeps.{LedgerKeeps}
 use Rattle.disk_box.specs.declared.desk.Desk.{Desk}
 use Rattle.disk_box.specs.Pens.{past_at}
 use Rattle.disk_box.specs.Box.{SpaceFits}
-use Rattle.commit_ledger.specs.Keeps.{LedgerKeeps}
+use Rattle.journal_set.specs.Telling.{TellsNothing}
 use Rattle.journal_set.proofs.Working.{desk_roomier, looked_due, nothing_due, room_beside}
 use Rattle.journal_set.proofs.refusing.look_first.Goals as goal
+use Rattle.journal_set.proofs.ToldCommits.{wants_memory, halts_told}
+use Rattle.journal_set.proofs.Told.{tells_nothing}
 
 pub halt-faults-requires-clause-looked : goal.halt-faults-requires-clause-looked
 halt-faults-requires-clause-looked g c κs within = looked_due c.args.table.now c.args.pen.now c.requires.at.holds c.requires.rests
@@ -42,3 +46,15 @@ returns-clause-ok g c =
             (subst (λ (d : Desk g.row.D.Denot). LedgerKeeps d.ledger (past_at pen)) (sym same) at.fits.frame.ledger);
       },
     )
+
+pub returns-in_err-make_room-clause-tells : goal.returns-in_err-make_room-clause-tells
+returns-in_err-make_room-clause-tells g c =
+    wants_memory c.args.pen.now c.args.pen.now.view.core (fsync_told c.args.fsync.node c.args.fsync.stamp) c.from_residual.result
+    c.from_residual.ensures.1
+
+pub returns-then-is_some-clause-tells : goal.returns-then-is_some-clause-tells
+returns-then-is_some-clause-tells g c =
+    halts_told c.args.pen.now c.halt-faults.new.pen 0 (fsync_told c.args.fsync.node c.args.fsync.stamp) c.halt-faults.ensures.tells
+
+pub returns-in-Some-clause-tells : goal.returns-in-Some-clause-tells
+returns-in-Some-clause-tells g c = tells_nothing c.args.pen.now TellsNothing tt

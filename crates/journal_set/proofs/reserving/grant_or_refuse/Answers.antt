@@ -1,18 +1,24 @@
-use Rattle.std.proofs.Common.{◌≡◌, ◌*◌, ◌<◌, ◌≤◌, ◌∙◌, None, sym, ap, subst, arith}
+use Rattle.std.proofs.Common.{◌≡◌, ◌*◌, ◌<◌, ◌≤◌, ◌∙◌, ◌∷◌, None, sym, ap, subst, arith, refl, []}
 use Rattle.tree_laws.specs.Tree.{TreeState}
+use Rattle.tree_laws.specs.declared.turns.TurnAct.TheVariants as act
 use Rattle.stamp_table.specs.declared.event.Event.{Event}
 use Rattle.stamp_table.specs.declared.view.View.{View as Sight}
 use Rattle.slot_laws.specs.declared.label.Label.{Label}
 use Rattle.slot_laws.specs.declared.label.Label.TheVariants as label
-use Rattle.slot_laws.specs.Labels.{OwnTold, own_label}
+use Rattle.slot_laws.specs.Labels.{OwnTold, own_label, fsync_told}
+use Rattle.slot_laws.specs.Telling.{turn_refuses, turn_reserves}
 use Rattle.disk_box.specs.declared.key.BoxKey.{BoxKey}
 use Rattle.disk_box.specs.declared.desk.Desk.{Desk}
 use Rattle.disk_box.specs.Pens.{PenHand, WorksAtDesk, past_at, own_at}
 use Rattle.disk_box.proofs.NotedRules.{granted_rule, short_rule}
+use Rattle.disk_box.proofs.StepsTold.{tells_both}
 use Rattle.journal_set.specs.Grants.{grant_from}
+use Rattle.journal_set.specs.Telling.{TellsAtBox, TellsOf, TellsNothing}
 use Rattle.journal_set.proofs.Parts.{grant_more, reserved_later}
 use Rattle.journal_set.proofs.Working.{calm_faults, looked_none, room_beside}
 use Rattle.journal_set.proofs.reserving.grant_or_refuse.Goals as goal
+use Rattle.journal_set.proofs.Told.{tells_nothing}
+use Rattle.journal_set.proofs.Turned.{core_kept}
 
 pub note_turn-requires-clause-may : goal.note_turn-requires-clause-may
 note_turn-requires-clause-may g c κs within =
@@ -85,4 +91,41 @@ returns-clause-comes g c =
       own = tells.own ∙ ap (own_label (label.Noted c.turn-turn-2.result)) ok.own;
       grant_is = ap (λ l. grant_from l None) tells.mine_is ∙ (grant_more pen.view.mine (label.Noted c.turn-turn-2.result) pen.view.core None ∙ ok.grant);
       reserved = reserved_later pen c.note_turn-2.new.pen pen.view.core c.args.pen.now.view.core core_same tells.goes ok.reserved;
+    }
+
+pub returns-in-Err-NoSpace-clause-tells : goal.returns-in-Err-NoSpace-clause-tells
+returns-in-Err-NoSpace-clause-tells g c =
+    let by = c.turn-turn.ensures.by in
+    subst (λ (h : PenHand g.row.D.Denot). TellsAtBox (TellsOf h.view.core 0 (fsync_told c.args.fsync.node c.args.fsync.stamp)
+    (act.Short c.in-Err-NoSpace.kind c.in-Err-NoSpace.need c.in-Err-NoSpace.free)) h c.note_turn.new.pen) c.in-Err-NoSpace.ensures.err.0 (record {
+      one = turn_refuses c.turn-turn.result;
+      is = record { did_is = by.did_is; core_is = by.core_is ∙ c.number.ensures; commit_is = by.commit_is; flush_is = by.flush_is };
+      mine_is = c.note_turn.ensures.tells.mine_is;
+    })
+
+pub returns-in-Err-NoMemory-clause-tells : goal.returns-in-Err-NoMemory-clause-tells
+returns-in-Err-NoMemory-clause-tells g c =
+    subst (λ (h : PenHand g.row.D.Denot). TellsAtBox TellsNothing c.args.pen.now h) (sym c.in-Err-NoMemory.ensures.err.0)
+    (tells_nothing c.args.pen.now TellsNothing tt)
+
+pub returns-clause-tells : goal.returns-clause-tells
+returns-clause-tells g c =
+    let pen = c.number_commit.new.pen in
+    let ok = c.in-Ok.ensures.ok in
+    let by = c.turn-turn-2.ensures.by in
+    record {
+      one = turn_reserves c.in-Ok.numbered.number ok.reserved.told c.in-Ok.numbered.grant c.turn-turn-2.result;
+      is = (
+        refl,
+        ok.reserved.seen_is,
+        record {
+          did_is = by.did_is;
+          core_is = by.core_is ∙ (c.number-2.ensures ∙ core_kept c.args.pen.now pen ok.goes);
+          commit_is = by.commit_is;
+          flush_is = by.flush_is;
+        },
+      );
+      mine_is = tells_both c.args.pen.now pen c.note_turn-2.new.pen
+          (label.Reserved c.in-Ok.numbered.number ok.reserved.told c.in-Ok.numbered.grant ∷ []) (label.Noted c.turn-turn-2.result ∷ []) ok.goes ok.tells
+          c.note_turn-2.ensures.tells.mine_is;
     }

@@ -1,7 +1,8 @@
-use Rattle.std.proofs.Common.{◌≡◌, ◌∙◌, Some, sym, ap, subst, arith}
+use Rattle.std.proofs.Common.{◌≡◌, ◌∙◌, ◌∷◌, Some, sym, ap, subst, arith, refl, []}
 use Rattle.sfs_base.proofs.BasicOptions.{some_not_none, some_same}
 use Rattle.slot_laws.specs.declared.label.Label.TheVariants as label
 use Rattle.slot_laws.specs.Labels.{OwnTold, after_label, own_label}
+use Rattle.slot_laws.specs.Telling.{turn_returns}
 use Rattle.commit_ledger.specs.View.{number_in}
 use Rattle.commit_ledger.specs.Calls.{MayReturn, Returns}
 use Rattle.commit_ledger.specs.Keeps.{LedgerGoes}
@@ -9,6 +10,7 @@ use Rattle.disk_box.specs.Desk.{owed_by}
 use Rattle.disk_box.specs.Pens.{PenHand, past_at}
 use Rattle.disk_box.proofs.After.{at_told, past_fits_at}
 use Rattle.disk_box.proofs.Owes.{owns_own}
+use Rattle.disk_box.proofs.StepsTold.{tells_both}
 use Rattle.journal_set.proofs.Grants.{has_reserved}
 use Rattle.journal_set.proofs.Returned.{may_return, number_there, returned_fits, room_returned}
 use Rattle.journal_set.proofs.Working.{owed_by_noted}
@@ -114,4 +116,28 @@ returns-clause-comes g c =
       turn = c.turn-turn.result;
       by = record { did_is = by.did_is; core_is = by.core_is ∙ c.number-core.ensures; commit_is = by.commit_is; flush_is = by.flush_is };
       after_is = c.note_turn.ensures.tells.own ∙ ap (own_label (label.Noted c.turn-turn.result)) c.note.ensures.tells.own;
+    }
+
+pub returns-clause-tells : goal.returns-clause-tells
+returns-clause-tells g c =
+    let pen = c.args.pen.now in
+    let at = c.requires.at in
+    let has = has_reserved c.args.table.now pen c.args.grant at.holds c.requires.grant in
+    let there = number_there g.D.Disk.view pen.table.given pen.view.core (past_at pen) (past_fits_at c.args.table.now pen at.holds) c.args.desk.now
+    at.fits.frame at.holds.core_is has.number has.reserved
+    in
+    let by = c.turn-turn.ensures.by in
+    record {
+      one = turn_returns c.in-Some.number c.turn-turn.result;
+      is = record {
+        number = c.in-Some.number;
+        had = sym (ap (λ (o : OwnTold). o.reserved) (owns_own c.args.table.now pen at.holds))
+            ∙ (has.reserved ∙ (sym there ∙ (ap (number_in c.args.desk.now.ledger) (sym c.number-core.ensures) ∙ (sym c.number.ensures ∙ c.in-Some.is))));
+        is = (
+          refl,
+          record { did_is = by.did_is; core_is = by.core_is ∙ c.number-core.ensures; commit_is = by.commit_is; flush_is = by.flush_is },
+        );
+      };
+      mine_is = tells_both pen c.note.new.pen c.note_turn.new.pen (label.Returned c.in-Some.number ∷ []) (label.Noted c.turn-turn.result ∷ [])
+          c.note.ensures.tells.goes c.note.ensures.tells.mine_is c.note_turn.ensures.tells.mine_is;
     }

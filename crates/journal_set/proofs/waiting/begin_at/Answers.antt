@@ -1,8 +1,9 @@
 use Rattle.std.proofs.Common.{◌∙◌, inr, length, sym, ap, subst, arith}
 use Rattle.sfs_base.proofs.BasicOptions.{none_of}
+use Rattle.slot_laws.specs.Telling.{turn_refuses}
 use Rattle.commit_ledger.specs.View.{number_in}
-use Rattle.disk_box.proofs.Owners.{owner_is, slots_many, waits_some}
 use Rattle.disk_box.specs.Pens.{past_at}
+use Rattle.disk_box.proofs.Owners.{owner_is, slots_many, waits_some}
 use Rattle.journal_set.specs.OwnSlots.{NoneIdle}
 use Rattle.journal_set.proofs.Aloft.{works_at}
 use Rattle.journal_set.proofs.Unbegun.{its_reserved, owes_unbegun, some_reserved, unbegun_looked}
@@ -69,4 +70,17 @@ returns-then-is_some-clause-comes g c = record {
       (its_reserved g.D.Disk.view c.args.table.now c.args.pen.now c.args.desk.now c.args.writing.grant c.requires.at c.requires.grant c.in-Some.number
       (ap (number_in c.args.desk.now.ledger) (sym c.number-core.ensures) ∙ (sym c.number.ensures ∙ c.in-Some.is)));
   ends = c.halt-faults.ensures.halts;
+}
+
+pub returns-then-is_some-clause-tells : goal.returns-then-is_some-clause-tells
+returns-then-is_some-clause-tells g c = record {
+  one = turn_refuses c.halt-faults.ensures.tells.turn;
+  is = record {
+    number = c.in-Some.number;
+    had =
+        (its_reserved g.D.Disk.view c.args.table.now c.args.pen.now c.args.desk.now c.args.writing.grant c.requires.at c.requires.grant c.in-Some.number
+        (ap (number_in c.args.desk.now.ledger) (sym c.number-core.ensures) ∙ (sym c.number.ensures ∙ c.in-Some.is)));
+    is = c.halt-faults.ensures.tells.by;
+  };
+  mine_is = c.halt-faults.ensures.tells.mine_is;
 }

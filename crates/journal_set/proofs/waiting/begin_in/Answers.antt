@@ -9,3 +9,6 @@ returns-clause-begins g c =
     record { slot = c.args.k; commit = c.args.number; fsync = c.args.writing.fsync; told = Rattle.std.proofs.Common.false; patience = PATIENCE }
     in
     begins_flight c.args.table.now c.args.pen.now c.begin_one.new.pen c.requires.work.holds flight c.requires.number c.begin_one.ensures.begins
+
+pub returns-clause-tells : goal.returns-clause-tells
+returns-clause-tells g c = c.begin_one.ensures.tells

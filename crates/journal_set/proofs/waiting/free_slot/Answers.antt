@@ -1,15 +1,19 @@
 use Rattle.std.proofs.Common.{◌∙◌, ℕ, refl, ap, subst, arith}
 use Rattle.std.proofs.lemmas.Option.{slice_get_within}
+use Rattle.cut_laws.specs.Closure.{Flush}
 use Rattle.slot_laws.specs.Labels.{OwnTold, fsync_told}
 use Rattle.disk_box.specs.Pens.{own_at, past_at}
 use Rattle.disk_box.specs.Turns.{Fails}
 use Rattle.disk_box.proofs.Owners.{slots_many, waits_some}
+use Rattle.journal_set.specs.Telling.{OfReserved, TellsWork, TellsFailing}
 use Rattle.journal_set.proofs.Failing.{at_of_work, risen_still, still_looked}
 use Rattle.journal_set.proofs.GrantKept.{grant_kept}
 use Rattle.journal_set.proofs.Lingering.{own_slot, some_lingers}
 use Rattle.journal_set.proofs.Turned.{core_kept, goes_twice}
 use Rattle.journal_set.proofs.Unbegun.{no_flight_told, owes_unbegun, unbegun_looked}
 use Rattle.journal_set.proofs.waiting.free_slot.Goals as goal
+use Rattle.journal_set.proofs.Told.{tells_work, tells_failing, tells_nothing}
+use Rattle.journal_set.proofs.ToldCommits.{at_through}
 
 pub unreachable-requires : goal.unreachable-requires
 unreachable-requires g c =
@@ -73,3 +77,24 @@ returns-in-Err-clause-cause g c = risen_still g.D.Disk.view c.args.table.now c.a
 pub returns-in-Err-clause-goes : goal.returns-in-Err-clause-goes
 returns-in-Err-clause-goes g c =
     goes_twice c.args.pen.now c.step_oldest.new.pen c.fail_unopened.new.pen c.in-Err.ensures.steps.goes c.fail_unopened.ensures.goes
+
+pub returns-in-Ok-clause-tells : goal.returns-in-Ok-clause-tells
+returns-in-Ok-clause-tells g c =
+    tells_work c.args.pen.now c.step_oldest.new.pen c.in-Ok.ensures.steps.tells c.step_oldest.ensures.own
+    (OfReserved (own_at c.args.pen.now) (λ number. TellsWork))
+    (λ facts work. record { number = c.args.number; had = c.requires.number; is = work })
+
+pub returns-in-Err-clause-tells : goal.returns-in-Err-clause-tells
+returns-in-Err-clause-tells g c =
+    let pen = c.args.pen.now in
+    let flush : Flush = fsync_told c.args.writing.fsync.node c.args.writing.fsync.stamp in
+    at_through pen c.fail_unopened.new.pen (TellsFailing pen.view.core c.args.number flush c.in-Err.faults)
+    (OfReserved (own_at pen) (λ number. TellsFailing pen.view.core number flush c.in-Err.faults))
+    (λ one is. record { number = c.args.number; had = c.requires.number; is = is })
+    (tells_failing pen c.step_oldest.new.pen c.fail_unopened.new.pen c.args.number c.in-Err.faults flush c.in-Err.ensures.steps.goes
+    c.in-Err.ensures.steps.tells c.step_oldest.ensures.own c.fail_unopened.ensures.tells)
+
+pub returns-then-lets_others_write-clause-tells : goal.returns-then-lets_others_write-clause-tells
+returns-then-lets_others_write-clause-tells g c =
+    tells_nothing c.args.pen.now (OfReserved (own_at c.args.pen.now) (λ number. TellsWork))
+    (record { number = c.args.number; had = c.requires.number; is = tt })

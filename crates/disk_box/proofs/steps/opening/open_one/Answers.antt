@@ -143,3 +143,7 @@ returns-clause-own g c =
     let items = c.push-2.ensures.items ∙ ap (λ l. l ++ opened ∷ []) c.push.ensures.items in
     opens_flight view c.args.table.now pen desk k work c.requires.own has disk cut opened turns later c.note.new.pen slots list new c.open-result.result
     c.is_ok-done.result c.note.ensures.holds c.note.ensures.tells wrote refl c.is_ok-done.ensures.value items (omega (arith, one, two))
+
+pub returns-clause-tells : goal.returns-clause-tells
+returns-clause-tells g c =
+    record { done = c.is_ok-done.result; cut = c.slot_turn-cut.result; opened = c.slot_turn-opened.result; mine_is = c.note.ensures.tells.mine_is }

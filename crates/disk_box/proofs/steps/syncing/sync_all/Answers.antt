@@ -1,5 +1,8 @@
 use Rattle.std.proofs.Common.{Err, Ok}
-use Rattle.disk_box.proofs.SyncSteps.{sync_failed, synced_now, syncs_as}
+use Rattle.slot_laws.specs.declared.label.Label.TheVariants as label
+use Rattle.disk_box.specs.Serving.{GoesBeside}
+use Rattle.disk_box.proofs.StepsTold.{step_told}
+use Rattle.disk_box.proofs.SyncSteps.{goes_both, sync_failed, synced_now, syncs_as}
 use Rattle.disk_box.proofs.steps.syncing.sync_all.Goals as goal
 
 pub returns-in-Err-clause-steps : goal.returns-in-Err-clause-steps
@@ -25,3 +28,14 @@ serve_all-requires-clause-serving g c κs within =
       cause = record { never_falls = sync.call.cause.never_falls; risen = tt; kept = sync.call.cause.kept };
       counted = tt;
     })
+
+pub returns-clause-steps : goal.returns-clause-steps
+returns-clause-steps g c =
+    let pen = c.args.pen.now in
+    let mid = c.note.new.pen in
+    let tells = c.note.ensures.tells in
+    let synced : GoesBeside pen mid =
+    record { goes = tells.goes; room = tells.room; tells = step_told pen mid (label.Synced c.now-now.result) tells tt; own = tells.own }
+    in
+    let both = goes_both pen mid c.serve_all.new.pen synced c.serve_all.ensures.beside in
+    record { goes = both.goes; room = both.room; tells = both.tells; ok = c.serve_all.ensures.serving.at; waits = tt; err = tt }

@@ -1,11 +1,15 @@
-use Rattle.std.proofs.Common.{◌<◌, ◌∙◌, Ok, Some, sym, ap, subst}
-use Rattle.slot_laws.specs.Labels.{OwnTold}
+use Rattle.std.proofs.Common.{◌<◌, ◌∙◌, Ok, Some, sym, ap, subst, Err}
+use Rattle.slot_laws.specs.Labels.{OwnTold, fsync_told}
+use Rattle.disk_box.specs.Pens.{own_at}
 use Rattle.journal_set.specs.declared.beginning.Writing.{Writing}
 use Rattle.journal_set.specs.declared.waiting.Beginning.{Beginning}
 use Rattle.journal_set.specs.Committing.{BeginComes, WaitsToBegin}
+use Rattle.journal_set.specs.Telling.{TellsCall, IsOneTurn, OfReserved, TellsWork, begin_labels, written_in}
 use Rattle.journal_set.proofs.BegunAround.{begins_still, fails_still, written_still}
 use Rattle.journal_set.proofs.Turned.{core_kept, goes_twice}
 use Rattle.journal_set.proofs.set.JournalSet.begin.Goals as goal
+use Rattle.journal_set.proofs.Told.{calls_more, call_through}
+use Rattle.journal_set.proofs.ToldCalls.{begun_told}
 
 pub begin_turn-requires-clause-room : goal.begin_turn-requires-clause-room
 begin_turn-requires-clause-room g c κs within = subst (λ n. 0 < n) (sym c.loop.invariant.room) c.requires.room
@@ -27,6 +31,11 @@ loop-preserved g c =
     let it : WaitsToBegin c.loop.writing c.in-Ok-Waits.still c.loop.pen c.begin_turn.new.pen =
     subst (λ (b : Beginning). BeginComes c.loop.writing c.loop.pen c.begin_turn.new.pen (Ok b)) c.in-Ok-Waits.field-0-is c.in-Ok-Waits.ensures.comes
     in
+    let told : TellsCall (IsOneTurn (OfReserved (own_at c.loop.pen) (λ number. TellsWork))) c.loop.pen c.begin_turn.new.pen =
+    subst (λ (b : Beginning). TellsCall (IsOneTurn (OfReserved (own_at c.loop.pen) (λ number. begin_labels c.loop.pen.view.core
+    (fsync_told c.loop.writing.fsync.node c.loop.writing.fsync.stamp) (written_in c.loop.writing) number (Ok b)))) c.loop.pen c.begin_turn.new.pen)
+    c.in-Ok-Waits.field-0-is c.in-Ok-Waits.ensures.tells
+    in
     record {
       outside = c.begin_turn.ensures.outside;
       goes = goes_twice c.args.pen.now c.loop.pen c.begin_turn.new.pen was.goes c.begin_turn.ensures.goes;
@@ -34,6 +43,8 @@ loop-preserved g c =
       own = it.own ∙ was.own;
       grant = it.grant ∙ was.grant;
       writing = (λ i. record (it.same i) { patience = c.args.writing.patience }) ∙ was.writing;
+      tells = calls_more c.args.pen.now c.loop.pen c.begin_turn.new.pen was.goes TellsWork was.tells
+          (call_through c.loop.pen c.begin_turn.new.pen (OfReserved (own_at c.loop.pen) (λ number. TellsWork)) TellsWork (λ one is. is.is) told);
     }
 
 pub returns-in-Ok-Begun-clause-comes : goal.returns-in-Ok-Begun-clause-comes
@@ -54,3 +65,17 @@ returns-in-Err-clause-comes g c =
 
 pub returns-in-Err-clause-goes : goal.returns-in-Err-clause-goes
 returns-in-Err-clause-goes g c = goes_twice c.args.pen.now c.loop.pen c.begin_turn.new.pen c.loop.invariant.goes c.begin_turn.ensures.goes
+
+pub returns-in-Ok-Begun-clause-tells : goal.returns-in-Ok-Begun-clause-tells
+returns-in-Ok-Begun-clause-tells g c =
+    let was = c.loop.invariant in
+    begun_told c.args.writing c.loop.writing c.args.pen.now c.loop.pen c.begin_turn.new.pen was.own was.goes was.writing was.tells (Ok c.in-Ok-Begun.flight)
+    (subst (λ (b : Beginning). TellsCall (IsOneTurn (OfReserved (own_at c.loop.pen) (λ number. begin_labels c.loop.pen.view.core
+    (fsync_told c.loop.writing.fsync.node c.loop.writing.fsync.stamp) (written_in c.loop.writing) number (Ok b)))) c.loop.pen c.begin_turn.new.pen)
+    c.in-Ok-Begun.field-0-is c.in-Ok-Begun.ensures.tells)
+
+pub returns-in-Err-clause-tells : goal.returns-in-Err-clause-tells
+returns-in-Err-clause-tells g c =
+    let was = c.loop.invariant in
+    begun_told c.args.writing c.loop.writing c.args.pen.now c.loop.pen c.begin_turn.new.pen was.own was.goes was.writing was.tells (Err c.in-Err.fault)
+    c.in-Err.ensures.tells

@@ -1,6 +1,7 @@
 use Rattle.std.proofs.Common.{◌≡◌}
 use Rattle.disk_box.specs.Pens.{IsOutside, PenGoes, own_at}
 use Rattle.journal_set.specs.Grants.{grant_at}
+use Rattle.journal_set.specs.Telling.{AreTurns, TellsCall, TellsWork}
 use Rattle.journal_set.proofs.set.JournalSet.begin.Given as goal
 
 abbrev pub invariant-loop : goal.invariant-loop
@@ -11,4 +12,5 @@ invariant-loop g l = record {
   own : own_at l.pen ≡ own_at l.fn.pen;
   grant : grant_at l.pen ≡ grant_at l.fn.pen;
   writing : record l.writing { patience = l.fn.writing.patience } ≡ l.fn.writing;
+  tells : TellsCall (AreTurns TellsWork) l.fn.pen l.pen;
 }

@@ -1,14 +1,17 @@
-use Rattle.std.proofs.Common.{◌∙◌, None, ap, sym, subst}
+use Rattle.std.proofs.Common.{◌∙◌, None, ap, sym, subst, ℕ}
+use Rattle.cut_laws.specs.Closure.{Flush}
 use Rattle.slot_laws.specs.declared.label.Label.TheVariants as label
-use Rattle.slot_laws.specs.Labels.{OwnTold}
+use Rattle.slot_laws.specs.Labels.{OwnTold, fsync_told}
 use Rattle.disk_box.specs.declared.key.BoxKey.{BoxKey}
-use Rattle.disk_box.specs.Pens.{PenHand}
+use Rattle.disk_box.specs.Pens.{PenHand, own_at}
 use Rattle.journal_set.specs.Beginning.{CanBeWritten}
 use Rattle.journal_set.specs.Grants.{grant_from}
+use Rattle.journal_set.specs.Telling.{Written, written_in, TellsCall, IsOneTurn, OfReserved, begin_labels}
 use Rattle.journal_set.proofs.BegunAround.{begin_around, cause_err}
 use Rattle.journal_set.proofs.Parts.{grant_more}
 use Rattle.journal_set.proofs.Turned.{core_kept, goes_twice}
 use Rattle.journal_set.proofs.set.JournalSet.begin_turn.Goals as goal
+use Rattle.journal_set.proofs.Told.{tells_around}
 
 pub begin_at-result-requires-clause-grant : goal.begin_at-result-requires-clause-grant
 begin_at-result-requires-clause-grant g c κs within =
@@ -41,3 +44,15 @@ returns-clause-comes g c =
 pub returns-clause-cause : goal.returns-clause-cause
 returns-clause-cause g c =
     cause_err c.begin_at-result.new.pen c.leave.new.pen c.leave.ensures.goes c.begin_at-result.result c.begin_at-result.ensures.cause
+
+pub returns-clause-tells : goal.returns-clause-tells
+returns-clause-tells g c =
+    let pen = c.args.pen.now in
+    let at = c.enter-desk.new.pen in
+    let flush : Flush = fsync_told c.args.writing.fsync.node c.args.writing.fsync.stamp in
+    let written : Written = written_in c.args.writing in
+    subst (λ (z : ℕ × OwnTold). TellsCall (IsOneTurn (OfReserved z.1 (λ number. begin_labels z.0 flush written number c.begin_at-result.result))) pen
+    c.leave.new.pen) (λ i. (core_kept pen at c.enter-desk.ensures.goes i, c.enter-desk.ensures.own i))
+    (tells_around pen at c.begin_at-result.new.pen c.leave.new.pen c.enter-desk.ensures.goes c.begin_at-result.ensures.goes c.enter-desk.ensures.mine
+    c.leave.ensures.mine (OfReserved (own_at at) (λ number. begin_labels at.view.core flush written number c.begin_at-result.result))
+    c.begin_at-result.ensures.tells)

@@ -1,11 +1,15 @@
 use Rattle.std.proofs.Common.{◌≡◌, ◌<◌, ◌∙◌, ℕ, Some, Err, sym, ap, subst}
+use Rattle.cut_laws.specs.Closure.{Flush}
 use Rattle.slot_laws.specs.Labels.{fsync_told}
 use Rattle.disk_box.specs.declared.turns.Fsync.{Fsync}
 use Rattle.disk_box.specs.Pens.{own_at}
 use Rattle.journal_set.specs.Committing.{Commits}
+use Rattle.journal_set.specs.Telling.{TellsReturn}
 use Rattle.journal_set.proofs.Committed.{begin_commits, begun_under, ends_commits, packed_can_be_written}
 use Rattle.journal_set.proofs.Turned.{core_kept, goes_twice}
 use Rattle.journal_set.proofs.set.JournalSet.commit.Goals as goal
+use Rattle.journal_set.proofs.ToldCommits.{only_of}
+use Rattle.journal_set.proofs.ToldCalls.{unbegun_told, commit_told}
 
 pub give_back-requires-clause-grant : goal.give_back-requires-clause-grant
 give_back-requires-clause-grant g c κs within = c.requires.grant ∙ ap Some (sym c.in-Err.ensures.back)
@@ -43,3 +47,24 @@ returns-in-Err-begin-clause-comes g c =
     subst (λ (f : Fsync). Commits c.args.pen.now.view.core (fsync_told f.node f.stamp) (own_at c.args.pen.now) (own_at c.begin.new.pen)
     (Err c.in-Err-begin.fault)) c.in-Ok.ensures.ok.fsync_is
     (begin_commits c.in-Ok.writing c.args.pen.now c.begin.new.pen c.in-Err-begin.fault c.in-Err-begin.ensures.comes)
+
+pub returns-in-Err-clause-tells : goal.returns-in-Err-clause-tells
+returns-in-Err-clause-tells g c =
+    let pen = c.args.pen.now in
+    let flush : Flush = fsync_told c.args.fsync.node c.args.fsync.stamp in
+    let told = c.give_back.ensures.tells in
+    record {
+      turns = told.turns;
+      are = only_of (own_at pen) (λ number. TellsReturn pen.view.core number flush) told.turns told.are;
+      mine_is = told.mine_is;
+    }
+
+pub returns-in-Err-begin-clause-tells : goal.returns-in-Err-begin-clause-tells
+returns-in-Err-begin-clause-tells g c =
+    let told = c.in-Err-begin.ensures.tells in
+    unbegun_told c.args.tx c.args.grant c.args.fsync c.in-Ok.writing c.in-Ok.ensures.ok c.args.pen.now c.begin.new.pen c.in-Err-begin.fault told
+
+pub returns-in-Ok-begin-clause-tells : goal.returns-in-Ok-begin-clause-tells
+returns-in-Ok-begin-clause-tells g c =
+    commit_told c.args.tx c.args.grant c.args.fsync c.in-Ok.writing c.in-Ok.ensures.ok c.args.pen.now c.begin.new.pen c.land.new.pen c.begin.ensures.goes
+    c.in-Ok-begin.flight c.in-Ok-begin.ensures.comes c.land.result c.in-Ok-begin.ensures.tells c.land.ensures.tells

@@ -1,8 +1,10 @@
 use Rattle.std.proofs.Common.{sym, subst}
-use Rattle.journal_set.specs.Flying.{IsUnderWay}
+use Rattle.journal_set.specs.Flying.{IsUnderWay, flush_of}
+use Rattle.journal_set.specs.Telling.{TellsCall, IsOneTurn, flight_labels}
 use Rattle.journal_set.proofs.BegunAround.{cause_err}
 use Rattle.journal_set.proofs.Turned.{core_kept, goes_twice, turn_around}
 use Rattle.journal_set.proofs.set.JournalSet.commit_turn.Goals as goal
+use Rattle.journal_set.proofs.Told.{tells_around}
 
 pub turn_at-result-requires-clause-under : goal.turn_at-result-requires-clause-under
 turn_at-result-requires-clause-under g c κs within =
@@ -25,3 +27,13 @@ returns-clause-comes g c =
 pub returns-clause-cause : goal.returns-clause-cause
 returns-clause-cause g c =
     cause_err c.turn_at-result.new.pen c.leave.new.pen c.leave.ensures.goes c.turn_at-result.result c.turn_at-result.ensures.cause
+
+pub returns-clause-tells : goal.returns-clause-tells
+returns-clause-tells g c =
+    let pen = c.args.pen.now in
+    let at = c.enter-desk.new.pen in
+    let flight = c.args.flight.now in
+    subst (λ n. TellsCall (IsOneTurn (flight_labels n flight.commit (flush_of flight) c.turn_at-result.result)) pen c.leave.new.pen)
+    (core_kept pen at c.enter-desk.ensures.goes)
+    (tells_around pen at c.turn_at-result.new.pen c.leave.new.pen c.enter-desk.ensures.goes c.turn_at-result.ensures.goes c.enter-desk.ensures.mine
+    c.leave.ensures.mine (flight_labels at.view.core flight.commit (flush_of flight) c.turn_at-result.result) c.turn_at-result.ensures.tells)

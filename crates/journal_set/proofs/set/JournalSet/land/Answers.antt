@@ -1,9 +1,13 @@
 use Rattle.std.proofs.Common.{◌<◌, ◌∙◌, false, Ok, Err, sym, subst}
 use Rattle.disk_box.specs.Pens.{own_at}
 use Rattle.journal_set.specs.declared.flying.Progress.{Progress}
-use Rattle.journal_set.specs.Flying.{GoesOn, LastTurn, TurnComes}
+use Rattle.journal_set.specs.Flying.{GoesOn, LastTurn, TurnComes, flush_of}
+use Rattle.journal_set.specs.Telling.{TellsGoing, TellsCall, IsOneTurn, flight_labels, TellsLanding, TellsEnded}
+use Rattle.journal_set.specs.declared.flying.Progress.TheVariants as progress
 use Rattle.journal_set.proofs.Turned.{core_kept, ends_so, goes_on_both, goes_twice, under_again, under_told}
 use Rattle.journal_set.proofs.set.JournalSet.land.Goals as goal
+use Rattle.journal_set.proofs.Told.{calls_more, calls_last}
+use Rattle.journal_set.proofs.ToldCalls.{flight_told}
 
 pub commit_turn-requires-clause-room : goal.commit_turn-requires-clause-room
 commit_turn-requires-clause-room g c κs within = subst (λ n. 0 < n) (sym c.loop.invariant.room) c.requires.room
@@ -26,6 +30,11 @@ loop-preserved-in-Ok-Filled g c =
           was.own (subst (λ n. GoesOn n (own_at c.loop.pen) (own_at c.commit_turn.new.pen)) (core_kept c.args.pen.now c.loop.pen was.goes) (subst (λ (p :
           Progress). TurnComes c.loop.flight c.loop.pen.view.core (own_at c.loop.pen) (own_at c.commit_turn.new.pen) (Ok p)) c.in-Ok-Filled.field-0-is
           c.in-Ok-Filled.ensures.comes));
+      tells = calls_more c.args.pen.now c.loop.pen c.commit_turn.new.pen was.goes (TellsGoing c.args.pen.now.view.core c.args.flight.commit
+          (flush_of c.args.flight)) was.tells
+          (flight_told c.args.flight c.loop.flight c.args.pen.now c.loop.pen c.commit_turn.new.pen was.goes was.flight (Ok progress.Filled)
+          (subst (λ (p : Progress). TellsCall (IsOneTurn (flight_labels c.loop.pen.view.core c.loop.flight.commit (flush_of c.loop.flight) (Ok p)))
+          c.loop.pen c.commit_turn.new.pen) c.in-Ok-Filled.field-0-is c.in-Ok-Filled.ensures.tells));
     }
 
 pub loop-preserved : goal.loop-preserved
@@ -40,6 +49,11 @@ loop-preserved g c =
           was.own (subst (λ n. GoesOn n (own_at c.loop.pen) (own_at c.commit_turn.new.pen)) (core_kept c.args.pen.now c.loop.pen was.goes) (subst (λ (p :
           Progress). TurnComes c.loop.flight c.loop.pen.view.core (own_at c.loop.pen) (own_at c.commit_turn.new.pen) (Ok p)) c.in-Ok-Goes.field-0-is
           c.in-Ok-Goes.ensures.comes));
+      tells = calls_more c.args.pen.now c.loop.pen c.commit_turn.new.pen was.goes (TellsGoing c.args.pen.now.view.core c.args.flight.commit
+          (flush_of c.args.flight)) was.tells
+          (flight_told c.args.flight c.loop.flight c.args.pen.now c.loop.pen c.commit_turn.new.pen was.goes was.flight (Ok progress.Goes)
+          (subst (λ (p : Progress). TellsCall (IsOneTurn (flight_labels c.loop.pen.view.core c.loop.flight.commit (flush_of c.loop.flight) (Ok p)))
+          c.loop.pen c.commit_turn.new.pen) c.in-Ok-Goes.field-0-is c.in-Ok-Goes.ensures.tells));
     }
 
 pub returns-in-Ok-Durable-clause-comes : goal.returns-in-Ok-Durable-clause-comes
@@ -64,3 +78,20 @@ returns-in-Err-clause-comes g c =
 
 pub returns-in-Err-clause-goes : goal.returns-in-Err-clause-goes
 returns-in-Err-clause-goes g c = goes_twice c.args.pen.now c.loop.pen c.commit_turn.new.pen c.loop.invariant.goes c.commit_turn.ensures.goes
+
+pub returns-in-Ok-Durable-clause-tells : goal.returns-in-Ok-Durable-clause-tells
+returns-in-Ok-Durable-clause-tells g c =
+    let was = c.loop.invariant in
+    calls_last c.args.pen.now c.loop.pen c.commit_turn.new.pen was.goes (TellsGoing c.args.pen.now.view.core c.args.flight.commit (flush_of c.args.flight))
+    (TellsLanding c.args.pen.now.view.core c.args.flight.commit (flush_of c.args.flight) c.in-Ok-Durable.ack.moment) was.tells
+    (flight_told c.args.flight c.loop.flight c.args.pen.now c.loop.pen c.commit_turn.new.pen was.goes was.flight (Ok (progress.Durable c.in-Ok-Durable.ack))
+    (subst (λ (p : Progress). TellsCall (IsOneTurn (flight_labels c.loop.pen.view.core c.loop.flight.commit (flush_of c.loop.flight) (Ok p)))
+    c.loop.pen c.commit_turn.new.pen) c.in-Ok-Durable.field-0-is c.in-Ok-Durable.ensures.tells))
+
+pub returns-in-Err-clause-tells : goal.returns-in-Err-clause-tells
+returns-in-Err-clause-tells g c =
+    let was = c.loop.invariant in
+    calls_last c.args.pen.now c.loop.pen c.commit_turn.new.pen was.goes (TellsGoing c.args.pen.now.view.core c.args.flight.commit (flush_of c.args.flight))
+    (TellsEnded c.args.pen.now.view.core c.args.flight.commit (flush_of c.args.flight) c.in-Err.fault) was.tells
+    (flight_told c.args.flight c.loop.flight c.args.pen.now c.loop.pen c.commit_turn.new.pen was.goes was.flight (Err c.in-Err.fault)
+    c.in-Err.ensures.tells)

@@ -1,4 +1,4 @@
-use Rattle.std.proofs.Common.{◌∙◌, None, ap}
+use Rattle.std.proofs.Common.{◌∙◌, None, ap, subst}
 use Rattle.tree_laws.specs.Tree.{TreeState}
 use Rattle.stamp_table.specs.declared.event.Event.{Event}
 use Rattle.stamp_table.specs.declared.view.View.{View as Sight}
@@ -6,9 +6,13 @@ use Rattle.slot_laws.specs.declared.label.Label.{Label}
 use Rattle.slot_laws.specs.declared.label.Label.TheVariants as label
 use Rattle.slot_laws.specs.Labels.{fsync_told}
 use Rattle.journal_set.specs.Grants.{grant_from}
+use Rattle.journal_set.specs.Reserving.{ReserveRequest}
+use Rattle.journal_set.specs.Telling.{TellsCall, IsOneTurn, reserve_labels}
 use Rattle.journal_set.proofs.Around.{reserves_around}
 use Rattle.journal_set.proofs.Parts.{grant_more}
 use Rattle.journal_set.proofs.set.JournalSet.reserve.Goals as goal
+use Rattle.journal_set.proofs.Turned.{core_kept}
+use Rattle.journal_set.proofs.Told.{tells_around}
 
 pub returns-clause-comes : goal.returns-clause-comes
 returns-clause-comes g c =
@@ -18,3 +22,13 @@ returns-clause-comes g c =
     (ap (λ l. grant_from l None) c.leave.ensures.mine ∙ grant_more done.view.mine label.Gave done.view.core None)
     (ap (λ (v : Sight TreeState (Event Label)). v.core) c.reserve_at-result.ensures.goes.view)
     c.reserve_at-result.result c.reserve_at-result.ensures.comes
+
+pub returns-clause-tells : goal.returns-clause-tells
+returns-clause-tells g c =
+    let pen = c.args.pen.now in
+    let at = c.enter-desk.new.pen in
+    let asked : ReserveRequest = record { flush = fsync_told c.args.fsync.node c.args.fsync.stamp; seen = c.args.seen.now; need = c.args.need } in
+    subst (λ n. TellsCall (IsOneTurn (reserve_labels n asked c.reserve_at-result.result)) pen c.leave.new.pen)
+    (core_kept pen at c.enter-desk.ensures.goes)
+    (tells_around pen at c.reserve_at-result.new.pen c.leave.new.pen c.enter-desk.ensures.goes c.reserve_at-result.ensures.goes c.enter-desk.ensures.mine
+    c.leave.ensures.mine (reserve_labels at.view.core asked c.reserve_at-result.result) c.reserve_at-result.ensures.tells)
