@@ -67,12 +67,21 @@ same_count tree nodes commit [] (v ∷ values) written = absurd written
 same_count tree nodes commit (c ∷ cells) [] written = absurd written
 same_count tree nodes commit (c ∷ cells) (v ∷ values) written = ap suc (same_count tree nodes commit cells values written.1)
 
--- the cells have the same places then
-pub same_places : (cells : List (HeldCell Cell)) (values : List Cell) → length values ≡ length cells → places_of (with_values values cells) ≡ places_of cells
-same_places [] [] same = refl
-same_places [] (v ∷ values) same = refl
-same_places (c ∷ cells) [] same = refl
-same_places (c ∷ cells) (v ∷ values) same = ap (λ l. c.place ∷ l) (same_places cells values (cc (same)))
+-- of values that are exchanged twice the last ones stay
+pub with_twice : (new old : List Cell) (cells : List (HeldCell Cell)) → length new ≡ length cells → length old ≡ length cells
+    → with_values new (with_values old cells) ≡ with_values new cells
+with_twice new old [] news olds = ap (with_values new) (by old)
+  where
+    none : List (HeldCell Cell)
+    none = []
+
+    by : (l : List Cell) → with_values l none ≡ none
+    by [] = refl
+    by (v ∷ l) = refl
+with_twice [] old (c ∷ cells) news olds = absurd (omega (arith, news))
+with_twice (n ∷ new) [] (c ∷ cells) news olds = absurd (omega (arith, olds))
+with_twice (n ∷ new) (o ∷ old) (c ∷ cells) news olds =
+    ap (λ l. record { place = c.place; value = n } ∷ l) (with_twice new old cells (omega (arith, news)) (omega (arith, olds)))
 
 -- of each of the first logs it was told that it is trimmed
 told_there : (core number count part : ℕ) → part < count

@@ -33,7 +33,8 @@ use Rattle.fsync_end.specs.declared.finishing.Ending.{Ending}
 use Rattle.fsync_end.specs.Trimming.{IsFlushing, HasTold, trim_events, TrimsAll, Homeward, IsHomeward}
 use Rattle.fsync_end.specs.Finishing.{AreWritten, logs_trimmed, MayEnd, Finishes}
 use Rattle.fsync_end.proofs.Homewards.{homeward_begins}
-use Rattle.fsync_end.proofs.Ended.{may_tell_by, told_core, same_count, same_places, all_home}
+use Rattle.stamp_table.proofs.Exchanging.{places_stay, with_long}
+use Rattle.fsync_end.proofs.Ended.{with_twice, may_tell_by, told_core, same_count, all_home}
 
 -- An fsync that ends: the table and its cores, how it ends, and its core before it tells the commit, behind that, and with the new values.
 pub record FsyncEnd : Type 0 where
@@ -62,11 +63,18 @@ module _ (s : FsyncEnd) (so : EndsSo s) where
   held_told : s.told.held ≡ s.before.held
   held_told = ap (λ (h : FileHand). h.held) so.tells.frame
 
+  -- the cells with what the core knows of them
+  abbrev known : List (HeldCell Cell)
+  known = with_values so.may.known s.before.held
+
   -- there are as many new values as cells
+  count_held : length s.ending.values.items ≡ length s.before.held
+  count_held =
+      same_count (tree_after s.t.first (calls_in s.before.view.seen)) s.nodes so.may.commit known s.ending.values.items so.may.written
+      ∙ with_long so.may.known s.before.held so.may.as_many
+
   pub count_told : length s.ending.values.items ≡ length s.told.held
-  count_told =
-      same_count (tree_after s.t.first (calls_in s.before.view.seen)) s.nodes so.may.commit s.before.held s.ending.values.items so.may.written
-      ∙ ap length (sym held_told)
+  count_told = count_held ∙ ap length (sym held_told)
 
   view_put : s.put.view ≡ s.told.view
   view_put = ap (λ (h : FileHand). h.view) so.puts
@@ -95,8 +103,9 @@ module _ (s : FsyncEnd) (so : EndsSo s) where
     first = first_put ∙ so.may.work.first;
     core = subst (λ n. n < length s.t.first.made) (sym core_put) so.may.work.core;
     places = view_held
-        ∙ (so.may.work.places ∙ ap reverse (sym (ap (λ (l : List (HeldCell Cell)). places_of l) held_put
-        ∙ same_places s.before.held s.ending.values.items (count_told ∙ ap length held_told))));
+        ∙ (so.may.work.places
+        ∙ ap reverse (places_stay so.may.known s.before.held so.may.as_many
+        ∙ sym (ap (λ (l : List (HeldCell Cell)). places_of l) held_put ∙ places_stay s.ending.values.items s.before.held count_held)));
     falls = subst Falls (sym view_held) so.may.work.falls;
   }
 
@@ -163,7 +172,8 @@ module _ (s : FsyncEnd) (so : EndsSo s) where
 
     -- all that it holds goes home
     pub all_go_home : EachFrom 0 (Stands (IsLawfulLog s.given) (StandsAt s.given) trimmed.view) trimmed.held
-    all_go_home = subst (EachFrom 0 (Stands (IsLawfulLog s.given) (StandsAt s.given) trimmed.view)) (sym held_trimmed)
+    all_go_home = subst (EachFrom 0 (Stands (IsLawfulLog s.given) (StandsAt s.given) trimmed.view))
+        (with_twice s.ending.values.items so.may.known s.before.held count_held so.may.as_many ∙ sym held_trimmed)
         (all_home (record {
           given = s.given;
           t = s.t;
@@ -181,7 +191,7 @@ module _ (s : FsyncEnd) (so : EndsSo s) where
           home = home;
           all = all_of members refl;
         })
-        s.before.held s.ending.values.items so.may.written so.may.work.knows)
+        known s.ending.values.items so.may.written so.may.work.knows)
 
     module _ (left : FileHand) (lets : LetsGo trimmed left) (left_is : left.held ≡ left_below 0 trimmed.held)
         (places : left.view.held ≡ reverse (places_of left.held)) where

@@ -1,5 +1,5 @@
 -- The end of an fsync: its commit is told, the new values are in their cells, all logs are trimmed, and all goes home.
-use Rattle.std.specs.Prelude.{◌≡◌, ℕ, ◌<◌, List, [], ◌∷◌, ◌++◌, map, Option, Some}
+use Rattle.std.specs.Prelude.{◌≡◌, ℕ, ◌<◌, List, [], ◌∷◌, ◌++◌, length, map, Option, Some}
 use mathlib.Core.List.{IsPrefix}
 use Rattle.sfs_base.specs.declared.numbers.NodeId.{NodeId}
 use Rattle.tree_laws.specs.Tree.{TreeState}
@@ -13,7 +13,7 @@ use Rattle.stamp_table.specs.declared.event.Event.{Event}
 use Rattle.stamp_table.specs.declared.held.HeldCell.{HeldCell}
 use Rattle.stamp_table.specs.Rule.{entries_by}
 use Rattle.stamp_table.specs.Events.{event_core, told_by, calls_in, IsLawful}
-use Rattle.stamp_table.specs.Table.{with_answer}
+use Rattle.stamp_table.specs.Table.{with_answer, with_values}
 use Rattle.mem_values.specs.Start.{FileHand, FileState}
 use Rattle.mem_values.specs.declared.cell.Cell.{Cell}
 use Rattle.mem_values.specs.declared.cell.Pending.{Pending}
@@ -62,15 +62,18 @@ pub record TellsEnding (core : ℕ) (fact : Fact) (ending : Ending) (commit : Co
   pub stamped : commit.stamp ≡ ending.stamp.0
   pub members_are : commit.members ≡ map node_number ending.members.items
 
--- A core may end its fsync so: it may tell the commit, it holds what was flushed of the commit's nodes, and the new values are what it writes.
+-- A core may end its fsync so: it may tell the commit; with what it knows of its cells in them, whose values may be out meanwhile, it is a working core that
+-- holds what was flushed of the commit's nodes; and the new values are what the commit writes.
 pub record MayEnd (given : ℕ → Option OldKept) (t : FileState) (nodes : ℕ) (fact : Option Fact) (ending : Ending) (hand : FileHand) : Type 0 where
   pub told : Fact
   pub told_is : fact ≡ Some told
   pub commit : Commitment
   pub tells : TellsEnding hand.view.core told ending commit
   pub may : MayTellCommit given hand.view commit
-  pub work : IsWorking given t hand
-  pub written : AreWritten (tree_after t.first (calls_in hand.view.seen)) nodes commit hand.held ending.values.items
+  pub known : List Cell
+  pub as_many : length known ≡ length hand.held
+  pub work : IsWorking given t (record hand { held = with_values known hand.held })
+  pub written : AreWritten (tree_after t.first (calls_in hand.view.seen)) nodes commit (with_values known hand.held) ending.values.items
 
 -- how many logs are trimmed for a commit with these members: all, and none where it has no member
 abbrev pub logs_trimmed : List NodeId → ℕ → ℕ

@@ -17,20 +17,20 @@ use Rattle.note_laws.specs.Run.{TableRun, IsTableRun, calls_of}
 use Rattle.note_laws.specs.Notes.{IsNotedPart}
 use Rattle.note_laws.proofs.Along.{legal_begin, calls_begin}
 use Rattle.made_laws.specs.Made.{HasMadeFile, too_late, in_copy, CoreMaking, run_on, CoreMade, IsMadeOfCopy, MadesGoOn, making_flush, cut_gathered, OwnFileMaking, OwnFileMade, OwnFileChanges, own_flush, OwnsGoOn}
-use Rattle.made_laws.proofs.There.{live_there}
+use Rattle.note_laws.proofs.There.{live_there}
 
 module _ (run : TableRun) (more : List (Event Fact)) (is : IsTableRun (run_on run more)) where
   abbrev after : TableRun
   after = run_on run more
 
   -- what was a beginning is one of the longer log
-  begins_later : (at rest : List (Event Fact)) → at ++ rest ≡ run.log → at ++ (rest ++ more) ≡ after.log
+  pub begins_later : (at rest : List (Event Fact)) → at ++ rest ≡ run.log → at ++ (rest ++ more) ≡ after.log
   begins_later at rest whole = sym (append_assoc at rest more) ∙ ap (λ log. log ++ more) whole
 
-  legal_then : IsLegal run.first (calls_of run)
+  pub legal_then : IsLegal run.first (calls_of run)
   legal_then = legal_begin run.first run.log more after.log refl is.legal
 
-  kinds_on : (node : ℕ) (calls rest all : List Entry) → calls ++ rest ≡ all → IsLegal run.first all → IsNodeOf (tree_after run.first calls) node
+  pub kinds_on : (node : ℕ) (calls rest all : List Entry) → calls ++ rest ≡ all → IsLegal run.first all → IsNodeOf (tree_after run.first calls) node
       → is_directory (tree_after run.first all) node ≡ is_directory (tree_after run.first calls) node
   kinds_on node calls rest all whole legal there =
       subst (λ l. is_directory (tree_after run.first l) node ≡ is_directory (tree_after run.first calls) node) whole

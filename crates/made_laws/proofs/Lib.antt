@@ -3,3 +3,4 @@ pub mod Later
 pub mod Known
 pub mod Telling
 pub mod Own
+pub mod Told

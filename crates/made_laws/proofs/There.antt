@@ -1,192 +1,30 @@
 -- The nodes that an fsync touches were there as one of the parts was noted.
-use Rattle.std.proofs.Common.{◌<◌, ◌∷◌, ◌≡◌, ◌∙◌, List, ℕ, length, slice_index_or, [], inl, arith, inr, suc, All, subst, Some, filter, Option, option_map, None, refl, take, true, sym}
-use Rattle.sfs_base.specs.declared.numbers.NodeId.{NodeId}
-use Rattle.sfs_base.proofs.BasicNumbers.{same_number}
-use Rattle.sfs_base.proofs.BasicOptions.{some_same}
-use Rattle.tree_laws.specs.declared.changes.Change.{Change}
-use Rattle.tree_laws.specs.Tree.{TreeState, is_alive, is_directory}
-use Rattle.tree_laws.specs.History.{tree_after, IsLegal}
-use Rattle.tree_laws.specs.Logged.{is_logged_in}
-use Rattle.tree_laws.specs.declared.history.Entry.{Entry}
-use Rattle.tree_laws.specs.Changes.{added}
-use Rattle.tree_laws.proofs.KeepsNodes.{directory_node}
-use Rattle.mem_cells.specs.Part.{CoreLog, changes_kept}
-use Rattle.mem_cells.specs.Log.{log_place, is_from}
-use Rattle.cut_laws.specs.Rules.{IsOneOf, Birth, births_of}
-use Rattle.cut_laws.specs.Closure.{HasLiveNode}
-use Rattle.cut_laws.proofs.Basics.{none_some, in_either}
-use Rattle.cut_laws.proofs.RunFacts.{in_filter}
-use Rattle.cut_laws.proofs.Listed.{to_filter, from_map}
-use Rattle.cut_laws.proofs.Entries.{entries_may_come}
-use Rattle.cut_laws.proofs.Along.{nodes_at, made_at, change_in}
-use Rattle.cut_laws.proofs.Prefixes.{live_node}
-use Rattle.cut_laws.proofs.Commit.{birth_at}
-use Rattle.cut_laws.proofs.MemberKinds.{own_directory}
-use Rattle.log_merge.specs.Merge.{parts_changes, part_changes, is_under, stands_at}
-use Rattle.look_laws.specs.Look.{Look, Gathers, Touches, Noted, Born, itself, other_side, ended, ancestor, birth_place, member, named}
-use Rattle.dep_closure.specs.Gathered.{look_of, noted_in, noted_as}
-use Rattle.dep_closure.specs.declared.gathered.DirectoryChanges.{DirectoryChanges}
-use Rattle.dep_closure.proofs.Looked.{from_flat}
-use Rattle.core_logs.specs.Logs.{blank_part}
-use Rattle.stamp_table.specs.declared.event.Event.{Event}
-use Rattle.stamp_table.specs.Events.{calls_in}
-use Rattle.mem_values.specs.Logs.{own_logged}
-use Rattle.mem_values.specs.declared.fact.Fact.{Fact}
-use Rattle.mem_values.specs.Facts.{HasFsync}
-use Rattle.home_laws.specs.Laws.{IsNodeOf, NamesNodes}
-use Rattle.home_laws.proofs.Named.{own_names}
+use Rattle.std.proofs.Common.{◌≡◌, ℕ}
+use Rattle.cut_laws.specs.Rules.{IsOneOf}
+use Rattle.look_laws.specs.Look.{Born, Gathers, Touches, member}
 use Rattle.note_laws.specs.Run.{TableRun, IsTableRun}
-use Rattle.note_laws.specs.Notes.{CoreNotes, calls_noted}
-use Rattle.note_laws.proofs.Along.{legal_begin}
-use Rattle.note_laws.proofs.Noting.{waits_alive}
-use Rattle.note_laws.proofs.Born.{birthplace_is}
-use Rattle.made_laws.specs.Made.{CoreMaking, CoreMade, is_concerned}
+use Rattle.note_laws.specs.There.{look_noted, SawBirth, GathersByNotes, WasThere}
+use Rattle.note_laws.proofs.There.{touched_were_there}
+use Rattle.made_laws.specs.Made.{CoreMaking, CoreMade}
 
--- what some parts keep of a directory is kept by one of them
-in_one_part : (parts : List CoreLog) (directory all : ℕ) (change : Change) → IsOneOf (parts_changes directory all parts) change
-    → (part : ℕ) × (part < length parts) × IsOneOf (changes_kept (slice_index_or parts part blank_part) directory) change
-in_one_part [] directory all change one = absurd one
-in_one_part (log ∷ parts) directory all change one =
-    elim (in_either (part_changes directory all log) (parts_changes directory all parts) change one) [
-      | inl here ↦ (0, omega arith, (in_filter (is_under all) (changes_kept log directory) change here).0)
-      | inr later ↦
-          let found = in_one_part parts directory all change later in
-          let less = found.1 in (suc found.0, omega (arith, less), found.2)
-    ]
+-- what a core made it gathered by its notes
+gathers_by_notes : (run : TableRun) (making : CoreMaking) → IsTableRun run → CoreMade run making → GathersByNotes run making.noted making.gathered
+gathers_by_notes run making is made = record {
+  sound = is.sound;
+  legal = is.legal;
+  some_core = made.some_core;
+  notes = made.notes;
+  merged = made.gathers.merged;
+  births = born_of;
+}
+  where
+    born_of : (born : Born) → IsOneOf (look_noted making.noted making.gathered).born born → Gathers (look_noted making.noted making.gathered) born.node
+        → SawBirth making.noted born
+    born_of born one gathers =
+        let seen = made.gathers.seen born.node ((made.concern_is.nodes.each born.node).1 (member born.node gathers)) in
+        record { value = seen.0; seen = seen.1.seen; made_in = (seen.1.born born.directory).0 one }
 
--- all of a list by its members
-each_of_all : (P : ℕ → Type 0) (xs : List ℕ) → All P xs → (x : ℕ) → IsOneOf xs x → P x
-each_of_all P [] all x one = absurd one
-each_of_all P (y ∷ ys) all x one = elim one [
-  | inl same ↦ subst P same (all 0 0 (omega arith))
-  | inr later ↦ each_of_all P ys (λ i d less. all (suc i) d (omega (arith, less))) x later
-]
-
--- an fsync that waits for its answer is of a node that was alive as it was stamped
-pub live_there : (first : TreeState) (log : List (Event Fact)) (core node stamp : ℕ) → IsLegal first (calls_in log) → HasFsync (calls_in log) core node stamp
-    → HasLiveNode first (calls_in log) (record { node = node; stamp = stamp })
-live_there first log core node stamp legal fsync =
-    let may = (entries_may_come first (calls_in log) fsync.entry legal fsync.among).may in
-    subst (λ n. is_alive (tree_after first (take n (calls_in log))) node ≡ true) fsync.stamped
-    (waits_alive (tree_after first (take fsync.entry.stamp.0 (calls_in log))) fsync.entry.stamp.0 fsync.entry node may fsync.fsync fsync.waits)
-
-module _ (run : TableRun) (making : CoreMaking) (is : IsTableRun run) (made : CoreMade run making) where
-  abbrev noted : CoreNotes
-  noted = making.noted
-
-  abbrev look : Look
-  look = look_of (record { 0 = noted.node }) (record { 0 = noted.stamp }) making.gathered
-
-  abbrev tree_at_note : ℕ → TreeState
-  tree_at_note part = tree_after run.first (calls_noted noted part)
-
-  legal_at : (part : ℕ) → part < length run.first.made → IsLegal run.first (calls_noted noted part)
-  legal_at part known =
-      let one = made.notes.each part known in
-      legal_begin run.first (noted.notes part).at one.rest run.log one.whole is.legal
-
-  -- a node was there as a part was noted
-  pub record IsThere (node : ℕ) : Type 0 where
-    pub part : ℕ
-    pub known : part < length run.first.made
-    pub there : IsNodeOf (tree_at_note part) node
-
-  -- a change that was gathered names nodes that were there
-  record NamesThere (one : Noted) : Type 0 where
-    child : IsThere one.change.child
-    other : (node : ℕ) → one.change.other ≡ Some node → IsThere node
-    above : (node : ℕ) → IsOneOf one.above node → IsThere node
-
-  change_there : (log : DirectoryChanges) → IsOneOf making.gathered.logs.items log → (change : Change) → IsOneOf log.changes.items change
-      → (part : ℕ) × (part < length run.first.made) × NamesNodes (tree_at_note part) change
-  change_there log one change in_log =
-      let merged = made.gathers.merged.merged log one in
-      let here = to_filter (stands_at (log_place change)) log.changes.items change in_log (same_number (log_place change)) in
-      let there = subst (λ l. IsOneOf l change) (merged.merge.same (log_place change)) here in
-      let kept = (in_filter (stands_at (log_place change)) (parts_changes log.dir.0 merged.all noted.parts) change there).0 in
-      let part = in_one_part noted.parts log.dir.0 merged.all change kept in
-      let known : part.0 < length run.first.made = subst (λ n. part.0 < n) made.notes.as_many part.1 in
-      let each = made.notes.each part.0 known in
-      let left = subst (λ l. IsOneOf l change) (each.left log.dir.0) part.2 in
-      let own = own_logged run.first part.0 (calls_noted noted part.0) in
-      let logged =
-      (in_filter (is_logged_in log.dir.0) own change
-      (in_filter (is_from ((noted.notes part.0).mark log.dir.0)) (filter (is_logged_in log.dir.0) own) change left).0).0 in
-      (part.0, known, all_names (tree_at_note part.0) own (own_names run.first 0 part.0 (calls_noted noted part.0) is.sound (legal_at part.0 known)) change logged)
-    where
-      all_names : (tree : TreeState) (xs : List Change) → All (NamesNodes tree) xs → (x : Change) → IsOneOf xs x → NamesNodes tree x
-      all_names tree [] all x one = absurd one
-      all_names tree (y ∷ ys) all x one = elim one [
-        | inl same ↦ subst (NamesNodes tree) same (all 0 y (omega arith))
-        | inr later ↦ all_names tree ys (λ i d less. all (suc i) d (omega (arith, less))) x later
-      ]
-
-  names_there : (one : Noted) → IsOneOf look.noted one → NamesThere one
-  names_there one among =
-      let in_log = from_flat noted_in making.gathered.logs.items one among in
-      let change = from_map (noted_as in_log.0.changes.items) in_log.0.changes.items one in_log.2 in
-      let names = change_there in_log.0 in_log.1 change.0 change.1 in
-      subst NamesThere change.2 (of_change in_log.0.changes.items change.0 names.0 names.1 names.2)
-    where
-      other_there : (part : ℕ) (known : part < length run.first.made) (other : Option NodeId)
-          → ((node : NodeId) → other ≡ Some node → IsNodeOf (tree_at_note part) node.0)
-          → (node : ℕ) → option_map (λ (n : NodeId). n.0) other ≡ Some node → IsThere node
-      other_there part known None names node is = absurd (none_some is)
-      other_there part known (Some n) names node is =
-          record { part = part; known = known; there = subst (IsNodeOf (tree_at_note part)) (some_same is) (names n refl) }
-
-      of_change : (changes : List Change) (change : Change) (part : ℕ) (known : part < length run.first.made) → NamesNodes (tree_at_note part) change
-          → NamesThere (noted_as changes change)
-      of_change changes change part known names = record {
-        child = record { part = part; known = known; there = names.child };
-        other = other_there part known change.other names.other;
-        above = λ node one. record { part = part; known = known; there = each_of_all (IsNodeOf (tree_at_note part)) change.above names.above node one };
-      }
-
-  -- so was the fsync's own node, which was alive as it was stamped
-  own_there : IsThere noted.node
-  own_there =
-      let calls = calls_noted noted 0 in
-      let legal = legal_at 0 made.some_core in
-      let live = live_there run.first (noted.notes 0).at noted.core noted.node noted.stamp legal (made.notes.each 0 made.some_core).stamped in
-      record {
-        part = 0;
-        known = made.some_core;
-        there = (nodes_at run.first calls noted.stamp is.sound legal noted.node
-            (live_node run.first calls is.sound legal (record { node = noted.node; stamp = noted.stamp }) live noted.stamp (omega arith))).0;
-      }
-
-  -- and where a node was made that was gathered
-  born_there : (born : Born) → IsOneOf look.born born → is_concerned making born.node ≡ true → IsThere born.directory
-  born_there born one concerned =
-      let value = made.gathers.seen born.node concerned in
-      let part = made.notes.each 0 made.some_core in
-      let legal = legal_at 0 made.some_core in
-      let place = sym (part.stands born.node value.0 value.1.seen).made_in ∙ (value.1.born born.directory).0 one in
-      let birth = (birthplace_is run.first (calls_noted noted 0) is.sound legal born.node born.directory).0 place in
-      record {
-        part = 0;
-        known = made.some_core;
-        there = directory_node (tree_at_note 0) born.directory
-            (birth_kind (calls_noted noted 0) legal (record { stamp = birth.0; directory = born.directory; node = born.node }) birth.1);
-      }
-    where
-      birth_kind : (calls : List Entry) → IsLegal run.first calls → (birth : Birth) → IsOneOf (births_of run.first calls) birth
-          → is_directory (tree_after run.first calls) birth.directory ≡ true
-      birth_kind calls legal birth has =
-          let at = birth_at run.first calls birth legal has in
-          let change = added birth.stamp birth.directory at.name birth.node None in
-          own_directory run.first calls is.sound legal birth.stamp change
-          (made_at run.first calls is.sound legal change (change_in run.first calls birth.stamp change legal (rw at.adds (inl refl))))
-
-  gathers_there : (node : ℕ) → Gathers look node → IsThere node
-  gathers_there node itself = own_there
-  gathers_there node (other_side one other gathers sight is_other) = (names_there one sight.is_noted).other node is_other
-  gathers_there node (ended one gathers sight ends) = (names_there one sight.is_noted).child
-  gathers_there node (ancestor one other gathers sight among) = (names_there one sight.is_noted).above node among
-  gathers_there node (birth_place born gathers one inode sees) =
-      born_there born one ((made.concern_is.nodes.each born.node).1 (member born.node gathers))
-
-  pub touched_there : (node : ℕ) → Touches look node → IsThere node
-  touched_there node (member other gathers) = gathers_there node gathers
-  touched_there node (named one gathers sight) = (names_there one sight.is_noted).child
+pub touched_there : (run : TableRun) (making : CoreMaking) → IsTableRun run → CoreMade run making → (node : ℕ)
+    → Touches (look_noted making.noted making.gathered) node → WasThere run making.noted node
+touched_there run making is made node touches =
+    touched_were_there run making.noted making.gathered node (gathers_by_notes run making is made) touches

@@ -26,14 +26,16 @@ use Rattle.reserve_laws.specs.Plans.{bringing_made}
 use Rattle.reserve_laws.specs.Looks.{CoreTells}
 use Rattle.reserve_laws.specs.OwnFile.{OwnMaking, own_pair}
 use Rattle.reserve_laws.specs.Fits.{TellsPair}
+use Rattle.stamp_table.specs.declared.event.Event.{Event}
 use Rattle.mem_values.specs.declared.cell.Pending.{Pending}
+use Rattle.mem_values.specs.declared.fact.Fact.{Fact}
 use Rattle.mem_values.specs.Account.{Commitment, account_of}
 use Rattle.note_laws.specs.Notes.{CoreNotes, calls_noted}
 use Rattle.note_laws.specs.Run.{TableRun, calls_of, IsTableRun, TellsCommit}
 use Rattle.note_laws.specs.Merged.{mark_noted, is_noted_by}
 use Rattle.note_laws.specs.Joined.{IsMadeFromNotes, BoxKnows}
 use Rattle.note_laws.specs.Kept.{TellsDisk}
-use Rattle.made_laws.specs.Made.{CoreMaking, is_concerned, cut_gathered, IsPlanMade, sources_of, CoreMade, OwnFileMaking, own_flush, OwnFileMade}
+use Rattle.made_laws.specs.Made.{CoreMaking, run_on, is_concerned, cut_gathered, IsPlanMade, sources_of, CoreMade, OwnFileMaking, own_flush, OwnFileMade}
 
 -- the earliest of the first parts' notes, by the count of calls, or this count
 abbrev pub earliest : CoreNotes → ℕ → ℕ → ℕ
@@ -69,6 +71,16 @@ commit_made run making plans number = record {
     loses = is_listed (map node_number making.plan.leave.items);
   };
 }
+
+-- A core made something for its fsync, and the run tells a commit of that.
+pub record ToldMade (run : TableRun) (making : CoreMaking) (told : Commitment) : Type 0 where
+  pub made : CoreMade run making
+  pub tells : TellsCommit run (commit_made run making made.plans told.number) told
+
+-- So it is in each run that goes on from there, whatever others call and tell.
+abbrev pub ToldMadesGoOn : Type 0
+ToldMadesGoOn = (run : TableRun) (more : List (Event Fact)) (making : CoreMaking) (told : Commitment) → IsTableRun (run_on run more)
+    → ToldMade run making told → ToldMade (run_on run more) making told
 
 -- Such a commit follows from its look and is made from its notes, so it has its notes.
 pub record IsKnownMade (run : TableRun) (making : CoreMaking) (commit : CoreCommit) : Type 0 where

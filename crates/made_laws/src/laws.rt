@@ -1,10 +1,15 @@
 // What is proved of what cores make: each function's contract is a law.
 ghost use Rattle.made_laws.specs.Made.{MadesGoOn, OwnsGoOn};
-ghost use Rattle.made_laws.specs.Tells.{MadesAreKnown, MadesTell, OwnsTell};
+ghost use Rattle.made_laws.specs.Tells.{MadesAreKnown, MadesTell, OwnsTell, ToldMadesGoOn};
 
 /// What a core made so far it made so in each run that goes on from there.
 pub fn mades_go_on()
     ensures { MadesGoOn }
+{}
+
+/// And what it told of it stays told of it.
+pub fn told_mades_go_on()
+    ensures { ToldMadesGoOn }
 {}
 
 /// Its commit follows from its look and has its notes.

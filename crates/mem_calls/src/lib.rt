@@ -31,7 +31,7 @@ pub use edits::{trunc, write};
 pub use emptied::rmdir;
 pub use finish::finish as answer_call;
 pub use held::{bucket_in, directory_fault_in, file_in, is_standing};
-pub use holding::{CALL_CELLS, hold_directory, hold_more, hold_part};
+pub use holding::{CALL_CELLS, hold_directory, hold_more, hold_part, let_all_go};
 pub use links::link;
 pub use lists::list;
 pub use lookup::look;

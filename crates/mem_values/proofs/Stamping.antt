@@ -39,11 +39,11 @@ unacknowledged None true none not = absurd (cc (not))
 unacknowledged (Some x) b none not = absurd (cc (none))
 
 -- the first number and the share stay
-first_stays : (first : TreeState) (history : List Entry) → (tree_after first history).first ≡ first.first
+pub first_stays : (first : TreeState) (history : List Entry) → (tree_after first history).first ≡ first.first
 first_stays first [] = refl
 first_stays first (e ∷ history) = first_stays (tree_after_entry first e) history
 
-share_stays : (first : TreeState) (history : List Entry) → (tree_after first history).share ≡ first.share
+pub share_stays : (first : TreeState) (history : List Entry) → (tree_after first history).share ≡ first.share
 share_stays first [] = refl
 share_stays first (e ∷ history) = share_stays (tree_after_entry first e) history
 

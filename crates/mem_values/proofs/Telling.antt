@@ -146,6 +146,7 @@ module _ (given : ℕ → Option OldKept) (view : View TreeState (Event Fact)) (
         within = let w = asks.within held among in let more = calls_grow view.seen log past.seen in omega (arith, w, more);
         stays = λ directory none. follows.stays (sym there.1 ∙ directory) none;
         below = asks.inodes held among;
+        root = asks.root held among;
       }
 
   are_directories : (directory : ℕ) → IsOneOf commit.members directory → is_directory (tree_after first (calls_in log)) directory ≡ true

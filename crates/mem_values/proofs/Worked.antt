@@ -29,7 +29,7 @@ use Rattle.mem_values.specs.Account.{is_held_of, Commitment, held_by, Trimming, 
 use Rattle.mem_values.specs.Worked.{WorkedCommit, IsWorkedCommit, AreWorkedNodes, worked_fsync, worked_log, IsWorkedPending, IsWorkedPart, TablesCanBeMet}
 use Rattle.mem_values.specs.Telling.{commit_by}
 use Rattle.mem_values.specs.declared.fact.Fact.{Fact}
-use Rattle.mem_values.specs.Facts.{IsBelowInodes, MayHoldNode, MayBeCommitted, RaisesMember, IsLawfulLog, MayBeTrimmed}
+use Rattle.mem_values.specs.Facts.{IsBelowInodes, MayHoldNode, MayBeCommitted, RaisesMember, IsLawfulLog, MayBeTrimmed, KeepsRoot}
 use Rattle.mem_values.specs.Stands.{flushed_by, Flushed, IsTrimmedFor, StandsPending, StandsPart, KeepFrom}
 use Rattle.mem_values.specs.Logs.{entry_logged, own_logged}
 use Rattle.mem_values.specs.declared.cell.Pending.{Pending}
@@ -150,8 +150,8 @@ module _ (given : ℕ → Option OldKept) (first : TreeState) (third : ℕ) (one
 
   -- the first commit finds nothing flushed
   one_holds : (node : ℕ) (new : Option OldKept) → is_directory first node ≡ true → IsOneOf c_one.members node → IsBelowInodes first.first new
-      → MayHoldNode given first before_one c_one (record { node = numbered_node node; new_cut = record { 0 = 1 }; new = new })
-  one_holds node new is member inode = record {
+      → KeepsRoot node new → MayHoldNode given first before_one c_one (record { node = numbered_node node; new_cut = record { 0 = 1 }; new = new })
+  one_holds node new is member inode root = record {
     node = node_there node is;
     trimmed = λ writer has last among part lt. absurd (cc last);
     later = omega arith;
@@ -159,6 +159,7 @@ module _ (given : ℕ → Option OldKept) (first : TreeState) (third : ℕ) (one
     within = omega arith;
     stays = λ directory none. absurd (none member);
     below = inode;
+    root = root;
   }
 
   one_may : MayBeCommitted given first before_one c_one
@@ -166,8 +167,9 @@ module _ (given : ℕ → Option OldKept) (first : TreeState) (third : ℕ) (one
     own = record { entry = worked_fsync 0 0 one.own; among = inl refl; own = refl; stamped = refl; fsync = refl; waits = refl };
     fresh = λ other among core number. among;
     holds = each_held third 1 0 1 0 one one_is nodes.apart.1.0 (MayHoldNode given first before_one c_one)
-        (one_holds one.own one.new nodes.one_is (own_member third 1 0 1 0 one one_is nodes.apart.1.0) one_is.inode_is)
-        (one_holds third one.new_third nodes.third_is (third_member third 1 0 1 0 one one_is nodes.apart.1.0) one_is.third_inode_is);
+        (one_holds one.own one.new nodes.one_is (own_member third 1 0 1 0 one one_is nodes.apart.1.0) one_is.inode_is one_is.root)
+        (one_holds third one.new_third nodes.third_is (third_member third 1 0 1 0 one one_is nodes.apart.1.0) one_is.third_inode_is
+        one_is.third_root);
     raises = each_member third 1 0 1 0 one one_is nodes.apart.1.0 (RaisesMember c_one)
         (own_held third 1 0 1 0 one one_is nodes.apart.1.0, holds_own third 1 0 1 0 one one_is nodes.apart.1.0, omega arith)
         (third_held third 1 0 1 0 one one_is nodes.apart.1.0, holds_third third 1 0 1 0 one one_is nodes.apart.1.0, omega arith);
@@ -207,6 +209,7 @@ module _ (given : ℕ → Option OldKept) (first : TreeState) (third : ℕ) (one
     within = omega arith;
     stays = λ directory none. absurd (none (own_member third 2 1 2 1 two two_is nodes.apart.1.1));
     below = two_is.inode_is;
+    root = two_is.root;
   }
 
   two_holds_third : MayHoldNode given first before_two c_two (third_held third 2 1 2 1 two two_is nodes.apart.1.1)
@@ -220,6 +223,7 @@ module _ (given : ℕ → Option OldKept) (first : TreeState) (third : ℕ) (one
     within = omega arith;
     stays = λ directory none. absurd (none (third_member third 2 1 2 1 two two_is nodes.apart.1.1));
     below = two_is.third_inode_is;
+    root = two_is.third_root;
   }
 
   two_may : MayBeCommitted given first before_two c_two

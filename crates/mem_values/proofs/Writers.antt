@@ -1,5 +1,6 @@
 -- The commits that hold one node, as they came.
 use Rattle.std.specs.Option.{option_or}
+use Rattle.std.specs.Prelude.{true, is_some}
 use Rattle.std.proofs.Common.{◌++◌, ◌≡◌, ◌∙◌, ◌≤◌, ◌⊎◌, ◌<◌, ◌∷◌, List, ℕ, sym, ap, subst, Option, Some, length, [], inl, inr, None, arith, refl, append-nil, append_assoc}
 use Rattle.std.proofs.lemmas.List.Elements.{filter_map-append}
 use Rattle.sfs_base.proofs.BasicOptions.{some_same}
@@ -12,7 +13,7 @@ use Rattle.stamp_table.specs.Events.{calls_in, called}
 use Rattle.stamp_table.specs.declared.event.Event.{Event}
 use Rattle.stamp_table.specs.declared.event.Event.TheVariants.{Called, Told}
 use Rattle.mem_values.specs.Facts.{HasFsync, IsBelowInodes, MayBeCommitted, MayHoldNode, MayStandAfter, AreLawfulBehind, IsLawfulLog}
-use Rattle.mem_values.specs.Writers.{CommitsHaveFsyncs, Writes, WritersRise, NumbersNameWriters, EarlierWritersAreTrimmed, InodesStayBelow}
+use Rattle.mem_values.specs.Writers.{CommitsHaveFsyncs, Writes, WritersRise, NumbersNameWriters, EarlierWritersAreTrimmed, InodesStayBelow, RootIsKept}
 use Rattle.mem_values.specs.Account.{Account, Commitment, last_writer, Trimming, held_by, writes_by, account_of}
 use Rattle.mem_values.specs.declared.fact.HeldNode.{HeldNode}
 use Rattle.mem_values.specs.Stands.{flushed_in, IsTrimmedFor, flushed_by, AreTrimmedFor}
@@ -23,7 +24,7 @@ use Rattle.mem_values.proofs.Committed.{came}
 use Rattle.mem_values.proofs.Told.{with_trimming, with_commit, last_writer-push, found_of, account_committed, account_trimmed}
 use Rattle.mem_values.proofs.Pushes.{account_called}
 
-fsync_later : (calls more : List Entry) (core node stamp : ℕ) → HasFsync calls core node stamp → HasFsync (calls ++ more) core node stamp
+pub fsync_later : (calls more : List Entry) (core node stamp : ℕ) → HasFsync calls core node stamp → HasFsync (calls ++ more) core node stamp
 fsync_later calls more core node stamp has = record {
   entry = has.entry;
   among = in_left calls more has.entry has.among;
@@ -224,3 +225,13 @@ inodes_stay_below given first log node begun lawful = below_by (last_writer node
         let holds = writer_holds node (account_of log).commits writer is in
         let c = came given first log writer.0 lawful holds.0 in
         (c.may.holds writer.1 (found_of node writer.0.held writer.1 holds.1).0).below
+
+pub root_is_kept : RootIsKept
+root_is_kept given first log begun lawful = kept_by (last_writer 0 (account_of log).commits) refl
+  where
+    kept_by : (writer : Option (Commitment × HeldNode)) → last_writer 0 (account_of log).commits ≡ writer → is_some (flushed_by given 0 writer).old ≡ true
+    kept_by None is = begun
+    kept_by (Some writer) is =
+        let holds = writer_holds 0 (account_of log).commits writer is in
+        let c = came given first log writer.0 lawful holds.0 in
+        let own = found_of 0 writer.0.held writer.1 holds.1 in (c.may.holds writer.1 own.0).root own.1

@@ -1,5 +1,5 @@
 -- When what a core tells may stand in a log, by what the log has before it.
-use Rattle.std.specs.Prelude.{◌≡◌, ◌<◌, ◌≤◌, ◌∷◌, ◌++◌, ℕ, List, [], length, map, true, Option, Some, IsSome}
+use Rattle.std.specs.Prelude.{◌≡◌, ◌<◌, ◌≤◌, ◌∷◌, ◌++◌, ℕ, List, [], length, map, true, Option, Some, IsSome, is_some}
 use Rattle.std.specs.FinMap.{get}
 use Rattle.tree_laws.specs.declared.call.Call.TheVariants as call
 use Rattle.tree_laws.specs.declared.reply.Reply.TheVariants as reply
@@ -30,9 +30,13 @@ pub record HasFsync (calls : List Entry) (core node stamp : ℕ) : Type 0 where
 abbrev pub IsBelowInodes : ℕ → Option OldKept → Type 0
 IsBelowInodes inodes old = (kept : OldKept) → old ≡ Some kept → kept.number < inodes
 
+-- Of the root the disk goes on to have something.
+abbrev pub KeepsRoot : ℕ → Option OldKept → Type 0
+KeepsRoot node new = node ≡ 0 → is_some new ≡ true
+
 -- A commit may hold a node of the tree: every part was trimmed for the last commit before it where it had to be, its number is greater than
 -- that one's, and the cut that it writes is not below that one's, nor above the calls so far; of a directory that is no member it stays. What the
--- disk has of the node then is one of the inodes, which are as many as the first tree has numbers.
+-- disk has of the node then is one of the inodes, which are as many as the first tree has numbers, and of the root it is one.
 pub record MayHoldNode (given : ℕ → Option OldKept) (first : TreeState) (account : Account) (commit : Commitment) (held : HeldNode) : Type 0 where
   pub node : IsSome (get (tree_after first account.calls).nodes held.node.0)
   pub trimmed : AreTrimmedFor first account held.node.0
@@ -42,6 +46,7 @@ pub record MayHoldNode (given : ℕ → Option OldKept) (first : TreeState) (acc
   pub stays : is_directory (tree_after first account.calls) held.node.0 ≡ true → (IsOneOf commit.members held.node.0 → ⊥)
       → held.new_cut.0 ≡ (flushed_in given account held.node.0).cut
   pub below : IsBelowInodes first.first held.new
+  pub root : KeepsRoot held.node.0 held.new
 
 -- a commit holds a directory, and writes a cut for it that is not below the stamp
 abbrev pub RaisesMember : Commitment → ℕ → Type 0

@@ -30,7 +30,7 @@ use Rattle.mem_values.specs.declared.fact.HeldNode.{HeldNode}
 use Rattle.mem_values.specs.Places.{node_count, cell_place, IsCell}
 use Rattle.mem_values.specs.Account.{Commitment, commit_told, account_of, held_by, last_writer}
 use Rattle.mem_values.specs.Stands.{StandsAt, IsTrimmedFor}
-use Rattle.mem_values.specs.Facts.{HasFsync, IsBelowInodes, RaisesMember, IsLawfulLog}
+use Rattle.mem_values.specs.Facts.{HasFsync, IsBelowInodes, KeepsRoot, RaisesMember, IsLawfulLog}
 use Rattle.mem_values.specs.Laws.{KnowsCell}
 
 -- A core knows a value of a cell that has something.
@@ -66,7 +66,7 @@ commit_by core number node stamp members held = record {
 
 -- What a core asks that tells a commit: it is for an fsync of its own that waits, with a number that it has not used; its nodes are nodes of
 -- the tree; it holds what was flushed of each, which what the commit writes follows; its members are directories that it raises; and it gives each
--- node one of the inodes or none.
+-- node one of the inodes or none, the root one.
 pub record MayTellCommit (given : ℕ → Option OldKept) (view : View TreeState (Event Fact)) (commit : Commitment) : Type 0 where
   pub own : HasFsync (calls_in view.mine) view.core commit.node commit.stamp
   pub fresh : (other : Commitment) → IsOneOf (filter_map commit_told view.mine) other → other.number ≢ commit.number
@@ -77,6 +77,7 @@ pub record MayTellCommit (given : ℕ → Option OldKept) (view : View TreeState
   pub raises : (directory : ℕ) → IsOneOf commit.members directory → RaisesMember commit directory
   pub directories : (directory : ℕ) → IsOneOf commit.members directory → is_directory (tree_after view.first (calls_in view.seen)) directory ≡ true
   pub inodes : (held : HeldNode) → IsOneOf commit.held held → IsBelowInodes view.first.first held.new
+  pub root : (held : HeldNode) → IsOneOf commit.held held → KeepsRoot held.node.0 held.new
 
 -- A commit may be told by a core that asks this.
 abbrev pub CommitsMayBeTold : Type 0

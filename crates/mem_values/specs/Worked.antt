@@ -21,7 +21,7 @@ use Rattle.mem_values.specs.declared.cell.Pending.{Pending}
 use Rattle.mem_values.specs.declared.cell.PartCell.{PartCell}
 use Rattle.mem_values.specs.Account.{account_of}
 use Rattle.mem_values.specs.Stands.{StandsPending, StandsPart}
-use Rattle.mem_values.specs.Facts.{IsBelowInodes, IsLawfulLog}
+use Rattle.mem_values.specs.Facts.{IsBelowInodes, KeepsRoot, IsLawfulLog}
 
 -- an fsync that a core stamps
 abbrev pub worked_fsync : ℕ → ℕ → ℕ → Entry
@@ -36,7 +36,7 @@ pub record WorkedCommit : Type 0 where
   pub new : Option OldKept
   pub new_third : Option OldKept
 
--- The members are the commit's directory and the third one, and it holds both, each with this cut and one of the inodes or none.
+-- The members are the commit's directory and the third one, and it holds both, each with this cut and one of the inodes or none, the root with one.
 pub record IsWorkedCommit (inodes third cut : ℕ) (commit : WorkedCommit) : Type 0 where
   pub members_are : commit.members.items ≡ numbered_node commit.own ∷ numbered_node third ∷ []
   pub held_are : commit.held.items
@@ -45,6 +45,8 @@ pub record IsWorkedCommit (inodes third cut : ℕ) (commit : WorkedCommit) : Typ
       ∷ []
   pub inode_is : IsBelowInodes inodes commit.new
   pub third_inode_is : IsBelowInodes inodes commit.new_third
+  pub root : KeepsRoot commit.own commit.new
+  pub third_root : KeepsRoot third commit.new_third
 
 -- what a core tells of its commit: its number, and its stamp
 abbrev pub worked_commit : ℕ → ℕ → WorkedCommit → Fact

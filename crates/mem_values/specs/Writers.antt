@@ -1,5 +1,5 @@
 -- The commits of a lawful log that hold one node, as they came; each law is proved by a function of the module laws.
-use Rattle.std.specs.Prelude.{◌≡◌, ◌⊎◌, ℕ, ◌<◌, ◌≤◌, List, length, Option, Some}
+use Rattle.std.specs.Prelude.{◌≡◌, ◌⊎◌, ℕ, ◌<◌, ◌≤◌, true, List, length, Option, Some, is_some}
 use Rattle.tree_laws.specs.Tree.{TreeState}
 use Rattle.cut_laws.specs.Rules.{IsOneOf}
 use Rattle.disk_nodes.specs.OldKept.{OldKept}
@@ -49,3 +49,8 @@ abbrev pub InodesStayBelow : Type 0
 InodesStayBelow =
     (given : ℕ → Option OldKept) (first : TreeState) (log : List (Event Fact)) (node : ℕ) → ((of : ℕ) → IsBelowInodes first.first (given of))
     → IsLawfulLog given first log → IsBelowInodes first.first (flushed_in given (account_of log) node).old
+
+-- Where something was given of the root, there is something of what was flushed of it.
+abbrev pub RootIsKept : Type 0
+RootIsKept = (given : ℕ → Option OldKept) (first : TreeState) (log : List (Event Fact)) → is_some (given 0) ≡ true → IsLawfulLog given first log
+    → is_some (flushed_in given (account_of log) 0).old ≡ true

@@ -3,7 +3,7 @@ ghost use Rattle.mem_values.specs.Places.{PlacesApart, PlacesAscend};
 ghost use Rattle.mem_values.specs.Laws.{CallsKeepCells, ToldWaysStay, CallsMayCome};
 ghost use Rattle.mem_values.specs.Home.{CellsBegin, MovedLocksStand, PartsTakeEntries, TrimmedPartsStand, ToldPartsStand, WrittenNodesStand, OwnNodesStand};
 ghost use Rattle.mem_values.specs.Telling.{CommitsMayBeTold, TrimsMayBeTold, CommitsStayLast};
-ghost use Rattle.mem_values.specs.Writers.{WritersRise, NumbersNameWriters, EarlierWritersAreTrimmed, CommitsHaveFsyncs, InodesStayBelow};
+ghost use Rattle.mem_values.specs.Writers.{WritersRise, NumbersNameWriters, EarlierWritersAreTrimmed, CommitsHaveFsyncs, InodesStayBelow, RootIsKept};
 ghost use Rattle.mem_values.specs.Worked.{TablesCanBeMet};
 
 /// Two cells at one place are one.
@@ -104,6 +104,11 @@ pub fn commits_have_fsyncs()
 /// What was flushed of a node has an inode of a number below the first tree's, where what was given has.
 pub fn inodes_stay_below()
     ensures { InodesStayBelow }
+{}
+
+/// The disk goes on to have something of the root.
+pub fn root_is_kept()
+    ensures { RootIsKept }
 {}
 
 /// In each tree with two cores and three directories the worked table can be met.

@@ -11,3 +11,4 @@ pub mod Joining
 pub mod Answers
 pub mod Worked
 pub mod Kept
+pub mod There

@@ -4,6 +4,7 @@ ghost use Rattle.note_laws.specs.Kept.{SawsAreKept};
 ghost use Rattle.note_laws.specs.Merged.{NotedPartsAreLeft, NotesAreLogs};
 ghost use Rattle.note_laws.specs.Notes.{NotesAreEnough, PartsHaveMarks};
 ghost use Rattle.note_laws.specs.Run.{SawsAreLeft};
+ghost use Rattle.note_laws.specs.There.{TouchedWereThere};
 ghost use Rattle.note_laws.specs.Worked.{NotesCanBeMet};
 
 /// What a core saw of a node is what the last commit that is done and holds it left.
@@ -59,6 +60,11 @@ pub fn alike_whatever_answered()
 /// A file that was copied as a stamp was drawn is the run's file at that stamp.
 pub fn copies_are_files()
     ensures { CopiesAreFiles }
+{}
+
+/// The nodes that an fsync touches by what was gathered of notes were nodes of the tree as a part was noted.
+pub fn touched_were_there()
+    ensures { TouchedWereThere }
 {}
 
 /// All that is asked of a core's notes can be met: by a core that flushes the root before any other call.

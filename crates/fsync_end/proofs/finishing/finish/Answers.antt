@@ -1,13 +1,11 @@
-use Rattle.std.proofs.Common.{◌∙◌, map, length, sym, subst, ap}
+use Rattle.std.proofs.Common.{◌∙◌, map, refl, sym, subst, ap}
 use Rattle.sfs_base.proofs.BasicOptions.{some_same}
-use Rattle.tree_laws.specs.History.{tree_after}
 use Rattle.tree_laws.specs.NameRow.{node_number}
-use Rattle.stamp_table.specs.Events.{calls_in}
-use Rattle.mem_values.specs.Start.{given_by, FileHand}
+use Rattle.stamp_table.specs.Table.{with_values}
+use Rattle.mem_values.specs.Start.{given_by}
 use Rattle.fsync_end.specs.Trimming.{HasTold, TrimsAll}
 use Rattle.fsync_end.specs.Finishing.{logs_trimmed, Finishes}
-use Rattle.fsync_end.proofs.Ended.{same_count}
-use Rattle.fsync_end.proofs.Finishes.{FsyncEnd, EndsSo, may_tell, flushes, has_told, all_go_home, between, finishes}
+use Rattle.fsync_end.proofs.Finishes.{FsyncEnd, EndsSo, may_tell, count_told, flushes, has_told, all_go_home, between, finishes}
 use Rattle.fsync_end.proofs.finishing.finish.Goals as goal
 
 pub tell_ghost-requires-clause-may : goal.tell_ghost-requires-clause-may
@@ -19,11 +17,23 @@ tell_ghost-requires-clause-may g c = (
 
 pub swap_values-requires : goal.swap_values-requires
 swap_values-requires g c =
-    let tells = c.tell_ghost.ensures c.requires.may.told c.requires.may.told_is in
-    same_count (tree_after c.args.shared.now.first (calls_in c.args.core.now.view.seen)) c.args.nodes c.requires.may.commit c.args.core.now.held
-    c.args.ending.values.items
-    c.requires.may.written
-    ∙ ap (λ (h : FileHand). length h.held) (sym (ap (λ (h : FileHand). record h { view = c.tell_ghost.new.self.view }) tells.frame))
+    let s : FsyncEnd = record {
+      given = given_by c.args.shared.now;
+      t = c.args.shared.now;
+      nodes = c.args.nodes;
+      fact = g.J.Telling.fact;
+      ending = c.args.ending;
+      before = c.args.core.now;
+      told = c.tell_ghost.new.self;
+      put = record c.tell_ghost.new.self { held = with_values c.args.ending.values.items c.tell_ghost.new.self.held };
+    } in
+    let so : EndsSo s = record {
+      table = c.requires.table;
+      may = c.requires.may;
+      tells = c.tell_ghost.ensures c.requires.may.told c.requires.may.told_is;
+      puts = refl;
+    } in
+    count_told s so
 
 pub trim_all-requires-clause-at : goal.trim_all-requires-clause-at
 trim_all-requires-clause-at g c =
