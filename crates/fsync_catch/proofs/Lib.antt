@@ -1,0 +1,5 @@
+pub mod Counts
+pub mod Noted
+pub mod Looked
+pub mod Copies
+pub mod Going

@@ -1,0 +1,68 @@
+-- What a core catches for an fsync that waits: values that it holds, and what it gathered of all logs since it held them.
+use Rattle.std.specs.Prelude.{◌≡◌, ℕ, List, [], map, Option, None, All, if◌then◌else◌}
+use mathlib.Core.List.{IsPrefix}
+use Rattle.sfs_base.specs.declared.numbers.NodeId.{NodeId}
+use Rattle.sfs_base.specs.Listed.{is_listed}
+use Rattle.tree_laws.specs.NameRow.{node_number}
+use Rattle.tree_laws.specs.History.{IsLegal}
+use Rattle.disk_nodes.specs.OldKept.{OldKept}
+use Rattle.dep_closure.specs.Gathered.{IsOrderly}
+use Rattle.flush_plan.specs.Concerned.{IsConcernOf}
+use Rattle.stamp_table.specs.Events.{calls_in}
+use Rattle.mem_values.specs.Start.{FileHand}
+use Rattle.mem_values.specs.declared.cell.Pending.{Pending}
+use Rattle.mem_values.specs.Facts.{HasFsync, IsLawfulLog}
+use Rattle.mem_calls.specs.Held.{pending_held}
+use Rattle.note_laws.specs.Run.{TableRun, calls_of}
+use Rattle.note_laws.specs.Notes.{CoreNotes, HasNotedAll}
+use Rattle.note_laws.specs.Merged.{AreMergedOf}
+use Rattle.fsync_look.specs.Look.{IsBelow, HoldsNodes}
+use Rattle.fsync_gather.specs.Gathers.{GathersNodes}
+use Rattle.fsync_catch.specs.declared.looking.Caught.{Caught}
+use Rattle.fsync_catch.specs.declared.looking.WaitingFsync.{WaitingFsync}
+
+-- a core has seen its fsync stamped, which waits for its answer
+abbrev pub HasItsFsync : FileHand → WaitingFsync → Type 0
+HasItsFsync hand fsync = HasFsync (calls_in hand.view.seen) hand.view.core fsync.node.0 fsync.stamp.0
+
+-- A core goes on with an fsync: it has held cells or let some go, looked, and made room. It made no call and told nothing.
+pub record GoesOn (before after : FileHand) : Type 0 where
+  pub frame : record after { view = before.view; held = before.held; room = before.room; spare = before.spare } ≡ before
+  pub view : record after.view { seen = before.view.seen; held = before.view.held } ≡ before.view
+  pub seen : IsPrefix before.view.seen after.view.seen
+
+-- A core holds nothing.
+pub record LetsAllGo (hand : FileHand) : Type 0 where
+  pub holds_none : hand.held ≡ []
+  pub none_held : hand.view.held ≡ []
+
+-- what a core saw of the nodes of a list, whose values it holds
+abbrev pub saw_of : ℕ → List NodeId → FileHand → ℕ → Option Pending
+saw_of nodes list hand node = if is_listed (map node_number list) node then pending_held nodes hand.held (record { 0 = node }) else None
+
+-- the run of the table as far as a core has seen it
+abbrev pub run_seen : (ℕ → Option OldKept) → FileHand → TableRun
+run_seen given hand = record { given = given; first = hand.view.first; log = hand.view.seen }
+
+-- What a core looked at for its fsync while it held what was flushed of some nodes: it noted each core's log at a moment up to now at which all that it
+-- holds stood; what it gathered is merged of these and has of its nodes what it holds; and what the fsync concerns by that are nodes of the table. What it
+-- has seen is legal and lawful.
+pub record IsLook (given : ℕ → Option OldKept) (nodes : ℕ) (fsync : WaitingFsync) (list : List NodeId) (hand : FileHand) (caught : Caught) : Type 0 where
+  pub noted : CoreNotes
+  pub core_is : noted.core ≡ hand.view.core
+  pub node_is : noted.node ≡ fsync.node.0
+  pub stamp_is : noted.stamp ≡ fsync.stamp.0
+  pub saw : noted.pending ≡ saw_of nodes list hand
+  pub notes : HasNotedAll (run_seen given hand) noted
+  pub orderly : IsOrderly caught.gathered
+  pub merged : AreMergedOf noted.parts caught.gathered.logs.items
+  pub gathers : GathersNodes nodes hand.held list caught.gathered
+  pub concern_is : IsConcernOf fsync.node fsync.stamp caught.gathered caught.concern
+  pub within : All (IsBelow nodes) caught.concern.nodes.items
+  pub legal : IsLegal hand.view.first (calls_of (run_seen given hand))
+  pub lawful : IsLawfulLog given hand.view.first hand.view.seen
+
+-- A core has caught what its fsync concerns: it holds what was flushed of exactly these nodes, and looked while it held that.
+pub record IsCaught (given : ℕ → Option OldKept) (nodes : ℕ) (fsync : WaitingFsync) (hand : FileHand) (caught : Caught) : Type 0 where
+  pub holds : HoldsNodes nodes caught.concern.nodes.items hand
+  pub look : IsLook given nodes fsync caught.concern.nodes.items hand caught

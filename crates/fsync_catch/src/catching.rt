@@ -1,0 +1,105 @@
+// An fsync looks again until what it concerns is exactly what it held as it looked.
+ghost use Rattle.std.specs.Prelude.{◌≡◌, ◌↔◌, ◌+◌, ◌<◌, true, [], ◌∷◌, IfOk, OnErr, length};
+ghost use Rattle.mem_values.specs.Start.{given_by};
+ghost use Rattle.mem_calls.specs.Table.{IsFileTable};
+ghost use Rattle.mem_calls.specs.Working.{IsWorking};
+ghost use Rattle.fsync_catch.specs.Catch.{HasItsFsync, IsCaught, GoesOn, LetsAllGo};
+
+use crate::looking::{Caught, WaitingFsync, look_once};
+use fsync_look::hold_nodes;
+use mem_calls::let_all_go;
+use mem_values::{FileCore, FileShared};
+use sfs_base::{NoMemory, NodeId, NodeList};
+use std::alloc::Global;
+use std::sync::Wait;
+
+// A list of one node.
+fn one_node(alloc: Global, node: NodeId) -> Result<NodeList, NoMemory>
+    ensures { IfOk result (λ nodes. nodes.items ≡ node ∷ []) }
+{
+    let mut nodes = NodeList::new(alloc);
+    nodes.reserve(1)?;
+    nodes.push(node);
+    Ok(nodes)
+}
+
+// Whether lists have the same nodes in the same order.
+fn are_same(some: &[NodeId], others: &[NodeId]) -> bool
+    ensures { (result ≡ true) ↔ (some.now ≡ others.now) }
+{
+    some == others
+}
+
+// How many cells a core holds at most with these nodes: theirs and a log.
+fn cells_for(nodes: &NodeList) -> Result<u32, NoMemory>
+    ensures { IfOk result (λ cells. cells ≡ length nodes.now.items + 1) }
+{
+    match u32::try_from(nodes.len().saturating_add(1)) {
+        Ok(cells) => Ok(cells),
+        Err(_) => Err(NoMemory),
+    }
+}
+
+/// Holds what was flushed of the nodes that an fsync concerns by the logs of all cores, each as it was at some moment since all of that was
+/// held. It holds what it knows, looks, and where it concerns other nodes than it holds it lets all go and begins again with those, with the
+/// same stamp; it waits while another core has one of the cells. Where memory is refused it holds nothing.
+pub fn catch_nodes<R: Wait>(
+    rt: &R,
+    alloc: Global,
+    shared: &FileShared,
+    core: &mut FileCore,
+    nodes: u32,
+    cores: u8,
+    fsync: WaitingFsync,
+) -> Result<Caught, NoMemory>
+    requires table { IsFileTable shared.now nodes }
+    requires work { IsWorking (given_by shared.now) shared.now core.old }
+    requires none { (core.old.held ≡ []) × (core.old.view.held ≡ []) }
+    requires cores { cores ≡ length shared.now.first.made }
+    requires within { fsync.node.0 < nodes }
+    requires waits { HasItsFsync core.old fsync }
+    ensures work { IsWorking (given_by shared.now) shared.now core.new }
+    ensures on { GoesOn core.old core.new }
+    ensures caught { IfOk result (IsCaught (given_by shared.now) nodes fsync core.new) }
+    ensures none { OnErr result (LetsAllGo core.new) }
+{
+    let mut held = one_node(alloc, fsync.node)?;
+    for _ in rt.forever() {
+        core.reserve(0, cells_for(&held)?)?;
+        hold_nodes(rt, shared, core, nodes, held.as_slice());
+        match look_once(
+            rt,
+            alloc,
+            shared,
+            core,
+            nodes,
+            cores,
+            fsync,
+            held.as_slice(),
+        ) {
+            Ok(caught) => {
+                if are_same(held.as_slice(), caught.concern.nodes.as_slice()) {
+                    return Ok(caught);
+                }
+                let_all_go(shared, core);
+                held = nodes_of(caught);
+            }
+            Err(fault) => {
+                let_all_go(shared, core);
+                return Err(fault);
+            }
+        }
+    }
+    unreachable!()
+}
+
+// The nodes that an fsync concerns.
+fn nodes_of(caught: Caught) -> NodeList
+    ensures { result ≡ caught.concern.nodes }
+{
+    let Caught {
+        gathered: _,
+        concern,
+    } = caught;
+    concern.nodes
+}

@@ -1,0 +1,8 @@
+//! What an fsync on the shared table catches: it holds what was flushed of exactly the nodes that it concerns by the logs of all cores.
+#![tactic(auto)]
+
+mod catching;
+mod looking;
+
+pub use catching::catch_nodes;
+pub use looking::{Caught, WaitingFsync};

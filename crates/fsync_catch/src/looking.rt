@@ -1,0 +1,64 @@
+// One look of an fsync: the logs of all cores are copied while what was flushed of some nodes is held, and what it concerns is worked out.
+ghost use Rattle.std.specs.Prelude.{◌≡◌, ◌+◌, ◌*◌, ◌<◌, IfOk, length, map, All};
+ghost use Rattle.std.specs.List.Sorted.{IsStrictlyIncreasing};
+ghost use Rattle.tree_laws.specs.NameRow.{node_number};
+ghost use Rattle.stamp_table.specs.Ascending.{LiesAbove};
+ghost use Rattle.mem_values.specs.Start.{given_by};
+ghost use Rattle.mem_calls.specs.Table.{IsFileTable};
+ghost use Rattle.mem_calls.specs.Working.{IsWorking};
+ghost use Rattle.fsync_look.specs.Look.{IsBelow, HoldsNodes, SawMore};
+ghost use Rattle.fsync_catch.specs.Catch.{HasItsFsync, IsLook};
+
+use dep_closure::Gathered;
+use flush_plan::{Concern, concerned};
+use fsync_gather::gather;
+use fsync_look::copy_logs;
+use mem_values::{FileCore, FileShared};
+use sfs_base::{NoMemory, NodeId, Stamp};
+use std::alloc::Global;
+use std::sync::Wait;
+
+/// An fsync that has its stamp and waits for its answer: the node, and the stamp.
+#[derive(Clone, Copy)]
+pub struct WaitingFsync {
+    pub node: NodeId,
+    pub stamp: Stamp,
+}
+
+/// What an fsync gathered, and what it concerns by that.
+#[derive(Drop)]
+pub struct Caught {
+    pub gathered: Gathered,
+    pub concern: Concern,
+}
+
+/// Copies the logs of all cores one after another, gathers them with what was flushed of the nodes `held`, and works out what the fsync
+/// concerns. All that the core holds it still holds. It waits while another core has a log. Only want of memory refuses it.
+pub(crate) fn look_once<R: Wait>(
+    rt: &R,
+    alloc: Global,
+    shared: &FileShared,
+    core: &mut FileCore,
+    nodes: u32,
+    cores: u8,
+    fsync: WaitingFsync,
+    held: &[NodeId],
+) -> Result<Caught, NoMemory>
+    requires table { IsFileTable shared.now nodes }
+    requires work { IsWorking (given_by shared.now) shared.now core.old }
+    requires cores { cores ≡ length shared.now.first.made }
+    requires waits { HasItsFsync core.old fsync }
+    requires holds { HoldsNodes nodes held.now core.old }
+    requires within { All (IsBelow nodes) held.now }
+    requires ascend { IsStrictlyIncreasing (map node_number held.now) }
+    requires room { 0 < core.old.room }
+    ensures work { IsWorking (given_by shared.now) shared.now core.new }
+    ensures saw { SawMore core.old core.new }
+    ensures look { IfOk result (IsLook (given_by shared.now) nodes fsync held.now core.new) }
+{
+    let parts = copy_logs(rt, alloc, shared, core, nodes, cores)?;
+    core.look(shared);
+    let gathered = gather(alloc, core, nodes, held, &parts)?;
+    let concern = concerned(alloc, fsync.node, fsync.stamp, &gathered)?;
+    Ok(Caught { gathered, concern })
+}

@@ -1,0 +1,4 @@
+pub mod Rising
+pub mod Following
+pub mod Directories
+pub mod Nodes
