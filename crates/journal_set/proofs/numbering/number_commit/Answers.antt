@@ -1,4 +1,4 @@
-use Rattle.std.proofs.Common.{◌≡◌, ◌+◌, ◌∷◌, ◌++◌, ◌∙◌, ℕ, [], length, Some, None, refl, sym, ap, subst}
+use Rattle.std.proofs.Common.{◌≡◌, ◌+◌, ◌∷◌, ◌++◌, ◌∙◌, ℕ, [], length, Some, None, refl, sym, ap, subst, arith}
 use Rattle.sfs_base.specs.Lists.{Roomy}
 use Rattle.space_map.specs.Space.{GrantedNumbers}
 use Rattle.tree_laws.specs.Tree.{TreeState}
@@ -11,7 +11,7 @@ use Rattle.slot_laws.specs.declared.label.Seen.{Seen}
 use Rattle.slot_laws.specs.Nodes.{last_ended, last_seen}
 use Rattle.slot_laws.specs.Labels.{OwnTold, first_past}
 use Rattle.slot_laws.specs.Rules.{MayLabel, ReservedRule}
-use Rattle.slot_laws.specs.Grants.{SpaceGoes}
+use Rattle.slot_laws.specs.Grants.{SpaceGoes, TakesGrant}
 use Rattle.commit_ledger.specs.Calls.{EntersCommit, MayEnter}
 use Rattle.commit_ledger.specs.Keeps.{LedgerGoes}
 use Rattle.commit_ledger.specs.View.{HaveNodePlaces}
@@ -122,6 +122,10 @@ returns-clause-ok g c =
         space = desk.ledger.space;
         goes = subst (λ (k : BoxKey). SpaceGoes k.layout pen.view.seen (first_past k.start) k.space desk.ledger.space) (sym key_same) work.space;
         enough = c.in_ok-prepared.ensures.enough;
+        next = c.enter.new.self.space;
+        took = subst (λ (numbers : GrantedNumbers). TakesGrant desk.ledger.space numbers c.enter.new.self.space) grants
+            (goes.space (record { 0 = pen.view.core }));
+        numbered = omega (arith, next);
         inodes = ap (λ (n : GrantedNumbers). length n.inodes) (sym grants) ∙ ok.inodes;
         blocks = ap (λ (n : GrantedNumbers). length n.blocks) (sym grants) ∙ ok.blocks;
       };

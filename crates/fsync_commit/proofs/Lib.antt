@@ -1,0 +1,4 @@
+pub mod OnDisk
+pub mod Resting
+pub mod Built
+pub mod Taken
