@@ -26,7 +26,7 @@ use Rattle.fsync_values.proofs.Renewed.{entries_ascend}
 use Rattle.fsync_draft.specs.Drafting.{IsDrafted, IsOwnChange}
 use Rattle.catch_laws.specs.Laws.{Further, IsGatheredFor, making_of}
 use Rattle.catch_laws.proofs.Caught.{caught_are_gathered}
-use Rattle.draft_laws.specs.Laws.{DraftsAreMade, IsOwnCopy, IsPlannedFsync, MakesPlanned, PlannedFsync, of_directory, of_file, run_planned}
+use Rattle.draft_laws.specs.Made.{DraftsAreMade, IsOwnCopy, IsPlannedFsync, MakesPlanned, PlannedFsync, of_directory, of_file, run_planned}
 use Rattle.draft_laws.proofs.Entries.{seen_is_taken, taken_is_seen}
 
 module _ (s : PlannedFsync) (is : IsPlannedFsync s) where

@@ -27,6 +27,7 @@ use Rattle.fsync_look.specs.Look.{flushed_place}
 use Rattle.fsync_gather.proofs.Rising.{head_below, tail_rises}
 use Rattle.fsync_values.specs.Lending.{entries_of, entry_of, old_of_value}
 use Rattle.made_laws.specs.Made.{old_of}
+use Rattle.draft_laws.proofs.HeldNodes.{first_held, other_held, later_listed}
 
 -- what the disk has of a node by its value is what it has by what was flushed of it
 old_same : (value : Cell) → old_of_value value ≡ old_of (as_pending value)
@@ -35,20 +36,6 @@ old_same (cell.Lock lock) = refl
 old_same (cell.Bucket bucket) = refl
 old_same (cell.File file) = refl
 old_same (cell.Part part) = refl
-
--- what is seen of the first node that is held, and of another one
-first_held : (nodes : ℕ) (c : HeldCell Cell) (cells : List (HeldCell Cell)) (node : NodeId) → c.place ≡ flushed_place nodes node
-    → pending_held nodes (c ∷ cells) node ≡ as_pending c.value
-first_held nodes c cells node is =
-    let here : nat_eq c.place (flushed_place nodes node) ≡ true = eq-eqb c.place (flushed_place nodes node) is in
-    ap (λ b. option_and_then as_pending (option_map (λ (h : HeldCell Cell). h.value) (if b then Some c else cell_at (flushed_place nodes node) cells))) here
-
-other_held : (nodes : ℕ) (c : HeldCell Cell) (cells : List (HeldCell Cell)) (node other : NodeId) → c.place ≡ flushed_place nodes node
-    → (node.0 ≡ other.0 → ⊥) → pending_held nodes (c ∷ cells) other ≡ pending_held nodes cells other
-other_held nodes c cells node other is apart = elim (eqb_tells c.place (flushed_place nodes other)) [
-  | inl same ↦ let place = same.1 in absurd (apart (omega (arith, is, place)))
-  | inr away ↦ ap (λ b. option_and_then as_pending (option_map (λ (h : HeldCell Cell). h.value) (if b then Some c else cell_at (flushed_place nodes other) cells))) away.0
-]
 
 -- an entry of the first node, or of another one
 cons_cases : (o : Option OldEntry) (entries : List OldEntry) (entry : OldEntry) → Contains (cons_option o entries) entry → (o ≡ Some entry) ⊎ Contains entries entry
@@ -73,9 +60,6 @@ module _ (nodes : ℕ) where
   abbrev Sees : List NodeId → List (HeldCell Cell) → ℕ → OldKept → Type 0
   Sees list cells node kept = (is_listed (map node_number list) node ≡ true) × (old_of (pending_held nodes cells (record { 0 = node })) ≡ Some kept)
 
-  listed_later : (n : NodeId) (list : List NodeId) (node : ℕ) → is_listed (map node_number list) node ≡ true → is_listed (map node_number (n ∷ list)) node ≡ true
-  listed_later n list node is = (listed_one (map node_number (n ∷ list)) node).1 (inr ((listed_one (map node_number list) node).0 is))
-
   pub taken_is_seen : (list : List NodeId) (cells : List (HeldCell Cell)) → places_of cells ≡ map (flushed_place nodes) list
       → IsStrictlyIncreasing (map node_number list) → (node : ℕ) (kept : OldKept) → Contains (entries_of list (values_in cells)) (entry_keyed (node, kept))
       → Sees list cells node kept
@@ -95,7 +79,7 @@ module _ (nodes : ℕ) where
         | inr later ↦
             let s = taken_is_seen list cells rest (tail_rises n.0 (map node_number list) up) node kept later in
             let above = head_below n.0 (map node_number list) up node ((listed_one (map node_number list) node).0 s.0) in (
-              listed_later n list node s.0,
+              later_listed n list node s.0,
               ap old_of (other_held nodes c cells n (record { 0 = node }) place (λ same. omega (arith, same, above))) ∙ s.1,
             )
       ]

@@ -1,2 +1,4 @@
+pub mod HeldNodes
 pub mod Entries
 pub mod Drafted
+pub mod Written
