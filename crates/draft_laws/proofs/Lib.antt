@@ -2,3 +2,4 @@ pub mod HeldNodes
 pub mod Entries
 pub mod Drafted
 pub mod Written
+pub mod Told

@@ -32,10 +32,10 @@ use Rattle.draft_laws.proofs.HeldNodes.{apart, first_held, first_listed, later_h
 use Rattle.draft_laws.specs.Written.{CommitDone, HoldsWhatItWrote, RenewedAreWritten, cut_of_value, node_wrote, nodes_wrote}
 
 -- what the first of some nodes has, and what another one has
-find_first : (held : HeldNode) (others : List HeldNode) (node : ℕ) → held.node.0 ≡ node → find (is_held_of node) (held ∷ others) ≡ Some held
+pub find_first : (held : HeldNode) (others : List HeldNode) (node : ℕ) → held.node.0 ≡ node → find (is_held_of node) (held ∷ others) ≡ Some held
 find_first held others node is = ap (λ b. if b then Some held else find (is_held_of node) others) (eq-eqb held.node.0 node is)
 
-find_other : (held : HeldNode) (others : List HeldNode) (node : ℕ) → (held.node.0 ≡ node → ⊥) → find (is_held_of node) (held ∷ others) ≡ find (is_held_of node) others
+pub find_other : (held : HeldNode) (others : List HeldNode) (node : ℕ) → (held.node.0 ≡ node → ⊥) → find (is_held_of node) (held ∷ others) ≡ find (is_held_of node) others
 find_other held others node apart = elim (eqb_tells held.node.0 node) [
   | inl same ↦ absurd (apart same.1)
   | inr away ↦ ap (λ b. if b then Some held else find (is_held_of node) others) away.0
