@@ -59,6 +59,7 @@ reserved_later {D = D} before after core other {number = number} {grant = grant}
       next = was.next;
       took = was.took;
       numbered = was.numbered;
+      above = was.above;
       inodes = was.inodes;
       blocks = was.blocks;
     }

@@ -22,6 +22,7 @@ use Rattle.disk_box.proofs.After.{at_told, failed_told, past_fits_at}
 use Rattle.disk_box.proofs.Owes.{owns_own}
 use Rattle.journal_set.specs.Grants.{grant_from}
 use Rattle.journal_set.proofs.Parts.{grant_more, same_grant, same_nodes}
+use Rattle.journal_set.proofs.Rising.{seen_below}
 use Rattle.journal_set.proofs.Reserved.{entered_fits, may_enter, reserved_rule}
 use Rattle.journal_set.proofs.numbering.number_commit.Goals as goal
 
@@ -126,6 +127,7 @@ returns-clause-ok g c =
         took = subst (λ (numbers : GrantedNumbers). TakesGrant desk.ledger.space numbers c.enter.new.self.space) grants
             (goes.space (record { 0 = pen.view.core }));
         numbered = omega (arith, next);
+        above = λ node last seen. seen_below pen.table.given pen.view.seen work.holds.lawful made.number next node last (c.requires.may.unmoved node last seen);
         inodes = ap (λ (n : GrantedNumbers). length n.inodes) (sym grants) ∙ ok.inodes;
         blocks = ap (λ (n : GrantedNumbers). length n.blocks) (sym grants) ∙ ok.blocks;
       };
