@@ -34,7 +34,7 @@ use Rattle.fsync_commit.specs.Granting.{IsGrantOn}
 use Rattle.fsync_commit.proofs.OnDisk.{space_on}
 
 module _ (layout : Layout) (change : Planned) (grant : GrantedNumbers) (on : IsChangeOn layout change) (given : IsGrantOn layout change grant) where
-  own_low : (i : ℕ) → IsOwnInode change grant i → i < layout.inodes
+  pub own_low : (i : ℕ) → IsOwnInode change grant i → i < layout.inodes
   own_low i (granted has) = given.inodes i has
   own_low i (kept seat there is) = on.own seat i there is
   own_low i (lost entry there is) = subst (λ n. n < layout.inodes) is (on.gone entry there)

@@ -2,3 +2,4 @@ pub mod OnDisk
 pub mod Resting
 pub mod Built
 pub mod Taken
+pub mod Low

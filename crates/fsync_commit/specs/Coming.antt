@@ -1,9 +1,11 @@
 -- What comes of committing a planned change at the journals of all cores, by what was asked of them in turn.
-use Rattle.std.specs.Prelude.{◌≡◌, ◌<◌, List, [], length, Result, Ok, Err, IfErr}
+use Rattle.std.specs.Prelude.{◌≡◌, ◌<◌, List, [], length, Contains, Result, Ok, Err, IfErr}
+use Rattle.sfs_image.specs.Super.{Layout}
 use Rattle.fmt_journal.specs.declared.tx.Tx.{Tx}
 use Rattle.space_map.specs.Space.{GrantedNumbers}
 use Rattle.keyed_list.specs.Ascending.{AscendBy}
 use Rattle.disk_nodes.specs.Nodes.{entry_node}
+use Rattle.disk_nodes.specs.declared.old.OldEntry.{OldEntry}
 use Rattle.disk_change.specs.AllBuilt.{after_commit}
 use Rattle.disk_change.specs.Planned.{Planned}
 use Rattle.disk_change.specs.Written.{IsTransactionOf}
@@ -99,3 +101,8 @@ pub data ComesTo {D : Type 0} (asked : CommitRequest) (before after : PenHand D)
 abbrev pub given_by : Result Landed CommitRefusal → Result Ack CommitFault
 given_by (Ok landed) = Ok landed.ack
 given_by (Err refusal) = Err refusal.fault
+
+-- what the disk has of a durable commit's nodes has inodes of a disk of this layout
+abbrev pub AreLow : Layout → Result Landed CommitRefusal → Type 0
+AreLow layout (Ok landed) = (entry : OldEntry) → Contains landed.nodes.after entry → entry.old.number < layout.inodes
+AreLow layout (Err refusal) = Unit {0}
