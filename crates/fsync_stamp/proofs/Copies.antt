@@ -1,5 +1,5 @@
 -- What was copied of an fsync's node is as it was at the stamp.
-use Rattle.std.proofs.Common.{◌≡◌, ◌∙◌, ◌<◌, ℕ, Bool, true, false, List, [], Option, Some, None, is_none, not, refl, sym, ap, subst}
+use Rattle.std.proofs.Common.{◌≡◌, ◌∙◌, ◌<◌, ℕ, Bool, true, false, List, [], Option, Some, None, is_none, is_some, not, refl, sym, ap, subst}
 use Rattle.std.specs.Prelude.{IfSome, if◌then◌else◌}
 use Rattle.sfs_base.specs.declared.numbers.NodeId.{NodeId}
 use Rattle.mem_files.specs.File.{File}
@@ -30,6 +30,13 @@ kind_by false directory is = absurd (cc (is))
 kind_by_fault : (tree : TreeState) (node : ℕ) (fault : Option Code) → fault ≡ directory_fault tree node → is_alive tree node ≡ true
     → is_none fault ≡ is_directory tree node
 kind_by_fault tree node fault is alive = ap is_none is ∙ kind_by (is_alive tree node) (is_directory tree node) alive
+
+-- whether there is none, by whether there is some
+pub none_by : (fault : Option Code) (none : Bool) → is_some fault ≡ not none → none ≡ is_none fault
+none_by None true is = refl
+none_by None false is = absurd (cc (is))
+none_by (Some code) true is = absurd (cc (is))
+none_by (Some code) false is = refl
 
 -- What was copied of a node: its bytes as a cell had them that was held.
 abbrev pub HasCopied : ℕ → FileHand → NodeId → Option File → Type 0
