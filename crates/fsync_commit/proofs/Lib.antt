@@ -3,3 +3,4 @@ pub mod Resting
 pub mod Built
 pub mod Taken
 pub mod Low
+pub mod Came
