@@ -41,8 +41,9 @@ use Rattle.slot_laws.specs.Rules.{BeganRule}
 use Rattle.slot_laws.specs.Nodes.{ReservedCommit}
 use Rattle.slot_laws.specs.Grants.{EndsGrant, SpaceDoes}
 use Rattle.slot_laws.proofs.Basics.{mapped_some}
-use Rattle.slot_image_laws.specs.Images.{DiskBooks, books_from, book_act, RunStart, disk_books}
+use Rattle.slot_image_laws.specs.Images.{DiskBooks, book_act, RunStart, disk_books}
 use Rattle.slot_image_laws.specs.Commits.{parts_over, IsCommitAt, IsCommitJob, TurnsParts, BlocksApart}
+use Rattle.slot_image_laws.proofs.Trails.{books_more}
 use Rattle.imagined_laws.specs.Parts.{parts_once, ShowsBrought}
 use Rattle.imagined_laws.proofs.Parts.{imagined_show}
 use Rattle.label_laws.specs.Maps.{Numbered, bringing_of, BeginsAs, IsEmptyAs, FitsBringing}
@@ -51,10 +52,6 @@ use Rattle.label_laws.proofs.Walking.{BesideSo, stamps_differ, done_more}
 use Rattle.label_laws.proofs.Drawn.{Drawing}
 use Rattle.label_laws.proofs.Fsyncs.{part_low, AreBeside, fresh_apart, reached_apart, jobs_apart}
 use Rattle.label_laws.proofs.Opens.{ReservedOpen, AloftOpen}
-
-pub books_both : (gives : ℕ → List InodePart) (turns more : List Turn) (books : DiskBooks) → books_from gives (turns ++ more) books ≡ books_from gives more (books_from gives turns books)
-books_both gives [] more books = refl
-books_both gives (turn ∷ turns) more books = books_both gives turns more (book_act gives turn.act turn.commit books)
 
 -- a turn that does not make a commit durable leaves the parts
 base_stays : (gives : ℕ → List InodePart) (did : TurnAct) (commit : ℕ) (books : DiskBooks) → did ≢ act.Durable → (book_act gives did commit books).base ≡ books.base
@@ -245,7 +242,7 @@ module _ (layout : Layout) (start : Volume) (entries : List OldEntry) (named : N
 
     noted_books : (turn : Turn) → Here (label.Noted turn) → Then (label.Noted turn)
     noted_books turn at = record {
-      base = ap (λ (b : DiskBooks). b.base) (books_both gives past.turns (turn ∷ []) (record { base = start.parts; flying = [] }))
+      base = ap (λ (b : DiskBooks). b.base) (books_more gives past.turns (turn ∷ []) (record { base = start.parts; flying = [] }))
           ∙ (base_stays gives turn.act turn.commit (disk_books run past.turns) at.owing.may.0.1.no_durable ∙ books.base);
       begun = books.begun;
       empties = books.empties;
@@ -256,7 +253,7 @@ module _ (layout : Layout) (start : Volume) (entries : List OldEntry) (named : N
         let rule = at.owing.may.0.1 in
         let no_end : (did : TurnAct) (turn : Turn) → turn.act ≡ did → did ≢ act.Durable → turn.act ≢ act.Durable = λ did turn is away e. away (sym is ∙ e) in
         record {
-          base = ap (λ (b : DiskBooks). b.base) (books_both gives past.turns (cut ∷ opened ∷ []) (record { base = start.parts; flying = [] }))
+          base = ap (λ (b : DiskBooks). b.base) (books_more gives past.turns (cut ∷ opened ∷ []) (record { base = start.parts; flying = [] }))
               ∙ (base_stays gives opened.act opened.commit (book_act gives cut.act cut.commit (disk_books run past.turns))
               (no_end act.Opened opened rule.opened_is.did_is (λ e. cc e))
               ∙ (base_stays gives cut.act cut.commit (disk_books run past.turns) (no_end act.CutAt cut rule.cut_is.did_is (λ e. cc e)) ∙ books.base));
@@ -277,7 +274,7 @@ module _ (layout : Layout) (start : Volume) (entries : List OldEntry) (named : N
     settled_books : (k : ℕ) (turn : Turn) (next : Space) → Here (label.Settled k turn) → EndsGrant past.opens turn.commit space next → Then (label.Settled k turn)
     settled_books k turn next at ends =
         record {
-          base = ap (λ (b : DiskBooks). b.base) (books_both gives past.turns (turn ∷ []) (record { base = start.parts; flying = [] }))
+          base = ap (λ (b : DiskBooks). b.base) (books_more gives past.turns (turn ∷ []) (record { base = start.parts; flying = [] }))
               ∙ (ended_base ends.own.commit.number turn.commit turn at.owing.may.0.1.is.did_is refl ends.own.number_is (disk_books run past.turns) refl
               ∙ ap (λ l. parts_once (brought_under named.pairs l) start.parts)
               (sym (done_more layout start entries named first begins before done past core rest space space so turn.commit ends.own at.lasts.once)));
@@ -296,7 +293,7 @@ module _ (layout : Layout) (start : Volume) (entries : List OldEntry) (named : N
         base_stays gives opened.act opened.commit begun_books (no_end act.Opened opened rule.opened_is.did_is (λ e. cc e))
         ∙ base_stays gives cut.act cut.commit (disk_books run past.turns) (no_end act.CutAt cut rule.cut_is.did_is (λ e. cc e)) in
         record {
-          base = ap (λ (b : DiskBooks). b.base) (books_both gives past.turns (cut ∷ opened ∷ durable ∷ []) (record { base = start.parts; flying = [] }))
+          base = ap (λ (b : DiskBooks). b.base) (books_more gives past.turns (cut ∷ opened ∷ durable ∷ []) (record { base = start.parts; flying = [] }))
               ∙ (ended_base ends.own.commit.number commit durable rule.durable_is.did_is rule.durable_is.commit_is ends.own.number_is opened_books base
               ∙ ap (λ l. parts_once (brought_under named.pairs l) start.parts)
               (sym (done_more layout start entries named first begins before done past core rest space space so commit ends.own at.lasts.once)));

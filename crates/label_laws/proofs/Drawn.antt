@@ -1,10 +1,11 @@
 -- The map of free space along turns, drawn from the one along labels.
 use Rattle.std.proofs.Common.{◌≡◌, ◌+◌, ◌∷◌, ◌<◌, ◌^◌, ◌∙◌, if◌then◌else◌, ◌⊎◌, ◌++◌, ◌≢◌, false, [], length, arith, ℕ, not, nat_eq, refl, List, ap, subst, sym, take, option_map, true, Some, inl, inr, Bool, eqb-true, All}
+use Rattle.std.proofs.lemmas.List.{nil_from_length}
 use Rattle.std.proofs.lemmas.List.Elements.{All-nil, All-cons}
 use Rattle.sfs_base.specs.Listed.{is_listed}
 use Rattle.sfs_base.specs.declared.numbers.CoreId.{CoreId}
 use Rattle.sfs_base.proofs.BasicNumbers.{same_number}
-use Rattle.sfs_base.proofs.BasicTruth.{true_not_false}
+use Rattle.sfs_base.proofs.BasicTruth.{not_false}
 use Rattle.sfs_image.specs.Super.{Layout}
 use Rattle.space_map.specs.declared.status.Status.TheVariants.{Granted, Free}
 use Rattle.space_map.specs.Pool.{Pool, Grants, status_of, BecomeAll, Ends}
@@ -48,18 +49,10 @@ use Rattle.label_laws.proofs.Opens.{OpensSo, opens_label}
 no_numbers_there : (grant : GrantedNumbers) → has_numbers grant ≡ false → (grant.inodes ≡ []) × (grant.blocks ≡ [])
 no_numbers_there grant none =
     let sum = zero_by (length grant.inodes + length grant.blocks) none in
-    (nil_by grant.inodes (omega (arith, sum)), nil_by grant.blocks (omega (arith, sum)))
+    (nil_from_length grant.inodes (omega (arith, sum)), nil_from_length grant.blocks (omega (arith, sum)))
   where
-    is_true : (b : Bool) → not b ≡ false → b ≡ true
-    is_true true is = refl
-    is_true false is = absurd (true_not_false is)
-
     zero_by : (n : ℕ) → not (nat_eq n 0) ≡ false → n ≡ 0
-    zero_by n is = eqb-true n 0 (is_true (nat_eq n 0) is)
-
-    nil_by : (xs : List ℕ) → length xs ≡ 0 → xs ≡ []
-    nil_by [] is = refl
-    nil_by (x ∷ xs) is = absurd (omega (arith, is))
+    zero_by n is = eqb-true n 0 (not_false (nat_eq n 0) is)
 
 word_fits : (n m : ℕ) → n ≡ m → n < 2 ^ 32 → as_u32 n ≡ m
 word_fits n m same less = omega (arith, same, less)
