@@ -187,15 +187,11 @@ module _ {D : Type 0} (t : TableState BoxKey) (before after : PenHand D) (outsid
   pub has_now : (grant : GrantedNumbers) → IsToWrite grant after × ((own_at after).flight ≡ None) → HasGrant t after grant
   has_now grant is = record { outside = outside; room = subst (λ n. 0 < n) (sym same) some; writes = is.0; no_flight = is.1 }
 
--- What was packed with a grant is due, and can be written.
-pub packed_due : {D : Type 0} (t : TableState BoxKey) (pen : PenHand D) (layout : Layout) (tx : Tx) (grant : GrantedNumbers) (fsync : Fsync)
-    (writing : Writing) → HasGrant t pen grant → pen.table.given.layout ≡ layout → CanBeCommitted layout tx → IsPackedOf tx grant fsync writing
-    → DueFits t pen (due.Waits writing)
-packed_due t pen layout tx grant fsync writing has is can packed = record {
+-- What was packed with a grant and can be written is due.
+pub packed_due : {D : Type 0} (t : TableState BoxKey) (pen : PenHand D) (grant : GrantedNumbers) (writing : Writing) → HasGrant t pen grant
+    → writing.grant ≡ grant → CanBeWritten pen.table.given.layout writing → DueFits t pen (due.Waits writing)
+packed_due t pen grant writing has same can = record {
   outside = has.outside;
   room = has.room;
-  is = (
-    record { grant_is = has.writes.grant_is ∙ ap Some (sym packed.grant_is); goes_on = has.writes.goes_on },
-    subst (λ l. CanBeWritten l writing) (sym is) (packed_can_be_written layout tx grant fsync writing can packed),
-  );
+  is = (record { grant_is = has.writes.grant_is ∙ ap Some (sym same); goes_on = has.writes.goes_on }, can);
 }
