@@ -72,12 +72,14 @@ module _ (layout : Layout) (start : Volume) (entries : List OldEntry) (named : N
         sym (at.drawing.fits.numbers.rests core.0 number reserved) ∙ (ap (λ c. (past.owns c).flight) (sym same) ∙ flight.is) in cc never)
         (ap (λ f. f flight.core) waits)
 
-    looked_so : (turn : Turn) → Here (label.Looked turn) → (other : ℕ) → FliesHere past other → FliesHere (after_label layout core.0 (label.Looked turn) past) other
+    looked_so : (turn : Turn) → Here (label.Looked turn) → (other : ℕ) → FliesHere past other
+        → FliesHere (after_label layout core.0 (label.Looked turn) past) other
     looked_so turn at other flight =
         let rule = at.drawing.owing.may.0.1 in
         let apart : flight.core ≢ core.0 = λ same.
         (let never : ◌≡◌ {A = Option Turn} None (Some turn) = sym flight.waits ∙ (ap past.waits same ∙ rule.waits) in cc never) in
-        flight_other layout start entries named first begins moment before done past core rest space flies (label.Looked turn) other flight apart (at_other past.waits core.0 None flight.core apart)
+        flight_other layout start entries named first begins moment before done past core rest space flies (label.Looked turn) other flight apart
+            (at_other past.waits core.0 None flight.core apart)
 
     -- a label without a turn, which ends nothing and leaves each core's flight
     quiet_so : (fact : Label) → (after_label layout core.0 fact past).turns ≡ past.turns → (after_label layout core.0 fact past).done ≡ past.done
@@ -90,22 +92,29 @@ module _ (layout : Layout) (start : Volume) (entries : List OldEntry) (named : N
         → AreTurnsOf named (after_label layout core.0 fact past).turns → Then fact
     front_label label.Took at then does ties = quiet_so label.Took refl refl refl refl
     front_label label.Gave at then does ties = quiet_so label.Gave refl refl refl refl
-    front_label (label.Noted turn) at then does ties = noted_so layout start entries named first begins moment before done past core rest space next flies fronts turn at
+    front_label (label.Noted turn) at then does ties =
+        noted_so layout start entries named first begins moment before done past core rest space next flies fronts turn at
     front_label (label.Reserved commit seen grant) at then does ties = quiet_so (label.Reserved commit seen grant) refl refl refl refl
     front_label (label.Returned commit) at then does ties = quiet_so (label.Returned commit) refl refl refl refl
     front_label (label.Began filling commit node stamp blocks inodes) at then does ties =
-        still_so layout start entries named first begins moment before done past core rest space next flies fronts (label.Began filling commit node stamp blocks inodes) refl refl
+        still_so layout start entries named first begins moment before done past core rest space next flies fronts
+            (label.Began filling commit node stamp blocks inodes) refl refl
         (began_so (label.Began filling commit node stamp blocks inodes) at commit at.drawing.owing.may.0.1.number refl)
     front_label (label.Filled k piece ok) at then does ties = quiet_so (label.Filled k piece ok) refl refl refl refl
     front_label (label.Synced now) at then does ties = quiet_so (label.Synced now) refl refl refl refl
     front_label (label.Opened k ok cut opened) at then does ties =
-        opened_so layout start entries named first begins moment before done past core rest space next flies fronts k ok cut opened at (ties opened (in_right past.turns (cut ∷ opened ∷ []) opened (inr (inl refl))) (inl at.drawing.owing.may.0.1.opened_is.did_is))
+        opened_so layout start entries named first begins moment before done past core rest space next flies fronts k ok cut opened at
+            (ties opened (in_right past.turns (cut ∷ opened ∷ []) opened (inr (inl refl))) (inl at.drawing.owing.may.0.1.opened_is.did_is))
     front_label (label.Settled k turn) at then does ties =
-        settled_so layout start entries named first begins moment before done past core rest space next flies fronts k turn at then does (ties turn (in_right past.turns (turn ∷ []) turn (inl refl)) (inr at.drawing.owing.may.0.1.is.did_is))
-    front_label (label.Looked turn) at then does ties = still_so layout start entries named first begins moment before done past core rest space next flies fronts (label.Looked turn) refl refl (looked_so turn at)
+        settled_so layout start entries named first begins moment before done past core rest space next flies fronts k turn at then does
+            (ties turn (in_right past.turns (turn ∷ []) turn (inl refl)) (inr at.drawing.owing.may.0.1.is.did_is))
+    front_label (label.Looked turn) at then does ties =
+        still_so layout start entries named first begins moment before done past core rest space next flies fronts (label.Looked turn) refl refl
+        (looked_so turn at)
     front_label (label.Placed k n ok) at then does ties = quiet_so (label.Placed k n ok) refl refl refl refl
     front_label (label.Shut k ok) at then does ties = quiet_so (label.Shut k ok) refl refl refl refl
     front_label (label.Idled k) at then does ties = quiet_so (label.Idled k) refl refl refl refl
     front_label (label.Empty commit cut opened durable) at then does ties =
-        empty_so layout start entries named first begins moment before done past core rest space next flies fronts commit cut opened durable at then does (ties opened (in_right past.turns (cut ∷ opened ∷ durable ∷ []) opened (inr (inl refl))) (inl at.drawing.owing.may.0.1.opened_is.did_is))
+        empty_so layout start entries named first begins moment before done past core rest space next flies fronts commit cut opened durable at then does
+            (ties opened (in_right past.turns (cut ∷ opened ∷ durable ∷ []) opened (inr (inl refl))) (inl at.drawing.owing.may.0.1.opened_is.did_is))
         (ties durable (in_right past.turns (cut ∷ opened ∷ durable ∷ []) durable (inr (inr (inl refl)))) (inr at.drawing.owing.may.0.1.durable_is.did_is))

@@ -83,7 +83,10 @@ module _ (layout : Layout) (start : Volume) (entries : List OldEntry) (named : N
       subst Fronts whole
           (fronts_push layout start entries named first begins moment before ((past.turns ++ cut ∷ []) ++ opened ∷ []) durable
           (fronts_push layout start entries named first begins moment before (past.turns ++ cut ∷ []) opened
-          (fronts_push layout start entries named first begins moment before past.turns cut fronts (as_one layout start entries named first begins moment before done past core rest space next flies fronts (past.turns ++ cut ∷ []) front_one)) (as_one layout start entries named first begins moment before done past core rest space next flies fronts ((past.turns ++ cut ∷ []) ++ opened ∷ []) front_two))
+          (fronts_push layout start entries named first begins moment before past.turns cut fronts
+              (as_one layout start entries named first begins moment before done past core rest space next flies fronts (past.turns ++ cut ∷ []) front_one))
+              (as_one layout start entries named first begins moment before done past core rest space next flies fronts
+              ((past.turns ++ cut ∷ []) ++ opened ∷ []) front_two))
           (subst (IsOneRecord start named run) (sym whole)
           (record_here layout start entries named first begins moment before (done ++ Told core (label.Empty commit cut opened durable) ∷ [])
           (after_label layout core.0 (label.Empty commit cut opened durable) past) rest next then so))),
@@ -100,8 +103,10 @@ module _ (layout : Layout) (start : Volume) (entries : List OldEntry) (named : N
 
         front_one : FrontSo (past.turns ++ cut ∷ [])
         front_one =
-            front_quiet layout start entries named first begins moment before dones opens past.turns cut cut_opens (no_end act.CutAt cut rule.cut_is.did_is (λ e. cc e))
-            (here_front layout start entries named first begins moment before done past core rest space next flies fronts (label.Empty commit cut opened durable) at)
+            front_quiet layout start entries named first begins moment before dones opens past.turns cut cut_opens
+                (no_end act.CutAt cut rule.cut_is.did_is (λ e. cc e))
+            (here_front layout start entries named first begins moment before done past core rest space next flies fronts
+                (label.Empty commit cut opened durable) at)
 
         one_books : disk_books run (past.turns ++ cut ∷ []) ≡ disk_books run past.turns
         one_books =
@@ -112,7 +117,8 @@ module _ (layout : Layout) (start : Volume) (entries : List OldEntry) (named : N
             freely (at.drawing.owing.own core.0).owes (at.drawing.owing.own core.0).may
             (tells layout before named.stamps done past core (label.Empty commit cut opened durable) rest at.drawing.owing)
           where
-            freely : (o may : OwesTurn) → TellsBeside named.stamps o may (past.owns core.0) (label.Empty commit cut opened durable) → cut.stamp.0 ≡ named.stamps commit
+            freely : (o may : OwesTurn) → TellsBeside named.stamps o may (past.owns core.0) (label.Empty commit cut opened durable) → cut.stamp.0
+                ≡ named.stamps commit
             freely owes_nothing may is = is
             freely (owes_granted n) may is = absurd (cc is.is)
             freely (owes_given_back n) may is = absurd (cc is.is)
@@ -130,11 +136,13 @@ module _ (layout : Layout) (start : Volume) (entries : List OldEntry) (named : N
 
         front_two : FrontSo ((past.turns ++ cut ∷ []) ++ opened ∷ [])
         front_two =
-            front_opened layout start entries named first begins moment before dones opens (past.turns ++ cut ∷ []) opened commit front_one rule.opened_is.did_is
+            front_opened layout start entries named first begins moment before dones opens
+                (past.turns ++ cut ∷ []) opened commit front_one rule.opened_is.did_is
             rule.opened_is.commit_is opens_there
             (λ other one.
             let flight = flies.flown other (subst (λ (b : DiskBooks). IsOneOf b.flying other) one_books one) in
-            λ same. apart_so layout start entries named first begins moment before done past core rest space next flies fronts (label.Empty commit cut opened durable) at mine.one mine.among other flight (λ e. away other flight (e ∙ mine.number_is))
+            λ same. apart_so layout start entries named first begins moment before done past core rest space next flies fronts
+                (label.Empty commit cut opened durable) at mine.one mine.among other flight (λ e. away other flight (e ∙ mine.number_is))
             (same ∙ ap named.stamps (sym mine.number_is)))
             (flush_of named commit opened (stamp_of opened rule.opened_is.flush_is) tie_opened) (stamp_of opened rule.opened_is.flush_is)
           where
@@ -156,20 +164,24 @@ module _ (layout : Layout) (start : Volume) (entries : List OldEntry) (named : N
         flying_is : flying run (past.turns ++ cut ∷ opened ∷ durable ∷ []) ≡ without commit (flying run ((past.turns ++ cut ∷ []) ++ opened ∷ []))
         flying_is =
             ap (flying run) (sym whole)
-            ∙ (ap (λ (b : DiskBooks). b.flying) (books_on layout start entries named first begins moment before ((past.turns ++ cut ∷ []) ++ opened ∷ []) durable)
+            ∙ (ap (λ (b : DiskBooks). b.flying)
+                (books_on layout start entries named first begins moment before ((past.turns ++ cut ∷ []) ++ opened ∷ []) durable)
             ∙ ap (λ (p : TurnAct × ℕ). (book_act run.gives p.0 p.1 (disk_books run ((past.turns ++ cut ∷ []) ++ opened ∷ []))).flying)
             (λ i. (rule.durable_is.did_is i, rule.durable_is.commit_is i)))
 
         flown_then : (other : ℕ) → IsOneOf (flying run (past.turns ++ cut ∷ opened ∷ durable ∷ [])) other
-            → FliesHere (after_label layout core.0 (label.Empty commit cut opened durable) past) other × WasOpened named (past.turns ++ cut ∷ opened ∷ durable ∷ []) other
+            → FliesHere (after_label layout core.0 (label.Empty commit cut opened durable) past) other × WasOpened named
+                (past.turns ++ cut ∷ opened ∷ durable ∷ []) other
         flown_then other one =
-            let was = in_filter (λ n. not (nat_eq n commit)) (flying run ((past.turns ++ cut ∷ []) ++ opened ∷ [])) other (subst (λ l. IsOneOf l other) flying_is one) in
+            let was = in_filter (λ n. not (nat_eq n commit)) (flying run ((past.turns ++ cut ∷ []) ++ opened ∷ [])) other
+                (subst (λ l. IsOneOf l other) flying_is one) in
             let old : IsOneOf (flying run past.turns) other =
             elim (in_either (flying run past.turns) (commit ∷ []) other (subst (λ l. IsOneOf l other) two_flying was.0)) [
               | inl old ↦ old
               | inr new ↦ elim new [ inl same ↦ absurd (not_without commit other was.1 (sym same)) | inr never ↦ absurd never ]
             ] in (
-              flight_stays layout start entries named first begins moment before done past core rest space flies (label.Empty commit cut opened durable) refl refl other (flies.flown other old),
+              flight_stays layout start entries named first begins moment before done past core rest space flies
+                  (label.Empty commit cut opened durable) refl refl other (flies.flown other old),
               opened_on layout start entries named first begins moment before past.turns (cut ∷ opened ∷ durable ∷ []) other (flies.opened other old),
             )
 
@@ -180,7 +192,8 @@ module _ (layout : Layout) (start : Volume) (entries : List OldEntry) (named : N
 
         so : Flies (after_label layout core.0 (label.Empty commit cut opened durable) past)
         so =
-            ended_so layout start entries named first begins moment before done past core rest space next flies fronts (label.Empty commit cut opened durable) at commit ends.own ((past.turns ++ cut ∷ []) ++ opened ∷ []) durable durables_two rule.durable_is.did_is
+            ended_so layout start entries named first begins moment before done past core rest space next flies fronts
+                (label.Empty commit cut opened durable) at commit ends.own ((past.turns ++ cut ∷ []) ++ opened ∷ []) durable durables_two rule.durable_is.did_is
             (flush_of named ends.own.commit.number durable (stamp_of durable rule.durable_is.flush_is ∙ ap named.stamps (sym ends.own.number_is)) tie)
             (stamp_of durable rule.durable_is.flush_is ∙ ap named.stamps (sym ends.own.number_is)) refl (sym whole)
             (subst (DifferBy named.stamps) (sym flying_is)

@@ -114,7 +114,8 @@ module _ (layout : Layout) (start : Volume) (entries : List OldEntry) (named : N
     pub own : (stamp : ℕ) → IsOneOf (stamps_under named past.done) stamp → (bringing_under named.pairs stamp).flush.stamp ≡ stamp
 
   pub opened_on : (turns more : List Turn) (number : ℕ) → WasOpened named turns number → WasOpened named (turns ++ more) number
-  opened_on turns more number was = record { turn = was.turn; among = in_left turns more was.turn was.among; did = was.did; own = was.own; stamp_is = was.stamp_is }
+  opened_on turns more number was =
+      record { turn = was.turn; among = in_left turns more was.turn was.among; did = was.did; own = was.own; stamp_is = was.stamp_is }
 
   abbrev Front : List Turn → Type 0
   Front = IsOneRecord start named run
@@ -159,7 +160,8 @@ module _ (layout : Layout) (start : Volume) (entries : List OldEntry) (named : N
       }
 
   -- one with a turn more that opens a commit
-  pub front_opened : (done opens : List ℕ) (front : List Turn) (turn : Turn) (number : ℕ) (at : FrontAt done opens front) → turn.act ≡ act.Opened → turn.commit ≡ number
+  pub front_opened : (done opens : List ℕ) (front : List Turn) (turn : Turn) (number : ℕ) (at : FrontAt done opens front) → turn.act ≡ act.Opened
+      → turn.commit ≡ number
       → IsOneOf opens (named.stamps number) → ((other : ℕ) → IsOneOf (books_at front).flying other → named.stamps other ≢ named.stamps number)
       → (bringing_of named number).flush ≡ flush_at turn → turn.stamp.0 ≡ named.stamps number → FrontAt done opens (front ++ turn ∷ [])
   front_opened done opens front turn number at did of open_one apart own stamp_is =

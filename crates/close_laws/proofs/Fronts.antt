@@ -49,7 +49,8 @@ module _ (layout : Layout) (start : Volume) (entries : List OldEntry) (named : N
       | inr landed ↦ absurd (let never : ◌≡◌ {A = Option Turn} None (Some landed.turn) = sym one.waits ∙ landed.waits_is in cc never)
     ]
 
-    pub flies_open : (number : ℕ) → FliesAt layout start entries named first begins moment before past number → IsOneOf (stamps_under named past.opens) (named.stamps number)
+    pub flies_open : (number : ℕ) → FliesAt layout start entries named first begins moment before past number
+        → IsOneOf (stamps_under named past.opens) (named.stamps number)
     flies_open number one =
         let aloft = aloft_of number one in
         subst (λ n. IsOneOf (stamps_under named past.opens) (named.stamps n)) (aloft.2.number_is ∙ aloft.1)

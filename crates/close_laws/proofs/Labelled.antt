@@ -86,7 +86,8 @@ module _ (layout : Layout) (start : Volume) (entries : List OldEntry) (named : N
       subst Fronts (sym turns) fronts,
     )
 
-    pub aloft_so : (fact : Label) → Here fact → (number : ℕ) → FliesHere past number → (work : SlotWork) × (work.commit ≡ number) × AloftOpen named past.opens work
+    pub aloft_so : (fact : Label) → Here fact → (number : ℕ) → FliesHere past number
+        → (work : SlotWork) × (work.commit ≡ number) × AloftOpen named past.opens work
     aloft_so fact at number one = aloft_of layout start entries named first begins moment before done past (Told core fact ∷ rest) space at flies number one
 
     -- a commit that another flight is not has another stamp
@@ -94,22 +95,27 @@ module _ (layout : Layout) (start : Volume) (entries : List OldEntry) (named : N
         → named.stamps number ≢ named.stamps one.number
     apart_so fact at one among number flight away same =
         let aloft = aloft_so fact at number flight in
-        stamps_differ layout start entries named first begins before done past core rest space space at.beside fact at.drawing aloft.2.one one aloft.2.among among
+        stamps_differ layout start entries named first begins before done past core rest space space at.beside fact at.drawing aloft.2.one one aloft.2.among
+            among
         (λ e. away (sym (aloft.2.number_is ∙ aloft.1) ∙ e))
         (ap named.stamps (aloft.2.number_is ∙ aloft.1) ∙ same)
 
     pub noted_so : (turn : Turn) → Here (label.Noted turn) → Then (label.Noted turn)
     noted_so turn at =
         let rule = at.drawing.owing.may.0.1 in
-        let front = front_quiet layout start entries named first begins moment before dones opens past.turns turn rule.no_open rule.no_durable (here_front (label.Noted turn) at) in
+        let front = front_quiet layout start entries named first begins moment before dones opens past.turns turn rule.no_open rule.no_durable
+            (here_front (label.Noted turn) at) in
         let same = books_quiet layout start entries named first begins moment before past.turns turn rule.no_open rule.no_durable in (
-          from_front layout start entries named first begins moment before done past core rest space flies (after_label layout core.0 (label.Noted turn) past) opens front
-              (λ number one. flight_stays layout start entries named first begins moment before done past core rest space flies (label.Noted turn) refl refl number (flies.flown number (subst (λ (b : DiskBooks). IsOneOf b.flying number) same one))),
+          from_front layout start entries named first begins moment before done past core rest space flies
+              (after_label layout core.0 (label.Noted turn) past) opens front
+              (λ number one. flight_stays layout start entries named first begins moment before done past core rest space flies
+                  (label.Noted turn) refl refl number (flies.flown number (subst (λ (b : DiskBooks). IsOneOf b.flying number) same one))),
           fronts_push layout start entries named first begins moment before past.turns turn fronts (as_one (past.turns ++ turn ∷ []) front),
         )
 
     -- the fsync that ends is none of those that are done
-    pub ends_apart : (fact : Label) (at : Here fact) (number : ℕ) (own : IsOpenNumbered past.opens number) (stamp : ℕ) → IsOneOf (stamps_under named past.done) stamp
+    pub ends_apart : (fact : Label) (at : Here fact) (number : ℕ) (own : IsOpenNumbered past.opens number) (stamp : ℕ)
+        → IsOneOf (stamps_under named past.done) stamp
         → stamp ≢ named.stamps own.commit.number
     ends_apart fact at number own stamp among same =
         ((at.beside.beside at.beside.volume at.beside.imagines).opens (named.stamps own.commit.number)
@@ -125,9 +131,11 @@ module _ (layout : Layout) (start : Volume) (entries : List OldEntry) (named : N
     pub ended_so : (fact : Label) (at : Here fact) (number : ℕ) (own : IsOpenNumbered past.opens number) (front : List Turn) (turn : Turn)
         → durables front ≡ durables past.turns → turn.act ≡ act.Durable → (bringing_of named own.commit.number).flush ≡ flush_at turn
         → turn.stamp.0 ≡ named.stamps own.commit.number
-        → (after_label layout core.0 fact past).done ≡ past.done ++ commits_numbered number past.opens → (after_label layout core.0 fact past).turns ≡ front ++ turn ∷ []
+        → (after_label layout core.0 fact past).done ≡ past.done ++ commits_numbered number past.opens → (after_label layout core.0 fact past).turns
+            ≡ front ++ turn ∷ []
         → DifferBy named.stamps (flying run (after_label layout core.0 fact past).turns)
-        → ((other : ℕ) → IsOneOf (flying run (after_label layout core.0 fact past).turns) other → FliesHere (after_label layout core.0 fact past) other × WasOpened named (after_label layout core.0 fact past).turns other)
+        → ((other : ℕ) → IsOneOf (flying run (after_label layout core.0 fact past).turns) other
+            → FliesHere (after_label layout core.0 fact past) other × WasOpened named (after_label layout core.0 fact past).turns other)
         → Flies (after_label layout core.0 fact past)
     ended_so fact at number own front turn same_durables did flush stamp_is done_is turns_are once flown = record {
       flown = λ other one. (flown other one).0;

@@ -258,4 +258,5 @@ module _ (nodes : ℕ) (cells : List (HeldCell Cell)) (list : List NodeId) (gath
         not_seen node none seen.0 seen.1 (sym (birth_own seen.0 birth.0 seen.2) ∙ ap (λ (b : Born). b.node) birth.2)
 
   pub gathers_nodes : GathersNodes nodes cells list gathered
-  gathers_nodes = record { each = gathers_node; other_cuts = no_cut; other_inodes = no_inode; other_births = λ node directory none. no_birth node none directory }
+  gathers_nodes = record
+      { each = gathers_node; other_cuts = no_cut; other_inodes = no_inode; other_births = λ node directory none. no_birth node none directory }

@@ -105,7 +105,8 @@ none_restored nodes was now old at all lent =
     let long : at ≡ length was = all ∙ ap length lent.values ∙ length-map was lent_value in
     record {
       values = lent.values ∙ sym (lent_all was at long);
-      entries = lent.entries ∙ (λ i. entries_of (sym (take_all at nodes (let n = long ∙ lent.count in omega (arith, n))) i) (sym (take_all at was (omega (arith, long))) i));
+      entries = lent.entries
+          ∙ (λ i. entries_of (sym (take_all at nodes (let n = long ∙ lent.count in omega (arith, n))) i) (sym (take_all at was (omega (arith, long))) i));
       count = lent.count;
     }
 
@@ -204,7 +205,8 @@ module _ (at : ℕ) (nodes : List NodeId) (was now : List Cell) (left : List Old
       → left ≡ front ++ entry ∷ [] → after ≡ with_old (Some entry.old) w → IsRestored (at - 1) nodes was (set now (at - 1) after) front
   back_step w after front entry has again is put =
       subst (λ (x : Cell). IsRestored (at - 1) nodes was (set now (at - 1) x) front)
-      (ap (with_old (Some entry.old)) (read_twice now (at - 1) (subst (λ n. at - 1 < n) (sym (ap length so_far.values ∙ lent_long at was)) (omega (arith, some, low)))
+      (ap (with_old (Some entry.old))
+          (read_twice now (at - 1) (subst (λ n. at - 1 < n) (sym (ap length so_far.values ∙ lent_long at was)) (omega (arith, some, low)))
       ∙ sym again) ∙ sym put)
       (one_back (at - 1) nodes was now left v (omega (arith, some, low)) before (ap (λ x. is_some (old_of_value x)) (sym read) ∙ has) front entry is)
     where

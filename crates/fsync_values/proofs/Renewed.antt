@@ -179,7 +179,8 @@ pub boxes_more : (after : List OldEntry) (nodes : List NodeId) (at : ℕ) (value
     ≤ boxes_asked after nodes (take at values) + (if is_some (old_of_value (get_or values at d)) then 0 else 1)
 boxes_more after [] at values d within = omega arith
 boxes_more after (n ∷ nodes) at [] d within = absurd (omega (arith, within))
-boxes_more after (n ∷ nodes) zero (v ∷ values) d within = by (is_some (kept_of_node after n.0)) (is_some (old_of_value v)) (boxes_asked after nodes []) (none nodes)
+boxes_more after (n ∷ nodes) zero (v ∷ values) d within = by (is_some (kept_of_node after n.0)) (is_some (old_of_value v)) (boxes_asked after nodes [])
+    (none nodes)
   where
     none : (l : List NodeId) → boxes_asked after l [] ≡ 0
     none [] = refl
@@ -289,5 +290,6 @@ boxes_none after (_ ∷ _) = refl
 pub boxes_enough : (after : List OldEntry) (nodes : List NodeId) (at : ℕ) (values : List Cell) (v : Cell) → at < length values → v ≡ get_or values at v
     → boxes_asked after nodes (take (at + 1) values) ≤ boxes_asked after nodes (take at values) + (if is_some (old_of_value v) then 0 else 1)
 boxes_enough after nodes at values v within read =
-    subst (λ (x : Cell). boxes_asked after nodes (take (at + 1) values) ≤ boxes_asked after nodes (take at values) + (if is_some (old_of_value x) then 0 else 1))
+    subst (λ (x : Cell). boxes_asked after nodes (take (at + 1) values) ≤ boxes_asked after nodes (take at values) +
+        (if is_some (old_of_value x) then 0 else 1))
     (sym read) (boxes_more after nodes at values v within)

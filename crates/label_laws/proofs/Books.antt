@@ -54,7 +54,8 @@ use Rattle.label_laws.proofs.Fsyncs.{part_low, AreBeside, fresh_apart, reached_a
 use Rattle.label_laws.proofs.Opens.{ReservedOpen, AloftOpen}
 
 -- a turn that does not make a commit durable leaves the parts
-base_stays : (gives : ℕ → List InodePart) (did : TurnAct) (commit : ℕ) (books : DiskBooks) → did ≢ act.Durable → (book_act gives did commit books).base ≡ books.base
+base_stays : (gives : ℕ → List InodePart) (did : TurnAct) (commit : ℕ) (books : DiskBooks) → did ≢ act.Durable → (book_act gives did commit books).base
+    ≡ books.base
 base_stays gives act.Durable commit books away = absurd (away refl)
 base_stays gives act.Opened commit books away = refl
 base_stays gives act.Granted commit books away = refl
@@ -64,7 +65,8 @@ base_stays gives act.CutAt commit books away = refl
 base_stays gives act.Fail commit books away = refl
 base_stays gives act.Halted commit books away = refl
 
-once_push : (brought : List Bringing) (one : Bringing) (base : ℕ → Part) → parts_once (brought ++ one ∷ []) base ≡ parts_over one.parts (parts_once brought base)
+once_push : (brought : List Bringing) (one : Bringing) (base : ℕ → Part) → parts_once (brought ++ one ∷ []) base
+    ≡ parts_over one.parts (parts_once brought base)
 once_push [] one base = refl
 once_push (first ∷ brought) one base = once_push brought one (parts_over first.parts base)
 
@@ -121,7 +123,8 @@ module _ (layout : Layout) (start : Volume) (entries : List OldEntry) (named : N
       own_low : (own : InodePart) → Contains (parts_brought volume fsync_of) own → own.inode < layout.inodes
       own_low own there = subst (λ (l : Layout). own.inode < l.inodes) layout_is (part_low volume fsync_of planned_of own there)
 
-      module _ (job : Job) (k : ℕ) (place : job.place ≡ place_at layout k) (writes : WritesPlan (bringing_of named number).plan (bringing_of named number).grant job)
+      module _ (job : Job) (k : ℕ) (place : job.place ≡ place_at layout k)
+          (writes : WritesPlan (bringing_of named number).plan (bringing_of named number).grant job)
         where
           change : IsChangeOf job volume.parts (parts_brought volume fsync_of)
           change =
@@ -156,7 +159,8 @@ module _ (layout : Layout) (start : Volume) (entries : List OldEntry) (named : N
           }
 
     -- two open commits of other numbers
-    module _ (mine theirs : ℕ) (one : IsOneOf (stamps_under named past.opens) (named.stamps mine)) (two : IsOneOf (stamps_under named past.opens) (named.stamps theirs))
+    module _ (mine theirs : ℕ) (one : IsOneOf (stamps_under named past.opens) (named.stamps mine))
+        (two : IsOneOf (stamps_under named past.opens) (named.stamps theirs))
         (differ : named.stamps mine ≢ named.stamps theirs) where
       apart_so : BringApart (bringing_of named mine) (bringing_of named theirs)
       apart_so =
@@ -178,7 +182,8 @@ module _ (layout : Layout) (start : Volume) (entries : List OldEntry) (named : N
       blocks_apart work other is also writes writes_too = record {
         blocks = λ n m within low. fresh_apart volume (fsync_of mine one) (fsync_of theirs two) are_beside work.job other.job writes writes_too n m within low;
         reached = λ n i at part within given some.
-            let own = mapped_some (λ (own : InodePart). record { stamp = other.job.stamp; value = own.part }) (find (λ (own : InodePart). nat_eq own.inode i) (gives other.commit))
+            let own = mapped_some (λ (own : InodePart). record { stamp = other.job.stamp; value = own.part })
+                (find (λ (own : InodePart). nat_eq own.inode i) (gives other.commit))
             (record { stamp = other.job.stamp; value = part }) given in
             let there : Contains (gives other.commit) own.0 = found_is_in (λ (own : InodePart). nat_eq own.inode i) (gives other.commit) own.0 own.1 in
             let inode : own.0.inode ≡ i = eqb-true own.0.inode i (found_passes (λ (own : InodePart). nat_eq own.inode i) (gives other.commit) own.0 own.1) in
@@ -200,7 +205,8 @@ module _ (layout : Layout) (start : Volume) (entries : List OldEntry) (named : N
       inodes = λ k other there aloft share.
           let theirs = at.opens.aloft k other there aloft in
           jobs_apart volume (fsync_of commit mine_there) (fsync_of other.commit (there_of other theirs))
-          (are_beside commit other.commit mine_there (there_of other theirs) (differs k other there theirs)) filling.job other.job begins_as.writes theirs.writes share;
+          (are_beside commit other.commit mine_there (there_of other theirs) (differs k other there theirs)) filling.job other.job begins_as.writes
+              theirs.writes share;
       blocks = λ k other there aloft.
           let theirs = at.opens.aloft k other there aloft in (
             blocks_apart commit other.commit mine_there (there_of other theirs) (differs k other there theirs)
@@ -233,9 +239,11 @@ module _ (layout : Layout) (start : Volume) (entries : List OldEntry) (named : N
             (λ e. at.fits.numbers.unused core.0 commit k other rule.number there (sym theirs.number_is ∙ (sym e ∙ mine.number_is)))
             (ap named.stamps mine.number_is ∙ (same ∙ ap named.stamps (sym theirs.number_is)))
 
-    quiet_books : (later : BoxPast) → later.turns ≡ past.turns → later.done ≡ past.done → later.begun ≡ past.begun → later.empties ≡ past.empties → BooksSo later
+    quiet_books : (later : BoxPast) → later.turns ≡ past.turns → later.done ≡ past.done → later.begun ≡ past.begun → later.empties ≡ past.empties
+        → BooksSo later
     quiet_books later turns done_is begun_is empties = record {
-      base = ap (λ t. (disk_books run t).base) turns ∙ (books.base ∙ ap (λ d. parts_once (brought_under named.pairs (stamps_under named d)) start.parts) (sym done_is));
+      base = ap (λ t. (disk_books run t).base) turns
+          ∙ (books.base ∙ ap (λ d. parts_once (brought_under named.pairs (stamps_under named d)) start.parts) (sym done_is));
       begun = subst (All (λ (one : BegunCommit). IsCommitAt gives layout (disk_books run one.turns).base one.slots one.work)) (sym begun_is) books.begun;
       empties = subst (All (λ (commit : ℕ). gives commit ≡ [])) (sym empties) books.empties;
     }
@@ -262,7 +270,8 @@ module _ (layout : Layout) (start : Volume) (entries : List OldEntry) (named : N
         }
 
     -- a commit that becomes durable
-    ended_base : (number commit : ℕ) (turn : Turn) → turn.act ≡ act.Durable → turn.commit ≡ commit → number ≡ commit → (was : DiskBooks) → was.base ≡ (disk_books run past.turns).base
+    ended_base : (number commit : ℕ) (turn : Turn) → turn.act ≡ act.Durable → turn.commit ≡ commit → number ≡ commit → (was : DiskBooks) → was.base
+        ≡ (disk_books run past.turns).base
         → (book_act gives turn.act turn.commit was).base
         ≡ parts_once (brought_under named.pairs (stamps_under named past.done ++ named.stamps number ∷ [])) start.parts
     ended_base number commit turn did of same was base =
@@ -271,7 +280,8 @@ module _ (layout : Layout) (start : Volume) (entries : List OldEntry) (named : N
         ∙ (sym (once_push (brought_at named past) (bringing_of named number) start.parts)
         ∙ ap (λ l. parts_once l start.parts) (sym (map-append (bringing_under named.pairs) (stamps_under named past.done) (named.stamps number ∷ [])))))
 
-    settled_books : (k : ℕ) (turn : Turn) (next : Space) → Here (label.Settled k turn) → EndsGrant past.opens turn.commit space next → Then (label.Settled k turn)
+    settled_books : (k : ℕ) (turn : Turn) (next : Space) → Here (label.Settled k turn) → EndsGrant past.opens turn.commit space next
+        → Then (label.Settled k turn)
     settled_books k turn next at ends =
         record {
           base = ap (λ (b : DiskBooks). b.base) (books_more gives past.turns (turn ∷ []) (record { base = start.parts; flying = [] }))
@@ -282,7 +292,8 @@ module _ (layout : Layout) (start : Volume) (entries : List OldEntry) (named : N
           empties = books.empties;
         }
 
-    empty_books : (commit : ℕ) (cut opened durable : Turn) (next : Space) → Here (label.Empty commit cut opened durable) → EndsGrant past.opens commit space next
+    empty_books : (commit : ℕ) (cut opened durable : Turn) (next : Space) → Here (label.Empty commit cut opened durable)
+        → EndsGrant past.opens commit space next
         → IsEmptyAs (bringing_of named commit) → Then (label.Empty commit cut opened durable)
     empty_books commit cut opened durable next at ends empty =
         let rule = at.owing.may.0.1 in

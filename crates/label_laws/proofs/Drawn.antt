@@ -58,7 +58,8 @@ word_fits : (n m : ℕ) → n ≡ m → n < 2 ^ 32 → as_u32 n ≡ m
 word_fits n m same less = omega (arith, same, less)
 
 -- what was taken from one map was taken from each with the same statuses, for a plan that needs as much
-pub reserved_from : (one : Bringing) (grant : GrantedNumbers) (drawn space next : Space) → GrantFits one grant → AreSameMaps drawn space → TakesGrant space grant next
+pub reserved_from : (one : Bringing) (grant : GrantedNumbers) (drawn space next : Space) → GrantFits one grant → AreSameMaps drawn space
+    → TakesGrant space grant next
     → WasReserved one.plan drawn one.grant next
 reserved_from one grant drawn space next fits same takes =
     let inodes = word_fits (amount_planned one.plan).inodes (length grant.inodes) (ap (λ (a : Amount). a.inodes) fits.needed) fits.words.inodes in
@@ -273,13 +274,15 @@ module _ (named : Numbered) (layout : Layout) (before : ℕ) (first : Space) whe
       fits = label_fits layout before core.0 past at.fits fact rule;
       lasts = lasts_label layout before core.0 past at.lasts fact rule;
       theirs = grants_label layout before core past fact space next at.lasts rule does at.theirs;
-      opens = subst (OpensSo named later) (sym own_is) (opens_label named layout before core.0 past at.owing.own at.fits at.opens core refl fact rule tells_now told);
+      opens = subst (OpensSo named later) (sym own_is)
+          (opens_label named layout before core.0 past at.owing.own at.fits at.opens core refl fact rule tells_now told);
       so = subst (λ own. DrawnSo later.opens later.turns own next) (sym own_is) so;
     }
 
   -- no turn may be told next where a label leaves none
   module _ (past : BoxPast) (core : ℕ) (own : ℕ → OwnOwed) (others : (c : ℕ) → c ≢ core → (own c).may ≡ owes_nothing) where
-    pub none_then : (fact : Label) → (own_owed fact (own core)).may ≡ owes_nothing → (c : ℕ) → (with_at own core (own_owed fact (own core)) c).may ≡ owes_nothing
+    pub none_then : (fact : Label) → (own_owed fact (own core)).may ≡ owes_nothing → (c : ℕ) → (with_at own core (own_owed fact (own core)) c).may
+        ≡ owes_nothing
     none_then fact none c = elim (same_or_not c core) [
       | inl same ↦ ap (λ (o : OwnOwed). o.may) (at_same own core (own_owed fact (own core)) c same) ∙ none
       | inr apart ↦ ap (λ (o : OwnOwed). o.may) (at_other own core (own_owed fact (own core)) c apart) ∙ others c apart

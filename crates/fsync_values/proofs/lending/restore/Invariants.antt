@@ -7,7 +7,8 @@ use Rattle.fsync_values.proofs.lending.restore.Given as goal
 
 abbrev pub invariant-loop-at : goal.invariant-loop-at
 invariant-loop-at l = record {
-  restored : (nodes : List NodeId) (was : List Cell) → IsLent nodes was l.initial.values.items l.fn.old.items → IsRestored l.at nodes was l.values.items l.entries.items;
+  restored : (nodes : List NodeId) (was : List Cell) → IsLent nodes was l.initial.values.items l.fn.old.items
+      → IsRestored l.at nodes was l.values.items l.entries.items;
   within : l.at ≤ length l.values.items;
 }
 
