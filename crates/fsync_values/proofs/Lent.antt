@@ -206,7 +206,7 @@ module _ (at : ℕ) (nodes : List NodeId) (was now : List Cell) (left : List Old
   back_step w after front entry has again is put =
       subst (λ (x : Cell). IsRestored (at - 1) nodes was (set now (at - 1) x) front)
       (ap (with_old (Some entry.old))
-          (read_twice now (at - 1) (subst (λ n. at - 1 < n) (sym (ap length so_far.values ∙ lent_long at was)) (omega (arith, some, low)))
+      (read_twice now (at - 1) (subst (λ n. at - 1 < n) (sym (ap length so_far.values ∙ lent_long at was)) (omega (arith, some, low)))
       ∙ sym again) ∙ sym put)
       (one_back (at - 1) nodes was now left v (omega (arith, some, low)) before (ap (λ x. is_some (old_of_value x)) (sym read) ∙ has) front entry is)
     where

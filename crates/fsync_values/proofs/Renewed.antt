@@ -291,5 +291,5 @@ pub boxes_enough : (after : List OldEntry) (nodes : List NodeId) (at : ℕ) (val
     → boxes_asked after nodes (take (at + 1) values) ≤ boxes_asked after nodes (take at values) + (if is_some (old_of_value v) then 0 else 1)
 boxes_enough after nodes at values v within read =
     subst (λ (x : Cell). boxes_asked after nodes (take (at + 1) values) ≤ boxes_asked after nodes (take at values) +
-        (if is_some (old_of_value x) then 0 else 1))
+    (if is_some (old_of_value x) then 0 else 1))
     (sym read) (boxes_more after nodes at values v within)
