@@ -34,7 +34,7 @@ use Rattle.driven_journals.specs.declared.driven.Driven.{Driven}
 use Rattle.driven_journals.specs.declared.seat.Seat.{Seat}
 use Rattle.driven_journals.specs.Due.{DueFits, IsDue, IsEased, is_at_rest}
 use Rattle.driven_journals.specs.declared.due.Due.{Due}
-use Rattle.driven_journals.specs.Seats.{AreAtRest, AreNewSeats, EachGoes, IsDriven, SeatFits, SeatGoes, pen_of}
+use Rattle.driven_journals.specs.Seats.{AreAtRest, AreNewSeats, EachGoes, IsDriven, SeatFits, pen_of}
 
 module _ {D : Type 0} where
   -- a core's pen, place by place

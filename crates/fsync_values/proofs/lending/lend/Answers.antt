@@ -1,5 +1,5 @@
 use Rattle.std.specs.Prelude.{vec_capacity}
-use Rattle.std.proofs.Common.{◌≡◌, ◌≤◌, ◌+◌, ◌∙◌, ◌++◌, ◌∷◌, [], length, get_or, set, take, sym, ap, subst, arith, append-nil, length-append}
+use Rattle.std.proofs.Common.{◌∙◌, ◌∷◌, [], length, get_or, set, sym, ap, subst, arith, append-nil, length-append}
 use Rattle.std.proofs.lemmas.List.{take_all}
 use Rattle.keyed_list.specs.Ascending.{AscendBy}
 use Rattle.disk_nodes.specs.Nodes.{entry_node}

@@ -1,7 +1,6 @@
-use Rattle.std.proofs.Common.{◌≡◌, ◌≤◌, ◌-◌, ◌∙◌, length, sym, ap, subst, arith, length-append}
+use Rattle.std.proofs.Common.{◌-◌, ◌∙◌, length, sym, ap, arith}
 use Rattle.std.proofs.lemmas.List.{length-set, nil_from_length}
-use Rattle.mem_values.specs.declared.cell.Cell.{Cell}
-use Rattle.fsync_values.proofs.Lent.{IsRestored, lent_long, back_step, never_empty, skip_step}
+use Rattle.fsync_values.proofs.Lent.{lent_long, back_step, never_empty, skip_step}
 use Rattle.fsync_values.proofs.lending.restore.Goals as goal
 
 pub loop-at-preserved-in-Some : goal.loop-at-preserved-in-Some

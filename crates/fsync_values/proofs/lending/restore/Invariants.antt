@@ -1,7 +1,7 @@
-use Rattle.std.proofs.Common.{◌≡◌, ◌≤◌, length, take, List, ℕ}
+use Rattle.std.proofs.Common.{◌≤◌, length, List}
 use Rattle.sfs_base.specs.declared.numbers.NodeId.{NodeId}
 use Rattle.mem_values.specs.declared.cell.Cell.{Cell}
-use Rattle.fsync_values.specs.Lending.{entries_of, IsLent}
+use Rattle.fsync_values.specs.Lending.{IsLent}
 use Rattle.fsync_values.proofs.Lent.{IsRestored}
 use Rattle.fsync_values.proofs.lending.restore.Given as goal
 
