@@ -39,7 +39,7 @@ pub fn draft_plan(
     ensures hollow { IfOk result (λ drafted. IsHollow core.old core.new) }
     ensures back { OnErr result (core.new ≡ core.old) }
 {
-    let mut values = hollow_values(alloc, caught.concern.nodes.len())?;
+    let mut values = hollow_values(alloc, caught.concern.nodes.as_slice().len())?;
     core.swap_values(&mut values);
     match drafted(alloc, fsync, caught, file, &mut values) {
         Ok(draft) => Ok(DraftedFsync { draft, values }),
