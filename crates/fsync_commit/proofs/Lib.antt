@@ -4,3 +4,4 @@ pub mod Built
 pub mod Taken
 pub mod Low
 pub mod Came
+pub mod OnPlans

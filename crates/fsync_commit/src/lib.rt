@@ -5,6 +5,7 @@ mod building;
 mod committing;
 mod granted;
 mod landing;
+pub mod laws;
 
 pub use committing::commit_plan;
 pub use landing::{CommitRefusal, Landed};
