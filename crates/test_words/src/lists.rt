@@ -237,12 +237,10 @@ fn words_ask_for_commands(rt: HostRuntime) {
     assert_asked(&rt, rt.alloc(), &ASKED);
 }
 
+// Too few words and too many, signs, zeros before a number, spaces, empty words, numbers outside of their ranges at each place, words that
+// are no command, and clap's own.
 #[test]
-fn words_that_are_no_command_are_bad_at_0(rt: HostRuntime) {
+fn faulty_words_are_named_by_their_place(rt: HostRuntime) {
     assert_none(&rt, rt.alloc(), &NO_COMMAND);
-}
-
-#[test]
-fn bad_numbers_are_named_by_their_place(rt: HostRuntime) {
     assert_faulty(&rt, rt.alloc(), &BAD_NUMBERS);
 }
