@@ -5,7 +5,7 @@ use std::process::Abort;
 use words::{Command, WordsFault, command_asked};
 
 // Words and what they ask for.
-static ASKED: [(&[&str], Answer); 16] = [
+static ASKED: [(&[&str], Answer); 28] = [
     (&["show"], Answer::Show),
     (&["run"], Answer::Run(4096)),
     (&["run", "1"], Answer::Run(1)),
@@ -21,7 +21,31 @@ static ASKED: [(&[&str], Answer); 16] = [
         &["mkfs", "262144", "16384", "16", "8"],
         Answer::Mkfs(262_144, 16_384, 16, 8),
     ),
+    (&["run", "2"], Answer::Run(2)),
+    (&["mkfs", "9", "16", "1"], Answer::Mkfs(9, 16, 1, 1)),
+    (&["mkfs", "64", "16", "1"], Answer::Mkfs(64, 16, 1, 1)),
+    (&["mkfs", "8", "16", "2"], Answer::Mkfs(8, 16, 2, 1)),
+    (&["mkfs", "31", "64", "2"], Answer::Mkfs(31, 64, 2, 1)),
+    (&["mkfs", "32", "64", "2"], Answer::Mkfs(32, 64, 2, 1)),
+    (
+        &["mkfs", "16384", "2048", "4"],
+        Answer::Mkfs(16_384, 2048, 4, 1),
+    ),
+    (
+        &["mkfs", "1024", "64", "2", "2"],
+        Answer::Mkfs(1024, 64, 2, 2),
+    ),
+    (
+        &["mkfs", "1024", "64", "2", "1"],
+        Answer::Mkfs(1024, 64, 2, 1),
+    ),
+    (
+        &["mkfs", "262144", "16384", "16", "2"],
+        Answer::Mkfs(262_144, 16_384, 16, 2),
+    ),
     (&["load", "0", "1", "1"], Answer::Load(0, 1, 1)),
+    (&["load", "5", "100", "4"], Answer::Load(5, 100, 4)),
+    (&["load", "7", "1000", "16"], Answer::Load(7, 1000, 16)),
     (&["load", "1", "4", "1"], Answer::Load(1, 4, 1)),
     (
         &["load", "4294967295", "4000", "16"],
@@ -113,7 +137,7 @@ static NO_COMMAND: [&[&str]; 75] = [
 ];
 
 // Words with numbers, and the place of the first that is none of its range.
-static BAD_NUMBERS: [(&[&str], u32); 55] = [
+static BAD_NUMBERS: [(&[&str], u32); 56] = [
     (&["check", "0"], 1),
     (&["check", "65537"], 1),
     (&["check", "01"], 1),
@@ -154,6 +178,7 @@ static BAD_NUMBERS: [(&[&str], u32); 55] = [
     (&["mkfs", "8", "16", "17", "9"], 3),
     (&["mkfs", "8", "16", "1", "0"], 4),
     (&["mkfs", "8", "16", "1", "9"], 4),
+    (&["mkfs", "1024", "64", "2", "9"], 4),
     (&["mkfs", "8", "16", "1", "01"], 4),
     (&["mkfs", "8", "16", "1", ""], 4),
     (&["mkfs", "8", "16", "1", "8 "], 4),
