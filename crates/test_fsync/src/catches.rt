@@ -1,5 +1,5 @@
 // What an fsync gathers and catches, by the calls that cores have made before it.
-ghost use Rattle.std.specs.Prelude.{◌≡◌, ◌<◌, [], IfSome};
+ghost use Rattle.std.specs.Prelude.{◌≡◌, ◌<◌, ◌≤◌, [], IfSome};
 ghost use Rattle.stamp_table.specs.Table.{IsBetweenCalls};
 ghost use Rattle.mem_values.specs.Start.{given_by};
 ghost use Rattle.mem_calls.specs.Working.{IsWorking};
@@ -15,9 +15,8 @@ use fsync_catch::{Caught, WaitingFsync, catch_nodes};
 use fsync_gather::gather;
 use fsync_look::{copy_logs, hold_nodes};
 use fsync_stamp::{STAMP_CELLS, stamp_fsync};
-use mem_calls::let_all_go;
 use mem_values::{FileCore, FileShared};
-use sfs_base::{Kind, Name, NoGate, NodeId};
+use sfs_base::{Kind, Name, NoGate, NoMemory, NodeId};
 use std::alloc::Global;
 use std::sync::Wait;
 
@@ -33,6 +32,7 @@ fn stamped<R: Wait>(
     requires core { IsBetweenCalls shared.now core.old }
     ensures work { IfSome result (λ fsync. IsWorking (given_by shared.now) shared.now core.new) }
     ensures none { IfSome result (λ fsync. (core.new.held ≡ []) × (core.new.view.held ≡ [])) }
+    ensures room { IfSome result (λ fsync. 2 ≤ core.new.room) }
     ensures waits { IfSome result (λ fsync. HasItsFsync core.new fsync) }
     ensures node { IfSome result (λ fsync. fsync.node ≡ node) }
 {
@@ -41,26 +41,46 @@ fn stamped<R: Wait>(
     Some(WaitingFsync { node, stamp })
 }
 
-// What an fsync of the root gathers while it holds that alone.
-fn gathered_of_root<R: Wait>(
+// What an fsync gathers while it holds its own node alone.
+fn gathers<R: Wait>(
     rt: &R,
     alloc: Global,
     shared: &FileShared,
     core: &mut FileCore,
+    fsync: WaitingFsync,
+) -> Result<Gathered, NoMemory>
+    requires table { IsCallTable shared.now 4 2 NODES }
+    requires work { IsWorking (given_by shared.now) shared.now core.old }
+    requires none { (core.old.held ≡ []) × (core.old.view.held ≡ []) }
+    requires room { 2 ≤ core.old.room }
+    requires within { fsync.node.0 < NODES }
+    requires waits { HasItsFsync core.old fsync }
+{
+    let held = [fsync.node];
+    hold_nodes(rt, shared, core, NODES, &held);
+    let parts = copy_logs(rt, alloc, shared, core, NODES, CORES)?;
+    core.look(shared);
+    gather(alloc, core, NODES, &held, &parts)
+}
+
+// What an fsync of a node gathers so.
+fn gathered_by<R: Wait>(
+    rt: &R,
+    alloc: Global,
+    shared: &FileShared,
+    core: &mut FileCore,
+    node: NodeId,
 ) -> Option<Gathered>
     requires table { IsCallTable shared.now 4 2 NODES }
     requires core { IsBetweenCalls shared.now core.old }
+    requires within { node.0 < NODES }
 {
-    let _ = stamped(rt, alloc, shared, core, ROOT)?;
-    core.reserve(0, 2).ok()?;
-    hold_nodes(rt, shared, core, NODES, &[ROOT]);
-    let parts = copy_logs(rt, alloc, shared, core, NODES, CORES).ok()?;
-    core.look(shared);
-    gather(alloc, core, NODES, &[ROOT], &parts).ok()
+    let fsync = stamped(rt, alloc, shared, core, node)?;
+    gathers(rt, alloc, shared, core, fsync).ok()
 }
 
-// What an fsync of a node catches. The core lets all go again.
-fn caught_of<R: Wait>(
+// What it catches.
+fn caught_by<R: Wait>(
     rt: &R,
     alloc: Global,
     shared: &FileShared,
@@ -72,9 +92,7 @@ fn caught_of<R: Wait>(
     requires within { node.0 < NODES }
 {
     let fsync = stamped(rt, alloc, shared, core, node)?;
-    let caught = catch_nodes(rt, alloc, shared, core, NODES, CORES, fsync).ok();
-    let_all_go(shared, core);
-    caught
+    catch_nodes(rt, alloc, shared, core, NODES, CORES, fsync).ok()
 }
 
 #[test]
@@ -111,7 +129,7 @@ fn a_core_gathers_all_logs_and_what_it_holds(rt: HostRuntime) {
             NodeId(5),
         ),
     );
-    let gathered = some(&rt, gathered_of_root(&rt, alloc, &shared, core));
+    let gathered = some(&rt, gathered_by(&rt, alloc, &shared, core, ROOT));
     holds(&rt, is_first_gathering(&gathered));
 }
 
@@ -149,7 +167,7 @@ fn an_fsync_of_the_root_catches_it_and_its_child(rt: HostRuntime) {
             NodeId(5),
         ),
     );
-    let caught = some(&rt, caught_of(&rt, alloc, &shared, core, ROOT));
+    let caught = some(&rt, caught_by(&rt, alloc, &shared, core, ROOT));
     holds(&rt, is_first_catch(&caught));
 }
 
@@ -159,15 +177,17 @@ fn another_core_s_rename_draws_in_the_other_directory(rt: HostRuntime) {
     let tree = got(&rt, root_alone(alloc, 4, 2, CORES));
     let (shared, mut cores) = got(&rt, begun(alloc, &tree, 4, 2, CORES));
     let d = got(&rt, Name::new(alloc, b"d".as_slice()));
-    let e = got(&rt, Name::new(alloc, b"e".as_slice()));
-    let core = some(&rt, cores.get_mut(0));
+    let f = got(&rt, Name::new(alloc, b"f".as_slice()));
+    let from = got(&rt, Name::new(alloc, b"f".as_slice()));
+    let to = got(&rt, Name::new(alloc, b"f".as_slice()));
+    let first = some(&rt, cores.get_mut(0));
     holds(
         &rt,
         makes(
             &rt,
             alloc,
             &shared,
-            core,
+            first,
             ROOT,
             d,
             Kind::Directory,
@@ -180,35 +200,18 @@ fn another_core_s_rename_draws_in_the_other_directory(rt: HostRuntime) {
             &rt,
             alloc,
             &shared,
-            core,
-            ROOT,
-            e,
-            Kind::Directory,
-            NodeId(5),
-        ),
-    );
-    let f = got(&rt, Name::new(alloc, b"f".as_slice()));
-    let g = got(&rt, Name::new(alloc, b"f".as_slice()));
-    let h = got(&rt, Name::new(alloc, b"f".as_slice()));
-    let other = some(&rt, cores.get_mut(1));
-    holds(
-        &rt,
-        makes(
-            &rt,
-            alloc,
-            &shared,
-            other,
+            first,
             NodeId(4),
             f,
             Kind::File,
-            NodeId(6),
+            NodeId(5),
         ),
     );
     holds(
         &rt,
-        moves(&rt, alloc, &shared, other, (NodeId(4), g), (NodeId(5), h)),
+        moves(&rt, alloc, &shared, first, (NodeId(4), from), (ROOT, to)),
     );
-    let again = some(&rt, cores.get_mut(0));
-    let caught = some(&rt, caught_of(&rt, alloc, &shared, again, NodeId(4)));
+    let second = some(&rt, cores.get_mut(1));
+    let caught = some(&rt, caught_by(&rt, alloc, &shared, second, ROOT));
     holds(&rt, is_second_catch(&caught));
 }

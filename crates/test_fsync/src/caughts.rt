@@ -11,8 +11,6 @@ const FIRST: NodeId = NodeId(4);
 
 const SECOND: NodeId = NodeId(5);
 
-const THIRD: NodeId = NodeId(6);
-
 // What a change says: its stamp, its child, whether a row comes or goes, and the other directory.
 #[derive(Clone, Copy, PartialEq, Eq)]
 struct Said {
@@ -67,26 +65,24 @@ fn are_first_logs(logs: &[DirectoryChanges]) -> bool {
     }
 }
 
-// Whether these are the logs behind the calls of two cores: the directories 4 and 5 were made in the root, and node 6 in the first of them,
-// from where it was moved to the second.
+// Whether these are the logs behind a move: node 4 was made in the root, and node 5 in that, from where it was moved to the root.
 fn are_second_logs(logs: &[DirectoryChanges]) -> bool {
-    let goes = Said {
-        stamp: 3,
-        child: THIRD,
-        act: Act::Remove,
-        other: Some(SECOND),
-    };
     let moved = Said {
-        stamp: 3,
-        child: THIRD,
+        stamp: 2,
+        child: SECOND,
         act: Act::Add,
         other: Some(FIRST),
     };
+    let gone = Said {
+        stamp: 2,
+        child: SECOND,
+        act: Act::Remove,
+        other: Some(ROOT),
+    };
     match logs {
-        [root, from, to] => {
-            has_two(root, ROOT, comes(0, FIRST), comes(1, SECOND))
-                && has_two(from, FIRST, comes(2, THIRD), goes)
-                && has_one(to, SECOND, moved)
+        [root, made] => {
+            has_two(root, ROOT, comes(0, FIRST), moved)
+                && has_two(made, FIRST, comes(1, SECOND), gone)
         }
         _ => false,
     }
@@ -166,40 +162,30 @@ pub(crate) fn is_first_catch(caught: &Caught) -> bool {
         && is_first_concern(&caught.concern)
 }
 
-// Whether it concerns all nodes: both directories and the root are flushed, where both were made; the net of the first directory is empty.
+// Whether it concerns all three nodes: both directories are flushed; the root gets two names, and the net of the other one is empty.
 fn is_second_concern(concern: &Concern) -> bool {
     let rows = match concern.nets.as_slice() {
-        [root, to] => gets_two(root, ROOT, FIRST, SECOND) && gets_one(to, SECOND, THIRD),
+        [root] => gets_two(root, ROOT, FIRST, SECOND),
         _ => false,
     };
-    rows && are(concern.members.as_slice(), &[ROOT, FIRST, SECOND])
-        && are(concern.nodes.as_slice(), &[ROOT, FIRST, SECOND, THIRD])
+    rows && are(concern.members.as_slice(), &[ROOT, FIRST])
+        && are(concern.nodes.as_slice(), &[ROOT, FIRST, SECOND])
 }
 
-// Whether nothing was flushed of these four nodes.
-fn are_second_cuts(cuts: &[NodeCut]) -> bool {
-    match cuts {
-        [root, from, to, file] => {
-            is_unflushed(root, ROOT)
-                && is_unflushed(from, FIRST)
-                && is_unflushed(to, SECOND)
-                && is_unflushed(file, THIRD)
-        }
-        _ => false,
-    }
-}
-
-/// Whether this is what an fsync of the first directory catches behind the calls of two cores.
+/// Whether this is what an fsync of the root catches behind a move from the directory that was made in it.
 pub(crate) fn is_second_catch(caught: &Caught) -> bool {
-    let births = match caught.gathered.births.as_slice() {
-        [from, to, file] => {
-            is_born(from, FIRST, ROOT) && is_born(to, SECOND, ROOT) && is_born(file, THIRD, FIRST)
+    let cuts = match caught.gathered.cuts.as_slice() {
+        [root, made, moved] => {
+            is_unflushed(root, ROOT) && is_unflushed(made, FIRST) && is_unflushed(moved, SECOND)
         }
         _ => false,
     };
-    births
+    let births = match caught.gathered.births.as_slice() {
+        [made, moved] => is_born(made, FIRST, ROOT) && is_born(moved, SECOND, FIRST),
+        _ => false,
+    };
+    cuts && births
         && caught.gathered.inodes.is_empty()
-        && are_second_cuts(caught.gathered.cuts.as_slice())
         && are_second_logs(caught.gathered.logs.as_slice())
         && is_second_concern(&caught.concern)
 }
