@@ -81,14 +81,14 @@ module _ (nodes : ℕ) (done : CommitDone) where
       let rest : places_of cells ≡ map (flushed_place nodes) list = cc (places) in
       elim one [
         | inl same ↦ record {
-            node = n;
-            cell = c;
-            among = inl refl;
-            is_held = inl refl;
-            place = place;
-            pending = first_held nodes c cells n place;
-            is = sym same;
-          }
+          node = n;
+          cell = c;
+          among = inl refl;
+          is_held = inl refl;
+          place = place;
+          pending = first_held nodes c cells n place;
+          is = sym same;
+        }
         | inr later ↦ later_wrote n list c cells held place up (wrote_of list cells rest (tail_rises n.0 (map node_number list) up) held later)
       ]
 
@@ -213,8 +213,7 @@ module _ (given : ℕ → Option OldKept) (nodes : ℕ) (list : List NodeId) (ha
       let found = found_wrote nodes done list hand.held is.holds.places is.holds.ascend directory (is.members.held directory one) in
       let of = wrote_of nodes done list hand.held is.holds.places is.holds.ascend found.0 found.3 in
       let p = pending_of found.0 of in
-      let node : of.node.0 ≡ directory = sym (ap (λ (h : HeldNode). h.node.0) of.is) ∙ found.2 in
-      (
+      let node : of.node.0 ≡ directory = sym (ap (λ (h : HeldNode). h.node.0) of.is) ∙ found.2 in (
         found.0,
         ap (find (is_held_of directory)) is.holds.wrote ∙ found.1,
         subst (λ n. n ≤ found.0.new_cut.0) (sym is.stamp_is) (subst (λ (c : Stamp). done.renewal.stamp.0 ≤ c.0) (sym (new_cut_is found.0 of p.0 p.1))

@@ -83,8 +83,7 @@ module _ (tree : TreeState) (nodes : ℕ) (done : CommitDone) (commit : Commitme
   all_written (n ∷ list) [] places up held within are holds = absurd (cc (places))
   all_written (n ∷ list) (c ∷ cells) places up held within are holds =
       let place : c.place ≡ flushed_place nodes n = cc (places) in
-      let rest : places_of cells ≡ map (flushed_place nodes) list = cc (places) in
-      (
+      let rest : places_of cells ≡ map (flushed_place nodes) list = cc (places) in (
         one_written n c (All-head (IsBelow nodes) n list within) (All-head (λ (node : NodeId). IsNodeOf tree node.0) n list are) place
             (holds n.0 (first_listed n list)
             ∙ find_first (node_wrote done n c.value) (nodes_wrote done list (values_in cells)) n.0 refl)

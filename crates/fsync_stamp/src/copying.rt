@@ -20,9 +20,7 @@ pub enum Copied {
     /// Nothing: it is a directory.
     Directory,
     /// A file's bytes, with the marks of its blocks.
-    File {
-        bytes: FileBytes,
-    },
+    File { bytes: FileBytes },
     /// Nothing, since memory was wanting: it is a file.
     Refused,
 }
