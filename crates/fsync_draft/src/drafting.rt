@@ -34,7 +34,7 @@ fn own_change(
     file: Option<&FileBytes>,
 ) -> Result<Option<FileChange>, NoMemory>
     requires { IsOrderly gathered.now }
-    ensures { IfOk result (IsOwnChange node gathered.now (option_copied file)) }
+    ensures { IfOk result (IsOwnChange node gathered.now (option_copied file.entry)) }
 {
     match file {
         Some(bytes) => {
@@ -57,7 +57,7 @@ pub(crate) fn drafted(
     requires orderly { IsOrderly caught.gathered }
     requires concern { IsConcernOf fsync.node fsync.stamp caught.gathered caught.concern }
     requires count { length values.old.items ≡ length caught.concern.nodes.items }
-    ensures drafted { IfOk result (λ draft. IsDrafted fsync caught (option_copied file) values.old.items values.new.items draft) }
+    ensures drafted { IfOk result (λ draft. IsDrafted fsync caught (option_copied file.entry) values.old.items values.new.items draft) }
     ensures same { OnErr result (values.new.items ≡ values.old.items) }
 {
     let Caught { gathered, concern } = caught;

@@ -35,7 +35,7 @@ pub fn draft_plan(
     requires holds { length caught.concern.nodes.items ≡ length core.old.held }
     requires orderly { IsOrderly caught.gathered }
     requires concern { IsConcernOf fsync.node fsync.stamp caught.gathered caught.concern }
-    ensures drafted { IfOk result (IsDraftOf fsync caught (option_copied file) core.old) }
+    ensures drafted { IfOk result (IsDraftOf fsync caught (option_copied file.entry) core.old) }
     ensures hollow { IfOk result (λ drafted. IsHollow core.old core.new) }
     ensures back { OnErr result (core.new ≡ core.old) }
 {
