@@ -20,6 +20,10 @@ seens_next (node ∷ nodes) (value ∷ values) zero n v long low = refl
 seens_next (node ∷ nodes) (value ∷ values) (suc at) n v long low =
     ap (λ l. record { node = node; last = last_of_value value } ∷ l) (seens_next nodes values at n v (omega (arith, long)) (omega (arith, low)))
 
+-- the value of a cell
+abbrev pub value_of : HeldCell Cell → Cell
+value_of cell = cell.value
+
 -- as many values stand in cells as before
 pub hollow_long : (before hand : FileHand) → IsHollow before hand → length hand.held ≡ length before.held
 hollow_long before hand hollow =

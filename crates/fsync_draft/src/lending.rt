@@ -52,7 +52,7 @@ pub fn draft_plan(
 
 /// Puts what was lent back into the values of the nodes, and these into their cells: the core is what it was before. It takes no memory.
 pub fn put_back(core: &mut FileCore, values: Vec<Cell>, old: OldDisk)
-    requires { length values.items ≡ length core.old.held }
+    requires { (before : FileHand) × IsLentOut before core.old values.items old.items }
     ensures { (before : FileHand) → IsLentOut before core.old values.items old.items → core.new ≡ before }
 {
     let mut values = values;

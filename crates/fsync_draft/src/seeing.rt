@@ -26,12 +26,12 @@ pub(crate) fn seen_of(
     requires { length values.now ≡ length nodes.now }
     ensures { IfOk result (λ seen. seen.items ≡ seens_of nodes.now values.now) }
 {
-    let mut seen = Vec::with_capacity(alloc, nodes.len())?;
+    let mut seen = Vec::new(alloc);
     for at in 0..nodes.len() {
-        seen.push_reserved(Seen {
+        seen.push(Seen {
             node: nodes[at],
             last: last_of(&values[at]),
-        });
+        })?;
     }
     Ok(seen)
 }
