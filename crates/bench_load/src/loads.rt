@@ -40,12 +40,10 @@ pub fn load_on<R: Threads + Wait + Sync + Clock, D: Disk + Drop>(
     let Some(disk) = made(rt, alloc, size, disk) else {
         return Ok(None);
     };
-    let [seed, count, workers] = numbers;
-    let Ok(words) = words_of(alloc, &["load", seed, count, workers]) else {
+    let Ok(words) = words_of(alloc, &["load", numbers[0], numbers[1], numbers[2]]) else {
         return Ok(None);
     };
-    let mut source = BytesSource::new(Vec::new(alloc), Vec::new(alloc));
-    let mut sink = BytesSink::new(alloc, Vec::new(alloc));
+    let (mut source, mut sink) = ends(alloc);
     let before = disk.now();
     let start = Instant::now(rt)?;
     let outcome = run(rt, alloc, &words, &mut source, &mut sink, disk, &NoGate);
@@ -82,14 +80,21 @@ fn made<R: Threads + Wait + Sync, D: Disk + Drop>(
     let Ok(words) = words_of(alloc, size) else {
         return None;
     };
-    let mut source = BytesSource::new(Vec::new(alloc), Vec::new(alloc));
-    let mut sink = BytesSink::new(alloc, Vec::new(alloc));
+    let (mut source, mut sink) = ends(alloc);
     let outcome = run(rt, alloc, &words, &mut source, &mut sink, disk, &NoGate);
     if outcome.status == Status::Done {
         Some(outcome.disk)
     } else {
         None
     }
+}
+
+// A source without bytes, and a sink.
+fn ends(alloc: Global) -> (BytesSource, BytesSink) {
+    (
+        BytesSource::new(Vec::new(alloc), Vec::new(alloc)),
+        BytesSink::new(alloc, Vec::new(alloc)),
+    )
 }
 
 // These words.
