@@ -79,7 +79,7 @@ module _ (layout : Layout) (start : Volume) (entries : List OldEntry) (named : N
         let apart : flight.core ≢ core.0 = λ same.
         (let never : ◌≡◌ {A = Option Turn} None (Some turn) = sym flight.waits ∙ (ap past.waits same ∙ rule.waits) in cc never) in
         flight_other layout start entries named first begins moment before done past core rest space flies (label.Looked turn) other flight apart
-            (at_other past.waits core.0 None flight.core apart)
+        (at_other past.waits core.0 None flight.core apart)
 
     -- a label without a turn, which ends nothing and leaves each core's flight
     quiet_so : (fact : Label) → (after_label layout core.0 fact past).turns ≡ past.turns → (after_label layout core.0 fact past).done ≡ past.done
@@ -98,16 +98,16 @@ module _ (layout : Layout) (start : Volume) (entries : List OldEntry) (named : N
     front_label (label.Returned commit) at then does ties = quiet_so (label.Returned commit) refl refl refl refl
     front_label (label.Began filling commit node stamp blocks inodes) at then does ties =
         still_so layout start entries named first begins moment before done past core rest space next flies fronts
-            (label.Began filling commit node stamp blocks inodes) refl refl
+        (label.Began filling commit node stamp blocks inodes) refl refl
         (began_so (label.Began filling commit node stamp blocks inodes) at commit at.drawing.owing.may.0.1.number refl)
     front_label (label.Filled k piece ok) at then does ties = quiet_so (label.Filled k piece ok) refl refl refl refl
     front_label (label.Synced now) at then does ties = quiet_so (label.Synced now) refl refl refl refl
     front_label (label.Opened k ok cut opened) at then does ties =
         opened_so layout start entries named first begins moment before done past core rest space next flies fronts k ok cut opened at
-            (ties opened (in_right past.turns (cut ∷ opened ∷ []) opened (inr (inl refl))) (inl at.drawing.owing.may.0.1.opened_is.did_is))
+        (ties opened (in_right past.turns (cut ∷ opened ∷ []) opened (inr (inl refl))) (inl at.drawing.owing.may.0.1.opened_is.did_is))
     front_label (label.Settled k turn) at then does ties =
         settled_so layout start entries named first begins moment before done past core rest space next flies fronts k turn at then does
-            (ties turn (in_right past.turns (turn ∷ []) turn (inl refl)) (inr at.drawing.owing.may.0.1.is.did_is))
+        (ties turn (in_right past.turns (turn ∷ []) turn (inl refl)) (inr at.drawing.owing.may.0.1.is.did_is))
     front_label (label.Looked turn) at then does ties =
         still_so layout start entries named first begins moment before done past core rest space next flies fronts (label.Looked turn) refl refl
         (looked_so turn at)
@@ -116,5 +116,5 @@ module _ (layout : Layout) (start : Volume) (entries : List OldEntry) (named : N
     front_label (label.Idled k) at then does ties = quiet_so (label.Idled k) refl refl refl refl
     front_label (label.Empty commit cut opened durable) at then does ties =
         empty_so layout start entries named first begins moment before done past core rest space next flies fronts commit cut opened durable at then does
-            (ties opened (in_right past.turns (cut ∷ opened ∷ durable ∷ []) opened (inr (inl refl))) (inl at.drawing.owing.may.0.1.opened_is.did_is))
+        (ties opened (in_right past.turns (cut ∷ opened ∷ durable ∷ []) opened (inr (inl refl))) (inl at.drawing.owing.may.0.1.opened_is.did_is))
         (ties durable (in_right past.turns (cut ∷ opened ∷ durable ∷ []) durable (inr (inr (inl refl)))) (inr at.drawing.owing.may.0.1.durable_is.did_is))

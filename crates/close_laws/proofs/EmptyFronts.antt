@@ -84,9 +84,9 @@ module _ (layout : Layout) (start : Volume) (entries : List OldEntry) (named : N
           (fronts_push layout start entries named first begins moment before ((past.turns ++ cut ∷ []) ++ opened ∷ []) durable
           (fronts_push layout start entries named first begins moment before (past.turns ++ cut ∷ []) opened
           (fronts_push layout start entries named first begins moment before past.turns cut fronts
-              (as_one layout start entries named first begins moment before done past core rest space next flies fronts (past.turns ++ cut ∷ []) front_one))
-              (as_one layout start entries named first begins moment before done past core rest space next flies fronts
-              ((past.turns ++ cut ∷ []) ++ opened ∷ []) front_two))
+          (as_one layout start entries named first begins moment before done past core rest space next flies fronts (past.turns ++ cut ∷ []) front_one))
+          (as_one layout start entries named first begins moment before done past core rest space next flies fronts
+          ((past.turns ++ cut ∷ []) ++ opened ∷ []) front_two))
           (subst (IsOneRecord start named run) (sym whole)
           (record_here layout start entries named first begins moment before (done ++ Told core (label.Empty commit cut opened durable) ∷ [])
           (after_label layout core.0 (label.Empty commit cut opened durable) past) rest next then so))),
@@ -104,9 +104,9 @@ module _ (layout : Layout) (start : Volume) (entries : List OldEntry) (named : N
         front_one : FrontSo (past.turns ++ cut ∷ [])
         front_one =
             front_quiet layout start entries named first begins moment before dones opens past.turns cut cut_opens
-                (no_end act.CutAt cut rule.cut_is.did_is (λ e. cc e))
+            (no_end act.CutAt cut rule.cut_is.did_is (λ e. cc e))
             (here_front layout start entries named first begins moment before done past core rest space next flies fronts
-                (label.Empty commit cut opened durable) at)
+            (label.Empty commit cut opened durable) at)
 
         one_books : disk_books run (past.turns ++ cut ∷ []) ≡ disk_books run past.turns
         one_books =
@@ -137,12 +137,12 @@ module _ (layout : Layout) (start : Volume) (entries : List OldEntry) (named : N
         front_two : FrontSo ((past.turns ++ cut ∷ []) ++ opened ∷ [])
         front_two =
             front_opened layout start entries named first begins moment before dones opens
-                (past.turns ++ cut ∷ []) opened commit front_one rule.opened_is.did_is
+            (past.turns ++ cut ∷ []) opened commit front_one rule.opened_is.did_is
             rule.opened_is.commit_is opens_there
             (λ other one.
             let flight = flies.flown other (subst (λ (b : DiskBooks). IsOneOf b.flying other) one_books one) in
             λ same. apart_so layout start entries named first begins moment before done past core rest space next flies fronts
-                (label.Empty commit cut opened durable) at mine.one mine.among other flight (λ e. away other flight (e ∙ mine.number_is))
+            (label.Empty commit cut opened durable) at mine.one mine.among other flight (λ e. away other flight (e ∙ mine.number_is))
             (same ∙ ap named.stamps (sym mine.number_is)))
             (flush_of named commit opened (stamp_of opened rule.opened_is.flush_is) tie_opened) (stamp_of opened rule.opened_is.flush_is)
           where
@@ -165,16 +165,16 @@ module _ (layout : Layout) (start : Volume) (entries : List OldEntry) (named : N
         flying_is =
             ap (flying run) (sym whole)
             ∙ (ap (λ (b : DiskBooks). b.flying)
-                (books_on layout start entries named first begins moment before ((past.turns ++ cut ∷ []) ++ opened ∷ []) durable)
+            (books_on layout start entries named first begins moment before ((past.turns ++ cut ∷ []) ++ opened ∷ []) durable)
             ∙ ap (λ (p : TurnAct × ℕ). (book_act run.gives p.0 p.1 (disk_books run ((past.turns ++ cut ∷ []) ++ opened ∷ []))).flying)
             (λ i. (rule.durable_is.did_is i, rule.durable_is.commit_is i)))
 
         flown_then : (other : ℕ) → IsOneOf (flying run (past.turns ++ cut ∷ opened ∷ durable ∷ [])) other
             → FliesHere (after_label layout core.0 (label.Empty commit cut opened durable) past) other × WasOpened named
-                (past.turns ++ cut ∷ opened ∷ durable ∷ []) other
+            (past.turns ++ cut ∷ opened ∷ durable ∷ []) other
         flown_then other one =
             let was = in_filter (λ n. not (nat_eq n commit)) (flying run ((past.turns ++ cut ∷ []) ++ opened ∷ [])) other
-                (subst (λ l. IsOneOf l other) flying_is one) in
+            (subst (λ l. IsOneOf l other) flying_is one) in
             let old : IsOneOf (flying run past.turns) other =
             elim (in_either (flying run past.turns) (commit ∷ []) other (subst (λ l. IsOneOf l other) two_flying was.0)) [
               | inl old ↦ old
@@ -193,7 +193,7 @@ module _ (layout : Layout) (start : Volume) (entries : List OldEntry) (named : N
         so : Flies (after_label layout core.0 (label.Empty commit cut opened durable) past)
         so =
             ended_so layout start entries named first begins moment before done past core rest space next flies fronts
-                (label.Empty commit cut opened durable) at commit ends.own ((past.turns ++ cut ∷ []) ++ opened ∷ []) durable durables_two rule.durable_is.did_is
+            (label.Empty commit cut opened durable) at commit ends.own ((past.turns ++ cut ∷ []) ++ opened ∷ []) durable durables_two rule.durable_is.did_is
             (flush_of named ends.own.commit.number durable (stamp_of durable rule.durable_is.flush_is ∙ ap named.stamps (sym ends.own.number_is)) tie)
             (stamp_of durable rule.durable_is.flush_is ∙ ap named.stamps (sym ends.own.number_is)) refl (sym whole)
             (subst (DifferBy named.stamps) (sym flying_is)

@@ -96,7 +96,7 @@ module _ (layout : Layout) (start : Volume) (entries : List OldEntry) (named : N
     apart_so fact at one among number flight away same =
         let aloft = aloft_so fact at number flight in
         stamps_differ layout start entries named first begins before done past core rest space space at.beside fact at.drawing aloft.2.one one aloft.2.among
-            among
+        among
         (λ e. away (sym (aloft.2.number_is ∙ aloft.1) ∙ e))
         (ap named.stamps (aloft.2.number_is ∙ aloft.1) ∙ same)
 
@@ -104,12 +104,12 @@ module _ (layout : Layout) (start : Volume) (entries : List OldEntry) (named : N
     noted_so turn at =
         let rule = at.drawing.owing.may.0.1 in
         let front = front_quiet layout start entries named first begins moment before dones opens past.turns turn rule.no_open rule.no_durable
-            (here_front (label.Noted turn) at) in
+        (here_front (label.Noted turn) at) in
         let same = books_quiet layout start entries named first begins moment before past.turns turn rule.no_open rule.no_durable in (
           from_front layout start entries named first begins moment before done past core rest space flies
               (after_label layout core.0 (label.Noted turn) past) opens front
               (λ number one. flight_stays layout start entries named first begins moment before done past core rest space flies
-                  (label.Noted turn) refl refl number (flies.flown number (subst (λ (b : DiskBooks). IsOneOf b.flying number) same one))),
+              (label.Noted turn) refl refl number (flies.flown number (subst (λ (b : DiskBooks). IsOneOf b.flying number) same one))),
           fronts_push layout start entries named first begins moment before past.turns turn fronts (as_one (past.turns ++ turn ∷ []) front),
         )
 
@@ -132,10 +132,10 @@ module _ (layout : Layout) (start : Volume) (entries : List OldEntry) (named : N
         → durables front ≡ durables past.turns → turn.act ≡ act.Durable → (bringing_of named own.commit.number).flush ≡ flush_at turn
         → turn.stamp.0 ≡ named.stamps own.commit.number
         → (after_label layout core.0 fact past).done ≡ past.done ++ commits_numbered number past.opens → (after_label layout core.0 fact past).turns
-            ≡ front ++ turn ∷ []
+        ≡ front ++ turn ∷ []
         → DifferBy named.stamps (flying run (after_label layout core.0 fact past).turns)
         → ((other : ℕ) → IsOneOf (flying run (after_label layout core.0 fact past).turns) other
-            → FliesHere (after_label layout core.0 fact past) other × WasOpened named (after_label layout core.0 fact past).turns other)
+        → FliesHere (after_label layout core.0 fact past) other × WasOpened named (after_label layout core.0 fact past).turns other)
         → Flies (after_label layout core.0 fact past)
     ended_so fact at number own front turn same_durables did flush stamp_is done_is turns_are once flown = record {
       flown = λ other one. (flown other one).0;

@@ -82,9 +82,9 @@ module _ (layout : Layout) (start : Volume) (entries : List OldEntry) (named : N
       subst Fronts whole
           (fronts_push layout start entries named first begins moment before (past.turns ++ cut ∷ []) opened
           (fronts_push layout start entries named first begins moment before past.turns cut fronts
-              (as_one layout start entries named first begins moment before done past core rest space next flies fronts (past.turns ++ cut ∷ []) front_one))
-              (as_one layout start entries named first begins moment before done past core rest space next flies fronts
-              ((past.turns ++ cut ∷ []) ++ opened ∷ []) front_two)),
+          (as_one layout start entries named first begins moment before done past core rest space next flies fronts (past.turns ++ cut ∷ []) front_one))
+          (as_one layout start entries named first begins moment before done past core rest space next flies fronts
+          ((past.turns ++ cut ∷ []) ++ opened ∷ []) front_two)),
     )
       where
         fact : Label
@@ -105,7 +105,7 @@ module _ (layout : Layout) (start : Volume) (entries : List OldEntry) (named : N
         front_one : FrontSo (past.turns ++ cut ∷ [])
         front_one =
             front_quiet layout start entries named first begins moment before dones opens past.turns cut cut_opens
-                (no_end act.CutAt cut rule.cut_is.did_is (λ e. cc e))
+            (no_end act.CutAt cut rule.cut_is.did_is (λ e. cc e))
             (here_front layout start entries named first begins moment before done past core rest space next flies fronts (label.Opened k ok cut opened) at)
 
         one_books : disk_books run (past.turns ++ cut ∷ []) ≡ disk_books run past.turns
@@ -132,12 +132,12 @@ module _ (layout : Layout) (start : Volume) (entries : List OldEntry) (named : N
         front_two : FrontSo ((past.turns ++ cut ∷ []) ++ opened ∷ [])
         front_two =
             front_opened layout start entries named first begins moment before dones opens
-                (past.turns ++ cut ∷ []) opened rule.has.work.commit front_one rule.opened_is.did_is
+            (past.turns ++ cut ∷ []) opened rule.has.work.commit front_one rule.opened_is.did_is
             rule.opened_is.commit_is opens_there
             (λ other one.
             let flight = flies.flown other (subst (λ (b : DiskBooks). IsOneOf b.flying other) one_books one) in
             λ same. apart_so layout start entries named first begins moment before done past core rest space next flies fronts
-                (label.Opened k ok cut opened) at aloft.one aloft.among other flight (λ e. away other flight (e ∙ aloft.number_is))
+            (label.Opened k ok cut opened) at aloft.one aloft.among other flight (λ e. away other flight (e ∙ aloft.number_is))
             (same ∙ ap named.stamps (sym aloft.number_is)))
             (flush_of named rule.has.work.commit opened stamp tie) stamp
           where
@@ -154,8 +154,11 @@ module _ (layout : Layout) (start : Volume) (entries : List OldEntry) (named : N
         flown_then other one = elim (in_either (flying run past.turns) (rule.has.work.commit ∷ []) other
             (subst (λ l. IsOneOf l other) flying_is one)) [
               | inl old ↦ kept other (flies.flown other old)
-              | inr new ↦ elim new [ inl same ↦ subst (FliesHere (after_label layout core.0 (label.Opened k ok cut opened) past)) same fresh | inr never ↦
-                  absurd never ]
+              | inr new ↦ elim new [
+                | inl same ↦ subst (FliesHere (after_label layout core.0 (label.Opened k ok cut opened) past)) same fresh
+                | inr never ↦
+                    absurd never
+              ]
             ]
           where
             flying_is : flying run (past.turns ++ cut ∷ opened ∷ []) ≡ flying run past.turns ++ rule.has.work.commit ∷ []

@@ -75,7 +75,7 @@ module _ (layout : Layout) (start : Volume) (entries : List OldEntry) (named : N
       so,
       fronts_push layout start entries named first begins moment before past.turns turn fronts
           (record_here layout start entries named first begins moment before (done ++ Told core (label.Settled k turn) ∷ [])
-              (after_label layout core.0 (label.Settled k turn) past) rest next
+          (after_label layout core.0 (label.Settled k turn) past) rest next
           then so),
     )
       where
@@ -125,7 +125,7 @@ module _ (layout : Layout) (start : Volume) (entries : List OldEntry) (named : N
         so : Flies (after_label layout core.0 (label.Settled k turn) past)
         so =
             ended_so layout start entries named first begins moment before done past core rest space next flies fronts
-                (label.Settled k turn) at turn.commit ends.own past.turns turn refl rule.is.did_is
+            (label.Settled k turn) at turn.commit ends.own past.turns turn refl rule.is.did_is
             (flush_of named ends.own.commit.number turn stamp tie) stamp refl refl
             (subst (DifferBy named.stamps) (sym flying_is) (differ_fewer named.stamps (λ n. not (nat_eq n turn.commit)) (flying run past.turns) flies.once))
-                flown_then
+            flown_then

@@ -83,7 +83,7 @@ module _ (start : Volume) (entries : List OldEntry) (named : Numbered) (told : T
 
     open_of : (number : ℕ) → IsOneOf (filter shows.kept (disk_books run front).flying) number
         → IsOpenBeside (fronts front back split).place.volume (map (commit_under named.pairs) (fronts front back split).done)
-            (named.pairs (named.stamps number))
+        (named.pairs (named.stamps number))
     open_of number one =
         (fronts front back split).place.beside.opens (named.stamps number) ((fronts front back split).flies number (flying_of number one)).0
 
@@ -99,7 +99,7 @@ module _ (start : Volume) (entries : List OldEntry) (named : Numbered) (told : T
           subst (λ b. BringApart b (bringing_of named number)) from.2
           (bring_apart (named.pairs (named.stamps from.0)) (named.pairs (named.stamps number)) (open_of from.0 mine).nodes (open_of number theirs).nodes
           ((fronts front back split).place.beside.apart (named.stamps from.0) (named.stamps number)
-              ((fronts front back split).flies from.0 (flying_of from.0 mine)).0
+          ((fronts front back split).flies from.0 (flying_of from.0 mine)).0
           ((fronts front back split).flies number (flying_of number theirs)).0 (differ.0 from.0 from.1)))),
       all_apart some differ.1 (λ other one. within other (inr one)),
     )
@@ -135,7 +135,7 @@ module _ (start : Volume) (entries : List OldEntry) (named : Numbered) (told : T
           (kept_once named shows.kept (disk_books run front).flying (disk_books run front).base
           ∙ (ap (parts_once (map (bringing_of named) (filter shows.kept (disk_books run front).flying))) (fronts front back split).base
           ∙ sym (once_both (brought_under named.pairs (fronts front back split).done)
-              (map (bringing_of named) (filter shows.kept (disk_books run front).flying)) start.parts))));
+          (map (bringing_of named) (filter shows.kept (disk_books run front).flying)) start.parts))));
     }
 
     pub read_there : IsReadAsTree image share (tree_held later.0)
@@ -151,7 +151,7 @@ module _ (start : Volume) (entries : List OldEntry) (named : Numbered) (told : T
         imagined.flushes
         ∙ (ap (λ l. l ++ map flush_brought all_brought_there) ends.none
         ∙ (map-append flush_brought (brought_under named.pairs (fronts front back split).done)
-            (map (bringing_of named) (filter shows.kept (disk_books run front).flying))
+        (map (bringing_of named) (filter shows.kept (disk_books run front).flying))
         ∙ ap (λ l. l ++ map flush_brought (map (bringing_of named) (filter shows.kept (disk_books run front).flying))) (fronts front back split).flushes))
 
     pub flushed_there : AreFlushed start.first history every_entry
@@ -192,7 +192,7 @@ module _ (start : Volume) (entries : List OldEntry) (named : Numbered) (told : T
           kept_flushes (filter shows.kept (disk_books run front).flying) i,
         ))
         ∙ sym (map-append (λ s. (bringing_under named.pairs s).flush) (fronts front back split).done
-            (map named.stamps (filter shows.kept (disk_books run front).flying)))
+        (map named.stamps (filter shows.kept (disk_books run front).flying)))
 
     own_stamp : (stamp : ℕ) → IsOneOf all_stamps stamp → (bringing_under named.pairs stamp).flush.stamp ≡ stamp
     own_stamp stamp one = elim (in_either (fronts front back split).done (map named.stamps (filter shows.kept (disk_books run front).flying)) stamp one) [

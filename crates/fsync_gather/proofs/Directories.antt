@@ -97,7 +97,7 @@ merged_more parts after logs one keep least is so_far = record {
       let log = from_map log_directory logs n among in subst (λ m. m < one.dir.0) log.2 (below log.0 log.1)));
   reached = λ log there. of_each (λ (l : DirectoryChanges). is_after (Some one.dir) l.dir.0 ≡ false)
       (λ other among. let lt = below other among in not_below one.dir.0 other.dir.0 (omega (arith, lt)))
-          (not_below one.dir.0 one.dir.0 (omega arith)) log there;
+      (not_below one.dir.0 one.dir.0 (omega arith)) log there;
   merged = of_each (IsMergedOf parts) so_far.merged is;
   own = of_each IsOwnLog so_far.own (own_merge parts is.all one keep is.merge);
   covered = λ directory upto. by directory upto (is_after after directory) refl;

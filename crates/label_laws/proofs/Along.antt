@@ -45,11 +45,11 @@ module _ (named : Numbered) (layout : Layout) (before : ℕ) (first : Space) whe
     through_label (label.Returned commit) at does told = returned_label named layout before first done past core rest space next commit at does
     through_label (label.Began filling commit node stamp blocks inodes) at does told =
         quiet_label named layout before first done past core rest space next (label.Began filling commit node stamp blocks inodes) at does told
-            (λ turn e. cc e) refl
+        (λ turn e. cc e) refl
         (began_were named layout before first done past core rest space next commit (record { inodes = inodes.items; blocks = blocks.items })) refl does
     through_label (label.Filled k piece done_so) at does told =
         quiet_label named layout before first done past core rest space next (label.Filled k piece done_so) at does told (λ turn e. cc e) refl
-            (all_were past.opens) refl does
+        (all_were past.opens) refl does
     through_label (label.Synced now) at does told = quiet_label named layout before first done past core rest space next (label.Synced now) at does told
         (λ turn e. cc e) refl (all_were past.opens) refl does
     through_label (label.Opened k done_so cut opened) at does told =
@@ -59,7 +59,7 @@ module _ (named : Numbered) (layout : Layout) (before : ℕ) (first : Space) whe
         (λ other e. cc e) refl (all_were past.opens) refl does
     through_label (label.Placed k n done_so) at does told =
         quiet_label named layout before first done past core rest space next (label.Placed k n done_so) at does told (λ turn e. cc e) refl
-            (all_were past.opens) refl does
+        (all_were past.opens) refl does
     through_label (label.Shut k done_so) at does told =
         quiet_label named layout before first done past core rest space next (label.Shut k done_so) at does told (λ turn e. cc e) refl
         (all_were past.opens) refl does

@@ -183,7 +183,7 @@ module _ (layout : Layout) (start : Volume) (entries : List OldEntry) (named : N
         blocks = λ n m within low. fresh_apart volume (fsync_of mine one) (fsync_of theirs two) are_beside work.job other.job writes writes_too n m within low;
         reached = λ n i at part within given some.
             let own = mapped_some (λ (own : InodePart). record { stamp = other.job.stamp; value = own.part })
-                (find (λ (own : InodePart). nat_eq own.inode i) (gives other.commit))
+            (find (λ (own : InodePart). nat_eq own.inode i) (gives other.commit))
             (record { stamp = other.job.stamp; value = part }) given in
             let there : Contains (gives other.commit) own.0 = found_is_in (λ (own : InodePart). nat_eq own.inode i) (gives other.commit) own.0 own.1 in
             let inode : own.0.inode ≡ i = eqb-true own.0.inode i (found_passes (λ (own : InodePart). nat_eq own.inode i) (gives other.commit) own.0 own.1) in
@@ -206,7 +206,7 @@ module _ (layout : Layout) (start : Volume) (entries : List OldEntry) (named : N
           let theirs = at.opens.aloft k other there aloft in
           jobs_apart volume (fsync_of commit mine_there) (fsync_of other.commit (there_of other theirs))
           (are_beside commit other.commit mine_there (there_of other theirs) (differs k other there theirs)) filling.job other.job begins_as.writes
-              theirs.writes share;
+          theirs.writes share;
       blocks = λ k other there aloft.
           let theirs = at.opens.aloft k other there aloft in (
             blocks_apart commit other.commit mine_there (there_of other theirs) (differs k other there theirs)

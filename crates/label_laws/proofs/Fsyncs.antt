@@ -79,7 +79,7 @@ module _ (volume : Volume) (one : OneFsync) (is : IsPlannedFsync volume one) whe
 
       by : (o : Option ℕ) → volume.num node ≡ o
           → (if is_some o then (if node_leaves one.plan.leave node then None else o) else grant_for (map enter_node one.plan.enter) one.grant.inodes node)
-              ≡ Some i
+          ≡ Some i
           → OfNode i ⊎ WasGrantedAt i
       by None none e =
           let found = granted (map enter_node one.plan.enter) one.grant.inodes node i e in
@@ -171,7 +171,7 @@ module _ (volume : Volume) (mine theirs : OneFsync) (are : AreBeside volume mine
       never_granted volume mine are.one their_node.node i my_grant.place their_node.number my_grant.within my_grant.number
   no_shared i (inr my_grant) (inr their_grant) =
       are.inodes i (granted_there mine i my_grant.place my_grant.within my_grant.number)
-          (granted_there theirs i their_grant.place their_grant.within their_grant.number)
+      (granted_there theirs i their_grant.place their_grant.within their_grant.number)
 
   pub jobs_apart : (job other : Job) → WritesPlan mine.plan mine.grant job → WritesPlan theirs.plan theirs.grant other → ShareInode job other → ⊥
   jobs_apart job other writes also share =

@@ -99,7 +99,7 @@ module _ (named : Numbered) (layout : Layout) (before : ℕ) (first : Space) whe
         had_by one among some = elim (last_or_before past.opens new one among) [
           | inl old ↦
               inr (had_turn named layout before first past.opens past.turns at.owing.own space at.so nobody
-                  (λ one among. (at.opens.grants one among).grants) one old some)
+              (λ one among. (at.opens.grants one among).grants) one old some)
           | inr same ↦
               let is : has_numbers grant ≡ true = ap (λ (o : ReservedCommit). has_numbers o.grant) same ∙ some in
               inl (core.0, ap (λ (o : OwnOwed). o.owes) here_is ∙ (debt_is true is ∙ ap (λ (o : ReservedCommit). owes_granted o.number) same))

@@ -273,8 +273,15 @@ module _ (named : Numbered) where
           (λ c n apart is. let at = so.reserved_open c n is in
           record { one = at.one; among = in_left past.opens (new ∷ []) at.one at.among; number_is = at.number_is; gives = at.gives; some = at.some });
       aloft = λ k work there aloft. let at = so.aloft k work there aloft in
-          record { one = at.one; among = in_left past.opens (new ∷ []) at.one at.among; number_is = at.number_is; stamp_is = at.stamp_is; frees =
-              at.frees; writes = at.writes };
+          record {
+            one = at.one;
+            among = in_left past.opens (new ∷ []) at.one at.among;
+            number_is = at.number_is;
+            stamp_is = at.stamp_is;
+            frees =
+                at.frees;
+            writes = at.writes;
+          };
       grants = λ one among. elim (last_or_before past.opens new one among) [
         | inl old ↦ so.grants one old
         | inr same ↦ subst (λ (o : ReservedCommit). ReservedAs named o.number o.seen o.grant) same grants

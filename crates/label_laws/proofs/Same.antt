@@ -60,7 +60,7 @@ free_found first (Granted ∷ statuses) number one =
 status_at : (pool : Pool) (place : ℕ) → status_of pool (pool.first + place) ≡ slice_get pool.statuses place
 status_at pool place =
     ap (λ b. if b then slice_get pool.statuses ((pool.first + place) - pool.first) else None)
-        (let is : nat_le pool.first (pool.first + place) ≡ true = grind (arith, nat_tests) in is)
+    (let is : nat_le pool.first (pool.first + place) ≡ true = grind (arith, nat_tests) in is)
     ∙ ap (slice_get pool.statuses) (let is : (pool.first + place) - pool.first ≡ place = omega arith in is)
 
 -- a number is listed as free where its status is Free

@@ -148,7 +148,7 @@ module _ (layout : Layout) (start : Volume) (entries : List OldEntry) (named : N
           subst (λ those. IsMapOf layout those next)
           (sym (ap (λ l. entries_once l entries) (brought_more done own) ∙ once_more brought (one_under own) entries))
           (subst (λ l. IsMapOf l (entries_behind (one_under own).nodes (one_under own).plan (one_under own).grant (entries_once brought entries)) next)
-              layout_is
+          layout_is
           (commits_keep_maps so.volume (with_those so.volume (one_under own) brings (entries_once brought entries) keeps)
           (entries_behind (one_under own).nodes (one_under own).plan (one_under own).grant (entries_once brought entries)) ends.tx space next
           (planned_those so.volume (one_under own) brings (entries_once brought entries) keeps)
@@ -249,7 +249,7 @@ module _ (layout : Layout) (start : Volume) (entries : List OldEntry) (named : N
                 split.own
                 ∙ ap (λ c. c ∷ []) (same_commit past.opens once split.one own.commit
                 (subst (λ l. IsOneOf l split.one) (sym split.whole) (at_seam split.before split.behind split.one)) own.among
-                    (split.number_is ∙ sym own.number_is))
+                (split.number_is ∙ sym own.number_is))
             | inr lacks ↦ absurd (lacks.none own.commit own.among own.number_is)
           ])
           ∙ map-append (λ (c : ReservedCommit). named.stamps c.number) past.done (own.commit ∷ [])

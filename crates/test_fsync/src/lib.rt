@@ -2,14 +2,6 @@
 #![tactic(auto)]
 
 #[cfg(test)]
-mod calls;
-#[cfg(test)]
-mod catches;
-#[cfg(test)]
-mod caughts;
-#[cfg(test)]
 mod helpers;
 #[cfg(test)]
 mod looks;
-#[cfg(test)]
-mod values;
