@@ -10,6 +10,7 @@ pub struct JournalSet<D: Disk> {
 }
 
 impl<D: Disk> Model for JournalSet<D> {
+    ghost use Rattle.std.specs.Prelude.{◌≡◌};
     ghost use Rattle.stamp_table.specs.Table.{TableState, table_code};
     ghost use Rattle.disk_box.specs.declared.key.BoxKey.{BoxKey};
     ghost use Rattle.disk_box.specs.contracts.key.BoxKey as key;
@@ -19,4 +20,6 @@ impl<D: Disk> Model for JournalSet<D> {
     ghost coded = { table_code key.the_row.coded };
 
     ghost view = { λ set. set.table };
+
+    ghost invariant = { λ set. set.table.cores ≡ set.table.table.given.layout.cores };
 }
