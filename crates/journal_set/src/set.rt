@@ -1,4 +1,5 @@
 // The journals of all cores.
+use crate::line::Line;
 use disk_box::{BoxTable, Desk};
 use sfs_dev::Disk;
 use std::marker::Model;
@@ -7,6 +8,7 @@ use std::marker::Model;
 #[derive(Drop)]
 pub struct JournalSet<D: Disk> {
     pub(crate) table: BoxTable<D>,
+    pub(crate) line: Line,
 }
 
 impl<D: Disk> Model for JournalSet<D> {
