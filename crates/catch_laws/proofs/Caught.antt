@@ -45,12 +45,13 @@ module _ (given : ℕ → Option OldKept) (nodes : ℕ) (fsync : WaitingFsync) (
       ∙ ap (λ (f : Flushed). is_some f.old) (part.stands 0 saw.0 saw.1.seen).flushed
       ∙ root_is_kept given hand.view.first (is.look.noted.notes 0).at root lawful
 
-  gathered_for : IsGatheredFor given fsync hand caught further
+  gathered_for : IsGatheredFor given nodes fsync hand caught further
   gathered_for = record {
     noted = is.look.noted;
     core_is = is.look.core_is;
     node_is = is.look.node_is;
     stamp_is = is.look.stamp_is;
+    saw = is.look.saw;
     notes = is.look.notes;
     gathers = record {
       orderly = is.look.orderly;

@@ -8,7 +8,7 @@ use Rattle.flush_plan.specs.declared.plans.FsyncPlan.{FsyncPlan}
 use Rattle.mem_values.specs.Start.{FileHand}
 use Rattle.note_laws.specs.Notes.{CoreNotes, HasNotedAll}
 use Rattle.made_laws.specs.Made.{CoreMaking, HasGathered}
-use Rattle.fsync_catch.specs.Catch.{IsCaught, run_seen}
+use Rattle.fsync_catch.specs.Catch.{IsCaught, run_seen, saw_of}
 use Rattle.fsync_catch.specs.declared.looking.Caught.{Caught}
 use Rattle.fsync_catch.specs.declared.looking.WaitingFsync.{WaitingFsync}
 
@@ -32,13 +32,14 @@ making_of noted caught further = record {
   plan = further.plan;
 }
 
--- What was caught is what a core may make its commit of: all parts are noted in the run that it has seen, what it gathered is by these notes, and the concern
--- is by what it gathered.
-pub record IsGatheredFor (given : ℕ → Option OldKept) (fsync : WaitingFsync) (hand : FileHand) (caught : Caught) (further : Further) : Type 0 where
+-- What was caught is what a core may make its commit of: what it saw of the nodes is what it holds of them, all parts are noted in the run that it has seen,
+-- what it gathered is by these notes, and the concern is by what it gathered.
+pub record IsGatheredFor (given : ℕ → Option OldKept) (nodes : ℕ) (fsync : WaitingFsync) (hand : FileHand) (caught : Caught) (further : Further) : Type 0 where
   pub noted : CoreNotes
   pub core_is : noted.core ≡ hand.view.core
   pub node_is : noted.node ≡ fsync.node.0
   pub stamp_is : noted.stamp ≡ fsync.stamp.0
+  pub saw : noted.pending ≡ saw_of nodes caught.concern.nodes.items hand
   pub notes : HasNotedAll (run_seen given hand) noted
   pub gathers : HasGathered (making_of noted caught further)
   pub concern_is : IsConcernOf (record { 0 = noted.node }) (record { 0 = noted.stamp }) caught.gathered caught.concern
@@ -47,4 +48,4 @@ pub record IsGatheredFor (given : ℕ → Option OldKept) (fsync : WaitingFsync)
 abbrev pub CaughtAreGathered : Type 0
 CaughtAreGathered = (given : ℕ → Option OldKept) (nodes : ℕ) (fsync : WaitingFsync) (hand : FileHand) (caught : Caught) (further : Further)
     → is_some (given 0) ≡ true → 0 < length hand.view.first.made → IsCaught given nodes fsync hand caught
-    → IsGatheredFor given fsync hand caught further
+    → IsGatheredFor given nodes fsync hand caught further

@@ -11,16 +11,18 @@ use Rattle.stamp_table.specs.declared.event.Event.{Event}
 use Rattle.stamp_table.specs.declared.event.Event.TheVariants.{Told}
 use Rattle.slot_laws.specs.declared.label.Label.{Label}
 use Rattle.slot_laws.specs.declared.label.Label.TheVariants as label
-use Rattle.slot_laws.specs.Labels.{BoxPast, after_label, box_label, SlotFlight}
+use Rattle.slot_laws.specs.Labels.{BoxPast, after_label, box_label, own_label, SlotFlight}
 use Rattle.slot_laws.specs.Grants.{SpaceDoes}
 use Rattle.slot_laws.proofs.Basics.{at_other}
-use Rattle.slot_image_laws.specs.Images.{RunStart, disk_books}
-use Rattle.label_laws.specs.Maps.{Numbered, bringing_of}
+use Rattle.slot_image_laws.specs.Images.{RunStart}
+use Rattle.label_laws.specs.Maps.{Numbered}
 use Rattle.label_laws.specs.Beside.{BeginsLabels, stamps_under}
 use Rattle.label_laws.proofs.Beginning.{PlaceSo}
 use Rattle.close_laws.specs.Fronts.{AreTurnsOf, AreOneRecord}
+use Rattle.close_laws.proofs.Words.{run_from}
 use Rattle.close_laws.proofs.Flying.{FliesSo, FliesAt, FrontAt}
-use Rattle.close_laws.proofs.Labelled.{other_so, still_so, stays_so, noted_so}
+use Rattle.close_laws.proofs.Fronts.{flight_stays, flight_other}
+use Rattle.close_laws.proofs.Labelled.{still_so, noted_so}
 use Rattle.close_laws.proofs.OpenedFronts.{opened_so}
 use Rattle.close_laws.proofs.SettledFronts.{settled_so}
 use Rattle.close_laws.proofs.EmptyFronts.{empty_so}
@@ -28,7 +30,7 @@ use Rattle.close_laws.proofs.EmptyFronts.{empty_so}
 module _ (layout : Layout) (start : Volume) (entries : List OldEntry) (named : Numbered) (first : Space) (begins : BeginsLabels layout start entries first)
     (moment : ℕ) (before : ℕ) where
   abbrev run : RunStart
-  run = record { layout = layout; moment = moment; parts = start.parts; gives = λ number. (bringing_of named number).parts }
+  run = run_from layout moment start named
 
   abbrev Place : List (Event Label) → BoxPast → List (Event Label) → Space → Type 0
   Place = PlaceSo layout start entries named first begins moment before
@@ -42,9 +44,6 @@ module _ (layout : Layout) (start : Volume) (entries : List OldEntry) (named : N
   abbrev Fronts : List Turn → Type 0
   Fronts turns = AreOneRecord start named run turns
 
-  abbrev flying : List Turn → List ℕ
-  flying turns = (disk_books run turns).flying
-
   module _ (done : List (Event Label)) (past : BoxPast) (core : CoreId) (rest : List (Event Label)) (space next : Space) (flies : Flies past)
       (fronts : Fronts past.turns) where
     abbrev Here : Label → Type 0
@@ -53,11 +52,8 @@ module _ (layout : Layout) (start : Volume) (entries : List OldEntry) (named : N
     abbrev There : Label → Type 0
     There fact = Place (done ++ Told core fact ∷ []) (after_label layout core.0 fact past) rest next
 
-    abbrev later_of : Label → BoxPast
-    later_of fact = after_label layout core.0 fact past
-
     abbrev Then : Label → Type 0
-    Then fact = Flies (later_of fact) × Fronts (later_of fact).turns
+    Then fact = Flies (after_label layout core.0 fact past) × Fronts (after_label layout core.0 fact past).turns
 
     abbrev dones : List ℕ
     dones = stamps_under named past.done
@@ -69,41 +65,56 @@ module _ (layout : Layout) (start : Volume) (entries : List OldEntry) (named : N
     FrontSo = FrontAt layout start entries named first begins moment before dones opens
 
     began_so : (fact : Label) (at : Here fact) (number : ℕ) → (past.owns core.0).reserved ≡ Some number → (box_label layout core.0 fact past).waits ≡ past.waits
-        → (other : ℕ) → FliesHere past other → FliesHere (later_of fact) other
+        → (other : ℕ) → FliesHere past other → FliesHere (after_label layout core.0 fact past) other
     began_so fact at number reserved waits other flight =
-        other_so layout start entries named first begins moment before done past core rest space next flies fronts fact other flight
+        flight_other layout start entries named first begins moment before done past core rest space flies fact other flight
         (λ same. let never : ◌≡◌ {A = Option SlotFlight} None (Some flight.flight) =
         sym (at.drawing.fits.numbers.rests core.0 number reserved) ∙ (ap (λ c. (past.owns c).flight) (sym same) ∙ flight.is) in cc never)
         (ap (λ f. f flight.core) waits)
 
-    looked_so : (turn : Turn) → Here (label.Looked turn) → (other : ℕ) → FliesHere past other → FliesHere (later_of (label.Looked turn)) other
+    looked_so : (turn : Turn) → Here (label.Looked turn) → (other : ℕ) → FliesHere past other
+        → FliesHere (after_label layout core.0 (label.Looked turn) past) other
     looked_so turn at other flight =
         let rule = at.drawing.owing.may.0.1 in
         let apart : flight.core ≢ core.0 = λ same.
         (let never : ◌≡◌ {A = Option Turn} None (Some turn) = sym flight.waits ∙ (ap past.waits same ∙ rule.waits) in cc never) in
-        other_so layout start entries named first begins moment before done past core rest space next flies fronts (label.Looked turn) other flight apart (at_other past.waits core.0 None flight.core apart)
+        flight_other layout start entries named first begins moment before done past core rest space flies (label.Looked turn) other flight apart
+        (at_other past.waits core.0 None flight.core apart)
+
+    -- a label without a turn, which ends nothing and leaves each core's flight
+    quiet_so : (fact : Label) → (after_label layout core.0 fact past).turns ≡ past.turns → (after_label layout core.0 fact past).done ≡ past.done
+        → (own_label fact (past.owns core.0)).flight ≡ (past.owns core.0).flight → (box_label layout core.0 fact past).waits ≡ past.waits → Then fact
+    quiet_so fact turns done_is same waits =
+        still_so layout start entries named first begins moment before done past core rest space next flies fronts fact turns done_is
+        (flight_stays layout start entries named first begins moment before done past core rest space flies fact same waits)
 
     pub front_label : (fact : Label) → Here fact → There fact → SpaceDoes (Told core fact) past space next
-        → AreTurnsOf named (later_of fact).turns → Then fact
-    front_label label.Took at then does ties = still_so layout start entries named first begins moment before done past core rest space next flies fronts label.Took refl refl (stays_so layout start entries named first begins moment before done past core rest space next flies fronts label.Took refl refl)
-    front_label label.Gave at then does ties = still_so layout start entries named first begins moment before done past core rest space next flies fronts label.Gave refl refl (stays_so layout start entries named first begins moment before done past core rest space next flies fronts label.Gave refl refl)
-    front_label (label.Noted turn) at then does ties = noted_so layout start entries named first begins moment before done past core rest space next flies fronts turn at
-    front_label (label.Reserved commit seen grant) at then does ties =
-        still_so layout start entries named first begins moment before done past core rest space next flies fronts (label.Reserved commit seen grant) refl refl (stays_so layout start entries named first begins moment before done past core rest space next flies fronts (label.Reserved commit seen grant) refl refl)
-    front_label (label.Returned commit) at then does ties = still_so layout start entries named first begins moment before done past core rest space next flies fronts (label.Returned commit) refl refl (stays_so layout start entries named first begins moment before done past core rest space next flies fronts (label.Returned commit) refl refl)
+        → AreTurnsOf named (after_label layout core.0 fact past).turns → Then fact
+    front_label label.Took at then does ties = quiet_so label.Took refl refl refl refl
+    front_label label.Gave at then does ties = quiet_so label.Gave refl refl refl refl
+    front_label (label.Noted turn) at then does ties =
+        noted_so layout start entries named first begins moment before done past core rest space next flies fronts turn at
+    front_label (label.Reserved commit seen grant) at then does ties = quiet_so (label.Reserved commit seen grant) refl refl refl refl
+    front_label (label.Returned commit) at then does ties = quiet_so (label.Returned commit) refl refl refl refl
     front_label (label.Began filling commit node stamp blocks inodes) at then does ties =
-        still_so layout start entries named first begins moment before done past core rest space next flies fronts (label.Began filling commit node stamp blocks inodes) refl refl
+        still_so layout start entries named first begins moment before done past core rest space next flies fronts
+        (label.Began filling commit node stamp blocks inodes) refl refl
         (began_so (label.Began filling commit node stamp blocks inodes) at commit at.drawing.owing.may.0.1.number refl)
-    front_label (label.Filled k piece ok) at then does ties = still_so layout start entries named first begins moment before done past core rest space next flies fronts (label.Filled k piece ok) refl refl (stays_so layout start entries named first begins moment before done past core rest space next flies fronts (label.Filled k piece ok) refl refl)
-    front_label (label.Synced now) at then does ties = still_so layout start entries named first begins moment before done past core rest space next flies fronts (label.Synced now) refl refl (stays_so layout start entries named first begins moment before done past core rest space next flies fronts (label.Synced now) refl refl)
+    front_label (label.Filled k piece ok) at then does ties = quiet_so (label.Filled k piece ok) refl refl refl refl
+    front_label (label.Synced now) at then does ties = quiet_so (label.Synced now) refl refl refl refl
     front_label (label.Opened k ok cut opened) at then does ties =
-        opened_so layout start entries named first begins moment before done past core rest space next flies fronts k ok cut opened at (ties opened (in_right past.turns (cut ∷ opened ∷ []) opened (inr (inl refl))) (inl at.drawing.owing.may.0.1.opened_is.did_is))
+        opened_so layout start entries named first begins moment before done past core rest space next flies fronts k ok cut opened at
+        (ties opened (in_right past.turns (cut ∷ opened ∷ []) opened (inr (inl refl))) (inl at.drawing.owing.may.0.1.opened_is.did_is))
     front_label (label.Settled k turn) at then does ties =
-        settled_so layout start entries named first begins moment before done past core rest space next flies fronts k turn at then does (ties turn (in_right past.turns (turn ∷ []) turn (inl refl)) (inr at.drawing.owing.may.0.1.is.did_is))
-    front_label (label.Looked turn) at then does ties = still_so layout start entries named first begins moment before done past core rest space next flies fronts (label.Looked turn) refl refl (looked_so turn at)
-    front_label (label.Placed k n ok) at then does ties = still_so layout start entries named first begins moment before done past core rest space next flies fronts (label.Placed k n ok) refl refl (stays_so layout start entries named first begins moment before done past core rest space next flies fronts (label.Placed k n ok) refl refl)
-    front_label (label.Shut k ok) at then does ties = still_so layout start entries named first begins moment before done past core rest space next flies fronts (label.Shut k ok) refl refl (stays_so layout start entries named first begins moment before done past core rest space next flies fronts (label.Shut k ok) refl refl)
-    front_label (label.Idled k) at then does ties = still_so layout start entries named first begins moment before done past core rest space next flies fronts (label.Idled k) refl refl (stays_so layout start entries named first begins moment before done past core rest space next flies fronts (label.Idled k) refl refl)
+        settled_so layout start entries named first begins moment before done past core rest space next flies fronts k turn at then does
+        (ties turn (in_right past.turns (turn ∷ []) turn (inl refl)) (inr at.drawing.owing.may.0.1.is.did_is))
+    front_label (label.Looked turn) at then does ties =
+        still_so layout start entries named first begins moment before done past core rest space next flies fronts (label.Looked turn) refl refl
+        (looked_so turn at)
+    front_label (label.Placed k n ok) at then does ties = quiet_so (label.Placed k n ok) refl refl refl refl
+    front_label (label.Shut k ok) at then does ties = quiet_so (label.Shut k ok) refl refl refl refl
+    front_label (label.Idled k) at then does ties = quiet_so (label.Idled k) refl refl refl refl
     front_label (label.Empty commit cut opened durable) at then does ties =
-        empty_so layout start entries named first begins moment before done past core rest space next flies fronts commit cut opened durable at then does (ties opened (in_right past.turns (cut ∷ opened ∷ durable ∷ []) opened (inr (inl refl))) (inl at.drawing.owing.may.0.1.opened_is.did_is))
+        empty_so layout start entries named first begins moment before done past core rest space next flies fronts commit cut opened durable at then does
+        (ties opened (in_right past.turns (cut ∷ opened ∷ durable ∷ []) opened (inr (inl refl))) (inl at.drawing.owing.may.0.1.opened_is.did_is))
         (ties durable (in_right past.turns (cut ∷ opened ∷ durable ∷ []) durable (inr (inr (inl refl)))) (inr at.drawing.owing.may.0.1.durable_is.did_is))

@@ -55,7 +55,8 @@ module _ (start : Volume) (entries : List OldEntry) (named : Numbered) (told : T
   node_there : (flush : Flush) → HasLiveNode start.first history flush → HasNode start.first history flush
   node_there flush live =
       subst (λ tree. IsSome (get tree.nodes flush.node)) (tree_at-after start.first history flush.stamp)
-      (live_node start.first history (sound start entries named told disk ends tell) (legal start entries named told disk ends tell) flush live flush.stamp (omega arith))
+      (live_node start.first history (sound start entries named told disk ends tell) (legal start entries named told disk ends tell) flush live flush.stamp
+      (omega arith))
 
   -- a durable fsync is listed
   durable_listed : (some : List Turn) → ((turn : Turn) → IsOneOf some turn → IsOneOf turns turn) → (flush : Flush) → IsOneOf (durables some) flush
@@ -89,14 +90,25 @@ module _ (start : Volume) (entries : List OldEntry) (named : Numbered) (told : T
         flushes = durables front ++ map flush_brought (map (bringing_of named) (filter shows.kept (disk_books run front).flying));
         cut = (later start entries named told disk ends tell share image front back split shows).0.cut;
         inodes = (later start entries named told disk ends tell share image front back split shows).0.inodes;
-        closed = (lists_keep start.first history all (later start entries named told disk ends tell share image front back split shows).0.cut (later start entries named told disk ends tell share image front back split shows).0.inodes (sound start entries named told disk ends tell) (legal start entries named told disk ends tell)
+        closed = (lists_keep start.first history all (later start entries named told disk ends tell share image front back split shows).0.cut
+            (later start entries named told disk ends tell share image front back split shows).0.inodes (sound start entries named told disk ends tell)
+            (legal start entries named told disk ends tell)
             (flushed_there start entries named told disk ends tell share image front back split shows)).kept.closed;
-        covers = histories_are_covered start.first history all (later start entries named told disk ends tell share image front back split shows).0.cut (later start entries named told disk ends tell share image front back split shows).0.inodes
-            moment (sound start entries named told disk ends tell) (legal start entries named told disk ends tell) (flushed_there start entries named told disk ends tell share image front back split shows)
+        covers = histories_are_covered start.first history all (later start entries named told disk ends tell share image front back split shows).0.cut
+            (later start entries named told disk ends tell share image front back split shows).0.inodes
+            moment (sound start entries named told disk ends tell) (legal start entries named told disk ends tell)
+            (flushed_there start entries named told disk ends tell share image front back split shows)
             (λ flush one. node_there flush (live_there start entries named told disk ends tell share image front back split shows flush one)) covered;
-        begins = record { others = others; whole = whole; answered = answered; once = stamps_differ_there start entries named told disk ends tell share image front back split shows };
+        begins = record {
+          others = others;
+          whole = whole;
+          answered = answered;
+          once =
+              stamps_differ_there start entries named told disk ends tell share image front back split shows;
+        };
         raised = flushed_there start entries named told disk ends tell share image front back split shows;
-        read = subst (IsReadAsTree image share) (tree_there start entries named told disk ends tell share image front back split shows) (read_there start entries named told disk ends tell share image front back split shows);
+        read = subst (IsReadAsTree image share) (tree_there start entries named told disk ends tell share image front back split shows)
+            (read_there start entries named told disk ends tell share image front back split shows);
       }
         where
           all : List Flush
@@ -136,7 +148,8 @@ module _ (start : Volume) (entries : List OldEntry) (named : Numbered) (told : T
 
           answered : (flush : Flush) → IsOneOf others flush → IsListedFsync history flush
           answered flush one =
-              elim (in_either (durables cut_front.behind) (map flush_brought (map (bringing_of named) (filter shows.kept (disk_books run front).flying))) flush one) [
+              elim (in_either (durables cut_front.behind)
+              (map flush_brought (map (bringing_of named) (filter shows.kept (disk_books run front).flying))) flush one) [
                 | inl old ↦ durable_listed cut_front.behind behind_within flush old
                 | inr kept ↦ kept_listed start entries named told disk ends tell share image front back split shows flush kept
               ]
@@ -205,11 +218,13 @@ module _ (start : Volume) (entries : List OldEntry) (named : Numbered) (told : T
         none_behind : (front back : List Turn) → turns ≡ front ++ back → All (λ (turn : Turn). disk.now < turn.now) back → back ≡ []
         none_behind front [] split late = refl
         none_behind front (turn ∷ back) split late =
-            let low = rises_to told.moment disk.now turns ends.run.rises turn (subst (λ l. IsOneOf l turn) (sym split) (in_right front (turn ∷ back) turn (inl refl))) in
+            let low = rises_to told.moment disk.now turns ends.run.rises turn
+            (subst (λ l. IsOneOf l turn) (sym split) (in_right front (turn ∷ back) turn (inl refl))) in
             let high = late 0 turn (omega arith) in
             absurd (omega (arith, low, high))
 
-        of_all : (front : List Turn) (whole : turns ≡ front) (split : turns ≡ front ++ []) (shows : Shows run.gives run.layout (disk_books run front) ends.tells.content)
+        of_all : (front : List Turn) (whole : turns ≡ front) (split : turns ≡ front ++ [])
+            (shows : Shows run.gives run.layout (disk_books run front) ends.tells.content)
             → IsReadByTurns share start.first history turns disk
         of_all front whole split shows =
             let nothing : filter shows.kept (disk_books run front).flying ≡ [] =
@@ -222,14 +237,17 @@ module _ (start : Volume) (entries : List OldEntry) (named : Numbered) (told : T
               cut = (later start entries named told disk ends tell share ends.tells.content front [] split shows).0.cut;
               inodes = (later start entries named told disk ends tell share ends.tells.content front [] split shows).0.inodes;
               raised = subst
-                  (λ l. AreFlushed start.first history every_entry l (later start entries named told disk ends tell share ends.tells.content front [] split shows).0.cut
+                  (λ l. AreFlushed start.first history every_entry l
+                  (later start entries named told disk ends tell share ends.tells.content front [] split shows).0.cut
                   (later start entries named told disk ends tell share ends.tells.content front [] split shows).0.inodes)
                   flushes (flushed_there start entries named told disk ends tell share ends.tells.content front [] split shows);
               read = λ content told_so.
                   subst
-                  (λ bytes. IsReadAsTree bytes share (tree_at_cut start.first history (later start entries named told disk ends tell share ends.tells.content front [] split shows).0.cut))
+                  (λ bytes. IsReadAsTree bytes share
+                  (tree_at_cut start.first history (later start entries named told disk ends tell share ends.tells.content front [] split shows).0.cut))
                   (some_same (sym ends.tells.tells ∙ told_so))
-                  (subst (IsReadAsTree ends.tells.content share) (tree_there start entries named told disk ends tell share ends.tells.content front [] split shows)
+                  (subst (IsReadAsTree ends.tells.content share)
+                  (tree_there start entries named told disk ends tell share ends.tells.content front [] split shows)
                   (read_there start entries named told disk ends tell share ends.tells.content front [] split shows));
             }
 

@@ -23,11 +23,12 @@ use Rattle.walk_laws.specs.Walk.{brought_under}
 use Rattle.walk_laws.specs.Pairs.{bringing_under}
 use Rattle.slot_laws.specs.Labels.{BoxPast, SlotFlight}
 use Rattle.slot_image_laws.specs.Images.{DiskBooks, book_act, RunStart, disk_books, first_books}
+use Rattle.slot_image_laws.proofs.Trails.{books_more}
 use Rattle.imagined_laws.specs.Parts.{parts_once}
 use Rattle.label_laws.specs.Maps.{Numbered, bringing_of}
 use Rattle.label_laws.specs.Beside.{BeginsLabels, stamps_under, brought_at}
-use Rattle.label_laws.proofs.Books.{books_both}
 use Rattle.close_laws.specs.Fronts.{DifferBy, WasOpened, IsOneRecord, AreOneRecord, ImaginedPlace}
+use Rattle.close_laws.proofs.Words.{run_from, flying}
 
 -- turns that neither open a commit nor make one durable
 pub books_stay : (gives : ℕ → List InodePart) (did : TurnAct) (commit : ℕ) (books : DiskBooks) → did ≢ act.Opened → did ≢ act.Durable
@@ -82,13 +83,17 @@ differ_fewer key test (x ∷ xs) differ = by (test x) (differ_fewer key test xs 
 module _ (layout : Layout) (start : Volume) (entries : List OldEntry) (named : Numbered) (first : Space) (begins : BeginsLabels layout start entries first)
     (moment : ℕ) (before : ℕ) where
   abbrev run : RunStart
-  run = record { layout = layout; moment = moment; parts = start.parts; gives = λ number. (bringing_of named number).parts }
+  run = run_from layout moment start named
 
   abbrev books_at : List Turn → DiskBooks
   books_at turns = disk_books run turns
 
   pub books_on : (turns : List Turn) (turn : Turn) → books_at (turns ++ turn ∷ []) ≡ book_act run.gives turn.act turn.commit (books_at turns)
-  books_on turns turn = books_both run.gives turns (turn ∷ []) (first_books run)
+  books_on turns turn = books_more run.gives turns (turn ∷ []) (first_books run)
+
+  -- with one turn more that neither opens a commit nor makes one durable they stay
+  pub books_quiet : (turns : List Turn) (turn : Turn) → turn.act ≢ act.Opened → turn.act ≢ act.Durable → books_at (turns ++ turn ∷ []) ≡ books_at turns
+  books_quiet turns turn no_open no_durable = books_on turns turn ∙ books_stay run.gives turn.act turn.commit (books_at turns) no_open no_durable
 
   -- a core's commit flies, whose gate was written
   pub record FliesAt (past : BoxPast) (number : ℕ) : Type 0 where
@@ -109,7 +114,8 @@ module _ (layout : Layout) (start : Volume) (entries : List OldEntry) (named : N
     pub own : (stamp : ℕ) → IsOneOf (stamps_under named past.done) stamp → (bringing_under named.pairs stamp).flush.stamp ≡ stamp
 
   pub opened_on : (turns more : List Turn) (number : ℕ) → WasOpened named turns number → WasOpened named (turns ++ more) number
-  opened_on turns more number was = record { turn = was.turn; among = in_left turns more was.turn was.among; did = was.did; own = was.own; stamp_is = was.stamp_is }
+  opened_on turns more number was =
+      record { turn = was.turn; among = in_left turns more was.turn was.among; did = was.did; own = was.own; stamp_is = was.stamp_is }
 
   abbrev Front : List Turn → Type 0
   Front = IsOneRecord start named run
@@ -140,7 +146,7 @@ module _ (layout : Layout) (start : Volume) (entries : List OldEntry) (named : N
   pub front_quiet : (done opens : List ℕ) (front : List Turn) (turn : Turn) → turn.act ≢ act.Opened → turn.act ≢ act.Durable → FrontAt done opens front
       → FrontAt done opens (front ++ turn ∷ [])
   front_quiet done opens front turn no_open no_end at =
-      let same = books_on front turn ∙ books_stay run.gives turn.act turn.commit (books_at front) no_open no_end in
+      let same = books_quiet front turn no_open no_end in
       record {
         place = at.place;
         flushes = at.flushes ∙ sym (durables_stay front turn no_end);
@@ -154,7 +160,8 @@ module _ (layout : Layout) (start : Volume) (entries : List OldEntry) (named : N
       }
 
   -- one with a turn more that opens a commit
-  pub front_opened : (done opens : List ℕ) (front : List Turn) (turn : Turn) (number : ℕ) (at : FrontAt done opens front) → turn.act ≡ act.Opened → turn.commit ≡ number
+  pub front_opened : (done opens : List ℕ) (front : List Turn) (turn : Turn) (number : ℕ) (at : FrontAt done opens front) → turn.act ≡ act.Opened
+      → turn.commit ≡ number
       → IsOneOf opens (named.stamps number) → ((other : ℕ) → IsOneOf (books_at front).flying other → named.stamps other ≢ named.stamps number)
       → (bringing_of named number).flush ≡ flush_at turn → turn.stamp.0 ≡ named.stamps number → FrontAt done opens (front ++ turn ∷ [])
   front_opened done opens front turn number at did of open_one apart own stamp_is =

@@ -18,12 +18,13 @@ use Rattle.slot_laws.specs.Labels.{BoxPast, own_label, box_label, after_label, O
 use Rattle.slot_laws.specs.Slots.{SlotWork}
 use Rattle.slot_laws.specs.Nodes.{ReservedCommit}
 use Rattle.slot_laws.proofs.Basics.{at_other, own_same}
-use Rattle.slot_image_laws.specs.Images.{RunStart, disk_books}
-use Rattle.label_laws.specs.Maps.{Numbered, bringing_of}
+use Rattle.slot_image_laws.specs.Images.{RunStart}
+use Rattle.label_laws.specs.Maps.{Numbered}
 use Rattle.label_laws.specs.Beside.{BeginsLabels, stamps_under}
 use Rattle.label_laws.proofs.Beginning.{PlaceSo}
 use Rattle.label_laws.proofs.Opens.{AloftOpen}
 use Rattle.close_laws.specs.Fronts.{IsOneRecord, DifferBy, WasOpened}
+use Rattle.close_laws.proofs.Words.{run_from, flying}
 use Rattle.close_laws.proofs.Flying.{FliesAt, FliesSo, FrontAt, as_record}
 
 module _ (layout : Layout) (start : Volume) (entries : List OldEntry) (named : Numbered) (first : Space) (begins : BeginsLabels layout start entries first)
@@ -32,10 +33,7 @@ module _ (layout : Layout) (start : Volume) (entries : List OldEntry) (named : N
   Flies = FliesSo layout start entries named first begins moment before
 
   abbrev run : RunStart
-  run = record { layout = layout; moment = moment; parts = start.parts; gives = λ number. (bringing_of named number).parts }
-
-  abbrev flying : List Turn → List ℕ
-  flying turns = (disk_books run turns).flying
+  run = run_from layout moment start named
 
   module _ (done : List (Event Label)) (past : BoxPast) (rest : List (Event Label)) (space : Space)
       (at : PlaceSo layout start entries named first begins moment before done past rest space) (flies : Flies past) where
@@ -51,7 +49,8 @@ module _ (layout : Layout) (start : Volume) (entries : List OldEntry) (named : N
       | inr landed ↦ absurd (let never : ◌≡◌ {A = Option Turn} None (Some landed.turn) = sym one.waits ∙ landed.waits_is in cc never)
     ]
 
-    pub flies_open : (number : ℕ) → FliesAt layout start entries named first begins moment before past number → IsOneOf (stamps_under named past.opens) (named.stamps number)
+    pub flies_open : (number : ℕ) → FliesAt layout start entries named first begins moment before past number
+        → IsOneOf (stamps_under named past.opens) (named.stamps number)
     flies_open number one =
         let aloft = aloft_of number one in
         subst (λ n. IsOneOf (stamps_under named past.opens) (named.stamps n)) (aloft.2.number_is ∙ aloft.1)
@@ -107,18 +106,18 @@ module _ (layout : Layout) (start : Volume) (entries : List OldEntry) (named : N
     pub still : (fact : Label) → (after_label layout core.0 fact past).turns ≡ past.turns → (after_label layout core.0 fact past).done ≡ past.done
         → ((number : ℕ) → FliesHere past number → FliesHere (after_label layout core.0 fact past) number) → Flies (after_label layout core.0 fact past)
     still fact turns done_is stays = record {
-      flown = λ number one. stays number (flies.flown number (subst (λ t. IsOneOf (flying t) number) turns one));
-      once = subst (λ t. DifferBy named.stamps (flying t)) (sym turns) flies.once;
+      flown = λ number one. stays number (flies.flown number (subst (λ t. IsOneOf (flying run t) number) turns one));
+      once = subst (λ t. DifferBy named.stamps (flying run t)) (sym turns) flies.once;
       differ = subst (λ d. DifferBy (λ stamp. stamp) (stamps_under named d)) (sym done_is) flies.differ;
       flushes = ap (λ d. map flush_brought (brought_under named.pairs (stamps_under named d))) done_is ∙ (flies.flushes ∙ ap durables (sym turns));
-      opened = λ number one. subst (λ t. WasOpened named t number) (sym turns) (flies.opened number (subst (λ t. IsOneOf (flying t) number) turns one));
+      opened = λ number one. subst (λ t. WasOpened named t number) (sym turns) (flies.opened number (subst (λ t. IsOneOf (flying run t) number) turns one));
       own = λ stamp one. flies.own stamp (subst (λ d. IsOneOf (stamps_under named d) stamp) done_is one);
     }
 
     -- what of one record is so of the flights
     pub from_front : (later : BoxPast) (opens : List ℕ)
         → FrontAt layout start entries named first begins moment before (stamps_under named later.done) opens later.turns
-        → ((number : ℕ) → IsOneOf (flying later.turns) number → FliesHere later number) → Flies later
+        → ((number : ℕ) → IsOneOf (flying run later.turns) number → FliesHere later number) → Flies later
     from_front later opens front flown = record {
       flown = flown;
       once = front.once;

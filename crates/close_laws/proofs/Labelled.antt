@@ -1,9 +1,7 @@
 -- What a label makes of the fronts of a record, by its sort.
-use Rattle.std.proofs.Common.{◌∷◌, ◌++◌, ◌≡◌, ◌≢◌, ◌∙◌, List, ℕ, [], subst, sym, ap, refl, map, filter, not, nat_eq, true, Bool, false, inr, inl}
+use Rattle.std.proofs.Common.{◌∷◌, ◌++◌, ◌≡◌, ◌≢◌, ◌∙◌, List, ℕ, [], subst, sym, ap, refl, map, inr, inl}
 use Rattle.std.proofs.lemmas.List.{map-append}
 use Rattle.sfs_base.specs.declared.numbers.CoreId.{CoreId}
-use Rattle.sfs_base.proofs.BasicTruth.{false_not_true}
-use Rattle.sfs_base.proofs.BasicNumbers.{same_number}
 use Rattle.sfs_image.specs.Super.{Layout}
 use Rattle.space_map.specs.Space.{Space}
 use Rattle.tree_laws.specs.declared.turns.TurnAct.TheVariants as act
@@ -23,24 +21,25 @@ use Rattle.stamp_table.specs.declared.event.Event.{Event}
 use Rattle.stamp_table.specs.declared.event.Event.TheVariants.{Told}
 use Rattle.slot_laws.specs.declared.label.Label.{Label}
 use Rattle.slot_laws.specs.declared.label.Label.TheVariants as label
-use Rattle.slot_laws.specs.Labels.{BoxPast, after_label, own_label, box_label}
+use Rattle.slot_laws.specs.Labels.{BoxPast, after_label}
 use Rattle.slot_laws.specs.Slots.{SlotWork}
 use Rattle.slot_laws.specs.Nodes.{ReservedCommit, commits_numbered}
 use Rattle.slot_laws.specs.Grants.{IsOpenNumbered}
-use Rattle.slot_image_laws.specs.Images.{RunStart, disk_books, DiskBooks}
+use Rattle.slot_image_laws.specs.Images.{RunStart, DiskBooks}
 use Rattle.label_laws.specs.Maps.{Numbered, bringing_of}
 use Rattle.label_laws.specs.Beside.{BeginsLabels, stamps_under, brought_at}
 use Rattle.label_laws.proofs.Beginning.{PlaceSo}
 use Rattle.label_laws.proofs.Opens.{AloftOpen}
 use Rattle.label_laws.proofs.Walking.{stamps_differ, done_more}
 use Rattle.close_laws.specs.Fronts.{AreOneRecord, IsOneRecord, DifferBy, WasOpened}
-use Rattle.close_laws.proofs.Flying.{FliesSo, FliesAt, front_quiet, books_on, books_stay, fronts_push, differ_more, durables_more, FrontAt, as_record}
-use Rattle.close_laws.proofs.Fronts.{still, flight_stays, flight_other, aloft_of, from_front, front_here}
+use Rattle.close_laws.proofs.Words.{run_from, flying}
+use Rattle.close_laws.proofs.Flying.{FliesSo, FliesAt, front_quiet, books_quiet, fronts_push, differ_more, durables_more, FrontAt, as_record}
+use Rattle.close_laws.proofs.Fronts.{still, flight_stays, aloft_of, from_front, front_here}
 
 module _ (layout : Layout) (start : Volume) (entries : List OldEntry) (named : Numbered) (first : Space) (begins : BeginsLabels layout start entries first)
     (moment : ℕ) (before : ℕ) where
   abbrev run : RunStart
-  run = record { layout = layout; moment = moment; parts = start.parts; gives = λ number. (bringing_of named number).parts }
+  run = run_from layout moment start named
 
   abbrev Place : List (Event Label) → BoxPast → List (Event Label) → Space → Type 0
   Place = PlaceSo layout start entries named first begins moment before
@@ -54,9 +53,6 @@ module _ (layout : Layout) (start : Volume) (entries : List OldEntry) (named : N
   abbrev Fronts : List Turn → Type 0
   Fronts turns = AreOneRecord start named run turns
 
-  abbrev flying : List Turn → List ℕ
-  flying turns = (disk_books run turns).flying
-
   module _ (done : List (Event Label)) (past : BoxPast) (core : CoreId) (rest : List (Event Label)) (space next : Space) (flies : Flies past)
       (fronts : Fronts past.turns) where
     abbrev Here : Label → Type 0
@@ -65,11 +61,8 @@ module _ (layout : Layout) (start : Volume) (entries : List OldEntry) (named : N
     abbrev There : Label → Type 0
     There fact = Place (done ++ Told core fact ∷ []) (after_label layout core.0 fact past) rest next
 
-    abbrev later_of : Label → BoxPast
-    later_of fact = after_label layout core.0 fact past
-
     abbrev Then : Label → Type 0
-    Then fact = Flies (later_of fact) × Fronts (later_of fact).turns
+    Then fact = Flies (after_label layout core.0 fact past) × Fronts (after_label layout core.0 fact past).turns
 
     abbrev dones : List ℕ
     dones = stamps_under named past.done
@@ -86,24 +79,15 @@ module _ (layout : Layout) (start : Volume) (entries : List OldEntry) (named : N
     pub here_front : (fact : Label) → Here fact → FrontSo past.turns
     here_front fact at = front_here layout start entries named first begins moment before done past (Told core fact ∷ rest) space at flies
 
-    pub still_so : (fact : Label) → (later_of fact).turns ≡ past.turns → (later_of fact).done ≡ past.done
-        → ((number : ℕ) → FliesHere past number → FliesHere (later_of fact) number) → Then fact
+    pub still_so : (fact : Label) → (after_label layout core.0 fact past).turns ≡ past.turns → (after_label layout core.0 fact past).done ≡ past.done
+        → ((number : ℕ) → FliesHere past number → FliesHere (after_label layout core.0 fact past) number) → Then fact
     still_so fact turns done_is stays = (
       still layout start entries named first begins moment before done past core rest space flies fact turns done_is stays,
       subst Fronts (sym turns) fronts,
     )
 
-    pub stays_so : (fact : Label) → (own_label fact (past.owns core.0)).flight ≡ (past.owns core.0).flight → (box_label layout core.0 fact past).waits ≡ past.waits
-        → (number : ℕ) → FliesHere past number → FliesHere (later_of fact) number
-    stays_so fact same waits number one =
-        flight_stays layout start entries named first begins moment before done past core rest space flies fact same waits number one
-
-    pub other_so : (fact : Label) (number : ℕ) (one : FliesHere past number) → one.core ≢ core.0
-        → (box_label layout core.0 fact past).waits one.core ≡ past.waits one.core → FliesHere (later_of fact) number
-    other_so fact number one apart waits =
-        flight_other layout start entries named first begins moment before done past core rest space flies fact number one apart waits
-
-    pub aloft_so : (fact : Label) → Here fact → (number : ℕ) → FliesHere past number → (work : SlotWork) × (work.commit ≡ number) × AloftOpen named past.opens work
+    pub aloft_so : (fact : Label) → Here fact → (number : ℕ) → FliesHere past number
+        → (work : SlotWork) × (work.commit ≡ number) × AloftOpen named past.opens work
     aloft_so fact at number one = aloft_of layout start entries named first begins moment before done past (Told core fact ∷ rest) space at flies number one
 
     -- a commit that another flight is not has another stamp
@@ -111,28 +95,27 @@ module _ (layout : Layout) (start : Volume) (entries : List OldEntry) (named : N
         → named.stamps number ≢ named.stamps one.number
     apart_so fact at one among number flight away same =
         let aloft = aloft_so fact at number flight in
-        stamps_differ layout start entries named first begins before done past core rest space space at.beside fact at.drawing aloft.2.one one aloft.2.among among
+        stamps_differ layout start entries named first begins before done past core rest space space at.beside fact at.drawing aloft.2.one one aloft.2.among
+        among
         (λ e. away (sym (aloft.2.number_is ∙ aloft.1) ∙ e))
         (ap named.stamps (aloft.2.number_is ∙ aloft.1) ∙ same)
-
-    -- what a turn's fsync brings under a number
-    pub flush_of : (number : ℕ) (turn : Turn) → turn.stamp.0 ≡ named.stamps number → (bringing_under named.pairs turn.stamp.0).flush ≡ flush_at turn
-        → (bringing_of named number).flush ≡ flush_at turn
-    flush_of number turn stamp own = ap (λ s. (bringing_under named.pairs s).flush) (sym stamp) ∙ own
 
     pub noted_so : (turn : Turn) → Here (label.Noted turn) → Then (label.Noted turn)
     noted_so turn at =
         let rule = at.drawing.owing.may.0.1 in
-        let front = front_quiet layout start entries named first begins moment before dones opens past.turns turn rule.no_open rule.no_durable (here_front (label.Noted turn) at) in
-        let same = books_on layout start entries named first begins moment before past.turns turn
-        ∙ books_stay run.gives turn.act turn.commit (disk_books run past.turns) rule.no_open rule.no_durable in (
-          from_front layout start entries named first begins moment before done past core rest space flies (later_of (label.Noted turn)) opens front
-              (λ number one. stays_so (label.Noted turn) refl refl number (flies.flown number (subst (λ (b : DiskBooks). IsOneOf b.flying number) same one))),
+        let front = front_quiet layout start entries named first begins moment before dones opens past.turns turn rule.no_open rule.no_durable
+        (here_front (label.Noted turn) at) in
+        let same = books_quiet layout start entries named first begins moment before past.turns turn rule.no_open rule.no_durable in (
+          from_front layout start entries named first begins moment before done past core rest space flies
+              (after_label layout core.0 (label.Noted turn) past) opens front
+              (λ number one. flight_stays layout start entries named first begins moment before done past core rest space flies
+              (label.Noted turn) refl refl number (flies.flown number (subst (λ (b : DiskBooks). IsOneOf b.flying number) same one))),
           fronts_push layout start entries named first begins moment before past.turns turn fronts (as_one (past.turns ++ turn ∷ []) front),
         )
 
     -- the fsync that ends is none of those that are done
-    pub ends_apart : (fact : Label) (at : Here fact) (number : ℕ) (own : IsOpenNumbered past.opens number) (stamp : ℕ) → IsOneOf (stamps_under named past.done) stamp
+    pub ends_apart : (fact : Label) (at : Here fact) (number : ℕ) (own : IsOpenNumbered past.opens number) (stamp : ℕ)
+        → IsOneOf (stamps_under named past.done) stamp
         → stamp ≢ named.stamps own.commit.number
     ends_apart fact at number own stamp among same =
         ((at.beside.beside at.beside.volume at.beside.imagines).opens (named.stamps own.commit.number)
@@ -148,10 +131,12 @@ module _ (layout : Layout) (start : Volume) (entries : List OldEntry) (named : N
     pub ended_so : (fact : Label) (at : Here fact) (number : ℕ) (own : IsOpenNumbered past.opens number) (front : List Turn) (turn : Turn)
         → durables front ≡ durables past.turns → turn.act ≡ act.Durable → (bringing_of named own.commit.number).flush ≡ flush_at turn
         → turn.stamp.0 ≡ named.stamps own.commit.number
-        → (later_of fact).done ≡ past.done ++ commits_numbered number past.opens → (later_of fact).turns ≡ front ++ turn ∷ []
-        → DifferBy named.stamps (flying (later_of fact).turns)
-        → ((other : ℕ) → IsOneOf (flying (later_of fact).turns) other → FliesHere (later_of fact) other × WasOpened named (later_of fact).turns other)
-        → Flies (later_of fact)
+        → (after_label layout core.0 fact past).done ≡ past.done ++ commits_numbered number past.opens → (after_label layout core.0 fact past).turns
+        ≡ front ++ turn ∷ []
+        → DifferBy named.stamps (flying run (after_label layout core.0 fact past).turns)
+        → ((other : ℕ) → IsOneOf (flying run (after_label layout core.0 fact past).turns) other
+        → FliesHere (after_label layout core.0 fact past) other × WasOpened named (after_label layout core.0 fact past).turns other)
+        → Flies (after_label layout core.0 fact past)
     ended_so fact at number own front turn same_durables did flush stamp_is done_is turns_are once flown = record {
       flown = λ other one. (flown other one).0;
       once = once;
@@ -172,13 +157,3 @@ module _ (layout : Layout) (start : Volume) (entries : List OldEntry) (named : N
             ]
           ];
     }
-
-    abbrev without : ℕ → List ℕ → List ℕ
-    without number numbers = filter (λ other. not (nat_eq other number)) numbers
-
-    pub not_without : (number other : ℕ) → not (nat_eq other number) ≡ true → other ≢ number
-    not_without number other is same = by (nat_eq other number) (subst (λ n. nat_eq other n ≡ true) same (same_number other)) is
-      where
-        by : (b : Bool) → b ≡ true → not b ≡ true → ⊥
-        by true yes_is no_is = absurd (false_not_true no_is)
-        by false yes_is no_is = absurd (false_not_true yes_is)

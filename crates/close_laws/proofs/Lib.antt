@@ -1,3 +1,4 @@
+pub mod Words
 pub mod Flying
 pub mod Fronts
 pub mod Labelled

@@ -67,7 +67,8 @@ mapped_differ key (number ∷ numbers) differ = (
 pub none_until : (moment : ℕ) (back : List Turn) → All (λ (turn : Turn). moment < turn.now) back → filter (λ (turn : Turn). nat_le turn.now moment) back ≡ []
 none_until moment [] all = refl
 none_until moment (turn ∷ back) all =
-    ap (λ b. if b then turn ∷ filter (λ (t : Turn). nat_le t.now moment) back else filter (λ (t : Turn). nat_le t.now moment) back) (late turn.now (all 0 turn (omega arith)))
+    ap (λ b. if b then turn ∷ filter (λ (t : Turn). nat_le t.now moment) back else filter (λ (t : Turn). nat_le t.now moment) back)
+    (late turn.now (all 0 turn (omega arith)))
     ∙ none_until moment back (λ i d less. all (suc i) d (omega (arith, less)))
   where
     late : (now : ℕ) → moment < now → nat_le now moment ≡ false

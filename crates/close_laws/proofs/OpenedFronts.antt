@@ -27,19 +27,20 @@ use Rattle.slot_laws.specs.Nodes.{ReservedCommit}
 use Rattle.slot_laws.specs.Rules.{OpenedRule}
 use Rattle.slot_laws.proofs.Basics.{at_here}
 use Rattle.slot_image_laws.specs.Images.{RunStart, disk_books, DiskBooks, book_act}
-use Rattle.label_laws.specs.Maps.{Numbered, bringing_of}
+use Rattle.label_laws.specs.Maps.{Numbered}
 use Rattle.label_laws.specs.Beside.{BeginsLabels, stamps_under}
 use Rattle.label_laws.proofs.Beginning.{PlaceSo}
 use Rattle.label_laws.proofs.Opens.{AloftOpen}
 use Rattle.close_laws.specs.Fronts.{AreOneRecord}
-use Rattle.close_laws.proofs.Flying.{FliesSo, FliesAt, front_quiet, books_on, books_stay, fronts_push, front_opened, FrontAt}
-use Rattle.close_laws.proofs.Fronts.{from_front}
-use Rattle.close_laws.proofs.Labelled.{as_one, here_front, apart_so, flush_of, other_so}
+use Rattle.close_laws.proofs.Words.{run_from, flying, no_end, flush_of}
+use Rattle.close_laws.proofs.Flying.{FliesSo, FliesAt, front_quiet, books_on, books_quiet, fronts_push, front_opened, FrontAt}
+use Rattle.close_laws.proofs.Fronts.{flight_other, from_front}
+use Rattle.close_laws.proofs.Labelled.{as_one, here_front, apart_so}
 
 module _ (layout : Layout) (start : Volume) (entries : List OldEntry) (named : Numbered) (first : Space) (begins : BeginsLabels layout start entries first)
     (moment : ℕ) (before : ℕ) where
   abbrev run : RunStart
-  run = record { layout = layout; moment = moment; parts = start.parts; gives = λ number. (bringing_of named number).parts }
+  run = run_from layout moment start named
 
   abbrev Place : List (Event Label) → BoxPast → List (Event Label) → Space → Type 0
   Place = PlaceSo layout start entries named first begins moment before
@@ -53,9 +54,6 @@ module _ (layout : Layout) (start : Volume) (entries : List OldEntry) (named : N
   abbrev Fronts : List Turn → Type 0
   Fronts turns = AreOneRecord start named run turns
 
-  abbrev flying : List Turn → List ℕ
-  flying turns = (disk_books run turns).flying
-
   module _ (done : List (Event Label)) (past : BoxPast) (core : CoreId) (rest : List (Event Label)) (space next : Space) (flies : Flies past)
       (fronts : Fronts past.turns) where
     abbrev Here : Label → Type 0
@@ -64,11 +62,8 @@ module _ (layout : Layout) (start : Volume) (entries : List OldEntry) (named : N
     abbrev There : Label → Type 0
     There fact = Place (done ++ Told core fact ∷ []) (after_label layout core.0 fact past) rest next
 
-    abbrev later_of : Label → BoxPast
-    later_of fact = after_label layout core.0 fact past
-
     abbrev Then : Label → Type 0
-    Then fact = Flies (later_of fact) × Fronts (later_of fact).turns
+    Then fact = Flies (after_label layout core.0 fact past) × Fronts (after_label layout core.0 fact past).turns
 
     abbrev dones : List ℕ
     dones = stamps_under named past.done
@@ -82,11 +77,14 @@ module _ (layout : Layout) (start : Volume) (entries : List OldEntry) (named : N
     pub opened_so : (k : ℕ) (ok : Bool) (cut opened : Turn) → Here (label.Opened k ok cut opened)
         → (bringing_under named.pairs opened.stamp.0).flush ≡ flush_at opened → Then (label.Opened k ok cut opened)
     opened_so k ok cut opened at tie = (
-      from_front layout start entries named first begins moment before done past core rest space flies (later_of fact)
+      from_front layout start entries named first begins moment before done past core rest space flies (after_label layout core.0 fact past)
           opens (subst FrontSo whole front_two) flown_then,
       subst Fronts whole
           (fronts_push layout start entries named first begins moment before (past.turns ++ cut ∷ []) opened
-          (fronts_push layout start entries named first begins moment before past.turns cut fronts (as_one layout start entries named first begins moment before done past core rest space next flies fronts (past.turns ++ cut ∷ []) front_one)) (as_one layout start entries named first begins moment before done past core rest space next flies fronts ((past.turns ++ cut ∷ []) ++ opened ∷ []) front_two)),
+          (fronts_push layout start entries named first begins moment before past.turns cut fronts
+          (as_one layout start entries named first begins moment before done past core rest space next flies fronts (past.turns ++ cut ∷ []) front_one))
+          (as_one layout start entries named first begins moment before done past core rest space next flies fronts
+          ((past.turns ++ cut ∷ []) ++ opened ∷ []) front_two)),
     )
       where
         fact : Label
@@ -101,21 +99,18 @@ module _ (layout : Layout) (start : Volume) (entries : List OldEntry) (named : N
         aloft : AloftOpen named past.opens rule.has.work
         aloft = at.drawing.opens.aloft k rule.has.work rule.has.there rule.has.aloft
 
-        no_end : (did : TurnAct) (turn : Turn) → turn.act ≡ did → did ≢ act.Durable → turn.act ≢ act.Durable
-        no_end did turn is away e = away (sym is ∙ e)
-
         cut_opens : cut.act ≢ act.Opened
         cut_opens e = let never : act.CutAt ≡ act.Opened = sym rule.cut_is.did_is ∙ e in absurd (cc never)
 
         front_one : FrontSo (past.turns ++ cut ∷ [])
         front_one =
-            front_quiet layout start entries named first begins moment before dones opens past.turns cut cut_opens (no_end act.CutAt cut rule.cut_is.did_is (λ e. cc e))
+            front_quiet layout start entries named first begins moment before dones opens past.turns cut cut_opens
+            (no_end act.CutAt cut rule.cut_is.did_is (λ e. cc e))
             (here_front layout start entries named first begins moment before done past core rest space next flies fronts (label.Opened k ok cut opened) at)
 
         one_books : disk_books run (past.turns ++ cut ∷ []) ≡ disk_books run past.turns
         one_books =
-            books_on layout start entries named first begins moment before past.turns cut
-            ∙ books_stay run.gives cut.act cut.commit (disk_books run past.turns) cut_opens (no_end act.CutAt cut rule.cut_is.did_is (λ e. cc e))
+            books_quiet layout start entries named first begins moment before past.turns cut cut_opens (no_end act.CutAt cut rule.cut_is.did_is (λ e. cc e))
 
         -- a flight whose gate was written is not the one whose gate is shut
         away : (other : ℕ) → FliesHere past other → other ≢ rule.has.work.commit
@@ -136,13 +131,15 @@ module _ (layout : Layout) (start : Volume) (entries : List OldEntry) (named : N
 
         front_two : FrontSo ((past.turns ++ cut ∷ []) ++ opened ∷ [])
         front_two =
-            front_opened layout start entries named first begins moment before dones opens (past.turns ++ cut ∷ []) opened rule.has.work.commit front_one rule.opened_is.did_is
+            front_opened layout start entries named first begins moment before dones opens
+            (past.turns ++ cut ∷ []) opened rule.has.work.commit front_one rule.opened_is.did_is
             rule.opened_is.commit_is opens_there
             (λ other one.
             let flight = flies.flown other (subst (λ (b : DiskBooks). IsOneOf b.flying other) one_books one) in
-            λ same. apart_so layout start entries named first begins moment before done past core rest space next flies fronts (label.Opened k ok cut opened) at aloft.one aloft.among other flight (λ e. away other flight (e ∙ aloft.number_is))
+            λ same. apart_so layout start entries named first begins moment before done past core rest space next flies fronts
+            (label.Opened k ok cut opened) at aloft.one aloft.among other flight (λ e. away other flight (e ∙ aloft.number_is))
             (same ∙ ap named.stamps (sym aloft.number_is)))
-            (flush_of layout start entries named first begins moment before done past core rest space next flies fronts rule.has.work.commit opened stamp tie) stamp
+            (flush_of named rule.has.work.commit opened stamp tie) stamp
           where
             opens_there : IsOneOf opens (named.stamps rule.has.work.commit)
             opens_there =
@@ -152,29 +149,35 @@ module _ (layout : Layout) (start : Volume) (entries : List OldEntry) (named : N
         whole : (past.turns ++ cut ∷ []) ++ opened ∷ [] ≡ past.turns ++ cut ∷ opened ∷ []
         whole = append_assoc past.turns (cut ∷ []) (opened ∷ [])
 
-        flown_then : (other : ℕ) → IsOneOf (flying (past.turns ++ cut ∷ opened ∷ [])) other → FliesHere (later_of (label.Opened k ok cut opened)) other
-        flown_then other one = elim (in_either (flying past.turns) (rule.has.work.commit ∷ []) other
+        flown_then : (other : ℕ) → IsOneOf (flying run (past.turns ++ cut ∷ opened ∷ [])) other
+            → FliesHere (after_label layout core.0 (label.Opened k ok cut opened) past) other
+        flown_then other one = elim (in_either (flying run past.turns) (rule.has.work.commit ∷ []) other
             (subst (λ l. IsOneOf l other) flying_is one)) [
               | inl old ↦ kept other (flies.flown other old)
-              | inr new ↦ elim new [ inl same ↦ subst (FliesHere (later_of (label.Opened k ok cut opened))) same fresh | inr never ↦ absurd never ]
+              | inr new ↦ elim new [
+                | inl same ↦ subst (FliesHere (after_label layout core.0 (label.Opened k ok cut opened) past)) same fresh
+                | inr never ↦
+                    absurd never
+              ]
             ]
           where
-            flying_is : flying (past.turns ++ cut ∷ opened ∷ []) ≡ flying past.turns ++ rule.has.work.commit ∷ []
+            flying_is : flying run (past.turns ++ cut ∷ opened ∷ []) ≡ flying run past.turns ++ rule.has.work.commit ∷ []
             flying_is =
-                ap flying (sym whole)
+                ap (flying run) (sym whole)
                 ∙ (ap (λ (b : DiskBooks). b.flying) (books_on layout start entries named first begins moment before (past.turns ++ cut ∷ []) opened)
                 ∙ ap (λ (p : TurnAct × ℕ × DiskBooks). (book_act run.gives p.0 p.1 p.2).flying)
                 (λ i. (rule.opened_is.did_is i, rule.opened_is.commit_is i, one_books i)))
 
             own_flight : (flight : SlotFlight) → (past.owns core.0).flight ≡ Some flight
-                → ((later_of (label.Opened k ok cut opened)).owns core.0).flight ≡ Some (opened_flight flight)
+                → ((after_label layout core.0 (label.Opened k ok cut opened) past).owns core.0).flight ≡ Some (opened_flight flight)
             own_flight flight is =
                 ap (λ (o : OwnTold). o.flight) (at_here past.owns core.0 (own_label (label.Opened k ok cut opened) (past.owns core.0)))
                 ∙ ap (option_map opened_flight) is
 
-            kept : (number : ℕ) → FliesHere past number → FliesHere (later_of (label.Opened k ok cut opened)) number
+            kept : (number : ℕ) → FliesHere past number → FliesHere (after_label layout core.0 (label.Opened k ok cut opened) past) number
             kept number flight = elim (same_or_not flight.core core.0) [
-              | inr apart ↦ other_so layout start entries named first begins moment before done past core rest space next flies fronts (label.Opened k ok cut opened) number flight apart refl
+              | inr apart ↦ flight_other layout start entries named first begins moment before done past core rest space flies
+                  (label.Opened k ok cut opened) number flight apart refl
               | inl same ↦ record {
                 core = core.0;
                 flight = opened_flight flight.flight;
@@ -185,7 +188,7 @@ module _ (layout : Layout) (start : Volume) (entries : List OldEntry) (named : N
               }
             ]
 
-            fresh : FliesHere (later_of (label.Opened k ok cut opened)) rule.has.work.commit
+            fresh : FliesHere (after_label layout core.0 (label.Opened k ok cut opened) past) rule.has.work.commit
             fresh =
                 let by = at.drawing.fits.flights.aloft k rule.has.work rule.has.there rule.has.aloft in
                 let there : past.slots k ≡ Some by.flies.work = subst (λ s. past.slots s ≡ Some by.flies.work) by.slot_is by.flies.there in

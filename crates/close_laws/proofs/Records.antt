@@ -15,10 +15,11 @@ use Rattle.slot_laws.specs.Labels.{BoxPast, after_label, past_from, first_past}
 use Rattle.slot_laws.specs.Grants.{SpaceGoes, GoesAlong}
 use Rattle.slot_image_laws.specs.Images.{RunStart}
 use Rattle.label_laws.specs.Own.{StandBeside}
-use Rattle.label_laws.specs.Maps.{Numbered, bringing_of, FitBringings}
+use Rattle.label_laws.specs.Maps.{Numbered, FitBringings}
 use Rattle.label_laws.specs.Beside.{BeginsLabels, TellAlong}
 use Rattle.label_laws.proofs.Beginning.{place_step, place_first, PlaceSo}
 use Rattle.close_laws.specs.Fronts.{AreOneRecord, IsOneRecord, AreTurnsOf, LabelsAreOneRecord}
+use Rattle.close_laws.proofs.Words.{run_from}
 use Rattle.close_laws.proofs.Flying.{FliesSo}
 use Rattle.close_laws.proofs.Fronts.{record_here}
 use Rattle.close_laws.proofs.Along.{front_label}
@@ -26,7 +27,7 @@ use Rattle.close_laws.proofs.Along.{front_label}
 module _ (layout : Layout) (start : Volume) (entries : List OldEntry) (named : Numbered) (first : Space) (begins : BeginsLabels layout start entries first)
     (moment : ℕ) (before : ℕ) where
   abbrev run : RunStart
-  run = record { layout = layout; moment = moment; parts = start.parts; gives = λ number. (bringing_of named number).parts }
+  run = run_from layout moment start named
 
   abbrev Place : List (Event Label) → BoxPast → List (Event Label) → Space → Type 0
   Place = PlaceSo layout start entries named first begins moment before

@@ -1,5 +1,5 @@
 -- Fronts of the record through the label by which a commit is durable.
-use Rattle.std.proofs.Common.{◌∷◌, ◌++◌, ◌≡◌, ◌∙◌, List, ℕ, [], subst, sym, ap, refl, filter, not, nat_eq, Some}
+use Rattle.std.proofs.Common.{◌∷◌, ◌++◌, ◌≡◌, ◌∙◌, List, ℕ, [], subst, sym, ap, refl, not, nat_eq, Some}
 use Rattle.sfs_base.specs.declared.numbers.CoreId.{CoreId}
 use Rattle.sfs_base.proofs.BasicOptions.{some_same}
 use Rattle.sfs_image.specs.Super.{Layout}
@@ -22,19 +22,20 @@ use Rattle.slot_laws.specs.Grants.{EndsGrant}
 use Rattle.slot_laws.specs.Rules.{SettledRule}
 use Rattle.slot_laws.proofs.Basics.{at_other, own_same}
 use Rattle.slot_image_laws.specs.Images.{RunStart, disk_books, DiskBooks, book_act}
-use Rattle.label_laws.specs.Maps.{Numbered, bringing_of}
+use Rattle.label_laws.specs.Maps.{Numbered}
 use Rattle.label_laws.specs.Beside.{BeginsLabels, stamps_under}
 use Rattle.label_laws.proofs.Beginning.{PlaceSo}
 use Rattle.label_laws.proofs.Opens.{AloftOpen}
 use Rattle.close_laws.specs.Fronts.{AreOneRecord, DifferBy, WasOpened}
+use Rattle.close_laws.proofs.Words.{run_from, flying, without, not_without, flush_of}
 use Rattle.close_laws.proofs.Flying.{FliesSo, FliesAt, books_on, fronts_push, opened_on, differ_fewer, FrontAt}
 use Rattle.close_laws.proofs.Fronts.{record_here}
-use Rattle.close_laws.proofs.Labelled.{not_without, ended_so, flush_of}
+use Rattle.close_laws.proofs.Labelled.{ended_so}
 
 module _ (layout : Layout) (start : Volume) (entries : List OldEntry) (named : Numbered) (first : Space) (begins : BeginsLabels layout start entries first)
     (moment : ℕ) (before : ℕ) where
   abbrev run : RunStart
-  run = record { layout = layout; moment = moment; parts = start.parts; gives = λ number. (bringing_of named number).parts }
+  run = run_from layout moment start named
 
   abbrev Place : List (Event Label) → BoxPast → List (Event Label) → Space → Type 0
   Place = PlaceSo layout start entries named first begins moment before
@@ -48,9 +49,6 @@ module _ (layout : Layout) (start : Volume) (entries : List OldEntry) (named : N
   abbrev Fronts : List Turn → Type 0
   Fronts turns = AreOneRecord start named run turns
 
-  abbrev flying : List Turn → List ℕ
-  flying turns = (disk_books run turns).flying
-
   module _ (done : List (Event Label)) (past : BoxPast) (core : CoreId) (rest : List (Event Label)) (space next : Space) (flies : Flies past)
       (fronts : Fronts past.turns) where
     abbrev Here : Label → Type 0
@@ -59,11 +57,8 @@ module _ (layout : Layout) (start : Volume) (entries : List OldEntry) (named : N
     abbrev There : Label → Type 0
     There fact = Place (done ++ Told core fact ∷ []) (after_label layout core.0 fact past) rest next
 
-    abbrev later_of : Label → BoxPast
-    later_of fact = after_label layout core.0 fact past
-
     abbrev Then : Label → Type 0
-    Then fact = Flies (later_of fact) × Fronts (later_of fact).turns
+    Then fact = Flies (after_label layout core.0 fact past) × Fronts (after_label layout core.0 fact past).turns
 
     abbrev dones : List ℕ
     dones = stamps_under named past.done
@@ -74,15 +69,13 @@ module _ (layout : Layout) (start : Volume) (entries : List OldEntry) (named : N
     abbrev FrontSo : List Turn → Type 0
     FrontSo = FrontAt layout start entries named first begins moment before dones opens
 
-    abbrev without : ℕ → List ℕ → List ℕ
-    without number numbers = filter (λ other. not (nat_eq other number)) numbers
-
     pub settled_so : (k : ℕ) (turn : Turn) → Here (label.Settled k turn) → There (label.Settled k turn) → EndsGrant past.opens turn.commit space next
         → (bringing_under named.pairs turn.stamp.0).flush ≡ flush_at turn → Then (label.Settled k turn)
     settled_so k turn at then ends tie = (
       so,
       fronts_push layout start entries named first begins moment before past.turns turn fronts
-          (record_here layout start entries named first begins moment before (done ++ Told core (label.Settled k turn) ∷ []) (later_of (label.Settled k turn)) rest next
+          (record_here layout start entries named first begins moment before (done ++ Told core (label.Settled k turn) ∷ [])
+          (after_label layout core.0 (label.Settled k turn) past) rest next
           then so),
     )
       where
@@ -97,15 +90,15 @@ module _ (layout : Layout) (start : Volume) (entries : List OldEntry) (named : N
             ap (λ (f : Flush). f.stamp) rule.is.flush_is
             ∙ (aloft.stamp_is ∙ ap named.stamps (sym rule.is.commit_is ∙ sym ends.own.number_is))
 
-        flying_is : flying (past.turns ++ turn ∷ []) ≡ without turn.commit (flying past.turns)
+        flying_is : flying run (past.turns ++ turn ∷ []) ≡ without turn.commit (flying run past.turns)
         flying_is =
             ap (λ (b : DiskBooks). b.flying) (books_on layout start entries named first begins moment before past.turns turn)
             ∙ ap (λ a. (book_act run.gives a turn.commit (disk_books run past.turns)).flying) rule.is.did_is
 
-        flown_then : (other : ℕ) → IsOneOf (flying (past.turns ++ turn ∷ [])) other
-            → FliesHere (later_of (label.Settled k turn)) other × WasOpened named (past.turns ++ turn ∷ []) other
+        flown_then : (other : ℕ) → IsOneOf (flying run (past.turns ++ turn ∷ [])) other
+            → FliesHere (after_label layout core.0 (label.Settled k turn) past) other × WasOpened named (past.turns ++ turn ∷ []) other
         flown_then other one =
-            let was = in_filter (λ n. not (nat_eq n turn.commit)) (flying past.turns) other (subst (λ l. IsOneOf l other) flying_is one) in
+            let was = in_filter (λ n. not (nat_eq n turn.commit)) (flying run past.turns) other (subst (λ l. IsOneOf l other) flying_is one) in
             let flight = flies.flown other was.0 in (
               record {
                 core = flight.core;
@@ -114,7 +107,7 @@ module _ (layout : Layout) (start : Volume) (entries : List OldEntry) (named : N
                 number_is = flight.number_is;
                 opened = flight.opened;
                 waits = at_other past.waits (owner layout k) (Some turn) flight.core (λ same.
-                    not_without layout start entries named first begins moment before done past core rest space next flies fronts turn.commit other was.1 (other_is flight same)) ∙ flight.waits;
+                    not_without turn.commit other was.1 (other_is flight same)) ∙ flight.waits;
               },
               opened_on layout start entries named first begins moment before past.turns (turn ∷ []) other (flies.opened other was.0),
             )
@@ -129,8 +122,10 @@ module _ (layout : Layout) (start : Volume) (entries : List OldEntry) (named : N
                 sym flight.number_is ∙ (ap (λ (f : SlotFlight). f.commit) one_flight
                 ∙ (sym by.flies.commit ∙ (ap (λ (w : SlotWork). w.commit) work_is ∙ sym rule.is.commit_is)))
 
-        so : Flies (later_of (label.Settled k turn))
+        so : Flies (after_label layout core.0 (label.Settled k turn) past)
         so =
-            ended_so layout start entries named first begins moment before done past core rest space next flies fronts (label.Settled k turn) at turn.commit ends.own past.turns turn refl rule.is.did_is
-            (flush_of layout start entries named first begins moment before done past core rest space next flies fronts ends.own.commit.number turn stamp tie) stamp refl refl
-            (subst (DifferBy named.stamps) (sym flying_is) (differ_fewer named.stamps (λ n. not (nat_eq n turn.commit)) (flying past.turns) flies.once)) flown_then
+            ended_so layout start entries named first begins moment before done past core rest space next flies fronts
+            (label.Settled k turn) at turn.commit ends.own past.turns turn refl rule.is.did_is
+            (flush_of named ends.own.commit.number turn stamp tie) stamp refl refl
+            (subst (DifferBy named.stamps) (sym flying_is) (differ_fewer named.stamps (λ n. not (nat_eq n turn.commit)) (flying run past.turns) flies.once))
+            flown_then

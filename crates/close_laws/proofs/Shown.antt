@@ -82,11 +82,13 @@ module _ (start : Volume) (entries : List OldEntry) (named : Numbered) (told : T
     flying_of number one = (in_filter shows.kept (disk_books run front).flying number one).0
 
     open_of : (number : ℕ) → IsOneOf (filter shows.kept (disk_books run front).flying) number
-        → IsOpenBeside (fronts front back split).place.volume (map (commit_under named.pairs) (fronts front back split).done) (named.pairs (named.stamps number))
+        → IsOpenBeside (fronts front back split).place.volume (map (commit_under named.pairs) (fronts front back split).done)
+        (named.pairs (named.stamps number))
     open_of number one =
         (fronts front back split).place.beside.opens (named.stamps number) ((fronts front back split).flies number (flying_of number one)).0
 
-    all_apart : (some : List ℕ) → DifferBy named.stamps some → ((number : ℕ) → IsOneOf some number → IsOneOf (filter shows.kept (disk_books run front).flying) number)
+    all_apart : (some : List ℕ) → DifferBy named.stamps some
+        → ((number : ℕ) → IsOneOf some number → IsOneOf (filter shows.kept (disk_books run front).flying) number)
         → AllApart (map (bringing_of named) some)
     all_apart [] differ within = tt
     all_apart (number ∷ some) differ within = (
@@ -96,12 +98,14 @@ module _ (start : Volume) (entries : List OldEntry) (named : Numbered) (told : T
           let theirs = within number (inl refl) in
           subst (λ b. BringApart b (bringing_of named number)) from.2
           (bring_apart (named.pairs (named.stamps from.0)) (named.pairs (named.stamps number)) (open_of from.0 mine).nodes (open_of number theirs).nodes
-          ((fronts front back split).place.beside.apart (named.stamps from.0) (named.stamps number) ((fronts front back split).flies from.0 (flying_of from.0 mine)).0
+          ((fronts front back split).place.beside.apart (named.stamps from.0) (named.stamps number)
+          ((fronts front back split).flies from.0 (flying_of from.0 mine)).0
           ((fronts front back split).flies number (flying_of number theirs)).0 (differ.0 from.0 from.1)))),
       all_apart some differ.1 (λ other one. within other (inr one)),
     )
 
-    pub later : (volume : Volume) × Imagines start (brought_under named.pairs (fronts front back split).done ++ map (bringing_of named) (filter shows.kept (disk_books run front).flying)) volume
+    pub later : (volume : Volume) × Imagines start
+        (brought_under named.pairs (fronts front back split).done ++ map (bringing_of named) (filter shows.kept (disk_books run front).flying)) volume
     later =
         all_end start (fronts front back split).place.volume (brought_under named.pairs (fronts front back split).done)
         (map (bringing_of named) (filter shows.kept (disk_books run front).flying)) (record {
@@ -130,7 +134,8 @@ module _ (start : Volume) (entries : List OldEntry) (named : Numbered) (told : T
           ∙ ap (λ f. f i)
           (kept_once named shows.kept (disk_books run front).flying (disk_books run front).base
           ∙ (ap (parts_once (map (bringing_of named) (filter shows.kept (disk_books run front).flying))) (fronts front back split).base
-          ∙ sym (once_both (brought_under named.pairs (fronts front back split).done) (map (bringing_of named) (filter shows.kept (disk_books run front).flying)) start.parts))));
+          ∙ sym (once_both (brought_under named.pairs (fronts front back split).done)
+          (map (bringing_of named) (filter shows.kept (disk_books run front).flying)) start.parts))));
     }
 
     pub read_there : IsReadAsTree image share (tree_held later.0)
@@ -145,7 +150,8 @@ module _ (start : Volume) (entries : List OldEntry) (named : Numbered) (told : T
     flushes_are =
         imagined.flushes
         ∙ (ap (λ l. l ++ map flush_brought all_brought_there) ends.none
-        ∙ (map-append flush_brought (brought_under named.pairs (fronts front back split).done) (map (bringing_of named) (filter shows.kept (disk_books run front).flying))
+        ∙ (map-append flush_brought (brought_under named.pairs (fronts front back split).done)
+        (map (bringing_of named) (filter shows.kept (disk_books run front).flying))
         ∙ ap (λ l. l ++ map flush_brought (map (bringing_of named) (filter shows.kept (disk_books run front).flying))) (fronts front back split).flushes))
 
     pub flushed_there : AreFlushed start.first history every_entry
@@ -158,7 +164,8 @@ module _ (start : Volume) (entries : List OldEntry) (named : Numbered) (told : T
     pub tree_there : tree_held later.0 ≡ tree_at_cut start.first history later.0.cut
     tree_there = ap (λ (p : TreeState × List Entry). tree_at_cut p.0 p.1 later.0.cut) (λ i. (imagined.first i, imagined.history i))
 
-    pub live_there : (flush : Flush) → IsOneOf (durables front ++ map flush_brought (map (bringing_of named) (filter shows.kept (disk_books run front).flying))) flush
+    pub live_there : (flush : Flush)
+        → IsOneOf (durables front ++ map flush_brought (map (bringing_of named) (filter shows.kept (disk_books run front).flying))) flush
         → HasLiveNode start.first history flush
     live_there flush one =
         subst (λ (p : TreeState × List Entry). HasLiveNode p.0 p.1 flush) (λ i. (imagined.first i, imagined.history i))
@@ -184,7 +191,8 @@ module _ (start : Volume) (entries : List OldEntry) (named : Numbered) (told : T
           (sym (fronts front back split).flushes ∙ done_flushes (fronts front back split).done) i,
           kept_flushes (filter shows.kept (disk_books run front).flying) i,
         ))
-        ∙ sym (map-append (λ s. (bringing_under named.pairs s).flush) (fronts front back split).done (map named.stamps (filter shows.kept (disk_books run front).flying)))
+        ∙ sym (map-append (λ s. (bringing_under named.pairs s).flush) (fronts front back split).done
+        (map named.stamps (filter shows.kept (disk_books run front).flying)))
 
     own_stamp : (stamp : ℕ) → IsOneOf all_stamps stamp → (bringing_under named.pairs stamp).flush.stamp ≡ stamp
     own_stamp stamp one = elim (in_either (fronts front back split).done (map named.stamps (filter shows.kept (disk_books run front).flying)) stamp one) [

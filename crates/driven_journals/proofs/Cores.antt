@@ -34,7 +34,7 @@ use Rattle.driven_journals.specs.declared.driven.Driven.{Driven}
 use Rattle.driven_journals.specs.declared.seat.Seat.{Seat}
 use Rattle.driven_journals.specs.Due.{DueFits, IsDue, IsEased, is_at_rest}
 use Rattle.driven_journals.specs.declared.due.Due.{Due}
-use Rattle.driven_journals.specs.Seats.{AreAtRest, AreNewSeats, EachGoes, IsDriven, SeatFits, SeatGoes, pen_of}
+use Rattle.driven_journals.specs.Seats.{AreAtRest, AreNewSeats, EachGoes, IsDriven, SeatFits, pen_of}
 
 module _ {D : Type 0} where
   -- a core's pen, place by place
@@ -107,7 +107,8 @@ module _ {D : Type 0} where
                   sym (ap (λ k. get_or seats k d) is.1 ∙ get_or_from_slice_get seats place was d there) i,
                   sym (get_or-set_at seats place j now d is.1 within) i,
                 )) goes
-            | inr is ↦ subst (λ (s : Seat D). PenGoes (get_or seats j d).pen s.pen) (sym (get_or-set_other seats place j now d is.1)) (stays (get_or seats j d).pen)
+            | inr is ↦ subst (λ (s : Seat D). PenGoes (get_or seats j d).pen s.pen) (sym (get_or-set_other seats place j now d is.1))
+                (stays (get_or seats j d).pen)
           ];
         }
 

@@ -1,7 +1,6 @@
 -- What is due of a core behind each call, by what it has told.
-use Rattle.std.proofs.Common.{◌≡◌, ◌∙◌, ◌||◌, ◌<◌, ℕ, Bool, true, false, List, Some, None, Result, Ok, Err, inl, inr, refl, sym, ap, subst}
+use Rattle.std.proofs.Common.{◌≡◌, ◌∙◌, ◌||◌, ◌<◌, ℕ, Bool, true, false, Some, None, Ok, Err, inl, inr, sym, ap, subst}
 use Rattle.sfs_image.specs.Super.{Layout}
-use Rattle.fmt_journal.specs.declared.tx.Tx.{Tx}
 use Rattle.cut_laws.specs.Closure.{Flush}
 use Rattle.space_map.specs.Space.{GrantedNumbers}
 use Rattle.stamp_table.specs.Table.{TableState}
@@ -9,21 +8,20 @@ use Rattle.slot_laws.specs.Labels.{OwnTold, ends_all}
 use Rattle.disk_box.specs.declared.key.BoxKey.{BoxKey}
 use Rattle.disk_box.specs.Pens.{IsOutside, PenGoes, PenHand, own_at}
 use Rattle.disk_box.specs.Turns.{FailsBegun, Halts}
-use Rattle.disk_box.specs.declared.turns.Fsync.{Fsync}
 use Rattle.journal_set.specs.declared.beginning.Writing.{Writing}
 use Rattle.journal_set.specs.declared.fault.Ack.{Ack}
 use Rattle.journal_set.specs.declared.fault.CommitFault.{CommitFault}
 use Rattle.journal_set.specs.declared.fault.CommitFault.TheVariants as fault
 use Rattle.journal_set.specs.declared.flying.Flight.{Flight}
 use Rattle.journal_set.specs.Beginning.{CanBeWritten}
-use Rattle.journal_set.specs.Committing.{BeginFails, BeginsFor, CanBeCommitted, Commits, IsPackedOf, WaitsToBegin}
+use Rattle.journal_set.specs.Committing.{BeginFails, BeginsFor, Commits, WaitsToBegin}
 use Rattle.journal_set.specs.Emptying.{Empties}
-use Rattle.journal_set.specs.Flying.{GoesOn, IsUnderWay, LandsWith, TurnFails, flight_of}
+use Rattle.journal_set.specs.Flying.{GoesOn, LandsWith, TurnFails, flight_of}
 use Rattle.journal_set.specs.Reserving.{ReserveRequest, Reserves}
 use Rattle.journal_set.specs.Ready.{IsReady}
 use Rattle.journal_set.specs.Returning.{ReturnsNumber}
 use Rattle.journal_set.proofs.BegunAround.{written_still}
-use Rattle.journal_set.proofs.Committed.{begun_under, packed_can_be_written}
+use Rattle.journal_set.proofs.Committed.{begun_under}
 use Rattle.journal_set.proofs.Turned.{under_again, under_told}
 use Rattle.driven_journals.specs.declared.due.Due.{Due}
 use Rattle.driven_journals.specs.Due.{DueFits, HasGrant, IsDue, IsEased, IsFree, IsToWrite, due_behind}
@@ -187,15 +185,11 @@ module _ {D : Type 0} (t : TableState BoxKey) (before after : PenHand D) (outsid
   pub has_now : (grant : GrantedNumbers) → IsToWrite grant after × ((own_at after).flight ≡ None) → HasGrant t after grant
   has_now grant is = record { outside = outside; room = subst (λ n. 0 < n) (sym same) some; writes = is.0; no_flight = is.1 }
 
--- What was packed with a grant is due, and can be written.
-pub packed_due : {D : Type 0} (t : TableState BoxKey) (pen : PenHand D) (layout : Layout) (tx : Tx) (grant : GrantedNumbers) (fsync : Fsync)
-    (writing : Writing) → HasGrant t pen grant → pen.table.given.layout ≡ layout → CanBeCommitted layout tx → IsPackedOf tx grant fsync writing
-    → DueFits t pen (due.Waits writing)
-packed_due t pen layout tx grant fsync writing has is can packed = record {
+-- What was packed with a grant and can be written is due.
+pub packed_due : {D : Type 0} (t : TableState BoxKey) (pen : PenHand D) (grant : GrantedNumbers) (writing : Writing) → HasGrant t pen grant
+    → writing.grant ≡ grant → CanBeWritten pen.table.given.layout writing → DueFits t pen (due.Waits writing)
+packed_due t pen grant writing has same can = record {
   outside = has.outside;
   room = has.room;
-  is = (
-    record { grant_is = has.writes.grant_is ∙ ap Some (sym packed.grant_is); goes_on = has.writes.goes_on },
-    subst (λ l. CanBeWritten l writing) (sym is) (packed_can_be_written layout tx grant fsync writing can packed),
-  );
+  is = (record { grant_is = has.writes.grant_is ∙ ap Some (sym same); goes_on = has.writes.goes_on }, can);
 }

@@ -1,5 +1,5 @@
 -- All cores of a disk that are driven.
-use Rattle.std.specs.Prelude.{◌≡◌, ◌<◌, ℕ, All, List, [], length, map, slice_index_or, true}
+use Rattle.std.specs.Prelude.{◌≡◌, ◌<◌, ℕ, All, List, length, map, slice_index_or, true}
 use Rattle.sfs_image.specs.Super.{Layout}
 use Rattle.stamp_table.specs.Table.{AreAllCores, TableState}
 use Rattle.disk_box.specs.declared.key.BoxKey.{BoxKey}

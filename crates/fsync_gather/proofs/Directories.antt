@@ -1,26 +1,27 @@
 -- What was merged of each directory up to one, and of all.
-use Rattle.std.proofs.Common.{◌≡◌, ◌⊎◌, ℕ, zero, suc, ◌<◌, ◌≤◌, ◌-◌, ◌^◌, Bool, true, false, List, [], ◌∷◌, ◌++◌, map, length, Option, Some, None, inl, inr, refl, sym, subst, arith}
 use Rattle.std.specs.Prelude.{All, nat_lt, slice_index_or}
 use Rattle.std.specs.List.Sorted.{IsStrictlyIncreasing}
-use Rattle.std.proofs.lemmas.Bool.{ltb-true, ltb-false, cases_Bool}
-use Rattle.std.proofs.lemmas.List.{map-append}
 use borrow.Author.Tests.{eq-eqb}
+use Rattle.std.proofs.Common.{◌≡◌, ◌⊎◌, ◌<◌, ◌≤◌, ◌-◌, ◌^◌, ◌∷◌, ◌++◌, ℕ, zero, suc, Bool, true, false, List, [], map, length, Option, Some, None, inl, inr, refl, sym, subst, arith}
+use Rattle.std.proofs.lemmas.Bool.{ltb-true, ltb-false}
+use Rattle.std.proofs.lemmas.List.{map-append}
 use Rattle.sfs_base.specs.declared.numbers.NodeId.{NodeId}
+use Rattle.sfs_base.proofs.BasicNumbers.{not_below}
 use Rattle.sfs_base.proofs.BasicTruth.{true_not_false}
 use Rattle.tree_laws.specs.declared.changes.Change.{Change}
+use Rattle.mem_cells.specs.Log.{log_place}
+use Rattle.mem_cells.specs.Part.{CoreLog, changes_kept, is_after}
 use Rattle.cut_laws.specs.Rules.{IsOneOf}
 use Rattle.cut_laws.proofs.Basics.{in_left, in_right, in_either}
 use Rattle.cut_laws.proofs.Listed.{from_map, to_filter}
 use Rattle.cut_laws.proofs.RunFacts.{in_filter}
-use Rattle.mem_cells.specs.Log.{log_place}
-use Rattle.mem_cells.specs.Part.{CoreLog, changes_kept, is_after}
 use Rattle.log_merge.specs.Merge.{is_under, stands_at, part_changes, parts_changes, IsMergeOf}
 use Rattle.dep_closure.specs.declared.gathered.DirectoryChanges.{DirectoryChanges}
 use Rattle.dep_closure.specs.Gathered.{log_directory, IsOwnLog}
 use Rattle.dep_closure.proofs.Looked.{one_of_all}
 use Rattle.core_logs.specs.Logs.{blank_part}
 use Rattle.core_logs.proofs.Ordered.{all_of}
-use Rattle.note_laws.specs.Merged.{EndBelow, IsMergedOf, AreMergedOf}
+use Rattle.note_laws.specs.Merged.{IsMergedOf, AreMergedOf}
 use Rattle.fsync_gather.specs.Next.{KeepNone, IsLeastOfAll, IsNextOfAll}
 use Rattle.fsync_gather.specs.Gathers.{KeepOwn}
 use Rattle.fsync_gather.proofs.Rising.{push_rises}
@@ -87,24 +88,18 @@ not_after None next directory is not = absurd (true_not_false not)
 not_after (Some node) next directory is not =
     let lt = ltb-true node.0 next is in let le = ltb-false node.0 directory not in omega (arith, lt, le)
 
-ltb_no : (one other : ℕ) → other ≤ one → nat_lt one other ≡ false
-ltb_no one other le = elim (cases_Bool (nat_lt one other)) [
-  | inl is ↦ let lt = ltb-true one other is in absurd (omega (arith, lt, le))
-  | inr not ↦ not
-]
-
 -- the next directory's log goes behind
-pub merged_more : (parts : List CoreLog) (after : Option NodeId) (logs : List DirectoryChanges) (one : DirectoryChanges) (all : ℕ) → KeepOwn parts
-    → EndBelow parts all → IsLeastOfAll parts after one.dir.0 → IsMergeOf (parts_changes one.dir.0 all parts) one.changes.items
-    → MergedSoFar parts after logs → MergedSoFar parts (Some one.dir) (logs ++ one ∷ [])
-merged_more parts after logs one all keep ends least is so_far = record {
+pub merged_more : (parts : List CoreLog) (after : Option NodeId) (logs : List DirectoryChanges) (one : DirectoryChanges) → KeepOwn parts
+    → IsLeastOfAll parts after one.dir.0 → IsMergedOf parts one → MergedSoFar parts after logs → MergedSoFar parts (Some one.dir) (logs ++ one ∷ [])
+merged_more parts after logs one keep least is so_far = record {
   rise = subst IsStrictlyIncreasing (sym (map-append log_directory logs (one ∷ [])))
       (push_rises (map log_directory logs) one.dir.0 so_far.rise (λ n among.
       let log = from_map log_directory logs n among in subst (λ m. m < one.dir.0) log.2 (below log.0 log.1)));
   reached = λ log there. of_each (λ (l : DirectoryChanges). is_after (Some one.dir) l.dir.0 ≡ false)
-      (λ other among. let lt = below other among in ltb_no one.dir.0 other.dir.0 (omega (arith, lt))) (ltb_no one.dir.0 one.dir.0 (omega arith)) log there;
-  merged = of_each (IsMergedOf parts) so_far.merged (record { all = all; below = ends; merge = is });
-  own = of_each IsOwnLog so_far.own (own_merge parts all one keep is);
+      (λ other among. let lt = below other among in not_below one.dir.0 other.dir.0 (omega (arith, lt)))
+      (not_below one.dir.0 one.dir.0 (omega arith)) log there;
+  merged = of_each (IsMergedOf parts) so_far.merged is;
+  own = of_each IsOwnLog so_far.own (own_merge parts is.all one keep is.merge);
   covered = λ directory upto. by directory upto (is_after after directory) refl;
 }
   where

@@ -12,7 +12,8 @@ pub none_follows : (after : Option NodeId) → IsNextOfAll [] after None
 none_follows after directory is log one = absurd one
 
 -- one more log keeps none either
-none_more : (parts : List CoreLog) (log : CoreLog) (directory : ℕ) → KeepNone parts directory → changes_kept log directory ≡ [] → KeepNone (parts ++ log ∷ []) directory
+none_more : (parts : List CoreLog) (log : CoreLog) (directory : ℕ) → KeepNone parts directory → changes_kept log directory ≡ []
+    → KeepNone (parts ++ log ∷ []) directory
 none_more parts log directory none own other one = elim (in_either parts (log ∷ []) other one) [
   | inl there ↦ none other there
   | inr last ↦ elim last [ inl same ↦ subst (λ (l : CoreLog). changes_kept l directory ≡ []) same own | inr past ↦ absurd past ]

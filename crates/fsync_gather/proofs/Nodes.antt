@@ -1,9 +1,9 @@
 -- What is gathered of the nodes that are held.
-use Rattle.std.proofs.Common.{◌≡◌, ℕ, ◌+◌, ◌<◌, Bool, true, false, nat_eq, List, [], ◌∷◌, ◌++◌, map, length, take, get_or, Option, Some, None, IsSome, inl, inr, refl, sym, ap, ◌∙◌, subst}
-use Rattle.std.specs.Prelude.{All, filter_map, option_map, is_some, if◌then◌else◌}
+use Rattle.std.specs.Prelude.{if◌then◌else◌, All, filter_map, option_map, is_some}
 use Rattle.std.specs.Option.{unwrap_or}
 use Rattle.std.specs.List.{find, cons_option}
 use Rattle.std.specs.List.Sorted.{IsStrictlyIncreasing}
+use Rattle.std.proofs.Common.{◌≡◌, ◌+◌, ◌<◌, ◌∷◌, ◌++◌, ◌∙◌, ℕ, Bool, true, false, nat_eq, List, [], map, length, take, get_or, Option, Some, None, IsSome, inl, inr, refl, sym, ap, subst}
 use Rattle.std.proofs.lemmas.Bool.{cases_Bool}
 use Rattle.std.proofs.lemmas.List.{take_more}
 use Rattle.std.proofs.lemmas.List.Elements.{filter_map-append, All-head, All-tail}
@@ -14,15 +14,16 @@ use Rattle.sfs_base.proofs.BasicOptions.{none_some, some_same}
 use Rattle.tree_laws.specs.NameRow.{node_number, number_of}
 use Rattle.cut_laws.specs.Rules.{IsOneOf}
 use Rattle.cut_laws.proofs.Listed.{from_map, to_map, listed_one}
+use Rattle.look_laws.specs.Look.{Born}
 use Rattle.dep_closure.specs.declared.gathered.Gathered.{Gathered}
 use Rattle.dep_closure.specs.declared.gathered.NodeCut.{NodeCut}
 use Rattle.dep_closure.specs.declared.gathered.NodeBirth.{NodeBirth}
 use Rattle.dep_closure.specs.Gathered.{cut_in, cut_node, birth_node, born_as, log_directory, IsOwnLog, IsOrderly}
-use Rattle.dep_closure.proofs.Looked.{found_listed, only_one}
-use Rattle.look_laws.specs.Look.{Born}
+use Rattle.dep_closure.proofs.Looked.{found_listed, one_of_all, only_one}
 use Rattle.stamp_table.specs.declared.held.HeldCell.{HeldCell}
 use Rattle.mem_values.specs.declared.cell.Cell.{Cell}
 use Rattle.mem_values.specs.declared.cell.Pending.{Pending}
+use Rattle.mem_values.proofs.Basics.{is_value}
 use Rattle.mem_calls.specs.Held.{pending_held}
 use Rattle.fsync_gather.specs.Gathers.{IsHeldOf, SeenNode, node_seen, nodes_seen, cut_seen, birth_seen, inode_seen, GathersNode, GathersNodes}
 use Rattle.fsync_gather.proofs.Rising.{from_given, to_given, given_rise}
@@ -75,17 +76,6 @@ held_seen : (nodes : ℕ) (cells : List (HeldCell Cell)) (list : List NodeId) (n
     → pending_held nodes cells node ≡ Some value → IsOneOf (nodes_seen nodes cells list) (record { node = node; value = value })
 held_seen nodes cells list node value one held =
     to_given (node_seen nodes cells) list node (record { node = node; value = value }) one (ap (option_map (λ v. record { node = node; value = v })) held)
-
-some_value : {X : Type 0} (o : Option X) → IsSome o → (x : X) × (o ≡ Some x)
-some_value None some = absurd (true_not_false (sym some))
-some_value (Some x) some = (x, refl)
-
-one_holds : {X : Type 0} (P : X → Type 0) (xs : List X) (x : X) → All P xs → IsOneOf xs x → P x
-one_holds P [] x all one = absurd one
-one_holds P (first ∷ xs) x all one = elim one [
-  | inl same ↦ subst P same (All-head P first xs all)
-  | inr later ↦ one_holds P xs x (All-tail P first xs all) later
-]
 
 -- All that a gathering has of the nodes is what is given of those that were seen.
 pub record AreGiven (nodes : ℕ) (cells : List (HeldCell Cell)) (list : List NodeId) (gathered : Gathered) : Type 0 where
@@ -155,7 +145,7 @@ module _ (nodes : ℕ) (cells : List (HeldCell Cell)) (list : List NodeId) (gath
         subst (λ (n : NodeId). IsOneOf list n) (λ i. record { 0 = found.2 i }) found.1
 
     found_value : (value : Pending) × (pending_held nodes cells id_of ≡ Some value)
-    found_value = some_value (pending_held nodes cells id_of) (one_holds (IsHeldOf nodes cells) list id_of held in_list)
+    found_value = is_value (pending_held nodes cells id_of) (one_of_all (IsHeldOf nodes cells) list id_of held in_list)
 
     abbrev own_seen : SeenNode
     own_seen = record { node = id_of; value = found_value.0 }
@@ -268,4 +258,5 @@ module _ (nodes : ℕ) (cells : List (HeldCell Cell)) (list : List NodeId) (gath
         not_seen node none seen.0 seen.1 (sym (birth_own seen.0 birth.0 seen.2) ∙ ap (λ (b : Born). b.node) birth.2)
 
   pub gathers_nodes : GathersNodes nodes cells list gathered
-  gathers_nodes = record { each = gathers_node; other_cuts = no_cut; other_inodes = no_inode; other_births = λ node directory none. no_birth node none directory }
+  gathers_nodes = record
+      { each = gathers_node; other_cuts = no_cut; other_inodes = no_inode; other_births = λ node directory none. no_birth node none directory }

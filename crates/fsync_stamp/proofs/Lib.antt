@@ -1,3 +1,4 @@
 pub mod Fsyncs
 pub mod Stamped
 pub mod Waiting
+pub mod Copies

@@ -1,6 +1,7 @@
 -- An fsync that is stamped by what its core holds: it may come, the cells go home, and the core waits.
 use Rattle.std.proofs.Common.{◌≡◌, ◌<◌, ◌≤◌, ◌^◌, ℕ, Bool, true, false, List, [], ◌∷◌, ◌++◌, length, reverse, Option, Some, None, inl, inr, refl, sym, ap, subst, ◌∙◌, arith}
 use Rattle.std.specs.Prelude.{if◌then◌else◌}
+use Rattle.std.proofs.lemmas.Option.{option_and_then_some}
 use Rattle.disk_nodes.specs.OldKept.{OldKept}
 use Rattle.sfs_base.specs.declared.numbers.NodeId.{NodeId}
 use Rattle.tree_laws.specs.Tree.{TreeState, is_alive, made_by}
@@ -27,6 +28,7 @@ use Rattle.stamp_table.proofs.Calling.{calls_snoc}
 use Rattle.stamp_table.proofs.Replacing.{same_places}
 use Rattle.mem_values.specs.Start.{FileHand, FileState}
 use Rattle.mem_values.specs.declared.cell.Cell.{Cell}
+use Rattle.mem_values.specs.declared.cell.FileCell.{FileCell}
 use Rattle.mem_values.specs.declared.cell_id.CellId.{CellId}
 use Rattle.mem_values.specs.declared.cell_id.CellId.TheVariants as id
 use Rattle.mem_values.specs.declared.fact.Fact.{Fact}
@@ -35,17 +37,18 @@ use Rattle.mem_values.specs.Facts.{IsLawfulLog}
 use Rattle.mem_values.specs.Laws.{CallFits, MayMeet}
 use Rattle.mem_values.specs.Logs.{entry_logged}
 use Rattle.mem_values.specs.Places.{cell_place, IsCell}
-use Rattle.mem_values.specs.Stands.{StandsForCell, StandsAt}
+use Rattle.mem_values.specs.Stands.{StandsFile, StandsForCell, StandsAt}
 use Rattle.mem_values.proofs.Kept.{same_tree}
 use Rattle.mem_values.proofs.Stamping.{calls_may_come}
 use Rattle.mem_calls.specs.Table.{IsFileTable}
-use Rattle.mem_calls.specs.Held.{value_held, part_held, HoldsPart, InEach}
+use Rattle.mem_calls.specs.Held.{as_file, file_held, value_held, part_held, HoldsPart, InEach}
 use Rattle.mem_calls.specs.Parts.{MayTake, TakesEntry}
 use Rattle.mem_calls.specs.Working.{IsWorking}
 use Rattle.mem_calls.proofs.Finished.{of_changed, none_left, held_mid, view_held_mid, core_mid, part_stood, part_home, few_entries}
 use Rattle.mem_calls.proofs.Nothing.{no_changes, nothing_keeps, nothing_or_part}
 use Rattle.mem_calls.proofs.Stamped as stamped
-use Rattle.fsync_stamp.specs.Stamping.{EndsStamp, reply_for_now}
+use Rattle.mem_calls.proofs.Unlinked.{file_of_value}
+use Rattle.fsync_stamp.specs.Stamping.{EndsStamp, StampsHeld, reply_for_now}
 use Rattle.fsync_stamp.proofs.Fsyncs.{changes_nothing, is_due, unacknowledged}
 
 -- An fsync may be stamped where it is known whether its node is alive, and the own log is held.
@@ -220,3 +223,17 @@ module _ (given : ℕ → Option OldKept) (t : FileState) (nodes : ℕ) (before 
                 let s = stamps.spare in
                 omega (arith, same, s);
           }
+
+      -- and by what was held
+      pub held_ends : last.held ≡ left_below 0 final.held → last.view.held ≡ reverse (places_of last.held) → StampsHeld t nodes node lives number before last
+      unfolding ends
+      held_ends left places = record {
+        ends = ends left places;
+        met = subst (λ f. MayMeet before.view before.held (tree_after f (calls_in log))) work.first
+            (stamped.meets given t nodes before table work c reply number mid stamps);
+        stood = λ file within held.
+            subst (λ f. StandsFile f (calls_in log) node.0 file) work.first
+            (option_and_then_some as_file (value_held nodes before.held (id.File node)) file held (λ value found kind.
+            file_of_value given before.view.first log node value file kind
+            (stamped.stood given t nodes before table work c reply number mid stamps (id.File node) value within found)));
+      }

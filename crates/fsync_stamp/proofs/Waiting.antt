@@ -32,7 +32,7 @@ use Rattle.fsync_stamp.specs.Stamping.{EndsStamp, StampsFsync, ComesToStamp, Wai
 use Rattle.fsync_stamp.proofs.Fsyncs.{verdict_is}
 
 -- two cores that are the same as a third one's pause before
-same_on : (before mid after : FileHand) → IsSameCore before mid → IsSameCore mid after → IsSameCore before after
+pub same_on : (before mid after : FileHand) → IsSameCore before mid → IsSameCore mid after → IsSameCore before after
 same_on before mid after first then = record {
   table = then.table ∙ first.table;
   cores = then.cores ∙ first.cores;
@@ -54,7 +54,7 @@ behind_log before after log entry began seen stamped =
     )
 
 -- what a core does while it works on leaves the stamp of an fsync as it is
-pub on_stamp : (t : FileState) (node : NodeId) (lives : Bool) (stamp : ℕ) (before mid after : FileHand) → WorksOn before mid
+abbrev pub on_stamp : (t : FileState) (node : NodeId) (lives : Bool) (stamp : ℕ) (before mid after : FileHand) → WorksOn before mid
     → EndsStamp t node lives stamp mid after → EndsStamp t node lives stamp before after
 on_stamp t node lives stamp before mid after on ends =
     let core_is = ap (λ (v : View TreeState (Event Fact)). v.core) on.view in
@@ -85,7 +85,7 @@ on_stamp t node lives stamp before mid after on ends =
     }
 
 -- the fsync of a live node waits
-pub stamps_live : (t : FileState) (node : NodeId) (stamp : ℕ) (before after : FileHand) → before.held ≡ [] → EndsStamp t node true stamp before after
+abbrev pub stamps_live : (t : FileState) (node : NodeId) (stamp : ℕ) (before after : FileHand) → before.held ≡ [] → EndsStamp t node true stamp before after
     → StampsFsync t node stamp before after
 stamps_live t node stamp before after none ends =
     let stamped : ends.entry.stamp.0 ≡ length (calls_in ends.log) = ap (λ (e : Entry). e.stamp.0) ends.entry_is in

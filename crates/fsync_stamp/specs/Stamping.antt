@@ -16,7 +16,11 @@ use Rattle.stamp_table.specs.declared.event.Event.TheVariants.{Called}
 use Rattle.stamp_table.specs.Events.{calls_in}
 use Rattle.stamp_table.specs.Table.{entry_numbered, GivesAnswer, IsBetweenCalls, IsSameCore}
 use Rattle.mem_values.specs.Start.{FileHand, FileState}
+use Rattle.mem_values.specs.declared.cell.FileCell.{FileCell}
 use Rattle.mem_values.specs.declared.fact.Fact.{Fact}
+use Rattle.mem_values.specs.Laws.{MayMeet}
+use Rattle.mem_values.specs.Stands.{StandsFile}
+use Rattle.mem_calls.specs.Held.{file_held}
 use Rattle.mem_calls.specs.Outcome.{IsAnswered}
 use Rattle.fsync_stamp.specs.Adding.{AddsCall}
 
@@ -87,6 +91,12 @@ pub record EndsStamp (t : FileState) (node : NodeId) (lives : Bool) (stamp : ℕ
   pub alive : is_alive (tree_after t.first (calls_in log)) node.0 ≡ lives
   pub room : after.room ≡ before.room + length before.held
   pub spare : after.spare + 1 ≡ before.spare
+
+-- So it did by what it held: the tree at the stamp is one that this could meet, and the node's file, where it was held, stood there.
+pub record StampsHeld (t : FileState) (nodes : ℕ) (node : NodeId) (lives : Bool) (stamp : ℕ) (before after : FileHand) : Type 0 where
+  pub ends : EndsStamp t node lives stamp before after
+  pub met : MayMeet before.view before.held (tree_after t.first (calls_in ends.log))
+  pub stood : (value : FileCell) → node.0 < nodes → file_held nodes before.held node ≡ Some value → StandsFile t.first (calls_in ends.log) node.0 value
 
 -- What the stamp of an fsync comes to: that of a live node waits, and that of a dead one has its answer.
 abbrev pub ComesToStamp : FileState → NodeId → FileHand → FileHand → Option Stamp → Type 0

@@ -7,7 +7,7 @@ ghost use Rattle.mem_values.specs.Start.{given_by};
 ghost use Rattle.mem_calls.specs.Table.{IsFileTable};
 ghost use Rattle.mem_calls.specs.Held.{HoldsDirectory, HoldsPart, InEach};
 ghost use Rattle.mem_calls.specs.Working.{IsWorking};
-ghost use Rattle.fsync_stamp.specs.Stamping.{ComesToStamp, EndsStamp, is_dead_fault, reply_for_now};
+ghost use Rattle.fsync_stamp.specs.Stamping.{ComesToStamp, StampsHeld, is_dead_fault, reply_for_now};
 
 use mem_calls::{add_entry, directory_fault_in, hold_directory, hold_part};
 use mem_values::{FileCore, FileShared};
@@ -20,7 +20,7 @@ use tree_laws::{Call, Changes, Code, Reply};
 pub const STAMP_CELLS: u32 = 3;
 
 // Whether a fault of a node as a directory is that it is not alive.
-fn is_dead_fault(fault: Option<Code>) -> bool
+pub(crate) fn is_dead_fault(fault: Option<Code>) -> bool
     ensures { result ≡ is_dead_fault fault }
 {
     match fault {
@@ -52,7 +52,7 @@ fn reply_for_now(lives: bool) -> Reply
 }
 
 // Stamps the fsync of a node by what is held, counts its entry, and lets go of all cells.
-fn stamp_held(
+pub(crate) fn stamp_held(
     alloc: Global,
     shared: &FileShared,
     core: &mut FileCore,
@@ -66,7 +66,7 @@ fn stamp_held(
     requires part { HoldsPart nodes core.old }
     requires spare { 0 < core.old.spare }
     requires lives { InEach core.old (λ tree. lives ≡ is_alive tree node.0) }
-    ensures { EndsStamp shared.now node lives result.0 core.old core.new }
+    ensures { StampsHeld shared.now nodes node lives result.0 core.old core.new }
 {
     core.calls_are_few();
     let stamp = core.stamp(shared, Call::Fsync { node }, reply_for_now(lives));

@@ -1,18 +1,15 @@
 -- Values are lent one after another, and restored from the last one on.
-use Rattle.std.proofs.Common.{◌≡◌, ℕ, zero, suc, ◌+◌, ◌-◌, ◌<◌, ◌≤◌, true, false, Bool, List, [], ◌∷◌, ◌++◌, map, length, take, drop, set, get_or, Option, Some, None, IsSome, inl, inr, refl, sym, ap, ◌∙◌, subst, arith, append-nil, length-append}
 use Rattle.std.specs.Prelude.{option_map, is_some}
 use Rattle.std.specs.List.{cons_option}
-use Rattle.std.specs.List.Sorted.{IsStrictlyIncreasing}
+use Rattle.std.proofs.Common.{◌≡◌, ◌+◌, ◌-◌, ◌<◌, ◌≤◌, ◌∷◌, ◌++◌, ◌∙◌, ℕ, zero, suc, true, false, List, [], map, length, take, drop, set, get_or, Option, Some, None, refl, sym, ap, subst, arith, append-nil, length-append}
 use Rattle.std.proofs.lemmas.List.{length-map, take_all, get_or-set_same, set-get_or, set-set}
 use Rattle.sfs_base.specs.declared.numbers.NodeId.{NodeId}
-use Rattle.sfs_base.proofs.BasicOptions.{none_some, some_same}
 use Rattle.sfs_base.proofs.BasicTruth.{true_not_false}
-use Rattle.tree_laws.specs.NameRow.{node_number}
 use Rattle.disk_nodes.specs.OldKept.{OldKept}
 use Rattle.disk_nodes.specs.declared.old.OldEntry.{OldEntry}
-use Rattle.disk_nodes.specs.Nodes.{entry_node}
 use Rattle.mem_values.specs.declared.cell.Cell.{Cell}
 use Rattle.mem_values.specs.declared.cell.Cell.TheVariants as cell
+use Rattle.mem_values.proofs.Basics.{is_value}
 use Rattle.fsync_values.specs.Lending.{HOLLOW, old_of_value, with_old, lent_value, entry_of, entries_of, IsLent}
 
 -- the values once the first ones are lent
@@ -44,10 +41,14 @@ lent_all [] at all = subst (λ n. lent_until n [] ≡ []) (sym all) refl
 lent_all (v ∷ values) at all =
     subst (λ n. lent_until n (v ∷ values) ≡ map lent_value (v ∷ values)) (sym all) (ap (λ l. lent_value v ∷ l) (lent_all values (length values) refl))
 
+-- entries, and behind them that of a node, where the disk has something of it
+abbrev pub with_entry : List OldEntry → NodeId → Option OldKept → List OldEntry
+with_entry entries node old = entries ++ cons_option (option_map (λ o. record { node = node; old = o }) old) []
+
 -- the entries of the first ones, with the next one's
 pub entries_next : (at : ℕ) (nodes : List NodeId) (values : List Cell) (n : NodeId) (v : Cell) → length values ≡ length nodes → at < length nodes
     → entries_of (take (at + 1) nodes) (take (at + 1) values)
-    ≡ entries_of (take at nodes) (take at values) ++ cons_option (entry_of (get_or nodes at n) (get_or values at v)) []
+    ≡ with_entry (entries_of (take at nodes) (take at values)) (get_or nodes at n) (old_of_value (get_or values at v))
 entries_next at [] values n v long within = absurd (omega (arith, within))
 entries_next at (m ∷ nodes) [] n v long within = absurd (omega (arith, long))
 entries_next zero (m ∷ nodes) (w ∷ values) n v long within = refl
@@ -104,35 +105,10 @@ none_restored nodes was now old at all lent =
     let long : at ≡ length was = all ∙ ap length lent.values ∙ length-map was lent_value in
     record {
       values = lent.values ∙ sym (lent_all was at long);
-      entries = lent.entries ∙ (λ i. entries_of (sym (take_all at nodes (let n = long ∙ lent.count in omega (arith, n))) i) (sym (take_all at was (omega (arith, long))) i));
+      entries = lent.entries
+          ∙ (λ i. entries_of (sym (take_all at nodes (let n = long ∙ lent.count in omega (arith, n))) i) (sym (take_all at was (omega (arith, long))) i));
       count = lent.count;
     }
-
--- where the value before a place had nothing it is restored as it is
-pub one_without : (at : ℕ) (nodes : List NodeId) (was now : List Cell) (left : List OldEntry) (d : Cell) → at < length was
-    → is_some (old_of_value (get_or now at d)) ≡ false → IsRestored (at + 1) nodes was now left → IsRestored at nodes was now left
-one_without at nodes was now left d within has_none so_far = record {
-  values = so_far.values ∙ sym (lent_next at was d within) ∙ here;
-  entries = so_far.entries ∙ entries_next at nodes was (record { 0 = 0 }) d so_far.count (let same = so_far.count in omega (arith, within, same))
-      ∙ ap (λ o. entries_of (take at nodes) (take at was) ++ cons_option (option_map (λ old. record { node = get_or nodes at (record { 0 = 0 }); old = old }) o) []) none
-      ∙ append-nil (entries_of (take at nodes) (take at was));
-  count = so_far.count;
-}
-  where
-    there : get_or now at d ≡ lent_value (get_or was at d)
-    there = ap (λ l. get_or l at d) (so_far.values ∙ sym (lent_next at was d within))
-        ∙ get_or-set_same (lent_until at was) at (lent_value (get_or was at d)) d (subst (λ n. at < n) (sym (lent_long at was)) within)
-
-    none_of : (o : Option OldKept) → is_some o ≡ false → o ≡ None
-    none_of None is = refl
-    none_of (Some x) is = absurd (true_not_false is)
-
-    none : old_of_value (get_or was at d) ≡ None
-    none = none_of (old_of_value (get_or was at d))
-        (sym (lent_has (get_or was at d)) ∙ ap (λ v. is_some (old_of_value v)) (sym there) ∙ has_none)
-
-    here : set (lent_until at was) at (lent_value (get_or was at d)) ≡ lent_until at was
-    here = ap (set (lent_until at was) at) (lent_same (get_or was at d) none ∙ sym (lent_there at was d within)) ∙ set-get_or (lent_until at was) at d
 
 -- a list with one at its end tells that and what is before
 last_one : {A : Type 0} (xs ys : List A) (x y : A) → xs ++ x ∷ [] ≡ ys ++ y ∷ [] → (xs ≡ ys) × (x ≡ y)
@@ -144,9 +120,9 @@ last_one (z ∷ xs) (w ∷ ys) x y same = let rest = last_one xs ys x y (cc same
     heads : z ≡ w
     heads = cc same
 
--- a value before a place had something: it gets it back, and its entry goes
+-- The value before a place is restored.
 module _ (at : ℕ) (nodes : List NodeId) (was now : List Cell) (left : List OldEntry) (d : Cell) (within : at < length was)
-    (has : is_some (old_of_value (get_or now at d)) ≡ true) (so_far : IsRestored (at + 1) nodes was now left) where
+    (so_far : IsRestored (at + 1) nodes was now left) where
   abbrev value : Cell
   value = get_or was at d
 
@@ -157,35 +133,56 @@ module _ (at : ℕ) (nodes : List NodeId) (was now : List Cell) (left : List Old
   there = ap (λ l. get_or l at d) (so_far.values ∙ sym (lent_next at was d within))
       ∙ get_or-set_same (lent_until at was) at (lent_value value) d (subst (λ n. at < n) (sym (lent_long at was)) within)
 
-  some_of : (o : Option OldKept) → is_some o ≡ true → (x : OldKept) × (o ≡ Some x)
-  some_of None is = absurd (true_not_false (sym is))
-  some_of (Some x) is = (x, refl)
+  has_same : is_some (old_of_value value) ≡ is_some (old_of_value (get_or now at d))
+  has_same = sym (lent_has value) ∙ ap (λ v. is_some (old_of_value v)) (sym there)
 
-  found : (old : OldKept) × (old_of_value value ≡ Some old)
-  found = some_of (old_of_value value) (sym (lent_has value) ∙ ap (λ v. is_some (old_of_value v)) (sym there) ∙ has)
-
-  left_is : left ≡ entries_of (take at nodes) (take at was) ++ record { node = node; old = found.0 } ∷ []
+  left_is : left ≡ with_entry (entries_of (take at nodes) (take at was)) node (old_of_value value)
   left_is = so_far.entries ∙ entries_next at nodes was (record { 0 = 0 }) d so_far.count (let same = so_far.count in omega (arith, within, same))
-      ∙ ap (λ o. entries_of (take at nodes) (take at was) ++ cons_option (option_map (λ old. record { node = node; old = old }) o) []) found.1
 
-  pub some_left : left ≡ [] → ⊥
-  some_left none =
-      let long = ap length (sym none ∙ left_is) ∙ length-append (entries_of (take at nodes) (take at was)) (record { node = node; old = found.0 } ∷ []) in
-      omega (arith, long)
+  -- where it had nothing it is as it was
+  pub one_without : is_some (old_of_value (get_or now at d)) ≡ false → IsRestored at nodes was now left
+  one_without has_none = record {
+    values = so_far.values ∙ sym (lent_next at was d within)
+        ∙ (ap (set (lent_until at was) at) (lent_same value none ∙ sym (lent_there at was d within)) ∙ set-get_or (lent_until at was) at d);
+    entries = left_is ∙ ap (with_entry (entries_of (take at nodes) (take at was)) node) none ∙ append-nil (entries_of (take at nodes) (take at was));
+    count = so_far.count;
+  }
+    where
+      none_of : (o : Option OldKept) → is_some o ≡ false → o ≡ None
+      none_of None is = refl
+      none_of (Some x) is = absurd (true_not_false is)
 
-  pub one_back : (front : List OldEntry) (entry : OldEntry) → left ≡ front ++ entry ∷ []
-      → IsRestored at nodes was (set now at (with_old (Some entry.old) (get_or now at d))) front
-  one_back front entry is =
-      let same = last_one front (entries_of (take at nodes) (take at was)) entry (record { node = node; old = found.0 }) (sym is ∙ left_is) in
-      record {
-        values =
-            (λ i. set ((so_far.values ∙ sym (lent_next at was d within)) i) at (with_old (Some (ap (λ (e : OldEntry). e.old) same.1 i)) (there i)))
-            ∙ set-set (lent_until at was) at (lent_value value) (with_old (Some found.0) (lent_value value))
-            ∙ ap (set (lent_until at was) at) (lent_back value found.0 found.1 ∙ sym (lent_there at was d within))
-            ∙ set-get_or (lent_until at was) at d;
-        entries = same.0;
-        count = so_far.count;
-      }
+      none : old_of_value value ≡ None
+      none = none_of (old_of_value value) (has_same ∙ has_none)
+
+  -- where it had something it gets it back, and its entry goes
+  module _ (has : is_some (old_of_value (get_or now at d)) ≡ true) where
+    found : (old : OldKept) × (old_of_value value ≡ Some old)
+    found = is_value (old_of_value value) (has_same ∙ has)
+
+    abbrev own : OldEntry
+    own = record { node = node; old = found.0 }
+
+    last_is : left ≡ entries_of (take at nodes) (take at was) ++ own ∷ []
+    last_is = left_is ∙ ap (with_entry (entries_of (take at nodes) (take at was)) node) found.1
+
+    pub some_left : left ≡ [] → ⊥
+    some_left none =
+        let long = ap length (sym none ∙ last_is) ∙ length-append (entries_of (take at nodes) (take at was)) (own ∷ []) in omega (arith, long)
+
+    pub one_back : (front : List OldEntry) (entry : OldEntry) → left ≡ front ++ entry ∷ []
+        → IsRestored at nodes was (set now at (with_old (Some entry.old) (get_or now at d))) front
+    one_back front entry is =
+        let same = last_one front (entries_of (take at nodes) (take at was)) entry own (sym is ∙ last_is) in
+        record {
+          values =
+              (λ i. set ((so_far.values ∙ sym (lent_next at was d within)) i) at (with_old (Some (ap (λ (e : OldEntry). e.old) same.1 i)) (there i)))
+              ∙ set-set (lent_until at was) at (lent_value value) (with_old (Some found.0) (lent_value value))
+              ∙ ap (set (lent_until at was) at) (lent_back value found.0 found.1 ∙ sym (lent_there at was d within))
+              ∙ set-get_or (lent_until at was) at d;
+          entries = same.0;
+          count = so_far.count;
+        }
 
 -- a value that is read where the first ones are lent is as it was
 pub read_was : (at : ℕ) (was now : List Cell) (before : Cell) → at < length was → now ≡ lent_until at was → before ≡ get_or now at before
@@ -193,21 +190,10 @@ pub read_was : (at : ℕ) (was now : List Cell) (before : Cell) → at < length 
 read_was at was now before within is there = there ∙ ap (λ l. get_or l at before) is ∙ lent_there at was before within
 
 -- and once it is lent one more is
-pub lend_next : (at : ℕ) (was now : List Cell) (before after : Cell) → at < length was → now ≡ lent_until at was → before ≡ get_or now at before
-    → after ≡ lent_value before → set now at after ≡ lent_until (at + 1) was
-lend_next at was now before after within is there lent =
-    (λ i. set (is i) at ((lent ∙ ap lent_value (read_was at was now before within is there)) i)) ∙ lent_next at was before within
-
--- with its entry, where it has one
-pub entries_more : (at : ℕ) (nodes : List NodeId) (was : List Cell) (before : Cell) (n : NodeId) (o : Option OldKept) (entries new : List OldEntry)
-    → length was ≡ length nodes → at < length nodes → before ≡ get_or was at before → o ≡ old_of_value before
-    → entries ≡ entries_of (take at nodes) (take at was)
-    → new ≡ entries ++ cons_option (option_map (λ old. record { node = get_or nodes at n; old = old }) o) []
-    → new ≡ entries_of (take (at + 1) nodes) (take (at + 1) was)
-entries_more at nodes was before n o entries new count within own is so_far more =
-    more
-    ∙ (λ i. so_far i ++ cons_option (option_map (λ old. record { node = get_or nodes at n; old = old }) ((is ∙ ap old_of_value own) i)) [])
-    ∙ sym (entries_next at nodes was n before count within)
+pub lend_next : (at : ℕ) (was now : List Cell) (before : Cell) → at < length was → now ≡ lent_until at was → before ≡ get_or now at before
+    → set now at (lent_value before) ≡ lent_until (at + 1) was
+lend_next at was now before within is there =
+    (λ i. set (is i) at (lent_value (read_was at was now before within is there i))) ∙ lent_next at was before within
 
 -- A value gets back what was taken of it, in the words of a loop that goes down.
 module _ (at : ℕ) (nodes : List NodeId) (was now : List Cell) (left : List OldEntry) (v : Cell) (some : 0 < at) (low : at ≤ length was)
@@ -219,9 +205,10 @@ module _ (at : ℕ) (nodes : List NodeId) (was now : List Cell) (left : List Old
       → left ≡ front ++ entry ∷ [] → after ≡ with_old (Some entry.old) w → IsRestored (at - 1) nodes was (set now (at - 1) after) front
   back_step w after front entry has again is put =
       subst (λ (x : Cell). IsRestored (at - 1) nodes was (set now (at - 1) x) front)
-      (ap (with_old (Some entry.old)) (read_twice now (at - 1) (subst (λ n. at - 1 < n) (sym (ap length so_far.values ∙ lent_long at was)) (omega (arith, some, low)))
+      (ap (with_old (Some entry.old))
+      (read_twice now (at - 1) (subst (λ n. at - 1 < n) (sym (ap length so_far.values ∙ lent_long at was)) (omega (arith, some, low)))
       ∙ sym again) ∙ sym put)
-      (one_back (at - 1) nodes was now left v (omega (arith, some, low)) (ap (λ x. is_some (old_of_value x)) (sym read) ∙ has) before front entry is)
+      (one_back (at - 1) nodes was now left v (omega (arith, some, low)) before (ap (λ x. is_some (old_of_value x)) (sym read) ∙ has) front entry is)
     where
       read_twice : (l : List Cell) (k : ℕ) → k < length l → get_or l k v ≡ get_or l k w
       read_twice [] k within = absurd (omega (arith, within))
@@ -230,11 +217,7 @@ module _ (at : ℕ) (nodes : List NodeId) (was now : List Cell) (left : List Old
 
   pub never_empty : is_some (old_of_value v) ≡ true → left ≡ [] → ⊥
   never_empty has none =
-      some_left (at - 1) nodes was now left v (omega (arith, some, low)) (ap (λ x. is_some (old_of_value x)) (sym read) ∙ has) before none
+      some_left (at - 1) nodes was now left v (omega (arith, some, low)) before (ap (λ x. is_some (old_of_value x)) (sym read) ∙ has) none
 
   pub skip_step : is_some (old_of_value v) ≡ false → IsRestored (at - 1) nodes was now left
-  skip_step has_none = one_without (at - 1) nodes was now left v (omega (arith, some, low)) (ap (λ x. is_some (old_of_value x)) (sym read) ∙ has_none) before
-
-pub empty_list : {A : Type 0} (xs : List A) → length xs ≡ 0 → xs ≡ []
-empty_list [] none = refl
-empty_list (x ∷ xs) none = absurd (omega (arith, none))
+  skip_step has_none = one_without (at - 1) nodes was now left v (omega (arith, some, low)) before (ap (λ x. is_some (old_of_value x)) (sym read) ∙ has_none)

@@ -1,18 +1,18 @@
 -- Values are renewed from the last one on.
-use Rattle.std.proofs.Common.{◌≡◌, ◌≢◌, ℕ, zero, suc, ◌+◌, ◌-◌, ◌<◌, ◌≤◌, true, false, Bool, nat_eq, List, [], ◌∷◌, ◌++◌, map, length, take, drop, set, get_or, Option, Some, None, inl, inr, refl, sym, ap, ◌∙◌, subst, arith}
-use Rattle.std.specs.Prelude.{if◌then◌else◌, option_map, is_some, not, ◌&&◌, ◌||◌, AllPairs}
+use Rattle.std.specs.Prelude.{if◌then◌else◌, ◌&&◌, ◌||◌, option_map, is_some, not, AllPairs}
 use Rattle.std.specs.List.{cons_option}
 use Rattle.std.specs.List.Sorted.{IsStrictlyIncreasing}
-use Rattle.std.proofs.Math.ListN.{get_or-map as get_or-mapped}
 use borrow.Author.Tests.{eqb-true}
+use Rattle.std.proofs.Common.{◌≡◌, ◌≢◌, ◌+◌, ◌-◌, ◌<◌, ◌≤◌, ◌∷◌, ◌++◌, ◌∙◌, ℕ, zero, suc, true, false, Bool, nat_eq, List, [], map, length, take, drop, set, get_or, Option, Some, None, refl, sym, ap, subst, arith}
+use Rattle.std.proofs.Math.ListN.{get_or-map as get_or-mapped}
 use Rattle.std.proofs.lemmas.List.{length-map, take_all}
 use Rattle.std.proofs.lemmas.List.Kept.{AllPairs-cons, AllPairs-from_increasing}
 use Rattle.sfs_base.specs.declared.numbers.NodeId.{NodeId}
 use Rattle.sfs_base.specs.Listed.{is_listed}
 use Rattle.sfs_base.proofs.BasicNumbers.{not_same}
 use Rattle.sfs_base.proofs.BasicTruth.{true_not_false}
-use Rattle.tree_laws.specs.NameRow.{node_number}
 use Rattle.keyed_list.specs.Ascending.{AscendBy, item_with, without}
+use Rattle.tree_laws.specs.NameRow.{node_number}
 use Rattle.disk_nodes.specs.OldKept.{OldKept}
 use Rattle.disk_nodes.specs.declared.old.OldEntry.{OldEntry}
 use Rattle.disk_nodes.specs.Nodes.{entry_node, entry_old}
@@ -179,7 +179,8 @@ pub boxes_more : (after : List OldEntry) (nodes : List NodeId) (at : ℕ) (value
     ≤ boxes_asked after nodes (take at values) + (if is_some (old_of_value (get_or values at d)) then 0 else 1)
 boxes_more after [] at values d within = omega arith
 boxes_more after (n ∷ nodes) at [] d within = absurd (omega (arith, within))
-boxes_more after (n ∷ nodes) zero (v ∷ values) d within = by (is_some (kept_of_node after n.0)) (is_some (old_of_value v)) (boxes_asked after nodes []) (none nodes)
+boxes_more after (n ∷ nodes) zero (v ∷ values) d within = by (is_some (kept_of_node after n.0)) (is_some (old_of_value v)) (boxes_asked after nodes [])
+    (none nodes)
   where
     none : (l : List NodeId) → boxes_asked after l [] ≡ 0
     none [] = refl
@@ -285,14 +286,10 @@ pub boxes_none : (after : List OldEntry) (nodes : List NodeId) → boxes_asked a
 boxes_none after [] = refl
 boxes_none after (_ ∷ _) = refl
 
--- with one more that has nothing one spare box more is enough
-pub boxes_grow : (after : List OldEntry) (nodes : List NodeId) (at : ℕ) (values : List Cell) (v : Cell) (has : Bool) (spares more : ℕ) → at < length values
-    → v ≡ get_or values at v → is_some (old_of_value v) ≡ has → boxes_asked after nodes (take at values) ≤ spares
-    → spares + (if has then 0 else 1) ≤ more → boxes_asked after nodes (take (at + 1) values) ≤ more
-boxes_grow after nodes at values v has spares more within read is few enough =
-    let one = boxes_more after nodes at values v within in
-    let same = by (get_or values at v) (ap (λ x. is_some (old_of_value x)) (sym read) ∙ is) in
-    omega (arith, one, same, few, enough)
-  where
-    by : (x : Cell) → is_some (old_of_value x) ≡ has → ◌≡◌ {A = ℕ} (if is_some (old_of_value x) then 0 else 1) (if has then 0 else 1)
-    by x same = ap (λ (b : Bool). if b then 0 else 1) same
+-- of a value that was read one box more is enough where that has nothing of the disk
+pub boxes_enough : (after : List OldEntry) (nodes : List NodeId) (at : ℕ) (values : List Cell) (v : Cell) → at < length values → v ≡ get_or values at v
+    → boxes_asked after nodes (take (at + 1) values) ≤ boxes_asked after nodes (take at values) + (if is_some (old_of_value v) then 0 else 1)
+boxes_enough after nodes at values v within read =
+    subst (λ (x : Cell). boxes_asked after nodes (take (at + 1) values) ≤ boxes_asked after nodes (take at values) +
+    (if is_some (old_of_value x) then 0 else 1))
+    (sym read) (boxes_more after nodes at values v within)

@@ -1,5 +1,5 @@
 -- What the disk has of nodes, lent out of their values.
-use Rattle.std.specs.Prelude.{◌≡◌, ℕ, List, [], ◌∷◌, length, map, replicate, Option, Some, None, option_map}
+use Rattle.std.specs.Prelude.{◌≡◌, List, [], ◌∷◌, length, map, replicate, Option, None, option_map}
 use Rattle.std.specs.List.{cons_option}
 use Rattle.sfs_base.specs.declared.numbers.NodeId.{NodeId}
 use Rattle.disk_nodes.specs.OldKept.{OldKept}

@@ -41,6 +41,7 @@ module _ {D : Type 0} (asked : ReserveRequest) (before entered done after : PenH
     by = record { did_is = it.by.did_is; core_is = it.by.core_is ∙ core_in; commit_is = it.by.commit_is; flush_is = it.by.flush_is };
     own = own_out ∙ (it.own ∙ ap (λ (o : OwnTold). own_label (label.Noted it.turn) (record o { reserved = Some it.number })) own_in);
     grant_is = grant_out ∙ it.grant_is;
+    goes_on = ap (λ (o : OwnTold). o.over) (sym own_in) ∙ it.goes_on;
     reserved = reserved_later done after entered.view.core before.view.core core_in goes_out it.reserved;
   }
   reserves_around (Err (fault.DiskFailed faults)) it = it

@@ -27,3 +27,4 @@ pub mod Ties
 pub mod TiedCommits
 pub mod WaysGone
 pub mod PensTied
+pub mod Rising

@@ -1,5 +1,5 @@
 -- A commit that needs nothing.
-use Rattle.std.proofs.Common.{◌≡◌, ◌∙◌, ℕ, nat_lt, cond, List, Bool, true, false, length, Some, None, Result, Ok, Err, refl, sym, ap, arith}
+use Rattle.std.proofs.Common.{◌≡◌, ◌∙◌, ℕ, nat_lt, cond, List, Bool, true, false, length, Some, None, Result, Ok, Err, refl, sym, ap, subst, arith}
 use Rattle.sfs_base.proofs.BasicNumbers.{not_below}
 use Rattle.sfs_base.proofs.BasicOptions.{some_not_none}
 use Rattle.sfs_base.specs.declared.numbers.SpaceKind.TheVariants as kind
@@ -26,12 +26,14 @@ use Rattle.disk_box.proofs.After.{past_fits_at}
 use Rattle.disk_box.proofs.Owes.{owns_own}
 use Rattle.journal_set.specs.declared.fault.CommitFault.{CommitFault}
 use Rattle.journal_set.specs.declared.fault.CommitFault.TheVariants as fault
-use Rattle.journal_set.specs.Emptying.{Empties, NOTHING}
+use Rattle.journal_set.specs.Emptying.{Empties, EndsAtOnce, EndsTogether, NOTHING}
+use Rattle.journal_set.specs.Numbering.{WasReserved}
 use Rattle.journal_set.specs.Reserving.{ReserveRequest, Reserves}
 use Rattle.journal_set.specs.Grants.{grant_at}
 use Rattle.journal_set.specs.declared.fault.Ack.{Ack}
 use Rattle.journal_set.proofs.Around.{reserves_around}
 use Rattle.journal_set.proofs.Parts.{reserved_later}
+use Rattle.journal_set.proofs.Turned.{core_kept}
 
 none_below_zero : (n : ℕ) → nat_lt n 0 ≡ false
 none_below_zero n = not_below n 0 (omega arith)
@@ -101,3 +103,18 @@ module _ {D : Type 0} (asked : ReserveRequest) (before entered done after : PenH
       reserves_around asked before entered done after goes_in goes_out own_in own_out grant_out core_same (Err (fault.Moved node last)) it
   empties_around (Err fault.NoMemory) it =
       reserves_around asked before entered done after goes_in goes_out own_in own_out grant_out core_same (Err fault.NoMemory) it
+
+-- A commit that reserved a number with nothing and has ended at the box has ended at once.
+pub empty_ends : {D : Type 0} (asked : ReserveRequest) (start mid after : PenHand D) (ack : Ack) (number : ℕ) (grant : GrantedNumbers) → grant ≡ no_numbers
+    → ack.commit ≡ number → PenGoes start mid → PenGoes mid after → own_at mid ≡ record (own_at start) { reserved = Some number }
+    → WasReserved mid.table.given mid.view.seen mid.view.core number asked.seen NOTHING grant
+    → EndsTogether mid.view.core asked.flush ack (own_at mid) (own_at after) → EndsAtOnce asked start after ack
+empty_ends asked start mid after ack number grant none same goes_in goes_out own was ends =
+    let core = core_kept start mid goes_in in
+    record {
+      ends = subst (λ (z : ℕ × OwnTold). EndsTogether z.0 asked.flush ack z.1 (own_at after))
+          (λ i. (core i, (own ∙ ap (λ n. record (own_at start) { reserved = Some n }) (sym same)) i)) ends;
+      reserved = reserved_later mid after mid.view.core start.view.core core goes_out
+          (subst (λ (z : ℕ × GrantedNumbers). WasReserved mid.table.given mid.view.seen mid.view.core z.0 asked.seen NOTHING z.1)
+          (λ i. (sym same i, none i)) was);
+    }

@@ -56,6 +56,10 @@ reserved_later {D = D} before after core other {number = number} {grant = grant}
       space = was.space;
       goes = subst (λ (k : BoxKey). SpaceGoes k.layout was.front (first_past k.start) k.space was.space) (sym key) was.goes;
       enough = was.enough;
+      next = was.next;
+      took = was.took;
+      numbered = was.numbered;
+      above = was.above;
       inodes = was.inodes;
       blocks = was.blocks;
     }

@@ -1,5 +1,5 @@
 -- What reserving a number comes to.
-use Rattle.std.specs.Prelude.{◌≡◌, ◌++◌, ◌∷◌, ℕ, List, [], Some, None, length}
+use Rattle.std.specs.Prelude.{◌≡◌, ◌<◌, ◌++◌, ◌∷◌, ℕ, List, [], Some, None, length}
 use Rattle.sfs_dev.specs.Disk.{View}
 use Rattle.space_map.specs.Space.{Space, GrantedNumbers, shortage}
 use Rattle.space_map.specs.declared.grant.Need.{Need}
@@ -10,14 +10,16 @@ use Rattle.slot_laws.specs.declared.label.Label.{Label}
 use Rattle.slot_laws.specs.declared.label.Label.TheVariants as label
 use Rattle.slot_laws.specs.declared.label.Seen.{Seen}
 use Rattle.slot_laws.specs.Labels.{first_past}
-use Rattle.slot_laws.specs.Grants.{SpaceGoes}
+use Rattle.slot_laws.specs.Grants.{SpaceGoes, TakesGrant}
+use Rattle.slot_laws.specs.Nodes.{last_seen}
 use Rattle.disk_box.specs.declared.key.BoxKey.{BoxKey}
 use Rattle.disk_box.specs.declared.desk.Desk.{Desk}
 use Rattle.disk_box.specs.Pens.{PenHand, PenGoes, Tells, WorksAtDesk, own_at}
 use Rattle.journal_set.specs.declared.numbering.Numbered.{Numbered}
 use Rattle.journal_set.specs.Grants.{grant_at}
 
--- A commit was reserved in a history, by a core, with its nodes as they were seen and a grant of as much as it needs: what was free then sufficed.
+-- A commit was reserved in a history, by a core, with its nodes as they were seen and a grant of as much as it needs: what was free then sufficed, and it was
+-- taken of that. Numbers begin with 1, and this one is above the last commit of each of its nodes.
 pub record WasReserved (key : BoxKey) (log : List (Event Label)) (core number : ℕ) (seen : List Seen) (need : Need) (grant : GrantedNumbers) : Type 0 where
   pub front : List (Event Label)
   pub back : List (Event Label)
@@ -27,6 +29,10 @@ pub record WasReserved (key : BoxKey) (log : List (Event Label)) (core number : 
   pub space : Space
   pub goes : SpaceGoes key.layout front (first_past key.start) key.space space
   pub enough : shortage space need ≡ None
+  pub next : Space
+  pub took : TakesGrant space grant next
+  pub numbered : 0 < number
+  pub above : (node last : ℕ) → last_seen seen node ≡ Some last → last < number
   pub inodes : length grant.inodes ≡ need.inodes
   pub blocks : length grant.blocks ≡ need.blocks
 

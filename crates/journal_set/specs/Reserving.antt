@@ -1,5 +1,5 @@
 -- What comes of reserving, by cases of the answer.
-use Rattle.std.specs.Prelude.{◌≡◌, ◌++◌, ◌∷◌, ℕ, List, Some, Result, Ok, Err}
+use Rattle.std.specs.Prelude.{◌≡◌, ◌++◌, ◌∷◌, ℕ, List, Some, Result, Ok, Err, false}
 use mathlib.Core.List.{IsPrefix}
 use Rattle.sfs_base.specs.declared.numbers.NodeId.{NodeId}
 use Rattle.sfs_base.specs.declared.numbers.SpaceKind.{SpaceKind}
@@ -34,13 +34,14 @@ pub record ReserveRequest : Type 0 where
   pub need : Need
 
 module _ {D : Type 0} (asked : ReserveRequest) (before after : PenHand D) where
-  -- A number was reserved with a grant of what is needed, which was free, and the turn Granted was taken.
+  -- A number was reserved with a grant of what is needed, which was free, and the turn Granted was taken. No failure had stopped the core.
   pub record ReservesGrant (grant : GrantedNumbers) : Type 0 where
     pub number : ℕ
     pub turn : Turn
     pub by : IsTurnBy turn act.Granted before.view.core number asked.flush
     pub own : own_at after ≡ own_label (label.Noted turn) (record (own_at before) { reserved = Some number })
     pub grant_is : grant_at after ≡ Some grant
+    pub goes_on : (own_at before).over ≡ false
     pub reserved : WasReserved after.table.given after.view.seen before.view.core number asked.seen asked.need grant
 
   -- Too little was free, and the turn Short says of what, how much is needed and how much was free.

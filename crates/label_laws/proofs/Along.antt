@@ -33,27 +33,40 @@ module _ (named : Numbered) (layout : Layout) (before : ℕ) (first : Space) whe
     Then fact = Drawing named layout before first (done ++ Told core fact ∷ []) (after_label layout core.0 fact past) rest next
 
     pub through_label : (fact : Label) → At fact → SpaceDoes (Told core fact) past space next → FitsBringing named (Told core fact) → Then fact
-    through_label label.Took at does told = quiet_label named layout before first done past core rest space next label.Took at does told (λ turn e. cc e) refl (all_were past.opens) refl does
-    through_label label.Gave at does told = quiet_label named layout before first done past core rest space next label.Gave at does told (λ turn e. cc e) refl (all_were past.opens) refl does
+    through_label label.Took at does told = quiet_label named layout before first done past core rest space next label.Took at does told
+        (λ turn e. cc e) refl (all_were past.opens) refl does
+    through_label label.Gave at does told = quiet_label named layout before first done past core rest space next label.Gave at does told
+        (λ turn e. cc e) refl (all_were past.opens) refl does
     through_label (label.Noted turn) at does told =
         noted_label named layout before first done past core rest space next turn at does (at.owing.own core.0).owes refl
         (tells_now named layout before first done past core (label.Noted turn) rest space next at does told)
-    through_label (label.Reserved commit seen grant) at does told = reserved_label named layout before first done past core rest space next commit seen grant at does told
+    through_label (label.Reserved commit seen grant) at does told =
+        reserved_label named layout before first done past core rest space next commit seen grant at does told
     through_label (label.Returned commit) at does told = returned_label named layout before first done past core rest space next commit at does
     through_label (label.Began filling commit node stamp blocks inodes) at does told =
-        quiet_label named layout before first done past core rest space next (label.Began filling commit node stamp blocks inodes) at does told (λ turn e. cc e) refl
+        quiet_label named layout before first done past core rest space next (label.Began filling commit node stamp blocks inodes) at does told
+        (λ turn e. cc e) refl
         (began_were named layout before first done past core rest space next commit (record { inodes = inodes.items; blocks = blocks.items })) refl does
     through_label (label.Filled k piece done_so) at does told =
-        quiet_label named layout before first done past core rest space next (label.Filled k piece done_so) at does told (λ turn e. cc e) refl (all_were past.opens) refl does
-    through_label (label.Synced now) at does told = quiet_label named layout before first done past core rest space next (label.Synced now) at does told (λ turn e. cc e) refl (all_were past.opens) refl does
-    through_label (label.Opened k done_so cut opened) at does told = opened_label named layout before first done past core rest space next k done_so cut opened at does
+        quiet_label named layout before first done past core rest space next (label.Filled k piece done_so) at does told (λ turn e. cc e) refl
+        (all_were past.opens) refl does
+    through_label (label.Synced now) at does told = quiet_label named layout before first done past core rest space next (label.Synced now) at does told
+        (λ turn e. cc e) refl (all_were past.opens) refl does
+    through_label (label.Opened k done_so cut opened) at does told =
+        opened_label named layout before first done past core rest space next k done_so cut opened at does
     through_label (label.Settled k turn) at does told = settled_label named layout before first done past core rest space next k turn at does
-    through_label (label.Looked turn) at does told = quiet_label named layout before first done past core rest space next (label.Looked turn) at does told (λ other e. cc e) refl (all_were past.opens) refl does
+    through_label (label.Looked turn) at does told = quiet_label named layout before first done past core rest space next (label.Looked turn) at does told
+        (λ other e. cc e) refl (all_were past.opens) refl does
     through_label (label.Placed k n done_so) at does told =
-        quiet_label named layout before first done past core rest space next (label.Placed k n done_so) at does told (λ turn e. cc e) refl (all_were past.opens) refl does
-    through_label (label.Shut k done_so) at does told = quiet_label named layout before first done past core rest space next (label.Shut k done_so) at does told (λ turn e. cc e) refl (all_were past.opens) refl does
-    through_label (label.Idled k) at does told = quiet_label named layout before first done past core rest space next (label.Idled k) at does told (λ turn e. cc e) refl (all_were past.opens) refl does
-    through_label (label.Empty commit cut opened durable) at does told = empty_label named layout before first done past core rest space next commit cut opened durable at does told
+        quiet_label named layout before first done past core rest space next (label.Placed k n done_so) at does told (λ turn e. cc e) refl
+        (all_were past.opens) refl does
+    through_label (label.Shut k done_so) at does told =
+        quiet_label named layout before first done past core rest space next (label.Shut k done_so) at does told (λ turn e. cc e) refl
+        (all_were past.opens) refl does
+    through_label (label.Idled k) at does told = quiet_label named layout before first done past core rest space next (label.Idled k) at does told
+        (λ turn e. cc e) refl (all_were past.opens) refl does
+    through_label (label.Empty commit cut opened durable) at does told =
+        empty_label named layout before first done past core rest space next commit cut opened durable at does told
 
   -- along each history
   pub drawing_along : (done rest : List (Event Label)) (past : BoxPast) (space now : Space) → Drawing named layout before first done past rest space

@@ -41,8 +41,9 @@ use Rattle.slot_laws.specs.Rules.{BeganRule}
 use Rattle.slot_laws.specs.Nodes.{ReservedCommit}
 use Rattle.slot_laws.specs.Grants.{EndsGrant, SpaceDoes}
 use Rattle.slot_laws.proofs.Basics.{mapped_some}
-use Rattle.slot_image_laws.specs.Images.{DiskBooks, books_from, book_act, RunStart, disk_books}
+use Rattle.slot_image_laws.specs.Images.{DiskBooks, book_act, RunStart, disk_books}
 use Rattle.slot_image_laws.specs.Commits.{parts_over, IsCommitAt, IsCommitJob, TurnsParts, BlocksApart}
+use Rattle.slot_image_laws.proofs.Trails.{books_more}
 use Rattle.imagined_laws.specs.Parts.{parts_once, ShowsBrought}
 use Rattle.imagined_laws.proofs.Parts.{imagined_show}
 use Rattle.label_laws.specs.Maps.{Numbered, bringing_of, BeginsAs, IsEmptyAs, FitsBringing}
@@ -52,12 +53,9 @@ use Rattle.label_laws.proofs.Drawn.{Drawing}
 use Rattle.label_laws.proofs.Fsyncs.{part_low, AreBeside, fresh_apart, reached_apart, jobs_apart}
 use Rattle.label_laws.proofs.Opens.{ReservedOpen, AloftOpen}
 
-pub books_both : (gives : ℕ → List InodePart) (turns more : List Turn) (books : DiskBooks) → books_from gives (turns ++ more) books ≡ books_from gives more (books_from gives turns books)
-books_both gives [] more books = refl
-books_both gives (turn ∷ turns) more books = books_both gives turns more (book_act gives turn.act turn.commit books)
-
 -- a turn that does not make a commit durable leaves the parts
-base_stays : (gives : ℕ → List InodePart) (did : TurnAct) (commit : ℕ) (books : DiskBooks) → did ≢ act.Durable → (book_act gives did commit books).base ≡ books.base
+base_stays : (gives : ℕ → List InodePart) (did : TurnAct) (commit : ℕ) (books : DiskBooks) → did ≢ act.Durable → (book_act gives did commit books).base
+    ≡ books.base
 base_stays gives act.Durable commit books away = absurd (away refl)
 base_stays gives act.Opened commit books away = refl
 base_stays gives act.Granted commit books away = refl
@@ -67,7 +65,8 @@ base_stays gives act.CutAt commit books away = refl
 base_stays gives act.Fail commit books away = refl
 base_stays gives act.Halted commit books away = refl
 
-once_push : (brought : List Bringing) (one : Bringing) (base : ℕ → Part) → parts_once (brought ++ one ∷ []) base ≡ parts_over one.parts (parts_once brought base)
+once_push : (brought : List Bringing) (one : Bringing) (base : ℕ → Part) → parts_once (brought ++ one ∷ []) base
+    ≡ parts_over one.parts (parts_once brought base)
 once_push [] one base = refl
 once_push (first ∷ brought) one base = once_push brought one (parts_over first.parts base)
 
@@ -124,7 +123,8 @@ module _ (layout : Layout) (start : Volume) (entries : List OldEntry) (named : N
       own_low : (own : InodePart) → Contains (parts_brought volume fsync_of) own → own.inode < layout.inodes
       own_low own there = subst (λ (l : Layout). own.inode < l.inodes) layout_is (part_low volume fsync_of planned_of own there)
 
-      module _ (job : Job) (k : ℕ) (place : job.place ≡ place_at layout k) (writes : WritesPlan (bringing_of named number).plan (bringing_of named number).grant job)
+      module _ (job : Job) (k : ℕ) (place : job.place ≡ place_at layout k)
+          (writes : WritesPlan (bringing_of named number).plan (bringing_of named number).grant job)
         where
           change : IsChangeOf job volume.parts (parts_brought volume fsync_of)
           change =
@@ -159,7 +159,8 @@ module _ (layout : Layout) (start : Volume) (entries : List OldEntry) (named : N
           }
 
     -- two open commits of other numbers
-    module _ (mine theirs : ℕ) (one : IsOneOf (stamps_under named past.opens) (named.stamps mine)) (two : IsOneOf (stamps_under named past.opens) (named.stamps theirs))
+    module _ (mine theirs : ℕ) (one : IsOneOf (stamps_under named past.opens) (named.stamps mine))
+        (two : IsOneOf (stamps_under named past.opens) (named.stamps theirs))
         (differ : named.stamps mine ≢ named.stamps theirs) where
       apart_so : BringApart (bringing_of named mine) (bringing_of named theirs)
       apart_so =
@@ -181,7 +182,8 @@ module _ (layout : Layout) (start : Volume) (entries : List OldEntry) (named : N
       blocks_apart work other is also writes writes_too = record {
         blocks = λ n m within low. fresh_apart volume (fsync_of mine one) (fsync_of theirs two) are_beside work.job other.job writes writes_too n m within low;
         reached = λ n i at part within given some.
-            let own = mapped_some (λ (own : InodePart). record { stamp = other.job.stamp; value = own.part }) (find (λ (own : InodePart). nat_eq own.inode i) (gives other.commit))
+            let own = mapped_some (λ (own : InodePart). record { stamp = other.job.stamp; value = own.part })
+            (find (λ (own : InodePart). nat_eq own.inode i) (gives other.commit))
             (record { stamp = other.job.stamp; value = part }) given in
             let there : Contains (gives other.commit) own.0 = found_is_in (λ (own : InodePart). nat_eq own.inode i) (gives other.commit) own.0 own.1 in
             let inode : own.0.inode ≡ i = eqb-true own.0.inode i (found_passes (λ (own : InodePart). nat_eq own.inode i) (gives other.commit) own.0 own.1) in
@@ -203,7 +205,8 @@ module _ (layout : Layout) (start : Volume) (entries : List OldEntry) (named : N
       inodes = λ k other there aloft share.
           let theirs = at.opens.aloft k other there aloft in
           jobs_apart volume (fsync_of commit mine_there) (fsync_of other.commit (there_of other theirs))
-          (are_beside commit other.commit mine_there (there_of other theirs) (differs k other there theirs)) filling.job other.job begins_as.writes theirs.writes share;
+          (are_beside commit other.commit mine_there (there_of other theirs) (differs k other there theirs)) filling.job other.job begins_as.writes
+          theirs.writes share;
       blocks = λ k other there aloft.
           let theirs = at.opens.aloft k other there aloft in (
             blocks_apart commit other.commit mine_there (there_of other theirs) (differs k other there theirs)
@@ -236,16 +239,18 @@ module _ (layout : Layout) (start : Volume) (entries : List OldEntry) (named : N
             (λ e. at.fits.numbers.unused core.0 commit k other rule.number there (sym theirs.number_is ∙ (sym e ∙ mine.number_is)))
             (ap named.stamps mine.number_is ∙ (same ∙ ap named.stamps (sym theirs.number_is)))
 
-    quiet_books : (later : BoxPast) → later.turns ≡ past.turns → later.done ≡ past.done → later.begun ≡ past.begun → later.empties ≡ past.empties → BooksSo later
+    quiet_books : (later : BoxPast) → later.turns ≡ past.turns → later.done ≡ past.done → later.begun ≡ past.begun → later.empties ≡ past.empties
+        → BooksSo later
     quiet_books later turns done_is begun_is empties = record {
-      base = ap (λ t. (disk_books run t).base) turns ∙ (books.base ∙ ap (λ d. parts_once (brought_under named.pairs (stamps_under named d)) start.parts) (sym done_is));
+      base = ap (λ t. (disk_books run t).base) turns
+          ∙ (books.base ∙ ap (λ d. parts_once (brought_under named.pairs (stamps_under named d)) start.parts) (sym done_is));
       begun = subst (All (λ (one : BegunCommit). IsCommitAt gives layout (disk_books run one.turns).base one.slots one.work)) (sym begun_is) books.begun;
       empties = subst (All (λ (commit : ℕ). gives commit ≡ [])) (sym empties) books.empties;
     }
 
     noted_books : (turn : Turn) → Here (label.Noted turn) → Then (label.Noted turn)
     noted_books turn at = record {
-      base = ap (λ (b : DiskBooks). b.base) (books_both gives past.turns (turn ∷ []) (record { base = start.parts; flying = [] }))
+      base = ap (λ (b : DiskBooks). b.base) (books_more gives past.turns (turn ∷ []) (record { base = start.parts; flying = [] }))
           ∙ (base_stays gives turn.act turn.commit (disk_books run past.turns) at.owing.may.0.1.no_durable ∙ books.base);
       begun = books.begun;
       empties = books.empties;
@@ -256,7 +261,7 @@ module _ (layout : Layout) (start : Volume) (entries : List OldEntry) (named : N
         let rule = at.owing.may.0.1 in
         let no_end : (did : TurnAct) (turn : Turn) → turn.act ≡ did → did ≢ act.Durable → turn.act ≢ act.Durable = λ did turn is away e. away (sym is ∙ e) in
         record {
-          base = ap (λ (b : DiskBooks). b.base) (books_both gives past.turns (cut ∷ opened ∷ []) (record { base = start.parts; flying = [] }))
+          base = ap (λ (b : DiskBooks). b.base) (books_more gives past.turns (cut ∷ opened ∷ []) (record { base = start.parts; flying = [] }))
               ∙ (base_stays gives opened.act opened.commit (book_act gives cut.act cut.commit (disk_books run past.turns))
               (no_end act.Opened opened rule.opened_is.did_is (λ e. cc e))
               ∙ (base_stays gives cut.act cut.commit (disk_books run past.turns) (no_end act.CutAt cut rule.cut_is.did_is (λ e. cc e)) ∙ books.base));
@@ -265,7 +270,8 @@ module _ (layout : Layout) (start : Volume) (entries : List OldEntry) (named : N
         }
 
     -- a commit that becomes durable
-    ended_base : (number commit : ℕ) (turn : Turn) → turn.act ≡ act.Durable → turn.commit ≡ commit → number ≡ commit → (was : DiskBooks) → was.base ≡ (disk_books run past.turns).base
+    ended_base : (number commit : ℕ) (turn : Turn) → turn.act ≡ act.Durable → turn.commit ≡ commit → number ≡ commit → (was : DiskBooks) → was.base
+        ≡ (disk_books run past.turns).base
         → (book_act gives turn.act turn.commit was).base
         ≡ parts_once (brought_under named.pairs (stamps_under named past.done ++ named.stamps number ∷ [])) start.parts
     ended_base number commit turn did of same was base =
@@ -274,10 +280,11 @@ module _ (layout : Layout) (start : Volume) (entries : List OldEntry) (named : N
         ∙ (sym (once_push (brought_at named past) (bringing_of named number) start.parts)
         ∙ ap (λ l. parts_once l start.parts) (sym (map-append (bringing_under named.pairs) (stamps_under named past.done) (named.stamps number ∷ [])))))
 
-    settled_books : (k : ℕ) (turn : Turn) (next : Space) → Here (label.Settled k turn) → EndsGrant past.opens turn.commit space next → Then (label.Settled k turn)
+    settled_books : (k : ℕ) (turn : Turn) (next : Space) → Here (label.Settled k turn) → EndsGrant past.opens turn.commit space next
+        → Then (label.Settled k turn)
     settled_books k turn next at ends =
         record {
-          base = ap (λ (b : DiskBooks). b.base) (books_both gives past.turns (turn ∷ []) (record { base = start.parts; flying = [] }))
+          base = ap (λ (b : DiskBooks). b.base) (books_more gives past.turns (turn ∷ []) (record { base = start.parts; flying = [] }))
               ∙ (ended_base ends.own.commit.number turn.commit turn at.owing.may.0.1.is.did_is refl ends.own.number_is (disk_books run past.turns) refl
               ∙ ap (λ l. parts_once (brought_under named.pairs l) start.parts)
               (sym (done_more layout start entries named first begins before done past core rest space space so turn.commit ends.own at.lasts.once)));
@@ -285,7 +292,8 @@ module _ (layout : Layout) (start : Volume) (entries : List OldEntry) (named : N
           empties = books.empties;
         }
 
-    empty_books : (commit : ℕ) (cut opened durable : Turn) (next : Space) → Here (label.Empty commit cut opened durable) → EndsGrant past.opens commit space next
+    empty_books : (commit : ℕ) (cut opened durable : Turn) (next : Space) → Here (label.Empty commit cut opened durable)
+        → EndsGrant past.opens commit space next
         → IsEmptyAs (bringing_of named commit) → Then (label.Empty commit cut opened durable)
     empty_books commit cut opened durable next at ends empty =
         let rule = at.owing.may.0.1 in
@@ -296,7 +304,7 @@ module _ (layout : Layout) (start : Volume) (entries : List OldEntry) (named : N
         base_stays gives opened.act opened.commit begun_books (no_end act.Opened opened rule.opened_is.did_is (λ e. cc e))
         ∙ base_stays gives cut.act cut.commit (disk_books run past.turns) (no_end act.CutAt cut rule.cut_is.did_is (λ e. cc e)) in
         record {
-          base = ap (λ (b : DiskBooks). b.base) (books_both gives past.turns (cut ∷ opened ∷ durable ∷ []) (record { base = start.parts; flying = [] }))
+          base = ap (λ (b : DiskBooks). b.base) (books_more gives past.turns (cut ∷ opened ∷ durable ∷ []) (record { base = start.parts; flying = [] }))
               ∙ (ended_base ends.own.commit.number commit durable rule.durable_is.did_is rule.durable_is.commit_is ends.own.number_is opened_books base
               ∙ ap (λ l. parts_once (brought_under named.pairs l) start.parts)
               (sym (done_more layout start entries named first begins before done past core rest space space so commit ends.own at.lasts.once)));

@@ -1,10 +1,11 @@
 -- The map of free space along turns, drawn from the one along labels.
 use Rattle.std.proofs.Common.{◌≡◌, ◌+◌, ◌∷◌, ◌<◌, ◌^◌, ◌∙◌, if◌then◌else◌, ◌⊎◌, ◌++◌, ◌≢◌, false, [], length, arith, ℕ, not, nat_eq, refl, List, ap, subst, sym, take, option_map, true, Some, inl, inr, Bool, eqb-true, All}
+use Rattle.std.proofs.lemmas.List.{nil_from_length}
 use Rattle.std.proofs.lemmas.List.Elements.{All-nil, All-cons}
 use Rattle.sfs_base.specs.Listed.{is_listed}
 use Rattle.sfs_base.specs.declared.numbers.CoreId.{CoreId}
 use Rattle.sfs_base.proofs.BasicNumbers.{same_number}
-use Rattle.sfs_base.proofs.BasicTruth.{true_not_false}
+use Rattle.sfs_base.proofs.BasicTruth.{not_false}
 use Rattle.sfs_image.specs.Super.{Layout}
 use Rattle.space_map.specs.declared.status.Status.TheVariants.{Granted, Free}
 use Rattle.space_map.specs.Pool.{Pool, Grants, status_of, BecomeAll, Ends}
@@ -48,24 +49,17 @@ use Rattle.label_laws.proofs.Opens.{OpensSo, opens_label}
 no_numbers_there : (grant : GrantedNumbers) → has_numbers grant ≡ false → (grant.inodes ≡ []) × (grant.blocks ≡ [])
 no_numbers_there grant none =
     let sum = zero_by (length grant.inodes + length grant.blocks) none in
-    (nil_by grant.inodes (omega (arith, sum)), nil_by grant.blocks (omega (arith, sum)))
+    (nil_from_length grant.inodes (omega (arith, sum)), nil_from_length grant.blocks (omega (arith, sum)))
   where
-    is_true : (b : Bool) → not b ≡ false → b ≡ true
-    is_true true is = refl
-    is_true false is = absurd (true_not_false is)
-
     zero_by : (n : ℕ) → not (nat_eq n 0) ≡ false → n ≡ 0
-    zero_by n is = eqb-true n 0 (is_true (nat_eq n 0) is)
-
-    nil_by : (xs : List ℕ) → length xs ≡ 0 → xs ≡ []
-    nil_by [] is = refl
-    nil_by (x ∷ xs) is = absurd (omega (arith, is))
+    zero_by n is = eqb-true n 0 (not_false (nat_eq n 0) is)
 
 word_fits : (n m : ℕ) → n ≡ m → n < 2 ^ 32 → as_u32 n ≡ m
 word_fits n m same less = omega (arith, same, less)
 
 -- what was taken from one map was taken from each with the same statuses, for a plan that needs as much
-pub reserved_from : (one : Bringing) (grant : GrantedNumbers) (drawn space next : Space) → GrantFits one grant → AreSameMaps drawn space → TakesGrant space grant next
+pub reserved_from : (one : Bringing) (grant : GrantedNumbers) (drawn space next : Space) → GrantFits one grant → AreSameMaps drawn space
+    → TakesGrant space grant next
     → WasReserved one.plan drawn one.grant next
 reserved_from one grant drawn space next fits same takes =
     let inodes = word_fits (amount_planned one.plan).inodes (length grant.inodes) (ap (λ (a : Amount). a.inodes) fits.needed) fits.words.inodes in
@@ -280,13 +274,15 @@ module _ (named : Numbered) (layout : Layout) (before : ℕ) (first : Space) whe
       fits = label_fits layout before core.0 past at.fits fact rule;
       lasts = lasts_label layout before core.0 past at.lasts fact rule;
       theirs = grants_label layout before core past fact space next at.lasts rule does at.theirs;
-      opens = subst (OpensSo named later) (sym own_is) (opens_label named layout before core.0 past at.owing.own at.fits at.opens core refl fact rule tells_now told);
+      opens = subst (OpensSo named later) (sym own_is)
+          (opens_label named layout before core.0 past at.owing.own at.fits at.opens core refl fact rule tells_now told);
       so = subst (λ own. DrawnSo later.opens later.turns own next) (sym own_is) so;
     }
 
   -- no turn may be told next where a label leaves none
   module _ (past : BoxPast) (core : ℕ) (own : ℕ → OwnOwed) (others : (c : ℕ) → c ≢ core → (own c).may ≡ owes_nothing) where
-    pub none_then : (fact : Label) → (own_owed fact (own core)).may ≡ owes_nothing → (c : ℕ) → (with_at own core (own_owed fact (own core)) c).may ≡ owes_nothing
+    pub none_then : (fact : Label) → (own_owed fact (own core)).may ≡ owes_nothing → (c : ℕ) → (with_at own core (own_owed fact (own core)) c).may
+        ≡ owes_nothing
     none_then fact none c = elim (same_or_not c core) [
       | inl same ↦ ap (λ (o : OwnOwed). o.may) (at_same own core (own_owed fact (own core)) c same) ∙ none
       | inr apart ↦ ap (λ (o : OwnOwed). o.may) (at_other own core (own_owed fact (own core)) c apart) ∙ others c apart

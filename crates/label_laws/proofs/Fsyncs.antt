@@ -78,7 +78,8 @@ module _ (volume : Volume) (one : OneFsync) (is : IsPlannedFsync volume one) whe
       kept j false e = cc e
 
       by : (o : Option ℕ) → volume.num node ≡ o
-          → (if is_some o then (if node_leaves one.plan.leave node then None else o) else grant_for (map enter_node one.plan.enter) one.grant.inodes node) ≡ Some i
+          → (if is_some o then (if node_leaves one.plan.leave node then None else o) else grant_for (map enter_node one.plan.enter) one.grant.inodes node)
+          ≡ Some i
           → OfNode i ⊎ WasGrantedAt i
       by None none e =
           let found = granted (map enter_node one.plan.enter) one.grant.inodes node i e in
@@ -136,7 +137,8 @@ module _ (volume : Volume) (one : OneFsync) (is : IsPlannedFsync volume one) whe
       let long : n < length records = subst (λ l. n < l) (ap length writes.entries ∙ length-map records record_entry) within in (
         get_or records n no_tx_record,
         Contains-get_or records n no_tx_record long,
-        ap (λ (e : Entry). e.inode) (sym (get_or-map record_entry records n no_tx_record no_entry long) ∙ ap (λ l. slice_index_or l n no_entry) (sym writes.entries)),
+        ap (λ (e : Entry). e.inode)
+            (sym (get_or-map record_entry records n no_tx_record no_entry long) ∙ ap (λ l. slice_index_or l n no_entry) (sym writes.entries)),
       )
 
   -- the inodes that are given parts are the disk's
@@ -158,7 +160,8 @@ module _ (volume : Volume) (mine theirs : OneFsync) (are : AreBeside volume mine
   granted_there : (one : OneFsync) (i place : ℕ) → place < length one.grant.inodes → slice_index one.grant.inodes place ≡ i → Contains one.grant.inodes i
   granted_there one i place within same = subst (Contains one.grant.inodes) same (Contains-get_or one.grant.inodes place 0 within)
 
-  no_shared : (i : ℕ) → OfNode volume mine are.one i ⊎ WasGrantedAt volume mine are.one i → OfNode volume theirs are.two i ⊎ WasGrantedAt volume theirs are.two i → ⊥
+  no_shared : (i : ℕ) → OfNode volume mine are.one i ⊎ WasGrantedAt volume mine are.one i
+      → OfNode volume theirs are.two i ⊎ WasGrantedAt volume theirs are.two i → ⊥
   no_shared i (inl my_node) (inl their_node) =
       let same = are.one.ready.stands.once my_node.node their_node.node i my_node.number their_node.number in
       not_both (subst (λ n. is_among theirs.nodes n ≡ true) (sym same) their_node.among) (are.nodes my_node.node my_node.among)
@@ -167,7 +170,8 @@ module _ (volume : Volume) (mine theirs : OneFsync) (are : AreBeside volume mine
   no_shared i (inr my_grant) (inl their_node) =
       never_granted volume mine are.one their_node.node i my_grant.place their_node.number my_grant.within my_grant.number
   no_shared i (inr my_grant) (inr their_grant) =
-      are.inodes i (granted_there mine i my_grant.place my_grant.within my_grant.number) (granted_there theirs i their_grant.place their_grant.within their_grant.number)
+      are.inodes i (granted_there mine i my_grant.place my_grant.within my_grant.number)
+      (granted_there theirs i their_grant.place their_grant.within their_grant.number)
 
   pub jobs_apart : (job other : Job) → WritesPlan mine.plan mine.grant job → WritesPlan theirs.plan theirs.grant other → ShareInode job other → ⊥
   jobs_apart job other writes also share =
@@ -218,7 +222,8 @@ module _ (volume : Volume) (mine theirs : OneFsync) (are : AreBeside volume mine
             }) i place left.1 few (ap (λ p. pointer_at p place) (sym left.0) ∙ sym is)
       ]
     where
-      free_there : (k : ℕ) → slice_get mine.grant.blocks k ≡ Some (slice_index_or job.fresh n no_block).block → (j at : ℕ) → j < volume.layout.inodes → at < PLACES
+      free_there : (k : ℕ) → slice_get mine.grant.blocks k ≡ Some (slice_index_or job.fresh n no_block).block → (j at : ℕ) → j < volume.layout.inodes
+          → at < PLACES
           → pointer_at (volume.parts j) at ≢ (slice_index_or job.fresh n no_block).block
       free_there k got j at inside few points =
           are.one.grants.serves.blocks.free k j at (slice_get_within mine.grant.blocks k _ got) inside few

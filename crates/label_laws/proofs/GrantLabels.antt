@@ -70,7 +70,8 @@ module _ (named : Numbered) (layout : Layout) (before : ℕ) (first : Space) whe
         same_by true is none = let never : ◌≡◌ {A = OwesTurn} (owes_granted commit) owes_nothing = sym (debt_is true is) ∙ none in absurd (cc never)
         same_by false is none = taken_nothing grant at.so.drawn space next is (at.so.same nobody) takes
 
-        may_is : (c n : ℕ) (asked : OwesTurn) → (own_then c).may ≡ asked → (c ≡ core.0) × (◌≡◌ {A = OwesTurn} (owes_granted commit) asked) ⊎ (owes_nothing ≡ asked)
+        may_is : (c n : ℕ) (asked : OwesTurn) → (own_then c).may ≡ asked
+            → (c ≡ core.0) × (◌≡◌ {A = OwesTurn} (owes_granted commit) asked) ⊎ (owes_nothing ≡ asked)
         may_is c n asked may = elim (same_or_not c core.0) [
           | inl same ↦ inl (same, sym (ap (λ (o : OwnOwed). o.may) (at_same at.owing.own core.0 owed c same)) ∙ may)
           | inr apart ↦
@@ -97,7 +98,8 @@ module _ (named : Numbered) (layout : Layout) (before : ℕ) (first : Space) whe
         had_by : HadTurns named layout before first (past.opens ++ new ∷ []) own_then past.turns
         had_by one among some = elim (last_or_before past.opens new one among) [
           | inl old ↦
-              inr (had_turn named layout before first past.opens past.turns at.owing.own space at.so nobody (λ one among. (at.opens.grants one among).grants) one old some)
+              inr (had_turn named layout before first past.opens past.turns at.owing.own space at.so nobody
+              (λ one among. (at.opens.grants one among).grants) one old some)
           | inr same ↦
               let is : has_numbers grant ≡ true = ap (λ (o : ReservedCommit). has_numbers o.grant) same ∙ some in
               inl (core.0, ap (λ (o : OwnOwed). o.owes) here_is ∙ (debt_is true is ∙ ap (λ (o : ReservedCommit). owes_granted o.number) same))
@@ -112,7 +114,8 @@ module _ (named : Numbered) (layout : Layout) (before : ℕ) (first : Space) whe
           same = λ none. same_by (at.owing.own core.0).granted refl (sym (ap (λ (o : OwnOwed). o.owes) here_is) ∙ none core.0);
           to_grant = λ c n may. absurd (no_grant c n may);
           to_return = return_by;
-          had = λ one among some. inr (had_turn named layout before first past.opens past.turns at.owing.own space at.so nobody (λ one among. (at.opens.grants one among).grants) one
+          had = λ one among some. inr
+              (had_turn named layout before first past.opens past.turns at.owing.own space at.so nobody (λ one among. (at.opens.grants one among).grants) one
               (in_filter (is_numbered_otherwise commit) past.opens one among).0 some);
         })
       where
@@ -148,7 +151,8 @@ module _ (named : Numbered) (layout : Layout) (before : ℕ) (first : Space) whe
         same_by false is none =
             returned_nothing back.own.commit.grant at.so.drawn space next (sym some_is ∙ is) (at.so.same nobody) back.inodes back.blocks
 
-        may_is : (c n : ℕ) (asked : OwesTurn) → (own_then c).may ≡ asked → (c ≡ core.0) × (◌≡◌ {A = OwesTurn} (owes_given_back commit) asked) ⊎ (owes_nothing ≡ asked)
+        may_is : (c n : ℕ) (asked : OwesTurn) → (own_then c).may ≡ asked
+            → (c ≡ core.0) × (◌≡◌ {A = OwesTurn} (owes_given_back commit) asked) ⊎ (owes_nothing ≡ asked)
         may_is c n asked may = elim (same_or_not c core.0) [
           | inl same ↦ inl (same, sym (ap (λ (o : OwnOwed). o.may) (at_same at.owing.own core.0 owed c same)) ∙ may)
           | inr apart ↦

@@ -77,7 +77,8 @@ module _ (named : Numbered) (layout : Layout) (before : ℕ) (first : Space) whe
         let same : turn ≡ tells.turn = cc tells.is in
         let did : turn.act ≡ act.Granted = ap (λ (t : Turn). t.act) same ∙ tells.did_is in
         let stamp : turn.stamp.0 ≡ named.stamps n = ap (λ (t : Turn). t.stamp.0) same ∙ tells.stamp_is in
-        let reserved = subst (WasReserved (bringing_of named n).plan at.so.drawn (bringing_of named n).grant) (sym same_space) (at.so.to_grant core.0 n (may_of turn at (owes_granted n) (λ none. cc none) owes)) in
+        let reserved = subst (WasReserved (bringing_of named n).plan at.so.drawn (bringing_of named n).grant) (sym same_space)
+        (at.so.to_grant core.0 n (may_of turn at (owes_granted n) (λ none. cc none) owes)) in
         noted_drawn turn at same_space next
         (push named layout before first past.turns turn act.Granted (named.stamps n) at.so.drawn next did stamp at.so.goes reserved)
         (record { inodes = λ m. refl; blocks = λ m. refl })
@@ -96,7 +97,8 @@ module _ (named : Numbered) (layout : Layout) (before : ℕ) (first : Space) whe
         let same : turn ≡ tells.turn = cc tells.is in
         let did : turn.act ≡ act.GivenBack = ap (λ (t : Turn). t.act) same ∙ tells.did_is in
         let stamp : turn.stamp.0 ≡ named.stamps n = ap (λ (t : Turn). t.stamp.0) same ∙ tells.stamp_is in
-        let returned = subst (WasReturned at.so.drawn (bringing_of named n).grant) (sym same_space) (at.so.to_return core.0 n (may_of turn at (owes_given_back n) (λ none. cc none) owes)) in
+        let returned = subst (WasReturned at.so.drawn (bringing_of named n).grant) (sym same_space)
+        (at.so.to_return core.0 n (may_of turn at (owes_given_back n) (λ none. cc none) owes)) in
         noted_drawn turn at same_space next
         (push named layout before first past.turns turn act.GivenBack (named.stamps n) at.so.drawn next did stamp at.so.goes returned)
         (record { inodes = λ m. refl; blocks = λ m. refl })
@@ -111,7 +113,8 @@ module _ (named : Numbered) (layout : Layout) (before : ℕ) (first : Space) whe
         let now = goes_by turn.act refl in
         noted_drawn turn at same_space now.0 now.1 now.2
         (λ one among some. had_on named layout before first past.turns (turn ∷ []) (named.stamps one.number)
-        (had_turn named layout before first past.opens past.turns at.owing.own space at.so nobody (λ one among. (at.opens.grants one among).grants) one among some))
+        (had_turn named layout before first past.opens past.turns at.owing.own space at.so nobody
+        (λ one among. (at.opens.grants one among).grants) one among some))
       where
         rule : NotedRule before core.0 turn past
         rule = at.owing.may.0.1
@@ -155,7 +158,8 @@ module _ (named : Numbered) (layout : Layout) (before : ℕ) (first : Space) whe
                   let aloft = at.opens.aloft flies.flight.slot flying.work flying.there flying.aloft in
                   let stamp : turn.stamp.0 ≡ named.stamps aloft.one.number =
                   flies.stamp_is ∙ (ap (λ (f : Flush). f.stamp) (sym flying.flush) ∙ (aloft.stamp_is ∙ ap named.stamps (sym aloft.number_is))) in
-                  stays (cut_goes named layout before first past.opens past.turns at.owing.own space at.so nobody (λ one among. (at.opens.grants one among).grants)
+                  stays (cut_goes named layout before first past.opens past.turns at.owing.own space at.so nobody
+                  (λ one among. (at.opens.grants one among).grants)
                   aloft.one aloft.among turn is stamp)
             ]
 

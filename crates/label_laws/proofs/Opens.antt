@@ -95,7 +95,8 @@ module _ (named : Numbered) where
     ]
 
     -- a label that changes of each slot at most what is known keeps it so
-    quiet_fit : (fact : Label) → (own_label fact (past.owns core)).reserved ≡ (past.owns core).reserved → (own_owed fact (own core)).granted ≡ (own core).granted
+    quiet_fit : (fact : Label) → (own_label fact (past.owns core)).reserved ≡ (past.owns core).reserved → (own_owed fact (own core)).granted
+        ≡ (own core).granted
         → (box_label layout core fact past).opens ≡ past.opens
         → ((j : ℕ) (new : SlotWork) → (box_label layout core fact past).slots j ≡ Some new → Came (λ k. KeepsTold) past.slots j new) → SoThen fact
     quiet_fit fact same_reserved same_granted same_opens come =
@@ -272,7 +273,15 @@ module _ (named : Numbered) where
           (λ c n apart is. let at = so.reserved_open c n is in
           record { one = at.one; among = in_left past.opens (new ∷ []) at.one at.among; number_is = at.number_is; gives = at.gives; some = at.some });
       aloft = λ k work there aloft. let at = so.aloft k work there aloft in
-          record { one = at.one; among = in_left past.opens (new ∷ []) at.one at.among; number_is = at.number_is; stamp_is = at.stamp_is; frees = at.frees; writes = at.writes };
+          record {
+            one = at.one;
+            among = in_left past.opens (new ∷ []) at.one at.among;
+            number_is = at.number_is;
+            stamp_is = at.stamp_is;
+            frees =
+                at.frees;
+            writes = at.writes;
+          };
       grants = λ one among. elim (last_or_before past.opens new one among) [
         | inl old ↦ so.grants one old
         | inr same ↦ subst (λ (o : ReservedCommit). ReservedAs named o.number o.seen o.grant) same grants
@@ -316,4 +325,5 @@ module _ (named : Numbered) where
         quiet_fit (label.Shut k done) refl refl refl (changed_slots k (known_gated done shut_gate))
     opens_label teller at_core (label.Idled k) rule tells told =
         quiet_fit (label.Idled k) refl refl refl (idled_came (λ k. KeepsTold) past.slots (λ j work. told_itself work) k)
-    opens_label teller at_core (label.Empty commit cut opened durable) rule tells told = leaves_fit (label.Empty commit cut opened durable) commit rule.number refl
+    opens_label teller at_core (label.Empty commit cut opened durable) rule tells told =
+        leaves_fit (label.Empty commit cut opened durable) commit rule.number refl

@@ -378,11 +378,13 @@ module _ (layout : Layout) (before : ℕ) (stamps : ℕ → ℕ) where
     granted = λ turn noted did.
         let at = place turn noted in
         noted_granted noted.front noted.core ((past_from layout noted.front (first_past moment)).owns noted.core.0) turn (at.own noted.core.0).owes
-        (at.own noted.core.0).may (at.due noted.core.0) (at.reserved noted.core.0) (tells noted.front (past_from layout noted.front (first_past moment)) noted.core (label.Noted turn) noted.back at) did;
+        (at.own noted.core.0).may (at.due noted.core.0) (at.reserved noted.core.0)
+        (tells noted.front (past_from layout noted.front (first_past moment)) noted.core (label.Noted turn) noted.back at) did;
     given_back = λ turn noted did.
         let at = place turn noted in
         noted_returned noted.front noted.core ((past_from layout noted.front (first_past moment)).owns noted.core.0) turn (at.own noted.core.0).owes
-        (at.own noted.core.0).may (at.due noted.core.0) (at.returned noted.core.0) (tells noted.front (past_from layout noted.front (first_past moment)) noted.core (label.Noted turn) noted.back at) did;
+        (at.own noted.core.0).may (at.due noted.core.0) (at.returned noted.core.0)
+        (tells noted.front (past_from layout noted.front (first_past moment)) noted.core (label.Noted turn) noted.back at) did;
     durable = λ turn noted did. (place turn noted).may.0.1.no_durable did;
   }
     where

@@ -189,7 +189,8 @@ module _ (stamps : ℕ → ℕ) (core : ℕ) where
     own_cut = λ e. absurd (no_cut (sym is ∙ e));
   }
 
-  refusal_stands : (number : ℕ) (flush : Flush) (turn : Turn) (told : OwnTold) (may : OwesTurn) → IsRefusal core number flush turn → NotesFreely stamps may told turn
+  refusal_stands : (number : ℕ) (flush : Flush) (turn : Turn) (told : OwnTold) (may : OwesTurn) → IsRefusal core number flush turn
+      → NotesFreely stamps may told turn
   refusal_stands number flush turn told may (is_halted by) =
       other_stands may turn told act.Halted by.did_is (λ e. cc e) (λ e. cc e) (λ e. cc e)
   refusal_stands number flush turn told may (is_short kind need free by) =

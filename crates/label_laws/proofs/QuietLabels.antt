@@ -45,11 +45,13 @@ module _ (named : Numbered) (layout : Layout) (before : ℕ) (first : Space) whe
         → (drawn : Space) → MapGoes named.pairs first (past.turns ++ more) drawn → AreSameMaps drawn next → Then fact
     free_label fact at does told nobody none were more turns_are drawn goes same =
         drawing_then named layout before first done past core fact rest space next at does told
-        (subst (λ turns. DrawnSo named layout before first (after_label layout core.0 fact past).opens turns (with_at at.owing.own core.0 (own_owed fact (at.owing.own core.0))) next)
+        (subst (λ turns. DrawnSo named layout before first (after_label layout core.0 fact past).opens turns
+        (with_at at.owing.own core.0 (own_owed fact (at.owing.own core.0))) next)
         (sym turns_are)
         (free_drawn named layout before first past.opens past.turns at.owing.own space at.so nobody (λ one among. (at.opens.grants one among).grants)
         (after_label layout core.0 fact past).opens (with_at at.owing.own core.0 (own_owed fact (at.owing.own core.0))) more next drawn
-        (none_then named layout before first past core.0 at.owing.own (others_may layout before named.stamps done past core fact rest at.owing) fact none) were goes same))
+        (none_then named layout before first past core.0 at.owing.own (others_may layout before named.stamps done past core fact rest at.owing) fact none)
+        were goes same))
 
     -- one that neither makes a turn nor moves the map
     pub quiet_label : (fact : Label) (at : At fact) (does : SpaceDoes (Told core fact) past space next) (told : FitsBringing named (Told core fact))

@@ -59,7 +59,8 @@ free_found first (Granted ∷ statuses) number one =
 
 status_at : (pool : Pool) (place : ℕ) → status_of pool (pool.first + place) ≡ slice_get pool.statuses place
 status_at pool place =
-    ap (λ b. if b then slice_get pool.statuses ((pool.first + place) - pool.first) else None) (let is : nat_le pool.first (pool.first + place) ≡ true = grind (arith, nat_tests) in is)
+    ap (λ b. if b then slice_get pool.statuses ((pool.first + place) - pool.first) else None)
+    (let is : nat_le pool.first (pool.first + place) ≡ true = grind (arith, nat_tests) in is)
     ∙ ap (slice_get pool.statuses) (let is : (pool.first + place) - pool.first ≡ place = omega arith in is)
 
 -- a number is listed as free where its status is Free
@@ -136,7 +137,8 @@ module _ (one other : Pool) (same : (number : ℕ) → status_of one number ≡ 
     counted = grants.counted;
     ascending = grants.ascending;
     free = λ i d less. same _ ∙ grants.free i d less;
-    granted = λ number. grants.granted number ∙ ap (λ (s : Option Status). if is_listed numbers number then option_map (λ _. Granted) s else s) (sym (same number));
+    granted = λ number. grants.granted number
+        ∙ ap (λ (s : Option Status). if is_listed numbers number then option_map (λ _. Granted) s else s) (sym (same number));
     left = grants.left ∙ sym same_count;
   }
 

@@ -51,7 +51,8 @@ use Rattle.label_laws.specs.Maps.{Numbered, AreSameMaps, bringing_of, FreesAs, I
 use Rattle.label_laws.specs.Beside.{BeginsLabels, stamps_under, TellsAt}
 use Rattle.label_laws.proofs.Drawn.{Drawing, ends_from, returned_from, reserved_from}
 
-module _ (layout : Layout) (start : Volume) (entries : List OldEntry) (named : Numbered) (first : Space) (begins : BeginsLabels layout start entries first) where
+module _ (layout : Layout) (start : Volume) (entries : List OldEntry) (named : Numbered) (first : Space)
+    (begins : BeginsLabels layout start entries first) where
   -- By the stamps of the commits that are done and those that are open.
   pub record BesideSo (done opens : List ℕ) (space : Space) : Type 0 where
     pub volume : Volume
@@ -62,7 +63,8 @@ module _ (layout : Layout) (start : Volume) (entries : List OldEntry) (named : N
   abbrev one_under : ℕ → Bringing
   one_under stamp = bringing_under named.pairs stamp
 
-  imagined : (done : List ℕ) (volume : Volume) → Imagines start (brought_under named.pairs done) volume → IsImagined start (brought_under named.pairs done) volume
+  imagined : (done : List ℕ) (volume : Volume) → Imagines start (brought_under named.pairs done) volume
+      → IsImagined start (brought_under named.pairs done) volume
   imagined done volume imagines = imagined_are_those start volume (brought_under named.pairs done) begins.walk.stands imagines
 
   layout_at : (done : List ℕ) (volume : Volume) → Imagines start (brought_under named.pairs done) volume → volume.layout ≡ layout
@@ -129,7 +131,8 @@ module _ (layout : Layout) (start : Volume) (entries : List OldEntry) (named : N
       its : (volume : Volume) → Imagines start brought volume → Brings volume (one_under own)
       its volume imagines = ((so.beside volume imagines).opens own among).brings
 
-      beside_then : (volume : Volume) → Imagines start (brought_under named.pairs (done ++ own ∷ [])) volume → PairsBeside named.pairs (done ++ own ∷ []) rest volume
+      beside_then : (volume : Volume) → Imagines start (brought_under named.pairs (done ++ own ∷ [])) volume
+          → PairsBeside named.pairs (done ++ own ∷ []) rest volume
       unfolding ending
       beside_then volume imagines =
           let last = last_imagined start volume (brought_under named.pairs (done ++ own ∷ [])) imagines brought (one_under own) (brought_more done own) in
@@ -144,7 +147,8 @@ module _ (layout : Layout) (start : Volume) (entries : List OldEntry) (named : N
           let layout_is = layout_at done so.volume so.imagines in
           subst (λ those. IsMapOf layout those next)
           (sym (ap (λ l. entries_once l entries) (brought_more done own) ∙ once_more brought (one_under own) entries))
-          (subst (λ l. IsMapOf l (entries_behind (one_under own).nodes (one_under own).plan (one_under own).grant (entries_once brought entries)) next) layout_is
+          (subst (λ l. IsMapOf l (entries_behind (one_under own).nodes (one_under own).plan (one_under own).grant (entries_once brought entries)) next)
+          layout_is
           (commits_keep_maps so.volume (with_those so.volume (one_under own) brings (entries_once brought entries) keeps)
           (entries_behind (one_under own).nodes (one_under own).plan (one_under own).grant (entries_once brought entries)) ends.tx space next
           (planned_those so.volume (one_under own) brings (entries_once brought entries) keeps)
@@ -204,7 +208,8 @@ module _ (layout : Layout) (start : Volume) (entries : List OldEntry) (named : N
           ap (λ (p : ℕ × List ℕ). named.stamps p.0 ∷ p.1) (λ i. (giving_number number numbers one i, giving_stamps number numbers opens i))
 
       -- the stamps of open commits with other numbers differ
-      pub stamps_differ : (fact : Label) (at : Here fact) (one other : ReservedCommit) → IsOneOf past.opens one → IsOneOf past.opens other → one.number ≢ other.number
+      pub stamps_differ : (fact : Label) (at : Here fact) (one other : ReservedCommit) → IsOneOf past.opens one → IsOneOf past.opens other
+          → one.number ≢ other.number
           → named.stamps one.number ≢ named.stamps other.number
       stamps_differ fact at one other among there apart same =
           apart (sym (at.opens.grants one among).made.number_is
@@ -243,7 +248,8 @@ module _ (layout : Layout) (start : Volume) (entries : List OldEntry) (named : N
             | inl split ↦
                 split.own
                 ∙ ap (λ c. c ∷ []) (same_commit past.opens once split.one own.commit
-                (subst (λ l. IsOneOf l split.one) (sym split.whole) (at_seam split.before split.behind split.one)) own.among (split.number_is ∙ sym own.number_is))
+                (subst (λ l. IsOneOf l split.one) (sym split.whole) (at_seam split.before split.behind split.one)) own.among
+                (split.number_is ∙ sym own.number_is))
             | inr lacks ↦ absurd (lacks.none own.commit own.among own.number_is)
           ])
           ∙ map-append (λ (c : ReservedCommit). named.stamps c.number) past.done (own.commit ∷ [])
@@ -293,7 +299,8 @@ module _ (layout : Layout) (start : Volume) (entries : List OldEntry) (named : N
           (at.opens.grants back.own.commit back.own.among).grants same_map at.theirs)
 
       -- a commit that reserves is apart from those that are open
-      reserved_apart : (commit : ℕ) (seen : Roomy Seen) (grant : GrantedNumbers) → Here (label.Reserved commit seen grant) → There (label.Reserved commit seen grant)
+      reserved_apart : (commit : ℕ) (seen : Roomy Seen) (grant : GrantedNumbers) → Here (label.Reserved commit seen grant)
+          → There (label.Reserved commit seen grant)
           → ReservedAs named commit seen.items grant → (other : ℕ) → IsOneOf (stamps_under named past.opens) other
           → ArePairsApart (named.pairs (named.stamps commit)) (named.pairs other)
       reserved_apart commit seen grant at then told other one =
@@ -335,7 +342,8 @@ module _ (layout : Layout) (start : Volume) (entries : List OldEntry) (named : N
               → is_listed (part other) i ≡ true
           listed_in i {one} {other} same part there = subst (λ g. is_listed (part g) i ≡ true) same (in_is_among (part one) i there)
 
-      reserved_so : (commit : ℕ) (seen : Roomy Seen) (grant : GrantedNumbers) → Here (label.Reserved commit seen grant) → There (label.Reserved commit seen grant)
+      reserved_so : (commit : ℕ) (seen : Roomy Seen) (grant : GrantedNumbers) → Here (label.Reserved commit seen grant)
+          → There (label.Reserved commit seen grant)
           → TakesGrant space grant next → ReservedAs named commit seen.items grant
           → TellsAt start named (Told core (label.Reserved commit seen grant)) past → Then (label.Reserved commit seen grant)
       reserved_so commit seen grant at then takes told tells =

@@ -1,17 +1,16 @@
 -- In the end a core and its pen agree on the whole history.
-use Rattle.std.proofs.Common.{◌≡◌, ◌⊎◌, ℕ, Bool, true, false, List, filter, inl, inr, refl, sym, ap, ◌∙◌, subst}
-use Rattle.std.specs.Prelude.{not, if◌then◌else◌, Some, None}
+use Rattle.std.specs.Prelude.{if◌then◌else◌, not, Some, None}
 use mathlib.Core.List.{IsPrefix}
 use borrow.Author.Tests.{eqb-true, eq-eqb}
+use Rattle.std.proofs.Common.{◌≡◌, ◌∙◌, ℕ, Bool, true, false, List, filter, refl, sym, ap, subst}
 use Rattle.sfs_base.specs.declared.numbers.NodeId.{NodeId}
 use Rattle.sfs_base.proofs.BasicTruth.{true_not_false}
 use Rattle.tree_laws.specs.declared.call.Call.TheVariants as call
 use Rattle.tree_laws.specs.declared.history.Entry.{Entry}
-use Rattle.tree_laws.specs.declared.reply.Reply.{Reply}
 use Rattle.tree_laws.specs.declared.reply.Code.TheVariants.{NoEntry}
 use Rattle.tree_laws.specs.declared.reply.Reply.TheVariants as reply
 use Rattle.tree_laws.specs.declared.turns.Turn.{Turn}
-use Rattle.tree_laws.specs.History.{IsLegal, MayCome, IsDue, IsFsyncReply, flushes, tree_after}
+use Rattle.tree_laws.specs.History.{IsLegal, MayCome, IsDue, flushes}
 use Rattle.tree_laws.specs.Merged.{is_core}
 use Rattle.tree_laws.specs.Tree.{TreeState, is_alive}
 use Rattle.tree_laws.specs.Verdict.{verdict, answered, or_else, node_fault}
@@ -22,6 +21,7 @@ use Rattle.cut_laws.proofs.RunFacts.{in_filter}
 use Rattle.turn_laws.specs.Recorded.{IsLiveFsync}
 use Rattle.merge_laws.specs.Pens.{FsyncTurns, IsPenFsync, PenAgrees, failed_in}
 use Rattle.stamp_table.specs.Answered.{is_refusal}
+use Rattle.stamp_table.proofs.Answered.{fsync_reply_serves}
 use Rattle.mem_values.specs.Start.{FileHand}
 use Rattle.pen_laws.specs.Agreement.{IsServedFsync, AgreeOn, Agree}
 use Rattle.pen_laws.specs.Laws.{AgreementsClose}
@@ -45,18 +45,9 @@ served_alive tree stamp entry node may fsync served =
 alive_served : (tree : TreeState) (stamp : ℕ) (entry : Entry) (node : NodeId) → MayCome tree stamp entry → entry.call ≡ call.Fsync node
     → is_alive tree node.0 ≡ true → is_refusal entry.reply ≡ false
 alive_served tree stamp entry node may fsync alive =
-    by entry.reply
+    fsync_reply_serves entry.reply
     (subst (λ b. IsDue b (or_else (node_fault tree node.0) (answered reply.Ok)).reply entry.reply) alive
     (subst (λ c. IsDue (flushes tree c) (verdict tree entry.core.0 c).reply entry.reply) fsync may.due))
-  where
-    by : (given : Reply) → IsFsyncReply given → is_refusal given ≡ false
-    by reply.Ok due = refl
-    by reply.DiskFailed due = refl
-    by (reply.NoSpace kind need free) due = refl
-    by (reply.Stopped faults) due = refl
-    by reply.NoMemory due = refl
-    by (reply.Error code) due = absurd due
-    by _ due = refl
 
 module _ (first : TreeState) (history : List Entry) (core : ℕ) (hand : FileHand) (seen turns : List Turn) (fsyncs : List FsyncTurns)
     (legal : IsLegal first history) (entries : hand.entries ≡ filter (is_core core) history) (on : IsPrefix seen turns) (agree : Agree hand seen fsyncs) where

@@ -1,5 +1,5 @@
 -- A core and its pen go on agreeing.
-use Rattle.std.proofs.Common.{◌≡◌, ◌≢◌, ◌⊎◌, ℕ, ◌+◌, ◌<◌, ◌≤◌, Bool, true, false, List, [], ◌∷◌, ◌++◌, Option, Some, None, length, inl, inr, refl, sym, ap, ◌∙◌, subst, arith}
+use Rattle.std.proofs.Common.{◌≡◌, ◌≢◌, ◌⊎◌, ℕ, ◌+◌, ◌≤◌, List, [], ◌∷◌, ◌++◌, Option, Some, None, inl, inr, refl, sym, ap, ◌∙◌, subst, arith}
 use mathlib.Core.List.{IsPrefix}
 use Rattle.std.specs.Option.{option_or}
 use Rattle.sfs_base.specs.declared.numbers.NodeId.{NodeId}
@@ -18,8 +18,8 @@ use Rattle.stamp_table.specs.Answered.{asks_fsync, is_refusal}
 use Rattle.mem_values.specs.Start.{FileHand}
 use Rattle.mem_values.proofs.Told.{calls_grow}
 use Rattle.fsync_stamp.specs.Adding.{AddsCall, calls_seen}
-use Rattle.pen_laws.specs.Agreement.{IsServedFsync, HasTurnsOf, AgreeOn, Agree}
-use Rattle.pen_laws.specs.Laws.{NewCoresAgree, SeesOn, AgreementLasts, HasNoTurns, OtherCallsAgree, AddsFsync, FsyncsAgree}
+use Rattle.pen_laws.specs.Agreement.{IsServedFsync, HasTurnsOf, AgreeOn}
+use Rattle.pen_laws.specs.Laws.{NewCoresAgree, AgreementLasts, HasNoTurns, OtherCallsAgree, FsyncsAgree}
 
 -- the first failure of some turns is that of more
 pub failed_stays : (turns more : List Turn) (faults : ℕ) → failed_in turns ≡ Some faults → failed_in (turns ++ more) ≡ Some faults

@@ -5,7 +5,7 @@ use std::process::Abort;
 use words::{Command, WordsFault, command_asked};
 
 // Words and what they ask for.
-static ASKED: [(&[&str], Answer); 16] = [
+static ASKED: [(&[&str], Answer); 28] = [
     (&["show"], Answer::Show),
     (&["run"], Answer::Run(4096)),
     (&["run", "1"], Answer::Run(1)),
@@ -21,7 +21,31 @@ static ASKED: [(&[&str], Answer); 16] = [
         &["mkfs", "262144", "16384", "16", "8"],
         Answer::Mkfs(262_144, 16_384, 16, 8),
     ),
+    (&["run", "2"], Answer::Run(2)),
+    (&["mkfs", "9", "16", "1"], Answer::Mkfs(9, 16, 1, 1)),
+    (&["mkfs", "64", "16", "1"], Answer::Mkfs(64, 16, 1, 1)),
+    (&["mkfs", "8", "16", "2"], Answer::Mkfs(8, 16, 2, 1)),
+    (&["mkfs", "31", "64", "2"], Answer::Mkfs(31, 64, 2, 1)),
+    (&["mkfs", "32", "64", "2"], Answer::Mkfs(32, 64, 2, 1)),
+    (
+        &["mkfs", "16384", "2048", "4"],
+        Answer::Mkfs(16_384, 2048, 4, 1),
+    ),
+    (
+        &["mkfs", "1024", "64", "2", "2"],
+        Answer::Mkfs(1024, 64, 2, 2),
+    ),
+    (
+        &["mkfs", "1024", "64", "2", "1"],
+        Answer::Mkfs(1024, 64, 2, 1),
+    ),
+    (
+        &["mkfs", "262144", "16384", "16", "2"],
+        Answer::Mkfs(262_144, 16_384, 16, 2),
+    ),
     (&["load", "0", "1", "1"], Answer::Load(0, 1, 1)),
+    (&["load", "5", "100", "4"], Answer::Load(5, 100, 4)),
+    (&["load", "7", "1000", "16"], Answer::Load(7, 1000, 16)),
     (&["load", "1", "4", "1"], Answer::Load(1, 4, 1)),
     (
         &["load", "4294967295", "4000", "16"],
@@ -113,7 +137,7 @@ static NO_COMMAND: [&[&str]; 75] = [
 ];
 
 // Words with numbers, and the place of the first that is none of its range.
-static BAD_NUMBERS: [(&[&str], u32); 55] = [
+static BAD_NUMBERS: [(&[&str], u32); 56] = [
     (&["check", "0"], 1),
     (&["check", "65537"], 1),
     (&["check", "01"], 1),
@@ -154,6 +178,7 @@ static BAD_NUMBERS: [(&[&str], u32); 55] = [
     (&["mkfs", "8", "16", "17", "9"], 3),
     (&["mkfs", "8", "16", "1", "0"], 4),
     (&["mkfs", "8", "16", "1", "9"], 4),
+    (&["mkfs", "1024", "64", "2", "9"], 4),
     (&["mkfs", "8", "16", "1", "01"], 4),
     (&["mkfs", "8", "16", "1", ""], 4),
     (&["mkfs", "8", "16", "1", "8 "], 4),
@@ -237,12 +262,10 @@ fn words_ask_for_commands(rt: HostRuntime) {
     assert_asked(&rt, rt.alloc(), &ASKED);
 }
 
+// Too few words and too many, signs, zeros before a number, spaces, empty words, numbers outside of their ranges at each place, words that
+// are no command, and clap's own.
 #[test]
-fn words_that_are_no_command_are_bad_at_0(rt: HostRuntime) {
+fn faulty_words_are_named_by_their_place(rt: HostRuntime) {
     assert_none(&rt, rt.alloc(), &NO_COMMAND);
-}
-
-#[test]
-fn bad_numbers_are_named_by_their_place(rt: HostRuntime) {
     assert_faulty(&rt, rt.alloc(), &BAD_NUMBERS);
 }

@@ -1,4 +1,4 @@
-use Rattle.std.proofs.Common.{◌≡◌, subst}
+use Rattle.std.proofs.Common.{subst}
 use Rattle.driven_journals.specs.declared.seat.Seat.{Seat}
 use Rattle.driven_journals.specs.Seats.{SeatGoes}
 use Rattle.driven_journals.proofs.driven.commit_each.Goals as goal

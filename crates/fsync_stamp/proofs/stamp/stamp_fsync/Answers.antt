@@ -1,7 +1,7 @@
-use Rattle.std.proofs.Common.{true, subst}
+use Rattle.std.proofs.Common.{true, false, subst}
 use Rattle.mem_calls.proofs.HeldKinds.{still_directory}
-use Rattle.fsync_stamp.specs.Stamping.{EndsStamp}
-use Rattle.fsync_stamp.proofs.Waiting.{on_stamp, stamps_live}
+use Rattle.fsync_stamp.specs.Stamping.{StampsHeld}
+use Rattle.fsync_stamp.proofs.Waiting.{answers_dead, on_stamp, stamps_live}
 use Rattle.fsync_stamp.proofs.stamp.stamp_fsync.Goals as goal
 
 pub lives_in-lives-requires-clause-held : goal.lives_in-lives-requires-clause-held
@@ -13,7 +13,17 @@ returns-then-lives g c =
     let t = c.args.shared.now in
     let stamp = c.stamp_held-stamp.result.0 in
     let after = c.stamp_held-stamp.new.core in
-    let ends = subst (λ lives. EndsStamp t c.args.node lives stamp c.hold_part.new.core after) c.if-lives.true c.stamp_held-stamp.ensures in
+    let held = subst (λ lives. StampsHeld t c.args.nodes c.args.node lives stamp c.hold_part.new.core after) c.if-lives.true c.stamp_held-stamp.ensures in
     stamps_live t c.args.node stamp c.args.core.now after c.requires.core.holds_none
     (on_stamp t c.args.node true stamp c.args.core.now c.hold_directory.new.core after c.hold_directory.ensures.on
-    (on_stamp t c.args.node true stamp c.hold_directory.new.core c.hold_part.new.core after c.hold_part.ensures.on ends))
+    (on_stamp t c.args.node true stamp c.hold_directory.new.core c.hold_part.new.core after c.hold_part.ensures.on held.ends))
+
+pub returns-else-lives : goal.returns-else-lives
+returns-else-lives g c =
+    let t = c.args.shared.now in
+    let stamp = c.stamp_held-stamp.result.0 in
+    let after = c.stamp_held-stamp.new.core in
+    let held = subst (λ lives. StampsHeld t c.args.nodes c.args.node lives stamp c.hold_part.new.core after) c.if-lives.false c.stamp_held-stamp.ensures in
+    answers_dead t c.args.node stamp c.args.core.now after
+    (on_stamp t c.args.node false stamp c.args.core.now c.hold_directory.new.core after c.hold_directory.ensures.on
+    (on_stamp t c.args.node false stamp c.hold_directory.new.core c.hold_part.new.core after c.hold_part.ensures.on held.ends))

@@ -5,7 +5,7 @@ use Rattle.stamp_table.specs.Table.{Stamps, MayCall}
 use Rattle.mem_values.specs.Facts.{IsLawfulLog}
 use Rattle.mem_values.specs.Stands.{StandsAt}
 use Rattle.tree_laws.specs.declared.call.Call.TheVariants as call
-use Rattle.fsync_stamp.proofs.Stamped.{may_stamp, room_for_none, all_home, ends}
+use Rattle.fsync_stamp.proofs.Stamped.{may_stamp, room_for_none, all_home, held_ends}
 use Rattle.fsync_stamp.proofs.stamp.stamp_held.Goals as goal
 
 pub stamp-stamp-requires-clause-may : goal.stamp-stamp-requires-clause-may
@@ -39,6 +39,6 @@ returns c =
     subst (λ r. Stamps (IsLawfulLog (given_by c.args.shared.now)) (StandsAt (given_by c.args.shared.now)) (call.Fsync c.args.node) r c.args.core.now
     c.stamp-stamp.result.0 c.stamp-stamp.new.self) c.reply_for_now.ensures c.stamp-stamp.ensures in
     let takes = subst (λ l. TakesEntry c.args.nodes l c.stamp-stamp.new.self c.add_entry.new.core) (ap (λ r. r.items) c.new.ensures) c.add_entry.ensures in
-    ends (given_by c.args.shared.now) c.args.shared.now c.args.nodes c.args.core.now c.requires.table c.requires.work c.args.node c.args.lives
+    held_ends (given_by c.args.shared.now) c.args.shared.now c.args.nodes c.args.core.now c.requires.table c.requires.work c.args.node c.args.lives
     c.requires.lives c.stamp-stamp.result.0 c.stamp-stamp.new.self stamps c.add_entry.new.core takes c.let_go.new.self c.let_go.ensures.lets_go
     c.let_go.ensures.left c.let_go.ensures.places

@@ -1,11 +1,10 @@
-use Rattle.std.specs.Prelude.{option_map, vec_capacity}
-use Rattle.std.specs.List.{cons_option}
-use Rattle.std.proofs.Common.{◌≡◌, ◌≤◌, ◌+◌, ◌∙◌, ◌++◌, ◌∷◌, [], length, get_or, take, sym, ap, subst, arith, append-nil, length-append}
+use Rattle.std.specs.Prelude.{vec_capacity}
+use Rattle.std.proofs.Common.{◌∙◌, ◌∷◌, [], length, get_or, set, sym, ap, subst, arith, append-nil, length-append}
 use Rattle.std.proofs.lemmas.List.{take_all}
 use Rattle.keyed_list.specs.Ascending.{AscendBy}
 use Rattle.disk_nodes.specs.Nodes.{entry_node}
-use Rattle.fsync_values.specs.Lending.{entries_of}
-use Rattle.fsync_values.proofs.Lent.{read_was, lend_next, entries_more}
+use Rattle.fsync_values.specs.Lending.{old_of_value, entries_of}
+use Rattle.fsync_values.proofs.Lent.{with_entry, entries_next, read_was, lend_next}
 use Rattle.fsync_values.proofs.Renewed.{entries_ascend}
 use Rattle.fsync_values.proofs.lending.lend.Goals as goal
 use Rattle.fsync_values.proofs.lending.lend.Goals.{in-Some, in_default}
@@ -20,22 +19,22 @@ loop-at-preserved c =
     let within = c.loop-at-test.true in
     let count = c.requires.count in
     let own = read_was at was now c.index_mut.result.now (omega (arith, within, count)) inv.values c.index_mut.ensures.value in
-    let values = lend_next at was now c.index_mut.result.now c.lend_one.new.value (omega (arith, within, count)) inv.values c.index_mut.ensures.value
-    c.lend_one.ensures.value in
+    let values = ap (set now at) c.lend_one.ensures.value
+    ∙ lend_next at was now c.index_mut.result.now (omega (arith, within, count)) inv.values c.index_mut.ensures.value in
+    let node = get_or nodes at (record { 0 = 0 }) in
+    let entries =
+    (λ i. with_entry (inv.entries i) node ((c.lend_one.ensures.old ∙ ap old_of_value own) i))
+    ∙ sym (entries_next at nodes was (record { 0 = 0 }) c.index_mut.result.now count within) in
     elim c.match-lend_one.branch [
       | in-Some w ↦
           let same = w.entries-is in
           record {
             values = values;
-            entries =
-                entries_more at nodes was c.index_mut.result.now (record { 0 = 0 }) c.lend_one.result c.loop-at.entries.items c.match-lend_one.entries.items count within own
-                c.lend_one.ensures.old inv.entries
-                (ap (λ v. v.items) same ∙ w.push_reserved.ensures.items
-                ∙ ap (λ o. c.loop-at.entries.items ++ cons_option (option_map (λ old. record { node = get_or nodes at (record { 0 = 0 }); old = old }) o) []) (sym w.in-Some.is));
+            entries = ap (λ v. v.items) same ∙ w.push_reserved.ensures.items ∙ ap (with_entry c.loop-at.entries.items node) (sym w.in-Some.is) ∙ entries;
             few =
                 let long = ap (λ v. length v.items) same ∙ ap length w.push_reserved.ensures.items in
                 let few = inv.few in
-                let one = length-append c.loop-at.entries.items (record { node = get_or nodes at (record { 0 = 0 }); old = w.in-Some.old } ∷ []) in
+                let one = length-append c.loop-at.entries.items (record { node = node; old = w.in-Some.old } ∷ []) in
                 omega (arith, long, few, one);
             room = let cap = ap vec_capacity same ∙ w.push_reserved.ensures.capacity in let room = inv.room in omega (arith, cap, room);
           }
@@ -43,13 +42,8 @@ loop-at-preserved c =
           let same = w.entries-is in
           record {
             values = values;
-            entries =
-                entries_more at nodes was c.index_mut.result.now (record { 0 = 0 }) c.lend_one.result c.loop-at.entries.items c.match-lend_one.entries.items
-                count within own c.lend_one.ensures.old inv.entries
-                (ap (λ v. v.items) same ∙ sym (append-nil c.loop-at.entries.items)
-                ∙ ap
-                (λ o. c.loop-at.entries.items ++ cons_option (option_map (λ old. record { node = get_or nodes at (record { 0 = 0 }); old = old }) o) [])
-                (sym w.in_default.is));
+            entries = ap (λ v. v.items) same ∙ sym (append-nil c.loop-at.entries.items)
+                ∙ ap (with_entry c.loop-at.entries.items node) (sym w.in_default.is) ∙ entries;
             few = let long = ap (λ v. length v.items) same in let few = inv.few in omega (arith, long, few);
             room = let cap = ap vec_capacity same in let room = inv.room in omega (arith, cap, room);
           }

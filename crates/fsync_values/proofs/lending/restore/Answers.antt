@@ -1,7 +1,6 @@
-use Rattle.std.proofs.Common.{◌≡◌, ◌≤◌, ◌-◌, ◌∙◌, length, sym, ap, subst, arith, length-append}
-use Rattle.std.proofs.lemmas.List.{length-set}
-use Rattle.mem_values.specs.declared.cell.Cell.{Cell}
-use Rattle.fsync_values.proofs.Lent.{IsRestored, lent_long, back_step, never_empty, skip_step, empty_list}
+use Rattle.std.proofs.Common.{◌-◌, ◌∙◌, length, sym, ap, arith}
+use Rattle.std.proofs.lemmas.List.{length-set, nil_from_length}
+use Rattle.fsync_values.proofs.Lent.{lent_long, back_step, never_empty, skip_step}
 use Rattle.fsync_values.proofs.lending.restore.Goals as goal
 
 pub loop-at-preserved-in-Some : goal.loop-at-preserved-in-Some
@@ -34,7 +33,7 @@ loop-at-preserved-in_default c =
           let same = c.loop-at.entries.ok.0 in
           absurd
           (never_empty at nodes was now c.loop-at.entries.items c.index.result.now some (omega (arith, within, long)) c.index.ensures so_far
-          (sym c.has_old.ensures ∙ c.if-has_old.true) (empty_list c.loop-at.entries.items (omega (arith, none, same))));
+          (sym c.has_old.ensures ∙ c.if-has_old.true) (nil_from_length c.loop-at.entries.items (omega (arith, none, same))));
       within = omega (arith, within);
     }
 

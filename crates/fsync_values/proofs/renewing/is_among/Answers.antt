@@ -1,7 +1,6 @@
 use Rattle.std.proofs.Common.{rules, sym, ap, ◌∙◌}
 use Rattle.std.specs.Prelude.{is_some}
 use Rattle.std.proofs.lemmas.List.Sorted.{answers_always}
-use Rattle.std.proofs.lemmas.List.Kept.{AllPairs-from_increasing}
 use Rattle.tree_laws.specs.NameRow.{node_number}
 use Rattle.keyed_list.proofs.Searched.{search_finds, search_misses}
 use Rattle.fsync_values.proofs.Renewed.{listed_item, nodes_ascend}

@@ -1,10 +1,10 @@
 use Rattle.std.proofs.Common.{◌∙◌, Some, ap, subst, Ok, sym}
 use Rattle.slot_laws.specs.Labels.{fsync_told}
 use Rattle.disk_box.specs.Pens.{PenHand}
-use Rattle.journal_set.specs.Emptying.{NOTHING}
+use Rattle.journal_set.specs.Emptying.{EndsAtOnce, NOTHING}
 use Rattle.journal_set.specs.Reserving.{ReserveRequest}
 use Rattle.journal_set.specs.Telling.{TellsAtBox, empty_labels, TellsNothing}
-use Rattle.journal_set.proofs.Nothing.{empties_refused, grant_of_nothing, over_calm}
+use Rattle.journal_set.proofs.Nothing.{empties_refused, empty_ends, grant_of_nothing, over_calm}
 use Rattle.journal_set.proofs.emptying.empty_at.Goals as goal
 use Rattle.journal_set.proofs.ToldCalls.{empty_told}
 use Rattle.journal_set.proofs.Told.{tells_nothing}
@@ -22,6 +22,18 @@ pub end_at_once-requires-clause-goes_on : goal.end_at_once-requires-clause-goes_
 end_at_once-requires-clause-goes_on g c κs within =
     let ok = c.in-Ok-number_commit.ensures.ok in
     over_calm c.args.table.now c.number_commit.new.pen ok.work.holds ok.work.calm
+
+pub returns-clause-comes : goal.returns-clause-comes
+returns-clause-comes g c =
+    let start = c.look_first.new.pen in
+    let mid = c.number_commit.new.pen in
+    let ok = c.in-Ok-number_commit.ensures.ok in
+    let ack = c.end_at_once.result in
+    let grants = grant_of_nothing c.in-Ok-number_commit.numbered.grant ok.reserved.inodes ok.reserved.blocks in
+    let asked : ReserveRequest = record { flush = fsync_told c.args.fsync.node c.args.fsync.stamp; seen = c.args.seen.now; need = NOTHING } in
+    subst (λ (h : PenHand g.row.D.Denot). EndsAtOnce asked h c.end_at_once.new.pen ack) c.in-Ok.ensures.ok.0
+    (empty_ends asked start mid c.end_at_once.new.pen ack c.in-Ok-number_commit.numbered.number c.in-Ok-number_commit.numbered.grant grants
+    c.end_at_once.ensures.commit ok.goes c.end_at_once.ensures.goes ok.own ok.reserved c.end_at_once.ensures.ends)
 
 pub returns-in-Err-clause-tells : goal.returns-in-Err-clause-tells
 returns-in-Err-clause-tells g c = c.in-Err.ensures.tells

@@ -1,4 +1,4 @@
-use Rattle.std.proofs.Common.{◌≡◌, ◌+◌, ◌∷◌, ◌++◌, ◌∙◌, ℕ, [], length, Some, None, refl, sym, ap, subst}
+use Rattle.std.proofs.Common.{◌≡◌, ◌+◌, ◌∷◌, ◌++◌, ◌∙◌, ℕ, [], length, Some, None, refl, sym, ap, subst, arith}
 use Rattle.sfs_base.specs.Lists.{Roomy}
 use Rattle.space_map.specs.Space.{GrantedNumbers}
 use Rattle.tree_laws.specs.Tree.{TreeState}
@@ -11,7 +11,7 @@ use Rattle.slot_laws.specs.declared.label.Seen.{Seen}
 use Rattle.slot_laws.specs.Nodes.{last_ended, last_seen}
 use Rattle.slot_laws.specs.Labels.{OwnTold, first_past}
 use Rattle.slot_laws.specs.Rules.{MayLabel, ReservedRule}
-use Rattle.slot_laws.specs.Grants.{SpaceGoes}
+use Rattle.slot_laws.specs.Grants.{SpaceGoes, TakesGrant}
 use Rattle.commit_ledger.specs.Calls.{EntersCommit, MayEnter}
 use Rattle.commit_ledger.specs.Keeps.{LedgerGoes}
 use Rattle.commit_ledger.specs.View.{HaveNodePlaces}
@@ -22,6 +22,7 @@ use Rattle.disk_box.proofs.After.{at_told, failed_told, past_fits_at}
 use Rattle.disk_box.proofs.Owes.{owns_own}
 use Rattle.journal_set.specs.Grants.{grant_from}
 use Rattle.journal_set.proofs.Parts.{grant_more, same_grant, same_nodes}
+use Rattle.journal_set.proofs.Rising.{seen_below}
 use Rattle.journal_set.proofs.Reserved.{entered_fits, may_enter, reserved_rule}
 use Rattle.journal_set.proofs.numbering.number_commit.Goals as goal
 
@@ -122,6 +123,11 @@ returns-clause-ok g c =
         space = desk.ledger.space;
         goes = subst (λ (k : BoxKey). SpaceGoes k.layout pen.view.seen (first_past k.start) k.space desk.ledger.space) (sym key_same) work.space;
         enough = c.in_ok-prepared.ensures.enough;
+        next = c.enter.new.self.space;
+        took = subst (λ (numbers : GrantedNumbers). TakesGrant desk.ledger.space numbers c.enter.new.self.space) grants
+            (goes.space (record { 0 = pen.view.core }));
+        numbered = omega (arith, next);
+        above = λ node last seen. seen_below pen.table.given pen.view.seen work.holds.lawful made.number next node last (c.requires.may.unmoved node last seen);
         inodes = ap (λ (n : GrantedNumbers). length n.inodes) (sym grants) ∙ ok.inodes;
         blocks = ap (λ (n : GrantedNumbers). length n.blocks) (sym grants) ∙ ok.blocks;
       };

@@ -14,6 +14,7 @@ use Rattle.disk_box.proofs.NotedRules.{granted_rule, short_rule}
 use Rattle.disk_box.proofs.StepsTold.{tells_both}
 use Rattle.journal_set.specs.Grants.{grant_from}
 use Rattle.journal_set.specs.Telling.{TellsAtBox, TellsOf, TellsNothing}
+use Rattle.journal_set.proofs.Nothing.{over_calm}
 use Rattle.journal_set.proofs.Parts.{grant_more, reserved_later}
 use Rattle.journal_set.proofs.Working.{calm_faults, looked_none, room_beside}
 use Rattle.journal_set.proofs.reserving.grant_or_refuse.Goals as goal
@@ -90,6 +91,7 @@ returns-clause-comes g c =
       by = record { did_is = by.did_is; core_is = by.core_is ∙ (c.number-2.ensures ∙ core_same); commit_is = by.commit_is; flush_is = by.flush_is };
       own = tells.own ∙ ap (own_label (label.Noted c.turn-turn-2.result)) ok.own;
       grant_is = ap (λ l. grant_from l None) tells.mine_is ∙ (grant_more pen.view.mine (label.Noted c.turn-turn-2.result) pen.view.core None ∙ ok.grant);
+      goes_on = over_calm c.args.table.now c.args.pen.now c.requires.may.work.holds c.requires.may.work.calm;
       reserved = reserved_later pen c.note_turn-2.new.pen pen.view.core c.args.pen.now.view.core core_same tells.goes ok.reserved;
     }
 

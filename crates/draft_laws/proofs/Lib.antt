@@ -1,0 +1,5 @@
+pub mod HeldNodes
+pub mod Entries
+pub mod Drafted
+pub mod Written
+pub mod Told

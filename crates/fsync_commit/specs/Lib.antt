@@ -1,0 +1,4 @@
+pub mod Asked
+pub mod Coming
+pub mod Granting
+pub mod Laws
