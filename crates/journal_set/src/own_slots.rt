@@ -63,7 +63,20 @@ fn shuts_next<D>(desk: &Desk<D>, owner: usize, k: usize) -> bool
     requires slots { length desk.now.waits.items ≤ length desk.now.slots.items }
     requires within { k < length desk.now.slots.items }
 {
-    desk.kind_at(k) == Kind::Opened && own_with(desk, CoreId(owner as u8), Kind::Copied).is_some()
+    desk.kind_at(k) == Kind::Opened && has_copied(desk, owner)
+}
+
+// Whether a core has a slot whose records are on the disk.
+fn has_copied<D>(desk: &Desk<D>, owner: usize) -> bool
+    requires cores { 0 < length desk.now.waits.items }
+    requires slots { length desk.now.waits.items ≤ length desk.now.slots.items }
+{
+    for k in 0..desk.slots.len() {
+        if desk.owner_of(k) == owner && desk.kind_at(k) == Kind::Copied {
+            return true;
+        }
+    }
+    false
 }
 
 // Whether another core has opened a gate, and has another to shut before it syncs.
