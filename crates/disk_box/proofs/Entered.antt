@@ -139,9 +139,13 @@ module _ {D : Type 0} (view : D → View) (t : TableState BoxKey) (before holdin
   has_place : Has holding.view.held 0
   has_place = subst (λ l. Has l 0) (sym holds.saw.held) (inl refl)
 
+  core_held : before.view.core ≡ holding.view.core
+  core_held = ap (λ (v : Sight TreeState (Event Label)). v.core) (sym holds.saw.frame)
+
   pub may_take : (seat : Sight TreeState (Event Label)) → seat ≡ holding.view → MayTell (Lawful view key) (Stood view key) seat label.Took
   may_take seat same = subst (λ s. MayTell (Lawful view key) (Stood view key) s label.Took) (sym same)
-      (may_tell view key holding.view label.Took has_place
+      (may_tell view key holding.view label.Took has_place (subst (λ (z : ℕ × TableName BoxKey). z.0 < z.1.given.layout.cores)
+      (λ i. (core_held i, outside.table_is i)) outside.core_is)
       (λ log past. (busy_none view key log value (past.held 0 (Some value) has_place holds.value.2 refl), tt)))
 
   -- It has told so, with the desk in its hands.
@@ -170,7 +174,7 @@ module _ {D : Type 0} (view : D → View) (t : TableState BoxKey) (before holdin
 
     lawful_log : LawfulBox key log
     lawful_log = (Rattle.slot_laws.proofs.NodesTold.may_parts key.layout key.faults log (event ∷ []) (first_past key.start)
-        (subst (LawfulBox key) tells.told.2.entry_last tells.told.2.legal_seen.told)).0
+        (subst (LawfulBox key) tells.told.2.entry_last tells.told.2.legal_seen.told.rules)).0
 
     fits_taken : DeskFits view key (past_of key after.view.seen) desk
     fits_taken = subst (λ (p : BoxPast). DeskFits view key p desk) (sym past_is)
@@ -205,7 +209,8 @@ module _ {D : Type 0} (view : D → View) (t : TableState BoxKey) (before holdin
       held = ap (λ (v : Sight TreeState (Event Label)). v.held) tells.told.2.frame
           ∙ (ap (λ (v : Sight TreeState (Event Label)). v.held) view_same
           ∙ (holds.saw.held ∙ ap (λ l. 0 ∷ l) outside.none_held));
-      lawful = subst (λ (k : BoxKey). LawfulBox k after.view.seen) (sym (ap (λ (d : TableName BoxKey). d.given) table_same)) tells.told.2.legal_seen.told;
+      lawful = subst (λ (k : BoxKey). LawfulBox k after.view.seen) (sym (ap (λ (d : TableName BoxKey). d.given) table_same))
+          tells.told.2.legal_seen.told.rules;
       mine = tells.told.2.own ∙ ap (λ c. entries_by event_core c after.view.seen) (core_same ∙ sym core_after);
       busy = ap (λ (k : BoxKey). (past_of k after.view.seen).busy) (ap (λ (d : TableName BoxKey). d.given) table_same)
           ∙ (ap (λ (p : BoxPast). p.busy) past_is ∙ ap Some (core_same ∙ sym core_after));

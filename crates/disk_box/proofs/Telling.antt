@@ -1,5 +1,5 @@
 -- What a core tells while it has the box stands right behind what it has seen.
-use Rattle.std.proofs.Common.{◌≡◌, ◌<◌, ◌∷◌, ◌++◌, ◌∙◌, ℕ, List, [], length, Option, Some, None, inl, refl, sym, ap, subst, arith, length-append, append-nil}
+use Rattle.std.proofs.Common.{◌≡◌, ◌<◌, ◌∷◌, ◌++◌, ◌∙◌, ℕ, List, [], length, Option, Some, None, inl, inr, refl, sym, ap, subst, arith, length-append, append-nil}
 use Rattle.std.proofs.lemmas.List.{nil_from_length}
 use Rattle.std.proofs.lemmas.List.Elements.{filter-append, filter_map-append}
 use Rattle.sfs_dev.specs.Disk.{View}
@@ -15,12 +15,14 @@ use Rattle.stamp_table.specs.Table.{TableState, TellsFact, MayTell}
 use Rattle.stamp_table.proofs.Logs.{own_comes}
 use Rattle.slot_laws.specs.declared.label.Label.{Label}
 use Rattle.slot_laws.specs.Labels.{OwnTold, after_label, own_label, own_from, first_past, past_from, nothing_told}
+use Rattle.slot_laws.specs.Laws.{AreOfCores}
 use Rattle.slot_laws.specs.Rules.{HasTurn, MayLabel}
 use Rattle.slot_laws.proofs.NodesTold.{may_parts, past_parts}
 use Rattle.slot_laws.proofs.Comes.{may_both}
+use Rattle.slot_laws.proofs.Numbered.{last_or_before}
 use Rattle.disk_box.specs.declared.key.BoxKey.{BoxKey}
 use Rattle.disk_box.specs.declared.desk.Desk.{Desk}
-use Rattle.disk_box.specs.Box.{past_of, LawfulBox, StandsBox}
+use Rattle.disk_box.specs.Box.{past_of, LawfulBox, StandsBox, WasTold}
 use Rattle.disk_box.specs.Pens.{PenHand, past_at, own_at, HoldsBox, PenGoes}
 use Rattle.disk_box.proofs.Still.{stands_still}
 
@@ -31,10 +33,18 @@ own_more [] fact core own = refl
 own_more (Called entry ∷ log) fact core own = own_more log fact core own
 own_more (Told other one ∷ log) fact core own = own_more log fact core (own_label one own)
 
+-- one event more of one of the cores
+one_more : (cores core : ℕ) (log : List (Event Label)) (fact : Label) → AreOfCores cores log → core < cores
+    → AreOfCores cores (log ++ Told (record { 0 = core }) fact ∷ [])
+one_more cores core log fact are low event among = elim (last_or_before log (Told (record { 0 = core }) fact) event among) [
+  | inl before ↦ are event before
+  | inr same ↦ subst (λ (e : Event Label). event_core e < cores) same low
+]
+
 module _ {D : Type 0} (view : D → View) (key : BoxKey) where
   -- what a box's table asks of a history, and of a value
   abbrev pub Lawful : TreeState → List (Event Label) → Type 0
-  Lawful first log = LawfulBox key log
+  Lawful first log = WasTold key log
 
   abbrev pub Stood : TreeState → List (Event Label) → ℕ → Option (Desk D) → Type 0
   Stood first log place value = place ≡ 0 → StandsBox view key log value
@@ -49,18 +59,21 @@ module _ {D : Type 0} (view : D → View) (key : BoxKey) where
   keeps_place seat fact log number has place None not stood = stood
   keeps_place seat fact log number has place (Some value) not stood = λ zero. absurd (not (subst (Has seat.held) (sym zero) has))
 
-  -- a label may be told that may be told by the rules behind each history that the core may meet
-  pub may_tell : (seat : Sight TreeState (Event Label)) (fact : Label) → Has seat.held 0
+  -- a label may be told, by one of the disk's cores, that may be told by the rules behind each history that the core may meet
+  pub may_tell : (seat : Sight TreeState (Event Label)) (fact : Label) → Has seat.held 0 → seat.core < key.layout.cores
       → ((log : List (Event Label)) → Met seat log
       → HasTurn seat.core fact (past_of key log).busy × MayLabel key.layout key.faults seat.core fact (past_of key log))
       → MayTell Lawful Stood seat fact
-  may_tell seat fact has may log past =
+  may_tell seat fact has core may log past =
       let next : List (Event Label) = log ++ told_by seat.core fact 0 ∷ [] in
       let same : calls_in next ≡ calls_in log = filter_map-append called log (told_by seat.core fact 0 ∷ []) ∙ append-nil (calls_in log) in
       record {
         legal_next = record {
           legal_calls = subst (λ l. IsLegal seat.first l) (sym same) past.legal_log.legal_calls;
-          told = may_both key.layout key.faults log (told_by seat.core fact 0 ∷ []) (first_past key.start) past.legal_log.told (may log past, tt);
+          told = record {
+            rules = may_both key.layout key.faults log (told_by seat.core fact 0 ∷ []) (first_past key.start) past.legal_log.told.rules (may log past, tt);
+            cores = one_more key.layout.cores seat.core log fact past.legal_log.told.cores core;
+          };
         };
         keeps = keeps_place seat fact log 0 has;
       }
@@ -84,7 +97,7 @@ module _ {D : Type 0} (view : D → View) (t : TableState BoxKey) (before : PenH
       let more = past.seen.0 in
       let whole : before.view.seen ++ more ≡ log = past.seen.1 in
       let mine = sym past.mine ∙ holds.mine in
-      let none = is_seen key before.view.seen more before.view.core (subst (LawfulBox key) (sym whole) past.legal_log.told) holds.busy
+      let none = is_seen key before.view.seen more before.view.core (subst (LawfulBox key) (sym whole) past.legal_log.told.rules) holds.busy
       (ap (λ l. length (entries_by event_core before.view.core l)) whole ∙ ap length mine)
       in
       sym whole ∙ ap (λ l. before.view.seen ++ l) none ∙ append-nil before.view.seen
@@ -92,7 +105,7 @@ module _ {D : Type 0} (view : D → View) (t : TableState BoxKey) (before : PenH
   -- so a label that may be told by the rules may be told
   pub may_tell_here : (fact : Label) → HasTurn before.view.core fact (past_at before).busy
       → MayLabel key.layout key.faults before.view.core fact (past_at before) → MayTell (Lawful view key) (Stood view key) before.view fact
-  may_tell_here fact turn may = may_tell view key before.view fact (subst (λ l. Has l 0) (sym holds.held) (inl refl))
+  may_tell_here fact turn may = may_tell view key before.view fact (subst (λ l. Has l 0) (sym holds.held) (inl refl)) holds.core_is
       (λ log past. subst (λ l. HasTurn before.view.core fact (past_of key l).busy × MayLabel key.layout key.faults before.view.core fact (past_of key l))
       (sym (met_is_seen log past)) (turn, may))
 
@@ -114,7 +127,7 @@ module _ {D : Type 0} (view : D → View) (t : TableState BoxKey) (before : PenH
         let one = length-append before.view.mine (event ∷ []) in
         let other = length-append (entries_by event_core before.view.core log) (event ∷ []) in
         let mine = ap length holds.mine in
-        let may = may_parts key.layout key.faults log (event ∷ []) (first_past key.start) (subst (LawfulBox key) drew.entry_last drew.legal_seen.told) in
+        let may = may_parts key.layout key.faults log (event ∷ []) (first_past key.start) (subst (LawfulBox key) drew.entry_last drew.legal_seen.told.rules) in
         let none = is_seen key before.view.seen more before.view.core (subst (LawfulBox key) (sym whole) may.0) holds.busy
         (ap (λ l. length (entries_by event_core before.view.core l)) whole ∙ omega (arith, counted, one, other, mine))
         in
@@ -150,7 +163,8 @@ module _ {D : Type 0} (view : D → View) (t : TableState BoxKey) (before : PenH
           core_is = subst (λ (z : ℕ × BoxKey). z.0 < z.1.layout.cores) (λ i. (sym core i, ap (λ (d : Rattle.stamp_table.specs.Hand.Desk BoxKey). d.given) (sym same) i)) holds.core_is;
           holds = ap (λ (h : PenHand D). h.held) tells.frame ∙ holds.holds;
           held = ap (λ (v : Sight TreeState (Event Label)). v.held) tells.told.2.frame ∙ holds.held;
-          lawful = subst (λ (d : Rattle.stamp_table.specs.Hand.Desk BoxKey). LawfulBox d.given after.view.seen) (sym same) tells.told.2.legal_seen.told;
+          lawful = subst (λ (d : Rattle.stamp_table.specs.Hand.Desk BoxKey). LawfulBox d.given after.view.seen) (sym same)
+              tells.told.2.legal_seen.told.rules;
           mine = tells.told.2.own ∙ ap (λ c. entries_by event_core c after.view.seen) (sym core);
           busy = ap (λ (p : Rattle.slot_laws.specs.Labels.BoxPast). p.busy) past_told ∙ busy ∙ ap Some (sym core);
         }

@@ -4,6 +4,7 @@ use Rattle.sfs_dev.specs.Disk.{View}
 use Rattle.stamp_table.specs.declared.event.Event.{Event}
 use Rattle.slot_laws.specs.declared.label.Label.{Label}
 use Rattle.slot_laws.specs.Labels.{BoxPast, first_past, past_from}
+use Rattle.slot_laws.specs.Laws.{AreOfCores}
 use Rattle.slot_laws.specs.Rules.{MayFrom}
 use Rattle.slot_laws.specs.Grants.{SpaceGoes}
 use Rattle.disk_box.specs.declared.key.BoxKey.{BoxKey}
@@ -21,6 +22,11 @@ past_of key log = past_from key.layout log (first_past key.start)
 -- the labels of a history may be told by the rules
 abbrev pub LawfulBox : BoxKey → List (Event Label) → Type 0
 LawfulBox key log = MayFrom key.layout key.faults log (first_past key.start)
+
+-- What was told at a box: by the rules, and each event by one of the disk's cores.
+pub record WasTold (key : BoxKey) (log : List (Event Label)) : Type 0 where
+  pub rules : LawfulBox key log
+  pub cores : AreOfCores key.layout.cores log
 
 -- The free space that a desk keeps is what the labels of a history have made of that of before the first one.
 abbrev pub SpaceFits : {D : Type 0} → BoxKey → List (Event Label) → Desk D → Type 0

@@ -1,7 +1,7 @@
 // What the box's cell stands for, and what cores may tell of it.
 ghost use Rattle.std.specs.Prelude.{◌≡◌};
 ghost use Rattle.stamp_table.specs.Placing.{lies_in_order};
-ghost use Rattle.disk_box.specs.Box.{LawfulBox, StandsBox, NO_KEY};
+ghost use Rattle.disk_box.specs.Box.{StandsBox, WasTold, NO_KEY};
 
 use crate::{BoxKey, Desk};
 use sfs_dev::Disk;
@@ -15,7 +15,7 @@ pub struct BoxMeaning<D> {
 }
 
 impl<D: Disk> Meaning<Option<Desk<D>>, Label, BoxKey> for BoxMeaning<D> {
-    ghost lawful = { λ key first log. LawfulBox key log };
+    ghost lawful = { λ key first log. WasTold key log };
 
     ghost stands = { λ key first log place value. place ≡ 0 → StandsBox D.view key log value };
 

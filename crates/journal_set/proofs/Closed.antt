@@ -1,5 +1,5 @@
 -- What journals leave where they are closed.
-use Rattle.std.proofs.Common.{◌≡◌, ◌<◌, ◌∙◌, ℕ, List, Option, Some, None, inl, inr, sym, ap, subst, arith}
+use Rattle.std.proofs.Common.{◌≡◌, ◌<◌, ◌∙◌, ℕ, List, Option, Some, None, inl, inr, sym, ap, subst, arith, length}
 use Rattle.std.specs.Prelude.{slice_get}
 use Rattle.std.proofs.lemmas.Option.{slice_get_cases}
 use Rattle.sfs_dev.specs.Disk.{View}
@@ -8,11 +8,11 @@ use Rattle.stamp_table.specs.Hand.{Desk}
 use Rattle.stamp_table.specs.Table.{TableState}
 use Rattle.slot_laws.specs.declared.label.Label.{Label}
 use Rattle.slot_laws.specs.Labels.{OwnTold, nothing_told, own_from}
-use Rattle.slot_laws.specs.Laws.{IsAtRest}
+use Rattle.slot_laws.specs.Laws.{AreOfCores, IsAtRest}
 use Rattle.slot_laws.proofs.Lawful.{pens_make_the_record}
 use Rattle.disk_box.specs.declared.key.BoxKey.{BoxKey}
 use Rattle.disk_box.specs.declared.desk.Desk.{Desk as BoxDesk}
-use Rattle.disk_box.specs.Box.{IsHome, LawfulBox, StandsBox}
+use Rattle.disk_box.specs.Box.{IsHome, StandsBox, WasTold}
 use Rattle.disk_box.specs.Pens.{PenHand, own_at}
 use Rattle.journal_set.specs.Making.{LeavesDisk, MayClose}
 use Rattle.journal_set.specs.Ready.{HasNothingDue}
@@ -22,20 +22,21 @@ at_rest : (own : OwnTold) → HasNothingDue own → IsAtRest own
 at_rest own due = elim due [ inl over ↦ inr over | inr none ↦ inl none.1 ]
 
 pub leaves_disk : {D : Type 0} (view : D → View) (key : BoxKey) (t : TableState BoxKey) (pens : List (PenHand D)) (log : List (Event Label)) (desk : BoxDesk D)
-    → MayClose t pens → LawfulBox key log
+    → MayClose t pens → key.layout.cores ≡ length pens → WasTold key log
     → ((core : ℕ) (pen : PenHand D) → slice_get pens core ≡ Some pen
     → pen.view.mine ≡ Rattle.stamp_table.specs.Rule.entries_by Rattle.stamp_table.specs.Events.event_core core log)
     → ((core : ℕ) (pen : PenHand D) → slice_get pens core ≡ Some pen → mathlib.Core.List.IsPrefix pen.view.seen log)
     → IsHome view key log desk → LeavesDisk view key pens log desk.disk desk.turns.items
-leaves_disk view key t pens log desk may lawful mine seen home = record {
-  lawful = lawful;
+leaves_disk view key t pens log desk may count told mine seen home = record {
+  lawful = told.rules;
+  own = subst (λ n. AreOfCores n log) count told.cores;
   mine = mine;
   seen = seen;
   record_is = home.fits.frame.turns;
   parts = λ core pen there.
       let own = ap (λ l. own_from l nothing_told) (sym (mine core pen there)) in
       ap (Rattle.merge_laws.specs.Pens.turns_of_core core) home.fits.frame.turns
-      ∙ (pens_make_the_record key.layout key.faults log core key.start lawful
+      ∙ (pens_make_the_record key.layout key.faults log core key.start told.rules
       (subst IsAtRest (sym own) (at_rest (own_at pen) (may.rests core pen there)))
       ∙ ap (λ (o : OwnTold). o.told) own);
   run = home.fits.frame.run;

@@ -1,7 +1,6 @@
 -- That pens go on telling turn by turn through each call, and that journals leave a history that they told so.
 use Rattle.std.proofs.Common.{◌≡◌, ◌<◌, ◌≤◌, ◌∷◌, ◌∙◌, ℕ, List, [], refl, sym, ap, subst, inl, inr, Some, length, arith, cond, Result, slice_get}
 use Rattle.std.proofs.lemmas.Option.{slice_get_cases}
-use Rattle.sfs_base.proofs.BasicNumbers.{not_same}
 use Rattle.sfs_dev.specs.Disk.{View}
 use Rattle.tree_laws.specs.declared.turns.Turn.{Turn}
 use Rattle.cut_laws.specs.Closure.{Flush}
@@ -10,9 +9,9 @@ use Rattle.stamp_table.specs.Rule.{entries_by}
 use Rattle.stamp_table.specs.Events.{event_core}
 use Rattle.stamp_table.specs.Table.{TableState}
 use Rattle.slot_laws.specs.declared.label.Label.{Label}
-use Rattle.slot_laws.specs.Laws.{AreOfCores}
 use Rattle.slot_laws.specs.Telling.{PenTold, BoxTurn, TellTurns, TellsTurn}
 use Rattle.slot_laws.specs.Labels.{OwnTold}
+use Rattle.slot_laws.proofs.Lawful.{none_by}
 use Rattle.slot_laws.proofs.Telling.{pens_go_on}
 use Rattle.disk_box.specs.declared.key.BoxKey.{BoxKey}
 use Rattle.disk_box.specs.Pens.{PenHand, own_at}
@@ -21,17 +20,6 @@ use Rattle.journal_set.specs.Telling.{TellsCall, IsOneTurn, Written, OfReserved,
 use Rattle.journal_set.specs.declared.fault.Ack.{Ack}
 use Rattle.journal_set.specs.declared.fault.CommitFault.{CommitFault}
 use Rattle.journal_set.proofs.TiedCommits.{commits_tell}
-
--- no event of a core is one of others' alone
-none_of_core : (log : List (Event Label)) (count core : ℕ) → AreOfCores count log → count ≤ core → entries_by event_core core log ≡ []
-none_of_core [] count core of low = refl
-none_of_core (event ∷ log) count core of low =
-    let below : event_core event < count = of event (inl refl) in
-    ap (λ b. cond b (event ∷ entries_by event_core core log) (entries_by event_core core log)) (not_same (event_core event) core (λ same. apart same below))
-    ∙ none_of_core log count core (λ other among. of other (inr among)) low
-  where
-    apart : event_core event ≡ core → event_core event < count → ⊥
-    apart same below = omega (arith, same, below, low)
 
 one_tells : (stamps : ℕ → ℕ) (core : ℕ) (own : OwnTold) (Is : BoxTurn → Type 0) (turns : List BoxTurn) → IsOneTurn Is turns
     → ((one : BoxTurn) → Is one → TellsTurn stamps core own one) → TellTurns stamps core own turns
@@ -72,9 +60,9 @@ module _ {D : Type 0} (stamps : ℕ → ℕ) where
   -- what pens told is what each core told of the history that journals leave
   pub leaves_told : (view : D → View) (key : BoxKey) (pens : List (PenHand D)) (log : List (Event Label)) (disk : D) (turns : List Turn)
       → LeavesDisk view key pens log disk turns
-      → ((core : ℕ) (pen : PenHand D) → slice_get pens core ≡ Some pen → PenTold stamps core pen.view.mine) → AreOfCores (length pens) log
+      → ((core : ℕ) (pen : PenHand D) → slice_get pens core ≡ Some pen → PenTold stamps core pen.view.mine)
       → (core : ℕ) → PenTold stamps core (entries_by event_core core log)
-  leaves_told view key pens log disk turns leaves told of core = elim (slice_get_cases pens core).1 [
+  leaves_told view key pens log disk turns leaves told core = elim (slice_get_cases pens core).1 [
     | inl found ↦ subst (PenTold stamps core) (leaves.mine core found.0 found.2) (told core found.0 found.2)
-    | inr past ↦ record { turns = []; mine_is = none_of_core log (length pens) core of past.0; tells = tt }
+    | inr past ↦ record { turns = []; mine_is = none_by log (length pens) core leaves.own past.0; tells = tt }
   ]

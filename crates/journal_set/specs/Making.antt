@@ -12,6 +12,7 @@ use Rattle.stamp_table.specs.Rule.{entries_by}
 use Rattle.stamp_table.specs.Table.{AreAllCores, TableState}
 use Rattle.slot_laws.specs.declared.label.Label.{Label}
 use Rattle.slot_laws.specs.Labels.{first_past}
+use Rattle.slot_laws.specs.Laws.{AreOfCores}
 use Rattle.slot_laws.specs.Slots.{place_at}
 use Rattle.slot_image_laws.specs.Run.{RunFits}
 use Rattle.slot_laws.specs.Grants.{SpaceGoes}
@@ -56,11 +57,12 @@ pub record MayClose {D : Type 0} (t : TableState BoxKey) (pens : List (PenHand D
   pub outside : (core : ℕ) (pen : PenHand D) → slice_get pens core ≡ Some pen → IsOutside t pen
   pub rests : (core : ℕ) (pen : PenHand D) → slice_get pens core ≡ Some pen → HasNothingDue (own_at pen)
 
--- What journals leave: a history of labels that were told by the rules. Each pen told its part of it, and saw a front; the record of turns is what it comes
--- to, and each pen's turns are its core's of the record. The disk is in the run that it tells, its faults are counted, and free space has gone along it.
+-- What journals leave: a history of labels that were told by the rules, by these pens alone. Each pen told its part of it, and saw a front; the record of
+-- turns is what it comes to, and each pen's turns are its core's of the record. The disk is in the run that it tells, its faults are counted, and free space has gone along it.
 pub record LeavesDisk {D : Type 0} (view : D → View) (key : BoxKey) (pens : List (PenHand D)) (log : List (Event Label)) (disk : D) (turns : List Turn) :
     Type 0 where
   pub lawful : LawfulBox key log
+  pub own : AreOfCores (length pens) log
   pub mine : (core : ℕ) (pen : PenHand D) → slice_get pens core ≡ Some pen → pen.view.mine ≡ entries_by event_core core log
   pub seen : (core : ℕ) (pen : PenHand D) → slice_get pens core ≡ Some pen → IsPrefix pen.view.seen log
   pub record_is : turns ≡ (past_of key log).turns

@@ -16,7 +16,7 @@ impl<D: Disk + Drop> JournalSet<D> {
         requires may { MayClose self pens.items }
         ensures leaves { (log : List (EventOf LabelOf)) × LeavesDisk D.view self.table.given pens.items log result.0 result.1.items }
     {
-        let JournalSet { table } = self;
+        let JournalSet { table, .. } = self;
         let (_, mut values) = table.close(pens);
         let value = values.swap_remove(0);
         let Some(desk) = value else { unreachable!() };

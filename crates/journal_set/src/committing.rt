@@ -111,9 +111,11 @@ impl<D: Disk + Drop> JournalSet<D> {
             (fsync_told writing.fsync.node writing.fsync.stamp) (written_in writing) number result))) pen.old pen.new }
         ensures cause { IfErr result (IsCausedBy pen.new) }
     {
+        self.line.join();
         let mut desk = enter(rt, &self.table, pen);
         let result = begin_at(&self.table, pen, &mut desk, writing);
         leave(&self.table, pen, desk);
+        self.line.pass_on();
         result
     }
 
@@ -165,9 +167,11 @@ impl<D: Disk + Drop> JournalSet<D> {
         ensures tells { TellsCall (IsOneTurn (flight_labels pen.old.view.core flight.old.commit (flush_of flight.old) result)) pen.old pen.new }
         ensures cause { IfErr result (IsCausedBy pen.new) }
     {
+        self.line.join();
         let mut desk = enter(rt, &self.table, pen);
         let result = turn_at(&self.table, pen, &mut desk, flight);
         leave(&self.table, pen, desk);
+        self.line.pass_on();
         result
     }
 }

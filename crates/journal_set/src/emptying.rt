@@ -38,9 +38,11 @@ impl<D: Disk + Drop> JournalSet<D> {
         ensures tells { TellsCall (IsOneTurn (empty_labels pen.old.view.core
             (record { flush = fsync_told fsync.node fsync.stamp; seen = seen.now; need = NOTHING }) result)) pen.old pen.new }
     {
+        self.line.join();
         let mut desk = enter(rt, &self.table, pen);
         let result = empty_at(alloc, &self.table, pen, &mut desk, fsync, seen);
         leave(&self.table, pen, desk);
+        self.line.pass_on();
         result
     }
 }

@@ -190,7 +190,7 @@ fn settle_turn<D: Disk + Drop>(
     }
 }
 
-// Before its gate is opened: the slot is filled; records of its core's own durable commits are placed that may be; then the disk is synced.
+// Before its gate is opened: records of its core's own durable commits are placed that may be; the slot is filled; then the disk is synced.
 fn fill_or_seal<D: Disk + Drop>(
     table: &BoxTable<D>,
     pen: &mut Pen<D>,
@@ -206,12 +206,12 @@ fn fill_or_seal<D: Disk + Drop>(
     ensures progress { IfOk result NotLanded }
 {
     let core = pen.number();
-    if let Kind::Filling = desk.kind_at(flight.slot) {
-        fill_one(table, pen, desk, flight.slot)?;
-        return Ok(Progress::Goes);
-    }
     if let Some(slot) = own_to_place(desk, core) {
         place_one(table, pen, desk, slot)?;
+        return Ok(Progress::Goes);
+    }
+    if let Kind::Filling = desk.kind_at(flight.slot) {
+        fill_one(table, pen, desk, flight.slot)?;
         return Ok(Progress::Goes);
     }
     if !flight.told {

@@ -8,6 +8,7 @@ mod emptying;
 mod fault;
 mod flying;
 pub mod laws;
+mod line;
 mod making;
 mod numbering;
 mod own_slots;

@@ -7,6 +7,7 @@ ghost use Rattle.journal_set.specs.Making.{AreIdleSlots, AreNewPens, IsKeyOf};
 ghost use Rattle.disk_box.specs.declared.desk.Desk.{Desk as DeskOf};
 
 use crate::JournalSet;
+use crate::line::Line;
 use commit_ledger::Ledger;
 use disk_box::{BoxKey, Desk, Pen, Phase, Slot};
 use fmt_super::Layout;
@@ -77,7 +78,10 @@ impl<D: Disk + Drop> JournalSet<D> {
         cells.push_reserved(Some(Some(desk)));
         let cores = layout.cores as u8;
         match Shared::make_of_slots(alloc, &tree, given, 0, cells, (cores, PEN_CELLS)) {
-            Ok((table, pens)) => Ok((JournalSet { table }, pens)),
+            Ok((table, pens)) => {
+                let line = Line::new();
+                Ok((JournalSet { table, line }, pens))
+            }
             Err(cells) => Err(NewFault {
                 disk: disk_of(cells),
             }),

@@ -57,13 +57,50 @@ fn places_next<D>(desk: &Desk<D>, k: usize) -> bool
     desk.kind_at(k) == Kind::Durable && may_place(desk, k)
 }
 
+// Whether a slot's gate is opened, and its core has another to shut, whose records are on the disk.
+fn shuts_next<D>(desk: &Desk<D>, owner: usize, k: usize) -> bool
+    requires cores { 0 < length desk.now.waits.items }
+    requires slots { length desk.now.waits.items ≤ length desk.now.slots.items }
+    requires within { k < length desk.now.slots.items }
+{
+    desk.kind_at(k) == Kind::Opened && has_copied(desk, owner)
+}
+
+// Whether a core has a slot whose records are on the disk.
+fn has_copied<D>(desk: &Desk<D>, owner: usize) -> bool
+    requires cores { 0 < length desk.now.waits.items }
+    requires slots { length desk.now.waits.items ≤ length desk.now.slots.items }
+{
+    for k in 0..desk.slots.len() {
+        if desk.owner_of(k) == owner && desk.kind_at(k) == Kind::Copied {
+            return true;
+        }
+    }
+    false
+}
+
+// Whether another core has opened a gate, and has another to shut before it syncs.
+fn others_shut<D>(desk: &Desk<D>, core: CoreId) -> bool
+    requires cores { 0 < length desk.now.waits.items }
+    requires slots { length desk.now.waits.items ≤ length desk.now.slots.items }
+{
+    let own = core.0 as usize;
+    for k in 0..desk.slots.len() {
+        let owner = desk.owner_of(k);
+        if owner != own && shuts_next(desk, owner, k) {
+            return true;
+        }
+    }
+    false
+}
+
 /// Whether a core that is about to sync lets others write first: so often it may yet.
 pub(crate) fn lets_others_write<D>(desk: &Desk<D>, core: CoreId, patience: &mut u32) -> bool
     requires cores { 0 < length desk.now.waits.items }
     requires slots { length desk.now.waits.items ≤ length desk.now.slots.items }
     ensures bounded { result ≡ true → patience.new < patience.old }
 {
-    if *patience == 0 || !others_write(desk, core) {
+    if *patience == 0 || !(others_write(desk, core) || others_shut(desk, core)) {
         return false;
     }
     *patience -= 1;

@@ -42,9 +42,11 @@ impl<D: Disk + Drop> JournalSet<D> {
         ensures tells { TellsCall (IsOneTurn (reserve_labels pen.old.view.core
             (record { flush = fsync_told fsync.node fsync.stamp; seen = seen.now; need = need }) result)) pen.old pen.new }
     {
+        self.line.join();
         let mut desk = enter(rt, &self.table, pen);
         let result = reserve_at(alloc, &self.table, pen, &mut desk, fsync, seen, need);
         leave(&self.table, pen, desk);
+        self.line.pass_on();
         result
     }
 }

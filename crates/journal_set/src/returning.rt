@@ -29,9 +29,11 @@ impl<D: Disk + Drop> JournalSet<D> {
         ensures tells { TellsCall (IsOneTurn (OfReserved (own_at pen.old) (λ number. TellsReturn pen.old.view.core number
             (fsync_told fsync.node fsync.stamp)))) pen.old pen.new }
     {
+        self.line.join();
         let mut desk = enter(rt, &self.table, pen);
         return_number(&self.table, pen, &mut desk, fsync, grant);
         leave(&self.table, pen, desk);
+        self.line.pass_on();
     }
 }
 

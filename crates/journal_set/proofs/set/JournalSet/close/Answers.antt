@@ -1,4 +1,4 @@
-use Rattle.std.proofs.Common.{◌≡◌, length, refl, sym, subst, arith}
+use Rattle.std.proofs.Common.{◌≡◌, ◌∙◌, length, refl, sym, subst, arith}
 use Rattle.std.specs.Vec.{vec_len}
 use Rattle.std.proofs.lemmas.Grind.{common_steps}
 use Rattle.std.proofs.lemmas.Option.{slice_get_read}
@@ -47,6 +47,7 @@ returns g c =
         log.0,
         subst (λ (t : TableState BoxKey). LeavesDisk g.D.Disk.view t.table.given c.args.pens.items log.0 c.in-Some.desk.disk c.in-Some.desk.turns.items)
             c.self.view_is
-            (leaves_disk g.D.Disk.view inner.table.given inner c.args.pens.items log.0 c.in-Some.desk may log.1.lawful_log.told log.1.mine log.1.seen home),
+            (leaves_disk g.D.Disk.view inner.table.given inner c.args.pens.items log.0 c.in-Some.desk may (sym (may.all.count ∙ c.self.invariant))
+            log.1.lawful_log.told log.1.mine log.1.seen home),
       );
     }

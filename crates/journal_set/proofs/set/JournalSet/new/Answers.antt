@@ -54,6 +54,9 @@ make_of_slots-requires-clause-cells g c =
     (one_in_slots stands (λ measure slot. slot) key 0 c.in-Ok.fresh.tree (Some desk)
     (λ zero. fresh_home view laws key desk c.requires.layout c.requires.large new))
 
+pub make_of_slots-requires-clause-lawful : goal.make_of_slots-requires-clause-lawful
+make_of_slots-requires-clause-lawful g c = record { rules = tt; cores = λ event none. absurd none }
+
 pub returns-in-Ok-make_of_slots-clause-pens : goal.returns-in-Ok-make_of_slots-clause-pens
 returns-in-Ok-make_of_slots-clause-pens g c =
     let fresh = c.in-Ok.ensures.fresh in
