@@ -50,17 +50,18 @@ fn printed<R: Threads + Wait + Sync>(
     requires { cores ≤ 16 }
 {
     let made = format!(in alloc; "{cores}")?;
-    let image = call_of(
+    let Called { outcome, .. } = call_of(
         rt,
         alloc,
         &["mkfs", "128", "64", made.as_str()],
         Vec::new(alloc),
         Memory::new(alloc, BLOCKS)?,
     )?;
+    let Outcome { disk, .. } = outcome;
     let nodes = format!(in alloc; "{}", SHARE * u32::from(cores))?;
     let words = ["run", nodes.as_str()];
-    let ran = call_of(rt, alloc, &words, script.into_bytes(), image.outcome.disk)?;
-    Ok((ran.text, ran.outcome.history.len()))
+    let Called { outcome, text } = call_of(rt, alloc, &words, script.into_bytes(), disk)?;
+    Ok((text, outcome.history.len()))
 }
 
 // What a call of the program leaves, and what it wrote.
