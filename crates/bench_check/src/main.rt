@@ -1,23 +1,17 @@
-//! How fast long texts are checked, and whether drawn texts and those that runs of drawn scripts print are answered as by a second reader.
-//! `bench_check measure`, `longest`, `drawn` and `runs` do so; without a word the program says so. It is in no test.
+//! How fast a long text is checked, and whether drawn texts are answered as by a second reader. `bench_check measure` and `bench_check drawn`
+//! do so; without a word the program says so. It is in no test.
 #![tactic(auto)]
 
 mod calls;
 mod dice;
 mod drawn;
-mod found;
 mod long_text;
 mod player;
 mod reader;
-mod runs;
-mod scripts;
 mod trees;
 
 use drawn::drawn;
-use found::Found;
-use long_text::{long_text, longest_text};
-use runs::drawn_runs;
-use sfs_base::NoMemory;
+use long_text::long_text;
 use std::alloc::Global;
 use std::rt::Clock;
 use std::time::Instant;
@@ -27,7 +21,7 @@ use trees::answer;
 /// How many bytes the long text has at least.
 const LONG: usize = 100_000_000;
 
-/// How many histories or scripts are drawn.
+/// How many histories are drawn.
 const HISTORIES: u64 = 10_000;
 
 fn main(rt: HostRuntime) -> io::Result<()> {
@@ -38,18 +32,20 @@ fn main(rt: HostRuntime) -> io::Result<()> {
             words = all;
         }
     }
-    let Some(word) = words.get(1) else {
-        return println!(rt;
-            "bench_check measure, longest: how long texts are checked; drawn, runs: drawn ones, checked and read"
-        );
-    };
-    match word.as_str() {
-        "measure" => measure(&rt, alloc),
-        "longest" => measure_longest(&rt, alloc),
-        "drawn" => show(&rt, "histories", drawn(alloc, HISTORIES)),
-        "runs" => show(&rt, "runs", drawn_runs(&rt, alloc, HISTORIES)),
-        _ => println!(rt; "no such word"),
+    match words.get(1) {
+        Some(word) => {
+            if word.as_str() == "measure" {
+                return measure(&rt, alloc);
+            }
+            if word.as_str() == "drawn" {
+                return compare(&rt, alloc);
+            }
+        }
+        None => {}
     }
+    println!(rt;
+        "bench_check measure: the rate of a check; bench_check drawn: drawn texts, checked and read"
+    )
 }
 
 // Checks a long text, and the same text with one byte changed in its last line.
@@ -91,21 +87,13 @@ fn time_bytes<R: Clock + Print>(rt: &R, text: &[u8]) -> io::Result<()> {
     println!(rt; "control: its {ends} ends of lines counted in {passed} us")
 }
 
-// Checks a text of the greatest length that is checked.
-fn measure_longest<R: Clock + Print>(rt: &R, alloc: Global) -> io::Result<()> {
-    let Ok(text) = longest_text(alloc) else {
-        return println!(rt; "no memory");
-    };
-    time_check(rt, alloc, "longest", text.as_slice())
-}
-
-// Says what was found of drawn texts.
-fn show<R: Print>(rt: &R, name: &str, found: Result<Found, NoMemory>) -> io::Result<()> {
-    let Ok(found) = found else {
+// Draws histories, and says of how many the check and the second reader answered the same.
+fn compare<R: Print>(rt: &R, alloc: Global) -> io::Result<()> {
+    let Ok(found) = drawn(alloc, HISTORIES) else {
         return println!(rt; "no memory");
     };
     println!(rt;
-        "{} {name}, {} calls: {} legal, {} changed in one byte, of which {} are wrong; {} answers differ",
+        "{} histories of {} calls: {} legal, {} changed in one byte, of which {} are wrong; {} answers differ",
         HISTORIES, found.calls, found.legal, found.changed, found.wrong, found.differ
     )
 }
