@@ -1,23 +1,16 @@
 //! How many device calls and how much time it takes to certify an image of 1 GiB with 16,384 inodes and
-//! to accept its certificate, beside recovering it; and the commands that verify and show it, beside one
-//! another. `bench_verify measure` measures it on a disk in memory, with files of one block and with such
-//! of sixteen; without the word the program says so. It is in no test.
+//! to accept its certificate, beside recovering it, by which it is shown. `bench_verify measure` measures
+//! it on a disk in memory; without the word the program says so. It is in no test.
 #![tactic(auto)]
 
-ghost use Rattle.std.specs.Prelude.{◌<◌, ◌≤◌};
-
-mod commands;
 mod filled;
 
-use commands::measure_command;
-use filled::{LAYOUT, MOST_BLOCKS, fill};
+use filled::{LAYOUT, fill};
 use image_check::{Certificate, accept, certify};
 use recovery::recover;
 use sfs_dev::{Disk, Memory};
 use std::alloc::Global;
 use std::rt::Clock;
-use std::sync::Wait;
-use std::thread::Threads;
 use std::time::Instant;
 use std::{env, io};
 
@@ -34,8 +27,16 @@ fn main(rt: HostRuntime) -> io::Result<()> {
             "bench_verify measure: device calls and time of a certificate, made and accepted"
         );
     }
-    measure_all(&rt, alloc, 1)?;
-    measure_all(&rt, alloc, MOST_BLOCKS)
+    let Ok(mut disk) = Memory::new(alloc, LAYOUT.blocks) else {
+        return println!(rt; "no memory");
+    };
+    if fill(alloc, &mut disk).is_err() {
+        return println!(rt; "the disk was not filled");
+    }
+    for _ in 0..3u8 {
+        measure(&rt, alloc, &mut disk)?;
+    }
+    Ok(())
 }
 
 // Whether the words are `measure`.
@@ -44,30 +45,6 @@ fn is_asked(words: &[String]) -> bool {
         [_, word] => word.as_str() == "measure",
         _ => false,
     }
-}
-
-// Measures all three times on an image whose files have so many blocks.
-fn measure_all<R: Threads + Wait + Sync + Clock + Print>(
-    rt: &R,
-    alloc: Global,
-    blocks: u32,
-) -> io::Result<()>
-    requires some { 0 < blocks }
-    requires few { blocks ≤ 16 }
-{
-    println!(rt; "files of {blocks} blocks")?;
-    let Ok(mut disk) = Memory::new(alloc, LAYOUT.blocks) else {
-        return println!(rt; "no memory");
-    };
-    if fill(alloc, &mut disk, blocks).is_err() {
-        return println!(rt; "the disk was not filled");
-    }
-    for _ in 0..3u8 {
-        measure(rt, alloc, &mut disk)?;
-        disk = measure_command(rt, alloc, "verify", disk)?;
-        disk = measure_command(rt, alloc, "show", disk)?;
-    }
-    Ok(())
 }
 
 // Recovers a disk, certifies it and accepts that, and says in how many device calls and in what time.
