@@ -71,9 +71,7 @@ fn show_in_step<R: Wait + Print>(rt: &R, alloc: Global, case: Case) -> io::Resul
 fn show<R: Print>(rt: &R, figures: Figures) -> io::Result<()> {
     println!(rt;
         "{} durable, {} syncs, {} writes",
-        figures.durable,
-        figures.syncs,
-        figures.writes
+        figures.durable, figures.syncs, figures.writes
     )
 }
 
@@ -111,7 +109,7 @@ fn show_times<R: Threads + Wait + Sync + Clock + Print>(rt: &R, alloc: Global) -
 fn rounds_of<R: Clock>(rt: &R) -> io::Result<u64> {
     let start = Instant::now(rt)?;
     pass(ROUNDS);
-    let micros = start.elapsed(rt)?.as_micros() as u64;
+    let micros = u64::try_from(start.elapsed(rt)?.as_micros()).unwrap_or(u64::MAX);
     Ok(ROUNDS.saturating_mul(SYNC) / micros.max(1))
 }
 
