@@ -104,17 +104,28 @@ module _ {D : Type 0} (asked : ReserveRequest) (before entered done after : PenH
   empties_around (Err fault.NoMemory) it =
       reserves_around asked before entered done after goes_in goes_out own_in own_out grant_out core_same (Err fault.NoMemory) it
 
--- A commit that reserved a number with nothing and has ended at the box has ended at once.
-pub empty_ends : {D : Type 0} (asked : ReserveRequest) (start mid after : PenHand D) (ack : Ack) (number : ℕ) (grant : GrantedNumbers) → grant ≡ no_numbers
-    → ack.commit ≡ number → PenGoes start mid → PenGoes mid after → own_at mid ≡ record (own_at start) { reserved = Some number }
-    → WasReserved mid.table.given mid.view.seen mid.view.core number asked.seen NOTHING grant
-    → EndsTogether mid.view.core asked.flush ack (own_at mid) (own_at after) → EndsAtOnce asked start after ack
-empty_ends asked start mid after ack number grant none same goes_in goes_out own was ends =
-    let core = core_kept start mid goes_in in
+-- A commit that reserved a number with nothing, in a core between its two steps, and has ended at the box.
+pub record EndsEmpty {D : Type 0} (asked : ReserveRequest) (start after : PenHand D) (ack : Ack) : Type 0 where
+  pub mid : PenHand D
+  pub number : ℕ
+  pub grant : GrantedNumbers
+  pub none : grant ≡ no_numbers
+  pub same : ack.commit ≡ number
+  pub goes_in : PenGoes start mid
+  pub goes_out : PenGoes mid after
+  pub own : own_at mid ≡ record (own_at start) { reserved = Some number }
+  pub was : WasReserved mid.table.given mid.view.seen mid.view.core number asked.seen NOTHING grant
+  pub ends : EndsTogether mid.view.core asked.flush ack (own_at mid) (own_at after)
+
+-- Such a commit has ended at once.
+pub empty_ends : {D : Type 0} (asked : ReserveRequest) (start after : PenHand D) (ack : Ack) → EndsEmpty asked start after ack
+    → EndsAtOnce asked start after ack
+empty_ends asked start after ack it =
+    let core = core_kept start it.mid it.goes_in in
     record {
       ends = subst (λ (z : ℕ × OwnTold). EndsTogether z.0 asked.flush ack z.1 (own_at after))
-          (λ i. (core i, (own ∙ ap (λ n. record (own_at start) { reserved = Some n }) (sym same)) i)) ends;
-      reserved = reserved_later mid after mid.view.core start.view.core core goes_out
-          (subst (λ (z : ℕ × GrantedNumbers). WasReserved mid.table.given mid.view.seen mid.view.core z.0 asked.seen NOTHING z.1)
-          (λ i. (sym same i, none i)) was);
+          (λ i. (core i, (it.own ∙ ap (λ n. record (own_at start) { reserved = Some n }) (sym it.same)) i)) it.ends;
+      reserved = reserved_later it.mid after it.mid.view.core start.view.core core it.goes_out
+          (subst (λ (z : ℕ × GrantedNumbers). WasReserved it.mid.table.given it.mid.view.seen it.mid.view.core z.0 asked.seen NOTHING z.1)
+          (λ i. (sym it.same i, it.none i)) it.was);
     }

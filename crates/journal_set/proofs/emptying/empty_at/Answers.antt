@@ -32,8 +32,18 @@ returns-clause-comes g c =
     let grants = grant_of_nothing c.in-Ok-number_commit.numbered.grant ok.reserved.inodes ok.reserved.blocks in
     let asked : ReserveRequest = record { flush = fsync_told c.args.fsync.node c.args.fsync.stamp; seen = c.args.seen.now; need = NOTHING } in
     subst (λ (h : PenHand g.row.D.Denot). EndsAtOnce asked h c.end_at_once.new.pen ack) c.in-Ok.ensures.ok.0
-    (empty_ends asked start mid c.end_at_once.new.pen ack c.in-Ok-number_commit.numbered.number c.in-Ok-number_commit.numbered.grant grants
-    c.end_at_once.ensures.commit ok.goes c.end_at_once.ensures.goes ok.own ok.reserved c.end_at_once.ensures.ends)
+    (empty_ends asked start c.end_at_once.new.pen ack (record {
+      mid = mid;
+      number = c.in-Ok-number_commit.numbered.number;
+      grant = c.in-Ok-number_commit.numbered.grant;
+      none = grants;
+      same = c.end_at_once.ensures.commit;
+      goes_in = ok.goes;
+      goes_out = c.end_at_once.ensures.goes;
+      own = ok.own;
+      was = ok.reserved;
+      ends = c.end_at_once.ensures.ends;
+    }))
 
 pub returns-in-Err-clause-tells : goal.returns-in-Err-clause-tells
 returns-in-Err-clause-tells g c = c.in-Err.ensures.tells
