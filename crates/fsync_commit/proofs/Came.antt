@@ -16,7 +16,7 @@ use Rattle.journal_set.specs.declared.fault.CommitFault.{CommitFault}
 use Rattle.journal_set.specs.Reserving.{ReserveRequest, Reserves}
 use Rattle.journal_set.specs.Telling.{IsOneTurn, TellsCall, reserve_labels}
 use Rattle.fsync_commit.specs.Asked.{CommitRequest, need_planned, reserving_of}
-use Rattle.fsync_commit.specs.Coming.{HandsBack, IsNumbered, IsUnnumbered, LandsWith}
+use Rattle.fsync_commit.specs.Coming.{HandsBack, ReservesItsNumber, IsUnnumbered, HandsLanded}
 use Rattle.fsync_commit.specs.Granting.{IsBuiltOf}
 use Rattle.fsync_commit.specs.declared.landing.CommitRefusal.{CommitRefusal}
 use Rattle.fsync_commit.specs.declared.landing.Landed.{Landed}
@@ -40,7 +40,7 @@ need_is change need inodes blocks = λ i. record { inodes = inodes i; blocks = b
 
 -- what is handed out of what was built, and handed back
 pub lands : (change : Planned) (grant : GrantedNumbers) (built : BuiltNodes) (ack : Ack) → IsBuiltOf change grant built
-    → LandsWith change grant ack (record { ack = ack; nodes = built.nodes })
+    → HandsLanded change grant ack (record { ack = ack; nodes = built.nodes })
 lands change grant built ack of = record { ack_is = refl; old_is = of.old; after_is = of.after; ascends = of.ascends }
 
 pub back : (change : Planned) (why : CommitFault) (refusal : CommitRefusal) (old : Roomy OldEntry) → refusal ≡ record { fault = why; old = old }
@@ -56,7 +56,7 @@ module _ {D : Type 0} (asked : CommitRequest) (before after : PenHand D) (need :
   asking n = record { flush = asked.flush; seen = asked.seen; need = n }
 
   pub numbers : (grant : GrantedNumbers) → PenGoes before after → Reserves (asking need) before after (Ok grant)
-      → TellsCall (IsOneTurn (reserve_labels before.view.core (asking need) (Ok grant))) before after → IsNumbered asked before after grant
+      → TellsCall (IsOneTurn (reserve_labels before.view.core (asking need) (Ok grant))) before after → ReservesItsNumber asked before after grant
   numbers grant goes comes tells = record {
     goes = goes;
     comes = subst (λ n. Reserves (asking n) before after (Ok grant)) same comes;

@@ -10,7 +10,7 @@ use Rattle.disk_box.specs.Pens.{PenHand}
 use Rattle.journal_set.specs.declared.fault.Ack.{Ack}
 use Rattle.journal_set.specs.declared.fault.CommitFault.{CommitFault}
 use Rattle.fsync_commit.specs.Asked.{CommitRequest, IsChangeOn, IsSpaceOn}
-use Rattle.fsync_commit.specs.Coming.{AreLow, ComesTo, GrantComes, HandsOut, committed, gave_back, numbered, settled, unasked, unnumbered}
+use Rattle.fsync_commit.specs.Coming.{AreLow, PlanComesTo, GrantComes, HandsOut, committed, gave_back, numbered, settled, unasked, unnumbered}
 use Rattle.fsync_commit.specs.Granting.{IsGrantOn}
 use Rattle.fsync_commit.specs.declared.landing.CommitRefusal.{CommitRefusal}
 use Rattle.fsync_commit.specs.declared.landing.Landed.{Landed}
@@ -39,7 +39,7 @@ module _ {D : Type 0} (asked : CommitRequest) (before after : PenHand D) (space 
   grant_low middle grant result lies (committed given built out) = handed_low before.table.given.layout asked.change on grant lies given result out
 
   -- So it is whatever came of it.
-  pub comes_low : (result : Result Landed CommitRefusal) → ComesTo asked before after result → AreLow before.table.given.layout result
+  pub comes_low : (result : Result Landed CommitRefusal) → PlanComesTo asked before after result → AreLow before.table.given.layout result
   comes_low result (unasked same out) = refused_low before.table.given.layout asked.change on _ result out
   comes_low result (unnumbered why refused out) = refused_low before.table.given.layout asked.change on why result out
   comes_low result (numbered middle grant has came) =

@@ -19,7 +19,7 @@ use Rattle.journal_set.specs.Ways.{IsAnsweredBy, IsReplyTo, TakesWay}
 use Rattle.journal_set.proofs.Turned.{core_kept}
 use Rattle.journal_set.proofs.WaysGone.{commits_go_ways, empty_commits_go_ways, refusals_go_ways, returns_go_ways}
 use Rattle.fsync_commit.specs.Asked.{CommitRequest, emptying_of, reserving_of}
-use Rattle.fsync_commit.specs.Coming.{ComesTo, CommitsBuilt, GivesBack, GrantComes, HandsOut, IsNumbered, committed, gave_back, given_by, numbered, settled, unasked, unnumbered}
+use Rattle.fsync_commit.specs.Coming.{PlanComesTo, CommitsBuilt, HandsGrantBack, GrantComes, HandsOut, ReservesItsNumber, committed, gave_back, given_by, numbered, settled, unasked, unnumbered}
 use Rattle.fsync_commit.specs.declared.landing.CommitRefusal.{CommitRefusal}
 use Rattle.fsync_commit.specs.declared.landing.Landed.{Landed}
 
@@ -37,7 +37,7 @@ module _ {D : Type 0} (asked : CommitRequest) (before after : PenHand D) (given 
       → IsAnsweredBy (given_by result) given → IsAnsweredBy told given
   answered result grant told out is = subst (λ r. IsAnsweredBy r given) (handed asked.change grant told result out) is
 
-  numbered_way : (middle : PenHand D) (grant : GrantedNumbers) (result : Result Landed CommitRefusal) → IsNumbered asked before middle grant
+  numbered_way : (middle : PenHand D) (grant : GrantedNumbers) (result : Result Landed CommitRefusal) → ReservesItsNumber asked before middle grant
       → GrantComes asked.flush middle after asked.change grant result → IsAnsweredBy (given_by result) given → TakesWay given (own_at before) (own_at after)
   numbered_way middle grant result has (gave_back back out) is =
       let same = core_kept before middle has.goes in
@@ -50,7 +50,7 @@ module _ {D : Type 0} (asked : CommitRequest) (before after : PenHand D) (given 
       (subst (λ core. Commits core asked.flush (own_at middle) (own_at after) told) same built.comes) (answered result grant told out is)
 
   -- The turns go one of the ways.
-  pub takes_way : (result : Result Landed CommitRefusal) → ComesTo asked before after result → IsAnsweredBy (given_by result) given
+  pub takes_way : (result : Result Landed CommitRefusal) → PlanComesTo asked before after result → IsAnsweredBy (given_by result) given
       → TakesWay given (own_at before) (own_at after)
   takes_way result (unasked same out) is =
       subst (λ (h : PenHand D). TakesWay given (own_at before) (own_at h)) (sym same)

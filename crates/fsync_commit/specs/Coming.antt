@@ -26,7 +26,7 @@ use Rattle.fsync_commit.specs.declared.landing.CommitRefusal.{CommitRefusal}
 use Rattle.fsync_commit.specs.declared.landing.Landed.{Landed}
 
 -- A durable commit hands out its acknowledgement, and of the nodes of its change what the disk had, and what it has with this grant.
-pub record LandsWith (change : Planned) (grant : GrantedNumbers) (ack : Ack) (landed : Landed) : Type 0 where
+pub record HandsLanded (change : Planned) (grant : GrantedNumbers) (ack : Ack) (landed : Landed) : Type 0 where
   pub ack_is : landed.ack ≡ ack
   pub old_is : landed.nodes.old ≡ change.old
   pub after_is : landed.nodes.after ≡ after_commit change grant
@@ -39,14 +39,14 @@ pub record HandsBack (change : Planned) (why : CommitFault) (refusal : CommitRef
 
 -- what is handed out, by what the journals answered
 abbrev pub HandsOut : Planned → GrantedNumbers → Result Ack CommitFault → Result Landed CommitRefusal → Type 0
-HandsOut change grant (Ok ack) (Ok landed) = LandsWith change grant ack landed
+HandsOut change grant (Ok ack) (Ok landed) = HandsLanded change grant ack landed
 HandsOut change grant (Ok ack) (Err refusal) = ⊥
 HandsOut change grant (Err why) (Ok landed) = ⊥
 HandsOut change grant (Err why) (Err refusal) = HandsBack change why refusal
 
 module _ {D : Type 0} (flush : Flush) (before after : PenHand D) where
   -- A core gave its number and its grant back.
-  pub record GivesBack : Type 0 where
+  pub record HandsGrantBack : Type 0 where
     pub comes : ReturnsNumber before.view.core flush (own_at before) (own_at after)
     pub tells : TellsCall (IsOneTurn (OfReserved (own_at before) (λ number. TellsReturn before.view.core number flush))) before after
 
@@ -62,7 +62,7 @@ module _ {D : Type 0} (flush : Flush) (before after : PenHand D) where
   -- What becomes of a grant: it is given back, since memory was wanting, or since there is nothing to write though something was needed; or the
   -- transaction is committed, or not.
   pub data GrantComes (change : Planned) (grant : GrantedNumbers) (result : Result Landed CommitRefusal) : Type 0 where
-    gave_back : GivesBack → HandsOut change no_numbers (Err fault.NoMemory) result → GrantComes change grant result
+    gave_back : HandsGrantBack → HandsOut change no_numbers (Err fault.NoMemory) result → GrantComes change grant result
     committed : (given : Result Ack CommitFault) → CommitsBuilt change grant given → HandsOut change grant given result → GrantComes change grant result
 
 module _ {D : Type 0} (asked : CommitRequest) (before after : PenHand D) where
@@ -72,13 +72,13 @@ module _ {D : Type 0} (asked : CommitRequest) (before after : PenHand D) where
     pub tells : TellsCall (IsOneTurn (reserve_labels before.view.core (reserving_of asked) (Err why))) before after
 
   -- A number was reserved, with a grant of what the change needs.
-  pub record IsNumbered (grant : GrantedNumbers) : Type 0 where
+  pub record ReservesItsNumber (grant : GrantedNumbers) : Type 0 where
     pub goes : PenGoes before after
     pub comes : Reserves (reserving_of asked) before after (Ok grant)
     pub tells : TellsCall (IsOneTurn (reserve_labels before.view.core (reserving_of asked) (Ok grant))) before after
 
   -- The change needs nothing and its transaction has no record: it took its one turn, or was refused that.
-  pub record IsSettled (given : Result Ack CommitFault) : Type 0 where
+  pub record EndsUnwritten (given : Result Ack CommitFault) : Type 0 where
     pub tx : Tx
     pub is : IsTransactionOf asked.change no_numbers tx
     pub none : tx.records.items ≡ []
@@ -88,14 +88,14 @@ module _ {D : Type 0} (asked : CommitRequest) (before after : PenHand D) where
 
 -- What comes of it: memory was wanting before the journals were asked; a number was refused; it was reserved with a grant, of which something came; or
 -- there was nothing to write.
-pub data ComesTo {D : Type 0} (asked : CommitRequest) (before after : PenHand D) (result : Result Landed CommitRefusal) : Type 0 where
-  unasked : after ≡ before → HandsOut asked.change no_numbers (Err fault.NoMemory) result → ComesTo asked before after result
+pub data PlanComesTo {D : Type 0} (asked : CommitRequest) (before after : PenHand D) (result : Result Landed CommitRefusal) : Type 0 where
+  unasked : after ≡ before → HandsOut asked.change no_numbers (Err fault.NoMemory) result → PlanComesTo asked before after result
   unnumbered : (why : CommitFault) → IsUnnumbered asked before after why → HandsOut asked.change no_numbers (Err why) result
-      → ComesTo asked before after result
-  numbered : (middle : PenHand D) (grant : GrantedNumbers) → IsNumbered asked before middle grant
-      → GrantComes asked.flush middle after asked.change grant result → ComesTo asked before after result
-  settled : (given : Result Ack CommitFault) → IsSettled asked before after given → HandsOut asked.change no_numbers given result
-      → ComesTo asked before after result
+      → PlanComesTo asked before after result
+  numbered : (middle : PenHand D) (grant : GrantedNumbers) → ReservesItsNumber asked before middle grant
+      → GrantComes asked.flush middle after asked.change grant result → PlanComesTo asked before after result
+  settled : (given : Result Ack CommitFault) → EndsUnwritten asked before after given → HandsOut asked.change no_numbers given result
+      → PlanComesTo asked before after result
 
 -- the answer of the commit; an fsync that is refused since a node has moved has none yet, and begins anew
 abbrev pub given_by : Result Landed CommitRefusal → Result Ack CommitFault

@@ -7,7 +7,7 @@ ghost use Rattle.journal_set.specs.Committing.{CanBeCommitted};
 ghost use Rattle.journal_set.specs.Emptying.{NOTHING};
 ghost use Rattle.journal_set.specs.Ready.{IsReady};
 ghost use Rattle.fsync_commit.specs.Asked.{IsChangeOn, IsSpaceOn, need_planned};
-ghost use Rattle.fsync_commit.specs.Coming.{ComesTo};
+ghost use Rattle.fsync_commit.specs.Coming.{PlanComesTo};
 ghost use Rattle.disk_change.specs.Planned.{Planned};
 ghost use Rattle.fsync_commit.specs.Granting.{IsBuiltOf};
 ghost use Rattle.journal_set.specs.declared.fault.CommitFault.TheVariants as fault;
@@ -41,7 +41,7 @@ pub(crate) fn build_and_commit<R: Wait, D: Disk + Drop, G: Gate>(
     ensures ready { IsReady set.now pen.new }
     ensures goes { PenGoes pen.old pen.new }
     ensures room { pen.new.room ≡ pen.old.room }
-    ensures comes { ComesTo (record { flush = fsync_told fsync.node fsync.stamp; seen = seen.now; change = change }) pen.old pen.new result }
+    ensures comes { PlanComesTo (record { flush = fsync_told fsync.node fsync.stamp; seen = seen.now; change = change }) pen.old pen.new result }
 {
     match set.reserve(rt, alloc, pen, fsync, seen, need(&change)) {
         Ok(grant) => build_granted(rt, alloc, set, pen, fsync, change, grant, gate),
@@ -67,7 +67,7 @@ pub(crate) fn end_or_commit<R: Wait, D: Disk + Drop, G: Gate>(
     ensures ready { IsReady set.now pen.new }
     ensures goes { PenGoes pen.old pen.new }
     ensures room { pen.new.room ≡ pen.old.room }
-    ensures comes { ComesTo (record { flush = fsync_told fsync.node fsync.stamp; seen = seen.now; change = change }) pen.old pen.new result }
+    ensures comes { PlanComesTo (record { flush = fsync_told fsync.node fsync.stamp; seen = seen.now; change = change }) pen.old pen.new result }
 {
     match build(alloc, change, &Grant::none(alloc)) {
         Ok(built) => {
@@ -96,7 +96,7 @@ fn end_empty<R: Wait, D: Disk + Drop>(
     ensures goes { PenGoes pen.old pen.new }
     ensures room { pen.new.room ≡ pen.old.room }
     ensures comes { (change : Planned) → need_planned change ≡ NOTHING → IsBuiltOf change no_numbers built → built.tx.records.items ≡ []
-        → ComesTo (record { flush = fsync_told fsync.node fsync.stamp; seen = seen.now; change = change }) pen.old pen.new result }
+        → PlanComesTo (record { flush = fsync_told fsync.node fsync.stamp; seen = seen.now; change = change }) pen.old pen.new result }
 {
     match set.commit_empty(rt, alloc, pen, fsync, seen) {
         Ok(ack) => Ok(Landed {
@@ -124,7 +124,7 @@ fn commit_settled<R: Wait, D: Disk + Drop, G: Gate>(
     ensures goes { PenGoes pen.old pen.new }
     ensures room { pen.new.room ≡ pen.old.room }
     ensures comes { (change : Planned) → need_planned change ≡ NOTHING → IsBuiltOf change no_numbers built
-        → ComesTo (record { flush = fsync_told fsync.node fsync.stamp; seen = seen.now; change = change }) pen.old pen.new result }
+        → PlanComesTo (record { flush = fsync_told fsync.node fsync.stamp; seen = seen.now; change = change }) pen.old pen.new result }
 {
     let nothing = Need {
         inodes: 0,

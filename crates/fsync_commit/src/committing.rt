@@ -7,7 +7,7 @@ ghost use Rattle.disk_box.specs.Pens.{PenGoes, own_at};
 ghost use Rattle.journal_set.specs.Ready.{IsReady};
 ghost use Rattle.journal_set.specs.Ways.{IsAnsweredBy, TakesWay};
 ghost use Rattle.fsync_commit.specs.Asked.{IsChangeOn, IsSpaceOn};
-ghost use Rattle.fsync_commit.specs.Coming.{AreLow, ComesTo, given_by};
+ghost use Rattle.fsync_commit.specs.Coming.{AreLow, PlanComesTo, given_by};
 
 use crate::building::{build_and_commit, end_or_commit};
 use crate::landing::{CommitRefusal, Landed};
@@ -41,7 +41,7 @@ pub fn commit_plan<R: Wait, D: Disk + Drop, G: Gate>(
     ensures ready { IsReady set.now pen.new }
     ensures goes { PenGoes pen.old pen.new }
     ensures room { pen.new.room ≡ pen.old.room }
-    ensures comes { ComesTo (record { flush = fsync_told fsync.node fsync.stamp; seen = seen.now; change = change }) pen.old pen.new result }
+    ensures comes { PlanComesTo (record { flush = fsync_told fsync.node fsync.stamp; seen = seen.now; change = change }) pen.old pen.new result }
     ensures low { AreLow pen.old.table.given.layout result }
     ensures way { (given : Reply) → IsAnsweredBy (given_by result) given → TakesWay given (own_at pen.old) (own_at pen.new) }
 {

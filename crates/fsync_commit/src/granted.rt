@@ -6,7 +6,7 @@ ghost use Rattle.disk_box.specs.Pens.{PenGoes};
 ghost use Rattle.journal_set.specs.Committing.{CanBeCommitted};
 ghost use Rattle.journal_set.specs.Ready.{IsReady};
 ghost use Rattle.fsync_commit.specs.Asked.{IsChangeOn};
-ghost use Rattle.fsync_commit.specs.Coming.{GivesBack, GrantComes};
+ghost use Rattle.fsync_commit.specs.Coming.{HandsGrantBack, GrantComes};
 ghost use Rattle.fsync_commit.specs.Granting.{IsBuiltOf, IsGranted, IsGrantOn};
 ghost use Rattle.journal_set.specs.declared.fault.CommitFault.TheVariants as fault;
 
@@ -70,7 +70,7 @@ fn give_all_back<R: Wait, D: Disk + Drop>(
     ensures ready { IsReady set.now pen.new }
     ensures goes { PenGoes pen.old pen.new }
     ensures room { pen.new.room ≡ pen.old.room }
-    ensures back { GivesBack (fsync_told fsync.node fsync.stamp) pen.old pen.new }
+    ensures back { HandsGrantBack (fsync_told fsync.node fsync.stamp) pen.old pen.new }
     ensures refusal { result ≡ record { fault = fault.NoMemory; old = old } }
 {
     set.give_back(rt, pen, fsync, grant);
