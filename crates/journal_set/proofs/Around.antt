@@ -1,7 +1,8 @@
 -- What comes of reserving while a core has the box comes of it once the core has brought it home.
-use Rattle.std.proofs.Common.{◌≡◌, ◌∷◌, ◌++◌, ◌∙◌, List, Some, Result, Ok, Err, sym, ap, subst, append_assoc}
+use Rattle.std.proofs.Common.{◌≡◌, ◌∷◌, ◌++◌, ◌∙◌, ℕ, List, Some, Result, Ok, Err, sym, ap, subst, append_assoc}
 use mathlib.Core.List.{IsPrefix}
 use Rattle.tree_laws.specs.Tree.{TreeState}
+use Rattle.cut_laws.specs.Rules.{IsOneOf}
 use Rattle.space_map.specs.Space.{GrantedNumbers}
 use Rattle.stamp_table.specs.declared.event.Event.{Event}
 use Rattle.stamp_table.specs.declared.event.Event.TheVariants.{Told}
@@ -17,6 +18,7 @@ use Rattle.disk_box.specs.Pens.{PenHand, PenGoes, own_at}
 use Rattle.journal_set.specs.declared.fault.CommitFault.{CommitFault}
 use Rattle.journal_set.specs.declared.fault.CommitFault.TheVariants as fault
 use Rattle.journal_set.specs.Grants.{grant_at}
+use Rattle.journal_set.specs.Numbering.{numbers_reserved}
 use Rattle.journal_set.specs.Reserving.{ReserveRequest, Reserves}
 use Rattle.journal_set.proofs.Parts.{reserved_later}
 
@@ -27,7 +29,7 @@ front_later front log later one two =
 
 module _ {D : Type 0} (asked : ReserveRequest) (before entered done after : PenHand D) (goes_in : PenGoes before entered) (goes_out : PenGoes done after)
     (own_in : own_at entered ≡ own_at before) (own_out : own_at after ≡ own_at done) (grant_out : grant_at after ≡ grant_at done)
-    (core_same : done.view.core ≡ entered.view.core) where
+    (core_same : done.view.core ≡ entered.view.core) (numbers_in : numbers_reserved entered.view.mine ≡ numbers_reserved before.view.mine) where
   core_in : entered.view.core ≡ before.view.core
   core_in = ap (λ (v : Sight TreeState (Event Label)). v.core) goes_in.view
 
@@ -42,6 +44,7 @@ module _ {D : Type 0} (asked : ReserveRequest) (before entered done after : PenH
     own = own_out ∙ (it.own ∙ ap (λ (o : OwnTold). own_label (label.Noted it.turn) (record o { reserved = Some it.number })) own_in);
     grant_is = grant_out ∙ it.grant_is;
     goes_on = ap (λ (o : OwnTold). o.over) (sym own_in) ∙ it.goes_on;
+    newer = λ other one. it.newer other (subst (λ (l : List ℕ). IsOneOf l other) (sym numbers_in) one);
     reserved = reserved_later done after entered.view.core before.view.core core_in goes_out it.reserved;
   }
   reserves_around (Err (fault.DiskFailed faults)) it = it

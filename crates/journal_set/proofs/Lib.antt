@@ -28,3 +28,4 @@ pub mod TiedCommits
 pub mod WaysGone
 pub mod PensTied
 pub mod Rising
+pub mod Newer

@@ -4,6 +4,7 @@ use Rattle.sfs_base.proofs.BasicNumbers.{not_below}
 use Rattle.sfs_base.proofs.BasicOptions.{some_not_none}
 use Rattle.sfs_base.specs.declared.numbers.SpaceKind.TheVariants as kind
 use Rattle.cut_laws.specs.Closure.{Flush}
+use Rattle.cut_laws.specs.Rules.{IsOneOf}
 use Rattle.tree_laws.specs.Tree.{TreeState}
 use Rattle.tree_laws.specs.declared.turns.Turn.{Turn}
 use Rattle.tree_laws.specs.declared.turns.TurnAct.{TurnAct}
@@ -27,7 +28,7 @@ use Rattle.disk_box.proofs.Owes.{owns_own}
 use Rattle.journal_set.specs.declared.fault.CommitFault.{CommitFault}
 use Rattle.journal_set.specs.declared.fault.CommitFault.TheVariants as fault
 use Rattle.journal_set.specs.Emptying.{Empties, EndsAtOnce, EndsTogether, NOTHING}
-use Rattle.journal_set.specs.Numbering.{WasReserved}
+use Rattle.journal_set.specs.Numbering.{IsNewerThan, WasReserved, numbers_reserved}
 use Rattle.journal_set.specs.Reserving.{ReserveRequest, Reserves}
 use Rattle.journal_set.specs.Grants.{grant_at}
 use Rattle.journal_set.specs.declared.fault.Ack.{Ack}
@@ -71,7 +72,7 @@ empties_refused flush seen before after fault.NoMemory comes = comes
 -- What comes of it while a core has the box comes of it once the core has brought it home.
 module _ {D : Type 0} (asked : ReserveRequest) (before entered done after : PenHand D) (goes_in : PenGoes before entered) (goes_out : PenGoes done after)
     (own_in : own_at entered ≡ own_at before) (own_out : own_at after ≡ own_at done) (grant_out : grant_at after ≡ grant_at done)
-    (core_same : done.view.core ≡ entered.view.core) where
+    (core_same : done.view.core ≡ entered.view.core) (numbers_in : numbers_reserved entered.view.mine ≡ numbers_reserved before.view.mine) where
   core_in : entered.view.core ≡ before.view.core
   core_in = ap (λ (v : Sight TreeState (Event Label)). v.core) goes_in.view
 
@@ -93,16 +94,17 @@ module _ {D : Type 0} (asked : ReserveRequest) (before entered done after : PenH
           after_is = own_out ∙ (it.ends.after_is ∙ ap (λ (o : OwnTold). own_label (label.Empty ack.commit it.ends.cut it.ends.opened it.ends.durable)
               (record o { reserved = Some ack.commit })) own_in);
         };
+        newer = λ other one. it.newer other (subst (λ (l : List ℕ). IsOneOf l other) (sym numbers_in) one);
         reserved = reserved_later done after entered.view.core before.view.core core_in goes_out it.reserved;
       }
   empties_around (Err (fault.DiskFailed faults)) it = it
   empties_around (Err (fault.NoSpace kind need free)) it = it
   empties_around (Err (fault.Stopped faults)) it =
-      reserves_around asked before entered done after goes_in goes_out own_in own_out grant_out core_same (Err (fault.Stopped faults)) it
+      reserves_around asked before entered done after goes_in goes_out own_in own_out grant_out core_same numbers_in (Err (fault.Stopped faults)) it
   empties_around (Err (fault.Moved node last)) it =
-      reserves_around asked before entered done after goes_in goes_out own_in own_out grant_out core_same (Err (fault.Moved node last)) it
+      reserves_around asked before entered done after goes_in goes_out own_in own_out grant_out core_same numbers_in (Err (fault.Moved node last)) it
   empties_around (Err fault.NoMemory) it =
-      reserves_around asked before entered done after goes_in goes_out own_in own_out grant_out core_same (Err fault.NoMemory) it
+      reserves_around asked before entered done after goes_in goes_out own_in own_out grant_out core_same numbers_in (Err fault.NoMemory) it
 
 -- A commit that reserved a number with nothing, in a core between its two steps, and has ended at the box.
 pub record EndsEmpty {D : Type 0} (asked : ReserveRequest) (start after : PenHand D) (ack : Ack) : Type 0 where
@@ -114,6 +116,7 @@ pub record EndsEmpty {D : Type 0} (asked : ReserveRequest) (start after : PenHan
   pub goes_in : PenGoes start mid
   pub goes_out : PenGoes mid after
   pub own : own_at mid ≡ record (own_at start) { reserved = Some number }
+  pub newer : IsNewerThan start.view.mine number
   pub was : WasReserved mid.table.given mid.view.seen mid.view.core number asked.seen NOTHING grant
   pub ends : EndsTogether mid.view.core asked.flush ack (own_at mid) (own_at after)
 
@@ -125,6 +128,7 @@ empty_ends asked start after ack it =
     record {
       ends = subst (λ (z : ℕ × OwnTold). EndsTogether z.0 asked.flush ack z.1 (own_at after))
           (λ i. (core i, (it.own ∙ ap (λ n. record (own_at start) { reserved = Some n }) (sym it.same)) i)) it.ends;
+      newer = subst (IsNewerThan start.view.mine) (sym it.same) it.newer;
       reserved = reserved_later it.mid after it.mid.view.core start.view.core core it.goes_out
           (subst (λ (z : ℕ × GrantedNumbers). WasReserved it.mid.table.given it.mid.view.seen it.mid.view.core z.0 asked.seen NOTHING z.1)
           (λ i. (sym it.same i, it.none i)) it.was);

@@ -12,7 +12,7 @@ use Rattle.disk_box.specs.Pens.{PenHand, own_at}
 use Rattle.journal_set.specs.declared.fault.Ack.{Ack}
 use Rattle.journal_set.specs.declared.fault.CommitFault.{CommitFault}
 use Rattle.journal_set.specs.declared.fault.CommitFault.TheVariants as fault
-use Rattle.journal_set.specs.Numbering.{WasReserved}
+use Rattle.journal_set.specs.Numbering.{IsNewerThan, WasReserved}
 use Rattle.journal_set.specs.Reserving.{ReserveRequest, FindsMoved, FindsStopped}
 
 -- the need of nothing
@@ -31,9 +31,10 @@ pub record EndsTogether (core : ℕ) (flush : Flush) (ack : Ack) (before after :
   pub after_is : after ≡ own_label (label.Empty ack.commit cut opened durable) before
 
 module _ {D : Type 0} (asked : ReserveRequest) (before after : PenHand D) where
-  -- A number was reserved with nothing, and in the same turn at the box the commit has ended.
+  -- A number was reserved with nothing, above each that the core had reserved before, and in the same turn at the box the commit has ended.
   pub record EndsAtOnce (ack : Ack) : Type 0 where
     pub ends : EndsTogether before.view.core asked.flush ack (record (own_at before) { reserved = Some ack.commit }) (own_at after)
+    pub newer : IsNewerThan before.view.mine ack.commit
     pub reserved : WasReserved after.table.given after.view.seen before.view.core ack.commit asked.seen NOTHING no_numbers
 
   -- what comes of it

@@ -25,7 +25,7 @@ use Rattle.disk_box.specs.Turns.{Halts}
 use Rattle.journal_set.specs.declared.fault.CommitFault.{CommitFault}
 use Rattle.journal_set.specs.declared.fault.CommitFault.TheVariants as fault
 use Rattle.journal_set.specs.Grants.{grant_at}
-use Rattle.journal_set.specs.Numbering.{WasReserved}
+use Rattle.journal_set.specs.Numbering.{IsNewerThan, WasReserved}
 
 -- What is asked: for which fsync, for which nodes as they were seen, and how much.
 pub record ReserveRequest : Type 0 where
@@ -34,7 +34,8 @@ pub record ReserveRequest : Type 0 where
   pub need : Need
 
 module _ {D : Type 0} (asked : ReserveRequest) (before after : PenHand D) where
-  -- A number was reserved with a grant of what is needed, which was free, and the turn Granted was taken. No failure had stopped the core.
+  -- A number was reserved, above each that the core had reserved before, with a grant of what is needed, which was free, and the turn Granted was taken. No
+  -- failure had stopped the core.
   pub record ReservesGrant (grant : GrantedNumbers) : Type 0 where
     pub number : ℕ
     pub turn : Turn
@@ -42,6 +43,7 @@ module _ {D : Type 0} (asked : ReserveRequest) (before after : PenHand D) where
     pub own : own_at after ≡ own_label (label.Noted turn) (record (own_at before) { reserved = Some number })
     pub grant_is : grant_at after ≡ Some grant
     pub goes_on : (own_at before).over ≡ false
+    pub newer : IsNewerThan before.view.mine number
     pub reserved : WasReserved after.table.given after.view.seen before.view.core number asked.seen asked.need grant
 
   -- Too little was free, and the turn Short says of what, how much is needed and how much was free.

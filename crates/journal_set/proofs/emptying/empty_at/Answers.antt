@@ -41,6 +41,7 @@ returns-clause-comes g c =
       goes_in = ok.goes;
       goes_out = c.end_at_once.ensures.goes;
       own = ok.own;
+      newer = ok.newer;
       was = ok.reserved;
       ends = c.end_at_once.ensures.ends;
     }))

@@ -22,6 +22,7 @@ use Rattle.disk_box.proofs.After.{at_told, failed_told, past_fits_at}
 use Rattle.disk_box.proofs.Owes.{owns_own}
 use Rattle.journal_set.specs.Grants.{grant_from}
 use Rattle.journal_set.proofs.Parts.{grant_more, same_grant, same_nodes}
+use Rattle.journal_set.proofs.Newer.{mine_among, newer_than}
 use Rattle.journal_set.proofs.Rising.{seen_below}
 use Rattle.journal_set.proofs.Reserved.{entered_fits, may_enter, reserved_rule}
 use Rattle.journal_set.proofs.numbering.number_commit.Goals as goal
@@ -113,6 +114,7 @@ returns-clause-ok g c =
       room = tells.room;
       own = tells.own;
       grant = ap (λ l. grant_from l None) tells.mine_is ∙ (grant_more pen.view.mine told pen.view.core None ∙ ap Some grants);
+      newer = λ other one. newer_than pen.table.given pen.view.seen work.holds.lawful made.number next other (mine_among t pen work.holds other one);
       reserved = record {
         front = pen.view.seen;
         back = [];

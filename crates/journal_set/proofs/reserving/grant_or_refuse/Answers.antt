@@ -92,6 +92,7 @@ returns-clause-comes g c =
       own = tells.own ∙ ap (own_label (label.Noted c.turn-turn-2.result)) ok.own;
       grant_is = ap (λ l. grant_from l None) tells.mine_is ∙ (grant_more pen.view.mine (label.Noted c.turn-turn-2.result) pen.view.core None ∙ ok.grant);
       goes_on = over_calm c.args.table.now c.args.pen.now c.requires.may.work.holds c.requires.may.work.calm;
+      newer = ok.newer;
       reserved = reserved_later pen c.note_turn-2.new.pen pen.view.core c.args.pen.now.view.core core_same tells.goes ok.reserved;
     }
 

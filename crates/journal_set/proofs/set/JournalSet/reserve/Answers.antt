@@ -9,6 +9,7 @@ use Rattle.journal_set.specs.Grants.{grant_from}
 use Rattle.journal_set.specs.Reserving.{ReserveRequest}
 use Rattle.journal_set.specs.Telling.{TellsCall, IsOneTurn, reserve_labels}
 use Rattle.journal_set.proofs.Around.{reserves_around}
+use Rattle.journal_set.proofs.Newer.{took_numbers}
 use Rattle.journal_set.proofs.Parts.{grant_more}
 use Rattle.journal_set.proofs.set.JournalSet.reserve.Goals as goal
 use Rattle.journal_set.proofs.Turned.{core_kept}
@@ -21,6 +22,7 @@ returns-clause-comes g c =
     c.args.pen.now c.enter-desk.new.pen done c.leave.new.pen c.enter-desk.ensures.goes c.leave.ensures.goes c.enter-desk.ensures.own c.leave.ensures.own
     (ap (λ l. grant_from l None) c.leave.ensures.mine ∙ grant_more done.view.mine label.Gave done.view.core None)
     (ap (λ (v : Sight TreeState (Event Label)). v.core) c.reserve_at-result.ensures.goes.view)
+    (took_numbers c.args.pen.now c.enter-desk.new.pen c.enter-desk.ensures.mine)
     c.reserve_at-result.result c.reserve_at-result.ensures.comes
 
 pub returns-clause-tells : goal.returns-clause-tells
