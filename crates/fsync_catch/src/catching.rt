@@ -1,5 +1,6 @@
 // An fsync looks again until what it concerns is exactly what it held as it looked.
-ghost use Rattle.std.specs.Prelude.{◌≡◌, ◌↔◌, ◌+◌, ◌<◌, true, [], ◌∷◌, IfOk, OnErr, length};
+ghost use Rattle.std.specs.Prelude.{◌≡◌, ◌↔◌, ◌+◌, ◌*◌, ◌<◌, true, [], ◌∷◌, IfOk, OnErr, length};
+ghost use Rattle.stamp_table.specs.Ascending.{LiesAbove};
 ghost use Rattle.mem_values.specs.Start.{given_by};
 ghost use Rattle.mem_calls.specs.Table.{IsFileTable};
 ghost use Rattle.mem_calls.specs.Working.{IsWorking};
@@ -42,7 +43,8 @@ fn cells_for(nodes: &NodeList) -> Result<u32, NoMemory>
 
 /// Holds what was flushed of the nodes that an fsync concerns by the logs of all cores, each as it was at some moment since all of that was
 /// held. It holds what it knows, looks, and where it concerns other nodes than it holds it lets all go and begins again with those, with the
-/// same stamp; it waits while another core has one of the cells. Where memory is refused it holds nothing.
+/// same stamp; it waits while another core has one of the cells. There is room for one cell more then, which may lie above all of these, as a log
+/// does. Where memory is refused it holds nothing.
 pub fn catch_nodes<R: Wait>(
     rt: &R,
     alloc: Global,
@@ -61,6 +63,8 @@ pub fn catch_nodes<R: Wait>(
     ensures work { IsWorking (given_by shared.now) shared.now core.new }
     ensures on { GoesOn core.old core.new }
     ensures caught { IfOk result (IsCaught (given_by shared.now) nodes fsync core.new) }
+    ensures room { IfOk result (λ caught. 0 < core.new.room) }
+    ensures below { IfOk result (λ caught. LiesAbove (32 + 10 * nodes) core.new.view.held) }
     ensures none { OnErr result (LetsAllGo core.new) }
 {
     let mut held = one_node(alloc, fsync.node)?;

@@ -277,6 +277,16 @@ module _ (s : FsyncEnd) (so : EndsSo s) where
               ∙ (trims.mine
               ∙ (λ i. (ap (λ (v : View TreeState (Event Fact)). v.mine) view_put ∙ so.tells.told.2.mine) i
               ++ trim_events (core_put i) s.ending.number (logs_trimmed members cores))));
+          told_behind = record {
+            log = so.tells.told.0;
+            since = so.tells.told.2.seen;
+            there = (
+              trims.seen.0,
+              (ap (λ l. l ++ trims.seen.0) (sym (ap (λ (v : View TreeState (Event Fact)). v.seen) view_put ∙ so.tells.told.2.entry_last)) ∙ trims.seen.1)
+                  ∙ sym (ap (λ (v : View TreeState (Event Fact)). v.seen) view_after ∙ seen_left),
+            );
+            stood = so.tells.told.2.kept;
+          };
           answered = (
             gives.answered.0,
             gives.answered.1,

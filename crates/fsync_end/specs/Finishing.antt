@@ -11,7 +11,7 @@ use Rattle.disk_nodes.specs.OldKept.{OldKept}
 use Rattle.cut_laws.specs.Rules.{IsOneOf}
 use Rattle.stamp_table.specs.declared.event.Event.{Event}
 use Rattle.stamp_table.specs.declared.held.HeldCell.{HeldCell}
-use Rattle.stamp_table.specs.Rule.{entries_by}
+use Rattle.stamp_table.specs.Rule.{Has, entries_by}
 use Rattle.stamp_table.specs.Events.{event_core, told_by, calls_in, IsLawful}
 use Rattle.stamp_table.specs.Table.{with_answer, with_values}
 use Rattle.mem_values.specs.Start.{FileHand, FileState}
@@ -22,7 +22,7 @@ use Rattle.mem_values.specs.declared.fact.Fact.{Fact}
 use Rattle.mem_values.specs.declared.fact.HeldNode.{HeldNode}
 use Rattle.mem_values.specs.Places.{cell_place}
 use Rattle.mem_values.specs.Account.{Commitment, commit_told, held_by}
-use Rattle.mem_values.specs.Stands.{Flushed}
+use Rattle.mem_values.specs.Stands.{Flushed, StandsAt}
 use Rattle.mem_values.specs.Facts.{IsLawfulLog}
 use Rattle.mem_values.specs.Telling.{MayTellCommit}
 use Rattle.home_laws.specs.Laws.{IsNodeOf}
@@ -55,10 +55,11 @@ AreWritten tree nodes commit [] (value ∷ values) = ⊥
 AreWritten tree nodes commit (cell ∷ cells) [] = ⊥
 AreWritten tree nodes commit (cell ∷ cells) (value ∷ values) = IsWritten tree nodes commit cell value × AreWritten tree nodes commit cells values
 
--- A fact tells a commit that ends so: with its number, the stamp of its fsync and its members.
+-- A fact tells a commit that ends so: with its number, the node and the stamp of its fsync, and its members.
 pub record TellsEnding (core : ℕ) (fact : Fact) (ending : Ending) (commit : Commitment) : Type 0 where
   pub tells : commit_told (told_by core fact 0) ≡ Some commit
   pub numbered : commit.number ≡ ending.number
+  pub of_node : commit.node ≡ ending.node.0
   pub stamped : commit.stamp ≡ ending.stamp.0
   pub members_are : commit.members ≡ map node_number ending.members.items
 
@@ -80,6 +81,14 @@ abbrev pub logs_trimmed : List NodeId → ℕ → ℕ
 logs_trimmed [] cores = 0
 logs_trimmed (member ∷ members) cores = cores
 
+-- A core told a fact behind a log that goes on from what it had seen; what stood for a cell that it held stood there too.
+pub record IsToldBehind (given : ℕ → Option OldKept) (told : Fact) (before after : FileHand) : Type 0 where
+  pub log : List (Event Fact)
+  pub since : IsPrefix before.view.seen log
+  pub there : IsPrefix (log ++ told_by before.view.core told 0 ∷ []) after.view.seen
+  pub stood : (place : ℕ) (value : Cell) → Has before.view.held place → StandsAt given before.view.first before.view.seen place value
+      → StandsAt given before.view.first log place value
+
 -- A core has ended its fsync: it told the commit, and that each log is trimmed for it where it has a member; it holds nothing; and its last entry has
 -- its answer with the moment of the acknowledgement.
 pub record Finishes (given : ℕ → Option OldKept) (cores : ℕ) (told : Fact) (ending : Ending) (before after : FileHand) : Type 0 where
@@ -89,5 +98,6 @@ pub record Finishes (given : ℕ → Option OldKept) (cores : ℕ) (told : Fact)
   pub lawful : IsLawful (IsLawfulLog given) after.view.first after.view.seen
   pub own : after.view.mine ≡ entries_by event_core after.view.core after.view.seen
   pub mine : after.view.mine ≡ (before.view.mine ++ told_by before.view.core told 0 ∷ []) ++ trim_events before.view.core ending.number (logs_trimmed ending.members.items cores)
+  pub told_behind : IsToldBehind given told before after
   pub answered : (front : List Entry) × (last : Entry) × (last.stamp.0 ≡ ending.stamp.0) × (before.entries ≡ front ++ last ∷ [])
       × (after.entries ≡ front ++ with_answer last reply.Ok (Some ending.ack) ∷ [])

@@ -9,18 +9,20 @@ ghost use Rattle.fsync_end.specs.Finishing.{logs_trimmed, MayEnd, Finishes};
 
 use crate::trimming::trim_all;
 use mem_values::{Cell, Fact, FileCore, FileShared};
-use sfs_base::{NodeId, Stamp};
+use sfs_base::{NodeId, NodeList, Stamp};
 use stamp_table::Telling;
 use std::sync::Wait;
 use tree_laws::Reply;
 
-/// How an fsync ends: the number of its commit, its stamp, the directories among the commit's members, what it wrote of each node that the
-/// core holds, in the order of the held cells, and the moment at which it was acknowledged.
+/// How an fsync ends: the number of its commit, its node and its stamp, the directories among the commit's members, the nodes of which the core holds what
+/// was flushed, what it wrote of each, in the order of the held cells, and the moment at which it was acknowledged.
 #[derive(Drop)]
 pub struct Ending {
     pub number: u64,
+    pub node: NodeId,
     pub stamp: Stamp,
     pub members: Vec<NodeId>,
+    pub nodes: NodeList,
     pub values: Vec<Cell>,
     pub ack: u64,
 }
@@ -56,8 +58,10 @@ pub fn finish<R: Wait, J: Telling<Fact>>(
 {
     let Ending {
         number,
+        node: _,
         stamp,
         members,
+        nodes: _,
         values,
         ack,
     } = ending;
