@@ -94,7 +94,7 @@ staying_listed leave (entry ∷ old) node =
     (times_listed (map node_number leave) entry.node.0)
     ∙ by (is_listed (map node_number leave) entry.node.0) refl (nat_eq entry.node.0 node) refl (staying_listed leave old node)
   where
-    abbrev Rest : Type 0
+    Rest : Type 0
     Rest = is_listed (map entry_node (staying old leave)) node ≡ (is_listed (map entry_node old) node && not (is_listed (map node_number leave) node))
 
     by : (gone : Bool) → is_listed (map node_number leave) entry.node.0 ≡ gone → (here : Bool) → nat_eq entry.node.0 node ≡ here → Rest

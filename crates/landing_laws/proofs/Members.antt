@@ -1,10 +1,11 @@
 -- The members that an fsync gathers are directories, but for its own node.
-use Rattle.std.specs.FinMap.{empty}
-use Rattle.std.proofs.Common.{◌≡◌, ◌⊎◌, ℕ, false, refl, arith, true}
+use Rattle.std.specs.FinMap.{empty, get-empty}
+use Rattle.std.proofs.Common.{◌≡◌, ◌⊎◌, ◌≤◌, ℕ, false, refl, arith, true, ap, Option, unwrap_or, nat_cmp}
 use Rattle.tree_laws.specs.Tree.{is_directory}
 use Rattle.tree_laws.specs.History.{tree_after}
 use Rattle.cut_laws.specs.Closure.{Closure, every_entry, InSpan, HasNaming}
 use Rattle.cut_laws.specs.Closure as closure
+use Rattle.cut_laws.specs.Cut.{cut_of}
 use Rattle.cut_laws.proofs.MemberKinds.{member_directory}
 use Rattle.look_laws.specs.Look.{Noted, InSight, SeesNaming, Gathers, itself, other_side, ended, ancestor, birth_place, member}
 use Rattle.beside_laws.specs.Commits.{CoreCommit, HasNotes, commit_fsync}
@@ -15,11 +16,16 @@ module _ (run : TableRun) (is : IsTableRun run) (commit : CoreCommit) (notes : H
   abbrev IsClosed : ℕ → Type 0
   IsClosed node = Closure run.first (calls_of run) every_entry empty (λ _. false) (commit_fsync commit) node
 
+  -- no cut is above any stamp there
+  no_cut : (node stamp : ℕ) → cut_of empty node ≤ stamp
+  no_cut node stamp = let none : cut_of empty node ≡ 0 = ap (λ (o : Option ℕ). unwrap_or o 0) (get-empty nat_cmp node) in omega (arith, none)
+
+  -- a change in sight is in its span
   span_of : (one : Noted) → InSight commit.look one → InSpan run.first (calls_of run) every_entry empty (commit_fsync commit).stamp one.change
   span_of one sight = record {
     is_change = (notes.truths one sight.is_noted).is_change;
     counted = refl;
-    from = omega arith;
+    from = no_cut one.change.directory one.change.stamp;
     below = sight.below;
   }
 
@@ -30,7 +36,7 @@ module _ (run : TableRun) (is : IsTableRun run) (commit : CoreCommit) (notes : H
     is_change = (notes.truths sees.noted sees.is_noted).is_change;
     counted = refl;
     child = sees.child;
-    unflushed = omega arith;
+    unflushed = no_cut sees.noted.change.directory sees.noted.change.stamp;
   }
 
   -- what is gathered is a closure of the history
