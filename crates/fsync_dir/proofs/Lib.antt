@@ -1,0 +1,9 @@
+pub mod Told
+pub mod Ended
+pub mod Waiting
+pub mod Tried
+pub mod Planned
+pub mod Pens
+pub mod Landing
+pub mod Coming
+pub mod Served

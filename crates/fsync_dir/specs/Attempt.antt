@@ -1,5 +1,5 @@
 -- An attempt at an fsync: what was caught, and what was planned of it.
-use Rattle.std.specs.Prelude.{◌≡◌, ◌<◌, ◌+◌, ◌*◌, ℕ, Some}
+use Rattle.std.specs.Prelude.{◌≡◌, ◌<◌, ◌≤◌, ◌+◌, ◌-◌, ◌*◌, ◌^◌, ℕ, Some}
 use Rattle.stamp_table.specs.Ascending.{LiesAbove}
 use Rattle.stamp_table.specs.Events.{calls_in}
 use Rattle.mem_values.specs.Facts.{HasFsync}
@@ -19,19 +19,21 @@ use Rattle.fsync_dir.specs.declared.attempt.PlannedCommit.{PlannedCommit}
 abbrev pub attempt_at : {D : Type 0} → FileState → ℕ → OwnFsync → FileHand → PenHand D → FlushAt D
 attempt_at t nodes own hand pen = record { t = t; nodes = nodes; fsync = own.fsync; file = own.file; hand = hand; pen = pen }
 
--- A core that holds cells has an fsync that waits, of whose node it has a copy; it has room for a log, which lies above what it holds.
+-- A core that holds cells has an fsync that waits, of whose node it has a copy; it has room for a log, which lies above what it holds. The nodes
+-- are as many as a word counts at most.
 pub record HoldsWaiting (t : FileState) (nodes : ℕ) (own : OwnFsync) (hand : FileHand) : Type 0 where
   pub waiting : hand.waiting ≡ Some own.fsync.stamp.0
   pub mine : HasFsync (calls_in hand.view.mine) hand.view.core own.fsync.node.0 own.fsync.stamp.0
   pub copied : WasCopied t.first hand.view.seen own.fsync own.file
   pub room : 0 < hand.room
   pub below : LiesAbove (32 + 10 * nodes) hand.view.held
+  pub few : nodes ≤ 2 ^ 32 - 1
 
 -- So it is of one that works and has caught what the fsync concerns.
 pub record HasCaught (t : FileState) (nodes : ℕ) (own : OwnFsync) (caught : Caught) (hand : FileHand) : Type 0 where
   pub holds : HoldsWaiting t nodes own hand
   pub work : IsWorking (given_by t) t hand
-  pub caught : IsCaught (given_by t) nodes own.fsync hand caught
+  pub has : IsCaught (given_by t) nodes own.fsync hand caught
 
 -- And of one that has planned it: other values stand in its cells, and the directories among the members are these.
 pub record HasDrafted {D : Type 0} (at : FlushAt D) (planned : PlannedFsync) (todo : PlannedCommit) (hand : FileHand) : Type 0 where

@@ -4,15 +4,18 @@ use Rattle.disk_nodes.specs.declared.old.OldEntry.{OldEntry}
 use Rattle.sfs_base.specs.declared.numbers.NodeId.{NodeId}
 use Rattle.tree_laws.specs.declared.reply.Reply.TheVariants as reply
 use Rattle.stamp_table.specs.Events.{told_by}
-use Rattle.stamp_table.specs.Table.{values_in}
+use Rattle.stamp_table.specs.Table.{IsBetweenCalls, values_in}
 use Rattle.mem_values.specs.Account.{commit_told}
 use Rattle.mem_values.specs.Start.{FileHand, FileState, given_by}
+use Rattle.mem_values.specs.declared.cell.Cell.{Cell}
 use Rattle.mem_values.specs.declared.fact.Fact.{Fact}
+use Rattle.mem_values.specs.declared.fact.HeldNode.{HeldNode}
+use Rattle.draft_laws.specs.Written.{cut_of_value}
 use Rattle.journal_set.specs.declared.fault.Ack.{Ack}
 use Rattle.fsync_catch.specs.declared.looking.WaitingFsync.{WaitingFsync}
 use Rattle.fsync_commit.specs.declared.landing.Landed.{Landed}
 use Rattle.fsync_draft.specs.Drafting.{IsHollow}
-use Rattle.fsync_values.specs.Lending.{lent_value}
+use Rattle.fsync_values.specs.Lending.{lent_value, old_of_value}
 use Rattle.fsync_values.specs.Renewing.{boxes_asked}
 use Rattle.fsync_end.specs.Finishing.{Finishes}
 use Rattle.fsync_end.specs.declared.finishing.Ending.{Ending}
@@ -44,4 +47,19 @@ pub record LandsSo (t : FileState) (fsync : WaitingFsync) (s : LandedFsync) (ack
   pub stamp_is : ending.stamp ≡ fsync.stamp
   pub members_are : ending.members.items ≡ directories_of s.planned.file s.planned.fsync.node s.planned.caught.concern.members.items
   pub ack_is : ending.ack ≡ ack.moment
+  pub between : IsBetweenCalls t after
   pub finishes : Finishes (given_by t) (length t.first.made) told ending before after
+
+-- some node, where none is named
+abbrev pub NO_NODE : NodeId
+NO_NODE = record { 0 = 0 }
+
+-- what a commit tells of a node, by the value that it leaves of it
+abbrev pub node_told : NodeId → Cell → HeldNode
+node_told node value = record { node = node; new_cut = cut_of_value value; new = old_of_value value }
+
+-- and of nodes, a value a node
+abbrev pub nodes_told : List NodeId → List Cell → List HeldNode
+nodes_told nodes [] = []
+nodes_told [] (value ∷ values) = node_told NO_NODE value ∷ nodes_told [] values
+nodes_told (node ∷ nodes) (value ∷ values) = node_told node value ∷ nodes_told nodes values

@@ -177,7 +177,7 @@ pub(crate) fn attempt<R: Wait, D: Disk + Drop, G: Gate>(
         alloc,
         site.shared,
         core,
-        site.nodes,
+        site.node_count(),
         site.cores,
         own.fsync,
     ) {

@@ -3,7 +3,7 @@ ghost use Rattle.std.specs.Prelude.{◌≡◌};
 ghost use Rattle.disk_box.specs.Pens.{PenGoes};
 ghost use Rattle.journal_set.specs.Ready.{IsReady};
 ghost use Rattle.fsync_dir.specs.Attempt.{attempt_at};
-ghost use Rattle.fsync_dir.specs.Flush.{FsyncComes, WaitsToFlush};
+ghost use Rattle.fsync_dir.specs.Flush.{IsServed, WaitsToFlush};
 ghost use Rattle.fsync_dir.specs.Site.{IsSite, ToldAsReserved};
 
 use crate::attempt::{OwnFsync, attempt};
@@ -33,7 +33,7 @@ pub(crate) fn serve<R: Wait, D: Disk + Drop, G: Gate>(
     ensures ready { IsReady site.now.set.now pen.new }
     ensures goes { PenGoes pen.old pen.new }
     ensures room { pen.new.room ≡ pen.old.room }
-    ensures comes { FsyncComes (attempt_at site.now.shared.now site.now.nodes own.now core.old pen.old) core.new pen.new result }
+    ensures comes { IsServed (attempt_at site.now.shared.now site.now.nodes own.now core.old pen.old) core.new pen.new result }
 {
     for _ in rt.forever() {
         if let Some(given) = attempt(rt, alloc, site, core, pen, own, gate) {

@@ -1,4 +1,6 @@
 // Where fsyncs are served.
+ghost use Rattle.std.specs.Prelude.{◌≡◌, ◌≤◌, ◌-◌, ◌^◌};
+
 use journal_set::JournalSet;
 use mem_values::FileShared;
 use sfs_dev::Disk;
@@ -10,4 +12,14 @@ pub struct FlushSite<'a, D: Disk> {
     pub set: &'a JournalSet<D>,
     pub nodes: u32,
     pub cores: u8,
+}
+
+impl<'a, D: Disk> FlushSite<'a, D> {
+    // The number of the table's nodes.
+    pub(crate) fn node_count(&self) -> u32
+        ensures same { result ≡ self.now.nodes }
+        ensures few { self.now.nodes ≤ 2 ^ 32 - 1 }
+    {
+        self.nodes
+    }
 }

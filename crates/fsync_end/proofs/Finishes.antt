@@ -285,7 +285,7 @@ module _ (s : FsyncEnd) (so : EndsSo s) where
               (ap (λ l. l ++ trims.seen.0) (sym (ap (λ (v : View TreeState (Event Fact)). v.seen) view_put ∙ so.tells.told.2.entry_last)) ∙ trims.seen.1)
                   ∙ sym (ap (λ (v : View TreeState (Event Fact)). v.seen) view_after ∙ seen_left),
             );
-            stood = so.tells.told.2.kept;
+            stood = λ place value has stands. so.tells.told.2.kept place (Some value) has stands;
           };
           answered = (
             gives.answered.0,

@@ -184,7 +184,7 @@ waiting_lasts t node stamp before mid after waits on = record {
 }
 
 -- the last of two lists
-last_same : (front other : List Entry) (one two : Entry) → front ++ one ∷ [] ≡ other ++ two ∷ [] → (front ≡ other) × (one ≡ two)
+pub last_same : (front other : List Entry) (one two : Entry) → front ++ one ∷ [] ≡ other ++ two ∷ [] → (front ≡ other) × (one ≡ two)
 last_same [] [] one two same = (refl, cc (same))
 last_same [] (x ∷ other) one two same =
     let long = ap (λ (l : List Entry). length l) same in

@@ -20,6 +20,7 @@ returns-then-lives g c =
     let held = subst (λ dead. StampsHeld t nodes node (not dead) c.stamp_held-stamp.result.0 holding after) c.if-lives.true c.stamp_held-stamp.ensures in
     stamps_copied t nodes node c.args.core.now c.hold_directory.new.core holding after c.requires.core.holds_none c.hold_directory.ensures.on
     c.hold_part.ensures.on c.hold_part.ensures.still c.directory_fault_in-fault.result c.directory_fault_in-fault.ensures.fault
+    c.hold_part.ensures.work.first
     (record { stamp = c.stamp_held-stamp.result; copied = c.copied_as-copied.result }) bytes
     (has_copied nodes c.hold_directory.new.core node bytes c.copy_held-bytes.ensures.within c.copy_held-bytes.ensures.held)
     (c.copied_as-copied.ensures ∙ ap (λ directory. copied_as directory bytes) (none_by c.directory_fault_in-fault.result c.is_none.result c.is_none.ensures)) held
