@@ -36,9 +36,10 @@ use Rattle.fsync_stamp.proofs.Waiting.{behind_log, last_same, same_on}
 use Rattle.fsync_catch.specs.Catch.{GoesOn}
 use Rattle.fsync_catch.specs.declared.looking.WaitingFsync.{WaitingFsync}
 use Rattle.fsync_catch.proofs.Going.{goes_again}
+use Rattle.fsync_end.specs.Finishing.{logs_trimmed}
 use Rattle.fsync_end.specs.Trimming.{trim_events}
 use Rattle.draft_laws.specs.Made.{PlannedFsync}
-use Rattle.landing_laws.specs.Landed.{LandedFsync, commitment_of}
+use Rattle.landing_laws.specs.Landed.{LandedFsync, commitment_of, directories_of}
 use Rattle.fsync_dir.specs.Answering.{EndsUntold, EndsWaiting, LetsGoWaiting}
 use Rattle.fsync_dir.specs.Flush.{AttemptComes, BeginsAnew, EndsLanded, FlushAt, FsyncComes, IsServed, IsTried, TellsNoTurn, asked_by, flushed, refused, wanting}
 use Rattle.fsync_dir.specs.Site.{ToldAsReserved}
@@ -160,10 +161,10 @@ module _ {D : Type 0} (at : FlushAt D) (after : FileHand) (done : PenHand D) (go
       ∙ (filter_map-append commit_told s.planned.hand.view.mine (told_by s.planned.hand.view.core told 0 ∷ [])
       ∙ (λ i. filter_map commit_told s.planned.hand.view.mine ++ cons_option (tells i) [])))))
 
-  agrees_landed : (s : LandedFsync) (from : PenHand D) (number : ℕ) → GoesOn at.hand s.planned.hand → ToldAsReserved at.hand from → TellsMore from done
+  agrees_landed : (s : LandedFsync) (from : PenHand D) → GoesOn at.hand s.planned.hand → ToldAsReserved at.hand from → TellsMore from done
       → IsOneOf (numbers_reserved done.view.mine) s.number → after.view.core ≡ at.hand.view.core → done.view.core ≡ from.view.core
       → filter_map commit_told after.view.mine ≡ filter_map commit_told s.planned.hand.view.mine ++ commitment_of s ∷ [] → ToldAsReserved after done
-  agrees_landed s from number on agreed more reserved core numbered told = record {
+  agrees_landed s from on agreed more reserved core numbered told = record {
     one = numbered ∙ (agreed.one ∙ sym core);
     reserved = λ commit one.
         elim (in_either (filter_map commit_told s.planned.hand.view.mine) (commitment_of s ∷ []) commit
@@ -185,9 +186,10 @@ module _ {D : Type 0} (at : FlushAt D) (after : FileHand) (done : PenHand D) (go
       agree_untold at.hand after from done ends.ends.same.number (number_from from none) ends.mine
       (plan_more (asked_by planned) from done (Err refusal) comes) (agree_with from none)
   agrees_then given (flushed s from landed tried none comes lands is) =
-      agrees_landed s from 0 tried.since (agree_with from none) (plan_more (asked_by s.planned) from done (Ok landed) comes)
+      agrees_landed s from tried.since (agree_with from none) (plan_more (asked_by s.planned) from done (Ok landed) comes)
       (subst (IsOneOf (numbers_reserved done.view.mine)) (sym lands.number_is) (number_reserved (asked_by s.planned) from done landed comes))
-      lands.ends.same.number (number_from from none) (landed_told s lands.told _ lands.tells lands.mine)
+      lands.ends.same.number (number_from from none) (landed_told s lands.told
+      (logs_trimmed (directories_of s.planned.file s.planned.fsync.node s.planned.caught.concern.members.items) (length at.t.first.made)) lands.tells lands.mine)
 
 -- A stamped fsync has its answer.
 pub answers_stamped : (t : FileState) (node : NodeId) (stamped : StampedFsync) (fsync : WaitingFsync) (given : Reply) (ack : Option ℕ)
