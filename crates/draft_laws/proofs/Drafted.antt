@@ -23,13 +23,13 @@ use Rattle.made_laws.specs.Made.{CoreMade, CoreMaking, HasMadeFile, HasSeenOld, 
 use Rattle.fsync_catch.specs.Catch.{saw_of}
 use Rattle.fsync_values.specs.Lending.{entries_of}
 use Rattle.fsync_values.proofs.Renewed.{entries_ascend}
-use Rattle.fsync_draft.specs.Drafting.{IsDrafted, IsOwnChange}
+use Rattle.fsync_draft.specs.Drafting.{IsDrafted, IsDraftedFile}
 use Rattle.catch_laws.specs.Laws.{Further, IsGatheredFor, making_of}
 use Rattle.catch_laws.proofs.Caught.{caught_are_gathered}
-use Rattle.draft_laws.specs.Made.{DraftsAreMade, IsOwnCopy, IsPlannedFsync, MakesPlanned, PlannedFsync, of_directory, of_file, run_planned}
+use Rattle.draft_laws.specs.Made.{DraftsAreMade, IsDraftedFsync, IsOwnCopy, MakesPlanned, PlannedFsync, of_directory, of_file, run_planned}
 use Rattle.draft_laws.proofs.Entries.{seen_is_taken, taken_is_seen}
 
-module _ (s : PlannedFsync) (is : IsPlannedFsync s) where
+module _ (s : PlannedFsync) (is : IsDraftedFsync s) where
   abbrev list : List NodeId
   list = s.caught.concern.nodes.items
 
@@ -68,7 +68,7 @@ module _ (s : PlannedFsync) (is : IsPlannedFsync s) where
 
   -- the change of a file is made from its copy
   made_file : (file : Option File) (change : Option FileChange) → s.file ≡ file → is.drafted.change ≡ change → IsOwnCopy (run_planned s) s.fsync file
-      → IsOwnChange s.fsync.node s.caught.gathered file change → HasMadeFile (run_planned s) making
+      → IsDraftedFile s.fsync.node s.caught.gathered file change → HasMadeFile (run_planned s) making
   made_file None change none is_change (of_directory kind) own =
       directory (subst (λ n. is_directory (tree_after (run_planned s).first (calls_of (run_planned s))) n ≡ true) (sym g.node_is) kind) (ap is_some none)
       (is_change ∙ own)

@@ -39,7 +39,7 @@ abbrev pub run_planned : PlannedFsync → TableRun
 run_planned s = run_seen s.given s.hand
 
 -- It was planned by what was caught and copied, on a table with some core whose disk had something of the root.
-pub record IsPlannedFsync (s : PlannedFsync) : Type 0 where
+pub record IsDraftedFsync (s : PlannedFsync) : Type 0 where
   pub root : is_some (s.given 0) ≡ true
   pub some_core : 0 < length s.hand.view.first.made
   pub caught : IsCaught s.given s.nodes s.fsync s.hand s.caught
@@ -60,4 +60,4 @@ pub record MakesPlanned (s : PlannedFsync) : Type 0 where
 
 -- So it is.
 abbrev pub DraftsAreMade : Type 0
-DraftsAreMade = (s : PlannedFsync) → IsPlannedFsync s → MakesPlanned s
+DraftsAreMade = (s : PlannedFsync) → IsDraftedFsync s → MakesPlanned s

@@ -32,15 +32,15 @@ seens_of (node ∷ nodes) [] = []
 seens_of (node ∷ nodes) (value ∷ values) = record { node = node; last = last_of_value value } ∷ seens_of nodes values
 
 -- the change of an fsync's own node: that of its file, from the cut on that was gathered, and none of a directory
-abbrev pub IsOwnChange : NodeId → Gathered → Option File → Option FileChange → Type 0
-IsOwnChange node gathered None change = change ≡ None
-IsOwnChange node gathered (Some file) change = (one : FileChange) × IsFileChange node (cut_in gathered.cuts.items node.0) file one × (change ≡ Some one)
+abbrev pub IsDraftedFile : NodeId → Gathered → Option File → Option FileChange → Type 0
+IsDraftedFile node gathered None change = change ≡ None
+IsDraftedFile node gathered (Some file) change = (one : FileChange) × IsFileChange node (cut_in gathered.cuts.items node.0) file one × (change ≡ Some one)
 
 -- What was planned by what was caught, over these values, a value a node: the plan is made of what was gathered and of what the disk has of the nodes, which
 -- was taken out of the values; there are boxes enough for what a commit leaves of them; and of each node its last commit was seen.
 pub record IsDrafted (fsync : WaitingFsync) (caught : Caught) (file : Option File) (was now : List Cell) (draft : Draft) : Type 0 where
   pub change : Option FileChange
-  pub change_is : IsOwnChange fsync.node caught.gathered file change
+  pub change_is : IsDraftedFile fsync.node caught.gathered file change
   pub planned : IsPlanOf fsync.node fsync.stamp caught.gathered caught.concern (entries_of caught.concern.nodes.items was) (is_some file) change draft.plan
   pub lent : now ≡ map lent_value was
   pub boxes : (after : List OldEntry) (nodes : List NodeId) → boxes_asked after nodes was ≤ length draft.spares.items

@@ -3,7 +3,7 @@ ghost use Rattle.std.specs.Prelude.{◌≡◌, IfOk, OnErr, length};
 ghost use Rattle.std.specs.Option.{option_copied};
 ghost use Rattle.dep_closure.specs.Gathered.{IsOrderly};
 ghost use Rattle.flush_plan.specs.Concerned.{IsConcernOf};
-ghost use Rattle.fsync_draft.specs.Drafting.{IsDrafted, IsOwnChange};
+ghost use Rattle.fsync_draft.specs.Drafting.{IsDrafted, IsDraftedFile};
 
 use crate::seeing::seen_of;
 use dep_closure::Gathered;
@@ -34,7 +34,7 @@ fn own_change(
     file: Option<&FileBytes>,
 ) -> Result<Option<FileChange>, NoMemory>
     requires { IsOrderly gathered.now }
-    ensures { IfOk result (IsOwnChange node gathered.now (option_copied file.entry)) }
+    ensures { IfOk result (IsDraftedFile node gathered.now (option_copied file.entry)) }
 {
     match file {
         Some(bytes) => {
