@@ -87,24 +87,26 @@ module _ (t : FileState) (s : LandedFsync) (is : HasBecomeDurable t s) where
     disk = subst (λ first. (node : ℕ) → is_some (s.planned.given node) ≡ is_some (get first.nodes node)) (sym is.work.first) is.disk;
   }
 
+  -- and this is what it made of that
   pub made : MakesPlanned s.planned
   made = drafts_are_made s.planned is.planned
 
   abbrev making : CoreMaking
   making = made.making
 
-  -- what was caught is what the core made
+  -- what is listed of what was caught is listed of what the core made
   is_made_concern : (nodes : Concern → List NodeId) (node : ℕ) → is_listed (map node_number (nodes s.planned.caught.concern)) node ≡ true
       → is_listed (map node_number (nodes making.concern)) node ≡ true
   is_made_concern nodes node listed = subst (λ (c : Concern). is_listed (map node_number (nodes c)) node ≡ true) (sym made.concern_is) listed
 
-  -- the fsync was stamped within what was seen
+  -- the calls of the first note were seen
   calls_noted_low : length (calls_noted look.noted 0) ≤ length (calls_in hand.view.seen)
   calls_noted_low =
       let part = look.notes.each 0 is.planned.some_core in
       let long = ap length (calls_begin (look.noted.notes 0).at part.rest hand.view.seen part.whole) in
       let sum = length-append (calls_noted look.noted 0) (calls_in part.rest) in omega (arith, long, sum)
 
+  -- so the fsync was stamped within them
   stamped : commit.stamp ≤ length (calls_in hand.view.seen)
   stamped =
       let part = look.notes.each 0 is.planned.some_core in
@@ -142,6 +144,7 @@ module _ (t : FileState) (s : LandedFsync) (is : HasBecomeDurable t s) where
   each_listed k d within =
       (listed_one (map node_number list) (get_or list k d).0).1 (to_map node_number list (get_or list k d) (one_at list k d (get_or list k d) within refl))
 
+  -- the commit holds these nodes, and says of each what it wrote
   holds : HoldsWhatItWrote (tree_seen hand) s.planned.nodes list hand.held (done_of s) commit
   holds = record {
     places = is.planned.caught.holds;
@@ -164,13 +167,14 @@ module _ (t : FileState) (s : LandedFsync) (is : HasBecomeDurable t s) where
       ∙ ap (λ (plan : FsyncPlan). is_some (kept_of_node (after_commit plan.change s.grant) 0)) (sym made.plan_is)
       ∙ left_made run making made.made s.number s.grant 0 concerned ∙ root_stays run making made.made s.number concerned
 
-  -- a member is a directory, or the fsync's own node
+  -- the members, and the fsync's own node
   abbrev flushed : List NodeId
   flushed = s.planned.caught.concern.members.items
 
   abbrev own : NodeId
   own = s.planned.fsync.node
 
+  -- a member is a directory, or the own node
   member_kind : (node : ℕ) → is_listed (map node_number flushed) node ≡ true → (node ≡ own.0) ⊎ (is_directory (tree_seen hand) node ≡ true)
   member_kind node listed =
       let gathers = (made.made.concern_is.members.each node).0 (is_made_concern (λ (c : Concern). c.members.items) node listed) in
@@ -180,11 +184,11 @@ module _ (t : FileState) (s : LandedFsync) (is : HasBecomeDurable t s) where
         | inr kind ↦ inr kind
       ]
 
-  -- and is held
+  -- and is one of the nodes that are held
   pub member_held : (node : ℕ) → is_listed (map node_number flushed) node ≡ true → is_listed (map node_number list) node ≡ true
   member_held node listed = (look.concern_is.nodes.each node).1 (member node ((look.concern_is.members.each node).0 listed))
 
-  -- the directories among them, by whether the own node is a file
+  -- the directories among the members, by whether the own node is a file
   abbrev directories : Option File → List NodeId
   directories file = directories_of file own flushed
 

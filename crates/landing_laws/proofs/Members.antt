@@ -12,7 +12,7 @@ use Rattle.beside_laws.specs.Commits.{CoreCommit, HasNotes, commit_fsync}
 use Rattle.note_laws.specs.Run.{TableRun, IsTableRun, calls_of}
 
 module _ (run : TableRun) (is : IsTableRun run) (commit : CoreCommit) (notes : HasNotes run.first (calls_of run) commit) where
-  -- in the history where no cut is above 0 and no node has an inode
+  -- a member of the fsync's closure in the history, where no cut is above 0 and no node has an inode: what members are does not depend on these
   abbrev IsClosed : ℕ → Type 0
   IsClosed node = Closure run.first (calls_of run) every_entry empty (λ _. false) (commit_fsync commit) node
 
@@ -39,7 +39,7 @@ module _ (run : TableRun) (is : IsTableRun run) (commit : CoreCommit) (notes : H
     unflushed = no_cut sees.noted.change.directory sees.noted.change.stamp;
   }
 
-  -- what is gathered is a closure of the history
+  -- what is gathered is in the closure there
   gathered_closed : {node : ℕ} → Gathers commit.look node → IsClosed node
   gathered_closed itself = closure.itself
   gathered_closed (other_side one other own sight two) = closure.other_side one.change other (gathered_closed own) (span_of one sight) two
@@ -52,6 +52,7 @@ module _ (run : TableRun) (is : IsTableRun run) (commit : CoreCommit) (notes : H
       closure.birth_place (record { stamp = birth.0; directory = born.directory; node = born.node }) (gathered_closed own) birth.1 refl
       (naming_of born.node sees)
 
+  -- so each member but the fsync's own node is a directory
   pub gathered_directory : (node : ℕ) → Gathers commit.look node
       → (node ≡ (commit_fsync commit).node) ⊎ (is_directory (tree_after run.first (calls_of run)) node ≡ true)
   gathered_directory node own =
