@@ -90,25 +90,29 @@ module _ {D : Type 0} (at : FlushAt D) (s : PlannedFsync) (todo : PlannedCommit)
   got_number done landed (unasked same out) = absurd out
   got_number done landed (unnumbered why is out) = absurd out
   got_number done landed (numbered middle grant reserves comes) =
-      let same = landed_reserved (asked_by s) at.pen middle done grant landed reserves comes in
-      (grant, record {
-        newer = subst (IsNewerThan at.pen.view.mine) (sym same) reserves.comes.newer;
-        above = subst (λ n. (node last : ℕ) → last_seen s.drafted.draft.seen.items node ≡ Some last → last < n) (sym same) reserves.comes.reserved.above;
-        enough = (grant_on (asked_by s) at.pen middle grant reserves.goes reserves.comes site.space may_commit).enough;
-        hands = by comes;
-      })
+      let same = landed_reserved (asked_by s) at.pen middle done grant landed reserves comes in (
+        grant,
+        record {
+          newer = subst (IsNewerThan at.pen.view.mine) (sym same) reserves.comes.newer;
+          above = subst (λ n. (node last : ℕ) → last_seen s.drafted.draft.seen.items node ≡ Some last → last < n) (sym same) reserves.comes.reserved.above;
+          enough = (grant_on (asked_by s) at.pen middle grant reserves.goes reserves.comes site.space may_commit).enough;
+          hands = by comes;
+        },
+      )
     where
       by : GrantComes (asked_by s).flush middle done s.drafted.draft.plan.change grant (Ok landed)
           → HandsLanded s.drafted.draft.plan.change grant landed.ack landed
       by (gave_back back out) = absurd out
       by (committed (Ok ack) commits out) = subst (λ (a : Ack). HandsLanded s.drafted.draft.plan.change grant a landed) (sym out.ack_is) out
       by (committed (Err why) commits out) = absurd out
-  got_number done landed (settled (Ok ack) ends out) =
-      (no_numbers, record {
-        newer = subst (λ (a : Ack). IsNewerThan at.pen.view.mine a.commit) (sym out.ack_is) ends.comes.newer;
-        above = subst (λ (a : Ack). (node last : ℕ) → last_seen s.drafted.draft.seen.items node ≡ Some last → last < a.commit) (sym out.ack_is)
-            ends.comes.reserved.above;
-        enough = (none_on at.pen.table.given.layout s.drafted.draft.plan.change may_commit ends.nothing).enough;
-        hands = subst (λ (a : Ack). HandsLanded s.drafted.draft.plan.change no_numbers a landed) (sym out.ack_is) out;
-      })
+  got_number done landed (settled (Ok ack) ends out) = (
+    no_numbers,
+    record {
+      newer = subst (λ (a : Ack). IsNewerThan at.pen.view.mine a.commit) (sym out.ack_is) ends.comes.newer;
+      above = subst (λ (a : Ack). (node last : ℕ) → last_seen s.drafted.draft.seen.items node ≡ Some last → last < a.commit) (sym out.ack_is)
+          ends.comes.reserved.above;
+      enough = (none_on at.pen.table.given.layout s.drafted.draft.plan.change may_commit ends.nothing).enough;
+      hands = subst (λ (a : Ack). HandsLanded s.drafted.draft.plan.change no_numbers a landed) (sym out.ack_is) out;
+    },
+  )
   got_number done landed (settled (Err why) ends out) = absurd out

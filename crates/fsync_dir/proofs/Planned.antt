@@ -28,7 +28,7 @@ use Rattle.fsync_look.specs.Look.{IsBelow}
 use Rattle.fsync_values.specs.Lending.{entries_of}
 use Rattle.fsync_commit.specs.Asked.{IsChangeOn}
 use Rattle.fsync_commit.proofs.OnPlans.{plans_lie_on_disks}
-use Rattle.draft_laws.specs.Made.{IsPlannedFsync, MakesPlanned, PlannedFsync}
+use Rattle.draft_laws.specs.Made.{IsDraftedFsync, MakesPlanned, PlannedFsync}
 use Rattle.draft_laws.proofs.Drafted.{drafts_are_made}
 
 -- of items that ascend each has at least the number of its place
@@ -38,7 +38,7 @@ place_low key xs d ascend (suc k) within =
     let before = place_low key xs d ascend k (omega (arith, within)) in
     let next = ascend k (suc k) d (omega arith) within in omega (arith, before, next)
 
-module _ (s : PlannedFsync) (is : IsPlannedFsync s) (below : (of : ℕ) → IsBelowInodes s.hand.view.first.first (s.given of)) where
+module _ (s : PlannedFsync) (is : IsDraftedFsync s) (below : (of : ℕ) → IsBelowInodes s.hand.view.first.first (s.given of)) where
   made : MakesPlanned s
   made = drafts_are_made s is
 

@@ -168,7 +168,7 @@ module _ {D : Type 0} (at : FlushAt D) (after : FileHand) (done : PenHand D) (go
     one = numbered ∙ (agreed.one ∙ sym core);
     reserved = λ commit one.
         elim (in_either (filter_map commit_told s.planned.hand.view.mine) (commitment_of s ∷ []) commit
-            (subst (λ (l : List Commitment). IsOneOf l commit) told one)) [
+        (subst (λ (l : List Commitment). IsOneOf l commit) told one)) [
           | inl old ↦ still_reserved from done commit.number more
               (agreed.reserved commit (subst (λ (l : List (Event Fact)). IsOneOf (filter_map commit_told l) commit)
               (ap (λ (v : View TreeState (Event Fact)). v.mine) on.view) old))

@@ -23,7 +23,7 @@ use Rattle.fsync_catch.specs.declared.looking.Caught.{Caught}
 use Rattle.fsync_catch.proofs.Going.{goes_none}
 use Rattle.fsync_draft.specs.Drafting.{IsDraftOf, IsHollow}
 use Rattle.fsync_look.specs.Look.{flushed_place}
-use Rattle.draft_laws.specs.Made.{IsOwnCopy, IsPlannedFsync, PlannedFsync, of_directory, of_file}
+use Rattle.draft_laws.specs.Made.{IsOwnCopy, IsDraftedFsync, PlannedFsync, of_directory, of_file}
 use Rattle.landing_laws.specs.Landed.{directories_of}
 use Rattle.disk_box.specs.Pens.{PenHand}
 use Rattle.fsync_dir.specs.Attempt.{HasCaught, HasDrafted, attempt_at}
@@ -88,7 +88,7 @@ module _ (t : FileState) (nodes : ℕ) (own : OwnFsync) (caught : Caught) (hand 
       drafted = todo.drafted;
     }
 
-    is_planned : IsPlannedFsync planned
+    is_planned : IsDraftedFsync planned
     is_planned = record {
       root = disk 0 ∙ directory_node t.first 0 table.sound.sound.root;
       some_core = subst (λ (tree : TreeState). 0 < length tree.made) (sym has.work.first)

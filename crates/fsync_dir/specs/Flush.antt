@@ -36,7 +36,7 @@ use Rattle.fsync_commit.specs.declared.landing.CommitRefusal.{CommitRefusal}
 use Rattle.fsync_commit.specs.declared.landing.Landed.{Landed}
 use Rattle.fsync_end.specs.Finishing.{IsToldBehind, logs_trimmed}
 use Rattle.fsync_end.specs.Trimming.{trim_events}
-use Rattle.draft_laws.specs.Made.{IsPlannedFsync, PlannedFsync}
+use Rattle.draft_laws.specs.Made.{IsDraftedFsync, PlannedFsync}
 use Rattle.landing_laws.specs.Landed.{HasBecomeDurable, LandedFsync, commitment_of, directories_of}
 use Rattle.fsync_dir.specs.Answering.{EndsUntold, EndsWaiting, LetsGoWaiting, reply_to}
 
@@ -97,7 +97,7 @@ module _ {D : Type 0} (at : FlushAt D) where
     pub file_is : planned.file ≡ at.file
     pub since : GoesOn at.hand planned.hand
     pub work : IsWorking (given_by at.t) at.t planned.hand
-    pub is : IsPlannedFsync planned
+    pub is : IsDraftedFsync planned
 
   -- Its plan was committed: the commit has become durable and its core has told it, with what it knew of its nodes standing as it did; it told that each log
   -- is trimmed for it where it has a member; and the fsync is answered Ok with the moment of its acknowledgement.

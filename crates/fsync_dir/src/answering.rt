@@ -25,11 +25,7 @@ fn reply_to(fault: CommitFault) -> Option<Reply>
 }
 
 /// Lets all go, and answers that memory was wanting.
-pub(crate) fn answer_wanting(
-    shared: &FileShared,
-    core: &mut FileCore,
-    fsync: WaitingFsync,
-) -> Reply
+pub(crate) fn answer_wanting(shared: &FileShared, core: &mut FileCore, fsync: WaitingFsync) -> Reply
     requires work { IsWorking (given_by shared.now) shared.now core.old }
     requires waits { core.old.waiting ≡ Some fsync.stamp.0 }
     ensures ends { EndsUntold shared.now fsync reply.NoMemory core.old core.new }

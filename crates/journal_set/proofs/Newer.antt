@@ -108,8 +108,8 @@ given_from layout before [] past may other one = absurd one
 given_from layout before (Called entry ∷ log) past may other one = absurd may.0
 given_from layout before (Told core fact ∷ log) past may other one =
     elim (in_front (label_reserves fact) (numbers_reserved log) other one) [
-      inl here ↦ given_here layout before core fact log past may other here
-    | inr later ↦ given_from layout before log (after_event layout (Told core fact) past) may.1 other later
+      | inl here ↦ given_here layout before core fact log past may other here
+      | inr later ↦ given_from layout before log (after_event layout (Told core fact) past) may.1 other later
     ]
 
 -- So the next number is above all.
@@ -124,8 +124,8 @@ numbers_by core [] other one = one
 numbers_by core (event ∷ log) other one = ⊎_elim
     (λ is. elim (in_front (event_reserves event) (numbers_reserved (entries_by event_core core log)) other
     (subst (λ (b : Bool). IsOneOf (numbers_reserved (cond b (event ∷ entries_by event_core core log) (entries_by event_core core log))) other) is one)) [
-      inl here ↦ subst (λ (o : Option ℕ). IsOneOf (cons_option o (numbers_reserved log)) other) (sym here) (inl refl)
-    | inr later ↦ behind (event_reserves event) (numbers_reserved log) other (numbers_by core log other later)
+      | inl here ↦ subst (λ (o : Option ℕ). IsOneOf (cons_option o (numbers_reserved log)) other) (sym here) (inl refl)
+      | inr later ↦ behind (event_reserves event) (numbers_reserved log) other (numbers_by core log other later)
     ])
     (λ not. behind (event_reserves event) (numbers_reserved log) other (numbers_by core log other
     (subst (λ (b : Bool). IsOneOf (numbers_reserved (cond b (event ∷ entries_by event_core core log) (entries_by event_core core log))) other) not one)))

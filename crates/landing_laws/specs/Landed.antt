@@ -18,7 +18,7 @@ use Rattle.mem_values.specs.Start.{FileState}
 use Rattle.mem_calls.specs.Table.{IsFileTable}
 use Rattle.mem_calls.specs.Working.{IsWorking}
 use Rattle.fsync_draft.specs.Drafting.{seens_of}
-use Rattle.draft_laws.specs.Made.{IsPlannedFsync, PlannedFsync}
+use Rattle.draft_laws.specs.Made.{IsDraftedFsync, PlannedFsync}
 use Rattle.draft_laws.specs.Telling.{HasLanded}
 use Rattle.draft_laws.specs.Written.{CommitDone, nodes_wrote}
 
@@ -69,7 +69,7 @@ pub record HasBecomeDurable (t : FileState) (s : LandedFsync) : Type 0 where
   pub table : IsFileTable t s.planned.nodes
   pub disk : (node : ℕ) → is_some (s.planned.given node) ≡ is_some (get t.first.nodes node)
   pub work : IsWorking s.planned.given t s.planned.hand
-  pub planned : IsPlannedFsync s.planned
+  pub planned : IsDraftedFsync s.planned
   pub own : HasFsync (calls_in s.planned.hand.view.mine) s.planned.hand.view.core s.planned.fsync.node.0 s.planned.fsync.stamp.0
   pub fresh : (other : Commitment) → IsOneOf (filter_map commit_told s.planned.hand.view.mine) other → other.number ≢ s.number
   pub above : NumberIsAbove s
