@@ -24,7 +24,6 @@ use Rattle.made_laws.specs.Made.{CoreMaking, IsPlanMade, sources_of, CoreMade, O
 use Rattle.made_laws.specs.Tells.{AreAllMade, commit_made}
 use Rattle.tell_laws.specs.Kept.{TellsDisk}
 
-
 -- A place at which a core's fsync reserves: the run of the table, what the core made and its pair, what is done beside a volume, the box's open commits and
 -- its last number, and all commits that ever are done.
 pub record MadePlace : Type 0 where
