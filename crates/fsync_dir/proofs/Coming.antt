@@ -12,11 +12,13 @@ use Rattle.tree_laws.specs.declared.reply.Reply.TheVariants as reply
 use Rattle.turn_laws.specs.Ways.{no_turn}
 use Rattle.slot_laws.specs.Labels.{OwnTold, fsync_told}
 use Rattle.slot_laws.specs.declared.label.Label.{Label}
+use Rattle.slot_laws.specs.declared.label.Seen.{Seen}
 use Rattle.stamp_table.specs.Ascending.{LiesAbove}
 use Rattle.stamp_table.specs.Events.{told_by}
 use Rattle.stamp_table.specs.Table.{values_in, with_answer}
 use Rattle.stamp_table.specs.declared.event.Event.{Event}
 use Rattle.stamp_table.specs.declared.view.View.{View}
+use Rattle.stamp_table.proofs.Keeps.{begins_itself}
 use Rattle.mem_values.specs.Account.{commit_told}
 use Rattle.mem_values.specs.Start.{FileHand, FileState, given_by}
 use Rattle.mem_values.specs.declared.fact.Fact.{Fact}
@@ -33,6 +35,7 @@ use Rattle.fsync_commit.specs.Coming.{AreLow, GrantComes, HandsOut, PlanComesTo,
 use Rattle.fsync_commit.specs.declared.landing.CommitRefusal.{CommitRefusal}
 use Rattle.fsync_commit.specs.declared.landing.Landed.{Landed}
 use Rattle.fsync_draft.specs.Drafting.{IsLentOut}
+use Rattle.fsync_draft.specs.declared.lending.DraftedFsync.{DraftedFsync}
 use Rattle.fsync_end.specs.Finishing.{Finishes, IsToldBehind, logs_trimmed}
 use Rattle.fsync_end.specs.Trimming.{trim_events}
 use Rattle.draft_laws.specs.Made.{PlannedFsync}
@@ -49,9 +52,13 @@ use Rattle.fsync_dir.proofs.Landing.{durable, got_number, landed_of, may_commit}
 use Rattle.fsync_dir.proofs.Pens.{moved_tells}
 use Rattle.fsync_dir.proofs.Waiting.{ends_since, ends_waiting_since, waiting_on}
 
+-- a pen goes on as itself
+pub goes_still : {D : Type 0} (pen : PenHand D) → PenGoes pen pen
+goes_still pen = record { frame = refl; view = refl; seen = begins_itself pen.view.seen }
+
 -- a pen that has done nothing has told no turn
-pub no_turn_yet : {D : Type 0} (pen : PenHand D) → PenGoes pen pen → TellsNoTurn pen pen
-no_turn_yet pen goes = record { goes = goes; room = refl; own = refl; numbers = refl }
+pub no_turn_yet : {D : Type 0} (pen : PenHand D) → TellsNoTurn pen pen
+no_turn_yet pen = record { goes = goes_still pen; room = refl; own = refl; numbers = refl }
 
 -- what a fsync does that takes no turn goes the way of none
 pub no_way : {D : Type 0} (before after : PenHand D) → own_at after ≡ own_at before → TakesWay reply.NoMemory (own_at before) (own_at after)
@@ -66,6 +73,14 @@ no_way before after own = record {
     numbered = omega arith;
     commits = λ turn one. absurd one;
   };
+}
+
+-- memory was wanting before the journals were asked
+pub untold_serves : {D : Type 0} (at : FlushAt D) (after : FileHand) (given : Reply) → given ≡ reply.NoMemory
+    → EndsUntold at.t at.fsync reply.NoMemory at.hand after → IsServed at after at.pen given
+untold_serves at after given is ends = record {
+  comes = wanting (no_turn_yet at.pen) is (subst (λ (g : Reply). EndsUntold at.t at.fsync g at.hand after) (sym is) ends);
+  way = subst (λ (g : Reply). TakesWay g (own_at at.pen) (own_at at.pen)) (sym is) (no_way at.pen at.pen refl);
 }
 
 -- what is handed back as a plan is refused
@@ -106,27 +121,25 @@ module _ {D : Type 0} (at : FlushAt D) (s : PlannedFsync) (todo : PlannedCommit)
   drafted_back : todo.drafted ≡ s.drafted
   drafted_back = sym has.drafted_is
 
-  -- what was asked is what was planned
-  asked_same : ◌≡◌ {A = CommitRequest} (record {
-    flush = fsync_told at.fsync.node at.fsync.stamp;
-    seen = todo.drafted.draft.seen.items;
-    change = todo.drafted.draft.plan.change;
-  }) (asked_by s)
-  asked_same = λ i. record {
-    flush = fsync_told (sym has.tried.fsync_is i).node (sym has.tried.fsync_is i).stamp;
-    seen = (drafted_back i).draft.seen.items;
-    change = (drafted_back i).draft.plan.change;
-  }
+  module _ (seen : List Seen) (seen_is : seen ≡ todo.drafted.draft.seen.items) where
+    -- what was asked, for what was seen
+    abbrev asked_of : CommitRequest
+    asked_of = record { flush = fsync_told at.fsync.node at.fsync.stamp; seen = seen; change = todo.drafted.draft.plan.change }
 
-  pub plan_asked : (done : PenHand D) (result : Result Landed CommitRefusal) → PlanComesTo (record {
-    flush = fsync_told at.fsync.node at.fsync.stamp;
-    seen = todo.drafted.draft.seen.items;
-    change = todo.drafted.draft.plan.change;
-  }) at.pen done result → PlanComesTo (asked_by s) at.pen done result
-  plan_asked done result comes = subst (λ (asked : CommitRequest). PlanComesTo asked at.pen done result) asked_same comes
+    -- is what was planned
+    asked_same : asked_of ≡ asked_by s
+    asked_same = λ i. record {
+      flush = fsync_told (sym has.tried.fsync_is i).node (sym has.tried.fsync_is i).stamp;
+      seen = (seen_is ∙ ap (λ (d : DraftedFsync). d.draft.seen.items) drafted_back) i;
+      change = (drafted_back i).draft.plan.change;
+    }
+
+    pub plan_asked : (done : PenHand D) (result : Result Landed CommitRefusal) → PlanComesTo asked_of at.pen done result
+        → PlanComesTo (asked_by s) at.pen done result
+    plan_asked done result comes = subst (λ (asked : CommitRequest). PlanComesTo asked at.pen done result) asked_same comes
 
   pub change_lies : IsChangeOn at.pen.table.given.layout todo.drafted.draft.plan.change
-  change_lies = subst (λ (d : Rattle.fsync_draft.specs.declared.lending.DraftedFsync.DraftedFsync). IsChangeOn at.pen.table.given.layout d.draft.plan.change)
+  change_lies = subst (λ (d : DraftedFsync). IsChangeOn at.pen.table.given.layout d.draft.plan.change)
       has.drafted_is (may_commit at s todo hand cores has site)
 
   pub room_here : 0 < hand.room
@@ -153,7 +166,7 @@ module _ {D : Type 0} (at : FlushAt D) (s : PlannedFsync) (todo : PlannedCommit)
           ∙ (sym (length-map s.hand.held (λ (c : Rattle.stamp_table.specs.declared.held.HeldCell.HeldCell _). c.place))
           ∙ (ap length has.tried.is.caught.holds
           ∙ length-map s.caught.concern.nodes.items (Rattle.fsync_look.specs.Look.flushed_place s.nodes)));
-      values = ap (λ (d : Rattle.fsync_draft.specs.declared.lending.DraftedFsync.DraftedFsync). d.values.items) drafted_back ∙ has.tried.is.drafted.lent;
+      values = ap (λ (d : DraftedFsync). d.values.items) drafted_back ∙ has.tried.is.drafted.lent;
       entries = old_back (asked_by s) at.pen done refusal comes
           ∙ ap (λ (c : Rattle.disk_change.specs.Planned.Planned). c.old) has.tried.is.drafted.planned.made;
     };
@@ -174,21 +187,21 @@ module _ {D : Type 0} (at : FlushAt D) (s : PlannedFsync) (todo : PlannedCommit)
         fsync_is = has.tried.fsync_is;
         number_is = refl;
         after_is = refl;
-        members_are = ap (λ (d : Rattle.fsync_draft.specs.declared.lending.DraftedFsync.DraftedFsync). d.draft.plan.members.items) drafted_back
+        members_are = ap (λ (d : DraftedFsync). d.draft.plan.members.items) drafted_back
             ∙ has.tried.is.drafted.planned.members;
         directories_are = has.directories_are;
-        nodes_are = ap (λ (d : Rattle.fsync_draft.specs.declared.lending.DraftedFsync.DraftedFsync). d.draft.plan.nodes.items) drafted_back
+        nodes_are = ap (λ (d : DraftedFsync). d.draft.plan.nodes.items) drafted_back
             ∙ has.tried.is.drafted.planned.nodes;
-        boxes = subst (λ (d : Rattle.fsync_draft.specs.declared.lending.DraftedFsync.DraftedFsync).
+        boxes = subst (λ (d : DraftedFsync).
             (after : List _) (nodes : List NodeId)
             → Rattle.std.specs.Prelude.◌≤◌ (Rattle.fsync_values.specs.Renewing.boxes_asked after nodes (values_in s.hand.held)) (length d.draft.spares.items))
             has.drafted_is has.tried.is.drafted.boxes;
-        lent = ap (λ (d : Rattle.fsync_draft.specs.declared.lending.DraftedFsync.DraftedFsync). d.values.items) drafted_back ∙ has.tried.is.drafted.lent;
+        lent = ap (λ (d : DraftedFsync). d.values.items) drafted_back ∙ has.tried.is.drafted.lent;
         hollow = has.hollow;
         waiting = ap (λ (h : FileHand). h.waiting) has.hollow.after_is ∙ has.holds.waiting;
       }
 
-  module _ (same : at.hand ≡ s.hand) (done : PenHand D) (goes : PenGoes at.pen done) (room : done.room ≡ at.pen.room) (still : PenGoes at.pen at.pen) where
+  module _ (same : at.hand ≡ s.hand) (done : PenHand D) (goes : PenGoes at.pen done) (room : done.room ≡ at.pen.room) where
     -- it has ended
     ends_landed : (land : LandedFsync) (land_is : land.planned ≡ s) (ack : Ack) (after : FileHand)
         → Rattle.landing_laws.specs.Landed.HasBecomeDurable at.t land → land.number ≡ ack.commit → LandsSo at.t at.fsync land ack hand after
@@ -246,7 +259,7 @@ module _ {D : Type 0} (at : FlushAt D) (s : PlannedFsync) (todo : PlannedCommit)
     serves_ok landed comes low after lands way =
         let got = got_number at s todo hand cores has site done landed comes in
         record {
-          comes = flushed (landed_of s got.0 landed) at.pen landed has.tried (no_turn_yet at.pen still) comes
+          comes = flushed (landed_of s got.0 landed) at.pen landed has.tried (no_turn_yet at.pen) comes
               (ends_landed (landed_of s got.0 landed) refl landed.ack after (durable at s todo hand cores has site agree got.0 landed got.1 low) refl lands) refl;
           way = way;
         }
@@ -256,7 +269,7 @@ module _ {D : Type 0} (at : FlushAt D) (s : PlannedFsync) (todo : PlannedCommit)
         → ((given : Reply) → IsAnsweredBy (Err refusal.fault) given → TakesWay given (own_at at.pen) (own_at done)) → (after : FileHand)
         → (given : Reply) → reply_to refusal.fault ≡ Some given → EndsUntold at.t at.fsync given s.hand after → IsServed at after done given
     serves_answer refusal comes way after given is ends = record {
-      comes = refused s at.pen refusal has.tried (no_turn_yet at.pen still) comes is
+      comes = refused s at.pen refusal has.tried (no_turn_yet at.pen) comes is
           (subst (λ (h : FileHand). EndsUntold at.t at.fsync given h after) (sym same) ends);
       way = way given (answered_by refusal.fault given is);
     }

@@ -17,6 +17,7 @@ use Rattle.slot_laws.specs.Labels.{OwnTold}
 use Rattle.stamp_table.specs.Events.{calls_in, told_by}
 use Rattle.stamp_table.specs.Table.{IsBetweenCalls, with_answer}
 use Rattle.stamp_table.specs.declared.event.Event.{Event}
+use Rattle.stamp_table.specs.declared.event.Event.TheVariants.{Called}
 use Rattle.stamp_table.specs.declared.view.View.{View}
 use Rattle.stamp_table.proofs.Keeps.{begins_on}
 use Rattle.mem_values.specs.Account.{Commitment, commit_told}
@@ -136,6 +137,20 @@ no_turn_agrees before after pen done core mine none agree = record {
   reserved = λ commit told.
       subst (λ (l : List ℕ). IsOneOf l commit.number) (sym none.numbers)
       (agree.reserved commit (subst (λ (l : List (Event Fact)). IsOneOf (filter_map commit_told l) commit) mine told));
+}
+
+-- a call tells no commit
+call_tells_none : (mine : List (Event Fact)) (entry : Entry) → filter_map commit_told (mine ++ Called entry ∷ []) ≡ filter_map commit_told mine
+call_tells_none mine entry = filter_map-append commit_told mine (Called entry ∷ []) ∙ append-nil (filter_map commit_told mine)
+
+-- so what was reserved before a call is behind it
+pub call_agrees : {D : Type 0} (before after : FileHand) (entry : Entry) (pen : PenHand D) → after.view.core ≡ before.view.core
+    → after.view.mine ≡ before.view.mine ++ Called entry ∷ [] → ToldAsReserved before pen → ToldAsReserved after pen
+call_agrees before after entry pen core mine agree = record {
+  one = agree.one ∙ sym core;
+  reserved = λ commit told.
+      agree.reserved commit (subst (λ (l : List Commitment). IsOneOf l commit)
+      (ap (filter_map commit_told) mine ∙ call_tells_none before.view.mine entry) told);
 }
 
 module _ {D : Type 0} (at : FlushAt D) (after : FileHand) (done : PenHand D) (goes : PenGoes at.pen done) (agree : ToldAsReserved at.hand at.pen) where
