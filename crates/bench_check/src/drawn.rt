@@ -1,12 +1,8 @@
-// Histories that are drawn, some of them changed in one byte: what the check and the second reader say of their texts.
+// Histories that are drawn on the plain tree: what the check and the second reader say of their texts.
 ghost use Rattle.std.specs.Prelude.{◌<◌, ◌≤◌};
 
-use crate::dice::Dice;
-use crate::player::Player;
-use crate::reader::{Verdict, read};
-use crate::trees::{FIRST, SHARE, answer};
-use history_check::CheckFault;
 use script::text;
+use second_reader::{CHANGED, Dice, FIRST, Found, Player, SHARE, Text, change, compare};
 use sfs_base::{Chunk, CoreId, Kind, Name, NameFault, NoMemory, NodeId, SpaceKind, Stamp};
 use std::alloc::Global;
 use tree_laws::{Call, Entry, History, Reply};
@@ -14,96 +10,26 @@ use tree_laws::{Call, Entry, History, Reply};
 /// How many calls a history has.
 const CALLS: u64 = 50;
 
-/// One history in so many is changed.
-const CHANGED: u64 = 10;
-
 // The names of rows.
 static NAMES: [&[u8]; 6] = [b"a", b"b", b"c d", b"%", b"=", b"\xff\x7f"];
 
-/// What was found of drawn histories.
-#[derive(Clone, Copy)]
-pub struct Found {
-    /// How many calls each has.
-    pub calls: u64,
-    /// How many texts are legal.
-    pub legal: u64,
-    /// How many were changed in one byte.
-    pub changed: u64,
-    /// How many of these are wrong.
-    pub wrong: u64,
-    /// Of how many the check does not say what the second reader says, or what was drawn.
-    pub differ: u64,
-}
-
 /// Draws so many histories of one to four cores.
 pub fn drawn(alloc: Global, histories: u64) -> Result<Found, NoMemory> {
-    let mut found = Found {
-        calls: CALLS,
-        legal: 0,
-        changed: 0,
-        wrong: 0,
-        differ: 0,
-    };
+    let mut found = Found::nothing();
     for seed in 0..histories {
         let mut dice = Dice::of(seed);
         let cores = dice.below(4) as u8 + 1;
         let mut bytes = history(alloc, &mut dice, cores)?;
         let changed = seed % CHANGED == 0 && change(&mut dice, bytes.as_mut_slice());
-        compare(alloc, cores, bytes.as_slice(), changed, &mut found)?;
+        let text = Text {
+            cores,
+            bytes: bytes.as_slice(),
+            calls: CALLS,
+            changed,
+        };
+        compare(alloc, text, &mut found)?;
     }
     Ok(found)
-}
-
-// Checks a text, and has it read.
-fn compare(
-    alloc: Global,
-    cores: u8,
-    bytes: &[u8],
-    changed: bool,
-    found: &mut Found,
-) -> Result<(), NoMemory>
-    requires { cores ≤ 16 }
-{
-    let second = read(alloc, cores, bytes)?;
-    let first = match answer(alloc, cores, bytes) {
-        Ok(count) => Verdict::Legal { count },
-        Err(fault) => match fault {
-            CheckFault::WrongLine { line } => Verdict::WrongLine {
-                line: u64::from(line),
-            },
-            CheckFault::NoMemory => return Err(NoMemory),
-        },
-    };
-    let legal = matches!(first, Verdict::Legal { .. });
-    if first != second || (!changed && first != (Verdict::Legal { count: CALLS })) {
-        found.differ = found.differ.wrapping_add(1);
-    }
-    if legal {
-        found.legal = found.legal.wrapping_add(1);
-    }
-    if changed {
-        found.changed = found.changed.wrapping_add(1);
-        if !legal {
-            found.wrong = found.wrong.wrapping_add(1);
-        }
-    }
-    Ok(())
-}
-
-// Changes one byte of a text. Says whether it is another one.
-fn change(dice: &mut Dice, bytes: &mut [u8]) -> bool {
-    if bytes.is_empty() {
-        return false;
-    }
-    let place = dice.below(bytes.len() as u64) as usize;
-    let byte = if dice.below(2) == 0 {
-        dice.below(256) as u8
-    } else {
-        b'0' + dice.below(10) as u8
-    };
-    let other = bytes[place] != byte;
-    bytes[place] = byte;
-    other
 }
 
 // The text of a history that is drawn on the plain tree.

@@ -1,22 +1,17 @@
-//! How fast a long text is checked, and whether drawn texts are answered as by a second reader. `bench_check measure` and `bench_check drawn`
+//! How fast long texts are checked, and whether drawn texts are answered as by a second reader. `bench_check measure`, `longest` and `drawn`
 //! do so; without a word the program says so. It is in no test.
 #![tactic(auto)]
 
-mod calls;
-mod dice;
 mod drawn;
 mod long_text;
-mod player;
-mod reader;
-mod trees;
 
 use drawn::drawn;
-use long_text::long_text;
+use long_text::{long_text, longest_text};
+use second_reader::answer;
 use std::alloc::Global;
 use std::rt::Clock;
 use std::time::Instant;
 use std::{env, io};
-use trees::answer;
 
 /// How many bytes the long text has at least.
 const LONG: usize = 100_000_000;
@@ -32,20 +27,17 @@ fn main(rt: HostRuntime) -> io::Result<()> {
             words = all;
         }
     }
-    match words.get(1) {
-        Some(word) => {
-            if word.as_str() == "measure" {
-                return measure(&rt, alloc);
-            }
-            if word.as_str() == "drawn" {
-                return compare(&rt, alloc);
-            }
-        }
-        None => {}
+    let Some(word) = words.get(1) else {
+        return println!(rt;
+            "bench_check measure, longest: how fast long texts are checked; drawn: drawn texts, checked and read"
+        );
+    };
+    match word.as_str() {
+        "measure" => measure(&rt, alloc),
+        "longest" => measure_longest(&rt, alloc),
+        "drawn" => compare(&rt, alloc),
+        _ => println!(rt; "no such word"),
     }
-    println!(rt;
-        "bench_check measure: the rate of a check; bench_check drawn: drawn texts, checked and read"
-    )
 }
 
 // Checks a long text, and the same text with one byte changed in its last line.
@@ -87,13 +79,21 @@ fn time_bytes<R: Clock + Print>(rt: &R, text: &[u8]) -> io::Result<()> {
     println!(rt; "control: its {ends} ends of lines counted in {passed} us")
 }
 
+// Checks a text of the greatest length that is checked.
+fn measure_longest<R: Clock + Print>(rt: &R, alloc: Global) -> io::Result<()> {
+    let Ok(text) = longest_text(alloc) else {
+        return println!(rt; "no memory");
+    };
+    time_check(rt, alloc, "longest", text.as_slice())
+}
+
 // Draws histories, and says of how many the check and the second reader answered the same.
 fn compare<R: Print>(rt: &R, alloc: Global) -> io::Result<()> {
     let Ok(found) = drawn(alloc, HISTORIES) else {
         return println!(rt; "no memory");
     };
     println!(rt;
-        "{} histories of {} calls: {} legal, {} changed in one byte, of which {} are wrong; {} answers differ",
+        "{} histories, {} calls: {} legal, {} changed in one byte, of which {} are wrong; {} answers differ",
         HISTORIES, found.calls, found.legal, found.changed, found.wrong, found.differ
     )
 }

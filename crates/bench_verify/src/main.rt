@@ -1,14 +1,17 @@
 //! How many device calls and how much time it takes to certify an image of 1 GiB with 16,384 inodes and
-//! to accept its certificate, beside recovering it, by which it is shown. `bench_verify measure` measures
-//! it on a disk in memory; without the word the program says so. It is in no test.
+//! to accept its certificate, beside recovering it, and to do what the commands `verify` and `show` do.
+//! `bench_verify measure` measures it on a disk in memory, with files of one block and with such of
+//! sixteen; without the word the program says so. It is in no test.
 #![tactic(auto)]
 
 mod filled;
+mod shown;
 
-use filled::{LAYOUT, fill};
+use filled::{FileSize, LAYOUT, fill};
 use image_check::{Certificate, accept, certify};
 use recovery::recover;
 use sfs_dev::{Disk, Memory};
+use shown::{measure_show, measure_verify};
 use std::alloc::Global;
 use std::rt::Clock;
 use std::time::Instant;
@@ -27,16 +30,8 @@ fn main(rt: HostRuntime) -> io::Result<()> {
             "bench_verify measure: device calls and time of a certificate, made and accepted"
         );
     }
-    let Ok(mut disk) = Memory::new(alloc, LAYOUT.blocks) else {
-        return println!(rt; "no memory");
-    };
-    if fill(alloc, &mut disk).is_err() {
-        return println!(rt; "the disk was not filled");
-    }
-    for _ in 0..3u8 {
-        measure(&rt, alloc, &mut disk)?;
-    }
-    Ok(())
+    measure_all(&rt, alloc, FileSize::OneBlock)?;
+    measure_all(&rt, alloc, FileSize::SixteenBlocks)
 }
 
 // Whether the words are `measure`.
@@ -45,6 +40,23 @@ fn is_asked(words: &[String]) -> bool {
         [_, word] => word.as_str() == "measure",
         _ => false,
     }
+}
+
+// Measures all three times on an image whose files have this size.
+fn measure_all<R: Clock + Print>(rt: &R, alloc: Global, size: FileSize) -> io::Result<()> {
+    println!(rt; "blocks of a file: {}", size.blocks())?;
+    let Ok(mut disk) = Memory::new(alloc, LAYOUT.blocks) else {
+        return println!(rt; "no memory");
+    };
+    if fill(alloc, &mut disk, size).is_err() {
+        return println!(rt; "the disk was not filled");
+    }
+    for _ in 0..3u8 {
+        measure(rt, alloc, &mut disk)?;
+        measure_verify(rt, alloc, &mut disk)?;
+        measure_show(rt, alloc, &mut disk)?;
+    }
+    Ok(())
 }
 
 // Recovers a disk, certifies it and accepts that, and says in how many device calls and in what time.
