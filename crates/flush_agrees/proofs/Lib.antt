@@ -2,3 +2,4 @@ pub mod Growing
 pub mod Turns
 pub mod BoxTurns
 pub mod Planned
+pub mod Making
