@@ -3,3 +3,4 @@ pub mod Turns
 pub mod BoxTurns
 pub mod Planned
 pub mod Making
+pub mod Behind
