@@ -4,3 +4,5 @@ pub mod BoxTurns
 pub mod Planned
 pub mod Making
 pub mod Behind
+pub mod Landing
+pub mod Flushed

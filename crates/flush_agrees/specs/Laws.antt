@@ -46,13 +46,15 @@ AnswersKeepServed = (t : FileState) (c : Call) (given : Reply) (before after : F
 abbrev pub RefusedMemoryKeepsServed : Type 0
 RefusedMemoryKeepsServed = (t : FileState) (before after : FileHand) → IsRefusedMemory t before after → KeepsServed before after
 
--- What `FsyncComes` does not say of how an fsync went on: before its plan was committed its pen told turns at the box in which nothing was told, and where the plan
--- was refused, what its core had seen as it was planned begins what the core has seen behind it.
+-- What `FsyncComes` does not say of how an fsync went on: before its plan was committed its pen told turns at the box in which nothing was told; where the plan
+-- was refused, what its core had seen as it was planned begins what the core has seen behind it; and where it has landed, what the disk has of its nodes is what
+-- the journals handed out.
 abbrev pub WentOn : {D : Type 0} (at : FlushAt D) (after : FileHand) (done : PenHand D) (given : Reply) → FsyncComes at after done given → Type 0
 WentOn at after done given (wanting none is ends) = TellsCall (AreTurns TellsNothing) at.pen done
 WentOn at after done given (refused planned from refusal tried none comes is ends) =
     TellsCall (AreTurns TellsNothing) at.pen from × IsPrefix planned.hand.view.seen after.view.seen
-WentOn at after done given (flushed s from landed tried none comes lands is) = TellsCall (AreTurns TellsNothing) at.pen from
+WentOn at after done given (flushed s from landed tried none comes lands is) =
+    TellsCall (AreTurns TellsNothing) at.pen from × (landed.nodes.after ≡ s.after)
 
 -- so it did as an fsync of a node was made
 abbrev pub FlushWentOn : {D : Type 0} (t : FileState) (nodes : ℕ) (node : NodeId) (before after : FileHand) (pen done : PenHand D) (given : Reply)
