@@ -1,5 +1,7 @@
 -- A core and its pen agree behind an fsync.
-use Rattle.std.specs.FinMap.{code}
+use Rattle.tree_laws.specs.declared.reply.Code.TheVariants as code
+use Rattle.fsync_commit.specs.Coming.{committed}
+use mathlib.Core.List.{IsPrefix}
 use Rattle.std.proofs.Common.{◌≡◌, ◌∙◌, ◌∷◌, ◌≤◌, ◌^◌, ◌-◌, ◌++◌, ℕ, Some, Err, subst, sym, Ok, List, [], Option, None, refl, ap, append-nil, filter_map, Result, arith, append_assoc, inl, inr}
 use Rattle.sfs_base.proofs.BasicOptions.{some_same, none_some}
 use Rattle.space_map.specs.Space.{GrantedNumbers}
@@ -174,7 +176,7 @@ module _ {D : Type 0} (at : FlushAt D) (cores : ℕ) (site : IsSite at.t at.node
         (subst (λ (k : Desk BoxKey). IsChangeOn k.given.layout planned.drafted.draft.plan.change) (sym from_table) on_disk)
         (subst (λ (k : Desk BoxKey). IsSpaceOn k.given.layout k.given.space) (sym from_table) site.space) result comes
 
-    turns : List BoxTurn
+    abbrev turns : List BoxTurn
     turns = idle.turns ++ plan.turns
 
     mine_is : done.view.mine ≡ at.pen.view.mine ++ events_in at.pen.view.core turns
