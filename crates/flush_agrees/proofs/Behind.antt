@@ -1,7 +1,4 @@
 -- How a core and its pen stand behind an fsync that was served.
-use Rattle.turn_laws.specs.Ways.{no_turn, lacked, returned, committed, at_once, doubted, opened_doubted, halted, granted_halted, begun_halted, opened_halted}
-use Rattle.fsync_dir.specs.Answering.{EndsWaiting}
-use Rattle.fsync_dir.proofs.Pens.{numbers_more}
 use Rattle.std.proofs.Common.{◌≡◌, ◌++◌, ◌∷◌, ◌∙◌, ◌≢◌, ◌<◌, ◌≤◌, List, Option, ℕ, Some, filter_map, [], sym, append-nil, ap, append_assoc, flat_map, false, refl, inl, inr, subst, arith, map}
 use Rattle.std.proofs.lemmas.List.Elements.{filter_map-append}
 use Rattle.std.proofs.lemmas.List.{append_cancel_left, map-append}
@@ -11,11 +8,13 @@ use Rattle.tree_laws.specs.declared.reply.Reply.{Reply}
 use Rattle.tree_laws.specs.declared.reply.Reply.TheVariants as reply
 use Rattle.tree_laws.specs.declared.history.Entry.{Entry}
 use Rattle.tree_laws.specs.declared.turns.Turn.{Turn}
+use Rattle.tree_laws.specs.declared.call.Call.{Call}
+use Rattle.tree_laws.specs.declared.call.Call.TheVariants as call
 use Rattle.cut_laws.specs.Closure.{Flush}
 use Rattle.cut_laws.specs.Rules.{IsOneOf}
 use Rattle.cut_laws.proofs.Basics.{in_either, in_left, in_right}
 use Rattle.cut_laws.proofs.Listed.{from_map}
-use Rattle.turn_laws.specs.Ways.{Way, answer_of, lacked, halted, granted_halted, begun_halted, opened_halted, GoesWay}
+use Rattle.turn_laws.specs.Ways.{no_turn, lacked, returned, committed, at_once, doubted, opened_doubted, halted, granted_halted, begun_halted, opened_halted, Way, answer_of, GoesWay}
 use Rattle.merge_laws.specs.Pens.{FsyncTurns, FsyncsDiffer}
 use Rattle.stamp_table.specs.Answered.{is_refusal}
 use Rattle.stamp_table.specs.Table.{with_answer}
@@ -40,12 +39,14 @@ use Rattle.fsync_stamp.specs.Stamping.{StampsFsync}
 use Rattle.fsync_stamp.specs.Adding.{calls_seen}
 use Rattle.fsync_stamp.proofs.Waiting.{last_same}
 use Rattle.fsync_catch.specs.declared.looking.WaitingFsync.{WaitingFsync}
+use Rattle.fsync_dir.specs.Answering.{EndsWaiting}
+use Rattle.fsync_dir.proofs.Pens.{numbers_more}
 use Rattle.pen_laws.specs.Agreement.{IsServedFsync}
 use Rattle.flush_agrees.specs.Made.{FlushMade, TurnIsOf}
 use Rattle.flush_agrees.specs.Agreement.{ToldInSight, MadeIsAgreed, FlushTold, CoresAgree, EntryAgrees, FlushAgrees, turns_of, NumbersHave, fsync_turns, NumbersDiffer, HasFlushFor, IsToldOfOne}
 use Rattle.flush_agrees.specs.Laws.{FlushPlace}
 use Rattle.flush_agrees.proofs.Turns.{TakesOwn, OwnTurn, own_each}
-use Rattle.flush_agrees.proofs.Growing.{GoesFurther, one_on, flush_on}
+use Rattle.flush_agrees.proofs.Growing.{GoesFurther, one_on, flush_on, entry_on}
 use Rattle.flush_agrees.proofs.Planned.{own_behind}
 use Rattle.flush_agrees.proofs.BoxTurns.{each_turn}
 
@@ -279,20 +280,28 @@ module _ {D : Type 0} (at : FlushPlace D) (given : Reply) (fsyncs : List FlushTo
         ]
       ]
 
-  others_after : (old : Entry) (node : NodeId) → IsServedFsync at.after old node → HasFlushFor (fsyncs ++ one ∷ []) old.stamp.0
+  others_after : (old : Entry) (node : NodeId) → IsServedFsync at.after old node → HasFlushFor at.after at.done (fsyncs ++ one ∷ []) old node
   others_after old node served = elim (in_either at.before.entries (entry ∷ []) old (subst (λ l. IsOneOf l old) entries served.among)) [
     | inl before ↦
         let has = agree.others old node (record { among = before; asked = served.asked; served = served.served }) in
-        record { one = has.one; among = in_left fsyncs (one ∷ []) has.one has.among; own = has.own }
+        record {
+          one = has.one;
+          among = in_left fsyncs (one ∷ []) has.one has.among;
+          entered = entry_on at.t at.before at.after at.pen at.done on has.one old node has.entered;
+        }
     | inr new ↦ elim new [
       | inl same ↦ record {
           one = one;
           among = in_right fsyncs (one ∷ []) one (inl refl);
-          own = stamp_same ∙ ap (λ (e : Entry). e.stamp.0) same;
+          entered = subst (λ (z : Entry × NodeId). EntryAgrees at.after at.done one z.0 z.1)
+              (λ i. (same i, same_node (own.asked) (ap (λ (e : Entry). e.call) same ∙ served.asked) i)) entered;
         }
       | inr past ↦ absurd past
     ]
   ]
+    where
+      same_node : {c : Call} {a b : NodeId} → c ≡ call.Fsync a → c ≡ call.Fsync b → a ≡ b
+      same_node first second = cc (sym first ∙ second)
 
   commits_all : (told : Commitment) → IsOneOf (filter_map commit_told at.after.view.mine) told → IsToldOfOne at.t at.after (fsyncs ++ one ∷ []) told
   commits_all told among =

@@ -1,8 +1,5 @@
 -- Cores and pens that agree on fsyncs go on agreeing on them.
 use mathlib.Core.List.{IsPrefix}
-use Rattle.stamp_table.proofs.Keeps.{begins_on}
-use Rattle.stamp_table.specs.Hand.{Desk}
-use Rattle.disk_box.specs.Box.{past_of}
 use Rattle.std.proofs.Common.{◌≡◌, ◌∙◌, ◌∷◌, filter_map, ℕ, sym, subst, Option, None, Some, arith, List, refl, ap, [], append-nil, inl, inr}
 use Rattle.std.proofs.lemmas.List.Elements.{filter_map-append}
 use Rattle.sfs_base.specs.declared.numbers.NodeId.{NodeId}
@@ -11,15 +8,17 @@ use Rattle.tree_laws.specs.declared.history.Entry.{Entry}
 use Rattle.cut_laws.specs.Rules.{IsOneOf}
 use Rattle.cut_laws.specs.Closure.{Flush}
 use Rattle.cut_laws.proofs.Basics.{in_left, in_either}
+use Rattle.stamp_table.specs.Hand.{Desk}
 use Rattle.stamp_table.specs.declared.event.Event.{Event}
 use Rattle.stamp_table.specs.declared.event.Event.TheVariants.{Called}
 use Rattle.stamp_table.specs.Answered.{asks_fsync, is_refusal}
-use Rattle.stamp_table.proofs.Keeps.{begins_itself, begins_longer}
+use Rattle.stamp_table.proofs.Keeps.{begins_on, begins_itself, begins_longer}
 use Rattle.mem_values.specs.Start.{FileHand, FileState}
 use Rattle.mem_values.specs.Account.{Commitment, commit_told}
 use Rattle.mem_values.specs.declared.fact.Fact.{Fact}
 use Rattle.mem_values.proofs.Told.{calls_grow}
 use Rattle.made_laws.specs.Made.{CoreMaking}
+use Rattle.disk_box.specs.Box.{past_of}
 use Rattle.disk_box.specs.Pens.{PenHand}
 use Rattle.disk_box.specs.declared.key.BoxKey.{BoxKey}
 use Rattle.journal_set.specs.Numbering.{numbers_reserved}
@@ -77,7 +76,7 @@ module _ {D : Type 0} (t : FileState) (before after : FileHand) (pen done : PenH
     failed = subst (λ (k : Desk BoxKey). (past_of k.given sees.front).failed ≡ Some faults) (sym on.table) sees.failed;
   }
 
-  entry_on : (one : FlushTold) (entry : Entry) (node : NodeId) → EntryAgrees before pen one entry node → EntryAgrees after done one entry node
+  pub entry_on : (one : FlushTold) (entry : Entry) (node : NodeId) → EntryAgrees before pen one entry node → EntryAgrees after done one entry node
   entry_on one entry node was = record {
     own = on.served entry node was.own;
     past = let less = was.past in let more = calls_grow before.view.seen after.view.seen on.seen in omega (arith, less, more);
@@ -125,7 +124,8 @@ other_calls_keep D t before after pen fsyncs keeps was = record {
   each = λ one among. flush_on t before after pen pen on one (was.each one among);
   once = was.once;
   numbers = was.numbers;
-  others = λ entry node own. was.others entry node ((keeps.served entry node).1 own);
+  others = λ entry node own. let has = was.others entry node ((keeps.served entry node).1 own) in
+      record { one = has.one; among = has.among; entered = entry_on t before after pen pen on has.one entry node has.entered };
   commits = λ told among. one_on t before after pen pen on fsyncs told (was.commits told (subst (λ l. IsOneOf l told) keeps.commits among));
 }
   where

@@ -1,10 +1,8 @@
 -- What a core of the table and its pen agree on: what each fsync of the core has told at the box, and what the core made and told of it.
-use Rattle.stamp_table.specs.declared.event.Event.{Event}
-use Rattle.mem_values.specs.Start.{given_by}
-use Rattle.tree_laws.specs.declared.history.Entry.{Entry}
 use Rattle.std.specs.Prelude.{◌≡◌, ◌<◌, List, Option, flat_map, filter_map, ℕ, Some, None, map}
 use mathlib.Core.List.{IsPrefix}
 use Rattle.sfs_base.specs.declared.numbers.NodeId.{NodeId}
+use Rattle.tree_laws.specs.declared.history.Entry.{Entry}
 use Rattle.tree_laws.specs.declared.turns.Turn.{Turn}
 use Rattle.tree_laws.specs.declared.turns.TurnAct.TheVariants as act
 use Rattle.tree_laws.specs.declared.reply.Reply.TheVariants as reply
@@ -14,7 +12,8 @@ use Rattle.cut_laws.specs.Rules.{IsOneOf}
 use Rattle.turn_laws.specs.Ways.{GoesWay}
 use Rattle.merge_laws.specs.Pens.{FsyncTurns, IsTurnOf, FsyncsDiffer}
 use Rattle.reserve_laws.specs.Olds.{IsKeptIn}
-use Rattle.mem_values.specs.Start.{FileState, FileHand}
+use Rattle.stamp_table.specs.declared.event.Event.{Event}
+use Rattle.mem_values.specs.Start.{given_by, FileState, FileHand}
 use Rattle.mem_values.specs.declared.fact.Fact.{Fact}
 use Rattle.mem_values.specs.Account.{Commitment, commit_told, held_by}
 use Rattle.mem_values.specs.declared.fact.HeldNode.{HeldNode}
@@ -109,11 +108,11 @@ abbrev pub NumbersHave : (ℕ → ℕ) → List FlushTold → Type 0
 NumbersHave stamps fsyncs =
     (one : FlushTold) (made : FlushMade) → IsOneOf fsyncs one → one.made ≡ Some made → stamps made.number ≡ one.flush.stamp
 
--- A core's fsync with a stamp is among some.
-pub record HasFlushFor (fsyncs : List FlushTold) (stamp : ℕ) : Type 0 where
+-- One of some fsyncs has this entry, of this node.
+pub record HasFlushFor {D : Type 0} (hand : FileHand) (pen : PenHand D) (fsyncs : List FlushTold) (entry : Entry) (node : NodeId) : Type 0 where
   pub one : FlushTold
   pub among : IsOneOf fsyncs one
-  pub own : one.flush.stamp ≡ stamp
+  pub entered : EntryAgrees hand pen one entry node
 
 -- No two fsyncs of some got one number.
 abbrev pub NumbersDiffer : List FlushTold → Type 0
@@ -138,5 +137,5 @@ pub record CoresAgree {D : Type 0} (t : FileState) (hand : FileHand) (pen : PenH
   pub each : (one : FlushTold) → IsOneOf fsyncs one → FlushAgrees t hand pen one
   pub once : FsyncsDiffer (map fsync_turns fsyncs)
   pub numbers : NumbersDiffer fsyncs
-  pub others : (entry : Entry) (node : NodeId) → IsServedFsync hand entry node → HasFlushFor fsyncs entry.stamp.0
+  pub others : (entry : Entry) (node : NodeId) → IsServedFsync hand entry node → HasFlushFor hand pen fsyncs entry node
   pub commits : (told : Commitment) → IsOneOf (filter_map commit_told hand.view.mine) told → IsToldOfOne t hand fsyncs told
