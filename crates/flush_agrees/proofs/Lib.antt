@@ -6,3 +6,5 @@ pub mod Making
 pub mod Behind
 pub mod Landing
 pub mod Flushed
+pub mod Failed
+pub mod Closing
