@@ -1,4 +1,6 @@
 -- A core and its pen that agree do so on the whole of what a mount leaves.
+use Rattle.turn_laws.specs.Ways.{no_turn, lacked, returned, committed, at_once, doubted, opened_doubted, halted, granted_halted, begun_halted, opened_halted}
+use mathlib.Core.List.{IsPrefix}
 use Rattle.std.proofs.Common.{◌∷◌, ◌||◌, ◌≡◌, ◌∙◌, ◌++◌, ◌≢◌, ◌⊎◌, Bool, true, false, List, [], map, inl, ap, inr, refl, sym, flat_map, filter, cond, subst, Some}
 use Rattle.std.proofs.lemmas.Grind.{flat_map-append}
 use Rattle.sfs_base.specs.declared.numbers.NodeId.{NodeId}
