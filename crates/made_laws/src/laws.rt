@@ -1,6 +1,6 @@
 // What is proved of what cores make: each function's contract is a law.
 ghost use Rattle.made_laws.specs.Made.{MadesGoOn, OwnsGoOn};
-ghost use Rattle.made_laws.specs.Tells.{MadesAreKnown, MadesTell, OwnsTell, ToldMadesGoOn};
+ghost use Rattle.made_laws.specs.Tells.{MadesAreKnown, ToldMadesGoOn};
 
 /// What a core made so far it made so in each run that goes on from there.
 pub fn mades_go_on()
@@ -17,17 +17,7 @@ pub fn mades_are_known()
     ensures { MadesAreKnown }
 {}
 
-/// And it tells of its pair at the place at which its fsync reserves.
-pub fn mades_tell()
-    ensures { MadesTell }
-{}
-
 /// So it is of a file that has an inode, for which a core gathers nothing: what it made goes on being made so.
 pub fn owns_go_on()
     ensures { OwnsGoOn }
-{}
-
-/// And it tells of its pair.
-pub fn owns_tell()
-    ensures { OwnsTell }
 {}

@@ -10,5 +10,4 @@ pub mod Noting
 pub mod Joining
 pub mod Answers
 pub mod Worked
-pub mod Kept
 pub mod There

@@ -4,4 +4,3 @@ pub mod Merged
 pub mod Joined
 pub mod There
 pub mod Worked
-pub mod Kept

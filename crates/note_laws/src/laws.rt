@@ -1,6 +1,5 @@
 // What is proved of a core's notes: each function's contract is a law.
 ghost use Rattle.note_laws.specs.Joined.{AlikeWhateverAnswered, CopiesAreFiles, JoinsGive, KnownWhateverAnswered, MadeHaveNotes};
-ghost use Rattle.note_laws.specs.Kept.{SawsAreKept};
 ghost use Rattle.note_laws.specs.Merged.{NotedPartsAreLeft, NotesAreLogs};
 ghost use Rattle.note_laws.specs.Notes.{NotesAreEnough, PartsHaveMarks};
 ghost use Rattle.note_laws.specs.Run.{SawsAreLeft};
@@ -10,11 +9,6 @@ ghost use Rattle.note_laws.specs.Worked.{NotesCanBeMet};
 /// What a core saw of a node is what the last commit that is done and holds it left.
 pub fn saws_are_left()
     ensures { SawsAreLeft }
-{}
-
-/// So it is in a volume's words, where what is told is what plans leave.
-pub fn saws_are_kept()
-    ensures { SawsAreKept }
 {}
 
 /// A core's log that stands for the table's has marks as commits trimmed it.

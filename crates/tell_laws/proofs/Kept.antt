@@ -8,7 +8,7 @@ use Rattle.walk_laws.specs.Pairs.{commit_under, bringing_under}
 use Rattle.reserve_laws.specs.Olds.{DoneBeside, SawLeftOf, by_none, IsKeptIn, by_last}
 use Rattle.mem_values.specs.Stands.{Flushed}
 use Rattle.note_laws.specs.Run.{TableRun, LeftSeen, TellsCommit}
-use Rattle.note_laws.specs.Kept.{TellsDisk, SawsAreKept}
+use Rattle.tell_laws.specs.Kept.{TellsDisk, SawsAreKept}
 use Rattle.note_laws.proofs.Saws.{saws_are_left}
 
 module _ (run : TableRun) (beside : DoneBeside) (node : ℕ) (seen : Flushed) (tells : TellsDisk run beside) where

@@ -34,11 +34,11 @@ use Rattle.note_laws.specs.Run.{TableRun, SawNode, calls_of}
 use Rattle.note_laws.specs.Joined.{BoxKnows}
 use Rattle.note_laws.proofs.Along.{stamp_within, legal_begin, calls_begin}
 use Rattle.note_laws.proofs.Saws.{saws_are_left}
-use Rattle.note_laws.proofs.Kept.{saws_are_kept}
-use Rattle.made_laws.specs.Tells.{OwnPlace, OwnThere, done_there, making_own, box_there, OwnsTell}
+use Rattle.tell_laws.proofs.Kept.{saws_are_kept}
+use Rattle.tell_laws.specs.Tells.{OwnPlace, OwnThere, done_there, making_own, box_there, OwnsTell}
 use Rattle.made_laws.specs.Made.{OwnFileMaking, own_flush, OwnFileChanges}
 use Rattle.note_laws.proofs.There.{live_there}
-use Rattle.made_laws.proofs.Telling.{same_tree, as_long, copy_there}
+use Rattle.tell_laws.proofs.Telling.{same_tree, as_long, copy_there}
 
 module _ (at : OwnPlace) (there : OwnThere at) where
   abbrev run : TableRun

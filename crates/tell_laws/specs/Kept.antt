@@ -1,13 +1,13 @@
 -- That what a core saw of a node is what those that are done left of it in a volume's words.
 use Rattle.std.specs.Prelude.{◌≡◌, ℕ, Some, map}
-use Rattle.cut_laws.specs.Rules.{IsOneOf}
-use Rattle.commit_laws.specs.CommitOfPlan.{change_planned}
 use Rattle.disk_change.specs.AllBuilt.{after_commit}
+use Rattle.commit_laws.specs.CommitOfPlan.{change_planned}
+use Rattle.cut_laws.specs.Rules.{IsOneOf}
+use Rattle.walk_laws.specs.Pairs.{commit_under, bringing_under}
+use Rattle.reserve_laws.specs.Olds.{DoneBeside, IsKeptIn, SawLeftOf}
 use Rattle.mem_values.specs.Account.{Commitment, held_by}
 use Rattle.mem_values.specs.Stands.{Flushed}
 use Rattle.mem_values.specs.declared.fact.HeldNode.{HeldNode}
-use Rattle.walk_laws.specs.Pairs.{commit_under, bringing_under}
-use Rattle.reserve_laws.specs.Olds.{DoneBeside, IsKeptIn, SawLeftOf}
 use Rattle.note_laws.specs.Run.{TableRun, IsTableRun, TellsCommit, SawNode}
 
 -- What a run tells is what a volume's disk has: at first of each node what memory kept of it; and a told commit of one that is done wrote of each node what

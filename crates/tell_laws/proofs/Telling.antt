@@ -43,9 +43,10 @@ use Rattle.note_laws.specs.Merged.{is_noted_by}
 use Rattle.note_laws.proofs.Along.{stamp_within, legal_begin, calls_begin}
 use Rattle.note_laws.proofs.Answers.{alike_whatever_answered, copies_are_files, known_whatever_answered}
 use Rattle.note_laws.proofs.Joining.{joins_give}
-use Rattle.note_laws.proofs.Kept.{saws_are_kept}
+use Rattle.tell_laws.proofs.Kept.{saws_are_kept}
 use Rattle.note_laws.proofs.Gathered.{notes_are_logs}
-use Rattle.made_laws.specs.Tells.{IsMadeCommit, by_notes, by_file, AreAllMade, IsVolumeThere, MadePlace, MadeThere, done_at, commit_made, IsKnownMade, box_at, entries_at, last_of_seen, MadesTell}
+use Rattle.made_laws.specs.Tells.{IsMadeCommit, by_notes, by_file, AreAllMade, commit_made, IsKnownMade, last_of_seen}
+use Rattle.tell_laws.specs.Tells.{IsVolumeThere, MadePlace, MadeThere, done_at, box_at, entries_at, MadesTell}
 use Rattle.made_laws.specs.Made.{CoreMaking, is_concerned, old_of, cut_gathered, HasMadeFile, too_late, in_copy, sources_of}
 use Rattle.made_laws.proofs.Known.{mades_are_known}
 

@@ -1,5 +1,0 @@
-use Rattle.made_laws.proofs.Telling.{mades_tell as law}
-use Rattle.made_laws.proofs.laws.mades_tell.Goals as goal
-
-pub returns : goal.returns
-returns c = law

@@ -1,5 +1,0 @@
-use Rattle.made_laws.proofs.Own.{owns_tell as law}
-use Rattle.made_laws.proofs.laws.owns_tell.Goals as goal
-
-pub returns : goal.returns
-returns c = law
