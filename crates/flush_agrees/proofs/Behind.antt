@@ -249,8 +249,8 @@ module _ {D : Type 0} (at : FlushPlace D) (given : Reply) (fsyncs : List FlushTo
   once_after =
       subst FsyncsDiffer (sym (map-append fsync_turns fsyncs (one ∷ [])))
       (differ_more (map fsync_turns fsyncs) (fsync_turns one) agree.once (λ other among is_same.
-          let from = from_map fsync_turns fsyncs other among in
-          let low = stamp_below from.0 from.1 in let same = ap (λ (f : FsyncTurns). f.stamp) from.2 in omega (arith, low, same, is_same)))
+      let from = from_map fsync_turns fsyncs other among in
+      let low = stamp_below from.0 from.1 in let same = ap (λ (f : FsyncTurns). f.stamp) from.2 in omega (arith, low, same, is_same)))
 
   -- and each number
   number_below : (other : FlushTold) (made : FlushMade) → IsOneOf fsyncs other → other.made ≡ Some made → (m : FlushMade) → is.made ≡ Some m
@@ -291,11 +291,11 @@ module _ {D : Type 0} (at : FlushPlace D) (given : Reply) (fsyncs : List FlushTo
         }
     | inr new ↦ elim new [
       | inl same ↦ record {
-          one = one;
-          among = in_right fsyncs (one ∷ []) one (inl refl);
-          entered = subst (λ (z : Entry × NodeId). EntryAgrees at.after at.done one z.0 z.1)
-              (λ i. (same i, same_node (own.asked) (ap (λ (e : Entry). e.call) same ∙ served.asked) i)) entered;
-        }
+        one = one;
+        among = in_right fsyncs (one ∷ []) one (inl refl);
+        entered = subst (λ (z : Entry × NodeId). EntryAgrees at.after at.done one z.0 z.1)
+            (λ i. (same i, same_node (own.asked) (ap (λ (e : Entry). e.call) same ∙ served.asked) i)) entered;
+      }
       | inr past ↦ absurd past
     ]
   ]

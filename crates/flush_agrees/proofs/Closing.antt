@@ -1,5 +1,4 @@
 -- A core and its pen that agree do so on the whole of what a mount leaves.
-use Rattle.turn_laws.specs.Ways.{no_turn, lacked, returned, committed, at_once, doubted, opened_doubted, halted, granted_halted, begun_halted, opened_halted}
 use mathlib.Core.List.{IsPrefix}
 use Rattle.std.proofs.Common.{◌∷◌, ◌||◌, ◌≡◌, ◌∙◌, ◌++◌, ◌≢◌, ◌⊎◌, Bool, true, false, List, [], map, inl, ap, inr, refl, sym, flat_map, filter, cond, subst, Some}
 use Rattle.std.proofs.lemmas.Grind.{flat_map-append}
@@ -16,7 +15,7 @@ use Rattle.cut_laws.specs.Rules.{IsOneOf}
 use Rattle.cut_laws.specs.Closure.{Flush}
 use Rattle.cut_laws.proofs.RunFacts.{in_filter}
 use Rattle.cut_laws.proofs.Listed.{from_map, to_filter, to_map}
-use Rattle.turn_laws.specs.Ways.{Way, acts_of_way, answer_of, lacked, halted, granted_halted, begun_halted, opened_halted, GoesWay}
+use Rattle.turn_laws.specs.Ways.{no_turn, lacked, returned, committed, at_once, doubted, opened_doubted, halted, granted_halted, begun_halted, opened_halted, Way, acts_of_way, answer_of, GoesWay}
 use Rattle.turn_laws.specs.Books.{flush_at}
 use Rattle.merge_laws.specs.Pens.{FsyncTurns, FsyncsDiffer, HasTurnsFor, PenAgrees}
 use Rattle.stamp_table.specs.declared.event.Event.{Event}
@@ -239,5 +238,5 @@ module _ {D : Type 0} (t : FileState) (hand : FileHand) (pen : PenHand D) (fsync
     agrees = agrees_end;
   }
 
-pub agreements_end : AgreementsEnd
+pub agreements_end : (D : Type 0) → AgreementsEnd D
 agreements_end D t hand pen fsyncs logs agree ends = agree_end t hand pen fsyncs logs agree ends

@@ -1,11 +1,10 @@
 -- A core and its pen agree behind an fsync.
-use Rattle.tree_laws.specs.declared.reply.Code.TheVariants as code
-use Rattle.fsync_commit.specs.Coming.{committed}
 use mathlib.Core.List.{IsPrefix}
 use Rattle.std.proofs.Common.{◌≡◌, ◌∙◌, ◌∷◌, ◌≤◌, ◌^◌, ◌-◌, ◌++◌, ℕ, Some, Err, subst, sym, Ok, List, [], Option, None, refl, ap, append-nil, filter_map, Result, arith, append_assoc, inl, inr}
 use Rattle.sfs_base.proofs.BasicOptions.{some_same, none_some}
 use Rattle.space_map.specs.Space.{GrantedNumbers}
 use Rattle.keyed_list.specs.Ascending.{AscendBy}
+use Rattle.tree_laws.specs.declared.reply.Code.TheVariants as code
 use Rattle.tree_laws.specs.declared.reply.Reply.{Reply}
 use Rattle.tree_laws.specs.declared.reply.Reply.TheVariants as reply
 use Rattle.tree_laws.specs.Tree.{TreeState}
@@ -41,9 +40,9 @@ use Rattle.journal_set.specs.Telling.{AreTurns, TellsNothing, TellsCall}
 use Rattle.journal_set.specs.Ways.{TakesWay}
 use Rattle.journal_set.specs.Numbering.{IsNewerThan}
 use Rattle.journal_set.proofs.Ties.{nothing_tells}
+use Rattle.fsync_commit.specs.Coming.{committed, GrantComes, gave_back, PlanComesTo, unasked, unnumbered, numbered, settled}
 use Rattle.fsync_commit.specs.Asked.{CommitRequest, reserving_of, emptying_of, IsChangeOn, IsSpaceOn}
 use Rattle.fsync_commit.specs.declared.landing.CommitRefusal.{CommitRefusal}
-use Rattle.fsync_commit.specs.Coming.{GrantComes, gave_back, PlanComesTo, unasked, unnumbered, numbered, settled}
 use Rattle.fsync_commit.specs.declared.landing.Landed.{Landed}
 use Rattle.fsync_catch.specs.declared.looking.WaitingFsync.{WaitingFsync}
 use Rattle.draft_laws.specs.Made.{PlannedFsync, MakesPlanned}
@@ -306,7 +305,7 @@ module _ {D : Type 0} (at : FlushAt D) (cores : ℕ) (site : IsSite at.t at.node
   served (refused planned from refusal tried none comes is ends) went = served_refused planned from refusal tried none comes is ends went.0 went.1
   served (flushed s from landed tried none comes lands is) went = served_flushed s from landed tried none comes lands is went.0 went.1
 
-pub flushes_agree : FlushesAgree
+pub flushes_agree : (D : Type 0) → FlushesAgree D
 flushes_agree D at given fsyncs makes agree = by makes.comes makes.went
   where
     by : (comes : FlushComes at.t at.nodes at.node at.before at.after at.pen at.done given)

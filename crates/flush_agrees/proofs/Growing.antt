@@ -104,7 +104,7 @@ module _ {D : Type 0} (t : FileState) (before after : FileHand) (pen done : PenH
   one_on fsyncs told was =
       record { one = was.one; among = was.among; made = was.made; is = was.is; tells = told_on was.made told was.tells }
 
-pub new_pairs_agree : NewPairsAgree
+pub new_pairs_agree : (D : Type 0) → NewPairsAgree D
 new_pairs_agree D t box hand pen none mine new = record {
   one = new.core_is;
   told = new.none_told;
@@ -116,7 +116,7 @@ new_pairs_agree D t box hand pen none mine new = record {
   commits = λ told among. absurd (subst (λ (l : List (Event Fact)). IsOneOf (filter_map commit_told l) told) mine among);
 }
 
-pub other_calls_keep : OtherCallsKeep
+pub other_calls_keep : (D : Type 0) → OtherCallsKeep D
 other_calls_keep D t before after pen fsyncs keeps was = record {
   one = was.one ∙ sym keeps.core;
   told = was.told;
@@ -160,9 +160,9 @@ answers_keep_served t c given before after made none =
           | inl old ↦ record { among = old; asked = own.asked; served = own.served }
           | inr new ↦ elim new [
             | inl same ↦ absurd (elim none [
-                | inl no_fsync ↦ true_not_false (ap asks_fsync (sym own.asked ∙ (ap (λ (e : Entry). e.call) (sym same ∙ behind.entry_is))) ∙ no_fsync)
-                | inr refused ↦ true_not_false (sym refused ∙ (ap is_refusal (sym (ap (λ (e : Entry). e.reply) (sym same ∙ behind.entry_is))) ∙ own.served))
-              ])
+              | inl no_fsync ↦ true_not_false (ap asks_fsync (sym own.asked ∙ (ap (λ (e : Entry). e.call) (sym same ∙ behind.entry_is))) ∙ no_fsync)
+              | inr refused ↦ true_not_false (sym refused ∙ (ap is_refusal (sym (ap (λ (e : Entry). e.reply) (sym same ∙ behind.entry_is))) ∙ own.served))
+            ])
             | inr past ↦ absurd past
           ]
         ]),

@@ -1,7 +1,7 @@
 -- The commit of an fsync that became durable is told of what its core made.
 use Rattle.std.specs.FinMap.{get}
 use Rattle.std.specs.List.{cons_option}
-use Rattle.std.proofs.Common.{◌≡◌, ◌∙◌, ◌++◌, ◌∷◌, ◌<◌, if◌then◌else◌, List, ℕ, refl, ap, option_map, Option, Some, Contains, None, subst, nat_eq, filter_map, [], zero, suc, append-nil, length, is_some, map, sym, append_assoc, inl, Bool, true, eqb-true, false}
+use Rattle.std.proofs.Common.{◌≡◌, ◌∙◌, ◌++◌, ◌∷◌, ◌<◌, if◌then◌else◌, ◌↔◌, List, ℕ, refl, ap, option_map, Option, Some, Contains, None, subst, nat_eq, filter_map, [], zero, suc, append-nil, length, is_some, map, sym, append_assoc, inl, Bool, true, eqb-true, false}
 use Rattle.std.proofs.lemmas.List.Elements.{filter_map-append}
 use Rattle.std.proofs.lemmas.Option.{option_and_then_some}
 use Rattle.sfs_base.specs.declared.numbers.NodeId.{NodeId}
@@ -12,6 +12,7 @@ use Rattle.tree_laws.specs.History.{IsLegal}
 use Rattle.tree_laws.specs.NameRow.{node_number}
 use Rattle.disk_nodes.specs.declared.old.OldEntry.{OldEntry}
 use Rattle.disk_nodes.specs.Nodes.{entry_node, entry_old}
+use Rattle.disk_nodes.specs.OldKept.{OldKept}
 use Rattle.disk_change.specs.AllBuilt.{entry_keyed, after_commit}
 use Rattle.commit_laws.proofs.KnownDirectories.{own_item}
 use Rattle.commit_laws.proofs.Shown.{found_is_in}
@@ -19,7 +20,6 @@ use Rattle.cut_laws.specs.Rules.{IsOneOf}
 use Rattle.cut_laws.proofs.Listed.{from_map, listed_one}
 use Rattle.cut_laws.proofs.Basics.{in_right}
 use Rattle.dep_closure.proofs.Looked.{one_of_all}
-use Rattle.reserve_laws.specs.Olds.{IsKeptIn}
 use Rattle.stamp_table.specs.declared.event.Event.{Event}
 use Rattle.stamp_table.specs.Events.{told_by, calls_in}
 use Rattle.stamp_table.specs.declared.view.View.{View}
@@ -55,6 +55,10 @@ use Rattle.fsync_dir.specs.Flush.{FlushAt, IsTried, EndsLanded}
 use Rattle.flush_agrees.specs.Agreement.{run_to, ToldInSight}
 use Rattle.flush_agrees.specs.Made.{FlushMade, change_of}
 
+-- what entries have of a node is this
+abbrev HaveOf : List OldEntry → ℕ → Option OldKept → Type 0
+HaveOf entries node kept = (old : OldKept) → (kept ≡ Some old) ↔ Contains entries (entry_keyed (node, old))
+
 -- an entry that is found is of the node
 found_node : (entries : List OldEntry) (node : ℕ) (entry : OldEntry) → item_with entry_node node entries ≡ Some entry → entry_node entry ≡ node
 found_node [] node entry is = absurd (none_some is)
@@ -66,7 +70,7 @@ found_node (one ∷ rest) node entry is = by (nat_eq (entry_node one) node) refl
     by false other found later = later found
 
 -- what entries have of a node is what they have in their list
-kept_in : (entries : List OldEntry) → AscendBy entry_node entries → (node : ℕ) → IsKeptIn entries node (kept_of_node entries node)
+kept_in : (entries : List OldEntry) → AscendBy entry_node entries → (node : ℕ) → HaveOf entries node (kept_of_node entries node)
 kept_in entries up node old = (
   λ has. by (item_with entry_node node entries) refl has,
   λ there. ap (option_map entry_old) (own_item entry_node entries up (entry_keyed (node, old)) there),
@@ -138,7 +142,7 @@ module _ {D : Type 0} (at : FlushAt D) (s : LandedFsync) (ack : Ack) (after : Fi
       in
       subst (λ first. StandsPending (given_by at.t) first (account_of lands.behind.log) node.0 value) tried.work.first
       (option_and_then_some as_pending (value_held nodes hand.held (id.Pending node)) value held (λ cell is kind.
-          pending_of (given_by at.t) hand.view.first lands.behind.log node cell value kind (there cell is below)))
+      pending_of (given_by at.t) hand.view.first lands.behind.log node cell value kind (there cell is below)))
     where
       there : (cell : Cell) → value_held nodes hand.held (id.Pending node) ≡ Some cell → node.0 < nodes
           → StandsForCell (given_by at.t) hand.view.first (account_of lands.behind.log) (id.Pending node) cell
@@ -179,6 +183,6 @@ module _ {D : Type 0} (at : FlushAt D) (s : LandedFsync) (ack : Ack) (after : Fi
     number_is = sym number;
     wrote = λ node held found.
         let one = found_wrote nodes (done_of s) list hand.held lands.durable.planned.caught.holds node held found in
-        subst (λ (l : List OldEntry). IsKeptIn l node held.new) after_is
-        (subst (IsKeptIn s.after node) (sym (ap (λ (h : HeldNode). h.new) one.is)) (kept_in s.after up node));
+        subst (λ (l : List OldEntry). HaveOf l node held.new) after_is
+        (subst (HaveOf s.after node) (sym (ap (λ (h : HeldNode). h.new) one.is)) (kept_in s.after up node));
   }

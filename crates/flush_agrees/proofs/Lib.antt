@@ -8,4 +8,3 @@ pub mod Landing
 pub mod Flushed
 pub mod Failed
 pub mod Closing
-pub mod Fitting

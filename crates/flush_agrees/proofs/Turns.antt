@@ -106,24 +106,24 @@ module _ (core : ℕ) (flush : Flush) (ack : Option ℕ) where
   stops_taken : (before after : OwnTold) → HaltsCommit core flush before after → TakesOwn core flush ack before after
   stops_taken before after halts = elim halts.far [
     | inl shut ↦ record {
-        turns = halts.halts.turn ∷ [];
-        told_is = ap (λ (o : OwnTold). o.told) halts.halts.after_is
-            ∙ ap (λ l. l ++ halts.halts.turn ∷ []) (shut_told before halts.number halts.middle shut);
-        own = (own_by act.Halted halts.number halts.halts.turn (λ is. cc is) halts.halts.by, tt);
-      }
+      turns = halts.halts.turn ∷ [];
+      told_is = ap (λ (o : OwnTold). o.told) halts.halts.after_is
+          ∙ ap (λ l. l ++ halts.halts.turn ∷ []) (shut_told before halts.number halts.middle shut);
+      own = (own_by act.Halted halts.number halts.halts.turn (λ is. cc is) halts.halts.by, tt);
+    }
     | inr begun ↦ record {
-        turns = begun.cut ∷ begun.opened ∷ halts.halts.turn ∷ [];
-        told_is = ap (λ (o : OwnTold). o.told) halts.halts.after_is
-            ∙ (ap (λ (o : OwnTold). o.told ++ halts.halts.turn ∷ []) begun.own_is
-            ∙ append_assoc before.told (begun.cut ∷ begun.opened ∷ []) (halts.halts.turn ∷ []));
-        own = (
-          own_by act.CutAt halts.number begun.cut (λ is. cc is) begun.cut_by,
-          (
-            own_by act.Opened halts.number begun.opened (λ is. cc is) begun.opened_by,
-            (own_by act.Halted halts.number halts.halts.turn (λ is. cc is) halts.halts.by, tt),
-          ),
-        );
-      }
+      turns = begun.cut ∷ begun.opened ∷ halts.halts.turn ∷ [];
+      told_is = ap (λ (o : OwnTold). o.told) halts.halts.after_is
+          ∙ (ap (λ (o : OwnTold). o.told ++ halts.halts.turn ∷ []) begun.own_is
+          ∙ append_assoc before.told (begun.cut ∷ begun.opened ∷ []) (halts.halts.turn ∷ []));
+      own = (
+        own_by act.CutAt halts.number begun.cut (λ is. cc is) begun.cut_by,
+        (
+          own_by act.Opened halts.number begun.opened (λ is. cc is) begun.opened_by,
+          (own_by act.Halted halts.number halts.halts.turn (λ is. cc is) halts.halts.by, tt),
+        ),
+      );
+    }
   ]
 
   commit_refused : (before after : OwnTold) (why : CommitFault) → Commits core flush before after (Err why) → TakesOwn core flush ack before after

@@ -6,12 +6,10 @@ use Rattle.tree_laws.specs.declared.history.Entry.{Entry}
 use Rattle.tree_laws.specs.declared.turns.Turn.{Turn}
 use Rattle.tree_laws.specs.declared.turns.TurnAct.TheVariants as act
 use Rattle.tree_laws.specs.declared.reply.Reply.TheVariants as reply
-use Rattle.disk_change.specs.AllBuilt.{after_commit}
 use Rattle.cut_laws.specs.Closure.{Flush}
 use Rattle.cut_laws.specs.Rules.{IsOneOf}
 use Rattle.turn_laws.specs.Ways.{GoesWay}
 use Rattle.merge_laws.specs.Pens.{FsyncTurns, IsTurnOf, FsyncsDiffer}
-use Rattle.reserve_laws.specs.Olds.{IsKeptIn}
 use Rattle.stamp_table.specs.declared.event.Event.{Event}
 use Rattle.mem_values.specs.Start.{given_by, FileState, FileHand}
 use Rattle.mem_values.specs.declared.fact.Fact.{Fact}
@@ -27,7 +25,7 @@ use Rattle.journal_set.specs.Numbering.{numbers_reserved}
 use Rattle.journal_set.specs.Flying.{SeesFailure}
 use Rattle.fsync_stamp.specs.Adding.{calls_seen}
 use Rattle.pen_laws.specs.Agreement.{IsServedFsync}
-use Rattle.flush_agrees.specs.Made.{FlushMade, change_of, GrantsNeed, TurnIsOf}
+use Rattle.flush_agrees.specs.Made.{FlushMade, GrantsNeed, TurnIsOf, LeavesOfNode}
 
 -- An fsync as its pen has told it: whose it is, its core's turns at the box, and what the core made of it, where it got a number.
 pub record FlushTold : Type 0 where
@@ -62,7 +60,7 @@ pub record ToldInSight (t : FileState) (hand : FileHand) (one : FlushMade) (told
   pub among : IsOneOf (filter_map commit_told hand.view.mine) told
   pub made : ToldMade (run_to t log) one.making told
   pub number_is : told.number ≡ one.number
-  pub wrote : (node : ℕ) (held : HeldNode) → held_by told node ≡ Some held → IsKeptIn (after_commit (change_of one) one.grant) node held.new
+  pub wrote : (node : ℕ) (held : HeldNode) → held_by told node ≡ Some held → LeavesOfNode one node held.new
 
 -- What a core made for an fsync it made in its sight; its pen reserved the number, with a grant of what it needs.
 pub record MadeAgrees {D : Type 0} (t : FileState) (hand : FileHand) (pen : PenHand D) (flush : Flush) (one : FlushMade) : Type 0 where

@@ -1,11 +1,9 @@
 -- How cores and their pens come to agree on fsyncs and go on agreeing; each law is proved by a function of the module laws.
-use Rattle.tree_laws.specs.declared.history.Entry.{Entry}
-use Rattle.tree_laws.specs.declared.call.Call.{Call}
-use Rattle.journal_set.specs.Telling.{AreTurns}
-use Rattle.fsync_dir.specs.Flush.{refused}
 use Rattle.std.specs.Prelude.{◌≡◌, ◌↔◌, ◌⊎◌, ◌≤◌, ◌^◌, ◌-◌, ◌++◌, ◌∷◌, [], filter_map, List, false, true, ℕ}
 use mathlib.Core.List.{IsPrefix}
 use Rattle.sfs_base.specs.declared.numbers.NodeId.{NodeId}
+use Rattle.tree_laws.specs.declared.history.Entry.{Entry}
+use Rattle.tree_laws.specs.declared.call.Call.{Call}
 use Rattle.tree_laws.specs.declared.reply.Reply.{Reply}
 use Rattle.stamp_table.specs.Table.{TableState}
 use Rattle.stamp_table.specs.Answered.{asks_fsync, is_refusal}
@@ -13,17 +11,17 @@ use Rattle.mem_values.specs.Start.{FileState, FileHand}
 use Rattle.mem_values.specs.Account.{commit_told}
 use Rattle.disk_box.specs.declared.key.BoxKey.{BoxKey}
 use Rattle.disk_box.specs.Pens.{PenHand, PenGoes}
+use Rattle.journal_set.specs.Telling.{AreTurns, TellsCall, TellsNothing}
 use Rattle.journal_set.specs.Making.{IsNewPen}
-use Rattle.journal_set.specs.Telling.{TellsCall, TellsNothing}
 use Rattle.mem_calls.specs.Outcome.{IsAnswered, IsRefusedMemory}
-use Rattle.fsync_dir.specs.Flush.{FlushAt, FsyncComes, wanting, flushed, FlushComes, dead, live}
+use Rattle.fsync_dir.specs.Flush.{refused, FlushAt, FsyncComes, wanting, flushed, FlushComes, dead, live}
 use Rattle.fsync_dir.specs.Site.{IsSite}
 use Rattle.pen_laws.specs.Agreement.{IsServedFsync}
 use Rattle.flush_agrees.specs.Agreement.{CoresAgree, FlushTold}
 
 -- A core that has made no call and told nothing agrees with a new pen of its number on no fsync.
-abbrev pub NewPairsAgree : Type 1
-NewPairsAgree = (D : Type 0) (t : FileState) (box : TableState BoxKey) (hand : FileHand) (pen : PenHand D) → hand.entries ≡ [] → hand.view.mine ≡ []
+abbrev pub NewPairsAgree : Type 0 → Type 0
+NewPairsAgree D = (t : FileState) (box : TableState BoxKey) (hand : FileHand) (pen : PenHand D) → hand.entries ≡ [] → hand.view.mine ≡ []
     → IsNewPen box hand.view.core pen → CoresAgree t hand pen []
 
 -- A core has gone on without an fsync that is served: it has told no commit, it has seen more, perhaps, and its served fsyncs are those of before.
@@ -34,8 +32,8 @@ pub record KeepsServed (before after : FileHand) : Type 0 where
   pub served : (entry : Entry) (node : NodeId) → IsServedFsync before entry node ↔ IsServedFsync after entry node
 
 -- Then it agrees with its pen as before.
-abbrev pub OtherCallsKeep : Type 1
-OtherCallsKeep = (D : Type 0) (t : FileState) (before after : FileHand) (pen : PenHand D) (fsyncs : List FlushTold) → KeepsServed before after
+abbrev pub OtherCallsKeep : Type 0 → Type 0
+OtherCallsKeep D = (t : FileState) (before after : FileHand) (pen : PenHand D) (fsyncs : List FlushTold) → KeepsServed before after
     → CoresAgree t before pen fsyncs → CoresAgree t after pen fsyncs
 
 -- So it goes on by a call that is no fsync, or that is refused, and where memory for one was wanting.
@@ -85,6 +83,6 @@ pub record MakesFlush {D : Type 0} (at : FlushPlace D) (given : Reply) : Type 0 
 abbrev pub AgreeBehind : {D : Type 0} → FlushPlace D → List FlushTold → Type 0
 AgreeBehind at fsyncs = CoresAgree at.t at.after at.done fsyncs ⊎ ((one : FlushTold) × CoresAgree at.t at.after at.done (fsyncs ++ one ∷ []))
 
-abbrev pub FlushesAgree : Type 1
-FlushesAgree = (D : Type 0) (at : FlushPlace D) (given : Reply) (fsyncs : List FlushTold) → MakesFlush at given → CoresAgree at.t at.before at.pen fsyncs
+abbrev pub FlushesAgree : Type 0 → Type 0
+FlushesAgree D = (at : FlushPlace D) (given : Reply) (fsyncs : List FlushTold) → MakesFlush at given → CoresAgree at.t at.before at.pen fsyncs
     → AgreeBehind at fsyncs

@@ -1,15 +1,17 @@
 -- What a core made for an fsync whose number its pen reserved, and what the pen's turns at the box say of it.
-use Rattle.slot_laws.specs.declared.label.Seen.{Seen}
-use Rattle.fmt_journal.specs.declared.tx.Tx.{Tx}
+use Rattle.std.specs.Prelude.{◌≡◌, ◌≤◌, ◌^◌, ◌-◌, ◌↔◌, ℕ, List, is_some, Some, map, [], Option, None, length, count_by, Contains}
 use Rattle.sfs_image.specs.Super.{Layout}
-use Rattle.std.specs.Prelude.{◌≡◌, ◌≤◌, ◌^◌, ◌-◌, ℕ, List, is_some, Some, map, [], Option, None, length, count_by}
+use Rattle.fmt_journal.specs.declared.tx.Tx.{Tx}
 use Rattle.journal_one.specs.Job.{Job}
 use Rattle.journal_one.specs.Packed.{record_entry, block_of}
 use Rattle.space_map.specs.Space.{GrantedNumbers}
+use Rattle.disk_nodes.specs.OldKept.{OldKept}
 use Rattle.disk_change.specs.Planned.{Planned, enters}
 use Rattle.disk_change.specs.Written.{IsTransactionOf}
+use Rattle.disk_change.specs.AllBuilt.{after_commit, entry_keyed}
 use Rattle.made_laws.specs.Made.{CoreMaking, is_concerned}
 use Rattle.made_laws.specs.Tells.{last_of_seen}
+use Rattle.slot_laws.specs.declared.label.Seen.{Seen}
 use Rattle.slot_laws.specs.Nodes.{last_seen, no_numbers}
 use Rattle.slot_laws.specs.Telling.{BoxTurn, turn_reserves, turn_empties, turn_begins}
 use Rattle.fsync_commit.specs.Asked.{need_planned}
@@ -23,6 +25,10 @@ pub record FlushMade : Type 0 where
 -- the change of the disk that it planned
 abbrev pub change_of : FlushMade → Planned
 change_of one = one.making.plan.change
+
+-- what the disk has of a node is what the plan leaves of it with its grant
+abbrev pub LeavesOfNode : FlushMade → ℕ → Option OldKept → Type 0
+LeavesOfNode one node kept = (old : OldKept) → (kept ≡ Some old) ↔ Contains (after_commit (change_of one) one.grant) (entry_keyed (node, old))
 
 -- Exactly the nodes that an fsync concerns were seen, each with the last commit that its core knew of.
 pub record SeesConcerned (making : CoreMaking) (seen : List Seen) : Type 0 where

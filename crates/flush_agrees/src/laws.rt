@@ -1,7 +1,35 @@
-// What is proved of how cores and their pens agree on fsyncs: each function's contract is a law.
-ghost use Rattle.flush_agrees.specs.Laws.{NewPairsAgree};
+// What is proved of how cores and their pens agree on fsyncs: each function's contract is a law, for journals over a disk.
+ghost use Rattle.flush_agrees.specs.Closing.{AgreementsEnd};
+ghost use Rattle.flush_agrees.specs.Laws.{AnswersKeepServed, FlushesAgree, NewPairsAgree, OtherCallsKeep, RefusedMemoryKeepsServed};
+
+use sfs_dev::Disk;
 
 /// A core that has made no call agrees with a new pen on no fsync.
-pub fn new_pairs_agree()
-    ensures { NewPairsAgree }
+pub fn new_pairs_agree<D: Disk>(disk: &D)
+    ensures { NewPairsAgree D }
+{}
+
+/// They agree as before where the core goes on without an fsync that is served.
+pub fn other_calls_keep<D: Disk>(disk: &D)
+    ensures { OtherCallsKeep D }
+{}
+
+/// So it goes on by a call that is no fsync, or that is refused.
+pub fn answers_keep_served()
+    ensures { AnswersKeepServed }
+{}
+
+/// And where memory for a call was wanting.
+pub fn refused_memory_keeps_served()
+    ensures { RefusedMemoryKeepsServed }
+{}
+
+/// Behind an fsync they agree on the same fsyncs, or on one more.
+pub fn flushes_agree<D: Disk>(disk: &D)
+    ensures { FlushesAgree D }
+{}
+
+/// In the end they agree on all that was called, told and noted.
+pub fn agreements_end<D: Disk>(disk: &D)
+    ensures { AgreementsEnd D }
 {}
