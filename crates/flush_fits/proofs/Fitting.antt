@@ -1,5 +1,4 @@
 -- Turns at the box that are of what a core made fit what commits bring.
-use Rattle.beside_laws.specs.Commits.{CoreCommit}
 use Rattle.std.proofs.Common.{◌<◌, ◌^◌, ◌-◌, ◌≡◌, ◌∙◌, [], sym, min, count_by, length, ap, sum_by, arith, refl, List, subst, ℕ, map}
 use Rattle.sfs_image.specs.Super.{Layout}
 use Rattle.fmt_journal.specs.declared.tx.TxRecord.{TxRecord}
@@ -10,6 +9,7 @@ use Rattle.disk_change.specs.Records.{records_written}
 use Rattle.disk_change.specs.Written.{IsTransactionOf}
 use Rattle.commit_laws.specs.CommitOfPlan.{CommitPlan, change_planned}
 use Rattle.commit_laws.specs.PartsStand.{part_next}
+use Rattle.beside_laws.specs.Commits.{CoreCommit}
 use Rattle.plan_laws.specs.Leads.{commit_made_of}
 use Rattle.bringing_laws.specs.Brings.{Bringing}
 use Rattle.reserve_laws.specs.Plans.{bringing_made}
@@ -21,7 +21,7 @@ use Rattle.slot_laws.specs.Telling.{BoxTurn, turn_reserves, turn_empties, turn_b
 use Rattle.label_laws.specs.Maps.{Numbered, GrantFits, ReservedAs, IsEmptyAs, bringing_of}
 use Rattle.label_laws.specs.Pens.{TurnFits, IsJobBrought}
 use Rattle.flush_agrees.specs.Made.{FlushMade, GrantsNeed, change_of, SeesConcerned, TurnMade}
-use Rattle.flush_agrees.specs.Closing.{IsBroughtAs, FreesNothing, MadesFit}
+use Rattle.flush_fits.specs.Fitting.{MadesFit, IsBroughtAs, FreesNothing}
 
 module _ (run : TableRun) (layout : Layout) (named : Numbered) (made : FlushMade) (brought : IsBroughtAs run named made) (grants : GrantsNeed layout made)
     (blocks : layout.blocks < 2 ^ 32 - 1) where

@@ -1,43 +1,18 @@
 -- That what cores made for their fsyncs fits what commits bring.
-use Rattle.stamp_table.specs.Rule.{entries_by}
-use Rattle.label_laws.specs.Maps.{Numbered}
-use Rattle.made_laws.specs.Tells.{commit_made}
-use Rattle.std.specs.Prelude.{◌≡◌, ◌∷◌, ◌<◌, ◌^◌, ◌-◌, List, filter, Bool, [], false, true, map, ℕ, Some, None, filter_map, flat_map}
-use mathlib.Core.List.{IsPrefix}
+use Rattle.std.specs.Prelude.{◌≡◌, ◌<◌, ◌^◌, ◌-◌, []}
 use Rattle.sfs_image.specs.Super.{Layout}
 use Rattle.fmt_journal.specs.declared.tx.Tx.{Tx}
-use Rattle.tree_laws.specs.declared.history.Entry.{Entry}
-use Rattle.tree_laws.specs.History.{IsLegal}
-use Rattle.tree_laws.specs.Merged.{is_core}
-use Rattle.tree_laws.specs.declared.turns.Turn.{Turn}
-use Rattle.tree_laws.specs.declared.turns.TurnAct.TheVariants as act
-use Rattle.disk_change.specs.AllBuilt.{after_commit}
 use Rattle.disk_change.specs.Written.{IsTransactionOf}
-use Rattle.cut_laws.specs.Rules.{IsOneOf}
 use Rattle.flush_laws.specs.Volume.{Volume}
-use Rattle.turn_laws.specs.Books.{flush_at}
-use Rattle.merge_laws.specs.Pens.{FsyncTurns, PenAgrees}
-use Rattle.reserve_laws.specs.Olds.{IsKeptIn}
 use Rattle.reserve_laws.specs.Plans.{bringing_made}
-use Rattle.stamp_table.specs.declared.event.Event.{Event}
-use Rattle.stamp_table.specs.Events.{event_core}
-use Rattle.mem_values.specs.declared.fact.Fact.{Fact}
-use Rattle.mem_values.specs.Start.{FileState, FileHand}
-use Rattle.mem_values.specs.Account.{Commitment, held_by, commit_told}
-use Rattle.mem_values.specs.declared.fact.HeldNode.{HeldNode}
-use Rattle.note_laws.specs.Run.{IsTableRun, TableRun}
-use Rattle.made_laws.specs.Made.{CoreMade, making_flush, sources_of}
-use Rattle.made_laws.specs.Tells.{ToldMade}
-use Rattle.slot_laws.specs.declared.label.Label.{Label}
-use Rattle.slot_laws.specs.Telling.{BoxTurn, events_in, TellTurns, turns_in}
-use Rattle.slot_laws.specs.Labels.{nothing_told}
+use Rattle.note_laws.specs.Run.{TableRun}
+use Rattle.made_laws.specs.Tells.{commit_made}
+use Rattle.made_laws.specs.Made.{CoreMade, sources_of}
+use Rattle.slot_laws.specs.Telling.{BoxTurn}
 use Rattle.slot_laws.specs.Nodes.{no_numbers}
-use Rattle.disk_box.specs.Pens.{PenHand}
-use Rattle.disk_box.specs.Box.{LawfulBox, past_of}
-use Rattle.label_laws.specs.Maps.{commit_numbered, bringing_of}
+use Rattle.label_laws.specs.Maps.{Numbered, commit_numbered, bringing_of}
 use Rattle.label_laws.specs.Pens.{TurnFits}
-use Rattle.flush_agrees.specs.Agreement.{run_to, FlushTold, fsync_turns, turns_of, NumbersHave, CoresAgree}
-use Rattle.flush_agrees.specs.Made.{FlushMade, GrantsNeed, TurnMade, change_of, TellsNoNumber}
+use Rattle.flush_agrees.specs.Made.{FlushMade, GrantsNeed, TurnMade, change_of}
 
 -- What was made for a number is what commits bring under its stamp: the commit as its core made it, and the plan with its grant, in some volume.
 pub record IsBroughtAs (run : TableRun) (named : Numbered) (made : FlushMade) : Type 0 where
