@@ -1,13 +1,16 @@
 -- Cores and pens that agree on fsyncs go on agreeing on them.
 use mathlib.Core.List.{IsPrefix}
-use Rattle.std.proofs.Common.{◌≡◌, ◌∙◌, ◌∷◌, filter_map, ℕ, sym, subst, Option, None, Some, arith, List, refl, ap, [], append-nil, inl, inr}
+use Rattle.std.proofs.Common.{◌≡◌, ◌∙◌, ◌∷◌, filter_map, ℕ, sym, subst, Option, None, Some, arith, List, refl, ap, [], append-nil, inl, inr, filter}
 use Rattle.std.proofs.lemmas.List.Elements.{filter_map-append}
 use Rattle.sfs_base.specs.declared.numbers.NodeId.{NodeId}
 use Rattle.sfs_base.proofs.BasicTruth.{true_not_false}
 use Rattle.tree_laws.specs.declared.history.Entry.{Entry}
+use Rattle.tree_laws.specs.declared.call.Call.TheVariants as call
 use Rattle.cut_laws.specs.Rules.{IsOneOf}
 use Rattle.cut_laws.specs.Closure.{Flush}
 use Rattle.cut_laws.proofs.Basics.{in_left, in_either}
+use Rattle.cut_laws.proofs.RunFacts.{in_filter}
+use Rattle.cut_laws.proofs.Listed.{to_filter}
 use Rattle.stamp_table.specs.Hand.{Desk}
 use Rattle.stamp_table.specs.declared.event.Event.{Event}
 use Rattle.stamp_table.specs.declared.event.Event.TheVariants.{Called}
@@ -26,7 +29,7 @@ use Rattle.journal_set.specs.Flying.{SeesFailure}
 use Rattle.pen_laws.specs.Agreement.{IsServedFsync}
 use Rattle.flush_agrees.specs.Agreement.{MadeInSight, MadeAgrees, MadeIsAgreed, ToldInSight, FlushTold, EntryAgrees, FlushAgrees, IsToldOfOne}
 use Rattle.flush_agrees.specs.Made.{FlushMade, GrantsNeed}
-use Rattle.flush_agrees.specs.Laws.{NewPairsAgree, OtherCallsKeep, AnswersKeepServed, RefusedMemoryKeepsServed}
+use Rattle.flush_agrees.specs.Laws.{NewPairsAgree, OtherCallsKeep, AnswersKeepServed, RefusedMemoryKeepsServed, SameFsyncsKeepServed, AgreeingCoresTell}
 
 -- A core and its pen have gone further: what was served and told of the core's fsyncs is so still.
 pub record GoesFurther {D : Type 0} (before after : FileHand) (pen done : PenHand D) : Type 0 where
@@ -178,4 +181,30 @@ refused_memory_keeps_served t before after refused = record {
     (λ own. record { among = subst (λ l. IsOneOf l entry) (sym refused.entries) own.among; asked = own.asked; served = own.served }),
     (λ own. record { among = subst (λ l. IsOneOf l entry) refused.entries own.among; asked = own.asked; served = own.served }),
   );
+}
+
+pub same_fsyncs_keep_served : SameFsyncsKeepServed
+same_fsyncs_keep_served before after core commits seen entries = record {
+  core = core;
+  commits = commits;
+  seen = seen;
+  served = λ entry node. (
+    (λ own. record { among = over before.entries after.entries (sym entries) entry node own.asked own.among; asked = own.asked; served = own.served }),
+    (λ own. record { among = over after.entries before.entries entries entry node own.asked own.among; asked = own.asked; served = own.served }),
+  );
+}
+  where
+    over : (one other : List Entry) → filter (λ (entry : Entry). asks_fsync entry.call) one ≡ filter (λ (entry : Entry). asks_fsync entry.call) other
+        → (entry : Entry) (node : NodeId) → entry.call ≡ call.Fsync node → IsOneOf one entry → IsOneOf other entry
+    over one other same entry node asked among =
+        (in_filter (λ (entry : Entry). asks_fsync entry.call) other entry (subst (λ l. IsOneOf l entry) same
+        (to_filter (λ (entry : Entry). asks_fsync entry.call) one entry among (ap asks_fsync asked)))).0
+
+pub agreeing_cores_tell : (D : Type 0) → AgreeingCoresTell D
+agreeing_cores_tell D t hand pen fsyncs agree = record {
+  one = agree.one;
+  reserved = λ told among.
+      let of = agree.commits told among in
+      let made = subst (MadeIsAgreed t hand pen of.one.flush) of.is (agree.each of.one of.among).made in
+      subst (IsOneOf (numbers_reserved pen.view.mine)) (sym of.tells.number_is) made.reserved;
 }

@@ -1,5 +1,5 @@
 -- How cores and their pens come to agree on fsyncs and go on agreeing; each law is proved by a function of the module laws.
-use Rattle.std.specs.Prelude.{◌≡◌, ◌↔◌, ◌⊎◌, ◌≤◌, ◌^◌, ◌-◌, ◌++◌, ◌∷◌, [], filter_map, List, false, true, ℕ}
+use Rattle.std.specs.Prelude.{◌≡◌, ◌↔◌, ◌⊎◌, ◌≤◌, ◌^◌, ◌-◌, ◌++◌, ◌∷◌, [], filter_map, List, false, true, ℕ, filter}
 use mathlib.Core.List.{IsPrefix}
 use Rattle.sfs_base.specs.declared.numbers.NodeId.{NodeId}
 use Rattle.tree_laws.specs.declared.history.Entry.{Entry}
@@ -15,7 +15,7 @@ use Rattle.journal_set.specs.Telling.{AreTurns, TellsCall, TellsNothing}
 use Rattle.journal_set.specs.Making.{IsNewPen}
 use Rattle.mem_calls.specs.Outcome.{IsAnswered, IsRefusedMemory}
 use Rattle.fsync_dir.specs.Flush.{refused, FlushAt, FsyncComes, wanting, flushed, FlushComes, dead, live}
-use Rattle.fsync_dir.specs.Site.{IsSite}
+use Rattle.fsync_dir.specs.Site.{IsSite, ToldAsReserved}
 use Rattle.pen_laws.specs.Agreement.{IsServedFsync}
 use Rattle.flush_agrees.specs.Agreement.{CoresAgree, FlushTold}
 
@@ -43,6 +43,17 @@ AnswersKeepServed = (t : FileState) (c : Call) (given : Reply) (before after : F
 
 abbrev pub RefusedMemoryKeepsServed : Type 0
 RefusedMemoryKeepsServed = (t : FileState) (before after : FileHand) → IsRefusedMemory t before after → KeepsServed before after
+
+-- So it does where those of its entries that are fsyncs are those of before, with their answers.
+abbrev pub SameFsyncsKeepServed : Type 0
+SameFsyncsKeepServed = (before after : FileHand) → after.view.core ≡ before.view.core
+    → filter_map commit_told after.view.mine ≡ filter_map commit_told before.view.mine → IsPrefix before.view.seen after.view.seen
+    → filter (λ (entry : Entry). asks_fsync entry.call) after.entries ≡ filter (λ (entry : Entry). asks_fsync entry.call) before.entries
+    → KeepsServed before after
+
+-- Each commit that an agreeing core has told has a number that its pen reserved, as an fsync asks.
+abbrev pub AgreeingCoresTell : Type 0 → Type 0
+AgreeingCoresTell D = (t : FileState) (hand : FileHand) (pen : PenHand D) (fsyncs : List FlushTold) → CoresAgree t hand pen fsyncs → ToldAsReserved hand pen
 
 -- What `FsyncComes` does not say of how an fsync went on: before its plan was committed its pen told turns at the box in which nothing was told; where the plan
 -- was refused, what its core had seen as it was planned begins what the core has seen behind it; and where it has landed, what the disk has of its nodes is what

@@ -1,6 +1,6 @@
 // What is proved of how cores and their pens agree on fsyncs: each function's contract is a law, for journals over a disk.
 ghost use Rattle.flush_agrees.specs.Closing.{AgreementsEnd};
-ghost use Rattle.flush_agrees.specs.Laws.{AnswersKeepServed, FlushesAgree, NewPairsAgree, OtherCallsKeep, RefusedMemoryKeepsServed};
+ghost use Rattle.flush_agrees.specs.Laws.{AgreeingCoresTell, AnswersKeepServed, FlushesAgree, NewPairsAgree, OtherCallsKeep, RefusedMemoryKeepsServed, SameFsyncsKeepServed};
 
 use sfs_dev::Disk;
 
@@ -22,6 +22,16 @@ pub fn answers_keep_served()
 /// And where memory for a call was wanting.
 pub fn refused_memory_keeps_served()
     ensures { RefusedMemoryKeepsServed }
+{}
+
+/// So it does where its fsyncs are those of before.
+pub fn same_fsyncs_keep_served()
+    ensures { SameFsyncsKeepServed }
+{}
+
+/// Each commit that an agreeing core has told has a number that its pen reserved, as an fsync asks.
+pub fn agreeing_cores_tell<D: Disk>(disk: &D)
+    ensures { AgreeingCoresTell D }
 {}
 
 /// Behind an fsync they agree on the same fsyncs, or on one more.
