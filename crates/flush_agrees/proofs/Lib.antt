@@ -8,3 +8,4 @@ pub mod Landing
 pub mod Flushed
 pub mod Failed
 pub mod Closing
+pub mod Stamps

@@ -1,5 +1,5 @@
 -- What a core and its pen agree on where a mount ends, over all that was called, told and noted.
-use Rattle.std.specs.Prelude.{◌≡◌, ◌∷◌, List, filter, Bool, [], false, true, map, ℕ, Some, None, filter_map, flat_map}
+use Rattle.std.specs.Prelude.{◌≡◌, ◌∷◌, List, filter, Bool, [], false, true, map, ℕ, Some, None, filter_map, flat_map, slice_get}
 use mathlib.Core.List.{IsPrefix}
 use Rattle.sfs_image.specs.Super.{Layout}
 use Rattle.tree_laws.specs.declared.history.Entry.{Entry}
@@ -25,6 +25,7 @@ use Rattle.slot_laws.specs.Telling.{BoxTurn, events_in, TellTurns, turns_in}
 use Rattle.slot_laws.specs.Labels.{nothing_told}
 use Rattle.disk_box.specs.Pens.{PenHand}
 use Rattle.disk_box.specs.Box.{LawfulBox, past_of}
+use Rattle.disk_box.specs.declared.key.BoxKey.{BoxKey}
 use Rattle.flush_agrees.specs.Agreement.{run_to, FlushTold, fsync_turns, turns_of, NumbersHave, CoresAgree}
 use Rattle.flush_agrees.specs.Made.{FlushMade, GrantsNeed, TurnMade, TellsNoNumber, LeavesOfNode}
 
@@ -105,3 +106,20 @@ pub record AgreeAtEnd {D : Type 0} (t : FileState) (hand : FileHand) (pen : PenH
 abbrev pub AgreementsEnd : Type 0 → Type 0
 AgreementsEnd D = (t : FileState) (hand : FileHand) (pen : PenHand D) (fsyncs : List FlushTold) (logs : MountLogs)
     → CoresAgree t hand pen fsyncs → ReachesEnd t hand pen logs → AgreeAtEnd t hand pen fsyncs logs
+
+-- A core and its pen agree on some fsyncs, where the labels of a box have what the pen told as this core's part.
+pub record AgreesInPart (D : Type 0) (t : FileState) (labels : List (Event Label)) (core : ℕ) (fsyncs : List FlushTold) : Type 0 where
+  pub hand : FileHand
+  pub pen : PenHand D
+  pub agree : CoresAgree t hand pen fsyncs
+  pub mine : pen.view.mine ≡ entries_by event_core core labels
+
+-- There are stamps by numbers for the fsyncs of all cores, a list a core: each number that was made has the stamp of its fsync.
+pub record HasStamps (fsyncs : List (List FlushTold)) : Type 0 where
+  pub stamps : ℕ → ℕ
+  pub each : (core : ℕ) (told : List FlushTold) → slice_get fsyncs core ≡ Some told → NumbersHave stamps told
+
+-- So there are where the labels are lawful and each core agrees with its pen.
+abbrev pub StampsAreGiven : Type 0 → Type 0
+StampsAreGiven D = (t : FileState) (key : BoxKey) (labels : List (Event Label)) (fsyncs : List (List FlushTold)) → LawfulBox key labels
+    → ((core : ℕ) (told : List FlushTold) → slice_get fsyncs core ≡ Some told → AgreesInPart D t labels core told) → HasStamps fsyncs

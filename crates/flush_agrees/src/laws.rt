@@ -1,5 +1,5 @@
 // What is proved of how cores and their pens agree on fsyncs: each function's contract is a law, for journals over a disk.
-ghost use Rattle.flush_agrees.specs.Closing.{AgreementsEnd};
+ghost use Rattle.flush_agrees.specs.Closing.{AgreementsEnd, StampsAreGiven};
 ghost use Rattle.flush_agrees.specs.Laws.{AgreeingCoresTell, AnswersKeepServed, FlushesAgree, NewPairsAgree, OtherCallsKeep, RefusedMemoryKeepsServed, SameFsyncsKeepServed};
 
 use sfs_dev::Disk;
@@ -42,4 +42,9 @@ pub fn flushes_agree<D: Disk>(disk: &D)
 /// In the end they agree on all that was called, told and noted.
 pub fn agreements_end<D: Disk>(disk: &D)
     ensures { AgreementsEnd D }
+{}
+
+/// There are stamps by numbers for the fsyncs of all cores, each number that was made with that of its fsync.
+pub fn stamps_are_given<D: Disk>(disk: &D)
+    ensures { StampsAreGiven D }
 {}
