@@ -1,5 +1,5 @@
 -- What comes of an attempt at an fsync.
-use Rattle.std.proofs.Common.{◌≡◌, ◌<◌, ◌∙◌, ◌∷◌, ◌++◌, ℕ, List, [], length, map, Option, None, Some, Ok, Err, Result, inl, inr, refl, sym, ap, subst, arith}
+use Rattle.std.proofs.Common.{◌≡◌, ◌<◌, ◌+◌, ◌*◌, ◌∙◌, ◌∷◌, ◌++◌, ℕ, List, [], length, map, Option, None, Some, Ok, Err, Result, inl, inr, refl, sym, ap, subst, arith}
 use Rattle.std.specs.Prelude.{MatchOption}
 use Rattle.std.proofs.lemmas.List.{append-nil, length-map}
 use mathlib.Core.List.{IsPrefix}
@@ -10,8 +10,9 @@ use Rattle.tree_laws.specs.declared.history.Entry.{Entry}
 use Rattle.tree_laws.specs.declared.reply.Reply.{Reply}
 use Rattle.tree_laws.specs.declared.reply.Reply.TheVariants as reply
 use Rattle.turn_laws.specs.Ways.{no_turn}
-use Rattle.slot_laws.specs.Labels.{OwnTold}
+use Rattle.slot_laws.specs.Labels.{OwnTold, fsync_told}
 use Rattle.slot_laws.specs.declared.label.Label.{Label}
+use Rattle.stamp_table.specs.Ascending.{LiesAbove}
 use Rattle.stamp_table.specs.Events.{told_by}
 use Rattle.stamp_table.specs.Table.{values_in, with_answer}
 use Rattle.stamp_table.specs.declared.event.Event.{Event}
@@ -27,7 +28,7 @@ use Rattle.journal_set.specs.Ways.{IsAnsweredBy, TakesWay}
 use Rattle.fsync_catch.specs.Catch.{GoesOn}
 use Rattle.fsync_catch.specs.declared.looking.WaitingFsync.{WaitingFsync}
 use Rattle.fsync_catch.proofs.Going.{goes_again, goes_none}
-use Rattle.fsync_commit.specs.Asked.{CommitRequest}
+use Rattle.fsync_commit.specs.Asked.{CommitRequest, IsChangeOn}
 use Rattle.fsync_commit.specs.Coming.{AreLow, GrantComes, HandsOut, PlanComesTo, committed, gave_back, numbered, settled, unasked, unnumbered}
 use Rattle.fsync_commit.specs.declared.landing.CommitRefusal.{CommitRefusal}
 use Rattle.fsync_commit.specs.declared.landing.Landed.{Landed}
@@ -44,7 +45,7 @@ use Rattle.fsync_dir.specs.Flush.{AttemptComes, BeginsAnew, EndsLanded, FlushAt,
 use Rattle.fsync_dir.specs.Site.{IsSite, ToldAsReserved}
 use Rattle.fsync_dir.specs.declared.attempt.PlannedCommit.{PlannedCommit}
 use Rattle.fsync_dir.specs.declared.ending.PlanLeft.{PlanLeft}
-use Rattle.fsync_dir.proofs.Landing.{durable, got_number, landed_of}
+use Rattle.fsync_dir.proofs.Landing.{durable, got_number, landed_of, may_commit}
 use Rattle.fsync_dir.proofs.Pens.{moved_tells}
 use Rattle.fsync_dir.proofs.Waiting.{ends_since, ends_waiting_since, waiting_on}
 
@@ -104,6 +105,42 @@ module _ {D : Type 0} (at : FlushAt D) (s : PlannedFsync) (todo : PlannedCommit)
     (site : IsSite at.t at.nodes cores at.pen.table.given) (agree : ToldAsReserved hand at.pen) where
   drafted_back : todo.drafted ≡ s.drafted
   drafted_back = sym has.drafted_is
+
+  -- what was asked is what was planned
+  asked_same : ◌≡◌ {A = CommitRequest} (record {
+    flush = fsync_told at.fsync.node at.fsync.stamp;
+    seen = todo.drafted.draft.seen.items;
+    change = todo.drafted.draft.plan.change;
+  }) (asked_by s)
+  asked_same = λ i. record {
+    flush = fsync_told (sym has.tried.fsync_is i).node (sym has.tried.fsync_is i).stamp;
+    seen = (drafted_back i).draft.seen.items;
+    change = (drafted_back i).draft.plan.change;
+  }
+
+  pub plan_asked : (done : PenHand D) (result : Result Landed CommitRefusal) → PlanComesTo (record {
+    flush = fsync_told at.fsync.node at.fsync.stamp;
+    seen = todo.drafted.draft.seen.items;
+    change = todo.drafted.draft.plan.change;
+  }) at.pen done result → PlanComesTo (asked_by s) at.pen done result
+  plan_asked done result comes = subst (λ (asked : CommitRequest). PlanComesTo asked at.pen done result) asked_same comes
+
+  pub change_lies : IsChangeOn at.pen.table.given.layout todo.drafted.draft.plan.change
+  change_lies = subst (λ (d : Rattle.fsync_draft.specs.declared.lending.DraftedFsync.DraftedFsync). IsChangeOn at.pen.table.given.layout d.draft.plan.change)
+      has.drafted_is (may_commit at s todo hand cores has site)
+
+  pub room_here : 0 < hand.room
+  room_here = subst (λ (h : FileHand). 0 < h.room) (sym has.hollow.after_is) has.holds.room
+
+  pub below_here : LiesAbove (32 + 10 * at.nodes) hand.view.held
+  below_here = subst (λ (h : FileHand). LiesAbove (32 + 10 * at.nodes) h.view.held) (sym has.hollow.after_is) has.holds.below
+
+  -- the core as it was works, and its fsync waits
+  pub works_back : (after : FileHand) → after ≡ s.hand → Rattle.mem_calls.specs.Working.IsWorking (given_by at.t) at.t after
+  works_back after same = subst (Rattle.mem_calls.specs.Working.IsWorking (given_by at.t) at.t) (sym same) has.tried.work
+
+  pub waits_back : (after : FileHand) → after ≡ s.hand → after.waiting ≡ Some at.fsync.stamp.0
+  waits_back after same = ap (λ (h : FileHand). h.waiting) same ∙ has.holds.waiting
 
   -- it was lent out
   pub is_lent : (done : PenHand D) (refusal : CommitRefusal) → PlanComesTo (asked_by s) at.pen done (Err refusal)
