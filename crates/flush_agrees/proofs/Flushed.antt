@@ -53,7 +53,7 @@ use Rattle.fsync_dir.specs.Site.{IsSite}
 use Rattle.fsync_dir.proofs.Planned.{change_on}
 use Rattle.flush_agrees.specs.Made.{FlushMade, TellsNoNumber, TurnIsOf, GrantsNeed, change_of}
 use Rattle.flush_agrees.specs.Agreement.{MadeAgrees, MadeIsAgreed, ToldInSight, CoresAgree}
-use Rattle.flush_agrees.specs.Laws.{WentOn, FlushesAgree, FlushWentOn, AgreeBehind}
+use Rattle.flush_agrees.specs.Laws.{FlushesAgree, AgreeBehind}
 use Rattle.flush_agrees.proofs.Behind.{ServedBehind, flush_waiting, agrees_more}
 use Rattle.flush_agrees.proofs.BoxTurns.{turns_as, nothing_is, both_are}
 use Rattle.flush_agrees.proofs.Making.{MadeSeen, made_seen}
@@ -300,22 +300,22 @@ module _ {D : Type 0} (at : FlushAt D) (cores : ℕ) (site : IsSite at.t at.node
           (sym after_is ∙ (lands_made.hands.after_is ∙ ap (λ (c : Planned). after_commit c lands_made.one.grant) change_same))
           (subst (AscendBy entry_node) after_is lands_made.hands.ascends)
 
-  served : (comes : FsyncComes at after done given) → WentOn at after done given comes → Served
-  served (wanting none is ends) idle = served_wanting none is ends idle
-  served (refused planned from refusal tried none comes is ends) went = served_refused planned from refusal tried none comes is ends went.0 went.1
-  served (flushed s from landed tried none comes lands is) went = served_flushed s from landed tried none comes lands is went.0 went.1
+  served : FsyncComes at after done given → Served
+  served (wanting none is ends) = served_wanting none is ends none.tells
+  served (refused planned from refusal tried none comes is ends since) =
+      served_refused planned from refusal tried none comes is ends none.tells since
+  served (flushed s from landed tried none comes lands is same) = served_flushed s from landed tried none comes lands is none.tells same
 
 pub flushes_agree : (D : Type 0) → FlushesAgree D
-flushes_agree D at given fsyncs makes agree = by makes.comes makes.went
+flushes_agree D at given fsyncs makes agree = by makes.comes
   where
-    by : (comes : FlushComes at.t at.nodes at.node at.before at.after at.pen at.done given)
-        → FlushWentOn at.t at.nodes at.node at.before at.after at.pen at.done given comes → AgreeBehind at fsyncs
-    by (dead made same is) went =
+    by : FlushComes at.t at.nodes at.node at.before at.after at.pen at.done given → AgreeBehind at fsyncs
+    by (dead made same is) =
         inl (subst (λ pen. CoresAgree at.t at.after pen fsyncs) (sym same)
         (other_calls_keep D at.t at.before at.after at.pen fsyncs
         (answers_keep_served at.t (call.Fsync at.node) (reply.Error code.NoEntry) at.before at.after made (inr refl)) agree))
-    by (live serves) went = inr (
+    by (live serves) = inr (
       _,
       agrees_more at given fsyncs makes.goes serves.stamped serves.waiting serves.stamps.stamps
-          (served _ at.cores makes.site makes.few at.after at.done given makes.goes serves.served.way serves.served.comes went) agree,
+          (served _ at.cores makes.site makes.few at.after at.done given makes.goes serves.served.way serves.served.comes) agree,
     )

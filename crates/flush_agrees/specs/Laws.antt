@@ -11,10 +11,9 @@ use Rattle.mem_values.specs.Start.{FileState, FileHand}
 use Rattle.mem_values.specs.Account.{commit_told}
 use Rattle.disk_box.specs.declared.key.BoxKey.{BoxKey}
 use Rattle.disk_box.specs.Pens.{PenHand, PenGoes}
-use Rattle.journal_set.specs.Telling.{AreTurns, TellsCall, TellsNothing}
 use Rattle.journal_set.specs.Making.{IsNewPen}
 use Rattle.mem_calls.specs.Outcome.{IsAnswered, IsRefusedMemory}
-use Rattle.fsync_dir.specs.Flush.{refused, FlushAt, FsyncComes, wanting, flushed, FlushComes, dead, live}
+use Rattle.fsync_dir.specs.Flush.{FlushComes}
 use Rattle.fsync_dir.specs.Site.{IsSite, ToldAsReserved}
 use Rattle.pen_laws.specs.Agreement.{IsServedFsync}
 use Rattle.flush_agrees.specs.Agreement.{CoresAgree, FlushTold}
@@ -55,22 +54,6 @@ SameFsyncsKeepServed = (before after : FileHand) → after.view.core ≡ before.
 abbrev pub AgreeingCoresTell : Type 0 → Type 0
 AgreeingCoresTell D = (t : FileState) (hand : FileHand) (pen : PenHand D) (fsyncs : List FlushTold) → CoresAgree t hand pen fsyncs → ToldAsReserved hand pen
 
--- What `FsyncComes` does not say of how an fsync went on: before its plan was committed its pen told turns at the box in which nothing was told; where the plan
--- was refused, what its core had seen as it was planned begins what the core has seen behind it; and where it has landed, what the disk has of its nodes is what
--- the journals handed out.
-abbrev pub WentOn : {D : Type 0} (at : FlushAt D) (after : FileHand) (done : PenHand D) (given : Reply) → FsyncComes at after done given → Type 0
-WentOn at after done given (wanting none is ends) = TellsCall (AreTurns TellsNothing) at.pen done
-WentOn at after done given (refused planned from refusal tried none comes is ends) =
-    TellsCall (AreTurns TellsNothing) at.pen from × IsPrefix planned.hand.view.seen after.view.seen
-WentOn at after done given (flushed s from landed tried none comes lands is) =
-    TellsCall (AreTurns TellsNothing) at.pen from × (landed.nodes.after ≡ s.after)
-
--- so it did as an fsync of a node was made
-abbrev pub FlushWentOn : {D : Type 0} (t : FileState) (nodes : ℕ) (node : NodeId) (before after : FileHand) (pen done : PenHand D) (given : Reply)
-    → FlushComes t nodes node before after pen done given → Type 0
-FlushWentOn t nodes node before after pen done given (dead made same is) = Unit {0}
-FlushWentOn t nodes node before after pen done given (live serves) = WentOn _ after done given serves.served.comes
-
 -- An fsync of a node: the table and its numbers of nodes and cores, the node, and its core and the core's pen before it and behind it.
 pub record FlushPlace (D : Type 0) : Type 0 where
   pub t : FileState
@@ -88,7 +71,6 @@ pub record MakesFlush {D : Type 0} (at : FlushPlace D) (given : Reply) : Type 0 
   pub few : at.nodes ≤ 2 ^ 32 - 1
   pub goes : PenGoes at.pen at.done
   pub comes : FlushComes at.t at.nodes at.node at.before at.after at.pen at.done given
-  pub went : FlushWentOn at.t at.nodes at.node at.before at.after at.pen at.done given comes
 
 -- behind it core and pen agree on the same fsyncs, or on one more
 abbrev pub AgreeBehind : {D : Type 0} → FlushPlace D → List FlushTold → Type 0
