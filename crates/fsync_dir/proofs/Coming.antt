@@ -58,7 +58,13 @@ goes_still pen = record { frame = refl; view = refl; seen = begins_itself pen.vi
 
 -- a pen that has done nothing has told no turn
 pub no_turn_yet : {D : Type 0} (pen : PenHand D) → TellsNoTurn pen pen
-no_turn_yet pen = record { goes = goes_still pen; room = refl; own = refl; numbers = refl }
+no_turn_yet pen = record {
+  goes = goes_still pen;
+  room = refl;
+  own = refl;
+  numbers = refl;
+  tells = record { turns = []; are = tt; mine_is = sym (append-nil pen.view.mine) };
+}
 
 -- what a fsync does that takes no turn goes the way of none
 pub no_way : {D : Type 0} (before after : PenHand D) → own_at after ≡ own_at before → TakesWay reply.NoMemory (own_at before) (own_at after)
@@ -260,7 +266,7 @@ module _ {D : Type 0} (at : FlushAt D) (s : PlannedFsync) (todo : PlannedCommit)
         let got = got_number at s todo hand cores has site done landed comes in
         record {
           comes = flushed (landed_of s got.0 landed) at.pen landed has.tried (no_turn_yet at.pen) comes
-              (ends_landed (landed_of s got.0 landed) refl landed.ack after (durable at s todo hand cores has site agree got.0 landed got.1 low) refl lands) refl;
+              (ends_landed (landed_of s got.0 landed) refl landed.ack after (durable at s todo hand cores has site agree got.0 landed got.1 low) refl lands) refl refl;
           way = way;
         }
 
@@ -270,7 +276,7 @@ module _ {D : Type 0} (at : FlushAt D) (s : PlannedFsync) (todo : PlannedCommit)
         → (given : Reply) → reply_to refusal.fault ≡ Some given → EndsUntold at.t at.fsync given s.hand after → IsServed at after done given
     serves_answer refusal comes way after given is ends = record {
       comes = refused s at.pen refusal has.tried (no_turn_yet at.pen) comes is
-          (subst (λ (h : FileHand). EndsUntold at.t at.fsync given h after) (sym same) ends);
+          (subst (λ (h : FileHand). EndsUntold at.t at.fsync given h after) (sym same) ends) ends.ends.seen;
       way = way given (answered_by refusal.fault given is);
     }
 
@@ -284,7 +290,7 @@ module _ {D : Type 0} (at : FlushAt D) (s : PlannedFsync) (todo : PlannedCommit)
         let tells = moved_tells (asked_by s) at.pen done refusal node last is comes in
         record {
           lets = subst (λ (h : FileHand). LetsGoWaiting at.t h after) (sym same) lets;
-          no_turn = record { goes = goes; room = room; own = tells.0; numbers = tells.1 };
+          no_turn = record { goes = goes; room = room; own = tells.0; numbers = tells.1; tells = tells.2 };
         }
     serves_refused refusal comes way after (fault.DiskFailed faults) is ends = serves_answer refusal comes way after _ (ap reply_to is) ends
     serves_refused refusal comes way after (fault.NoSpace kind need free) is ends = serves_answer refusal comes way after _ (ap reply_to is) ends

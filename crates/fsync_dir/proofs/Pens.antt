@@ -23,7 +23,7 @@ use Rattle.journal_set.specs.declared.fault.CommitFault.TheVariants as fault
 use Rattle.journal_set.specs.Committing.{Commits}
 use Rattle.journal_set.specs.Numbering.{event_reserves, numbers_reserved}
 use Rattle.journal_set.specs.Reserving.{ReserveRequest}
-use Rattle.journal_set.specs.Telling.{IsOneTurn, TellsCall, TellsNothing, empty_labels, reserve_labels}
+use Rattle.journal_set.specs.Telling.{AreTurns, IsOneTurn, TellsCall, TellsNothing, empty_labels, reserve_labels}
 use Rattle.fsync_commit.specs.Asked.{CommitRequest, emptying_of, reserving_of}
 use Rattle.fsync_commit.specs.Coming.{EndsUnwritten, GrantComes, HandsOut, IsUnnumbered, PlanComesTo, ReservesItsNumber, committed, gave_back, numbered, settled, unasked, unnumbered}
 use Rattle.fsync_commit.specs.declared.landing.CommitRefusal.{CommitRefusal}
@@ -148,18 +148,30 @@ nothing_reserved before after tells =
     ∙ (ap (λ l. numbers_reserved before.view.mine ++ l) (nothing_in before.view.core tells.turns tells.are)
     ∙ append-nil (numbers_reserved before.view.mine)))
 
+-- one turn in which nothing is told is some of them
+one_idle : {D : Type 0} (before after : PenHand D) → TellsCall (IsOneTurn TellsNothing) before after → TellsCall (AreTurns TellsNothing) before after
+one_idle before after tells = record { turns = tells.turns; are = by tells.turns tells.are; mine_is = tells.mine_is }
+  where
+    by : (turns : List BoxTurn) → IsOneTurn TellsNothing turns → AreTurns TellsNothing turns
+    by [] is = tt
+    by (one ∷ []) is = (is, tt)
+    by (one ∷ other ∷ turns) is = absurd is
+
 -- A plan whose node has moved took no turn.
 module _ {D : Type 0} (asked : CommitRequest) (before after : PenHand D) (refusal : CommitRefusal) (node : NodeId) (last : ℕ)
     (moved : refusal.fault ≡ fault.Moved node last) where
   moved_unnumbered : (why : CommitFault) → why ≡ fault.Moved node last → IsUnnumbered asked before after why
       → (own_at after ≡ own_at before) × (numbers_reserved after.view.mine ≡ numbers_reserved before.view.mine)
+      × TellsCall (AreTurns TellsNothing) before after
   moved_unnumbered why same is =
-      let it = subst (IsUnnumbered asked before after) same is in (it.comes.own, nothing_reserved before after it.tells)
+      let it = subst (IsUnnumbered asked before after) same is in (it.comes.own, nothing_reserved before after it.tells, one_idle before after it.tells)
 
   moved_empty : (why : CommitFault) → why ≡ fault.Moved node last → EndsUnwritten asked before after (Err why)
       → (own_at after ≡ own_at before) × (numbers_reserved after.view.mine ≡ numbers_reserved before.view.mine)
+      × TellsCall (AreTurns TellsNothing) before after
   moved_empty why same is =
-      let it = subst (λ (w : CommitFault). EndsUnwritten asked before after (Err w)) same is in (it.comes.own, nothing_reserved before after it.tells)
+      let it = subst (λ (w : CommitFault). EndsUnwritten asked before after (Err w)) same is in
+      (it.comes.own, nothing_reserved before after it.tells, one_idle before after it.tells)
 
   moved_granted : (middle : PenHand D) (grant : GrantedNumbers) → GrantComes asked.flush middle after asked.change grant (Err refusal) → ⊥
   moved_granted middle grant (gave_back back out) = cc (sym moved ∙ out.fault_is)
@@ -169,7 +181,12 @@ module _ {D : Type 0} (asked : CommitRequest) (before after : PenHand D) (refusa
 
   pub moved_tells : PlanComesTo asked before after (Err refusal)
       → (own_at after ≡ own_at before) × (numbers_reserved after.view.mine ≡ numbers_reserved before.view.mine)
-  moved_tells (unasked same out) = (ap own_at same, ap (λ (h : PenHand D). numbers_reserved h.view.mine) same)
+      × TellsCall (AreTurns TellsNothing) before after
+  moved_tells (unasked same out) = (
+    ap own_at same,
+    ap (λ (h : PenHand D). numbers_reserved h.view.mine) same,
+    record { turns = []; are = tt; mine_is = ap (λ (h : PenHand D). h.view.mine) same ∙ sym (append-nil before.view.mine) },
+  )
   moved_tells (unnumbered why is out) = moved_unnumbered why (sym out.fault_is ∙ moved) is
   moved_tells (numbered middle grant reserves comes) = absurd (moved_granted middle grant comes)
   moved_tells (settled (Ok ack) ends out) = absurd out

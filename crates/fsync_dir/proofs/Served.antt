@@ -1,5 +1,5 @@
 -- What comes of an fsync from an earlier moment on, and how its core and pen stand behind it.
-use Rattle.std.proofs.Common.{◌≡◌, ◌<◌, ◌∙◌, ◌∷◌, ◌++◌, ℕ, zero, suc, List, [], length, filter_map, Option, None, Some, Ok, Err, inl, inr, refl, sym, ap, subst, arith}
+use Rattle.std.proofs.Common.{◌≡◌, ◌<◌, ◌∙◌, ◌∷◌, ◌++◌, ℕ, zero, suc, List, [], length, filter_map, Option, None, Some, Ok, Err, inl, inr, refl, sym, ap, subst, append_assoc, arith}
 use Rattle.std.proofs.lemmas.List.{append-nil}
 use Rattle.std.proofs.lemmas.List.Elements.{filter_map-append}
 use mathlib.Core.List.{IsPrefix}
@@ -33,6 +33,9 @@ use Rattle.fsync_stamp.specs.Adding.{AddsCall}
 use Rattle.fsync_stamp.specs.Copying.{StampsCopied}
 use Rattle.fsync_stamp.specs.Stamping.{AnswersFsync}
 use Rattle.fsync_stamp.specs.declared.copying.StampedFsync.{StampedFsync}
+use Rattle.slot_laws.specs.Telling.{BoxTurn, events_in}
+use Rattle.slot_laws.proofs.Telling.{events_both}
+use Rattle.journal_set.specs.Telling.{AreTurns, TellsNothing}
 use Rattle.fsync_stamp.proofs.Waiting.{behind_log, last_same, same_on}
 use Rattle.fsync_catch.specs.Catch.{GoesOn}
 use Rattle.fsync_catch.specs.declared.looking.WaitingFsync.{WaitingFsync}
@@ -47,6 +50,11 @@ use Rattle.fsync_dir.specs.Site.{ToldAsReserved}
 use Rattle.fsync_dir.proofs.Pens.{TellsMore, number_reserved, plan_more, still_reserved}
 use Rattle.fsync_dir.proofs.Waiting.{ends_since, ends_waiting_since}
 
+-- nothing is told in some turns and others
+both_idle : (turns more : List BoxTurn) → AreTurns TellsNothing turns → AreTurns TellsNothing more → AreTurns TellsNothing (turns ++ more)
+both_idle [] more are rest = rest
+both_idle (one ∷ turns) more are rest = (are.0, both_idle turns more are.1 rest)
+
 -- a pen that has told no turn twice has told none
 pub no_turn_again : {D : Type 0} (a b c : PenHand D) → TellsNoTurn a b → TellsNoTurn b c → TellsNoTurn a c
 no_turn_again a b c one two = record {
@@ -54,6 +62,14 @@ no_turn_again a b c one two = record {
   room = two.room ∙ one.room;
   own = two.own ∙ one.own;
   numbers = two.numbers ∙ one.numbers;
+  tells = record {
+    turns = one.tells.turns ++ two.tells.turns;
+    are = both_idle one.tells.turns two.tells.turns one.tells.are two.tells.are;
+    mine_is = subst (λ core. c.view.mine ≡ b.view.mine ++ events_in core two.tells.turns) (ap (λ (v : View _ _). v.core) one.goes.view) two.tells.mine_is
+        ∙ (ap (λ l. l ++ events_in a.view.core two.tells.turns) one.tells.mine_is
+        ∙ (append_assoc a.view.mine (events_in a.view.core one.tells.turns) (events_in a.view.core two.tells.turns)
+        ∙ ap (λ l. a.view.mine ++ l) (sym (events_both a.view.core one.tells.turns two.tells.turns))));
+  };
 }
 
 -- From before its core went on, and before its pen told no turn.
@@ -73,10 +89,10 @@ module _ {D : Type 0} (at : FlushAt D) (mid : FileHand) (pen : PenHand D) (on : 
       → FsyncComes at after done given
   comes_since after done given (wanting none is ends) =
       wanting (no_turn_again at.pen pen done tells none) is (ends_since at.t at.fsync given at.hand mid after on ends)
-  comes_since after done given (refused planned from refusal tried none comes is ends) =
+  comes_since after done given (refused planned from refusal tried none comes is ends since) =
       refused planned from refusal (tried_since planned tried) (no_turn_again at.pen pen from tells none) comes is
-      (ends_since at.t at.fsync given at.hand mid after on ends)
-  comes_since after done given (flushed s from landed tried none comes lands is) =
+      (ends_since at.t at.fsync given at.hand mid after on ends) since
+  comes_since after done given (flushed s from landed tried none comes lands is same) =
       flushed s from landed (tried_since s.planned tried) (no_turn_again at.pen pen from tells none) comes (record {
         durable = lands.durable;
         number_is = lands.number_is;
@@ -87,7 +103,7 @@ module _ {D : Type 0} (at : FlushAt D) (mid : FileHand) (pen : PenHand D) (on : 
         own = lands.own;
         mine = lands.mine;
         ends = ends_waiting_since at.t at.fsync reply.Ok (Some landed.ack.moment) at.hand mid after on lands.ends;
-      }) is
+      }) is same
 
   pub served_since : (after : FileHand) (done : PenHand D) (given : Reply) → IsServed (record at { hand = mid; pen = pen }) after done given
       → IsServed at after done given
@@ -197,10 +213,10 @@ module _ {D : Type 0} (at : FlushAt D) (after : FileHand) (done : PenHand D) (go
   -- so it is behind the fsync
   pub agrees_then : (given : Reply) → FsyncComes at after done given → ToldAsReserved after done
   agrees_then given (wanting none is ends) = no_turn_agrees at.hand after at.pen done ends.ends.same.number ends.mine none agree
-  agrees_then given (refused planned from refusal tried none comes is ends) =
+  agrees_then given (refused planned from refusal tried none comes is ends since) =
       agree_untold at.hand after from done ends.ends.same.number (number_from from none) ends.mine
       (plan_more (asked_by planned) from done (Err refusal) comes) (agree_with from none)
-  agrees_then given (flushed s from landed tried none comes lands is) =
+  agrees_then given (flushed s from landed tried none comes lands is same) =
       agrees_landed s from tried.since (agree_with from none) (plan_more (asked_by s.planned) from done (Ok landed) comes)
       (subst (IsOneOf (numbers_reserved done.view.mine)) (sym lands.number_is) (number_reserved (asked_by s.planned) from done landed comes))
       lands.ends.same.number (number_from from none) (landed_told s lands.told
@@ -252,6 +268,6 @@ answers_dead t node before after made =
 pub ends_answered : {D : Type 0} (at : FlushAt D) (after : FileHand) (done : PenHand D) (given : Reply) → FsyncComes at after done given
     → (ack : Option ℕ) × EndsWaiting at.t at.fsync given ack at.hand after
 ends_answered at after done given (wanting none is ends) = (None, ends.ends)
-ends_answered at after done given (refused planned from refusal tried none comes is ends) = (None, ends.ends)
-ends_answered at after done given (flushed s from landed tried none comes lands is) =
+ends_answered at after done given (refused planned from refusal tried none comes is ends since) = (None, ends.ends)
+ends_answered at after done given (flushed s from landed tried none comes lands is same) =
     (Some landed.ack.moment, subst (λ g. EndsWaiting at.t at.fsync g (Some landed.ack.moment) at.hand after) (sym is) lands.ends)

@@ -22,6 +22,7 @@ use Rattle.mem_calls.specs.Outcome.{IsAnswered}
 use Rattle.mem_calls.specs.Working.{IsWorking}
 use Rattle.disk_box.specs.Pens.{PenGoes, PenHand, own_at}
 use Rattle.journal_set.specs.Numbering.{numbers_reserved}
+use Rattle.journal_set.specs.Telling.{AreTurns, TellsCall, TellsNothing}
 use Rattle.journal_set.specs.Ways.{TakesWay}
 use Rattle.journal_set.specs.declared.fault.Ack.{Ack}
 use Rattle.fsync_stamp.specs.Copying.{StampsCopied, IsCopied}
@@ -73,12 +74,13 @@ pub record FlushAt (D : Type 0) : Type 0 where
   pub hand : FileHand
   pub pen : PenHand D
 
--- A pen has told nothing but that it had the box, and has reserved no number.
+-- A pen has told nothing but that it had the box, and has reserved no number: in each of its turns there nothing was told.
 pub record TellsNoTurn {D : Type 0} (before after : PenHand D) : Type 0 where
   pub goes : PenGoes before after
   pub room : after.room ≡ before.room
   pub own : own_at after ≡ own_at before
   pub numbers : numbers_reserved after.view.mine ≡ numbers_reserved before.view.mine
+  pub tells : TellsCall (AreTurns TellsNothing) before after
 
 -- what is asked of the journals by what was planned
 abbrev pub asked_by : PlannedFsync → CommitRequest
@@ -114,14 +116,16 @@ module _ {D : Type 0} (at : FlushAt D) where
         (logs_trimmed (directories_of s.planned.file s.planned.fsync.node s.planned.caught.concern.members.items) (length at.t.first.made))
     pub ends : EndsWaiting at.t at.fsync reply.Ok (Some ack.moment) at.hand after
 
-  -- What comes of it: memory was wanting before the journals were asked; they refused what was planned; or it is durable.
+  -- What comes of it: memory was wanting before the journals were asked; they refused what was planned, and what the core had seen then begins what it has seen
+  -- since; or it is durable, and the disk has of its nodes what the journals handed out.
   pub data FsyncComes (after : FileHand) (done : PenHand D) (given : Reply) : Type 0 where
     wanting : TellsNoTurn at.pen done → given ≡ reply.NoMemory → EndsUntold at.t at.fsync given at.hand after → FsyncComes after done given
     refused : (planned : PlannedFsync) (from : PenHand D) (refusal : CommitRefusal) → IsTried planned → TellsNoTurn at.pen from
         → PlanComesTo (asked_by planned) from done (Err refusal) → reply_to refusal.fault ≡ Some given → EndsUntold at.t at.fsync given at.hand after
-        → FsyncComes after done given
+        → IsPrefix planned.hand.view.seen after.view.seen → FsyncComes after done given
     flushed : (s : LandedFsync) (from : PenHand D) (landed : Landed) → IsTried s.planned → TellsNoTurn at.pen from
-        → PlanComesTo (asked_by s.planned) from done (Ok landed) → EndsLanded s landed.ack after → given ≡ reply.Ok → FsyncComes after done given
+        → PlanComesTo (asked_by s.planned) from done (Ok landed) → EndsLanded s landed.ack after → given ≡ reply.Ok → landed.nodes.after ≡ s.after
+        → FsyncComes after done given
 
   -- It is answered: this came of it, and the turns that its core took go one of the ways with the answer.
   pub record IsServed (after : FileHand) (done : PenHand D) (given : Reply) : Type 0 where

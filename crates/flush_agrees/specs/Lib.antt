@@ -1,0 +1,4 @@
+pub mod Made
+pub mod Agreement
+pub mod Laws
+pub mod Closing
