@@ -79,7 +79,7 @@ returns-in-Err-clause-comes g c = λ planned has.
     let back = c.put_back.ensures planned.hand (is_lent at planned c.args.todo c.args.core.now c.args.site.now.cores has c.requires.site c.requires.agree c.commit_plan.new.pen refusal comes) in
     subst (λ given. AttemptComes at c.answer_refused.new.core c.commit_plan.new.pen given) (sym c.answer_refused.ensures.reply)
     (serves_refused at planned c.args.todo c.args.core.now c.args.site.now.cores has c.requires.site c.requires.agree refl c.commit_plan.new.pen c.in-Err.ensures.goes c.in-Err.ensures.room refusal comes c.in-Err.ensures.way c.answer_refused.new.core
-    c.in-Err.fault c.in-Err.fault-is
+    c.in-Err.field-0.fault refl
     (subst (λ (z : _ × FileHand). MatchOption z.0 (LetsGoWaiting c.args.site.now.shared.now z.1 c.answer_refused.new.core)
     (λ given. EndsUntold c.args.site.now.shared.now c.args.own.now.fsync given z.1 c.answer_refused.new.core))
     (λ i. (c.answer_refused.ensures.reply i, back i)) c.answer_refused.ensures.ends))
