@@ -1,17 +1,15 @@
 -- What comes of an attempt at an fsync.
-use Rattle.std.proofs.Common.{◌≡◌, ◌<◌, ◌+◌, ◌*◌, ◌∙◌, ◌∷◌, ◌++◌, ℕ, List, [], length, map, Option, None, Some, Ok, Err, Result, inl, inr, refl, sym, ap, subst, arith}
+use Rattle.std.proofs.Common.{◌≡◌, ◌<◌, ◌+◌, ◌*◌, ◌∙◌, ◌∷◌, ◌++◌, ℕ, List, [], length, Some, Ok, Err, Result, refl, sym, ap, subst, arith}
 use Rattle.std.specs.Prelude.{MatchOption}
 use Rattle.std.proofs.lemmas.List.{append-nil, length-map}
 use mathlib.Core.List.{IsPrefix}
 use Rattle.sfs_base.specs.declared.numbers.NodeId.{NodeId}
 use Rattle.sfs_base.proofs.BasicOptions.{none_some, some_same}
 use Rattle.tree_laws.specs.Tree.{TreeState}
-use Rattle.tree_laws.specs.declared.history.Entry.{Entry}
 use Rattle.tree_laws.specs.declared.reply.Reply.{Reply}
 use Rattle.tree_laws.specs.declared.reply.Reply.TheVariants as reply
 use Rattle.turn_laws.specs.Ways.{no_turn}
 use Rattle.slot_laws.specs.Labels.{OwnTold, fsync_told}
-use Rattle.slot_laws.specs.declared.label.Label.{Label}
 use Rattle.slot_laws.specs.declared.label.Seen.{Seen}
 use Rattle.stamp_table.specs.Ascending.{LiesAbove}
 use Rattle.stamp_table.specs.Events.{told_by}
@@ -20,23 +18,21 @@ use Rattle.stamp_table.specs.declared.event.Event.{Event}
 use Rattle.stamp_table.specs.declared.view.View.{View}
 use Rattle.stamp_table.proofs.Keeps.{begins_itself}
 use Rattle.mem_values.specs.Account.{commit_told}
-use Rattle.mem_values.specs.Start.{FileHand, FileState, given_by}
+use Rattle.mem_values.specs.Start.{FileHand, given_by}
 use Rattle.mem_values.specs.declared.fact.Fact.{Fact}
 use Rattle.disk_box.specs.Pens.{PenGoes, PenHand, own_at}
 use Rattle.journal_set.specs.declared.fault.Ack.{Ack}
 use Rattle.journal_set.specs.declared.fault.CommitFault.{CommitFault}
 use Rattle.journal_set.specs.declared.fault.CommitFault.TheVariants as fault
 use Rattle.journal_set.specs.Ways.{IsAnsweredBy, TakesWay}
-use Rattle.fsync_catch.specs.Catch.{GoesOn}
 use Rattle.fsync_catch.specs.declared.looking.WaitingFsync.{WaitingFsync}
-use Rattle.fsync_catch.proofs.Going.{goes_again, goes_none}
 use Rattle.fsync_commit.specs.Asked.{CommitRequest, IsChangeOn}
-use Rattle.fsync_commit.specs.Coming.{AreLow, GrantComes, HandsOut, PlanComesTo, committed, gave_back, numbered, settled, unasked, unnumbered}
+use Rattle.fsync_commit.specs.Coming.{AreLow, GrantComes, PlanComesTo, committed, gave_back, numbered, settled, unasked, unnumbered}
 use Rattle.fsync_commit.specs.declared.landing.CommitRefusal.{CommitRefusal}
 use Rattle.fsync_commit.specs.declared.landing.Landed.{Landed}
 use Rattle.fsync_draft.specs.Drafting.{IsLentOut}
 use Rattle.fsync_draft.specs.declared.lending.DraftedFsync.{DraftedFsync}
-use Rattle.fsync_end.specs.Finishing.{Finishes, IsToldBehind, logs_trimmed}
+use Rattle.fsync_end.specs.Finishing.{IsToldBehind, logs_trimmed}
 use Rattle.fsync_end.specs.Trimming.{trim_events}
 use Rattle.draft_laws.specs.Made.{PlannedFsync}
 use Rattle.landing_laws.specs.Landed.{LandedFsync, commitment_of, directories_of}
@@ -44,13 +40,12 @@ use Rattle.space_map.specs.Space.{GrantedNumbers}
 use Rattle.fsync_dir.specs.Answering.{EndsUntold, EndsWaiting, LetsGoWaiting, reply_to}
 use Rattle.fsync_dir.specs.Attempt.{HasDrafted}
 use Rattle.fsync_dir.specs.Ending.{HasLandedHere, LandsSo}
-use Rattle.fsync_dir.specs.Flush.{AttemptComes, BeginsAnew, EndsLanded, FlushAt, FsyncComes, IsServed, IsTried, TellsNoTurn, asked_by, flushed, refused, wanting}
+use Rattle.fsync_dir.specs.Flush.{AttemptComes, EndsLanded, FlushAt, IsServed, IsTried, TellsNoTurn, asked_by, flushed, refused, wanting}
 use Rattle.fsync_dir.specs.Site.{IsSite, ToldAsReserved}
 use Rattle.fsync_dir.specs.declared.attempt.PlannedCommit.{PlannedCommit}
 use Rattle.fsync_dir.specs.declared.ending.PlanLeft.{PlanLeft}
 use Rattle.fsync_dir.proofs.Landing.{durable, got_number, landed_of, may_commit}
 use Rattle.fsync_dir.proofs.Pens.{moved_tells}
-use Rattle.fsync_dir.proofs.Waiting.{ends_since, ends_waiting_since, waiting_on}
 
 -- a pen goes on as itself
 pub goes_still : {D : Type 0} (pen : PenHand D) → PenGoes pen pen

@@ -1,5 +1,5 @@
 -- An fsync whose commit has become durable may end.
-use Rattle.std.proofs.Common.{◌≡◌, ◌∙◌, ◌≤◌, ℕ, Bool, List, map, length, Option, Some, refl, sym, ap, subst}
+use Rattle.std.proofs.Common.{◌≡◌, ◌∙◌, ◌≤◌, ℕ, List, map, length, Option, Some, refl, sym, ap, subst}
 use Rattle.std.proofs.lemmas.List.{length-map}
 use Rattle.std.specs.List.Sorted.{IsStrictlyIncreasing}
 use Rattle.sfs_base.specs.declared.numbers.NodeId.{NodeId}
@@ -10,12 +10,11 @@ use Rattle.tree_laws.specs.History.{tree_after}
 use Rattle.disk_nodes.specs.OldKept.{OldKept}
 use Rattle.disk_nodes.specs.declared.old.OldEntry.{OldEntry}
 use Rattle.stamp_table.specs.Events.{calls_in, told_by}
-use Rattle.stamp_table.specs.Hand.{places_of}
 use Rattle.stamp_table.specs.Table.{IsBetweenCalls, values_in, with_values}
 use Rattle.stamp_table.specs.declared.event.Event.{Event}
 use Rattle.stamp_table.specs.declared.held.HeldCell.{HeldCell}
 use Rattle.stamp_table.specs.declared.view.View.{View}
-use Rattle.mem_values.specs.Account.{Commitment, commit_told}
+use Rattle.mem_values.specs.Account.{commit_told}
 use Rattle.mem_values.specs.Start.{FileHand, FileState, given_by}
 use Rattle.mem_values.specs.Telling.{MayTellCommit}
 use Rattle.mem_values.specs.declared.cell.Cell.{Cell}
@@ -27,14 +26,13 @@ use Rattle.fsync_catch.specs.declared.looking.WaitingFsync.{WaitingFsync}
 use Rattle.fsync_commit.specs.declared.landing.Landed.{Landed}
 use Rattle.fsync_draft.proofs.Drafts.{back_again, hollow_long, value_of}
 use Rattle.fsync_values.specs.Renewing.{boxes_asked, values_renewed}
-use Rattle.fsync_values.specs.declared.renewing.Renewal.{Renewal}
 use Rattle.fsync_end.specs.Finishing.{AreWritten, Finishes, MayEnd, TellsEnding}
 use Rattle.fsync_end.specs.declared.finishing.Ending.{Ending}
 use Rattle.draft_laws.specs.Telling.{HasLanded, tree_seen}
-use Rattle.draft_laws.specs.Written.{HoldsWhatItWrote, nodes_wrote}
+use Rattle.draft_laws.specs.Written.{nodes_wrote}
 use Rattle.draft_laws.proofs.Told.{landed_may_be_told}
 use Rattle.draft_laws.proofs.Written.{renewed_are_written}
-use Rattle.landing_laws.specs.Landed.{LandedFsync, commitment_of, directories_of, done_of, nodes_landed}
+use Rattle.landing_laws.specs.Landed.{LandedFsync, commitment_of, done_of, nodes_landed}
 use Rattle.landing_laws.proofs.Landed.{fsyncs_have_landed}
 use Rattle.fsync_dir.specs.Ending.{HasLandedHere, LandsSo, nodes_told}
 use Rattle.fsync_dir.specs.declared.ending.PlanLeft.{PlanLeft}

@@ -1,31 +1,24 @@
 -- A plan whose commit has become durable has landed.
 use Rattle.std.proofs.Common.{◌≡◌, ◌≢◌, ◌<◌, ◌≤◌, ◌∙◌, ℕ, List, length, map, filter_map, Option, Some, Ok, Err, Contains, count_by, refl, sym, ap, subst, arith}
 use Rattle.std.specs.FinMap.{get}
-use Rattle.sfs_base.specs.declared.numbers.NodeId.{NodeId}
-use Rattle.sfs_image.specs.Super.{Layout}
 use Rattle.space_map.specs.Space.{GrantedNumbers}
-use Rattle.disk_nodes.specs.declared.old.OldEntry.{OldEntry}
 use Rattle.disk_change.specs.Planned.{enters}
 use Rattle.cut_laws.specs.Rules.{IsOneOf}
-use Rattle.slot_laws.specs.Labels.{OwnTold}
 use Rattle.slot_laws.specs.Nodes.{last_seen, no_numbers}
 use Rattle.slot_laws.specs.declared.label.Seen.{Seen}
-use Rattle.mem_values.specs.Account.{Commitment, commit_told}
+use Rattle.mem_values.specs.Account.{commit_told}
 use Rattle.mem_values.specs.Facts.{IsBelowInodes}
-use Rattle.mem_values.specs.Start.{FileHand, given_by}
+use Rattle.mem_values.specs.Start.{FileHand}
 use Rattle.mem_calls.specs.Working.{IsWorking}
-use Rattle.disk_box.specs.Pens.{PenHand, own_at}
-use Rattle.disk_box.specs.declared.key.BoxKey.{BoxKey}
+use Rattle.disk_box.specs.Pens.{PenHand}
 use Rattle.journal_set.specs.declared.fault.Ack.{Ack}
-use Rattle.journal_set.specs.Numbering.{IsNewerThan, numbers_reserved}
+use Rattle.journal_set.specs.Numbering.{IsNewerThan}
 use Rattle.fsync_commit.specs.Asked.{IsChangeOn}
 use Rattle.fsync_commit.specs.Coming.{AreLow, GrantComes, HandsLanded, PlanComesTo, committed, gave_back, numbered, settled, unasked, unnumbered}
 use Rattle.fsync_commit.specs.declared.landing.Landed.{Landed}
 use Rattle.fsync_commit.proofs.Built.{grant_on, none_on}
-use Rattle.fsync_draft.specs.Drafting.{seens_of}
 use Rattle.draft_laws.specs.Made.{PlannedFsync}
 use Rattle.landing_laws.specs.Landed.{HasBecomeDurable, LandedFsync}
-use Rattle.stamp_table.specs.Table.{values_in}
 use Rattle.fsync_dir.specs.Attempt.{HasDrafted}
 use Rattle.fsync_dir.specs.Flush.{FlushAt, asked_by}
 use Rattle.fsync_dir.specs.Site.{IsSite, ToldAsReserved}

@@ -1,22 +1,20 @@
 -- What a pen told as a plan was committed.
-use Rattle.std.proofs.Common.{◌≡◌, ◌∙◌, ◌∷◌, ◌++◌, ℕ, List, [], Option, Some, Ok, Err, Result, inl, refl, sym, ap, subst, append_assoc}
+use Rattle.std.proofs.Common.{◌≡◌, ◌∙◌, ◌∷◌, ◌++◌, ℕ, List, [], Ok, Err, Result, inl, refl, sym, ap, subst, append_assoc}
 use Rattle.std.proofs.lemmas.List.Elements.{filter_map-append}
 use Rattle.std.proofs.lemmas.List.{append-nil}
 use Rattle.sfs_base.proofs.BasicOptions.{some_same}
 use Rattle.sfs_base.specs.declared.numbers.NodeId.{NodeId}
 use Rattle.space_map.specs.Space.{GrantedNumbers}
-use Rattle.tree_laws.specs.Tree.{TreeState}
 use Rattle.cut_laws.specs.Closure.{Flush}
 use Rattle.cut_laws.specs.Rules.{IsOneOf}
 use Rattle.cut_laws.proofs.Basics.{in_left, in_right}
 use Rattle.stamp_table.specs.declared.event.Event.{Event}
-use Rattle.stamp_table.specs.declared.view.View.{View as Sight}
 use Rattle.slot_laws.specs.declared.label.Label.{Label}
 use Rattle.slot_laws.specs.Labels.{OwnTold, nothing_told, own_from}
 use Rattle.slot_laws.specs.Telling.{BoxTurn, events_in, turn_empties, turn_reserves, turn_works}
 use Rattle.slot_laws.proofs.Telling.{own_both}
 use Rattle.disk_change.specs.Planned.{Planned}
-use Rattle.disk_box.specs.Pens.{PenGoes, PenHand, own_at}
+use Rattle.disk_box.specs.Pens.{PenHand, own_at}
 use Rattle.journal_set.specs.declared.fault.Ack.{Ack}
 use Rattle.journal_set.specs.declared.fault.CommitFault.{CommitFault}
 use Rattle.journal_set.specs.declared.fault.CommitFault.TheVariants as fault
@@ -25,10 +23,9 @@ use Rattle.journal_set.specs.Numbering.{event_reserves, numbers_reserved}
 use Rattle.journal_set.specs.Reserving.{ReserveRequest}
 use Rattle.journal_set.specs.Telling.{AreTurns, IsOneTurn, TellsCall, TellsNothing, empty_labels, reserve_labels}
 use Rattle.fsync_commit.specs.Asked.{CommitRequest, emptying_of, reserving_of}
-use Rattle.fsync_commit.specs.Coming.{EndsUnwritten, GrantComes, HandsOut, IsUnnumbered, PlanComesTo, ReservesItsNumber, committed, gave_back, numbered, settled, unasked, unnumbered}
+use Rattle.fsync_commit.specs.Coming.{EndsUnwritten, GrantComes, IsUnnumbered, PlanComesTo, ReservesItsNumber, committed, gave_back, numbered, settled, unasked, unnumbered}
 use Rattle.fsync_commit.specs.declared.landing.CommitRefusal.{CommitRefusal}
 use Rattle.fsync_commit.specs.declared.landing.Landed.{Landed}
-use Rattle.fsync_dir.specs.Flush.{TellsNoTurn}
 
 -- what was reserved in a history and what was behind it
 pub numbers_more : (log more : List (Event Label)) → numbers_reserved (log ++ more) ≡ numbers_reserved log ++ numbers_reserved more

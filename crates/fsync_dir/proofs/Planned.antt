@@ -1,9 +1,8 @@
 -- What an fsync planned lies on the disk of its table.
-use Rattle.std.proofs.Common.{◌≡◌, ◌<◌, ◌≤◌, ◌-◌, ◌^◌, ◌∙◌, ℕ, zero, suc, true, List, map, length, get_or, Option, Some, None, inl, refl, sym, ap, subst, arith, Contains}
+use Rattle.std.proofs.Common.{◌≡◌, ◌<◌, ◌≤◌, ◌-◌, ◌^◌, ◌∙◌, ℕ, zero, suc, true, List, map, length, get_or, Option, Some, None, refl, sym, ap, subst, arith, Contains}
 use Rattle.sfs_base.specs.declared.numbers.Kind.TheVariants as kind
-use Rattle.sfs_base.specs.declared.numbers.NodeId.{NodeId}
 use Rattle.sfs_base.specs.Listed.{is_listed}
-use Rattle.sfs_base.proofs.BasicOptions.{none_some, some_same}
+use Rattle.sfs_base.proofs.BasicOptions.{none_some}
 use Rattle.sfs_image.specs.Super.{Layout}
 use Rattle.sfs_image.proofs.EntriesLaws.{few_below}
 use Rattle.keyed_list.specs.Ascending.{AscendBy}
@@ -12,14 +11,12 @@ use Rattle.disk_nodes.specs.OldKept.{OldKept}
 use Rattle.disk_nodes.specs.declared.old.OldEntry.{OldEntry}
 use Rattle.disk_change.specs.Nodes.{enter_node}
 use Rattle.disk_change.specs.declared.enter.Enter.{Enter}
-use Rattle.cut_laws.specs.Rules.{IsOneOf}
 use Rattle.cut_laws.proofs.Listed.{from_map, listed_one, one_at, to_map}
 use Rattle.dep_closure.proofs.Looked.{one_of_all}
 use Rattle.flush_plan.specs.Plan.{files_written, is_written}
 use Rattle.stamp_table.specs.Table.{values_in}
-use Rattle.mem_values.specs.Account.{account_of}
 use Rattle.mem_values.specs.Facts.{IsBelowInodes}
-use Rattle.mem_values.specs.Stands.{Flushed, StandsPending}
+use Rattle.mem_values.specs.Stands.{Flushed}
 use Rattle.mem_values.specs.declared.cell.Pending.{Pending}
 use Rattle.mem_values.proofs.Writers.{inodes_stay_below}
 use Rattle.note_laws.proofs.Along.{lawful_begin}

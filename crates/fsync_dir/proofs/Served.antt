@@ -1,8 +1,7 @@
 -- What comes of an fsync from an earlier moment on, and how its core and pen stand behind it.
-use Rattle.std.proofs.Common.{◌≡◌, ◌<◌, ◌∙◌, ◌∷◌, ◌++◌, ℕ, zero, suc, List, [], length, filter_map, Option, None, Some, Ok, Err, inl, inr, refl, sym, ap, subst, append_assoc, arith}
+use Rattle.std.proofs.Common.{◌≡◌, ◌∙◌, ◌∷◌, ◌++◌, ℕ, zero, suc, List, [], length, filter_map, Option, None, Some, Ok, Err, inl, inr, refl, sym, ap, subst, append_assoc, arith}
 use Rattle.std.proofs.lemmas.List.{append-nil}
 use Rattle.std.proofs.lemmas.List.Elements.{filter_map-append}
-use mathlib.Core.List.{IsPrefix}
 use Rattle.std.specs.List.{cons_option}
 use Rattle.sfs_base.specs.declared.numbers.NodeId.{NodeId}
 use Rattle.tree_laws.specs.Tree.{TreeState}
@@ -14,14 +13,14 @@ use Rattle.tree_laws.specs.declared.reply.Reply.TheVariants as reply
 use Rattle.cut_laws.specs.Rules.{IsOneOf}
 use Rattle.cut_laws.proofs.Basics.{in_either}
 use Rattle.slot_laws.specs.Labels.{OwnTold}
-use Rattle.stamp_table.specs.Events.{calls_in, told_by}
-use Rattle.stamp_table.specs.Table.{IsBetweenCalls, with_answer}
+use Rattle.stamp_table.specs.Events.{told_by}
+use Rattle.stamp_table.specs.Table.{with_answer}
 use Rattle.stamp_table.specs.declared.event.Event.{Event}
 use Rattle.stamp_table.specs.declared.event.Event.TheVariants.{Called}
 use Rattle.stamp_table.specs.declared.view.View.{View}
 use Rattle.stamp_table.proofs.Keeps.{begins_on}
 use Rattle.mem_values.specs.Account.{Commitment, commit_told}
-use Rattle.mem_values.specs.Start.{FileHand, FileState, given_by}
+use Rattle.mem_values.specs.Start.{FileHand, FileState}
 use Rattle.mem_values.specs.declared.fact.Fact.{Fact}
 use Rattle.mem_values.proofs.Told.{calls_grow}
 use Rattle.mem_calls.specs.Outcome.{IsAnswered}
@@ -29,7 +28,6 @@ use Rattle.disk_box.specs.Pens.{PenGoes, PenHand, own_at}
 use Rattle.journal_set.specs.Numbering.{numbers_reserved}
 use Rattle.journal_set.specs.Ways.{TakesWay}
 use Rattle.journal_set.proofs.Turned.{goes_twice}
-use Rattle.fsync_stamp.specs.Adding.{AddsCall}
 use Rattle.fsync_stamp.specs.Copying.{StampsCopied}
 use Rattle.fsync_stamp.specs.Stamping.{AnswersFsync}
 use Rattle.fsync_stamp.specs.declared.copying.StampedFsync.{StampedFsync}
@@ -44,8 +42,8 @@ use Rattle.fsync_end.specs.Finishing.{logs_trimmed}
 use Rattle.fsync_end.specs.Trimming.{trim_events}
 use Rattle.draft_laws.specs.Made.{PlannedFsync}
 use Rattle.landing_laws.specs.Landed.{LandedFsync, commitment_of, directories_of}
-use Rattle.fsync_dir.specs.Answering.{EndsUntold, EndsWaiting, LetsGoWaiting}
-use Rattle.fsync_dir.specs.Flush.{AttemptComes, BeginsAnew, EndsLanded, FlushAt, FsyncComes, IsServed, IsTried, TellsNoTurn, asked_by, flushed, refused, wanting}
+use Rattle.fsync_dir.specs.Answering.{EndsWaiting}
+use Rattle.fsync_dir.specs.Flush.{AttemptComes, BeginsAnew, FlushAt, FsyncComes, IsServed, IsTried, TellsNoTurn, asked_by, flushed, refused, wanting}
 use Rattle.fsync_dir.specs.Site.{ToldAsReserved}
 use Rattle.fsync_dir.proofs.Pens.{TellsMore, number_reserved, plan_more, still_reserved}
 use Rattle.fsync_dir.proofs.Waiting.{ends_since, ends_waiting_since}

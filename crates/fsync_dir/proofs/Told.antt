@@ -1,8 +1,8 @@
 -- The fact that tells a commit, by how its fsync ends.
-use Rattle.std.proofs.Common.{◌≡◌, ◌∙◌, ◌≤◌, ◌+◌, ℕ, suc, Bool, true, false, List, [], ◌∷◌, map, length, Option, Some, None, IsSome, is_some, refl, sym, ap, subst, arith}
+use Rattle.std.proofs.Common.{◌≡◌, ◌+◌, ℕ, suc, Bool, List, [], ◌∷◌, map, length, Some, None, IsSome, is_some, refl, sym, ap, subst}
 use Rattle.std.specs.Prelude.{All, ◌&&◌, not, if◌then◌else◌}
 use Rattle.std.specs.List.Sorted.{IsStrictlyIncreasing}
-use Rattle.std.proofs.lemmas.List.Elements.{All-head, All-tail}
+use Rattle.std.proofs.lemmas.List.Elements.{All-head}
 use Rattle.std_alloc.specs.formers.vec.Vec.{fits, holding}
 use Rattle.sfs_base.specs.declared.numbers.NodeId.{NodeId}
 use Rattle.sfs_base.specs.Listed.{is_listed}
@@ -16,13 +16,12 @@ use Rattle.mem_values.specs.declared.cell.Cell.{Cell}
 use Rattle.mem_values.specs.declared.cell.Cell.TheVariants as cell
 use Rattle.mem_values.specs.declared.fact.Fact.{Fact}
 use Rattle.mem_values.specs.declared.fact.Fact.TheVariants.{Committed}
-use Rattle.mem_values.specs.declared.fact.HeldNode.{HeldNode}
 use Rattle.mem_calls.specs.Held.{as_pending}
 use Rattle.fsync_look.specs.Look.{flushed_place}
 use Rattle.fsync_gather.specs.Gathers.{IsHeldOf}
 use Rattle.fsync_gather.proofs.Rising.{tail_rises}
-use Rattle.fsync_values.specs.Lending.{HOLLOW, lent_value, old_of_value, with_old}
-use Rattle.fsync_values.specs.Renewing.{asks_box, boxes_asked, kept_of_node, renewed_by, values_renewed}
+use Rattle.fsync_values.specs.Lending.{HOLLOW, lent_value, old_of_value}
+use Rattle.fsync_values.specs.Renewing.{boxes_asked, kept_of_node, renewed_by, values_renewed}
 use Rattle.fsync_values.specs.declared.renewing.Renewal.{Renewal}
 use Rattle.fsync_end.specs.declared.finishing.Ending.{Ending}
 use Rattle.draft_laws.specs.Written.{CommitDone, node_wrote, nodes_wrote}

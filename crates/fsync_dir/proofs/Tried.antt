@@ -1,8 +1,7 @@
 -- An fsync that was caught and planned.
-use Rattle.std.proofs.Common.{◌≡◌, ◌<◌, ◌≤◌, ◌∙◌, ◌++◌, ℕ, true, List, [], length, map, Option, Some, None, IsSome, is_some, inl, inr, refl, sym, ap, subst, arith}
+use Rattle.std.proofs.Common.{◌≡◌, ◌<◌, ◌∙◌, ℕ, true, length, Option, Some, None, IsSome, is_some, inl, inr, refl, sym, ap, subst, arith}
 use Rattle.std.specs.FinMap.{get}
 use Rattle.std.proofs.lemmas.List.{length-map}
-use Rattle.sfs_base.specs.declared.numbers.NodeId.{NodeId}
 use Rattle.mem_files.specs.File.{File}
 use Rattle.tree_laws.specs.Laws.{IsSoundTree}
 use Rattle.tree_laws.specs.Tree.{TreeState, is_alive, is_directory}
@@ -10,9 +9,7 @@ use Rattle.tree_laws.specs.History.{tree_after, IsLegal}
 use Rattle.tree_laws.proofs.KeepsNodes.{directory_node}
 use Rattle.tree_laws.proofs.RowFacts.{alive_named}
 use Rattle.stamp_table.specs.Events.{calls_in}
-use Rattle.stamp_table.specs.declared.event.Event.{Event}
 use Rattle.mem_values.specs.Start.{FileHand, FileState, given_by}
-use Rattle.mem_values.specs.declared.fact.Fact.{Fact}
 use Rattle.mem_values.proofs.Moves.{sound_after}
 use Rattle.mem_values.proofs.Telling.{later_node}
 use Rattle.mem_calls.specs.Table.{IsFileTable}

@@ -1,43 +1,36 @@
 -- A core whose fsync waits, until its answer.
-use Rattle.std.proofs.Common.{◌≡◌, ◌<◌, ◌∙◌, ◌∷◌, ◌++◌, ℕ, true, List, [], length, map, reverse, Option, Some, None, IsSome, inl, inr, refl, sym, ap, subst, append_assoc}
-use Rattle.std.specs.FinMap.{get}
+use Rattle.std.proofs.Common.{◌≡◌, ◌<◌, ◌∙◌, ◌∷◌, ◌++◌, ℕ, true, List, [], length, reverse, Option, Some, None, inl, refl, sym, ap, subst}
 use Rattle.std.proofs.lemmas.List.Elements.{filter_map-append}
 use mathlib.Core.List.{IsPrefix}
 use Rattle.sfs_base.specs.declared.numbers.NodeId.{NodeId}
 use Rattle.mem_files.specs.File.{File}
-use Rattle.tree_laws.specs.Laws.{IsSoundTree}
 use Rattle.tree_laws.specs.Tree.{TreeState, is_alive}
 use Rattle.tree_laws.specs.History.{tree_after}
 use Rattle.tree_laws.specs.declared.history.Entry.{Entry}
-use Rattle.tree_laws.specs.declared.call.Call.TheVariants as call
 use Rattle.tree_laws.specs.declared.reply.Reply.{Reply}
-use Rattle.tree_laws.specs.declared.reply.Reply.TheVariants as reply
-use Rattle.tree_laws.proofs.KeepsNodes.{directory_node}
-use Rattle.tree_laws.proofs.RowFacts.{alive_named}
 use Rattle.cut_laws.specs.Rules.{IsOneOf}
 use Rattle.cut_laws.proofs.Basics.{in_right}
 use Rattle.stamp_table.specs.Events.{called, calls_in}
 use Rattle.stamp_table.specs.Hand.{places_of}
-use Rattle.stamp_table.specs.Table.{GivesAnswer, IsBetweenCalls, IsSameCore, entry_numbered}
+use Rattle.stamp_table.specs.Table.{GivesAnswer, IsSameCore}
 use Rattle.stamp_table.specs.declared.event.Event.{Event}
 use Rattle.stamp_table.specs.declared.event.Event.TheVariants.{Called}
 use Rattle.stamp_table.specs.declared.held.HeldCell.{HeldCell}
 use Rattle.stamp_table.specs.declared.view.View.{View}
-use Rattle.stamp_table.proofs.Keeps.{begins_itself, begins_on}
+use Rattle.stamp_table.proofs.Keeps.{begins_on}
 use Rattle.mem_values.specs.Facts.{HasFsync}
 use Rattle.mem_values.specs.Start.{FileHand, FileState, given_by}
 use Rattle.mem_values.specs.declared.cell.Cell.{Cell}
 use Rattle.mem_values.specs.declared.fact.Fact.{Fact}
-use Rattle.mem_values.specs.Places.{node_count}
 use Rattle.mem_calls.specs.Table.{IsFileTable}
 use Rattle.mem_calls.specs.Working.{IsWorking, WorksOn}
 use Rattle.fsync_stamp.specs.Copying.{StampsCopied}
 use Rattle.fsync_stamp.specs.declared.copying.StampedFsync.{StampedFsync}
-use Rattle.fsync_catch.specs.Catch.{GoesOn, HasItsFsync}
+use Rattle.fsync_catch.specs.Catch.{GoesOn}
 use Rattle.fsync_catch.specs.declared.looking.WaitingFsync.{WaitingFsync}
-use Rattle.fsync_catch.proofs.Going.{goes_again, goes_none, waits_on, works_goes}
+use Rattle.fsync_catch.proofs.Going.{waits_on, works_goes}
 use Rattle.fsync_dir.specs.Answering.{EndsUntold, EndsWaiting, LetsGoWaiting}
-use Rattle.fsync_dir.specs.Flush.{WaitsToFlush, WasCopied, copy_of}
+use Rattle.fsync_dir.specs.Flush.{WaitsToFlush, WasCopied}
 use Rattle.fsync_dir.specs.Stamped.{OwnsCopy}
 use Rattle.fsync_dir.specs.declared.attempt.OwnFsync.{OwnFsync}
 

@@ -1,8 +1,7 @@
 -- The end of an fsync whose commit has become durable.
-use Rattle.std.specs.Prelude.{◌≡◌, ℕ, ◌∷◌, ◌++◌, ◌≤◌, List, [], length, map, Option, Some}
+use Rattle.std.specs.Prelude.{◌≡◌, ◌∷◌, ◌≤◌, List, [], length, map, Some}
 use Rattle.disk_nodes.specs.declared.old.OldEntry.{OldEntry}
 use Rattle.sfs_base.specs.declared.numbers.NodeId.{NodeId}
-use Rattle.tree_laws.specs.declared.reply.Reply.TheVariants as reply
 use Rattle.stamp_table.specs.Events.{told_by}
 use Rattle.stamp_table.specs.Table.{IsBetweenCalls, values_in}
 use Rattle.mem_values.specs.Account.{commit_told}

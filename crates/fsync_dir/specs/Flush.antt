@@ -1,5 +1,5 @@
 -- What comes of an fsync of a node of the shared table.
-use Rattle.std.specs.Prelude.{◌≡◌, ◌<◌, ◌+◌, ◌*◌, ◌++◌, ◌∷◌, ℕ, true, List, [], length, Option, None, Some, MatchOption, Ok, Err}
+use Rattle.std.specs.Prelude.{◌≡◌, ◌<◌, ◌++◌, ◌∷◌, ℕ, true, List, [], length, Option, None, Some, MatchOption, Ok, Err}
 use mathlib.Core.List.{IsPrefix}
 use Rattle.mem_files.specs.File.{File}
 use Rattle.tree_laws.specs.Tree.{TreeState, is_alive}
@@ -10,7 +10,6 @@ use Rattle.tree_laws.specs.declared.reply.Reply.{Reply}
 use Rattle.tree_laws.specs.declared.reply.Reply.TheVariants as reply
 use Rattle.sfs_base.specs.declared.numbers.NodeId.{NodeId}
 use Rattle.slot_laws.specs.Labels.{fsync_told}
-use Rattle.stamp_table.specs.Ascending.{LiesAbove}
 use Rattle.stamp_table.specs.Events.{calls_in, event_core, told_by, IsLawful}
 use Rattle.stamp_table.specs.Rule.{entries_by}
 use Rattle.stamp_table.specs.declared.event.Event.{Event}

@@ -1,8 +1,7 @@
 -- Where fsyncs are served, and what is asked of a core and its pen there.
-use Rattle.std.specs.Prelude.{◌≡◌, ℕ, List, filter_map, length, is_some}
+use Rattle.std.specs.Prelude.{◌≡◌, ℕ, filter_map, length, is_some}
 use Rattle.std.specs.FinMap.{get}
 use Rattle.cut_laws.specs.Rules.{IsOneOf}
-use Rattle.stamp_table.specs.Table.{TableState}
 use Rattle.mem_values.specs.Account.{Commitment, commit_told}
 use Rattle.mem_values.specs.Facts.{IsBelowInodes}
 use Rattle.mem_values.specs.Start.{FileHand, FileState, given_by}

@@ -1,6 +1,6 @@
-use Rattle.std.proofs.Common.{◌*◌, ◌+◌, ◌∙◌, ℕ, ap, refl, subst, sym}
+use Rattle.std.proofs.Common.{◌*◌, ◌+◌, ◌∙◌, ℕ, ap, subst, sym}
 use Rattle.stamp_table.specs.Ascending.{LiesAbove}
-use Rattle.mem_values.specs.Start.{FileHand, given_by}
+use Rattle.mem_values.specs.Start.{given_by}
 use Rattle.mem_calls.specs.Table.{IsFileTable}
 use Rattle.fsync_catch.specs.Catch.{IsCaught}
 use Rattle.fsync_dir.specs.Attempt.{attempt_at}

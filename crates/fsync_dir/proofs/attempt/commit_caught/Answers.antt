@@ -1,7 +1,6 @@
-use Rattle.std.proofs.Common.{◌∙◌, ap, refl, subst, sym}
+use Rattle.std.proofs.Common.{◌∙◌, ap, subst, sym}
 use Rattle.mem_values.specs.Start.{FileHand, given_by}
 use Rattle.mem_calls.specs.Working.{IsWorking}
-use Rattle.tree_laws.specs.declared.reply.Reply.{Reply}
 use Rattle.fsync_dir.specs.Answering.{EndsUntold}
 use Rattle.fsync_dir.proofs.Coming.{no_turn_yet, untold_serves}
 use Rattle.fsync_dir.proofs.Served.{no_turn_agrees}

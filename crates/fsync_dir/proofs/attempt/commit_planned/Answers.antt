@@ -1,11 +1,11 @@
-use Rattle.std.proofs.Common.{◌∙◌, Err, Ok, refl, subst, sym}
+use Rattle.std.proofs.Common.{Err, Ok, refl, subst, sym}
 use Rattle.std.specs.Prelude.{MatchOption}
 use Rattle.mem_values.specs.Start.{FileHand}
 use Rattle.fsync_commit.specs.declared.landing.CommitRefusal.{CommitRefusal}
-use Rattle.fsync_dir.specs.Answering.{EndsUntold, LetsGoWaiting, reply_to}
+use Rattle.fsync_dir.specs.Answering.{EndsUntold, LetsGoWaiting}
 use Rattle.fsync_dir.specs.Attempt.{attempt_at}
 use Rattle.fsync_dir.specs.Flush.{AttemptComes}
-use Rattle.fsync_dir.proofs.Coming.{below_here, change_lies, is_lent, landed_here, plan_asked, room_here, serves_ok, serves_refused, waits_back, works_back}
+use Rattle.fsync_dir.proofs.Coming.{change_lies, is_lent, landed_here, plan_asked, serves_ok, serves_refused, waits_back, works_back}
 use Rattle.fsync_dir.proofs.Landing.{got_number, landed_of}
 use Rattle.tree_laws.specs.declared.reply.Reply.TheVariants as reply
 use Rattle.fsync_dir.proofs.attempt.commit_planned.Goals as goal

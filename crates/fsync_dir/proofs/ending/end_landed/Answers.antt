@@ -71,31 +71,31 @@ finish-requires-clause-may g c =
 pub returns : goal.returns
 returns g c = record {
   lands = λ s has.
-    let e : EndPlace = record {
-      t = c.args.site.now.shared.now;
-      nodes = c.args.site.now.nodes;
-      fsync = c.args.fsync;
-      left = c.args.left;
-      landed = c.args.landed;
-      s = s;
-      hand = c.args.core.now;
-    }
-    in
-    let there : LandsThere e = record { table = c.requires.table; is = has } in
-    let ending : Ending = record {
-      number = c.args.landed.ack.commit;
-      node = c.args.fsync.node;
-      stamp = c.args.fsync.stamp;
-      members = c.args.left.directories;
-      nodes = c.args.left.nodes;
-      values = c.renew.new.values;
-      ack = c.args.landed.ack.moment;
-    }
-    in
-    let values = c.renew.ensures
-    ∙ (λ i. values_renewed (record { number = c.args.landed.ack.commit; stamp = c.args.fsync.stamp }) (c.as_slice.ensures i) (c.into_after.ensures i)
-    (c.as_slice-2.ensures i) c.args.left.values.items)
-    in
+      let e : EndPlace = record {
+        t = c.args.site.now.shared.now;
+        nodes = c.args.site.now.nodes;
+        fsync = c.args.fsync;
+        left = c.args.left;
+        landed = c.args.landed;
+        s = s;
+        hand = c.args.core.now;
+      }
+      in
+      let there : LandsThere e = record { table = c.requires.table; is = has } in
+      let ending : Ending = record {
+        number = c.args.landed.ack.commit;
+        node = c.args.fsync.node;
+        stamp = c.args.fsync.stamp;
+        members = c.args.left.directories;
+        nodes = c.args.left.nodes;
+        values = c.renew.new.values;
+        ack = c.args.landed.ack.moment;
+      }
+      in
+      let values = c.renew.ensures
+      ∙ (λ i. values_renewed (record { number = c.args.landed.ack.commit; stamp = c.args.fsync.stamp }) (c.as_slice.ensures i) (c.into_after.ensures i)
+      (c.as_slice-2.ensures i) c.args.left.values.items)
+      in
       lands_so e there ending refl refl refl refl refl values c.finish.new.core refl c.finish.ensures.between
       (subst (λ (cores : ℕ). Finishes (given_by c.args.site.now.shared.now) cores (fact_of ending) ending c.args.core.now c.finish.new.core) c.requires.cores
       (c.finish.ensures.finishes (fact_of ending) refl));

@@ -1,12 +1,11 @@
-use Rattle.std.proofs.Common.{None, ap, refl, subst, sym}
+use Rattle.std.proofs.Common.{None, subst, sym}
 use Rattle.tree_laws.specs.declared.reply.Reply.{Reply}
 use Rattle.tree_laws.specs.declared.reply.Reply.TheVariants as reply
-use Rattle.disk_box.specs.Pens.{PenHand}
 use Rattle.fsync_catch.specs.declared.looking.WaitingFsync.{WaitingFsync}
 use Rattle.fsync_stamp.specs.Stamping.{AnswersFsync}
 use Rattle.fsync_dir.specs.Answering.{EndsUntold}
 use Rattle.fsync_dir.specs.Attempt.{attempt_at}
-use Rattle.fsync_dir.specs.Flush.{FlushAt, IsServed, live}
+use Rattle.fsync_dir.specs.Flush.{IsServed, live}
 use Rattle.fsync_dir.proofs.Coming.{no_turn_yet, untold_serves}
 use Rattle.fsync_dir.proofs.Served.{agrees_then, answers_dead, answers_stamped, call_agrees, ends_answered, no_turn_agrees}
 use Rattle.fsync_dir.proofs.Waiting.{waits_stamped}

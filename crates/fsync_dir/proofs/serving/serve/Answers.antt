@@ -1,6 +1,5 @@
-use Rattle.std.proofs.Common.{ap, refl, subst, sym}
+use Rattle.std.proofs.Common.{ap, subst, sym}
 use Rattle.disk_box.specs.declared.key.BoxKey.{BoxKey}
-use Rattle.journal_set.proofs.Turned.{goes_twice}
 use Rattle.fsync_catch.proofs.Going.{goes_again, goes_none}
 use Rattle.fsync_dir.specs.Attempt.{attempt_at}
 use Rattle.fsync_dir.specs.Site.{IsSite}
