@@ -14,8 +14,8 @@ use Rattle.mount.specs.Mounted.{IsSoundMount}
 use Rattle.mount.specs.declared.begin.Mounted.{Mounted}
 
 -- What was mounted with so many new nodes is a site. Its tree is sound and within its limits, a table may begin with it, and it has the layout's cores and no
--- more nodes than the disk has inodes, but for the new ones. Of exactly its nodes the disk has something, which is an inode of it. And the layout lies in its own
--- blocks, with free space of its own, of which nothing is granted.
+-- more nodes than the disk has inodes, but for the new ones. Of exactly its nodes the disk has something, which is an inode of it. And the layout lies in its
+-- own blocks, with free space of its own, of which nothing is granted.
 pub record IsSiteMount (nodes : ℕ) (mounted : Mounted) : Type 0 where
   pub sound : IsSoundTree mounted.tree
   pub limits : IsWithinLimits mounted.tree
