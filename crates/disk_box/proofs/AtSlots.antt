@@ -41,7 +41,7 @@ pub record IsTold (past : BoxPast) (layout : Layout) (k : ℕ) (slot : Slot) : T
   pub fits : PhaseFits slot.phase (place_at layout k) (Some work)
   pub notes : NotesWork slot work
 
-pub told_at : {D : Type 0} (view : D → View) (t : TableState BoxKey) (pen : PenHand D) (desk : Desk D) (k : ℕ) (what : Kind)
+pub told_at : {D : Type 0} (view : D → View) (t : TableState (BoxKey D)) (pen : PenHand D) (desk : Desk D) (k : ℕ) (what : Kind)
     → WorksAtDesk view t pen desk → (has : HasKind desk.slots.items k what) → has_commit what ≡ true
     → IsTold (past_at pen) pen.table.given.layout k has.slot
 told_at view t pen desk k what at has busy =

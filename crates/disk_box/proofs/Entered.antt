@@ -1,4 +1,5 @@
 -- A core that takes the box finds in it a desk that fits, and brings home one that does.
+use Rattle.sfs_dev.proofs.Runs.{GoesOn-refl}
 use Rattle.std.proofs.Common.{◌≡◌, ◌+◌, ◌<◌, ◌≤◌, ◌∷◌, ◌++◌, ◌∙◌, ℕ, List, [], Option, Some, None, inl, refl, sym, ap, subst, arith, IsSome, append_assoc, option_map}
 use Rattle.sfs_image.specs.Super.{Layout}
 use Rattle.sfs_dev.specs.Disk.{View}
@@ -29,7 +30,7 @@ use Rattle.disk_box.proofs.Quiet.{LeavesKept, SameBeside, frame_same, room_same}
 use Rattle.disk_box.proofs.Telling.{Lawful, Stood, may_tell, own_more}
 
 -- what was told by the rules fits
-pub past_fits : (key : BoxKey) (log : List (Event Label)) → LawfulBox key log → PastFits key.layout key.faults (past_of key log)
+pub past_fits : {D : Type 0} (key : BoxKey D) (log : List (Event Label)) → LawfulBox key log → PastFits key.layout key.faults (past_of key log)
 past_fits key log may = lawful_fits key.layout key.faults log (first_past key.start) (first_fits key.layout key.faults key.start) may
 
 pub same_beside : {D : Type 0} (view : D → View) (desk : Desk D) → SameBeside view desk desk
@@ -43,6 +44,7 @@ same_beside view desk = record {
   turns = refl;
   size = refl;
   later = omega arith;
+  goes = GoesOn-refl (view desk.disk);
 }
 
 -- nothing is kept otherwise by a label that changes neither nodes, turns, numbers nor what its core told
@@ -58,7 +60,7 @@ module _ (layout : Layout) (core : ℕ) (fact : Label) (past : BoxPast) (own : R
       → open_for ((after_label layout core fact past).owns other) (waits other) ≡ open_for (past.owns other) (waits other)
   open_same waits other = ap (λ (o : OwnTold). open_for o (waits other)) (owns_same other)
 
-module _ {D : Type 0} (view : D → View) (key : BoxKey) (core : ℕ) (desk : Desk D) where
+module _ {D : Type 0} (view : D → View) (key : BoxKey D) (core : ℕ) (desk : Desk D) where
   took_kept : (past : BoxPast) → LeavesKept past (after_label key.layout core label.Took past)
   took_kept past = record {
     waits = λ c. refl;
@@ -103,19 +105,19 @@ module _ {D : Type 0} (view : D → View) (key : BoxKey) (core : ℕ) (desk : De
     slots = home.slots;
   }
 
-busy_none : {D : Type 0} (view : D → View) (key : BoxKey) (log : List (Event Label)) (value : Option (Desk D)) → StandsBox view key log value
+busy_none : {D : Type 0} (view : D → View) (key : BoxKey D) (log : List (Event Label)) (value : Option (Desk D)) → StandsBox view key log value
     → (past_of key log).busy ≡ None
 busy_none view key log None stood = absurd stood
 busy_none view key log (Some desk) stood = stood.busy
 
-there : {D : Type 0} (view : D → View) (key : BoxKey) (log : List (Event Label)) (value : Option (Desk D)) → StandsBox view key log value → IsSome value
+there : {D : Type 0} (view : D → View) (key : BoxKey D) (log : List (Event Label)) (value : Option (Desk D)) → StandsBox view key log value → IsSome value
 there view key log None stood = absurd stood
 there view key log (Some desk) stood = refl
 
 -- A core has taken the cell of the box.
-module _ {D : Type 0} (view : D → View) (t : TableState BoxKey) (before holding : PenHand D) (outside : IsOutside t before)
+module _ {D : Type 0} (view : D → View) (t : TableState (BoxKey D)) (before holding : PenHand D) (outside : IsOutside t before)
     (holds : HoldsMore (Lawful view t.table.given) (Stood view t.table.given) 0 before holding) where
-  abbrev key : BoxKey
+  abbrev key : BoxKey D
   key = t.table.given
 
   abbrev value : Option (Desk D)
@@ -144,7 +146,7 @@ module _ {D : Type 0} (view : D → View) (t : TableState BoxKey) (before holdin
 
   pub may_take : (seat : Sight TreeState (Event Label)) → seat ≡ holding.view → MayTell (Lawful view key) (Stood view key) seat label.Took
   may_take seat same = subst (λ s. MayTell (Lawful view key) (Stood view key) s label.Took) (sym same)
-      (may_tell view key holding.view label.Took has_place (subst (λ (z : ℕ × TableName BoxKey). z.0 < z.1.given.layout.cores)
+      (may_tell view key holding.view label.Took has_place (subst (λ (z : ℕ × TableName (BoxKey D)). z.0 < z.1.given.layout.cores)
       (λ i. (core_held i, outside.table_is i)) outside.core_is)
       (λ log past. (busy_none view key log value (past.held 0 (Some value) has_place holds.value.2 refl), tt)))
 
@@ -191,10 +193,10 @@ module _ {D : Type 0} (view : D → View) (t : TableState BoxKey) (before holdin
         (record { next = desk.ledger.space; does = refl }, refl))
 
     pub space_now : SpaceFits after.table.given after.view.seen desk
-    space_now = subst (λ (k : BoxKey). SpaceFits k after.view.seen desk) (sym (ap (λ (d : TableName BoxKey). d.given) table_same)) space_taken
+    space_now = subst (λ (k : BoxKey D). SpaceFits k after.view.seen desk) (sym (ap (λ (d : TableName (BoxKey D)). d.given) table_same)) space_taken
 
     pub fits_now : DeskFits view after.table.given (past_at after) desk
-    fits_now = subst (λ (k : BoxKey). DeskFits view k (past_of k after.view.seen) desk) (sym (ap (λ (d : TableName BoxKey). d.given) table_same)) fits_taken
+    fits_now = subst (λ (k : BoxKey D). DeskFits view k (past_of k after.view.seen) desk) (sym (ap (λ (d : TableName (BoxKey D)). d.given) table_same)) fits_taken
 
     core_after : after.view.core ≡ before.view.core
     core_after = ap (λ (v : Sight TreeState (Event Label)). v.core) tells.told.2.frame ∙ core_same
@@ -202,17 +204,17 @@ module _ {D : Type 0} (view : D → View) (t : TableState BoxKey) (before holdin
     pub holds_now : HoldsBox t after
     holds_now = record {
       table_is = table_same;
-      place = subst (λ (d : TableName BoxKey). 0 < d.id.slots) (outside.table_is ∙ sym table_same) outside.place;
-      core_is = subst (λ (z : ℕ × TableName BoxKey). z.0 < z.1.given.layout.cores) (λ i. (sym core_after i, (outside.table_is ∙ sym table_same) i))
+      place = subst (λ (d : TableName (BoxKey D)). 0 < d.id.slots) (outside.table_is ∙ sym table_same) outside.place;
+      core_is = subst (λ (z : ℕ × TableName (BoxKey D)). z.0 < z.1.given.layout.cores) (λ i. (sym core_after i, (outside.table_is ∙ sym table_same) i))
           outside.core_is;
       holds = ap (λ (h : PenHand D). h.held) tells.frame ∙ (ap (λ (h : PenHand D). h.held) put ∙ ap (with_value 0 None) held_is);
       held = ap (λ (v : Sight TreeState (Event Label)). v.held) tells.told.2.frame
           ∙ (ap (λ (v : Sight TreeState (Event Label)). v.held) view_same
           ∙ (holds.saw.held ∙ ap (λ l. 0 ∷ l) outside.none_held));
-      lawful = subst (λ (k : BoxKey). LawfulBox k after.view.seen) (sym (ap (λ (d : TableName BoxKey). d.given) table_same))
+      lawful = subst (λ (k : BoxKey D). LawfulBox k after.view.seen) (sym (ap (λ (d : TableName (BoxKey D)). d.given) table_same))
           tells.told.2.legal_seen.told.rules;
       mine = tells.told.2.own ∙ ap (λ c. entries_by event_core c after.view.seen) (core_same ∙ sym core_after);
-      busy = ap (λ (k : BoxKey). (past_of k after.view.seen).busy) (ap (λ (d : TableName BoxKey). d.given) table_same)
+      busy = ap (λ (k : BoxKey D). (past_of k after.view.seen).busy) (ap (λ (d : TableName (BoxKey D)). d.given) table_same)
           ∙ (ap (λ (p : BoxPast). p.busy) past_is ∙ ap Some (core_same ∙ sym core_after));
     }
 

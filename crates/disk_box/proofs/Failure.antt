@@ -20,8 +20,8 @@ use Rattle.disk_box.proofs.After.{at_told, failed_told, frame_told, past_fits_at
 use Rattle.disk_box.proofs.Noted.{noted_frame}
 
 -- A failure is noted, and the desk keeps it: it fits, whatever its slots are.
-module _ {D : Type 0} (view : D → View) (t : TableState BoxKey) (before after : PenHand D) (turn : Turn) (was now : Desk D) where
-  abbrev key : BoxKey
+module _ {D : Type 0} (view : D → View) (t : TableState (BoxKey D)) (before after : PenHand D) (turn : Turn) (was now : Desk D) where
+  abbrev key : BoxKey D
   key = before.table.given
 
   abbrev later : BoxPast
@@ -58,7 +58,7 @@ pub record GoesOnBroken {D : Type 0} (view : D → View) (core : ℕ) (mid : Pen
   pub calm : (past_at mid).failed ≡ None
   pub looked : (past_at mid).waits core ≡ None
 
-pub cut_goes_on : {D : Type 0} (view : D → View) (t : TableState BoxKey) (before mid : PenHand D) (turn : Turn) (was now : Desk D) → HoldsBox t before
+pub cut_goes_on : {D : Type 0} (view : D → View) (t : TableState (BoxKey D)) (before mid : PenHand D) (turn : Turn) (was now : Desk D) → HoldsBox t before
     → HoldsBox t mid → TellsLabel (label.Noted turn) before mid → FrameFits view before.table.given (past_at before) was
     → SpaceFits before.table.given before.view.seen was → (past_at before).failed ≡ None → (past_at before).waits before.view.core ≡ None
     → NotedRule before.table.given.faults before.view.core turn (past_at before) → turn.act ≡ act.CutAt → turn.now ≡ (view was.disk).now

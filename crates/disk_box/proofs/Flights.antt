@@ -18,7 +18,7 @@ pub record FliesIn (past : BoxPast) (k core : ℕ) (work : SlotWork) : Type 0 wh
   pub none_reserved : (past.owns core).reserved ≡ None
   pub goes_on : (past.owns core).over ≡ false
 
-module _ (key : BoxKey) (past : BoxPast) (fits : PastFits key.layout key.faults past) (calm : past.failed ≡ None) (k : ℕ) (work : SlotWork)
+module _ {D : Type 0} (key : BoxKey D) (past : BoxPast) (fits : PastFits key.layout key.faults past) (calm : past.failed ≡ None) (k : ℕ) (work : SlotWork)
     (there : past.slots k ≡ Some work) (aloft : work.settled ≡ false) where
   abbrev core : ℕ
   core = owner key.layout k

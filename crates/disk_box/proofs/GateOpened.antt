@@ -1,4 +1,5 @@
 -- The step that opens a slot's gate: when its label may be told, and what its core is at then.
+use Rattle.sfs_dev.proofs.Runs.{GoesOn-call, GoesOn-trans}
 use Rattle.std.specs.Prelude.{Vec, slice_get, option_map}
 use Rattle.std.specs.declared.alloc.Global.{Global}
 use Rattle.std.proofs.Common.{◌≡◌, ◌≢◌, ◌+◌, ◌<◌, ◌≤◌, ◌∷◌, ◌++◌, ◌∙◌, ℕ, List, [], length, true, false, Bool, Option, Some, None, Result, Ok, Err, OnOk, inl, inr, refl, sym, ap, subst, arith, append_assoc, slice_set}
@@ -78,14 +79,14 @@ slot_turn_by slots k core was new turn what there beside by =
     subst (λ (s : Slot). IsTurnBy turn what core s.commit (fsync_told s.node s.stamp)) beside (by new (get_put slots k new was there))
 
 -- its count of faults, where none has failed
-pub faults_calm : {D : Type 0} (view : D → View) (key : BoxKey) (past : BoxPast) (desk : Desk D) (faults now : ℕ) → FrameFits view key past desk
+pub faults_calm : {D : Type 0} (view : D → View) (key : BoxKey D) (past : BoxPast) (desk : Desk D) (faults now : ℕ) → FrameFits view key past desk
     → past.failed ≡ None → faults ≡ turn_faults desk.faults desk.failed now → faults ≡ key.faults
 faults_calm view key past desk faults now frame calm is =
     is ∙ (ap (λ f. turn_faults desk.faults f now) (frame.failed ∙ calm) ∙ frame.faults)
 
-module _ {D : Type 0} (view : D → View) (t : TableState BoxKey) (before : PenHand D) (was : Desk D) (k : ℕ) (at : WorksAtDesk view t before was)
+module _ {D : Type 0} (view : D → View) (t : TableState (BoxKey D)) (before : PenHand D) (was : Desk D) (k : ℕ) (at : WorksAtDesk view t before was)
     (own : owner before.table.given.layout k ≡ before.view.core) (has : HasKind was.slots.items k kind.Sealed) where
-  abbrev key : BoxKey
+  abbrev key : BoxKey D
   key = before.table.given
 
   abbrev past : BoxPast
@@ -228,6 +229,10 @@ module _ {D : Type 0} (view : D → View) (t : TableState BoxKey) (before : PenH
         failed = at.fits.frame.failed;
         turns = items ∙ (append_assoc was.turns.items (cut ∷ []) (opened ∷ []) ∙ ap (λ l. l ++ cut ∷ opened ∷ []) at.fits.frame.turns);
         moment = (let same = turns.opened_now in omega (arith, same));
+        since = record {
+          goes = λ first is. GoesOn-trans (view first.value) (view was.disk) (view disk) (at.fits.frame.since.goes first is)
+              (GoesOn-call (view was.disk) (view disk) (at.fits.frame.laws was.disk).now_fits wrote.writes.time wrote.writes.size wrote.answers.cause.never_falls);
+        };
         run = done_labels_fit (view was.disk) (view disk) key.layout key.faults before.view.core key.start (label.Opened k done cut opened) past
             open_may done_by (at.fits.frame.laws was.disk) at.fits.frame.run;
       }

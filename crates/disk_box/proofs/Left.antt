@@ -22,9 +22,9 @@ use Rattle.disk_box.proofs.Telling.{Lawful, Stood, may_tell_here, own_more, seen
 use Rattle.disk_box.proofs.Entered.{gave_fits, past_fits}
 
 -- A core that has the box tells that it brings it home, and lets go of it with a desk that fits.
-module _ {D : Type 0} (view : D → View) (t : TableState BoxKey) (before : PenHand D) (holds : HoldsBox t before) (desk : Desk D)
+module _ {D : Type 0} (view : D → View) (t : TableState (BoxKey D)) (before : PenHand D) (holds : HoldsBox t before) (desk : Desk D)
     (fits : DeskFits view before.table.given (past_at before) desk) (space : SpaceFits before.table.given before.view.seen desk) where
-  abbrev key : BoxKey
+  abbrev key : BoxKey D
   key = before.table.given
 
   pub may_leave : MayTell (Lawful view key) (Stood view key) before.view label.Gave
@@ -79,8 +79,8 @@ module _ {D : Type 0} (view : D → View) (t : TableState BoxKey) (before : PenH
       pub outside_now : IsOutside t after
       outside_now = record {
         table_is = table_same ∙ holds.table_is;
-        place = subst (λ (d : TableName BoxKey). 0 < d.id.slots) (sym table_same) holds.place;
-        core_is = subst (λ (z : ℕ × TableName BoxKey). z.0 < z.1.given.layout.cores) (λ i. (sym core_same i, sym table_same i)) holds.core_is;
+        place = subst (λ (d : TableName (BoxKey D)). 0 < d.id.slots) (sym table_same) holds.place;
+        core_is = subst (λ (z : ℕ × TableName (BoxKey D)). z.0 < z.1.given.layout.cores) (λ i. (sym core_same i, sym table_same i)) holds.core_is;
         holds_none = none_held;
         none_held = places ∙ ap (λ (l : List (HeldCell (Option (Desk D)))). reverse (places_of l)) none_held;
       }

@@ -1,4 +1,5 @@
 -- A core looks at the turn that waits for it.
+use Rattle.disk_box.specs.Desk.{GoesOnSince}
 use Rattle.std.proofs.Common.{◌≡◌, ◌≢◌, ◌<◌, ◌≤◌, ◌∙◌, ℕ, true, false, List, [], length, slice_set, Option, Some, None, IsSome, inl, inr, refl, sym, ap, subst, arith, option_map}
 use Rattle.sfs_base.proofs.BasicOptions.{none_some, some_same}
 use Rattle.sfs_dev.specs.Disk.{View}
@@ -25,7 +26,7 @@ use Rattle.disk_box.proofs.Frames.{owed_less, own_after, others_after}
 use Rattle.disk_box.proofs.Waits.{wait_put}
 
 -- a core for which a turn waits has a flight that has landed
-module _ (key : BoxKey) (core : ℕ) (past : BoxPast) (fits : PastFits key.layout key.faults past) (turn : Turn) (waits : past.waits core ≡ Some turn) where
+module _ {D : Type 0} (key : BoxKey D) (core : ℕ) (past : BoxPast) (fits : PastFits key.layout key.faults past) (turn : Turn) (waits : past.waits core ≡ Some turn) where
   flew_so : (flight : Option SlotFlight) → (past.owns core).flight ≡ flight → (f : SlotFlight) × ((past.owns core).flight ≡ Some f) × Landed past.waits core f
   flew_so None is = absurd (none_some (sym (fits.flights.idle core is) ∙ waits))
   flew_so (Some f) is = elim (fits.flights.each core f is).is [
@@ -101,7 +102,7 @@ module _ (key : BoxKey) (core : ℕ) (past : BoxPast) (fits : PastFits key.layou
   ]
 
   -- the desk fits, once the turn is gone from it
-  module _ {D : Type 0} (view : D → View) (was now : Desk D) (low : core < key.layout.cores) (same : now ≡ record was { waits = now.waits })
+  module _ (view : D → View) (was now : Desk D) (low : core < key.layout.cores) (same : now ≡ record was { waits = now.waits })
       (put : now.waits.items ≡ slice_set was.waits.items core None) where
     looked_frame : FrameFits view key past was → FrameFits view key later now
     looked_frame frame = record {
@@ -122,6 +123,7 @@ module _ (key : BoxKey) (core : ℕ) (past : BoxPast) (fits : PastFits key.layou
       failed = ap (λ (d : Desk D). d.failed) same ∙ frame.failed;
       turns = ap (λ (d : Desk D). d.turns.items) same ∙ frame.turns;
       moment = subst (λ (d : Desk D). past.moment ≤ (view d.disk).now) (sym same) frame.moment;
+      since = subst (λ (d : Desk D). GoesOnSince view key d.disk) (sym same) frame.since;
       run = subst (λ (d : Desk D). RunFits key.layout key.start later (view d.disk)) (sym same)
           (told_labels_fit (view was.disk) key.layout key.faults core key.start (label.Looked turn) past fits looked_rule tt (frame.laws was.disk) frame.run);
     }

@@ -44,7 +44,7 @@ inode_at entries inodes n are low = ap (λ l. get_or l n 0) are ∙ get_or-map i
 and_all : (a b c : Bool) → a ≡ true → b ≡ true → c ≡ true → (a && (b && c)) ≡ true
 and_all a b c first second third = rw first (rw second third)
 
-module _ {D : Type 0} (view : D → View) (t : TableState BoxKey) (pen : PenHand D) (desk : Desk D) (k : ℕ) (at : WorksAtDesk view t pen desk)
+module _ {D : Type 0} (view : D → View) (t : TableState (BoxKey D)) (pen : PenHand D) (desk : Desk D) (k : ℕ) (at : WorksAtDesk view t pen desk)
     (has : HasKind desk.slots.items k kind.Durable) where
   abbrev told : IsTold (past_at pen) pen.table.given.layout k has.slot
   told = told_at view t pen desk k kind.Durable at has refl
@@ -159,7 +159,7 @@ module _ {D : Type 0} (view : D → View) (t : TableState BoxKey) (pen : PenHand
       ])
 
 -- as a step asks for it
-module _ {D : Type 0} (view : D → View) (t : TableState BoxKey) (pen : PenHand D) (desk : Desk D) (k : ℕ) (at : WorksAtDesk view t pen desk)
+module _ {D : Type 0} (view : D → View) (t : TableState (BoxKey D)) (pen : PenHand D) (desk : Desk D) (k : ℕ) (at : WorksAtDesk view t pen desk)
     (has : HasKind desk.slots.items k kind.Durable) (slot : Slot) (there : slice_get desk.slots.items k ≡ Some slot) where
   abbrev read : HasKind desk.slots.items k kind.Durable
   read = record {

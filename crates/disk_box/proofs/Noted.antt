@@ -1,4 +1,5 @@
 -- A turn that is noted: what is kept beside the slots goes on to fit.
+use Rattle.disk_box.specs.Desk.{GoesOnSince}
 use Rattle.std.proofs.Common.{◌≡◌, ◌≢◌, ◌+◌, ◌<◌, ◌≤◌, ◌∷◌, ◌++◌, ◌∙◌, ℕ, List, [], Option, Some, None, inl, inr, refl, sym, ap, subst, arith}
 use Rattle.std.specs.Option.{option_or}
 use Rattle.sfs_base.proofs.BasicOptions.{or_none}
@@ -32,7 +33,7 @@ no_failure act.Durable faults not = refl
 no_failure act.Fail faults not = absurd (not refl)
 
 -- A turn is noted, and stands last in the record; where it is a failure, that is kept.
-module _ {D : Type 0} (view : D → View) (key : BoxKey) (core : ℕ) (past : BoxPast) (turn : Turn) where
+module _ {D : Type 0} (view : D → View) (key : BoxKey D) (core : ℕ) (past : BoxPast) (turn : Turn) where
   abbrev later : BoxPast
   later = after_label key.layout core (label.Noted turn) past
 
@@ -70,6 +71,7 @@ module _ {D : Type 0} (view : D → View) (key : BoxKey) (core : ℕ) (past : Bo
     failed = failed ∙ ap (λ o. option_or o (failure_by turn.act turn.faults)) frame.failed;
     turns = turns ∙ ap (λ l. l ++ turn ∷ []) frame.turns;
     moment = subst (λ (d : Desk D). turn.now ≤ (view d.disk).now) (sym same) (omega (arith, moment));
+    since = subst (λ (d : Desk D). GoesOnSince view key d.disk) (sym same) frame.since;
     run = subst (λ (d : Desk D). Rattle.slot_image_laws.specs.Run.RunFits key.layout key.start later (view d.disk)) (sym same)
         (told_labels_fit (view was.disk) key.layout key.faults core key.start (label.Noted turn) past fits rule moment (frame.laws was.disk) frame.run);
   }

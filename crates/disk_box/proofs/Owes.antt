@@ -18,7 +18,7 @@ use Rattle.disk_box.specs.Pens.{PenHand, past_at, own_at, HoldsBox, TellsLabel}
 use Rattle.disk_box.proofs.Frames.{owed_taken, own_after, others_after}
 
 -- what a core told that has the box is what all labels make of it
-pub owns_own : {D : Type 0} (t : TableState BoxKey) (pen : PenHand D) → HoldsBox t pen → (past_at pen).owns pen.view.core ≡ own_at pen
+pub owns_own : {D : Type 0} (t : TableState (BoxKey D)) (pen : PenHand D) → HoldsBox t pen → (past_at pen).owns pen.view.core ≡ own_at pen
 owns_own t pen holds =
     own_is pen.table.given.layout pen.view.seen pen.view.core pen.table.given.start
     ∙ ap (λ l. own_from l nothing_told) (sym holds.mine)
@@ -36,7 +36,7 @@ owed_within (suc n) core past low = elim (same_or_not core n) [
 ]
 
 -- one that may take a turn has room for it
-pub room_for : {D : Type 0} (key : BoxKey) (core k : ℕ) (past : BoxPast) (desk : Desk D) → core < key.layout.cores → RoomFits key past desk
+pub room_for : {D : Type 0} (key : BoxKey D) (core k : ℕ) (past : BoxPast) (desk : Desk D) → core < key.layout.cores → RoomFits key past desk
     → past.waits core ≡ None → k ≤ owed_of (past.owns core) None → k ≤ desk.turns.spare
 room_for key core k past desk low room looked owes =
     let within = owed_within key.layout.cores core past low in
@@ -71,7 +71,7 @@ pub last_over : (turn : Turn) (own : OwnTold) → turn.act ≡ act.Fail → (own
 last_over turn own fails = ap (λ (w : TurnAct). ends_all w || own.over) fails
 
 -- one that ends leaves room for the others
-pub ended_room : {D : Type 0} (key : BoxKey) (core : ℕ) (past : BoxPast) (turn : Turn) (desk : Desk D) → core < key.layout.cores
+pub ended_room : {D : Type 0} (key : BoxKey D) (core : ℕ) (past : BoxPast) (turn : Turn) (desk : Desk D) → core < key.layout.cores
     → ends_all turn.act ≡ true → past.waits core ≡ None → RoomFits key past desk
     → (owed_by key.layout.cores past < desk.turns.spare) ⊎ (0 < owed_of (past.owns core) None)
     → owed_by key.layout.cores (after_label key.layout core (label.Noted turn) past) < desk.turns.spare

@@ -8,7 +8,7 @@ use Rattle.disk_box.specs.declared.desk.Desk.{Desk}
 use Rattle.disk_box.specs.Desk.{FrameFits}
 use Rattle.disk_box.specs.Serving.{owner_by}
 
-module _ {D : Type 0} (view : D → View) (key : BoxKey) (past : BoxPast) (desk : Desk D) (frame : FrameFits view key past desk) where
+module _ {D : Type 0} (view : D → View) (key : BoxKey D) (past : BoxPast) (desk : Desk D) (frame : FrameFits view key past desk) where
   some_slots : 0 < key.layout.slots
   some_slots = (let low = frame.layout.ranges.slots_low in omega (arith, low))
 

@@ -1,4 +1,5 @@
 -- A slot is served behind a sync: where no label is told of it, and where it is idle again.
+use Rattle.sfs_dev.proofs.Runs.{GoesOn-refl}
 use Rattle.std.specs.Prelude.{slice_get, Vec}
 use Rattle.std.specs.declared.alloc.Global.{Global}
 use Rattle.std.proofs.Common.{◌≡◌, ◌+◌, ◌∙◌, ℕ, List, [], length, Some, None, inl, inr, refl, sym, ap, subst, arith, slice_set, append-nil, false}
@@ -114,8 +115,8 @@ module _ (known : SlotKnown) (synced : known_synced known ≡ known) where
   pub gate_same : known.gate_left ≡ known.gate_read
   gate_same = sym (ap (λ (s : SlotKnown). s.gate_left) synced)
 
-module _ {D : Type 0} (view : D → View) (t : TableState BoxKey) (pen : PenHand D) (was : Desk D) (k : ℕ) (serving : IsServing view t pen was k) where
-  abbrev key : BoxKey
+module _ {D : Type 0} (view : D → View) (t : TableState (BoxKey D)) (pen : PenHand D) (was : Desk D) (k : ℕ) (serving : IsServing view t pen was k) where
+  abbrev key : BoxKey D
   key = pen.table.given
 
   abbrev past : BoxPast
@@ -155,6 +156,7 @@ module _ {D : Type 0} (view : D → View) (t : TableState BoxKey) (pen : PenHand
       turns = refl;
       size = refl;
       later = omega arith;
+      goes = GoesOn-refl (view was.disk);
     }
 
     served_quiet : SlotFits (place_at key.layout k) (past.slots k) new → awaits_sync (kind_of new.phase) ≡ false → IsServing view t pen now (k + 1)

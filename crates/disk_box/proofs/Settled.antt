@@ -1,4 +1,5 @@
 -- A commit is durable behind a sync: its turn is taken, it has ended, and waits for its core to look.
+use Rattle.disk_box.specs.Desk.{GoesOnSince}
 use Rattle.std.specs.Prelude.{is_some, slice_get, option_map}
 use Rattle.std.proofs.Common.{◌≡◌, ◌≢◌, ◌<◌, ◌≤◌, ◌+◌, ◌*◌, ◌/◌, ◌∷◌, ◌++◌, ◌∙◌, ℕ, Bool, List, [], length, true, false, cond, Option, Some, None, inl, inr, refl, sym, ap, subst, arith, slice_set}
 use Rattle.std.proofs.lemmas.Grind.{get_or-set_at}
@@ -69,7 +70,7 @@ pub record KeepsTurn {D : Type 0} (core : ℕ) (turn : Turn) (was now : Desk D) 
   pub pays : PaysDebt core was.ledger now.ledger
 
 -- the owner's turn, as it is made
-pub settling_of : {D : Type 0} (view : D → View) (t : TableState BoxKey) (pen : PenHand D) (was : Desk D) (k core : ℕ) (slot new : Slot) (turn : Turn)
+pub settling_of : {D : Type 0} (view : D → View) (t : TableState (BoxKey D)) (pen : PenHand D) (was : Desk D) (k core : ℕ) (slot new : Slot) (turn : Turn)
     → IsServing view t pen was k → slice_get was.slots.items k ≡ Some slot → core ≡ owner pen.table.given.layout k → new ≡ record slot { phase = new.phase }
     → MadeAt view was core (slice_set was.slots.items k new) k turn
     → IsSettling (owner pen.table.given.layout k) pen.table.given.faults (view was.disk).now slot turn
@@ -84,8 +85,8 @@ some_debt : (debt : Option DebtView) → is_some debt ≡ true → (one : DebtVi
 some_debt None is = absurd (cc is)
 some_debt (Some one) is = (one, refl)
 
-module _ {D : Type 0} (view : D → View) (t : TableState BoxKey) (pen : PenHand D) (was : Desk D) (k : ℕ) (serving : IsServing view t pen was k) where
-  abbrev key : BoxKey
+module _ {D : Type 0} (view : D → View) (t : TableState (BoxKey D)) (pen : PenHand D) (was : Desk D) (k : ℕ) (serving : IsServing view t pen was k) where
+  abbrev key : BoxKey D
   key = pen.table.given
 
   abbrev past : BoxPast
@@ -251,6 +252,7 @@ module _ {D : Type 0} (view : D → View) (t : TableState BoxKey) (pen : PenHand
           failed = ap (λ (d : Desk D). d.failed) keeps.beside ∙ serving.at.fits.frame.failed;
           turns = keeps.items ∙ ap (λ l. l ++ turn ∷ []) serving.at.fits.frame.turns;
           moment = subst (λ (d : Desk D). turn.now ≤ (view d.disk).now) (sym keeps.beside) (let is = settling.now in omega (arith, is));
+          since = subst (λ (d : Desk D). GoesOnSince view key d.disk) (sym keeps.beside) serving.at.fits.frame.since;
           run = subst (λ (d : Desk D). Rattle.slot_image_laws.specs.Run.RunFits key.layout key.start later (view d.disk)) (sym keeps.beside)
               (told_labels_fit (view was.disk) key.layout key.faults pen.view.core key.start (label.Settled k turn) past
               (past_fits_at t pen serving.at.holds) settle_may settling.now (serving.at.fits.frame.laws was.disk) serving.at.fits.frame.run);

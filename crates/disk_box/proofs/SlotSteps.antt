@@ -1,4 +1,5 @@
 -- A label of a slot's device call, or of a slot that is idle again: what is kept beside the slots goes on to fit.
+use Rattle.sfs_dev.proofs.Runs.{GoesOn-call}
 use Rattle.std.proofs.Common.{◌≡◌, ◌+◌, ◌<◌, ◌≤◌, ◌^◌, ◌∙◌, ℕ, length, true, false, Option, Some, None, Result, Ok, Err, OnErr, OnOk, IfErr, refl, sym, ap, subst, arith}
 use Rattle.sfs_base.specs.Ends.{HasRisen}
 use Rattle.sfs_base.specs.declared.numbers.CoreId.{CoreId}
@@ -144,11 +145,12 @@ called_beside view was now result laws called =
       turns = ap (λ (d : Desk _). d.turns) called.beside;
       size = called.size;
       later = omega arith;
+      goes = GoesOn-call (view was.disk) (view now.disk) laws.now_fits called.time called.size called.answers.cause.never_falls;
     }
 
 -- A step has told its label: a desk with what is kept beside the slots, and room, and the slots too where its call answered Ok.
-module _ {D V : Type 0} (view : D → View) (t : TableState BoxKey) (before after : PenHand D) (fact : Label) (was now : Desk D) (result : Result V ℕ) where
-  abbrev key : BoxKey
+module _ {D V : Type 0} (view : D → View) (t : TableState (BoxKey D)) (before after : PenHand D) (fact : Label) (was now : Desk D) (result : Result V ℕ) where
+  abbrev key : BoxKey D
   key = before.table.given
 
   abbrev later : BoxPast
@@ -202,7 +204,7 @@ module _ {D V : Type 0} (view : D → View) (t : TableState BoxKey) (before afte
         room = room_told view t before after fact holds tells now framed.room;
         space = framed.space;
         counted = counted;
-        risen = subst (λ (k : BoxKey). HasRisen k.faults e) (sym (key_same view t before after fact holds tells))
+        risen = subst (λ (k : BoxKey D). HasRisen k.faults e) (sym (key_same view t before after fact holds tells))
             (subst (λ (z : ℕ × ℕ). HasRisen z.0 z.1) (λ i. (before_is i, sym counted i)) rose);
       }
 

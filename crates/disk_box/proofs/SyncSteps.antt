@@ -122,8 +122,8 @@ module _ {V E : Type 0} (old new : View) (r : Result V E) (synced : IsSync old n
     size = synced.call.size;
   }
 
-module _ {D : Type 0} (view : D → View) (t : TableState BoxKey) (before : PenHand D) (was : Desk D) (at : WorksAtDesk view t before was) (disk : D) where
-  abbrev key : BoxKey
+module _ {D : Type 0} (view : D → View) (t : TableState (BoxKey D)) (before : PenHand D) (was : Desk D) (at : WorksAtDesk view t before was) (disk : D) where
+  abbrev key : BoxKey D
   key = before.table.given
 
   abbrev past : BoxPast
@@ -191,7 +191,7 @@ module _ {D : Type 0} (view : D → View) (t : TableState BoxKey) (before : PenH
   served_steps after desk k serving goes = record { goes = goes.goes; room = goes.room; tells = goes.tells; ok = serving.at; waits = tt; err = tt }
 
 -- as many slots as before
-pub count_kept : {D : Type 0} (view : D → View) (t : TableState BoxKey) (before after : PenHand D) (was now : Desk D) (j k : ℕ)
+pub count_kept : {D : Type 0} (view : D → View) (t : TableState (BoxKey D)) (before after : PenHand D) (was now : Desk D) (j k : ℕ)
     → IsServing view t before was j → IsServing view t after now k → GoesBeside before after → length now.slots.items ≡ length was.slots.items
 count_kept view t before after was now j k first second goes =
     second.at.fits.frame.count

@@ -41,7 +41,7 @@ one_more cores core log fact are low event among = elim (last_or_before log (Tol
   | inr same ↦ subst (λ (e : Event Label). event_core e < cores) same low
 ]
 
-module _ {D : Type 0} (view : D → View) (key : BoxKey) where
+module _ {D : Type 0} (view : D → View) (key : BoxKey D) where
   -- what a box's table asks of a history, and of a value
   abbrev pub Lawful : TreeState → List (Event Label) → Type 0
   Lawful first log = WasTold key log
@@ -79,7 +79,7 @@ module _ {D : Type 0} (view : D → View) (key : BoxKey) where
       }
 
 -- what a core with the box has seen, and a history that goes on from there without a label of its, are the same
-is_seen : (key : BoxKey) (seen more : List (Event Label)) (core : ℕ) → LawfulBox key (seen ++ more) → (past_of key seen).busy ≡ Some core
+is_seen : {D : Type 0} (key : BoxKey D) (seen more : List (Event Label)) (core : ℕ) → LawfulBox key (seen ++ more) → (past_of key seen).busy ≡ Some core
     → length (entries_by event_core core (seen ++ more)) ≡ length (entries_by event_core core seen) → more ≡ []
 is_seen key seen more core may busy same =
     let parts = filter-append (is_by event_core core) seen more in
@@ -87,8 +87,8 @@ is_seen key seen more core may busy same =
     stands_still key.layout key.faults core more (past_of key seen) (may_parts key.layout key.faults seen more (first_past key.start) may).1 busy
     (nil_from_length (entries_by event_core core more) (omega (arith, both, same)))
 
-module _ {D : Type 0} (view : D → View) (t : TableState BoxKey) (before : PenHand D) (holds : HoldsBox t before) where
-  abbrev key : BoxKey
+module _ {D : Type 0} (view : D → View) (t : TableState (BoxKey D)) (before : PenHand D) (holds : HoldsBox t before) where
+  abbrev key : BoxKey D
   key = before.table.given
 
   -- each history that it may meet is what it has seen
@@ -139,7 +139,7 @@ module _ {D : Type 0} (view : D → View) (t : TableState BoxKey) (before : PenH
     -- what was told comes to that of before and the label
     pub past_told : past_at after ≡ after_label key.layout before.view.core fact (past_at before)
     past_told =
-        ap (λ (z : BoxKey × List (Event Label)). past_of z.0 z.1) (λ i. (ap (λ (h : PenHand D). h.table.given) tells.frame i, seen_is i))
+        ap (λ (z : BoxKey D × List (Event Label)). past_of z.0 z.1) (λ i. (ap (λ (h : PenHand D). h.table.given) tells.frame i, seen_is i))
         ∙ past_parts key.layout key.faults before.view.seen (event ∷ []) (first_past key.start)
 
     pub own_told : own_at after ≡ own_label fact (own_at before)
@@ -159,11 +159,11 @@ module _ {D : Type 0} (view : D → View) (t : TableState BoxKey) (before : PenH
         let same = ap (λ (h : PenHand D). h.table) tells.frame in
         record {
           table_is = same ∙ holds.table_is;
-          place = subst (λ (d : Rattle.stamp_table.specs.Hand.Desk BoxKey). 0 < d.id.slots) (sym same) holds.place;
-          core_is = subst (λ (z : ℕ × BoxKey). z.0 < z.1.layout.cores) (λ i. (sym core i, ap (λ (d : Rattle.stamp_table.specs.Hand.Desk BoxKey). d.given) (sym same) i)) holds.core_is;
+          place = subst (λ (d : Rattle.stamp_table.specs.Hand.Desk (BoxKey D)). 0 < d.id.slots) (sym same) holds.place;
+          core_is = subst (λ (z : ℕ × BoxKey D). z.0 < z.1.layout.cores) (λ i. (sym core i, ap (λ (d : Rattle.stamp_table.specs.Hand.Desk (BoxKey D)). d.given) (sym same) i)) holds.core_is;
           holds = ap (λ (h : PenHand D). h.held) tells.frame ∙ holds.holds;
           held = ap (λ (v : Sight TreeState (Event Label)). v.held) tells.told.2.frame ∙ holds.held;
-          lawful = subst (λ (d : Rattle.stamp_table.specs.Hand.Desk BoxKey). LawfulBox d.given after.view.seen) (sym same)
+          lawful = subst (λ (d : Rattle.stamp_table.specs.Hand.Desk (BoxKey D)). LawfulBox d.given after.view.seen) (sym same)
               tells.told.2.legal_seen.told.rules;
           mine = tells.told.2.own ∙ ap (λ c. entries_by event_core c after.view.seen) (sym core);
           busy = ap (λ (p : Rattle.slot_laws.specs.Labels.BoxPast). p.busy) past_told ∙ busy ∙ ap Some (sym core);

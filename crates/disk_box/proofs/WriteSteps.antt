@@ -30,8 +30,8 @@ use Rattle.disk_box.proofs.Nexts.{next_filled, next_placed, next_shut}
 use Rattle.disk_box.proofs.Phases.{copied_is, durable_is, filling_is}
 use Rattle.disk_box.proofs.SlotSteps.{CalledAt, framed_of_slots, steps_so}
 
-module _ {D : Type 0} (view : D → View) (t : TableState BoxKey) (before : PenHand D) (was : Desk D) (k : ℕ) (at : WorksAtDesk view t before was) where
-  abbrev key : BoxKey
+module _ {D : Type 0} (view : D → View) (t : TableState (BoxKey D)) (before : PenHand D) (was : Desk D) (k : ℕ) (at : WorksAtDesk view t before was) where
+  abbrev key : BoxKey D
   key = before.table.given
 
   -- its place's layout is the disk's

@@ -1,9 +1,11 @@
 -- What lies in the box fits what the labels come to.
+use Rattle.std.specs.declared.snapshot.Snapshot.{Snapshot}
 use Rattle.std.specs.Prelude.{◌≡◌, ◌+◌, ◌≤◌, ℕ, zero, suc, Bool, true, false, List, length, Option, Some, None, is_some, if◌then◌else◌, slice_get, unwrap_or, option_map}
 use Rattle.std.specs.Option.{option_or}
 use Rattle.sfs_image.specs.Super.{IsLayout}
 use Rattle.sfs_image.specs.Settled.{slot_count}
 use Rattle.sfs_dev.specs.Disk.{View}
+use Rattle.sfs_dev.specs.Run.{Advances}
 use Rattle.tree_laws.specs.declared.turns.Turn.{Turn}
 use Rattle.slot_laws.specs.Labels.{BoxPast, OwnTold, SlotFlight}
 use Rattle.slot_image_laws.specs.Run.{KeepsLaws, RunFits}
@@ -50,8 +52,12 @@ open_for own None = option_or (option_map (λ number. (number, false)) own.reser
 abbrev pub open_told : OpenView → ℕ × Bool
 open_told one = (one.number, is_some one.debt)
 
+-- A disk has gone on by device calls alone from what it was as its box was made, where the key tells that.
+pub record GoesOnSince {D : Type 0} (view : D → View) (key : BoxKey D) (disk : D) : Type 0 where
+  pub goes : (first : Snapshot D) → key.first ≡ Some first → Advances (view first.value) (view disk)
+
 -- The disk of a box and what is kept beside its slots fit what labels come to.
-pub record FrameFits {D : Type 0} (view : D → View) (key : BoxKey) (past : BoxPast) (desk : Desk D) : Type 0 where
+pub record FrameFits {D : Type 0} (view : D → View) (key : BoxKey D) (past : BoxPast) (desk : Desk D) : Type 0 where
   pub layout : IsLayout key.layout.blocks key.layout
   pub large : key.layout.blocks ≤ (view desk.disk).size
   pub laws : (disk : D) → KeepsLaws (view disk)
@@ -66,6 +72,7 @@ pub record FrameFits {D : Type 0} (view : D → View) (key : BoxKey) (past : Box
   pub failed : desk.failed ≡ past.failed
   pub turns : desk.turns.items ≡ past.turns
   pub moment : past.moment ≤ (view desk.disk).now
+  pub since : GoesOnSince view key desk.disk
   pub run : RunFits key.layout key.start past (view desk.disk)
 
 -- a turn's count of faults: that of the box until a commit has failed, and then the disk's as the box was taken
@@ -79,11 +86,11 @@ FaultsFit before None faults = faults ≡ before
 FaultsFit before (Some failed) faults = failed ≤ faults
 
 -- There is room for all turns that cores may take yet.
-abbrev pub RoomFits : {D : Type 0} → BoxKey → BoxPast → Desk D → Type 0
+abbrev pub RoomFits : {D : Type 0} → BoxKey D → BoxPast → Desk D → Type 0
 RoomFits key past desk = owed_by key.layout.cores past ≤ desk.turns.spare
 
 -- A desk fits what labels come to; once a commit has failed nothing is said of its slots.
-pub record DeskFits {D : Type 0} (view : D → View) (key : BoxKey) (past : BoxPast) (desk : Desk D) : Type 0 where
+pub record DeskFits {D : Type 0} (view : D → View) (key : BoxKey D) (past : BoxPast) (desk : Desk D) : Type 0 where
   pub frame : FrameFits view key past desk
   pub room : RoomFits key past desk
   pub faults : FaultsFit key.faults past.failed (view desk.disk).faults

@@ -20,7 +20,7 @@ use Rattle.disk_box.specs.Box.{past_of, LawfulBox, SpaceFits}
 
 -- a pen, as contracts see it
 abbrev pub PenHand : Type 0 → Type 0
-PenHand D = Hand (Option (Desk D)) Label BoxKey
+PenHand D = Hand (Option (Desk D)) Label (BoxKey D)
 
 module _ {D : Type 0} where
   -- what the labels come to that a pen has seen
@@ -32,7 +32,7 @@ module _ {D : Type 0} where
   own_at pen = own_from pen.view.mine nothing_told
 
   -- A pen of a box that does not have it.
-  pub record IsOutside (t : TableState BoxKey) (pen : PenHand D) : Type 0 where
+  pub record IsOutside (t : TableState (BoxKey D)) (pen : PenHand D) : Type 0 where
     pub table_is : pen.table ≡ t.table
     pub place : 0 < pen.table.id.slots
     pub core_is : pen.view.core < pen.table.given.layout.cores
@@ -41,7 +41,7 @@ module _ {D : Type 0} where
 
   -- One that has the box, and what lies in it in its hands: nobody else tells a label until it is home again, so what it has seen is all that was
   -- told.
-  pub record HoldsBox (t : TableState BoxKey) (pen : PenHand D) : Type 0 where
+  pub record HoldsBox (t : TableState (BoxKey D)) (pen : PenHand D) : Type 0 where
     pub table_is : pen.table ≡ t.table
     pub place : 0 < pen.table.id.slots
     pub core_is : pen.view.core < pen.table.given.layout.cores
@@ -67,20 +67,20 @@ module _ {D : Type 0} where
     pub own : own_at after ≡ own_label fact (own_at before)
 
   -- A pen has the box, with a desk that fits.
-  pub record IsAtDesk (view : D → View) (t : TableState BoxKey) (pen : PenHand D) (desk : Desk D) : Type 0 where
+  pub record IsAtDesk (view : D → View) (t : TableState (BoxKey D)) (pen : PenHand D) (desk : Desk D) : Type 0 where
     pub holds : HoldsBox t pen
     pub fits : DeskFits view pen.table.given (past_at pen) desk
     pub space : SpaceFits pen.table.given pen.view.seen desk
 
   -- So it is, and no commit has failed.
-  pub record WorksAtDesk (view : D → View) (t : TableState BoxKey) (pen : PenHand D) (desk : Desk D) : Type 0 where
+  pub record WorksAtDesk (view : D → View) (t : TableState (BoxKey D)) (pen : PenHand D) (desk : Desk D) : Type 0 where
     pub holds : HoldsBox t pen
     pub calm : (past_at pen).failed ≡ None
     pub fits : DeskFits view pen.table.given (past_at pen) desk
     pub space : SpaceFits pen.table.given pen.view.seen desk
 
   -- A device call of its has failed, of which it has yet to tell: the disk has counted a fault, and nothing is said of the slots.
-  pub record IsBroken (view : D → View) (t : TableState BoxKey) (pen : PenHand D) (desk : Desk D) (faults : ℕ) : Type 0 where
+  pub record IsBroken (view : D → View) (t : TableState (BoxKey D)) (pen : PenHand D) (desk : Desk D) (faults : ℕ) : Type 0 where
     pub holds : HoldsBox t pen
     pub calm : (past_at pen).failed ≡ None
     pub frame : FrameFits view pen.table.given (past_at pen) desk

@@ -11,7 +11,7 @@ use Rattle.disk_box.specs.Pens.{PenHand, PenGoes, TellsSteps, WorksAtDesk, own_a
 
 -- A core is at work, nothing has been pending on its disk since the last sync; of the slots from the k-th on that is what is known, and those
 -- before it await no sync any more.
-pub record IsServing {D : Type 0} (view : D → View) (t : TableState BoxKey) (pen : PenHand D) (desk : Desk D) (k : ℕ) : Type 0 where
+pub record IsServing {D : Type 0} (view : D → View) (t : TableState (BoxKey D)) (pen : PenHand D) (desk : Desk D) (k : ℕ) : Type 0 where
   pub at : WorksAtDesk view t pen desk
   pub calm : IsCalm (view desk.disk)
   pub moment : (past_at pen).synced ≡ (view desk.disk).now

@@ -14,7 +14,7 @@ pub struct BoxMeaning<D> {
     disk: PhantomData<D>,
 }
 
-impl<D: Disk> Meaning<Option<Desk<D>>, Label, BoxKey> for BoxMeaning<D> {
+impl<D: Disk> Meaning<Option<Desk<D>>, Label, BoxKey<D>> for BoxMeaning<D> {
     ghost lawful = { λ key first log. WasTold key log };
 
     ghost stands = { λ key first log place value. place ≡ 0 → StandsBox D.view key log value };
@@ -33,7 +33,7 @@ impl<D: Disk> Meaning<Option<Desk<D>>, Label, BoxKey> for BoxMeaning<D> {
 }
 
 /// The table whose one cell is the box.
-pub type BoxTable<D> = Shared<Option<Desk<D>>, Label, BoxKey, BoxMeaning<D>>;
+pub type BoxTable<D> = Shared<Option<Desk<D>>, Label, BoxKey<D>, BoxMeaning<D>>;
 
 /// A core's place at the box: what it has told, and what it has seen of the others' labels.
-pub type Pen<D> = Core<Option<Desk<D>>, Label, BoxKey, BoxMeaning<D>>;
+pub type Pen<D> = Core<Option<Desk<D>>, Label, BoxKey<D>, BoxMeaning<D>>;

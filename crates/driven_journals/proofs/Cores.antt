@@ -53,7 +53,7 @@ module _ {D : Type 0} where
     number = ap (λ (v : Sight TreeState (Event Label)). v.core) goes.view;
   }
 
-  gone_by : (e : Seat D) (t : TableState BoxKey) (layout : Layout) (before after : List (Seat D)) → length after ≡ length before
+  gone_by : (e : Seat D) (t : TableState (BoxKey D)) (layout : Layout) (before after : List (Seat D)) → length after ≡ length before
       → EachGoes t layout before after → AreAllCores t (map pen_of before) → AreAllCores t (map pen_of after)
   gone_by e t layout before after long go all =
       all_again t (map pen_of before) (map pen_of after) (length-map after pen_of ∙ (long ∙ sym (length-map before pen_of))) each all
@@ -72,13 +72,13 @@ module _ {D : Type 0} where
           )
 
   -- all cores are still all cores once each has gone on
-  pub all_gone : (t : TableState BoxKey) (layout : Layout) (before after : List (Seat D)) → length after ≡ length before
+  pub all_gone : (t : TableState (BoxKey D)) (layout : Layout) (before after : List (Seat D)) → length after ≡ length before
       → EachGoes t layout before after → AreAllCores t (map pen_of before) → AreAllCores t (map pen_of after)
   all_gone t layout [] after long go all = absurd (true_not_false (sym all.leads))
   all_gone t layout (e ∷ before) after long go all = gone_by e t layout (e ∷ before) after long go all
 
   -- and each fits
-  pub each_fits : (t : TableState BoxKey) (layout : Layout) (before after : List (Seat D)) → length after ≡ length before
+  pub each_fits : (t : TableState (BoxKey D)) (layout : Layout) (before after : List (Seat D)) → length after ≡ length before
       → EachGoes t layout before after → All (SeatFits t layout) after
   each_fits t layout before after long go place d within = (go place d (omega (arith, long, within))).fits
 
@@ -87,7 +87,7 @@ module _ {D : Type 0} where
   stays pen = record { frame = refl; view = refl; seen = begins_itself pen.view.seen }
 
   -- One core has gone on, and fits: so all do.
-  module _ (t : TableState BoxKey) (layout : Layout) (seats : List (Seat D)) (place : ℕ) (was now : Seat D) (there : slice_get seats place ≡ Some was)
+  module _ (t : TableState (BoxKey D)) (layout : Layout) (seats : List (Seat D)) (place : ℕ) (was now : Seat D) (there : slice_get seats place ≡ Some was)
       (goes : PenGoes was.pen now.pen) (fits : SeatFits t layout now) (each : All (SeatFits t layout) seats) where
     pub all_fit : All (SeatFits t layout) (set seats place now)
     all_fit = All-set (SeatFits t layout) seats place now fits each
@@ -116,7 +116,7 @@ module _ {D : Type 0} where
     all_still all = all_gone t layout seats (set seats place now) (length-set seats place now) one_goes all
 
   -- pens of new journals as cores
-  pub new_pens : (t : TableState BoxKey) (pens : List (PenHand D)) (seats : List (Seat D)) → AreNewSeats pens seats → AreAllCores t pens
+  pub new_pens : (t : TableState (BoxKey D)) (pens : List (PenHand D)) (seats : List (Seat D)) → AreNewSeats pens seats → AreAllCores t pens
       → AreAllCores t (map pen_of seats)
   new_pens t pens seats new all = subst (AreAllCores t) (sym new.pens_are) all
 
@@ -134,7 +134,7 @@ module _ {D : Type 0} where
       }
 
   -- a core that stays is the same beside another book
-  pub same_fits : (t : TableState BoxKey) (layout : Layout) (was now : Seat D) → now.due ≡ was.due → now.pen ≡ was.pen → SeatFits t layout was
+  pub same_fits : (t : TableState (BoxKey D)) (layout : Layout) (was now : Seat D) → now.due ≡ was.due → now.pen ≡ was.pen → SeatFits t layout was
       → PenGoes was.pen now.pen × SeatFits t layout now
   same_fits t layout was now due pen fits = (
     subst (PenGoes was.pen) (sym pen) (stays was.pen),
@@ -175,7 +175,7 @@ module _ {D : Type 0} where
       rests_more seats new (λ j e low. all (suc j) e (omega (arith, low))) rests k d (omega (arith, within))
 
   -- A seat fits whose pen has gone on, as what is due of it does.
-  pub fits_on : (t : TableState BoxKey) (layout : Layout) (before after : Seat D) → before.pen.table.given.layout ≡ layout → PenGoes before.pen after.pen
+  pub fits_on : (t : TableState (BoxKey D)) (layout : Layout) (before after : Seat D) → before.pen.table.given.layout ≡ layout → PenGoes before.pen after.pen
       → DueFits t after.pen after.due → SeatFits t layout after
   fits_on t layout before after is goes fits =
       record { fits = fits; layout_is = ap (λ (h : PenHand D). h.table.given.layout) goes.frame ∙ is }
@@ -198,7 +198,7 @@ module _ {D : Type 0} where
   nothing_due pen due.Over is rest = inl is
 
   -- Where nothing is due of any core, the journals may be closed.
-  pub may_close : (t : TableState BoxKey) (layout : Layout) (seats : List (Seat D)) → AreAllCores t (map pen_of seats) → 0 < length seats
+  pub may_close : (t : TableState (BoxKey D)) (layout : Layout) (seats : List (Seat D)) → AreAllCores t (map pen_of seats) → 0 < length seats
       → All (SeatFits t layout) seats → AreAtRest seats → MayClose t (map pen_of seats)
   may_close t layout seats all some fit rest = record {
     all = all;
@@ -214,12 +214,12 @@ module _ {D : Type 0} where
   }
 
   -- a pen that has told nothing is free
-  new_eased : (t : TableState BoxKey) (core : ℕ) (pen : PenHand D) → IsNewPen t core pen → IsEased (own_at pen)
+  new_eased : (t : TableState (BoxKey D)) (core : ℕ) (pen : PenHand D) → IsNewPen t core pen → IsEased (own_at pen)
   new_eased t core pen new = subst (λ l. IsEased (own_from l nothing_told)) (sym new.none_told)
       (record { none_reserved = refl; no_flight = refl; goes_on = refl })
 
   -- New cores fit.
-  pub new_fit : (t : TableState BoxKey) (layout : Layout) (pens : List (PenHand D)) (seats : List (Seat D)) → AreNewPens t pens → AreNewSeats pens seats
+  pub new_fit : (t : TableState (BoxKey D)) (layout : Layout) (pens : List (PenHand D)) (seats : List (Seat D)) → AreNewPens t pens → AreNewSeats pens seats
       → t.table.given.layout ≡ layout → All (SeatFits t layout) seats
   new_fit t layout pens seats new are is place d within =
       let seat = get_or seats place d in
@@ -234,11 +234,11 @@ module _ {D : Type 0} where
           room = fresh.room;
           is = subst (IsDue seat.pen) (sym (are.rest place d within)) (new_eased t place seat.pen fresh);
         };
-        layout_is = ap (λ (k : Desk BoxKey). k.given.layout) fresh.outside.table_is ∙ is;
+        layout_is = ap (λ (k : Desk (BoxKey D)). k.given.layout) fresh.outside.table_is ∙ is;
       }
 
   -- There are some.
-  pub some_new : (t : TableState BoxKey) (layout : Layout) (pens : List (PenHand D)) (seats : List (Seat D)) → AreNewPens t pens → AreNewSeats pens seats
+  pub some_new : (t : TableState (BoxKey D)) (layout : Layout) (pens : List (PenHand D)) (seats : List (Seat D)) → AreNewPens t pens → AreNewSeats pens seats
       → t.table.given.layout ≡ layout → 1 ≤ layout.cores → 0 < length seats
   some_new t layout pens seats new are is low =
       let one = new.all.count in

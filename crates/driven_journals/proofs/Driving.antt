@@ -164,11 +164,11 @@ module _ {D : Type 0} (before after : PenHand D) where
   turned_due flight fault.NoMemory it = absurd it
 
 -- A free pen may begin anew.
-pub free_ready : {D : Type 0} (t : TableState BoxKey) (pen : PenHand D) → IsFree t pen → IsReady t pen
+pub free_ready : {D : Type 0} (t : TableState (BoxKey D)) (pen : PenHand D) → IsFree t pen → IsReady t pen
 free_ready t pen free = record { outside = free.outside; room = free.room; rests = inr (free.eased.none_reserved, free.eased.no_flight) }
 
 -- So it is where nothing is due of it.
-pub rests_free : {D : Type 0} (t : TableState BoxKey) (pen : PenHand D) → DueFits t pen due.Rests → IsFree t pen
+pub rests_free : {D : Type 0} (t : TableState (BoxKey D)) (pen : PenHand D) → DueFits t pen due.Rests → IsFree t pen
 rests_free t pen fits = record { outside = fits.outside; room = fits.room; eased = fits.is }
 
 -- a pen that has gone on is about the same layout
@@ -177,7 +177,7 @@ pub layout_on : {D : Type 0} (before after : PenHand D) (layout : Layout) → Pe
 layout_on {D = D} before after layout goes is = ap (λ (h : PenHand D). h.table.given.layout) goes.frame ∙ is
 
 -- Behind a call that leaves a pen outside of the box, with as much room as before, it fits what is due.
-module _ {D : Type 0} (t : TableState BoxKey) (before after : PenHand D) (outside : IsOutside t after) (same : after.room ≡ before.room) (some : 0 <
+module _ {D : Type 0} (t : TableState (BoxKey D)) (before after : PenHand D) (outside : IsOutside t after) (same : after.room ≡ before.room) (some : 0 <
     before.room) where
   pub fits_now : (now : Due) → IsDue after now → DueFits t after now
   fits_now now is = record { outside = outside; room = subst (λ n. 0 < n) (sym same) some; is = is }
@@ -186,7 +186,7 @@ module _ {D : Type 0} (t : TableState BoxKey) (before after : PenHand D) (outsid
   has_now grant is = record { outside = outside; room = subst (λ n. 0 < n) (sym same) some; writes = is.0; no_flight = is.1 }
 
 -- What was packed with a grant and can be written is due.
-pub packed_due : {D : Type 0} (t : TableState BoxKey) (pen : PenHand D) (grant : GrantedNumbers) (writing : Writing) → HasGrant t pen grant
+pub packed_due : {D : Type 0} (t : TableState (BoxKey D)) (pen : PenHand D) (grant : GrantedNumbers) (writing : Writing) → HasGrant t pen grant
     → writing.grant ≡ grant → CanBeWritten pen.table.given.layout writing → DueFits t pen (due.Waits writing)
 packed_due t pen grant writing has same can = record {
   outside = has.outside;

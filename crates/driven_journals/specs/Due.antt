@@ -48,19 +48,19 @@ module _ {D : Type 0} where
   IsDue pen due.Over = (own_at pen).over ≡ true
 
   -- A pen outside of the box, with room for it, of which this is due.
-  pub record DueFits (t : TableState BoxKey) (pen : PenHand D) (now : Due) : Type 0 where
+  pub record DueFits (t : TableState (BoxKey D)) (pen : PenHand D) (now : Due) : Type 0 where
     pub outside : IsOutside t pen
     pub room : 0 < pen.room
     pub is : IsDue pen now
 
   -- One of which nothing is due, and which may go on.
-  pub record IsFree (t : TableState BoxKey) (pen : PenHand D) : Type 0 where
+  pub record IsFree (t : TableState (BoxKey D)) (pen : PenHand D) : Type 0 where
     pub outside : IsOutside t pen
     pub room : 0 < pen.room
     pub eased : IsEased (own_at pen)
 
   -- One that has a grant for its next commit.
-  pub record HasGrant (t : TableState BoxKey) (pen : PenHand D) (grant : GrantedNumbers) : Type 0 where
+  pub record HasGrant (t : TableState (BoxKey D)) (pen : PenHand D) (grant : GrantedNumbers) : Type 0 where
     pub outside : IsOutside t pen
     pub room : 0 < pen.room
     pub writes : IsToWrite grant pen

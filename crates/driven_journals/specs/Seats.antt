@@ -15,7 +15,7 @@ module _ {D : Type 0} where
   pen_of seat = seat.pen
 
   -- A core at journals of a disk with this layout: what is due of it is so by what it has told.
-  pub record SeatFits (t : TableState BoxKey) (layout : Layout) (seat : Seat D) : Type 0 where
+  pub record SeatFits (t : TableState (BoxKey D)) (layout : Layout) (seat : Seat D) : Type 0 where
     pub fits : DueFits t seat.pen seat.due
     pub layout_is : seat.pen.table.given.layout ≡ layout
 
@@ -24,12 +24,12 @@ module _ {D : Type 0} where
   AreAtRest seats = All (λ (seat : Seat D). is_at_rest seat.due ≡ true) seats
 
   -- A core has gone on with its pen, and fits.
-  pub record SeatGoes (t : TableState BoxKey) (layout : Layout) (before after : Seat D) : Type 0 where
+  pub record SeatGoes (t : TableState (BoxKey D)) (layout : Layout) (before after : Seat D) : Type 0 where
     pub fits : SeatFits t layout after
     pub goes : PenGoes before.pen after.pen
 
   -- so has each
-  abbrev pub EachGoes : TableState BoxKey → Layout → List (Seat D) → List (Seat D) → Type 0
+  abbrev pub EachGoes : TableState (BoxKey D) → Layout → List (Seat D) → List (Seat D) → Type 0
   EachGoes t layout before after = (place : ℕ) (d : Seat D) → place < length before
       → SeatGoes t layout (slice_index_or before place d) (slice_index_or after place d)
 

@@ -40,7 +40,7 @@ log_keeps layout (Told core fact ∷ log) past faults is =
     log_keeps layout log (after_label layout core.0 fact past) faults (label_keeps layout core.0 fact past faults is)
 
 -- so the record of turns has it
-pub failure_stays : (key : BoxKey) (front labels : List (Event Label)) (faults : ℕ) → LawfulBox key labels → IsPrefix front labels
+pub failure_stays : {D : Type 0} (key : BoxKey D) (front labels : List (Event Label)) (faults : ℕ) → LawfulBox key labels → IsPrefix front labels
     → (past_of key front).failed ≡ Some faults → failed_in (past_of key labels).turns ≡ Some faults
 failure_stays key front labels faults lawful on is =
     sym (past_fits key labels lawful).times.failed

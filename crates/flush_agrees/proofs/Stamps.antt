@@ -163,7 +163,7 @@ from_all (first ∷ rest) one among = elim (in_either first (all_of rest) one am
   | inr there ↦ let found = from_all rest one there in (suc found.0, found.1, found.2, found.3)
 ]
 
-module _ {D : Type 0} (t : FileState) (key : BoxKey) (labels : List (Event Label)) (fsyncs : List (List FlushTold)) (lawful : LawfulBox key labels)
+module _ {D : Type 0} (t : FileState) (key : BoxKey D) (labels : List (Event Label)) (fsyncs : List (List FlushTold)) (lawful : LawfulBox key labels)
     (agree : (core : ℕ) (told : List FlushTold) → slice_get fsyncs core ≡ Some told → AgreesInPart D t labels core told) where
   -- who reserved a number that was made
   reserves : (core : ℕ) (told : List FlushTold) → slice_get fsyncs core ≡ Some told → (one : FlushTold) (made : FlushMade) → IsOneOf told one

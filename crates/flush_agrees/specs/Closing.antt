@@ -121,5 +121,5 @@ pub record HasStamps (fsyncs : List (List FlushTold)) : Type 0 where
 
 -- So there are where the labels are lawful and each core agrees with its pen.
 abbrev pub StampsAreGiven : Type 0 → Type 0
-StampsAreGiven D = (t : FileState) (key : BoxKey) (labels : List (Event Label)) (fsyncs : List (List FlushTold)) → LawfulBox key labels
+StampsAreGiven D = (t : FileState) (key : BoxKey D) (labels : List (Event Label)) (fsyncs : List (List FlushTold)) → LawfulBox key labels
     → ((core : ℕ) (told : List FlushTold) → slice_get fsyncs core ≡ Some told → AgreesInPart D t labels core told) → HasStamps fsyncs

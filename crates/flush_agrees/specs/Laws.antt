@@ -20,7 +20,7 @@ use Rattle.flush_agrees.specs.Agreement.{CoresAgree, FlushTold}
 
 -- A core that has made no call and told nothing agrees with a new pen of its number on no fsync.
 abbrev pub NewPairsAgree : Type 0 → Type 0
-NewPairsAgree D = (t : FileState) (box : TableState BoxKey) (hand : FileHand) (pen : PenHand D) → hand.entries ≡ [] → hand.view.mine ≡ []
+NewPairsAgree D = (t : FileState) (box : TableState (BoxKey D)) (hand : FileHand) (pen : PenHand D) → hand.entries ≡ [] → hand.view.mine ≡ []
     → IsNewPen box hand.view.core pen → CoresAgree t hand pen []
 
 -- A core has gone on without an fsync that is served: it has told no commit, it has seen more, perhaps, and its served fsyncs are those of before.

@@ -84,7 +84,7 @@ module _ {D : Type 0} (before after : PenHand D) where
   idle asked grant it (inr none) = none.1
 
   -- A core that reserved is granted.
-  pub granted : (t : TableState BoxKey) (asked : ReserveRequest) (grant : GrantedNumbers) → IsReady t before → IsOutside t after → after.room ≡ before.room
+  pub granted : (t : TableState (BoxKey D)) (asked : ReserveRequest) (grant : GrantedNumbers) → IsReady t before → IsOutside t after → after.room ≡ before.room
       → Reserves asked before after (Ok grant) → IsGranted t after grant
   granted t asked grant ready outside room it = record {
     outside = outside;
@@ -95,5 +95,5 @@ module _ {D : Type 0} (before after : PenHand D) where
   }
 
   -- A pen outside of the box, with as much room as before, may begin anew where nothing is due.
-  pub ready_now : (t : TableState BoxKey) → IsOutside t after → after.room ≡ before.room → 0 < before.room → HasNothingDue (own_at after) → IsReady t after
+  pub ready_now : (t : TableState (BoxKey D)) → IsOutside t after → after.room ≡ before.room → 0 < before.room → HasNothingDue (own_at after) → IsReady t after
   ready_now t outside room some rests = record { outside = outside; room = subst (λ n. 0 < n) (sym room) some; rests = rests }

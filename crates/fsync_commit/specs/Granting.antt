@@ -15,7 +15,7 @@ use Rattle.journal_set.specs.Grants.{grant_at}
 use Rattle.fsync_commit.specs.Asked.{LiesInArea}
 
 -- A pen outside of the box, with room for it, that has a grant for its next commit; no failure has stopped it.
-pub record IsGranted {D : Type 0} (t : TableState BoxKey) (pen : PenHand D) (grant : GrantedNumbers) : Type 0 where
+pub record IsGranted {D : Type 0} (t : TableState (BoxKey D)) (pen : PenHand D) (grant : GrantedNumbers) : Type 0 where
   pub outside : IsOutside t pen
   pub room : 0 < pen.room
   pub grant_is : grant_at pen ≡ Some grant

@@ -13,7 +13,7 @@ use Rattle.fsync_commit.specs.Asked.{IsSpaceOn}
 
 -- A table over a file tree, of so many nodes and cores, and the disk in a box: this has an inode for each number of the first tree, and its free space is
 -- its own; as the table began it had something of exactly the nodes of the first tree.
-pub record IsSite (t : FileState) (nodes cores : ℕ) (key : BoxKey) : Type 0 where
+pub record IsSite {D : Type 0} (t : FileState) (nodes cores : ℕ) (key : BoxKey D) : Type 0 where
   pub table : IsFileTable t nodes
   pub cores_are : cores ≡ length t.first.made
   pub inodes : key.layout.inodes ≡ t.first.first

@@ -61,7 +61,7 @@ flies_in (phase.Closing x) place work opened fits aloft left read = absurd (true
 flies_in phase.Lost place work opened fits aloft left read = absurd fits
 
 -- A core that has the box has a flight, and no turn waits for it.
-module _ {D : Type 0} (t : TableState BoxKey) (pen : PenHand D) (holds : HoldsBox t pen) (flight : SlotFlight)
+module _ {D : Type 0} (t : TableState (BoxKey D)) (pen : PenHand D) (holds : HoldsBox t pen) (flight : SlotFlight)
     (flies : (own_at pen).flight ≡ Some flight) where
   flight_fits : FlightFits pen.table.given.layout (past_at pen).slots (past_at pen).waits pen.view.core flight
   flight_fits = (past_fits_at t pen holds).flights.each pen.view.core flight (ap (λ (o : OwnTold). o.flight) (owns_own t pen holds) ∙ flies)
@@ -101,18 +101,18 @@ pub owed_under : (flight : Flight) (opened : Bool) (own : OwnTold) → IsUnderWa
 owed_under flight opened own under = owed_flying own None (flight_of flight opened) refl under.goes_on under.none_reserved under.flies
 
 -- what was told of a core at the box is what its own labels say
-pub owed_at : {D : Type 0} (t : TableState BoxKey) (pen : PenHand D) → HoldsBox t pen → (flight : Flight) (opened : Bool)
+pub owed_at : {D : Type 0} (t : TableState (BoxKey D)) (pen : PenHand D) → HoldsBox t pen → (flight : Flight) (opened : Bool)
     → IsUnderWay flight opened (own_at pen)
     → owed_of ((past_at pen).owns pen.view.core) None ≡ owed_by_flight (flight_of flight opened)
 owed_at t pen holds flight opened under = ap (λ (o : OwnTold). owed_of o None) (owns_own t pen holds) ∙ owed_under flight opened (own_at pen) under
 
 -- where no commit has failed, a core at the box is at work
-pub works_at : {D : Type 0} (view : D → View) (t : TableState BoxKey) (pen : PenHand D) (desk : Desk D) → IsAtDesk view t pen desk → desk.failed ≡ None
+pub works_at : {D : Type 0} (view : D → View) (t : TableState (BoxKey D)) (pen : PenHand D) (desk : Desk D) → IsAtDesk view t pen desk → desk.failed ≡ None
     → WorksAtDesk view t pen desk
 works_at view t pen desk at none = record { holds = at.holds; calm = sym at.fits.frame.failed ∙ none; fits = at.fits; space = at.space }
 
 -- A commit under way, of a core at work for which no turn waits: its slot is one of the box's own, in a phase by whether its gate was written.
-module _ {D : Type 0} (view : D → View) (t : TableState BoxKey) (pen : PenHand D) (desk : Desk D) (work : WorksAtDesk view t pen desk)
+module _ {D : Type 0} (view : D → View) (t : TableState (BoxKey D)) (pen : PenHand D) (desk : Desk D) (work : WorksAtDesk view t pen desk)
     (looked : (past_at pen).waits pen.view.core ≡ None) (flight : Flight) (opened : Bool) (under : IsUnderWay flight opened (own_at pen)) where
   pub under_within : flight.slot < length desk.slots.items
   under_within = flight_within t pen work.holds (flight_of flight opened) under.flies view desk work looked

@@ -59,7 +59,7 @@ module _ {D : Type 0} (asked : ReserveRequest) (before entered done after : PenH
         ∙ (append_assoc it.front (Told (record { 0 = entered.view.core }) (label.Noted it.turn) ∷ it.back) goes_out.seen.0
         ∙ (λ i. it.front ++ ((Told (record { 0 = core_in i }) (label.Noted it.turn) ∷ it.back) ++ goes_out.seen.0))));
     space = it.space;
-    goes = subst (λ (k : BoxKey). SpaceGoes k.layout it.front (first_past k.start) k.space it.space) (sym key_out) it.goes;
+    goes = subst (λ (k : BoxKey D). SpaceGoes k.layout it.front (first_past k.start) k.space it.space) (sym key_out) it.goes;
     short = it.short;
   }
   reserves_around (Err (fault.Stopped faults)) it = record {
@@ -75,14 +75,14 @@ module _ {D : Type 0} (asked : ReserveRequest) (before entered done after : PenH
     };
     front = it.front;
     seen = front_later it.front done.view.seen after.view.seen it.seen goes_out.seen;
-    failed = ap (λ (k : BoxKey). (past_of k it.front).failed) key_out ∙ it.failed;
+    failed = ap (λ (k : BoxKey D). (past_of k it.front).failed) key_out ∙ it.failed;
   }
   reserves_around (Err (fault.Moved node last)) it = record {
     own = own_out ∙ (it.own ∙ own_in);
     front = it.front;
     seen = front_later it.front done.view.seen after.view.seen it.seen goes_out.seen;
     ledger = it.ledger;
-    keeps = subst (λ (k : BoxKey). LedgerKeeps it.ledger (past_of k it.front)) (sym key_out) it.keeps;
+    keeps = subst (λ (k : BoxKey D). LedgerKeeps it.ledger (past_of k it.front)) (sym key_out) it.keeps;
     moved = it.moved;
   }
   reserves_around (Err fault.NoMemory) it = own_out ∙ (it ∙ own_in)

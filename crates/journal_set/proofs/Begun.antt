@@ -1,4 +1,5 @@
 -- A commit begins in an idle slot: what lies in the box goes on to fit.
+use Rattle.disk_box.specs.Desk.{GoesOnSince}
 use Rattle.std.proofs.Common.{◌≡◌, ◌+◌, ◌<◌, ◌≤◌, ◌∙◌, ℕ, Bool, true, false, length, slice_get, slice_set, Option, Some, None, inl, inr, refl, sym, ap, subst, arith}
 use Rattle.std.proofs.lemmas.List.{length-set}
 use Rattle.std.proofs.lemmas.Option.{slice_get_within}
@@ -79,7 +80,7 @@ pub same_begun : (one other : Begin) → label_of one ≡ label_of other
     → ◌≡◌ {A = Stage × (Roomy ℕ × Roomy ℕ)} (one.filling, (one.blocks, one.inodes)) (other.filling, (other.blocks, other.inodes))
 same_begun one other same = some_same (ap begun_in same)
 
-module _ {D : Type 0} (view : D → View) (key : BoxKey) (core : ℕ) (past : BoxPast) (fits : PastFits key.layout key.faults past) (was : Desk D)
+module _ {D : Type 0} (view : D → View) (key : BoxKey D) (core : ℕ) (past : BoxPast) (fits : PastFits key.layout key.faults past) (was : Desk D)
     (frame : FrameFits view key past was) (low : core < key.layout.cores) (b : Begin) (reserved : (past.owns core).reserved ≡ Some b.number)
     (calm : past.failed ≡ None) (slot : Slot) (there : slice_get was.slots.items b.k ≡ Some slot) (own : owner key.layout b.k ≡ core)
     (idle : past.slots b.k ≡ None) (place : b.filling.job.place ≡ place_at key.layout b.k) (drawn : b.filling.job.stamp ≡ was.stamps + 1)
@@ -164,6 +165,7 @@ module _ {D : Type 0} (view : D → View) (key : BoxKey) (core : ℕ) (past : Bo
         failed = ap (λ (d : Desk D). d.failed) same ∙ frame.failed;
         turns = ap (λ (d : Desk D). d.turns.items) same ∙ frame.turns;
         moment = subst (λ (d : Desk D). past.moment ≤ (view d.disk).now) (sym same) frame.moment;
+        since = subst (λ (d : Desk D). GoesOnSince view key d.disk) (sym same) frame.since;
         run = subst (λ (d : Desk D). Rattle.slot_image_laws.specs.Run.RunFits key.layout key.start later (view d.disk)) (sym same)
             (told_labels_fit (view was.disk) key.layout key.faults core key.start (label_of b) past fits began_rule tt (frame.laws was.disk) frame.run);
       };
@@ -180,7 +182,7 @@ module _ {D : Type 0} (view : D → View) (key : BoxKey) (core : ℕ) (past : Bo
           (old.slots none) slot_fits));
     }
 
-module _ {D : Type 0} (view : D → View) (t : TableState BoxKey) (pen : PenHand D) (desk : Desk D) where
+module _ {D : Type 0} (view : D → View) (t : TableState (BoxKey D)) (pen : PenHand D) (desk : Desk D) where
   -- in an idle slot of a core at work there is no commit, and its state has its place
   pub idle_at : (k : ℕ) (idle : Place) → WorksAtDesk view t pen desk → (has : HasKind desk.slots.items k kind.Idle) → has.slot.phase ≡ phase.Idle idle
       → ((past_at pen).slots k ≡ None) × (idle ≡ place_at pen.table.given.layout k)

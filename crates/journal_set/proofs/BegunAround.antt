@@ -86,4 +86,4 @@ written_still {D = D} writing still before mid goes same can =
     subst (CanBeWritten before.table.given.layout) (sym same) can
     in
     let there : CanBeWritten before.table.given.layout still = record { noted = shown.noted; below = shown.below; in_data = shown.in_data } in
-    subst (λ (k : BoxKey). CanBeWritten k.layout still) (sym (ap (λ (h : PenHand D). h.table.given) goes.frame)) there
+    subst (λ (k : BoxKey D). CanBeWritten k.layout still) (sym (ap (λ (h : PenHand D). h.table.given) goes.frame)) there

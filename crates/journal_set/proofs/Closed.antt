@@ -21,7 +21,7 @@ use Rattle.journal_set.specs.Ready.{HasNothingDue}
 at_rest : (own : OwnTold) → HasNothingDue own → IsAtRest own
 at_rest own due = elim due [ inl over ↦ inr over | inr none ↦ inl none.1 ]
 
-pub leaves_disk : {D : Type 0} (view : D → View) (key : BoxKey) (t : TableState BoxKey) (pens : List (PenHand D)) (log : List (Event Label)) (desk : BoxDesk D)
+pub leaves_disk : {D : Type 0} (view : D → View) (key : BoxKey D) (t : TableState (BoxKey D)) (pens : List (PenHand D)) (log : List (Event Label)) (desk : BoxDesk D)
     → MayClose t pens → key.layout.cores ≡ length pens → WasTold key log
     → ((core : ℕ) (pen : PenHand D) → slice_get pens core ≡ Some pen
     → pen.view.mine ≡ Rattle.stamp_table.specs.Rule.entries_by Rattle.stamp_table.specs.Events.event_core core log)
@@ -40,27 +40,28 @@ leaves_disk view key t pens log desk may count told mine seen home = record {
       (subst IsAtRest (sym own) (at_rest (own_at pen) (may.rests core pen there)))
       ∙ ap (λ (o : OwnTold). o.told) own);
   run = home.fits.frame.run;
+  since = home.fits.frame.since;
   faults = home.fits.faults;
   space = (desk.ledger.space, home.space);
 }
 
 -- A table whose journals may be closed has a place.
-pub some_places : {D : Type 0} (t : TableState BoxKey) (pens : List (PenHand D)) → MayClose t pens → 0 < t.table.id.slots
+pub some_places : {D : Type 0} (t : TableState (BoxKey D)) (pens : List (PenHand D)) → MayClose t pens → 0 < t.table.id.slots
 some_places {D = D} t pens may =
     let some = may.some in
     elim (slice_get_cases pens 0).1 [
       | inl found ↦
           let out = may.outside 0 found.0 found.2 in
-          subst (λ (d : Desk BoxKey). 0 < d.id.slots) out.table_is out.place
+          subst (λ (d : Desk (BoxKey D)). 0 < d.id.slots) out.table_is out.place
       | inr past ↦ (let none = past.0 in absurd (omega (arith, some, none)))
     ]
 
 -- what stands for a history at its place is a box at home
-pub home_of : {D : Type 0} (view : D → View) (key : BoxKey) (log : List (Event Label)) (value : Option (BoxDesk D)) → StandsBox view key log value
+pub home_of : {D : Type 0} (view : D → View) (key : BoxKey D) (log : List (Event Label)) (value : Option (BoxDesk D)) → StandsBox view key log value
     → (value ≡ None → ⊥)
 home_of view key log None stands none = stands
 home_of view key log (Some desk) stands none = absurd (cc none)
 
-pub home_some : {D : Type 0} (view : D → View) (key : BoxKey) (log : List (Event Label)) (value : Option (BoxDesk D)) (desk : BoxDesk D)
+pub home_some : {D : Type 0} (view : D → View) (key : BoxKey D) (log : List (Event Label)) (value : Option (BoxDesk D)) (desk : BoxDesk D)
     → StandsBox view key log value → value ≡ Some desk → IsHome view key log desk
 home_some view key log value desk stands is = subst (StandsBox view key log) is stands

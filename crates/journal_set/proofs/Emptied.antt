@@ -1,4 +1,5 @@
 -- A commit that writes nothing: what lies in the box goes on to fit.
+use Rattle.disk_box.specs.Desk.{GoesOnSince}
 use Rattle.std.proofs.Common.{◌≡◌, ◌∷◌, ◌++◌, ◌+◌, ◌<◌, ◌≤◌, ◌∙◌, ℕ, false, [], length, slice_set, Option, Some, None, refl, sym, ap, subst, arith}
 use Rattle.std.proofs.lemmas.List.{length-set}
 use Rattle.sfs_dev.specs.Disk.{View}
@@ -30,7 +31,7 @@ pub record ThreeTurns (before core number moment : ℕ) (flush : Flush) (cut ope
   pub opened_now : (opened.now ≡ moment) × (opened.faults ≡ before)
   pub durable_now : (durable.now ≡ moment) × (durable.faults ≡ before)
 
-module _ {D : Type 0} (view : D → View) (key : BoxKey) (core : ℕ) (past : BoxPast) (fits : PastFits key.layout key.faults past) (was : Desk D)
+module _ {D : Type 0} (view : D → View) (key : BoxKey D) (core : ℕ) (past : BoxPast) (fits : PastFits key.layout key.faults past) (was : Desk D)
     (frame : FrameFits view key past was) (low : core < key.layout.cores) (number : ℕ) (reserved : (past.owns core).reserved ≡ Some number)
     (calm : past.failed ≡ None) (flush : Flush) (cut opened durable : Turn)
     (three : ThreeTurns key.faults core number (view was.disk).now flush cut opened durable) where
@@ -106,6 +107,7 @@ module _ {D : Type 0} (view : D → View) (key : BoxKey) (core : ℕ) (past : Bo
         failed = ap (λ (d : Desk D). d.failed) same ∙ frame.failed;
         turns = turns ∙ ap (λ l. l ++ cut ∷ opened ∷ durable ∷ []) frame.turns;
         moment = subst (λ (d : Desk D). durable.now ≤ (view d.disk).now) (sym same) (let at = three.durable_now.0 in omega (arith, at));
+        since = subst (λ (d : Desk D). GoesOnSince view key d.disk) (sym same) frame.since;
         run = subst (λ (d : Desk D). Rattle.slot_image_laws.specs.Run.RunFits key.layout key.start later (view d.disk)) (sym same)
             (told_labels_fit (view was.disk) key.layout key.faults core key.start (label.Empty number cut opened durable) past fits empty_rule
             three.cut_now.0 (frame.laws was.disk) frame.run);

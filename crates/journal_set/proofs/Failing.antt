@@ -20,7 +20,7 @@ use Rattle.journal_set.proofs.Aloft.{owed_at}
 use Rattle.journal_set.proofs.Turned.{core_kept}
 
 -- a core at work is at the desk
-pub at_of_work : {D : Type 0} (view : D → View) (t : TableState BoxKey) (pen : PenHand D) (desk : Desk D) → WorksAtDesk view t pen desk
+pub at_of_work : {D : Type 0} (view : D → View) (t : TableState (BoxKey D)) (pen : PenHand D) (desk : Desk D) → WorksAtDesk view t pen desk
     → IsAtDesk view t pen desk
 at_of_work view t pen desk work = record { holds = work.holds; fits = work.fits; space = work.space }
 
@@ -32,7 +32,7 @@ progress_comes flight core before after progress.Filled not goes = goes
 progress_comes flight core before after (progress.Durable ack) not goes = absurd not
 
 -- A call has failed of a commit under way: no turn waits for its core, and it may take its last turns.
-module _ {D V : Type 0} (view : D → View) (t : TableState BoxKey) (before after : PenHand D) (desk : Desk D) (faults : ℕ)
+module _ {D V : Type 0} (view : D → View) (t : TableState (BoxKey D)) (before after : PenHand D) (desk : Desk D) (faults : ℕ)
     (steps : Steps view t {V = V} before after desk (Err faults)) (looked : (past_at before).waits before.view.core ≡ None) where
   pub still_looked : (past_at after).waits after.view.core ≡ None
   still_looked = ap (past_at after).waits (core_kept before after steps.goes) ∙ (steps.waits ∙ looked)
@@ -45,20 +45,20 @@ module _ {D V : Type 0} (view : D → View) (t : TableState BoxKey) (before afte
 
   -- the cause lasts
   pub risen_still : (last : PenHand D) → PenGoes after last → HasRisen last.table.given.faults faults
-  risen_still last goes = subst (λ (k : BoxKey). HasRisen k.faults faults) (sym (ap (λ (h : PenHand D). h.table.given) goes.frame)) steps.err.risen
+  risen_still last goes = subst (λ (k : BoxKey D). HasRisen k.faults faults) (sym (ap (λ (h : PenHand D). h.table.given) goes.frame)) steps.err.risen
 
 -- a commit under way may take a turn
 some_owed : (flight : Flight) (opened : Bool) → 0 < owed_by_flight (flight_of flight opened)
 some_owed flight true = omega arith
 some_owed flight false = omega arith
 
-pub owes_some : {D : Type 0} (t : TableState BoxKey) (pen : PenHand D) → HoldsBox t pen → (flight : Flight) (opened : Bool)
+pub owes_some : {D : Type 0} (t : TableState (BoxKey D)) (pen : PenHand D) → HoldsBox t pen → (flight : Flight) (opened : Bool)
     → IsUnderWay flight opened (own_at pen)
     → 0 < owed_of ((past_at pen).owns pen.view.core) None
 owes_some t pen holds flight opened under = subst (λ n. 0 < n) (sym (owed_at t pen holds flight opened under)) (some_owed flight opened)
 
 -- The failure of a commit under way, as what comes of its turn: `told` is what its core goes by, which has the flight's number and fsync.
-module _ {D : Type 0} (view : D → View) (t : TableState BoxKey) (before mid after : PenHand D) (faults : ℕ) (flight told : Flight) where
+module _ {D : Type 0} (view : D → View) (t : TableState (BoxKey D)) (before mid after : PenHand D) (faults : ℕ) (flight told : Flight) where
   same_fails : ((opened : Bool) → flight_of told opened ≡ flight_of flight opened)
       → ◌≡◌ {A = ℕ × Flush} (told.commit, flush_of told) (flight.commit, flush_of flight)
   same_fails same = ap (λ (f : SlotFlight). (f.commit, f.flush)) (same false)

@@ -212,7 +212,7 @@ granted_is layout before core moment log grant may is =
     granted_from layout before core log (first_past moment) None (first_fits layout before moment) (λ g e. absurd (none_some e)) may grant is
 
 -- So it is of a pen that has the box.
-pub has_reserved : {D : Type 0} (t : TableState BoxKey) (pen : PenHand D) (grant : GrantedNumbers) → HoldsBox t pen → grant_at pen ≡ Some grant
+pub has_reserved : {D : Type 0} (t : TableState (BoxKey D)) (pen : PenHand D) (grant : GrantedNumbers) → HoldsBox t pen → grant_at pen ≡ Some grant
     → HasReserved pen.view.core (past_at pen) grant
 has_reserved t pen grant holds is =
     granted_is pen.table.given.layout pen.table.given.faults pen.view.core pen.table.given.start pen.view.seen grant holds.lawful

@@ -35,9 +35,9 @@ not_idle (phase.Copied x) place fits = absurd fits
 not_idle (phase.Closing x) place fits = absurd fits
 not_idle phase.Lost place fits = absurd fits
 
-module _ {D : Type 0} (view : D → View) (t : TableState BoxKey) (pen : PenHand D) (desk : Desk D) (work : WorksAtDesk view t pen desk)
+module _ {D : Type 0} (view : D → View) (t : TableState (BoxKey D)) (pen : PenHand D) (desk : Desk D) (work : WorksAtDesk view t pen desk)
     (rests : ((past_at pen).owns pen.view.core).flight ≡ None) (none : NoneIdle desk.slots.items (length desk.waits.items) pen.view.core) where
-  abbrev key : BoxKey
+  abbrev key : BoxKey D
   key = pen.table.given
 
   abbrev pub own_slot : ℕ

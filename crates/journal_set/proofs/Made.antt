@@ -1,4 +1,7 @@
 -- A box that begins fits what no label has told, and its pens are new.
+use Rattle.sfs_dev.specs.Run.{Advances}
+use Rattle.sfs_dev.proofs.Runs.{GoesOn-refl}
+use Rattle.std.specs.declared.snapshot.Snapshot.{Snapshot}
 use Rattle.std.proofs.Common.{◌≡◌, ◌+◌, ◌*◌, ◌<◌, ◌≤◌, ◌∷◌, ◌++◌, ◌∙◌, ◌/◌, ◌%◌, ℕ, zero, suc, List, [], length, Option, Some, None, refl, sym, ap, subst, arith, replicate}
 use Rattle.std.specs.Prelude.{slice_get, slice_index_or}
 use Rattle.std.proofs.lemmas.List.{length-replicate}
@@ -44,7 +47,7 @@ owed_none zero moment = refl
 owed_none (suc n) moment = (let rest = owed_none n moment in omega (arith, rest))
 
 -- A desk that begins.
-pub record IsNewDesk {D : Type 0} (view : D → View) (key : BoxKey) (desk : Desk D) : Type 0 where
+pub record IsNewDesk {D : Type 0} (view : D → View) (key : BoxKey D) (desk : Desk D) : Type 0 where
   pub slots_idle : AreIdleSlots key.layout desk.slots.items
   pub waits_none : desk.waits.items ≡ replicate key.layout.cores None
   pub keeps : LedgerKeeps desk.ledger (first_past key.start)
@@ -55,8 +58,9 @@ pub record IsNewDesk {D : Type 0} (view : D → View) (key : BoxKey) (desk : Des
   pub calm : desk.failed ≡ None
   pub no_turns : desk.turns.items ≡ []
   pub counts : ((view desk.disk).now ≡ key.start) × ((view desk.disk).faults ≡ key.faults)
+  pub began : (first : Snapshot D) → key.first ≡ Some first → first.value ≡ desk.disk
 
-module _ {D : Type 0} (view : D → View) (laws : (disk : D) → KeepsLaws (view disk)) (key : BoxKey) (desk : Desk D)
+module _ {D : Type 0} (view : D → View) (laws : (disk : D) → KeepsLaws (view disk)) (key : BoxKey D) (desk : Desk D)
     (layout : IsLayout key.layout.blocks key.layout) (large : key.layout.blocks ≤ (view desk.disk).size) (new : IsNewDesk view key desk) where
   idle_fits : SlotsFit key.layout (λ _. None) desk.slots.items
   idle_fits = record {
@@ -84,6 +88,7 @@ module _ {D : Type 0} (view : D → View) (laws : (disk : D) → KeepsLaws (view
       failed = new.calm;
       turns = new.no_turns;
       moment = (let same = new.counts.0 in omega (arith, same));
+      since = record { goes = λ first is. subst (λ (d : D). Advances (view d) (view desk.disk)) (sym (new.began first is)) (GoesOn-refl (view desk.disk)) };
       run = subst (λ n. Rattle.slot_image_laws.specs.Run.RunFits key.layout n (first_past n) (view desk.disk)) new.counts.0
           (first_runs_fit (view desk.disk) key.layout large);
     };
@@ -96,7 +101,7 @@ module _ {D : Type 0} (view : D → View) (laws : (disk : D) → KeepsLaws (view
   fresh_home = record { fits = fresh_fits; space = new.space_is; busy = refl }
 
 -- the cores of a table, from a number on, are so each
-cores_each : {D : Type 0} (table : TableDesk BoxKey) (cores number room : ℕ) (first : TreeState) (pens : List (PenHand D)) → AreIdleFrom table cores number pens
+cores_each : {D : Type 0} (table : TableDesk (BoxKey D)) (cores number room : ℕ) (first : TreeState) (pens : List (PenHand D)) → AreIdleFrom table cores number pens
     → AreNew first pens → CoresHaveRoom room pens → (k : ℕ) (pen : PenHand D) → slice_get pens k ≡ Some pen
     → (pen.table ≡ table) × (pen.view.core ≡ number + k) × (pen.held ≡ []) × (pen.view.held ≡ []) × (pen.view.seen ≡ []) × (pen.view.mine ≡ []) × (room ≤
     pen.room)
@@ -110,7 +115,7 @@ cores_each table cores number room first (p ∷ pens) idle new have (suc k) pen 
     let rest = cores_each table cores (number + 1) room first pens idle.1 new.1 have.1 k pen there in
     (rest.0, (let n = rest.1 in omega (arith, n)), rest.2, rest.3, rest.4, rest.5, rest.6)
 
-pub pens_new : {D : Type 0} (t : TableState BoxKey) (first : TreeState) (key : BoxKey) (pens : List (PenHand D)) → IsTableOf first key 0 1 t
+pub pens_new : {D : Type 0} (t : TableState (BoxKey D)) (first : TreeState) (key : BoxKey D) (pens : List (PenHand D)) → IsTableOf first key 0 1 t
     → length first.made ≡ key.layout.cores → AreAllCores t pens → AreNew first pens → CoresHaveRoom 1 pens → AreNewPens t pens
 pens_new {D = D} t first key pens table made all new room = record {
   all = all;
@@ -123,8 +128,8 @@ pens_new {D = D} t first key pens table made all new room = record {
       record {
         outside = record {
           table_is = is.0;
-          place = subst (λ (d : TableDesk BoxKey). 0 < d.id.slots) (sym is.0) (let one = table.cells_are in omega (arith, one));
-          core_is = subst (λ (d : TableDesk BoxKey). pen.view.core < d.given.layout.cores) (sym is.0) (omega (arith, low, count, number, cores));
+          place = subst (λ (d : TableDesk (BoxKey D)). 0 < d.id.slots) (sym is.0) (let one = table.cells_are in omega (arith, one));
+          core_is = subst (λ (d : TableDesk (BoxKey D)). pen.view.core < d.given.layout.cores) (sym is.0) (omega (arith, low, count, number, cores));
           holds_none = is.2;
           none_held = is.3;
         };
@@ -135,7 +140,7 @@ pens_new {D = D} t first key pens table made all new room = record {
       };
 } where
   cores : t.cores ≡ t.table.given.layout.cores
-  cores = table.made ∙ (ap (λ (f : TreeState). length f.made) table.first_is ∙ (made ∙ ap (λ (k : BoxKey). k.layout.cores) (sym table.given_is)))
+  cores = table.made ∙ (ap (λ (f : TreeState). length f.made) table.first_is ∙ (made ∙ ap (λ (k : BoxKey D). k.layout.cores) (sym table.given_is)))
 
 -- what is so of each item by its place is so with one item more
 pub each_more : {A : Type 0} (P : ℕ → A → Type 0) (items : List A) (item : A) (n : ℕ)

@@ -113,7 +113,7 @@ given_from layout before (Told core fact ∷ log) past may other one =
     ]
 
 -- So the next number is above all.
-pub newer_than : (key : BoxKey) (log : List (Event Label)) → LawfulBox key log → (number : ℕ) → number ≡ (past_of key log).commits + 1 → IsNewerThan log number
+pub newer_than : {D : Type 0} (key : BoxKey D) (log : List (Event Label)) → LawfulBox key log → (number : ℕ) → number ≡ (past_of key log).commits + 1 → IsNewerThan log number
 newer_than key log lawful number next other one =
     let given = given_from key.layout key.faults log (first_past key.start) lawful other one in omega (arith, given, next)
 
@@ -132,7 +132,7 @@ numbers_by core (event ∷ log) other one = ⊎_elim
     (cases_Bool (event_core event == core))
 
 -- a number that a pen with the box has reserved is one that was reserved in what it has seen
-pub mine_among : {D : Type 0} (t : TableState BoxKey) (pen : PenHand D) → HoldsBox t pen → (other : ℕ) → IsOneOf (numbers_reserved pen.view.mine) other
+pub mine_among : {D : Type 0} (t : TableState (BoxKey D)) (pen : PenHand D) → HoldsBox t pen → (other : ℕ) → IsOneOf (numbers_reserved pen.view.mine) other
     → IsOneOf (numbers_reserved pen.view.seen) other
 mine_among t pen holds other one =
     numbers_by pen.view.core pen.view.seen other (subst (λ (l : List (Event Label)). IsOneOf (numbers_reserved l) other) holds.mine one)

@@ -50,13 +50,13 @@ pub grant_of_nothing : (grant : GrantedNumbers) → length grant.inodes ≡ 0 �
 grant_of_nothing grant inodes blocks = λ i. record { inodes = nil_from_length grant.inodes inodes i; blocks = nil_from_length grant.blocks blocks i }
 
 -- until a commit has failed no core's last turn has come
-over_so : {D : Type 0} (t : TableState BoxKey) (pen : PenHand D) → HoldsBox t pen → (past_at pen).failed ≡ None → (over : Bool) → (own_at pen).over ≡ over
+over_so : {D : Type 0} (t : TableState (BoxKey D)) (pen : PenHand D) → HoldsBox t pen → (past_at pen).failed ≡ None → (over : Bool) → (own_at pen).over ≡ over
     → (own_at pen).over ≡ false
 over_so t pen holds calm false is = is
 over_so t pen holds calm true is =
     absurd (((past_fits_at t pen holds).over pen.view.core (ap (λ (o : OwnTold). o.over) (owns_own t pen holds) ∙ is)).1 calm)
 
-pub over_calm : {D : Type 0} (t : TableState BoxKey) (pen : PenHand D) → HoldsBox t pen → (past_at pen).failed ≡ None → (own_at pen).over ≡ false
+pub over_calm : {D : Type 0} (t : TableState (BoxKey D)) (pen : PenHand D) → HoldsBox t pen → (past_at pen).failed ≡ None → (own_at pen).over ≡ false
 over_calm t pen holds calm = over_so t pen holds calm (own_at pen).over refl
 
 -- what was refused before a number was reserved is refused

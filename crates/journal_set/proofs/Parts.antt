@@ -54,7 +54,7 @@ reserved_later {D = D} before after core other {number = number} {grant = grant}
           ∙ (append_assoc was.front (Told (record { 0 = core }) (label.Reserved number was.told grant) ∷ was.back) goes.seen.0
           ∙ (λ i. was.front ++ ((Told (record { 0 = same i }) (label.Reserved number was.told grant) ∷ was.back) ++ goes.seen.0))));
       space = was.space;
-      goes = subst (λ (k : BoxKey). SpaceGoes k.layout was.front (first_past k.start) k.space was.space) (sym key) was.goes;
+      goes = subst (λ (k : BoxKey D). SpaceGoes k.layout was.front (first_past k.start) k.space was.space) (sym key) was.goes;
       enough = was.enough;
       next = was.next;
       took = was.took;

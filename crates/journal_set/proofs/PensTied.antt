@@ -29,7 +29,7 @@ one_tells stamps core own Is (one ∷ other ∷ turns) is each = absurd is
 
 module _ {D : Type 0} (stamps : ℕ → ℕ) where
   -- a new pen has told nothing
-  pub new_told : (t : TableState BoxKey) (core : ℕ) (pen : PenHand D) → IsNewPen t core pen → PenTold stamps core pen.view.mine
+  pub new_told : (t : TableState (BoxKey D)) (core : ℕ) (pen : PenHand D) → IsNewPen t core pen → PenTold stamps core pen.view.mine
   new_told t core pen new = record { turns = []; mine_is = new.none_told; tells = tt }
 
   -- a call whose turns are of commits of its core's
@@ -58,7 +58,7 @@ module _ {D : Type 0} (stamps : ℕ → ℕ) where
       (record { had = tells.are.had; named = named tells.are.number tells.are.had }) tells.are.is)
 
   -- what pens told is what each core told of the history that journals leave
-  pub leaves_told : (view : D → View) (key : BoxKey) (pens : List (PenHand D)) (log : List (Event Label)) (disk : D) (turns : List Turn)
+  pub leaves_told : (view : D → View) (key : BoxKey D) (pens : List (PenHand D)) (log : List (Event Label)) (disk : D) (turns : List Turn)
       → LeavesDisk view key pens log disk turns
       → ((core : ℕ) (pen : PenHand D) → slice_get pens core ≡ Some pen → PenTold stamps core pen.view.mine)
       → (core : ℕ) → PenTold stamps core (entries_by event_core core log)

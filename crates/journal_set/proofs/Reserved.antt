@@ -49,7 +49,7 @@ none_mapped f None is = refl
 none_mapped f (Some x) is = absurd (some_not_none is)
 
 -- A core that has nothing due.
-module _ {D : Type 0} (view : D → View) (key : BoxKey) (core : ℕ) (past : BoxPast) (fits : PastFits key.layout key.faults past) (was : Desk D)
+module _ {D : Type 0} (view : D → View) (key : BoxKey D) (core : ℕ) (past : BoxPast) (fits : PastFits key.layout key.faults past) (was : Desk D)
     (frame : FrameFits view key past was) (low : core < key.layout.cores) (none : (past.owns core).reserved ≡ None) (rests : (past.owns core).flight ≡ None)
   where
     pub waits_none : past.waits core ≡ None
@@ -122,6 +122,7 @@ module _ {D : Type 0} (view : D → View) (key : BoxKey) (core : ℕ) (past : Bo
           failed = frame.failed;
           turns = frame.turns;
           moment = frame.moment;
+          since = frame.since;
           run = told_labels_fit (view was.disk) key.layout key.faults core key.start (label.Reserved number nodes grant) past fits reserved_rule tt
               (frame.laws was.disk) frame.run;
         }

@@ -19,7 +19,7 @@ use Rattle.disk_box.proofs.Frames.{own_after, others_after, owed_taken}
 use Rattle.journal_set.proofs.Opens.{IsOpenAs, open_as, open_changed, open_nothing, open_reserved}
 
 -- A core that has reserved.
-module _ {D : Type 0} (view : D → View) (key : BoxKey) (core : ℕ) (past : BoxPast) (fits : PastFits key.layout key.faults past) (was : Desk D)
+module _ {D : Type 0} (view : D → View) (key : BoxKey D) (core : ℕ) (past : BoxPast) (fits : PastFits key.layout key.faults past) (was : Desk D)
     (frame : FrameFits view key past was) (low : core < key.layout.cores) (number : ℕ) (reserved : (past.owns core).reserved ≡ Some number) where
   pub no_flight : (past.owns core).flight ≡ None
   no_flight = fits.numbers.rests core number reserved
@@ -91,6 +91,7 @@ module _ {D : Type 0} (view : D → View) (key : BoxKey) (core : ℕ) (past : Bo
         failed = frame.failed;
         turns = frame.turns;
         moment = frame.moment;
+        since = frame.since;
         run = told_labels_fit (view was.disk) key.layout key.faults core key.start (label.Returned number) past fits reserved tt (frame.laws was.disk)
             frame.run;
       };

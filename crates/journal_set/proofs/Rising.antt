@@ -9,7 +9,7 @@ use Rattle.disk_box.specs.Box.{LawfulBox, past_of}
 use Rattle.disk_box.specs.declared.key.BoxKey.{BoxKey}
 
 -- The next number is above that of the last commit of a node that has ended.
-module _ (key : BoxKey) (log : List (Event Label)) (lawful : LawfulBox key log) (number : ℕ) (next : number ≡ (past_of key log).commits + 1) where
+module _ {D : Type 0} (key : BoxKey D) (log : List (Event Label)) (lawful : LawfulBox key log) (number : ℕ) (next : number ≡ (past_of key log).commits + 1) where
   abbrev fits : LastsFit (past_of key log).lasts (past_of key log).opens (past_of key log).done (past_of key log).commits
   fits = nodes_fit key.layout key.faults key.start log lawful
 

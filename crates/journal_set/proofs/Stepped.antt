@@ -9,7 +9,7 @@ use Rattle.disk_box.specs.Pens.{PenHand, WorksAtDesk, past_at}
 use Rattle.disk_box.specs.Steps.{Steps}
 use Rattle.disk_box.proofs.Served.{goes_still}
 
-module _ {D : Type 0} (view : D → View) (t : TableState BoxKey) where
+module _ {D : Type 0} (view : D → View) (t : TableState (BoxKey D)) where
   -- one that answered Ok with something else
   pub steps_ok : {V W : Type 0} (before after : PenHand D) (desk : Desk D) (one : V) (other : W) → Steps view t before after desk (Ok one)
       → Steps view t before after desk (Ok other)

@@ -67,12 +67,12 @@ module _ (flight : Flight) (core entered : ℕ) (same : entered ≡ core) (befor
 -- So does its cause.
 pub cause_around : {D : Type 0} (done after : PenHand D) → PenGoes done after → (refused : CommitFault) → IsCausedBy done refused → IsCausedBy after refused
 cause_around {D = D} done after goes (fault.DiskFailed faults) cause =
-    subst (λ (k : BoxKey). HasRisen k.faults faults) (sym (ap (λ (h : PenHand D). h.table.given) goes.frame)) cause
+    subst (λ (k : BoxKey D). HasRisen k.faults faults) (sym (ap (λ (h : PenHand D). h.table.given) goes.frame)) cause
 cause_around done after goes (fault.NoSpace kind need free) cause = cause
 cause_around {D = D} done after goes (fault.Stopped faults) cause = record {
   front = cause.front;
   seen = front_later cause.front done.view.seen after.view.seen cause.seen goes.seen;
-  failed = ap (λ (k : BoxKey). (past_of k cause.front).failed) (ap (λ (h : PenHand D). h.table.given) goes.frame) ∙ cause.failed;
+  failed = ap (λ (k : BoxKey D). (past_of k cause.front).failed) (ap (λ (h : PenHand D). h.table.given) goes.frame) ∙ cause.failed;
 }
 cause_around done after goes (fault.Moved node last) cause = cause
 cause_around done after goes fault.NoMemory cause = cause

@@ -20,7 +20,7 @@ use Rattle.journal_set.specs.Grants.{grant_at}
 use Rattle.journal_set.proofs.Grants.{has_reserved}
 use Rattle.journal_set.proofs.Returned.{number_there}
 
-module _ {D : Type 0} (t : TableState BoxKey) (pen : PenHand D) (holds : HoldsBox t pen) (number : ℕ) (reserved : (own_at pen).reserved ≡ Some number) where
+module _ {D : Type 0} (t : TableState (BoxKey D)) (pen : PenHand D) (holds : HoldsBox t pen) (number : ℕ) (reserved : (own_at pen).reserved ≡ Some number) where
   told : ((past_at pen).owns pen.view.core).reserved ≡ Some number
   told = ap (λ (o : OwnTold). o.reserved) (owns_own t pen holds) ∙ reserved
 
@@ -42,7 +42,7 @@ module _ {D : Type 0} (t : TableState BoxKey) (pen : PenHand D) (holds : HoldsBo
   owes_unbegun over = owed_unbegun ((past_at pen).owns pen.view.core) told (ap (λ (o : OwnTold). o.over) (owns_own t pen holds) ∙ over)
 
 -- The number that a ledger has of a core is the one that it has reserved.
-pub its_reserved : {D : Type 0} (view : D → View) (t : TableState BoxKey) (pen : PenHand D) (desk : Desk D) (grant : GrantedNumbers) → IsAtDesk view t pen desk
+pub its_reserved : {D : Type 0} (view : D → View) (t : TableState (BoxKey D)) (pen : PenHand D) (desk : Desk D) (grant : GrantedNumbers) → IsAtDesk view t pen desk
     → grant_at pen ≡ Some grant → (number : ℕ) → number_in desk.ledger pen.view.core ≡ Some number → (own_at pen).reserved ≡ Some number
 its_reserved view t pen desk grant at is number there =
     let has = has_reserved t pen grant at.holds is in
@@ -52,7 +52,7 @@ its_reserved view t pen desk grant at is number there =
     sym (ap (λ (o : OwnTold). o.reserved) (owns_own t pen at.holds)) ∙ (has.reserved ∙ (sym known ∙ there))
 
 -- and it has one
-pub some_reserved : {D : Type 0} (view : D → View) (t : TableState BoxKey) (pen : PenHand D) (desk : Desk D) (grant : GrantedNumbers) → IsAtDesk view t pen desk
+pub some_reserved : {D : Type 0} (view : D → View) (t : TableState (BoxKey D)) (pen : PenHand D) (desk : Desk D) (grant : GrantedNumbers) → IsAtDesk view t pen desk
     → grant_at pen ≡ Some grant → number_in desk.ledger pen.view.core ≡ None → ⊥
 some_reserved view t pen desk grant at is none =
     let has = has_reserved t pen grant at.holds is in
@@ -62,7 +62,7 @@ some_reserved view t pen desk grant at is none =
     Rattle.sfs_base.proofs.BasicOptions.none_some (sym none ∙ known)
 
 -- What begins in a slot with the number that was reserved is this flight.
-pub begins_flight : {D : Type 0} (t : TableState BoxKey) (pen after : PenHand D) (holds : HoldsBox t pen) (flight : Flight)
+pub begins_flight : {D : Type 0} (t : TableState (BoxKey D)) (pen after : PenHand D) (holds : HoldsBox t pen) (flight : Flight)
     → (own_at pen).reserved ≡ Some flight.commit → BeginsInSlot flight.slot (flush_of flight) (own_at pen) (own_at after)
     → BeginsFlight flight (own_at pen) (own_at after)
 begins_flight t pen after holds flight had begins =

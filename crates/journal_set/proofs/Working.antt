@@ -1,4 +1,5 @@
 -- What a core that is at work with the box may note.
+use Rattle.disk_box.specs.Desk.{GoesOnSince}
 use Rattle.std.proofs.Common.{◌≡◌, ◌∷◌, ◌++◌, ◌*◌, ◌<◌, ◌≤◌, ◌∙◌, ℕ, Bool, [], length, option_map, Option, Some, None, inl, inr, refl, sym, ap, subst, arith, true, false}
 use Rattle.sfs_dev.specs.Disk.{View}
 use Rattle.stamp_table.specs.Table.{TableState}
@@ -23,13 +24,13 @@ use Rattle.journal_set.specs.Ready.{HasNothingDue}
 use Rattle.journal_set.proofs.Reserved.{owed_most}
 
 -- no turn waits for a core without a flight
-pub looked_none : {D : Type 0} (t : TableState BoxKey) (pen : PenHand D) → HoldsBox t pen → (own_at pen).flight ≡ None
+pub looked_none : {D : Type 0} (t : TableState (BoxKey D)) (pen : PenHand D) → HoldsBox t pen → (own_at pen).flight ≡ None
     → (past_at pen).waits pen.view.core ≡ None
 looked_none t pen holds idle =
     (past_fits_at t pen holds).flights.idle pen.view.core (ap (λ (o : OwnTold). o.flight) (owns_own t pen holds) ∙ idle)
 
 -- nor for one that has nothing due
-pub looked_due : {D : Type 0} (t : TableState BoxKey) (pen : PenHand D) → HoldsBox t pen → HasNothingDue (own_at pen)
+pub looked_due : {D : Type 0} (t : TableState (BoxKey D)) (pen : PenHand D) → HoldsBox t pen → HasNothingDue (own_at pen)
     → (past_at pen).waits pen.view.core ≡ None
 looked_due t pen holds rests = elim rests [
   | inl over ↦ ((past_fits_at t pen holds).over pen.view.core (ap (λ (o : OwnTold). o.over) (owns_own t pen holds) ∙ over)).0
@@ -37,7 +38,7 @@ looked_due t pen holds rests = elim rests [
 ]
 
 -- where none has failed, one that has nothing due has reserved no number and has no flight
-pub nothing_due : {D : Type 0} (t : TableState BoxKey) (pen : PenHand D) → HoldsBox t pen → (past_at pen).failed ≡ None → HasNothingDue (own_at pen)
+pub nothing_due : {D : Type 0} (t : TableState (BoxKey D)) (pen : PenHand D) → HoldsBox t pen → (past_at pen).failed ≡ None → HasNothingDue (own_at pen)
     → ((own_at pen).reserved ≡ None) × ((own_at pen).flight ≡ None)
 nothing_due t pen holds calm rests = elim rests [
   | inl over ↦ absurd (((past_fits_at t pen holds).over pen.view.core (ap (λ (o : OwnTold). o.over) (owns_own t pen holds) ∙ over)).1 calm)
@@ -45,7 +46,7 @@ nothing_due t pen holds calm rests = elim rests [
 ]
 
 -- until a commit has failed a turn has the count of faults of the box
-pub calm_faults : {D : Type 0} (view : D → View) (key : BoxKey) (past : BoxPast) (desk : Desk D) (turn : Turn) → FrameFits view key past desk
+pub calm_faults : {D : Type 0} (view : D → View) (key : BoxKey D) (past : BoxPast) (desk : Desk D) (turn : Turn) → FrameFits view key past desk
     → past.failed ≡ None → turn.faults ≡ turn_faults desk.faults desk.failed (view desk.disk).faults → turn.faults ≡ key.faults
 calm_faults view key past desk turn frame calm is =
     is ∙ (ap (λ f. turn_faults desk.faults f (view desk.disk).faults) (frame.failed ∙ calm) ∙ frame.faults)
@@ -62,7 +63,7 @@ owed_noted turn own None = by (ends_all turn.act) own.over refl where
   by true over is = omega arith
   by false over is = omega arith
 
-pub owed_by_noted : (key : BoxKey) (core n : ℕ) (past : BoxPast) (turn : Turn)
+pub owed_by_noted : {D : Type 0} (key : BoxKey D) (core n : ℕ) (past : BoxPast) (turn : Turn)
     → owed_by n (after_label key.layout core (label.Noted turn) past) ≤ owed_by n past
 owed_by_noted key core n past turn = owed_less n past (after_label key.layout core (label.Noted turn) past) (λ other low. elim (same_or_not other core) [
   | inl same ↦
@@ -76,7 +77,7 @@ owed_by_noted key core n past turn = owed_less n past (after_label key.layout co
 ])
 
 -- more room for turns leaves a desk fit
-pub desk_roomier : {D : Type 0} (view : D → View) (key : BoxKey) (past : BoxPast) (was now : Desk D) → DeskFits view key past was
+pub desk_roomier : {D : Type 0} (view : D → View) (key : BoxKey D) (past : BoxPast) (was now : Desk D) → DeskFits view key past was
     → now ≡ record was { turns = now.turns } → now.turns.items ≡ was.turns.items → was.turns.spare ≤ now.turns.spare → DeskFits view key past now
 desk_roomier {D = D} view key past was now old same items more = record {
   frame = record {
@@ -94,6 +95,7 @@ desk_roomier {D = D} view key past was now old same items more = record {
     failed = ap (λ (d : Desk D). d.failed) same ∙ old.frame.failed;
     turns = items ∙ old.frame.turns;
     moment = subst (λ (d : Desk D). past.moment ≤ (view d.disk).now) (sym same) old.frame.moment;
+    since = subst (λ (d : Desk D). GoesOnSince view key d.disk) (sym same) old.frame.since;
     run = subst (λ (d : Desk D). RunFits key.layout key.start past (view d.disk)) (sym same) old.frame.run;
   };
   room = (let room = old.room in omega (arith, room, more));

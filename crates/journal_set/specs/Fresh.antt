@@ -9,7 +9,7 @@ use Rattle.journal_set.specs.declared.making.Fresh.{Fresh}
 use Rattle.journal_set.specs.Making.{AreIdleSlots}
 
 -- Memory for one cell, the tree of a root alone with a core a pen, all slots idle, no turn that waits, a ledger over free space, and no turn yet.
-pub record IsFresh {D : Type 0} (key : BoxKey) (fresh : Fresh D) : Type 0 where
+pub record IsFresh {D : Type 0} (key : BoxKey D) (fresh : Fresh D) : Type 0 where
   pub cells_none : fresh.cells.items ≡ []
   pub cells_room : 0 < vec_capacity fresh.cells
   pub tree_is : fresh.tree ≡ root_alone 1 0 key.layout.cores

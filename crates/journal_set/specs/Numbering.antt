@@ -21,7 +21,7 @@ use Rattle.journal_set.specs.Grants.{grant_at}
 
 -- A commit was reserved in a history, by a core, with its nodes as they were seen and a grant of as much as it needs: what was free then sufficed, and it was
 -- taken of that. Numbers begin with 1, and this one is above the last commit of each of its nodes.
-pub record WasReserved (key : BoxKey) (log : List (Event Label)) (core number : ℕ) (seen : List Seen) (need : Need) (grant : GrantedNumbers) : Type 0 where
+pub record WasReserved {D : Type 0} (key : BoxKey D) (log : List (Event Label)) (core number : ℕ) (seen : List Seen) (need : Need) (grant : GrantedNumbers) : Type 0 where
   pub front : List (Event Label)
   pub back : List (Event Label)
   pub told : Rattle.sfs_base.specs.Lists.Roomy Seen
@@ -55,7 +55,7 @@ abbrev pub IsNewerThan : List (Event Label) → ℕ → Type 0
 IsNewerThan log number = (other : ℕ) → IsOneOf (numbers_reserved log) other → other < number
 
 -- A pen with the box has reserved a number, with a grant.
-pub record Numbers {D : Type 0} (view : D → View) (t : TableState BoxKey) (seen : List Seen) (need : Need) (made : Numbered) (before after : PenHand D)
+pub record Numbers {D : Type 0} (view : D → View) (t : TableState (BoxKey D)) (seen : List Seen) (need : Need) (made : Numbered) (before after : PenHand D)
     (was now : Desk D) : Type 0 where
   pub goes : PenGoes before after
   pub room : after.room ≡ before.room

@@ -10,7 +10,7 @@ abbrev pub HasNothingDue : OwnTold → Type 0
 HasNothingDue own = (own.over ≡ true) ⊎ ((own.reserved ≡ None) × (own.flight ≡ None))
 
 -- A pen that does not have the box, with room to take it, and nothing due.
-pub record IsReady {D : Type 0} (t : TableState BoxKey) (pen : PenHand D) : Type 0 where
+pub record IsReady {D : Type 0} (t : TableState (BoxKey D)) (pen : PenHand D) : Type 0 where
   pub outside : IsOutside t pen
   pub room : 0 < pen.room
   pub rests : HasNothingDue (own_at pen)

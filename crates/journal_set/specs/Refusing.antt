@@ -14,7 +14,7 @@ abbrev pub MOST_TURNS : ℕ
 MOST_TURNS = suc MOST_OWED
 
 -- A core with the box may reserve: none has failed, it has nothing due, there is room for its turns, and none of these nodes has moved.
-pub record MayReserve {D : Type 0} (view : D → View) (t : TableState BoxKey) (seen : List Seen) (pen : PenHand D) (desk : Desk D) : Type 0 where
+pub record MayReserve {D : Type 0} (view : D → View) (t : TableState (BoxKey D)) (seen : List Seen) (pen : PenHand D) (desk : Desk D) : Type 0 where
   pub work : WorksAtDesk view t pen desk
   pub rests : ((own_at pen).reserved ≡ None) × ((own_at pen).flight ≡ None)
   pub room : MOST_TURNS * pen.table.given.layout.cores ≤ desk.turns.spare

@@ -3,7 +3,7 @@ ghost use Rattle.std.specs.Prelude.{◌≡◌, ◌≤◌, ◌∷◌, [], None, S
 ghost use Rattle.sfs_image.specs.Super.{IsLayout};
 ghost use Rattle.slot_laws.specs.Grants.{NoneGranted};
 ghost use Rattle.journal_set.specs.Fresh.{IsFresh};
-ghost use Rattle.journal_set.specs.Making.{AreIdleSlots, AreNewPens, IsKeyOf};
+ghost use Rattle.journal_set.specs.Making.{AreIdleSlots, AreNewPens, BeganOver, IsKeyOf};
 ghost use Rattle.disk_box.specs.declared.desk.Desk.{Desk as DeskOf};
 
 use crate::JournalSet;
@@ -44,6 +44,7 @@ impl<D: Disk + Drop> JournalSet<D> {
         requires large { layout.blocks ≤ (D.view disk).size }
         requires free { NoneGranted space.inodes × NoneGranted space.blocks }
         ensures key { IfOk result (λ made. IsKeyOf layout (D.view disk) space made.0.table.given) }
+        ensures began { IfOk result (λ made. BeganOver disk made.0.table.given) }
         ensures pens { IfOk result (λ made. AreNewPens made.0 made.1.items) }
         ensures back { IfErr result (λ fault. fault.disk ≡ disk) }
     {
@@ -52,6 +53,7 @@ impl<D: Disk + Drop> JournalSet<D> {
             faults: disk.faults(),
             start: disk.now(),
             space,
+            first: Some(Snapshot::of(&disk)),
         };
         let given = Snapshot::of(&key);
         let Ok(fresh) = Fresh::new(alloc, &disk, key) else {
@@ -113,7 +115,7 @@ struct Fresh<D: Disk + Drop> {
 
 impl<D: Disk + Drop> Fresh<D> {
     // That of a disk, by its key.
-    fn new(alloc: Global, disk: &D, key: BoxKey) -> Result<Self, NoMemory>
+    fn new(alloc: Global, disk: &D, key: BoxKey<D>) -> Result<Self, NoMemory>
         requires layout { IsLayout key.layout.blocks key.layout }
         requires large { key.layout.blocks ≤ (D.view disk.now).size }
         requires free { NoneGranted key.space.inodes × NoneGranted key.space.blocks }

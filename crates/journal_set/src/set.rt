@@ -15,11 +15,13 @@ impl<D: Disk> Model for JournalSet<D> {
     ghost use Rattle.std.specs.Prelude.{◌≡◌};
     ghost use Rattle.stamp_table.specs.Table.{TableState, table_code};
     ghost use Rattle.disk_box.specs.declared.key.BoxKey.{BoxKey};
-    ghost use Rattle.disk_box.specs.contracts.key.BoxKey as key;
+    ghost use Rattle.disk_box.specs.Codes.{key_code};
+    ghost use Rattle.fmt_super.specs.contracts.layout.Layout as layout;
+    ghost use Rattle.space_map.specs.contracts.map.SpaceMap as space;
 
-    ghost Value = { TableState BoxKey };
+    ghost Value = { TableState (BoxKey D) };
 
-    ghost coded = { table_code key.the_row.coded };
+    ghost coded = { table_code (key_code layout.the_row.coded space.the_row.coded D.code) };
 
     ghost view = { λ set. set.table };
 

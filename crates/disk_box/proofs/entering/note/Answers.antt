@@ -9,14 +9,14 @@ use Rattle.disk_box.proofs.entering.note.Goals as goal
 
 pub tell-requires-clause-may : goal.tell-requires-clause-may
 tell-requires-clause-may g c =
-    subst (λ (d : TableName BoxKey). MayTell (Lawful g.D.Disk.view d.given) (Stood g.D.Disk.view d.given) c.args.pen.now.view c.args.label.now)
+    subst (λ (d : TableName (BoxKey _)). MayTell (Lawful g.D.Disk.view d.given) (Stood g.D.Disk.view d.given) c.args.pen.now.view c.args.label.now)
     c.requires.holds.table_is
     (may_tell_here g.D.Disk.view c.args.table.now c.args.pen.now c.requires.holds c.args.label.now
     (amid_turn c.args.label.now c.args.pen.now.view.core (past_at c.args.pen.now).busy c.requires.amid c.requires.holds.busy) c.requires.may)
 
 pub returns-clause-holds : goal.returns-clause-holds
 returns-clause-holds g c =
-    let tells = subst (λ (d : TableName BoxKey). TellsFact (Lawful g.D.Disk.view d.given) (Stood g.D.Disk.view d.given) c.args.label.now c.args.pen.now
+    let tells = subst (λ (d : TableName (BoxKey _)). TellsFact (Lawful g.D.Disk.view d.given) (Stood g.D.Disk.view d.given) c.args.label.now c.args.pen.now
     c.tell.new.self) (sym c.requires.holds.table_is) c.tell.ensures
     in
     holds_told g.D.Disk.view c.args.table.now c.args.pen.now c.requires.holds c.args.label.now c.tell.new.self tells
@@ -24,7 +24,7 @@ returns-clause-holds g c =
 
 pub returns-clause-tells : goal.returns-clause-tells
 returns-clause-tells g c =
-    let tells = subst (λ (d : TableName BoxKey). TellsFact (Lawful g.D.Disk.view d.given) (Stood g.D.Disk.view d.given) c.args.label.now c.args.pen.now
+    let tells = subst (λ (d : TableName (BoxKey _)). TellsFact (Lawful g.D.Disk.view d.given) (Stood g.D.Disk.view d.given) c.args.label.now c.args.pen.now
     c.tell.new.self) (sym c.requires.holds.table_is) c.tell.ensures
     in
     record {

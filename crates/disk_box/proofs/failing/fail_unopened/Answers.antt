@@ -60,7 +60,7 @@ returns-clause-at g c =
     let mid_moment = on.frame.moment in
     let fail = fail_rule mid.table.given.faults mid.view.core (past_at mid) turn (by.core_is ∙ (c.number-core.ensures ∙ sym core_same))
     (ap (λ n. (past_at mid).waits n) core_same ∙ on.looked) (omega (arith, mid_moment, now)) by.did_is on.calm
-    (subst (λ (k : BoxKey). Rattle.sfs_base.specs.Ends.HasRisen k.faults c.args.faults) (sym key_same) broken.risen)
+    (subst (λ (k : BoxKey _). Rattle.sfs_base.specs.Ends.HasRisen k.faults c.args.faults) (sym key_same) broken.risen)
     in
     let later = after_label mid.table.given.layout mid.view.core (label.Noted turn) (past_at mid) in
     let over = ap (λ n. (later.owns n).over) (sym core_same) ∙ (ap (λ (o : OwnTold). o.over) (own_after mid.table.given.layout mid.view.core (label.Noted turn) (past_at mid))
@@ -77,7 +77,7 @@ returns-clause-at g c =
     let spare = c.push.ensures.spare in
     let again = c.push-2.ensures.spare in
     let room = broken.room in
-    let cores : owed_by mid.table.given.layout.cores later ≡ owed_by pen.table.given.layout.cores later = ap (λ (k : BoxKey). owed_by k.layout.cores later) key_same in
+    let cores : owed_by mid.table.given.layout.cores later ≡ owed_by pen.table.given.layout.cores later = ap (λ (k : BoxKey _). owed_by k.layout.cores later) key_same in
     fail_at g.D.Disk.view c.args.table.now mid c.note-2.new.pen turn between (record desk { turns = c.push-2.new.self; failed = Some c.args.faults })
     c.note.ensures.holds c.note-2.ensures.holds c.note-2.ensures.tells on.frame on.space on.calm fail by.did_is (broken.counted, now) refl
     c.push-2.ensures.items (omega (arith, ends, spare, again, room, cores))

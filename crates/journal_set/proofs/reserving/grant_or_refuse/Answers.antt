@@ -73,7 +73,7 @@ note_turn-requires-2-clause-room g c κs within =
     let ok = c.in-Ok.ensures.ok in
     let key_same : pen.table.given ≡ c.args.pen.now.table.given = ap (λ (h : PenHand g.row.D.Denot). h.table.given) ok.goes.frame in
     let room : 4 * pen.table.given.layout.cores ≤ c.number_commit.new.desk.turns.spare =
-    subst (λ (z : BoxKey × Rattle.sfs_base.specs.Lists.Roomy Rattle.tree_laws.specs.declared.turns.Turn.Turn). 4 * z.0.layout.cores ≤ z.1.spare)
+    subst (λ (z : BoxKey _ × Rattle.sfs_base.specs.Lists.Roomy Rattle.tree_laws.specs.declared.turns.Turn.Turn). 4 * z.0.layout.cores ≤ z.1.spare)
     (λ i. (sym key_same i, sym ok.turns i)) c.requires.may.room
     in
     room_beside pen.table.given.layout.cores pen.view.core c.number_commit.new.desk.turns.spare _ ok.work.holds.core_is room

@@ -23,7 +23,7 @@ begin_at-result-requires-clause-goes_on g c κs within = ap (λ (o : OwnTold). o
 
 pub begin_at-result-requires-clause-written : goal.begin_at-result-requires-clause-written
 begin_at-result-requires-clause-written g c κs within =
-    subst (λ (k : BoxKey). CanBeWritten k.layout c.args.writing) (sym (ap (λ (h : PenHand g.row.D.Denot). h.table.given) c.enter-desk.ensures.goes.frame))
+    subst (λ (k : BoxKey _). CanBeWritten k.layout c.args.writing) (sym (ap (λ (h : PenHand g.row.D.Denot). h.table.given) c.enter-desk.ensures.goes.frame))
     c.requires.written
 
 pub returns-clause-goes : goal.returns-clause-goes

@@ -11,7 +11,7 @@ use Rattle.journal_set.proofs.set.JournalSet.close.Goals as goal
 pub swap_remove-value-requires : goal.swap_remove-value-requires
 swap_remove-value-requires g c =
     let inner = c.self.inside.table in
-    let may : MayClose inner c.args.pens.items = subst (λ (t : TableState BoxKey). MayClose t c.args.pens.items) (sym c.self.view_is) c.requires.may in
+    let may : MayClose inner c.args.pens.items = subst (λ (t : TableState (BoxKey _)). MayClose t c.args.pens.items) (sym c.self.view_is) c.requires.may in
     let count = c.close-values.ensures.log.2.count in
     let some = some_places inner c.args.pens.items may in
     let counted : vec_len c.close-values.result.1 ≡ length c.close-values.result.1.items = grind (arith, common_steps) in
@@ -20,7 +20,7 @@ swap_remove-value-requires g c =
 pub unreachable-requires : goal.unreachable-requires
 unreachable-requires g c =
     let inner = c.self.inside.table in
-    let may : MayClose inner c.args.pens.items = subst (λ (t : TableState BoxKey). MayClose t c.args.pens.items) (sym c.self.view_is) c.requires.may in
+    let may : MayClose inner c.args.pens.items = subst (λ (t : TableState (BoxKey _)). MayClose t c.args.pens.items) (sym c.self.view_is) c.requires.may in
     let log = c.close-values.ensures.log in
     let count = log.2.count in
     let some = some_places inner c.args.pens.items may in
@@ -32,7 +32,7 @@ unreachable-requires g c =
 pub returns : goal.returns
 returns g c =
     let inner = c.self.inside.table in
-    let may : MayClose inner c.args.pens.items = subst (λ (t : TableState BoxKey). MayClose t c.args.pens.items) (sym c.self.view_is) c.requires.may in
+    let may : MayClose inner c.args.pens.items = subst (λ (t : TableState (BoxKey _)). MayClose t c.args.pens.items) (sym c.self.view_is) c.requires.may in
     let log = c.close-values.ensures.log in
     let count = log.2.count in
     let some = some_places inner c.args.pens.items may in
@@ -45,7 +45,7 @@ returns g c =
     record {
       leaves = (
         log.0,
-        subst (λ (t : TableState BoxKey). LeavesDisk g.D.Disk.view t.table.given c.args.pens.items log.0 c.in-Some.desk.disk c.in-Some.desk.turns.items)
+        subst (λ (t : TableState (BoxKey _)). LeavesDisk g.D.Disk.view t.table.given c.args.pens.items log.0 c.in-Some.desk.disk c.in-Some.desk.turns.items)
             c.self.view_is
             (leaves_disk g.D.Disk.view inner.table.given inner c.args.pens.items log.0 c.in-Some.desk may (sym (may.all.count ∙ c.self.invariant))
             log.1.lawful_log.told log.1.mine log.1.seen home),

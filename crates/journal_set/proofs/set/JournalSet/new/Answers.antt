@@ -1,5 +1,7 @@
 use Rattle.std.proofs.Common.{◌≡◌, ◌∷◌, ◌++◌, ◌∙◌, ℕ, List, [], Option, Some, None, length, refl, sym, ap, subst}
 use Rattle.std.proofs.lemmas.List.{length-replicate}
+use Rattle.std.specs.Prelude.{MatchOption, ⊤}
+use Rattle.std.specs.declared.snapshot.Snapshot.{Snapshot}
 use Rattle.tree_laws.specs.Tree.{TreeState}
 use Rattle.stamp_table.specs.declared.event.Event.{Event}
 use Rattle.stamp_table.specs.Table.{AreInSlots, IsTableOf}
@@ -15,7 +17,7 @@ use Rattle.journal_set.proofs.set.JournalSet.new.Goals as goal
 pub make_of_slots-requires-clause-cells : goal.make_of_slots-requires-clause-cells
 make_of_slots-requires-clause-cells g c =
     let fresh = c.in-Ok.ensures.fresh in
-    let key : BoxKey = record { layout = c.args.layout; faults = c.faults.result; start = c.now.result; space = c.args.space } in
+    let key : BoxKey _ = record { layout = c.args.layout; faults = c.faults.result; start = c.now.result; space = c.args.space; first = Some c.of.result } in
     let desk : Desk g.row.D.Denot = record {
       disk = c.args.disk;
       slots = c.in-Ok.fresh.slots;
@@ -45,11 +47,12 @@ make_of_slots-requires-clause-cells g c =
       calm = refl;
       no_turns = fresh.no_turns;
       counts = (sym c.now.ensures.now, sym c.faults.ensures.faults);
+      began = λ first is. subst (λ (o : Option (Snapshot _)). MatchOption o ⊤ (λ s. s.value ≡ c.args.disk)) is c.of.ensures;
     } in
-    let stands : BoxKey → TreeState → List (Event Label) → ℕ → Option (Desk g.row.D.Denot) → Type 0 =
+    let stands : BoxKey _ → TreeState → List (Event Label) → ℕ → Option (Desk g.row.D.Denot) → Type 0 =
     λ key first log place value. place ≡ 0 → StandsBox view key log value
     in
-    subst (λ (z : BoxKey × List (Option (Option (Desk g.row.D.Denot)))). AreInSlots stands (λ measure slot. slot) z.0 0 c.in-Ok.fresh.tree z.1)
+    subst (λ (z : BoxKey _ × List (Option (Option (Desk g.row.D.Denot)))). AreInSlots stands (λ measure slot. slot) z.0 0 c.in-Ok.fresh.tree z.1)
     (λ i. (sym c.of-given.ensures i, sym items i))
     (one_in_slots stands (λ measure slot. slot) key 0 c.in-Ok.fresh.tree (Some desk)
     (λ zero. fresh_home view laws key desk c.requires.layout c.requires.large new))
@@ -60,7 +63,7 @@ make_of_slots-requires-clause-lawful g c = record { rules = tt; cores = λ event
 pub returns-in-Ok-make_of_slots-clause-pens : goal.returns-in-Ok-make_of_slots-clause-pens
 returns-in-Ok-make_of_slots-clause-pens g c =
     let fresh = c.in-Ok.ensures.fresh in
-    let key : BoxKey = record { layout = c.args.layout; faults = c.faults.result; start = c.now.result; space = c.args.space } in
+    let key : BoxKey _ = record { layout = c.args.layout; faults = c.faults.result; start = c.now.result; space = c.args.space; first = Some c.of.result } in
     let desk : Desk g.row.D.Denot = record {
       disk = c.args.disk;
       slots = c.in-Ok.fresh.slots;
@@ -78,12 +81,12 @@ returns-in-Ok-make_of_slots-clause-pens g c =
     pens_new c.in-Ok-make_of_slots.table c.in-Ok.fresh.tree c.of-given.result.value c.in-Ok-make_of_slots.pens.items
     (subst (λ n. IsTableOf c.in-Ok.fresh.tree c.of-given.result.value 0 n c.in-Ok-make_of_slots.table) (ap length items) made.table)
     (ap (λ (f : TreeState). length f.made) fresh.tree_is
-    ∙ (length-replicate c.args.layout.cores 0 ∙ ap (λ (k : BoxKey). k.layout.cores) (sym c.of-given.ensures))) made.cores made.new made.room
+    ∙ (length-replicate c.args.layout.cores 0 ∙ ap (λ (k : BoxKey _). k.layout.cores) (sym c.of-given.ensures))) made.cores made.new made.room
 
 pub disk_of-requires-clause-one : goal.disk_of-requires-clause-one
 disk_of-requires-clause-one g c κs within =
     let fresh = c.in-Ok.ensures.fresh in
-    let key : BoxKey = record { layout = c.args.layout; faults = c.faults.result; start = c.now.result; space = c.args.space } in
+    let key : BoxKey _ = record { layout = c.args.layout; faults = c.faults.result; start = c.now.result; space = c.args.space; first = Some c.of.result } in
     let desk : Desk g.row.D.Denot = record {
       disk = c.args.disk;
       slots = c.in-Ok.fresh.slots;
