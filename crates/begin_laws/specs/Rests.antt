@@ -19,5 +19,5 @@ CoresRest log = (core : ℕ) → IsAtRest (own_from (entries_by event_core core 
 
 -- So it is of the labels that journals leave, where nothing of any pen was due as they were closed.
 abbrev pub ClosedPensRest : {D : Type 0} → (D → View) → Type 0
-ClosedPensRest {D} view = (t : TableState BoxKey) (pens : List (PenHand D)) (log : List (Event Label)) (disk : D) (turns : List Turn)
+ClosedPensRest {D} view = (t : TableState (BoxKey D)) (pens : List (PenHand D)) (log : List (Event Label)) (disk : D) (turns : List Turn)
     → MayClose t pens → LeavesDisk view t.table.given pens log disk turns → CoresRest log
