@@ -1,13 +1,17 @@
 // A volume is mounted.
-ghost use Rattle.std.specs.Prelude.{◌≡◌, ◌≤◌, All, IfErr, IfOk, length, map};
-ghost use Rattle.sfs_dev.specs.Steps.{IfTold};
-ghost use Rattle.recovery.specs.Judging.{IsFaultOf};
-ghost use Rattle.mount.specs.Begun.{BeginsMount, LeavesUnmounted};
-ghost use Rattle.mount.specs.Workers.{AreNewWorkers, AreWorkers, worker_begun};
-ghost use Rattle.mount.specs.Volume.{HasRoom, IsVolume};
+ghost use Rattle.std.specs.Prelude.{◌≡◌, ◌<◌, ◌≤◌, [], IfErr, IfOk, length};
+ghost use Rattle.std.specs.Vec.{vec_capacity};
+ghost use Rattle.sfs_image.specs.Super.{InRange};
+ghost use Rattle.mem_begin.specs.Beginning.{CanBeginTable};
+ghost use Rattle.mem_values.specs.Places.{node_count};
+ghost use Rattle.mount.specs.Begun.{IsTableOver, basis_for};
+ghost use Rattle.mount.specs.Volume.{HasRoom, IsMountOfDisk, IsRefusedMount, IsVolume};
+ghost use Rattle.mount.specs.Workers.{AreWorkers, HaveMadeNothing, workers_begun};
 
 use crate::volume::{Mounted, Room, Volume};
 use disk_box::Pen;
+use disk_nodes::OldDisk;
+use fmt_super::Layout;
 use journal_set::{JournalSet, NewFault};
 use mem_begin::make;
 use mem_calls::Numbers;
@@ -25,4 +29,157 @@ use workers::{Basis, Worker};
 pub struct MountFault<D> {
     pub fault: RecoverFault,
     pub disk: D,
+}
+
+// The workers of cores with their pens, of which there are as many, in a list with room for them.
+fn pair_up<D: Disk + Drop>(
+    cores: Vec<FileCore>,
+    pens: Vec<Pen<D>>,
+    workers: Vec<Worker<Pen<D>>>,
+) -> Vec<Worker<Pen<D>>>
+    requires count { length pens.items ≡ length cores.items }
+    requires none { workers.items ≡ [] }
+    requires room { length cores.items ≤ vec_capacity workers }
+    ensures { result.items ≡ workers_begun cores.items pens.items }
+{
+    let mut workers = workers;
+    let mut pens = pens.into_iter();
+    for core in cores {
+        let Some(pen) = pens.next() else {
+            unreachable!()
+        };
+        workers.push_reserved(Worker {
+            core,
+            pen,
+            refused: false,
+            until: 0,
+        });
+    }
+    workers
+}
+
+// Room for so many cores and pens, and for their workers.
+fn room_for<D: Disk + Drop>(
+    alloc: Global,
+    cores: usize,
+) -> Result<(Room<D>, Vec<Worker<Pen<D>>>), NoMemory>
+    ensures room { IfOk result (λ made. HasRoom cores made.0) }
+    ensures none { IfOk result (λ made. made.1.items ≡ []) }
+    ensures workers { IfOk result (λ made. cores ≤ vec_capacity made.1) }
+{
+    let room = Room {
+        cores: Vec::with_capacity(alloc, cores)?,
+        pens: Vec::with_capacity(alloc, cores)?,
+    };
+    Ok((room, Vec::with_capacity(alloc, cores)?))
+}
+
+// How many nodes a volume with this layout has and by what its cores number new ones, where so many new ones are shared among them.
+fn basis_of(layout: &Layout, nodes: u32) -> Basis
+    requires layout { InRange layout.now }
+    requires most { nodes ≤ 65536 }
+    ensures { result ≡ basis_for layout.now nodes }
+{
+    let share = nodes / layout.cores;
+    Basis {
+        nodes: layout.inodes + share * layout.cores,
+        numbers: Numbers {
+            first: layout.inodes,
+            share,
+        },
+    }
+}
+
+// What a volume is made of before its journals: its table with its cores, and room.
+struct Tabled<D: Disk> {
+    shared: FileShared,
+    cores: Vec<FileCore>,
+    room: Room<D>,
+    workers: Vec<Worker<Pen<D>>>,
+}
+
+// That over a tree.
+fn table_over<D: Disk + Drop>(
+    alloc: Global,
+    tree: &Tree,
+    old: OldDisk,
+    basis: Basis,
+    cores: u8,
+) -> Result<Tabled<D>, NoMemory>
+    requires begins { CanBeginTable tree.now }
+    requires nodes { basis.nodes ≡ node_count tree.now }
+    requires cores { (0 < cores) × (cores ≡ length tree.now.made) }
+    ensures table { IfOk result (IsTableOver tree.now old cores basis.nodes) }
+    ensures room { IfOk result (λ made. HasRoom cores made.room) }
+    ensures workers { IfOk result (λ made. (made.workers.items ≡ []) × (cores ≤ vec_capacity made.workers)) }
+{
+    let (shared, hands) = make(alloc, tree, old, basis.nodes, cores)?;
+    let (room, workers) = room_for(alloc, cores as usize)?;
+    Ok(Tabled {
+        shared,
+        cores: hands,
+        room,
+        workers,
+    })
+}
+
+/// Mounts a disk, in whose tree `nodes` new nodes may be made, at most 65,536, shared among the cores, each as many, rounded down: it recovers the disk and puts
+/// its tree on a table, with a worker for each core of the image. It refuses what `recover` refuses, and want of memory; then the disk is handed back as that leaves
+/// it.
+pub fn mount<D: Disk + Drop>(
+    alloc: Global,
+    disk: D,
+    nodes: u32,
+) -> Result<Mounted<D>, MountFault<D>>
+    requires most { nodes ≤ 65536 }
+    ensures volume { IfOk result (λ made. IsVolume made.volume) }
+    ensures mounts { IfOk result (λ made. IsMountOfDisk D.view nodes disk made.volume) }
+    ensures workers { IfOk result (λ made. AreWorkers made.volume made.workers.items) }
+    ensures new { IfOk result (λ made. HaveMadeNothing made.workers.items) }
+    ensures refused { IfErr result (IsRefusedMount D.view disk) }
+{
+    let mut disk = disk;
+    let begun = match mount_begin::mount(alloc, &mut disk, nodes) {
+        Ok(begun) => begun,
+        Err(fault) => return Err(MountFault { fault, disk }),
+    };
+    let Begun {
+        layout,
+        tree,
+        old,
+        space,
+    } = begun;
+    let basis = basis_of(&layout, nodes);
+    let cores = layout.cores as u8;
+    let Ok(tabled) = table_over(alloc, &tree, old, basis, cores) else {
+        return Err(MountFault {
+            fault: RecoverFault::NoMemory,
+            disk,
+        });
+    };
+    let (set, pens) = match JournalSet::new(alloc, disk, layout, space) {
+        Ok(made) => made,
+        Err(NewFault { disk }) => {
+            return Err(MountFault {
+                fault: RecoverFault::NoMemory,
+                disk,
+            });
+        }
+    };
+    let Tabled {
+        shared,
+        cores: hands,
+        room,
+        workers,
+    } = tabled;
+    Ok(Mounted {
+        workers: pair_up(hands, pens, workers),
+        volume: Volume {
+            shared,
+            set,
+            basis,
+            cores,
+            room,
+        },
+    })
 }

@@ -1,0 +1,4 @@
+pub mod Begun
+pub mod Volume
+pub mod Workers
+pub mod Ends

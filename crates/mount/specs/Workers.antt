@@ -1,0 +1,47 @@
+-- The workers of a volume.
+use Rattle.std.specs.Prelude.{◌≡◌, ◌∷◌, List, [], All, false, map}
+use Rattle.tree_laws.specs.declared.history.Entry.{Entry}
+use Rattle.stamp_table.specs.Table.{AreAllCores}
+use Rattle.mem_values.specs.Start.{FileHand}
+use Rattle.disk_box.specs.Pens.{PenHand}
+use Rattle.journal_set.specs.Ready.{IsReady}
+use Rattle.flush_agrees.specs.Agreement.{CoresAgree, FlushTold}
+use Rattle.workers.specs.Works.{Rests}
+use Rattle.workers.specs.declared.worker.Worker.{Worker}
+use Rattle.mount.specs.declared.volume.Volume.{Volume}
+
+-- A core of a volume's table and its pen agree on all fsyncs of the core: the pen may begin anew, both stand at the same place among the volume's, and what the
+-- core made and told of each fsync is what the pen told of it at the box.
+pub record PairAgrees {D : Type 0} (volume : Volume D) (core : FileHand) (pen : PenHand D) : Type 0 where
+  pub ready : IsReady volume.set pen
+  pub cores : pen.cores ≡ volume.set.cores
+  pub leads : pen.leads ≡ core.leads
+  pub fsyncs : List FlushTold
+  pub agree : CoresAgree volume.shared core pen fsyncs
+
+-- the core of a worker
+abbrev pub core_of : {P : Type 0} → Worker P → FileHand
+core_of worker = worker.core
+
+-- and its pen
+abbrev pub pen_of : {P : Type 0} → Worker P → P
+pen_of worker = worker.pen
+
+-- a worker that has not run yet
+abbrev pub worker_begun : {P : Type 0} → FileHand → P → Worker P
+worker_begun core pen = record { core = core; pen = pen; refused = false; until = 0 }
+
+-- workers that have not run, each with a core and the pen at the same place
+abbrev pub workers_begun : {P : Type 0} → List FileHand → List P → List (Worker P)
+workers_begun [] pens = []
+workers_begun (core ∷ cores) [] = []
+workers_begun (core ∷ cores) (pen ∷ pens) = worker_begun core pen ∷ workers_begun cores pens
+
+-- These are all workers of a volume: they have all of its cores, and each rests and agrees with its pen.
+pub record AreWorkers {D : Type 0} (volume : Volume D) (workers : List (Worker (PenHand D))) : Type 0 where
+  pub all : AreAllCores volume.shared (map core_of workers)
+  pub rest : All (Rests volume.shared (PairAgrees volume)) workers
+
+-- Their cores have made no call.
+abbrev pub HaveMadeNothing : {P : Type 0} → List (Worker P) → Type 0
+HaveMadeNothing workers = All (λ worker. worker.core.entries ≡ []) workers

@@ -1,0 +1,12 @@
+//! A volume: a disk is mounted, its workers run phases on the table over its tree, their fsyncs reach the disk, and it is unmounted.
+#![tactic(auto)]
+
+mod flushing;
+mod mounting;
+mod unmounting;
+mod volume;
+
+pub use flushing::{PairAgreement, run_phase, serve};
+pub use mounting::{MountFault, mount};
+pub use unmounting::unmount;
+pub use volume::{Mounted, Room, Volume};
