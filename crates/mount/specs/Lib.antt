@@ -2,3 +2,4 @@ pub mod Begun
 pub mod Volume
 pub mod Workers
 pub mod Ends
+pub mod Keeping

@@ -1,5 +1,5 @@
 -- The workers of a volume.
-use Rattle.std.specs.Prelude.{◌≡◌, ◌∷◌, List, [], All, false, map}
+use Rattle.std.specs.Prelude.{◌≡◌, ◌∷◌, List, [], ℕ, All, false, map, true}
 use Rattle.tree_laws.specs.declared.history.Entry.{Entry}
 use Rattle.stamp_table.specs.Table.{AreAllCores}
 use Rattle.mem_values.specs.Start.{FileHand}
@@ -10,12 +10,12 @@ use Rattle.workers.specs.Works.{Rests}
 use Rattle.workers.specs.declared.worker.Worker.{Worker}
 use Rattle.mount.specs.declared.volume.Volume.{Volume}
 
--- A core of a volume's table and its pen agree on all fsyncs of the core: the pen may begin anew, both stand at the same place among the volume's, and what the
+-- A core of a volume's table and its pen agree on all fsyncs of the core: the pen may begin anew, the pen of core 0 leads, and what the
 -- core made and told of each fsync is what the pen told of it at the box.
 pub record PairAgrees {D : Type 0} (volume : Volume D) (core : FileHand) (pen : PenHand D) : Type 0 where
   pub ready : IsReady volume.set pen
   pub cores : pen.cores ≡ volume.set.cores
-  pub leads : pen.leads ≡ core.leads
+  pub leads : core.view.core ≡ 0 → pen.leads ≡ true
   pub fsyncs : List FlushTold
   pub agree : CoresAgree volume.shared core pen fsyncs
 

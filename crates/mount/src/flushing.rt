@@ -4,9 +4,9 @@ ghost use Rattle.script.specs.Ready.{LinesMayRun};
 ghost use Rattle.stamp_table.specs.Table.{IsBetweenCalls};
 ghost use Rattle.fsync_stamp.specs.Stamping.{AnswersFsync};
 ghost use Rattle.workers.specs.Works.{WorksEach, any_refused};
+ghost use Rattle.mount.specs.Keeping.{pairs_kept};
 ghost use Rattle.mount.specs.Volume.{IsVolume};
 ghost use Rattle.mount.specs.Workers.{AreWorkers, PairAgrees};
-ghost use Rattle.mount.proofs.Agreeing.{pairs_kept};
 
 use crate::volume::Volume;
 use disk_box::Pen;

@@ -1,0 +1,4 @@
+mod Agreeing
+mod Crew
+mod Teams
+mod Together

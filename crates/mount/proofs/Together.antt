@@ -1,0 +1,126 @@
+-- What is put together as a volume is mounted.
+use Rattle.std.proofs.Common.{◌≡◌, ◌≤◌, ◌<◌, ◌+◌, ◌*◌, ◌∷◌, ◌∙◌, ℕ, zero, suc, List, [], Some, None, inr, length, map, true, refl, sym, ap, subst, arith}
+use Rattle.std.specs.Prelude.{All, slice_get}
+use Rattle.sfs_image.specs.Super.{IsLayout, InRange}
+use Rattle.sfs_dev.specs.Disk.{View}
+use Rattle.tree_laws.specs.Tree.{TreeState}
+use Rattle.stamp_table.specs.Hand.{Desk}
+use Rattle.stamp_table.specs.Table.{AreAllCores, AreIdleFrom, AreNew, IsBetweenCalls, TableState}
+use Rattle.mem_values.specs.Places.{node_count}
+use Rattle.mem_values.specs.Start.{FileHand, FileState, given_by}
+use Rattle.slot_laws.specs.Labels.{nothing_told, own_from}
+use Rattle.disk_box.specs.declared.key.BoxKey.{BoxKey}
+use Rattle.disk_box.specs.Pens.{PenHand, own_at}
+use Rattle.journal_set.specs.Making.{AreNewPens, BeganOver, IsKeyOf, IsNewPen}
+use Rattle.journal_set.specs.Ready.{HasNothingDue, IsReady}
+use Rattle.mount_begin.specs.Mounted.{share_of_nodes}
+use Rattle.mount_begin.specs.declared.begin.Mounted.{Mounted as Begun}
+use Rattle.volume_laws.specs.Mounting.{WasMounted}
+use Rattle.site_laws.specs.Sites.{IsSiteMount}
+use Rattle.site_laws.proofs.Sites.{mounts_are_sites}
+use Rattle.fsync_dir.specs.Site.{IsSite}
+use Rattle.flush_agrees.proofs.Growing.{new_pairs_agree}
+use Rattle.workers.specs.Phases.{AreBefore}
+use Rattle.workers.specs.Works.{IsBasisOf, Rests}
+use Rattle.workers.specs.declared.worker.Worker.{Worker}
+use Rattle.mount.specs.Begun.{IsTableOver, basis_for}
+use Rattle.mount.specs.Volume.{HasRoom, IsMountOfDisk, IsVolume}
+use Rattle.mount.specs.Workers.{AreWorkers, HaveMadeNothing, PairAgrees, core_of, pen_of, worker_begun, workers_begun}
+use Rattle.mount.specs.declared.mounting.Tabled.{Tabled}
+use Rattle.mount.specs.declared.volume.Volume.{Volume}
+
+-- What was mounted, the table over its tree, and the journals over its disk.
+pub record PutTogether {D : Type 0} (view : D → View) (nodes : ℕ) (disk left : D) (begun : Begun) (tabled : Tabled D) (set : TableState (BoxKey D))
+    (pens : List (PenHand D)) : Type 0 where
+  pub was : WasMounted nodes begun (view disk) (view left)
+  pub most : nodes ≤ 65536
+  pub table : IsTableOver begun.tree begun.old begun.layout.cores (basis_for begun.layout nodes).nodes tabled
+  pub room : HasRoom begun.layout.cores tabled.room
+  pub key : IsKeyOf begun.layout (view left) begun.space set.table.given
+  pub over : BeganOver left set.table.given
+  pub new : AreNewPens set pens
+
+-- the site that was mounted
+pub site_of : (nodes : ℕ) (begun : Begun) (old new : View) → WasMounted nodes begun old new → IsSiteMount nodes begun
+site_of nodes begun old new was = mounts_are_sites nodes old.size begun was.sound
+
+-- its tree's share of new nodes
+pub share_is : (nodes : ℕ) (begun : Begun) (old new : View) → WasMounted nodes begun old new → begun.tree.share ≡ share_of_nodes nodes begun.layout
+share_is nodes begun old new was = ap (λ (t : TreeState). t.share) was.sound.shown
+
+-- so many nodes it has
+pub nodes_are : (nodes : ℕ) (begun : Begun) (old new : View) → WasMounted nodes begun old new
+    → (basis_for begun.layout nodes).nodes ≡ node_count begun.tree
+nodes_are nodes begun old new was =
+    let site = site_of nodes begun old new was in
+    (λ i. site.inodes i + share_of_nodes nodes begun.layout * begun.layout.cores)
+    ∙ (λ i. begun.tree.first + sym (share_is nodes begun old new was) i * sym site.cores i)
+
+module _ {D : Type 0} (view : D → View) (nodes : ℕ) (disk left : D) (begun : Begun) (tabled : Tabled D) (set : TableState (BoxKey D))
+    (pens : List (PenHand D)) (put : PutTogether view nodes disk left begun tabled set pens) where
+  -- the volume
+  abbrev pub volume_of : Volume D
+  volume_of = record { shared = tabled.shared; set = set; basis = basis_for begun.layout nodes; cores = begun.layout.cores; room = tabled.room }
+
+  site : IsSiteMount nodes begun
+  site = site_of nodes begun (view disk) (view left) put.was
+
+  -- it has the layout's cores
+  made_cores : length tabled.shared.first.made ≡ begun.layout.cores
+  made_cores = ap (λ (t : TreeState). length t.made) put.table.first ∙ site.cores
+
+  table_cores : tabled.shared.cores ≡ begun.layout.cores
+  table_cores = put.table.counted ∙ made_cores
+
+  basis_is : IsBasisOf tabled.shared (basis_for begun.layout nodes)
+  basis_is = record {
+    table = record {
+      sound = subst Rattle.tree_laws.specs.Laws.IsSoundTree (sym put.table.first) site.sound;
+      within = subst Rattle.tree_laws.specs.Sound.IsWithinLimits (sym put.table.first) site.limits;
+      counted = nodes_are nodes begun (view disk) (view left) put.was ∙ ap node_count (sym put.table.first);
+      slots = put.table.slots ∙ ap (Rattle.mem_values.specs.Places.place_count (basis_for begun.layout nodes).nodes) (sym made_cores);
+    };
+    numbers = record {
+      first_is = site.inodes ∙ ap (λ (t : TreeState). t.first) (sym put.table.first);
+      share_is = sym (share_is nodes begun (view disk) (view left) put.was) ∙ ap (λ (t : TreeState). t.share) (sym put.table.first);
+    };
+  }
+
+  site_is : IsSite tabled.shared (basis_for begun.layout nodes).nodes begun.layout.cores set.table.given
+  site_is = record {
+    table = basis_is.table;
+    cores_are = sym made_cores;
+    inodes = ap (λ (l : Rattle.sfs_image.specs.Super.Layout). l.inodes) put.key.layout_is ∙ (site.inodes ∙ ap (λ (t : TreeState). t.first) (sym put.table.first));
+    space = subst (λ (z : Rattle.sfs_image.specs.Super.Layout × Rattle.space_map.specs.Space.Space). Rattle.fsync_commit.specs.Asked.IsSpaceOn z.0 z.1)
+        (λ i. (sym put.key.layout_is i, sym put.key.space_is i)) site.space;
+    disk = λ node.
+        ap (λ (g : Rattle.mem_values.specs.Start.GivenDisk). Rattle.std.specs.Prelude.is_some (Rattle.mem_values.specs.Start.given_in g.items node)) put.table.given_is
+        ∙ (site.disk node ∙ ap (λ (t : TreeState). Rattle.std.specs.Prelude.is_some (Rattle.std.specs.FinMap.get t.nodes node)) (sym put.table.first));
+    below = λ node.
+        subst (λ (z : ℕ × Rattle.mem_values.specs.Start.GivenDisk).
+        Rattle.mem_values.specs.Facts.IsBelowInodes z.0 (Rattle.mem_values.specs.Start.given_in z.1.items node))
+        (λ i. ((sym put.table.first i).first, sym put.table.given_is i)) (site.below node);
+  }
+
+  -- it is one
+  pub volume_is : 0 < begun.layout.cores → (basis_for begun.layout nodes).nodes ≤ 131072 → IsVolume volume_of
+  volume_is some few = record {
+    basis = basis_is;
+    site = site_is;
+    some = some;
+    table_cores = table_cores;
+    set_cores = put.new.cores ∙ ap (λ (l : Rattle.sfs_image.specs.Super.Layout). l.cores) put.key.layout_is;
+    few = omega (arith, few);
+    room = put.room;
+  }
+
+  pub mount_is : IsMountOfDisk view nodes disk volume_of
+  mount_is = record {
+    begun = begun;
+    left = left;
+    was = put.was;
+    tree = put.table.first;
+    given = put.table.given_is;
+    key = put.key;
+    over = put.over;
+  }
