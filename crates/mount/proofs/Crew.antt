@@ -108,7 +108,7 @@ workers_are volume cores pens begins = record {
     new = begins.new;
     between = begins.between;
     pens_idle = begins.pens_new.all.ready;
-    pens_new = begins.pens_new.each;
+    pens_new = λ k pen there. subst (λ n. IsNewPen volume.set n pen) (omega arith) (begins.pens_new.each k pen there);
     leads = λ none. begins.pens_new.all.leads;
   });
 }
