@@ -15,8 +15,8 @@ use Rattle.close_laws.specs.Close.{TellsAll}
 use Rattle.flush_agrees.specs.Closing.{pen_fsyncs}
 use Rattle.named_laws.specs.Mount.{MountEnd, MountEnds, AreNamed}
 
--- What the turns of a mount tell: all cores agree with their pens on them, each with those of its fsyncs that have some; so they are what fsyncs do, each of which
--- goes one of the ways with its answer; and they tell of answers and acknowledgements, at moments that don't fall.
+-- What the turns of a mount tell: all cores agree with their pens on them, each with those of its fsyncs that have some; so they are what fsyncs do, each of
+-- which goes one of the ways with its answer; and they tell of answers and acknowledgements, at moments that don't fall.
 pub record TurnsEnd (at : MountEnd) (most : ℕ) : Type 0 where
   pub agrees : AgreesAll at.start.first at.start.history at.told.before most (past_of at.told).turns (map pen_fsyncs at.fsyncs)
   pub merge : PensMerge at.start.first at.start.history (past_of at.told).turns
@@ -36,8 +36,8 @@ pub record DiskEnds (at : MountEnd) (disk : View) : Type 0 where
   pub most : ℕ
   pub few : (turn : Turn) → IsOneOf (past_of at.told).turns turn → turn.faults ≤ most
 
--- Such a mount survives each crash since it began: what is left is read as the tree at a closed cut that covers what was acknowledged by then; and a read at the
--- end gives exactly the durable fsyncs. Both are so in the order of turns too, which tell what fsyncs did.
+-- Such a mount survives each crash since it began: what is left is read as the tree at a closed cut that covers what was acknowledged by then; and a read at
+-- the end gives exactly the durable fsyncs. Both are so in the order of turns too, which tell what fsyncs did.
 pub record MountSurvives (share : ℕ) (at : MountEnd) (disk : View) (ends : DiskEnds at disk) : Type 0 where
   pub survives : SurvivesAll share at.told.moment at.start.first at.start.history disk
   pub reads : ReadsBack share at.start.first at.start.history disk
