@@ -1,10 +1,7 @@
 -- What is so of each mount as it ends.
-use Rattle.std.specs.Prelude.{◌≡◌, ◌×◌, ℕ, List, flat_map, Some, slice_get}
+use Rattle.std.specs.Prelude.{◌≡◌, ℕ, List, Some, slice_get}
 use Rattle.label_laws.specs.Maps.{Numbered}
 use Rattle.label_laws.specs.Pens.{PensTell}
-use Rattle.label_laws.specs.Beside.{TellAlong}
-use Rattle.slot_laws.specs.Labels.{first_past}
-use Rattle.slot_laws.specs.Telling.{turns_in}
 use Rattle.close_laws.specs.Pens.{PensRest}
 use Rattle.flush_agrees.specs.Agreement.{FlushTold, turns_of}
 use Rattle.named_laws.specs.Mount.{AreNamed, MountEnd, MountEnds}

@@ -9,7 +9,6 @@ use Rattle.cut_laws.specs.Rules.{IsOneOf}
 use Rattle.beside_laws.specs.Answers.{asked}
 use Rattle.flush_laws.specs.Volume.{Volume}
 use Rattle.mark_laws.specs.Changed.{HasShortFiles}
-use Rattle.bringing_laws.specs.Brings.{Bringing}
 use Rattle.bringing_laws.specs.Imagined.{Imagines}
 use Rattle.walk_laws.specs.Pairs.{commit_under, bringing_under}
 use Rattle.reserve_laws.specs.Olds.{IsKeptIn}
@@ -29,11 +28,11 @@ use Rattle.slot_laws.specs.declared.label.Label.TheVariants as label
 use Rattle.slot_laws.specs.Labels.{first_past, nothing_told, own_from, past_from}
 use Rattle.slot_laws.specs.Grants.{GoesAlong}
 use Rattle.slot_laws.specs.Laws.{AreOfCores, IsAtRest}
+use Rattle.disk_box.specs.Pens.{PenHand}
 use Rattle.label_laws.specs.Beside.{BeginsLabels, brought_at}
 use Rattle.label_laws.specs.Maps.{Numbered, Telling}
-use Rattle.disk_box.specs.Pens.{PenHand}
-use Rattle.flush_agrees.specs.Agreement.{FlushTold, NumbersHave, run_to}
-use Rattle.flush_agrees.specs.Closing.{AgreeAtEnd, HasStamps, MountLogs}
+use Rattle.flush_agrees.specs.Agreement.{CoresAgree, FlushTold, run_to}
+use Rattle.flush_agrees.specs.Closing.{AgreeAtEnd, HasStamps, MountLogs, ReachesEnd}
 use Rattle.flush_agrees.specs.Made.{FlushMade}
 use Rattle.flush_fits.specs.Fitting.{FreesNothing, IsBroughtAs}
 
@@ -65,6 +64,8 @@ pub record CoreEnds (D : Type 0) (at : MountEnd) (core : ℕ) (fsyncs : List Flu
   pub core_is : hand.view.core ≡ core
   pub layout_is : pen.table.given.layout ≡ at.told.layout
   pub start_is : pen.table.given.start ≡ at.told.moment
+  pub agrees : CoresAgree at.t hand pen fsyncs
+  pub reaches : ReachesEnd at.t hand pen at.logs
   pub agree : AgreeAtEnd at.t hand pen fsyncs at.logs
   pub mine : hand.view.mine ≡ entries_by event_core core at.logs.log
 
