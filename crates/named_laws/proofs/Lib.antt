@@ -1,0 +1,4 @@
+pub mod Fronts
+pub mod Fsyncs
+pub mod Plain
+pub mod Named
