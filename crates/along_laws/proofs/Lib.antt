@@ -1,2 +1,4 @@
 pub mod Later
 pub mod Lands
+pub mod Plans
+pub mod Landed
