@@ -35,7 +35,7 @@ use Rattle.slot_laws.specs.Labels.{own_from, nothing_told}
 use Rattle.slot_laws.specs.declared.label.Label.{Label}
 use Rattle.slot_laws.proofs.Lawful.{pens_make_the_record}
 use Rattle.slot_laws.proofs.Telling.{pens_tell_turns}
-use Rattle.label_laws.specs.Maps.{Numbered}
+use Rattle.label_laws.specs.Maps.{Numbered, past_of}
 use Rattle.flush_agrees.specs.Agreement.{FlushTold, HasLanded, turns_of}
 use Rattle.flush_agrees.specs.Made.{FlushMade, LeavesOfNode}
 use Rattle.flush_agrees.specs.Closing.{ToldAtEnd}

@@ -2,3 +2,4 @@ pub mod Fronts
 pub mod Fsyncs
 pub mod Plain
 pub mod Named
+pub mod Told
