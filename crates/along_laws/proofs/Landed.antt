@@ -1,7 +1,6 @@
 -- Which fsyncs became durable by the end of a mount, and of which one each told commit is.
 use Rattle.std.proofs.Common.{◌≡◌, ◌∷◌, ◌<◌, ◌∙◌, List, filter_map, [], inr, inl, refl, ap, Option, None, Some, ℕ, length, slice_get, arith, nat_eq, subst, flat_map, sym}
 use Rattle.std.proofs.lemmas.Option.{slice_get_cases}
-use Rattle.sfs_base.proofs.BasicNumbers.{same_number}
 use Rattle.tree_laws.specs.declared.turns.Turn.{Turn}
 use Rattle.tree_laws.specs.declared.turns.TurnAct.TheVariants as act
 use Rattle.disk_nodes.specs.OldKept.{OldKept}
@@ -14,7 +13,9 @@ use Rattle.cut_laws.specs.Closure.{Flush}
 use Rattle.cut_laws.proofs.Basics.{below_or, filter_none}
 use Rattle.cut_laws.proofs.Listed.{to_filter}
 use Rattle.cut_laws.proofs.RunFacts.{in_filter}
-use Rattle.beside_laws.specs.OwnFile.{own_commit}
+use Rattle.mem_values.proofs.Told.{own_commit}
+use Rattle.stamp_table.specs.Rule.{entries_by}
+use Rattle.sfs_base.proofs.BasicNumbers.{same_number, not_same}
 use Rattle.beside_laws.specs.Commits.{CoreCommit}
 use Rattle.dep_closure.proofs.Looked.{to_flat}
 use Rattle.merge_laws.specs.Pens.{turns_of_core}
@@ -41,6 +42,7 @@ use Rattle.flush_agrees.specs.Made.{FlushMade, LeavesOfNode}
 use Rattle.flush_agrees.specs.Closing.{ToldAtEnd}
 use Rattle.named_laws.specs.Mount.{MountEnd, IsFsyncAt, run_at, MountEnds, AreNamed}
 use Rattle.named_laws.specs.Laws.{PensToldAt}
+use Rattle.named_laws.proofs.Told.{named_pens_tell}
 use Rattle.along_laws.proofs.Plans.{same_commit_made, brings_of, keeps_of, nodes_of}
 
 -- a commit that a log tells is told by an event of its core
