@@ -85,7 +85,7 @@ module _ (D : Type 0) (at : MountEnd) (named : Numbered) (ends : MountEnds D at)
   pens = named_pens_tell D at named ends are
 
   -- the fsyncs of a core that has events
-  has_fsyncs : (core : ℕ) → core < length at.fsyncs → (fsyncs : List FlushTold) × (slice_get at.fsyncs core ≡ Some fsyncs)
+  pub has_fsyncs : (core : ℕ) → core < length at.fsyncs → (fsyncs : List FlushTold) × (slice_get at.fsyncs core ≡ Some fsyncs)
   has_fsyncs core low = elim (slice_get_cases at.fsyncs core).1 [
     | inl within ↦ (within.0, within.2)
     | inr past ↦ absurd (let far = past.0 in omega (arith, far, low))

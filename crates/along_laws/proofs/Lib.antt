@@ -2,3 +2,4 @@ pub mod Later
 pub mod Lands
 pub mod Plans
 pub mod Landed
+pub mod Reserved
