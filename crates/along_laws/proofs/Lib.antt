@@ -3,3 +3,6 @@ pub mod Lands
 pub mod Plans
 pub mod Landed
 pub mod Reserved
+pub mod Boxes
+pub mod Places
+pub mod Telling
