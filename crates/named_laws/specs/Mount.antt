@@ -1,5 +1,5 @@
--- A mount of many cores as it ends: the run of its table, what was told at its box, what it began with, and for each core the fsyncs on which it agrees with its
--- pen; and what commits bring by the stamps of these fsyncs.
+-- A mount of many cores as it ends: the run of its table, what was told at its box, what it began with, and for each core the fsyncs on which it agrees with
+-- its pen; and what commits bring by the stamps of these fsyncs.
 use Rattle.std.specs.Prelude.{◌≡◌, ◌∷◌, ◌++◌, ◌<◌, ◌^◌, ◌-◌, ℕ, List, [], length, map, Some, slice_get}
 use Rattle.sfs_base.specs.declared.numbers.CoreId.{CoreId}
 use Rattle.sfs_base.specs.Lists.{Roomy}
