@@ -32,7 +32,7 @@ record HasEntry (at : MountEnd) (one : FlushTold) (core : ℕ) : Type 0 where
   stamp_is : entry.stamp.0 ≡ one.flush.stamp
   core_is : entry.core.0 ≡ core
 
--- What one of some lists has a stamp: which list, and the fsync.
+-- One of some lists has an fsync with a stamp: which list, and which fsync.
 pub record HasStamp (lists : List (List FlushTold)) (stamp : ℕ) : Type 0 where
   pub core : ℕ
   pub fsyncs : List FlushTold
