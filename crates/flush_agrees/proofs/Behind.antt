@@ -8,13 +8,14 @@ use Rattle.tree_laws.specs.declared.reply.Reply.{Reply}
 use Rattle.tree_laws.specs.declared.reply.Reply.TheVariants as reply
 use Rattle.tree_laws.specs.declared.history.Entry.{Entry}
 use Rattle.tree_laws.specs.declared.turns.Turn.{Turn}
+use Rattle.tree_laws.specs.declared.turns.TurnAct.TheVariants as act
 use Rattle.tree_laws.specs.declared.call.Call.{Call}
 use Rattle.tree_laws.specs.declared.call.Call.TheVariants as call
 use Rattle.cut_laws.specs.Closure.{Flush}
 use Rattle.cut_laws.specs.Rules.{IsOneOf}
 use Rattle.cut_laws.proofs.Basics.{in_either, in_left, in_right}
 use Rattle.cut_laws.proofs.Listed.{from_map}
-use Rattle.turn_laws.specs.Ways.{no_turn, lacked, returned, committed, at_once, doubted, opened_doubted, halted, granted_halted, begun_halted, opened_halted, Way, answer_of, GoesWay}
+use Rattle.turn_laws.specs.Ways.{no_turn, lacked, returned, committed, at_once, doubted, opened_doubted, halted, granted_halted, begun_halted, opened_halted, Way, acts_of_way, answer_of, GoesWay}
 use Rattle.merge_laws.specs.Pens.{FsyncTurns, FsyncsDiffer}
 use Rattle.stamp_table.specs.Answered.{is_refusal}
 use Rattle.stamp_table.specs.Table.{with_answer}
@@ -43,7 +44,7 @@ use Rattle.fsync_dir.specs.Answering.{EndsWaiting}
 use Rattle.fsync_dir.proofs.Pens.{numbers_more}
 use Rattle.pen_laws.specs.Agreement.{IsServedFsync}
 use Rattle.flush_agrees.specs.Made.{FlushMade, TurnIsOf}
-use Rattle.flush_agrees.specs.Agreement.{ToldInSight, MadeIsAgreed, FlushTold, CoresAgree, EntryAgrees, FlushAgrees, turns_of, NumbersHave, fsync_turns, NumbersDiffer, HasFlushFor, IsToldOfOne}
+use Rattle.flush_agrees.specs.Agreement.{ToldInSight, MadeIsAgreed, FlushTold, CoresAgree, EntryAgrees, FlushAgrees, turns_of, NumbersHave, fsync_turns, NumbersDiffer, HasFlushFor, HasLanded, IsToldOfOne}
 use Rattle.flush_agrees.specs.Laws.{FlushPlace}
 use Rattle.flush_agrees.proofs.Turns.{TakesOwn, OwnTurn, own_each}
 use Rattle.flush_agrees.proofs.Growing.{GoesFurther, one_on, flush_on, entry_on}
@@ -69,6 +70,7 @@ pub record ServedBehind {D : Type 0} (t : FileState) (fsync : WaitingFsync) (wai
   pub stopped : (faults : ℕ) → given ≡ reply.Stopped faults → SeesFailure done faults
   pub told : List Commitment
   pub commits : filter_map commit_told after.view.mine ≡ filter_map commit_told waiting.view.mine ++ told
+  pub told_ok : (one : Commitment) → IsOneOf told one → given ≡ reply.Ok
   pub told_of : (one : Commitment) → IsOneOf told one → (m : FlushMade) × (made ≡ Some m) × ToldInSight t after m one
   pub agreed : MadeIsAgreed t after done (flush_waiting fsync) made
   pub newer : (one : FlushMade) → made ≡ Some one → IsNewerThan pen.view.mine one.number
@@ -97,6 +99,26 @@ way_served (halted faults) = refl
 way_served (granted_halted faults) = refl
 way_served (begun_halted faults) = refl
 way_served (opened_halted faults) = refl
+
+-- one that is answered Ok has a turn that makes it durable
+way_landed : (way : Way) → answer_of way ≡ reply.Ok → IsOneOf (acts_of_way way) act.Durable
+way_landed committed is = inr (inr (inr (inl refl)))
+way_landed at_once is = inr (inr (inl refl))
+way_landed no_turn is = absurd (cc is)
+way_landed (lacked kind need free) is = absurd (cc is)
+way_landed returned is = absurd (cc is)
+way_landed doubted is = absurd (cc is)
+way_landed opened_doubted is = absurd (cc is)
+way_landed (halted faults) is = absurd (cc is)
+way_landed (granted_halted faults) is = absurd (cc is)
+way_landed (begun_halted faults) is = absurd (cc is)
+way_landed (opened_halted faults) is = absurd (cc is)
+
+ok_landed : (one : FlushTold) (given : Reply) → GoesWay (turns_in one.turns) given → given ≡ reply.Ok → HasLanded one
+ok_landed one given way is =
+    let there = way_landed way.way (sym way.answered ∙ is) in
+    let from = from_map (λ (turn : Turn). turn.act) (turns_in one.turns) act.Durable (subst (λ l. IsOneOf l act.Durable) (sym way.acts) there) in
+    record { turn = from.0; among = from.1; durable = from.2 }
 
 -- one more, with another stamp than all before
 differ_more : (fsyncs : List FsyncTurns) (one : FsyncTurns) → FsyncsDiffer fsyncs → ((other : FsyncTurns) → IsOneOf fsyncs other → other.stamp ≢ one.stamp)
@@ -308,10 +330,24 @@ module _ {D : Type 0} (at : FlushPlace D) (given : Reply) (fsyncs : List FlushTo
       elim (in_either (filter_map commit_told at.before.view.mine) is.told told (subst (λ l. IsOneOf l told) commits_after among)) [
         | inl before ↦
             let was = one_on at.t at.before at.after at.pen at.done on fsyncs told (agree.commits told before) in
-            record { one = was.one; among = in_left fsyncs (one ∷ []) was.one was.among; made = was.made; is = was.is; tells = was.tells }
+            record {
+              one = was.one;
+              among = in_left fsyncs (one ∷ []) was.one was.among;
+              landed = was.landed;
+              made = was.made;
+              is = was.is;
+              tells = was.tells;
+            }
         | inr new ↦
             let has = is.told_of told new in
-            record { one = one; among = in_right fsyncs (one ∷ []) one (inl refl); made = has.0; is = has.1; tells = has.2 }
+            record {
+              one = one;
+              among = in_right fsyncs (one ∷ []) one (inl refl);
+              landed = ok_landed one given entered.way (is.told_ok told new);
+              made = has.0;
+              is = has.1;
+              tells = has.2;
+            }
       ]
 
   -- so they agree on one more

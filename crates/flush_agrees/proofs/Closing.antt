@@ -228,7 +228,7 @@ module _ {D : Type 0} (t : FileState) (hand : FileHand) (pen : PenHand D) (fsync
     made = made_end;
     unnumbered = λ one among is turn there. subst (λ o. TurnIsOf o turn) is ((agree.each one among).turns turn there);
     told = λ told among. let one = agree.commits told among in
-        record { one = one.one; among = one.among; made = one.made; is = one.is; tells = told_then one.made told one.tells };
+        record { one = one.one; among = one.among; landed = one.landed; made = one.made; is = one.is; tells = told_then one.made told one.tells };
     landed = λ one turn among there durable.
         let was = agree.each one among in
         let has = was.landed (durable_ok (turns_in one.turns) was.entry.reply turn was.entered.way there durable) in

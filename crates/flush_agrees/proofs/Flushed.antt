@@ -138,6 +138,7 @@ module _ {D : Type 0} (at : FlushAt D) (cores : ℕ) (site : IsSite at.t at.node
     stopped = λ faults stops. absurd (cc (sym is ∙ stops));
     told = [];
     commits = ap (filter_map commit_told) ends.mine ∙ sym (append-nil (filter_map commit_told at.hand.view.mine));
+    told_ok = λ one among. absurd among;
     told_of = λ one among. absurd among;
     agreed = tt;
     newer = λ one same. absurd (none_some same);
@@ -244,6 +245,7 @@ module _ {D : Type 0} (at : FlushAt D) (cores : ℕ) (site : IsSite at.t at.node
     stopped = λ faults stops. plan_stops (asked_by planned) from done refusal faults (stopped_by refusal.fault given faults is stops) comes;
     told = [];
     commits = ap (filter_map commit_told) ends.mine ∙ sym (append-nil (filter_map commit_told at.hand.view.mine));
+    told_ok = λ one among. absurd among;
     told_of = λ one among. absurd among;
     agreed = agreed planned from tried none idle (Err refusal) comes since ends.ends.same.number;
     newer = newer planned from tried none idle (Err refusal) comes;
@@ -266,6 +268,7 @@ module _ {D : Type 0} (at : FlushAt D) (cores : ℕ) (site : IsSite at.t at.node
     stopped = λ faults stops. absurd (cc (sym is ∙ stops));
     told = commitment_of s ∷ [];
     commits = commits_landed at s landed.ack after tried lands makes;
+    told_ok = λ one among. is;
     told_of = λ one among. elim among [
       | inl same ↦ (lands_made.one, lands_made.is, subst (ToldInSight at.t after lands_made.one) same sight)
       | inr past ↦ absurd past

@@ -105,7 +105,7 @@ module _ {D : Type 0} (t : FileState) (before after : FileHand) (pen done : PenH
   -- and what was told is of one of some fsyncs as before
   pub one_on : (fsyncs : List FlushTold) (told : Commitment) → IsToldOfOne t before fsyncs told → IsToldOfOne t after fsyncs told
   one_on fsyncs told was =
-      record { one = was.one; among = was.among; made = was.made; is = was.is; tells = told_on was.made told was.tells }
+      record { one = was.one; among = was.among; landed = was.landed; made = was.made; is = was.is; tells = told_on was.made told was.tells }
 
 pub new_pairs_agree : (D : Type 0) → NewPairsAgree D
 new_pairs_agree D t box hand pen none mine new = record {

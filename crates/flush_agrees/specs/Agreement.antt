@@ -117,17 +117,24 @@ abbrev pub NumbersDiffer : List FlushTold → Type 0
 NumbersDiffer fsyncs = (one other : FlushTold) (made also : FlushMade) → IsOneOf fsyncs one → IsOneOf fsyncs other → one.made ≡ Some made
     → other.made ≡ Some also → made.number ≡ also.number → one.flush.stamp ≡ other.flush.stamp
 
--- A commit that a core told is of what it made for one of some fsyncs.
+-- An fsync has become durable: one of its turns says so.
+pub record HasLanded (one : FlushTold) : Type 0 where
+  pub turn : Turn
+  pub among : IsOneOf (turns_in one.turns) turn
+  pub durable : turn.act ≡ act.Durable
+
+-- A commit that a core told is of what it made for one of some fsyncs, which has become durable.
 pub record IsToldOfOne (t : FileState) (hand : FileHand) (fsyncs : List FlushTold) (told : Commitment) : Type 0 where
   pub one : FlushTold
   pub among : IsOneOf fsyncs one
+  pub landed : HasLanded one
   pub made : FlushMade
   pub is : one.made ≡ Some made
   pub tells : ToldInSight t hand made told
 
 -- A core of a table and its pen agree on these fsyncs, which are all of the core's that were served. What the pen told are their turns at the box, in order, each
 -- of a commit of the core's where numbers have the stamps of the fsyncs. They agree on each; no two have one stamp, or one number; and each commit that the core
--- told is of one of them.
+-- told is of one of them that has become durable.
 pub record CoresAgree {D : Type 0} (t : FileState) (hand : FileHand) (pen : PenHand D) (fsyncs : List FlushTold) : Type 0 where
   pub one : pen.view.core ≡ hand.view.core
   pub told : pen.view.mine ≡ events_in pen.view.core (turns_of fsyncs)

@@ -1,0 +1,5 @@
+use Rattle.along_laws.proofs.Telling.{named_tell_along as law}
+use Rattle.along_laws.proofs.laws.named_tell_along.Goals as goal
+
+pub returns : goal.returns
+returns g c = law _

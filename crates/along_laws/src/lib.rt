@@ -1,0 +1,4 @@
+//! That cores tell of their pairs along the labels of a mount.
+#![tactic(auto)]
+
+pub mod laws;
