@@ -1,0 +1,5 @@
+pub mod Unwritten
+pub mod Rewritten
+pub mod Frees
+pub mod Mounted
+pub mod Left
