@@ -1,5 +1,6 @@
 // What is proved of what commits give up: each function's contract is a law.
 ghost use Rattle.frees_laws.specs.Frees.{CommitsLeaveWell, MadesFreeNothing, MountsKeepWell};
+ghost use Rattle.frees_laws.specs.Runs.{ReservedAreAbove, RunsFreeNothing, RunsKeepWell};
 
 /// What a core made of nodes that are well kept gives nothing up, where it has no record to write.
 pub fn mades_free_nothing()
@@ -14,4 +15,19 @@ pub fn mounts_keep_well()
 /// And so is what a commit leaves of nodes that are, with a grant of what it needs.
 pub fn commits_leave_well()
     ensures { CommitsLeaveWell }
+{}
+
+/// So all that a core makes something of in a run is well kept, where each commit that the run tells was granted what it needs.
+pub fn runs_keep_well()
+    ensures { RunsKeepWell }
+{}
+
+/// Then what was made in the run gives nothing up, where it has no record to write.
+pub fn runs_free_nothing()
+    ensures { RunsFreeNothing }
+{}
+
+/// A number that was reserved by the rules of labels is above those of the last commits of its nodes, of which its core knew.
+pub fn reserved_are_above()
+    ensures { ReservedAreAbove }
 {}
