@@ -1,4 +1,4 @@
-//! What is proved of the begin of a mount and of its pens once they are closed: each function's contract is a law.
+// What is proved of the begin of a mount and of its pens once they are closed: each function's contract is a law.
 ghost use Rattle.begin_laws.specs.Begins.{BegunDisksGoOn, MountsBeginLabels};
 ghost use Rattle.begin_laws.specs.Rests.{ClosedPensRest};
 

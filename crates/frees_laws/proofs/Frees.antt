@@ -1,6 +1,6 @@
 -- What was planned of nodes that are well kept gives nothing up, where it has no record to write.
-use Rattle.std.proofs.Common.{◌≡◌, ◌≢◌, ◌++◌, ℕ, List, [], map, refl, sym, ap, subst, ◌∙◌, Contains, inl, inr}
 use Rattle.std.specs.Prelude.{◌⊎◌, slice_index}
+use Rattle.std.proofs.Common.{◌≡◌, ◌≢◌, ◌∙◌, ℕ, List, [], map, refl, sym, ap, subst, Contains, inl, inr}
 use Rattle.std.proofs.lemmas.List.Elements.{Contains-append_cases}
 use Rattle.sfs_base.specs.declared.numbers.NodeId.{NodeId}
 use Rattle.sfs_base.specs.declared.numbers.Kind.{Kind}
@@ -9,24 +9,22 @@ use Rattle.sfs_image.specs.Inode.{Inode, Table}
 use Rattle.sfs_image.specs.Slot.{kind_byte}
 use Rattle.fmt_journal.specs.declared.tx.Tx.{Tx}
 use Rattle.disk_nodes.specs.declared.old.OldEntry.{OldEntry}
+use Rattle.block_map.specs.Remap.{IsGivenUp}
 use Rattle.disk_change.specs.AllBuilt.{built_by, numbers_with}
 use Rattle.disk_change.specs.GivenUp.{IsLeftByGone, IsLeftBySeat, entry_number}
 use Rattle.disk_change.specs.Planned.{Planned, leaves, planned, seated_entering, seated_old, staying}
 use Rattle.disk_change.specs.Records.{records_written}
-use Rattle.disk_change.specs.Seated.{Begun, CommitChanges, Seated, begun_entering, begun_old, free_inode, seated, seated_as}
+use Rattle.disk_change.specs.Seated.{Begun, CommitChanges, Seated, begun_entering, begun_old, seated, seated_as}
 use Rattle.disk_change.specs.Written.{IsTransactionOf}
 use Rattle.disk_change.specs.declared.directory_net.DirectoryNet.{DirectoryNet}
 use Rattle.disk_change.specs.declared.enter.Enter.{Enter}
 use Rattle.disk_change.specs.declared.files.FileChange.{FileChange}
+use Rattle.disk_change.specs.Built.{rewrite_in}
 use Rattle.commit_laws.proofs.NumbersGiven.{kept_in}
 use Rattle.commit_laws.proofs.OwnInodes.{mapped_is_in}
 use Rattle.slot_laws.specs.Nodes.{no_numbers}
-use Rattle.made_laws.specs.Made.{CoreMade}
-use Rattle.note_laws.specs.Run.{TableRun}
-use Rattle.flush_agrees.specs.Made.{FlushMade, change_of}
-use Rattle.flush_fits.specs.Fitting.{FreesNothing}
 use Rattle.frees_laws.specs.Frees.{MadesFreeNothing}
-use Rattle.frees_laws.specs.Kept.{AreWellKept, IsWellKept}
+use Rattle.frees_laws.specs.Kept.{AreWellKept}
 use Rattle.frees_laws.proofs.Rewritten.{none_given_up}
 use Rattle.frees_laws.proofs.Unwritten.{empty_of, gone_free, nothing_in, seat_same}
 
@@ -62,7 +60,8 @@ module _ (old : List OldEntry) (nets : List DirectoryNet) (files : List FileChan
     pub begins : BeginsWell begun
 
   pub has_begun : (seat : Seated) → Contains change.seats seat → HasBegun seat
-  has_begun seat there = elim (Contains-append_cases (map (seated_old change.changes) (staying old leave)) (map (seated_entering change.changes) enter) seat there) [
+  has_begun seat there = elim
+      (Contains-append_cases (map (seated_old change.changes) (staying old leave)) (map (seated_entering change.changes) enter) seat there) [
     | inl stays ↦
         let one = mapped_is_in (seated_old change.changes) (staying old leave) seat stays in
         let held = kept_in _ old one.0 one.1 in
@@ -86,7 +85,7 @@ module _ (old : List OldEntry) (nets : List DirectoryNet) (files : List FileChan
 
     of_seat : (begun : Begun) → BeginsWell begun → (seat : Seated) → IsSeatOf begun seat
         → seat.before ≡ (built_by change.changes (numbers_with change []) [] seat).meta → (block place : ℕ)
-        → Rattle.block_map.specs.Remap.IsGivenUp (Rattle.disk_change.specs.Built.rewrite_in seat) block place → ⊥
+        → IsGivenUp (rewrite_in seat) block place → ⊥
     of_seat begun begins seat is same block place up =
         none_given_up seat.meta seat.tables seat.changed seat.before
         (is.direct ∙ begins.direct ∙ sym (ap (λ (inode : Inode). inode.direct) is.before))

@@ -1,29 +1,29 @@
 -- What a commit leaves of nodes that are well kept is well kept.
-use Rattle.std.proofs.Common.{◌≡◌, ◌≢◌, ℕ, zero, suc, ◌+◌, ◌-◌, ◌<◌, ◌≤◌, ◌^◌, Bool, true, false, cond, ◌&&◌, List, [], ◌∷◌, length, map, take, drop, min, filter_map, Option, Some, None, sum_by, refl, sym, ap, subst, ◌∙◌, arith, Contains, inl, inr, nat_lt, nat_eq, get_or}
 use Rattle.std.specs.Prelude.{slice_index}
-use Rattle.std.specs.List.{find, range_with_len}
-use Rattle.std.proofs.lemmas.Bool.{cond-false, le-ltb}
+use Rattle.std.specs.List.{range_with_len}
+use Rattle.std.proofs.Common.{◌≡◌, ◌≢◌, ◌+◌, ◌-◌, ◌<◌, ◌≤◌, ◌^◌, ◌&&◌, ◌∷◌, ◌∙◌, ℕ, zero, suc, Bool, true, false, cond, List, [], length, map, take, drop, min, Option, Some, sum_by, refl, sym, ap, subst, arith, Contains, nat_lt, nat_eq, get_or, eqb-true}
+use Rattle.std.proofs.lemmas.Bool.{cond-false, le-ltb, eqb-true}
 use Rattle.std.proofs.lemmas.List.{length-take, length-drop}
 use Rattle.std.proofs.lemmas.List.Sums.{sum_by-cons}
-use Rattle.sfs_base.proofs.BasicOptions.{none_some, some_same}
 use Rattle.sfs_base.specs.declared.numbers.NodeId.{NodeId}
 use Rattle.sfs_base.specs.declared.numbers.Kind.{Kind}
 use Rattle.sfs_base.specs.declared.numbers.Kind.TheVariants.{File, Directory}
+use Rattle.sfs_base.proofs.BasicOptions.{none_some}
 use Rattle.sfs_image.specs.Inode.{Inode, Table}
 use Rattle.sfs_image.specs.Slot.{kind_byte}
 use Rattle.sfs_image.specs.Seen.{FILE_BLOCKS, PLACES}
-use Rattle.sfs_image.specs.Super.{Layout}
 use Rattle.sfs_image.proofs.Basics.{get_or-tabulate, found_passes}
+use Rattle.space_map.specs.declared.grant.Need.{Need}
+use Rattle.space_map.specs.Space.{GrantedNumbers}
 use Rattle.image_laws.specs.Need.{Rewrite, rewrites_table, table_has_pointer, takes_place, takes_table, rank}
 use Rattle.image_laws.proofs.Ranks.{ranks_serve}
+use Rattle.disk_nodes.specs.Nodes.{entry_node}
+use Rattle.disk_nodes.specs.declared.old.OldEntry.{OldEntry}
 use Rattle.block_map.specs.declared.changed.ChangedBlock.{ChangedBlock}
 use Rattle.block_map.specs.declared.rewrite.TableFate.{TableFate}
 use Rattle.block_map.specs.declared.rewrite.TableFate.TheVariants.{Stays, Goes, IsWritten}
-use Rattle.block_map.specs.Remap.{rewrite_of, inode_remapped, tables_remapped, table_remapped, table_by_fate, table_fate, table_written, own_pointer, pointer_remapped}
+use Rattle.block_map.specs.Remap.{rewrite_of, inode_remapped, tables_remapped, table_remapped, table_by_fate, table_fate, own_pointer, pointer_remapped}
 use Rattle.block_map.proofs.Places.{own_pointer_is, remapped_at_place}
-use Rattle.space_map.specs.declared.grant.Need.{Need}
-use Rattle.disk_nodes.specs.Nodes.{entry_node}
-use Rattle.disk_nodes.specs.declared.old.OldEntry.{OldEntry}
 use Rattle.disk_change.specs.AllBuilt.{after_commit, built_by, entry_after, nodes_built, nodes_with_grant, numbers_with}
 use Rattle.disk_change.specs.Built.{Built}
 use Rattle.disk_change.specs.Planned.{Planned, blocks_taken, planned}
@@ -31,7 +31,6 @@ use Rattle.disk_change.specs.Seated.{Begun, CommitChanges, Seated}
 use Rattle.disk_change.specs.declared.directory_net.DirectoryNet.{DirectoryNet}
 use Rattle.disk_change.specs.declared.enter.Enter.{Enter}
 use Rattle.disk_change.specs.declared.files.FileChange.{FileChange}
-use Rattle.space_map.specs.Space.{GrantedNumbers}
 use Rattle.disk_change.proofs.NumbersGiven.{further_in}
 use Rattle.commit_laws.proofs.Granted.{given_by, in_dropped, low_place}
 use Rattle.commit_laws.proofs.OwnInodes.{ascending_is_in, mapped_is_in}
@@ -106,14 +105,16 @@ module _ (inode : Inode) (tables : List Table) (changed : List ChangedBlock) (fr
 
   -- an indirect block's own pointer afterwards is that of its fate
   own_after : (k : ℕ) → k < 16
-      → slice_index after.indirect k ≡ own_pointer (table_fate rewrite k) (slice_index inode.indirect k) (slice_index fresh (rank (takes_place rewrite) (FILE_BLOCKS + k)))
+      → slice_index after.indirect k
+      ≡ own_pointer (table_fate rewrite k) (slice_index inode.indirect k) (slice_index fresh (rank (takes_place rewrite) (FILE_BLOCKS + k)))
   own_after k low = get_or-tabulate 16 (λ j. pointer_remapped rewrite fresh (FILE_BLOCKS + j)) k 0 low ∙ sym (own_pointer_is inode tables changed fresh k)
 
   -- a fresh block that is taken is there
   taken_there : (place : ℕ) → place < PLACES → takes_place rewrite place ≡ true → slice_index fresh (rank (takes_place rewrite) place) ≢ 0
   taken_there place within takes =
       let less = (ranks_serve (takes_place rewrite)).below place PLACES takes within in
-      some (slice_index fresh (rank (takes_place rewrite) place)) (rank (takes_place rewrite) place, omega (arith, less, enough), same _ fresh (omega (arith, less, enough)))
+      some (slice_index fresh (rank (takes_place rewrite) place))
+      (rank (takes_place rewrite) place, omega (arith, less, enough), same _ fresh (omega (arith, less, enough)))
     where
       same : (k : ℕ) (xs : List ℕ) → k < length xs → get_or xs k (slice_index xs k) ≡ slice_index xs k
       same k [] within = absurd (omega arith)
@@ -132,7 +133,7 @@ module _ (inode : Inode) (tables : List Table) (changed : List ChangedBlock) (fr
     where
       by : (fate : TableFate) → table_fate rewrite k ≡ fate → table_by_fate fate rewrite fresh tables k ≡ Some table → slice_index after.indirect k ≢ 0
       by Stays fate is hole =
-          let at : table.place ≡ k = Rattle.std.proofs.lemmas.Bool.eqb-true table.place k (found_passes (λ t. nat_eq t.place k) tables table is) in
+          let at : table.place ≡ k = eqb-true table.place k (found_passes (λ t. nat_eq t.place k) tables table is) in
           well table (found_is_in (λ t. nat_eq t.place k) tables table is)
           (ap (slice_index inode.indirect) at
           ∙ sym (ap (λ f. own_pointer f (slice_index inode.indirect k) (slice_index fresh (rank (takes_place rewrite) (FILE_BLOCKS + k)))) fate)
@@ -179,7 +180,8 @@ module _ (old : List OldEntry) (nets : List DirectoryNet) (files : List FileChan
 pub commits_leave_well : CommitsLeaveWell
 commits_leave_well run layout made core well granted =
     let plans = core.plans in
-    let need : min (sum_by blocks_taken made.making.plan.change.seats) (2 ^ 32 - 1) ≡ length made.grant.blocks = ap (λ (n : Need). n.blocks) granted.grants.need in
+    let need : min (sum_by blocks_taken made.making.plan.change.seats) (2 ^ 32 - 1) ≡ length made.grant.blocks =
+    ap (λ (n : Need). n.blocks) granted.grants.need in
     let few = granted.few in
     let most = granted.grants.blocks in
     let all : sum_by blocks_taken made.making.plan.change.seats ≤ length made.grant.blocks = omega (arith, need, few, most) in

@@ -5,3 +5,5 @@ pub mod Mounted
 pub mod Left
 pub mod Runs
 pub mod Reserved
+pub mod Told
+pub mod Agreed

@@ -1,26 +1,22 @@
 -- What was mounted is well kept.
-use Rattle.std.proofs.Common.{◌≡◌, ◌≢◌, ℕ, ◌<◌, Bool, true, false, cond, List, [], filter_map, Option, Some, None, refl, sym, ap, subst, ◌∙◌, arith, Contains, nat_eq}
-use Rattle.std.specs.Prelude.{slice_index, not}
+use Rattle.std.specs.Prelude.{slice_index, slice_index_or}
 use Rattle.std.specs.List.{range_with_len}
-use Rattle.std.proofs.lemmas.Bool.{eqb-false, eqb-true}
+use Rattle.std.proofs.Common.{◌≡◌, ◌≢◌, ℕ, Bool, true, false, cond, List, [], Some, None, refl, sym, ap, subst, Contains, nat_eq}
+use Rattle.std.proofs.lemmas.Bool.{eqb-false}
 use Rattle.sfs_base.proofs.BasicOptions.{none_some, some_same}
 use Rattle.sfs_base.proofs.BasicTruth.{not_true}
-use Rattle.sfs_image.specs.Inode.{Inode, Table}
+use Rattle.sfs_image.specs.Inode.{Inode, Table, pointers_of}
 use Rattle.sfs_image.specs.Part.{Part, inode_in}
-use Rattle.sfs_image.specs.Seen.{SeenInodes}
 use Rattle.image_laws.specs.Image.{inodes_shown}
 use Rattle.image_laws.specs.ImageTree.{NOTHING_MADE}
-use Rattle.disk_nodes.specs.OldKept.{Kept}
 use Rattle.disk_nodes.specs.declared.old.OldEntry.{OldEntry}
-use Rattle.block_map.specs.Kept.{kept_of, kept_tables, table_kept, tables_kept}
+use Rattle.block_map.specs.Kept.{kept_of, table_kept, tables_kept}
 use Rattle.commit_laws.proofs.Granted.{given_by}
-use Rattle.mount.specs.Mounted.{IsSoundMount}
-use Rattle.mount.specs.declared.begin.Mounted.{Mounted}
 use Rattle.recovery.specs.Freed.{without_unlinked}
 use Rattle.volume_laws.proofs.Begun.{numbered}
 use Rattle.volume_laws.proofs.BegunEntries.{keeps_entries}
 use Rattle.frees_laws.specs.Frees.{MountsKeepWell}
-use Rattle.frees_laws.specs.Kept.{AreWellKept, IsWellKept}
+use Rattle.frees_laws.specs.Kept.{IsWellKept}
 
 -- an indirect block that is kept of a part has its pointer in the record
 tables_well : (inode : Inode) (blocks : List (List ℕ)) (table : Table) → Contains (tables_kept inode blocks) table → slice_index inode.indirect table.place ≢ 0
@@ -30,7 +26,7 @@ tables_well inode blocks table there =
     by from.0 (nat_eq (slice_index inode.indirect from.0) 0) refl from.2
   where
     by : (k : ℕ) (hole : Bool) → nat_eq (slice_index inode.indirect k) 0 ≡ hole
-        → cond hole None (Some (record { place = k; pointers = Rattle.sfs_image.specs.Inode.pointers_of (Rattle.std.specs.Prelude.slice_index_or blocks k []) }))
+        → cond hole None (Some (record { place = k; pointers = pointers_of (slice_index_or blocks k []) }))
         ≡ Some table → slice_index inode.indirect table.place ≢ 0
     by k true e is = absurd (none_some is)
     by k false e is =
@@ -48,4 +44,5 @@ mounts_keep_well nodes size mounted sound entry there =
     subst IsWellKept (sym each.1)
     (part_well (without_unlinked sound.parts entry.old.number)
     (subst (λ (i : ℕ). (inode_in (without_unlinked sound.parts i)).kind ≢ 0) (sym is.same)
-    (eqb-false (inode_in (without_unlinked sound.parts entry.node.0)).kind 0 (not_true (nat_eq (inode_in (without_unlinked sound.parts entry.node.0)).kind 0) is.used))))
+    (eqb-false (inode_in (without_unlinked sound.parts entry.node.0)).kind 0
+    (not_true (nat_eq (inode_in (without_unlinked sound.parts entry.node.0)).kind 0) is.used))))

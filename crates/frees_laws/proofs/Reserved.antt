@@ -1,18 +1,14 @@
 -- A number that was reserved is above those of the last commits of its nodes.
-use Rattle.std.proofs.Common.{◌≡◌, ℕ, ◌+◌, ◌<◌, ◌≤◌, true, List, Option, Some, sym, ap, subst, ◌∙◌, arith}
+use Rattle.std.proofs.Common.{◌≤◌, ◌∙◌, ℕ, List, sym, subst, arith}
 use Rattle.sfs_image.specs.Super.{Layout}
-use Rattle.cut_laws.specs.Rules.{IsOneOf}
 use Rattle.stamp_table.specs.declared.event.Event.{Event}
-use Rattle.made_laws.specs.Made.{is_concerned}
-use Rattle.made_laws.specs.Tells.{last_of_seen}
 use Rattle.slot_laws.specs.declared.label.Label.{Label}
 use Rattle.slot_laws.specs.Labels.{BoxPast, first_past, past_from}
-use Rattle.slot_laws.specs.Lasts.{LastsFit, NamesLast, Reserving, ReservesIn, held_by_none, held_last_by, told_reserving}
+use Rattle.slot_laws.specs.Lasts.{NamesLast, held_by_none, held_last_by}
 use Rattle.slot_laws.specs.Nodes.{last_seen}
 use Rattle.slot_laws.specs.Rules.{MayFrom}
 use Rattle.slot_laws.proofs.Lasts.{seen_some}
 use Rattle.slot_laws.proofs.NodesTold.{may_parts, nodes_fit, reservings_knew}
-use Rattle.flush_agrees.specs.Made.{FlushMade, SeesConcerned}
 use Rattle.frees_laws.specs.Runs.{ReservedAreAbove}
 
 -- what the labels come to before a reserving
@@ -28,7 +24,8 @@ low layout before moment front may node last (held_last_by commit is number) =
 
 pub reserved_are_above : ReservedAreAbove
 reserved_are_above layout before moment log one made told may number sees node concerned =
-    let front_may = (may_parts layout before told.front _ (first_past moment) (subst (λ (l : List (Event Label)). MayFrom layout before l (first_past moment)) told.whole may)).0 in
+    let all_may = subst (λ (l : List (Event Label)). MayFrom layout before l (first_past moment)) told.whole may in
+    let front_may = (may_parts layout before told.front _ (first_past moment) all_may).0 in
     let knew = reservings_knew layout before moment log one told may in
     let seen = seen_some (last_seen one.seen.items node) (sym (sees.holds node) ∙ concerned) in
     let few = low layout before moment told.front front_may node seen.0 (knew.knew node seen.0 seen.1) in

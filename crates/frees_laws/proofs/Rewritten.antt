@@ -1,17 +1,17 @@
 -- Rewriting with no fresh block changes the record, where a block is given up.
-use Rattle.std.proofs.Common.{◌≡◌, ◌≢◌, ℕ, zero, suc, ◌+◌, ◌-◌, ◌<◌, ◌≤◌, Bool, true, false, cond, not, ◌&&◌, ◌||◌, List, [], Option, Some, None, refl, sym, ap, subst, ◌∙◌, arith, Contains, inl, inr, nat_lt, nat_eq, get_or}
-use Rattle.std.specs.Prelude.{slice_index}
+use Rattle.std.specs.Prelude.{slice_index, nat_le}
 use Rattle.std.specs.List.{find, list_any}
 use Rattle.std.specs.Option.{option_map_or}
+use Rattle.std.proofs.Common.{◌≡◌, ◌≢◌, ◌+◌, ◌-◌, ◌<◌, ◌≤◌, ◌&&◌, ◌||◌, ◌∙◌, ℕ, zero, suc, Bool, true, false, cond, not, List, [], Option, Some, None, refl, sym, ap, subst, arith, Contains, inl, inr, nat_lt, nat_eq}
 use Rattle.std.proofs.lemmas.Bool.{cond-true, cond-false, cases_lt, lt-ltb, le-ltb, eqb-true, eqb-false}
-use Rattle.sfs_base.proofs.BasicTruth.{and_first, and_second, not_true, true_not_false}
+use Rattle.sfs_base.proofs.BasicTruth.{and_first, and_second, not_true}
 use Rattle.sfs_image.specs.Inode.{Inode, Table, table_of, entry_of}
-use Rattle.sfs_image.specs.Seen.{FILE_BLOCKS, PLACES}
+use Rattle.sfs_image.specs.Seen.{FILE_BLOCKS}
 use Rattle.sfs_image.proofs.Basics.{get_or-tabulate, found_passes}
-use Rattle.image_laws.specs.Need.{Rewrite, changes_pointer, has_pointer, first_block, table_blocks, rewrites_table, table_has_pointer, takes_place, rank}
+use Rattle.image_laws.specs.Need.{Rewrite, changes_pointer, first_block, table_blocks, rewrites_table, table_has_pointer, takes_place, rank}
 use Rattle.block_map.specs.declared.changed.ChangedBlock.{ChangedBlock}
-use Rattle.block_map.specs.Kept.{block_kept, pointer_kept}
-use Rattle.block_map.specs.Remap.{rewrite_of, fresh_for, gives_up, inode_remapped, pointer_remapped, IsGivenUp}
+use Rattle.block_map.specs.Kept.{block_kept}
+use Rattle.block_map.specs.Remap.{rewrite_of, fresh_for, inode_remapped, pointer_remapped, IsGivenUp}
 use Rattle.block_map.proofs.Places.{own_place}
 use Rattle.block_map.proofs.Tables.{some_in_range}
 use Rattle.commit_laws.proofs.Shown.{found_is_in}
@@ -112,7 +112,7 @@ module _ (inode : Inode) (tables : List Table) (changed : List ChangedBlock) whe
                 let some = table_there place (λ hole. there.1 (kept ∙ entry ∙ hole)) in
                 some (no_indirect (table_of place) (omega arith)
                 (ap (λ b. b || (not (nat_eq (rewrite.pointers (FILE_BLOCKS + table_of place)) 0)
-                && Rattle.std.specs.Prelude.nat_le rewrite.blocks (first_block (table_of place))))
+                && nat_le rewrite.blocks (first_block (table_of place))))
                 (changes_in_table rewrite (table_of place) place (omega arith) (omega arith) (changes place rewritten there.1))))
           ]
       | inr behind ↦

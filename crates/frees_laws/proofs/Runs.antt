@@ -1,12 +1,13 @@
 -- All that cores see of the disk's nodes is well kept.
-use Rattle.std.proofs.Common.{◌≡◌, ℕ, zero, suc, ◌<◌, ◌≤◌, ◌++◌, true, List, [], Option, None, Some, refl, sym, ap, subst, ◌∙◌, arith, Contains, filter_map}
+use Rattle.std.proofs.Common.{◌≡◌, ◌<◌, ◌++◌, ◌∙◌, ℕ, zero, suc, true, List, Option, None, Some, refl, sym, ap, subst, arith, Contains, filter_map}
 use Rattle.std.proofs.lemmas.List.Elements.{filter_map-append}
-use Rattle.sfs_base.proofs.BasicOptions.{some_same}
+use Rattle.sfs_base.proofs.BasicOptions.{none_some}
 use Rattle.sfs_image.specs.Super.{Layout}
-use Rattle.cut_laws.specs.Rules.{IsOneOf}
 use Rattle.disk_nodes.specs.OldKept.{OldKept}
 use Rattle.disk_nodes.specs.declared.old.OldEntry.{OldEntry}
 use Rattle.disk_change.specs.AllBuilt.{entry_keyed}
+use Rattle.cut_laws.specs.Rules.{IsOneOf}
+use Rattle.cut_laws.proofs.Basics.{in_left}
 use Rattle.stamp_table.specs.declared.event.Event.{Event}
 use Rattle.mem_values.specs.Account.{Commitment, account_of, commit_told, held_by, last_writer}
 use Rattle.mem_values.specs.Stands.{Flushed, flushed_by}
@@ -17,18 +18,18 @@ use Rattle.note_laws.specs.Run.{TableRun}
 use Rattle.note_laws.proofs.Saws.{last_is_one}
 use Rattle.made_laws.specs.Made.{CoreMade, CoreMaking, is_concerned, old_of}
 use Rattle.made_laws.specs.Tells.{last_of_seen}
-use Rattle.flush_agrees.specs.Made.{FlushMade}
 use Rattle.frees_laws.specs.Kept.{AreWellKept, IsWellKept}
 use Rattle.frees_laws.specs.Runs.{AreToldWell, IsGivenWell, RunsFreeNothing, RunsKeepWell}
 use Rattle.frees_laws.proofs.Frees.{mades_free_nothing}
 use Rattle.frees_laws.proofs.Left.{commits_leave_well}
 
 -- what is told in the first part of a log is told in all of it
-in_whole : (at rest log : List (Event Fact)) → at ++ rest ≡ log → (told : Commitment) → IsOneOf (account_of at).commits told → IsOneOf (account_of log).commits told
+in_whole : (at rest log : List (Event Fact)) → at ++ rest ≡ log → (told : Commitment) → IsOneOf (account_of at).commits told
+    → IsOneOf (account_of log).commits told
 in_whole at rest log whole told there =
     subst (λ (l : List (Event Fact)). IsOneOf (account_of l).commits told) whole
     (subst (λ (l : List Commitment). IsOneOf l told) (sym (filter_map-append commit_told at rest))
-    (Rattle.cut_laws.proofs.Basics.in_left (account_of at).commits (filter_map commit_told rest) told there))
+    (in_left (account_of at).commits (filter_map commit_told rest) told there))
 
 module _ (run : TableRun) (layout : Layout) (given : IsGivenWell run) (all : AreToldWell run layout) where
   -- what commits with numbers below a bound wrote is well kept
@@ -38,7 +39,8 @@ module _ (run : TableRun) (layout : Layout) (given : IsGivenWell run) (all : Are
 
   -- What a core saw of a node: what was given, or what a commit wrote whose number it knew.
   seen_well : (bound : ℕ) → AreWellBelow bound → (at rest : List (Event Fact)) → at ++ rest ≡ run.log → (node : ℕ) (value : Pending)
-      → ◌≡◌ {A = Flushed} (record { cut = value.cut.0; last = value.last; old = value.old }) (flushed_by run.given node (last_writer node (account_of at).commits))
+      → ◌≡◌ {A = Flushed} (record { cut = value.cut.0; last = value.last; old = value.old })
+      (flushed_by run.given node (last_writer node (account_of at).commits))
       → value.last < bound → (old : OldKept) → value.old ≡ Some old → IsWellKept old.kept
   seen_well bound below at rest whole node value flushed few old is = by (last_writer node (account_of at).commits) refl
     where
@@ -62,7 +64,7 @@ module _ (run : TableRun) (layout : Layout) (given : IsGivenWell run) (all : Are
       one = (made.old_is.each entry.node.0 entry.old).0 there
 
       by : (o : Option Pending) → making.noted.pending entry.node.0 ≡ o → IsWellKept entry.old.kept
-      by None none = absurd (Rattle.sfs_base.proofs.BasicOptions.none_some (sym (ap old_of none) ∙ one.1))
+      by None none = absurd (none_some (sym (ap old_of none) ∙ one.1))
       by (Some value) saw =
           let note = made.notes.each 0 made.some_core in
           seen_well bound below (making.noted.notes 0).at note.rest note.whole entry.node.0 value (note.stands entry.node.0 value saw).flushed

@@ -1,13 +1,10 @@
 -- A transaction that has no record: nothing differs from what the disk has.
-use Rattle.std.proofs.Common.{◌≡◌, ◌++◌, ℕ, List, [], ◌∷◌, filter_map, length, Option, Some, None, refl, sym, ap, subst, ◌∙◌, arith, Contains, inl, inr, take, drop, zero, suc}
-use Rattle.std.specs.Prelude.{◌↔◌}
-use Rattle.std.specs.Option.{unwrap_or}
+use Rattle.std.proofs.Common.{◌≡◌, ◌++◌, ◌∷◌, ◌∙◌, ℕ, List, [], filter_map, length, Option, Some, None, refl, sym, ap, subst, arith, Contains, take, drop, zero, suc}
 use Rattle.std.proofs.lemmas.List.Elements.{Contains-append_left, Contains-append_right}
 use Rattle.fmt_journal.specs.declared.tx.TxRecord.{TxRecord}
 use Rattle.disk_nodes.specs.declared.old.OldEntry.{OldEntry}
 use Rattle.disk_change.specs.AllBuilt.{built_by, nodes_built, nodes_with_grant, numbers_with}
 use Rattle.disk_change.specs.Built.{Built}
-use Rattle.disk_change.specs.Lists.{ascending_by}
 use Rattle.disk_change.specs.Planned.{Planned, blocks_taken}
 use Rattle.disk_change.specs.Records.{RecordChange, record_inode, record_written, records_written, record_of_built, record_of_gone, written_of_built, written_of_gone}
 use Rattle.disk_change.specs.Seated.{CommitChanges, Seated, free_inode}
@@ -72,4 +69,5 @@ module _ (change : Planned) (none : records_written change no_numbers ≡ []) wh
   -- and one that loses its own had a free one
   pub gone_free : (entry : OldEntry) → Contains change.gone entry → entry.old.kept.inode ≡ free_inode
   gone_free entry there = same_record (record_of_gone entry) (λ one is.
-    no_record one (Contains-append_right (filter_map written_of_built (nodes_with_grant change no_numbers)) _ one (given_is_in written_of_gone change.gone entry one there is)))
+    no_record one (Contains-append_right (filter_map written_of_built (nodes_with_grant change no_numbers)) _ one
+    (given_is_in written_of_gone change.gone entry one there is)))

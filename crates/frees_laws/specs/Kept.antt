@@ -1,5 +1,5 @@
 -- When what is kept of the disk's nodes is as a mount reads it or as a commit leaves it.
-use Rattle.std.specs.Prelude.{◌≢◌, ℕ, List, slice_index, Contains}
+use Rattle.std.specs.Prelude.{◌≢◌, List, slice_index, Contains}
 use Rattle.sfs_image.specs.Inode.{Table}
 use Rattle.disk_nodes.specs.OldKept.{Kept}
 use Rattle.disk_nodes.specs.declared.old.OldEntry.{OldEntry}

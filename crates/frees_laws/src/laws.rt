@@ -1,6 +1,9 @@
 // What is proved of what commits give up: each function's contract is a law.
+ghost use Rattle.frees_laws.specs.Agreed.{AgreedFreeNothing};
 ghost use Rattle.frees_laws.specs.Frees.{CommitsLeaveWell, MadesFreeNothing, MountsKeepWell};
 ghost use Rattle.frees_laws.specs.Runs.{ReservedAreAbove, RunsFreeNothing, RunsKeepWell};
+
+use sfs_dev::Disk;
 
 /// What a core made of nodes that are well kept gives nothing up, where it has no record to write.
 pub fn mades_free_nothing()
@@ -30,4 +33,9 @@ pub fn runs_free_nothing()
 /// A number that was reserved by the rules of labels is above those of the last commits of its nodes, of which its core knew.
 pub fn reserved_are_above()
     ensures { ReservedAreAbove }
+{}
+
+/// So what agreeing cores made gives nothing up, where it has no record to write, over all that a mount leaves.
+pub fn agreed_free_nothing<D: Disk>(disk: &D)
+    ensures { AgreedFreeNothing D }
 {}
