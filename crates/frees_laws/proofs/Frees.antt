@@ -62,18 +62,18 @@ module _ (old : List OldEntry) (nets : List DirectoryNet) (files : List FileChan
   pub has_begun : (seat : Seated) → Contains change.seats seat → HasBegun seat
   has_begun seat there = elim
       (Contains-append_cases (map (seated_old change.changes) (staying old leave)) (map (seated_entering change.changes) enter) seat there) [
-    | inl stays ↦
-        let one = mapped_is_in (seated_old change.changes) (staying old leave) seat stays in
-        let held = kept_in _ old one.0 one.1 in
-        record { begun = begun_old one.0; is = one.2; begins = record { direct = refl; indirect = refl; well = (well one.0 held.0).tables } }
-    | inr comes ↦
-        let one = mapped_is_in (seated_entering change.changes) enter seat comes in
-        record {
-          begun = begun_entering one.0;
-          is = one.2;
-          begins = record { direct = refl; indirect = refl; well = λ table has. absurd (nothing_in [] table refl has) };
-        }
-  ]
+        | inl stays ↦
+            let one = mapped_is_in (seated_old change.changes) (staying old leave) seat stays in
+            let held = kept_in _ old one.0 one.1 in
+            record { begun = begun_old one.0; is = one.2; begins = record { direct = refl; indirect = refl; well = (well one.0 held.0).tables } }
+        | inr comes ↦
+            let one = mapped_is_in (seated_entering change.changes) enter seat comes in
+            record {
+              begun = begun_entering one.0;
+              is = one.2;
+              begins = record { direct = refl; indirect = refl; well = λ table has. absurd (nothing_in [] table refl has) };
+            }
+      ]
 
   -- a node that loses its inode is one of the old ones
   pub gone_is_old : (entry : OldEntry) → Contains change.gone entry → Contains old entry
@@ -91,8 +91,8 @@ module _ (old : List OldEntry) (nets : List DirectoryNet) (files : List FileChan
         (is.direct ∙ begins.direct ∙ sym (ap (λ (inode : Inode). inode.direct) is.before))
         (is.indirect ∙ begins.indirect ∙ sym (ap (λ (inode : Inode). inode.indirect) is.before)) same
         (λ table has.
-          subst (λ (pointers : List ℕ). slice_index pointers table.place ≢ 0) (sym is.indirect)
-          (begins.well table (subst (λ (tables : List Table). Contains tables table) is.tables has)))
+        subst (λ (pointers : List ℕ). slice_index pointers table.place ≢ 0) (sym is.indirect)
+        (begins.well table (subst (λ (tables : List Table). Contains tables table) is.tables has)))
         block place up
 
     no_seat : (block : ℕ) → IsLeftBySeat change.seats block → ⊥
@@ -108,7 +108,7 @@ module _ (old : List OldEntry) (nets : List DirectoryNet) (files : List FileChan
     pub frees_nothing : (tx : Tx) → IsTransactionOf change no_numbers tx → (tx.freed_inodes.items ≡ []) × (tx.freed_blocks.items ≡ [])
     frees_nothing tx is = (
       empty_of tx.freed_inodes.items (λ inode there.
-        let one = mapped_is_in entry_number change.gone inode ((is.freed_inodes.each inode).0 there) in no_gone one.0 one.1),
+          let one = mapped_is_in entry_number change.gone inode ((is.freed_inodes.each inode).0 there) in no_gone one.0 one.1),
       empty_of tx.freed_blocks.items (λ block there. none_left block ((is.freed_blocks.each block).0 there)),
     )
 

@@ -162,8 +162,8 @@ module _ (old : List OldEntry) (nets : List DirectoryNet) (files : List FileChan
     used = λ free. kind_used begun.kind (sym is.kind ∙ free);
     tables = tables_well seat.meta seat.tables seat.changed fresh
         (λ table has.
-          subst (λ (pointers : List ℕ). slice_index pointers table.place ≢ 0) (sym is.indirect)
-          (begins.well table (subst (λ (tables : List Table). Contains tables table) is.tables has)))
+        subst (λ (pointers : List ℕ). slice_index pointers table.place ≢ 0) (sym is.indirect)
+        (begins.well table (subst (λ (tables : List Table). Contains tables table) is.tables has)))
         enough each;
   }
 

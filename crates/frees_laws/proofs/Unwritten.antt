@@ -60,7 +60,7 @@ module _ (change : Planned) (none : records_written change no_numbers ≡ []) wh
   -- so each node has the inode that it had
   pub built_same : (built : Built) → Contains (nodes_with_grant change no_numbers) built → built.before ≡ built.meta
   built_same built there = same_record (record_of_built built) (λ one is.
-    no_record one (Contains-append_left _ _ one (given_is_in written_of_built (nodes_with_grant change no_numbers) built one there is)))
+      no_record one (Contains-append_left _ _ one (given_is_in written_of_built (nodes_with_grant change no_numbers) built one there is)))
 
   pub seat_same : (seat : Seated) → Contains change.seats seat
       → seat.before ≡ (built_by change.changes (numbers_with change []) [] seat).meta
@@ -69,5 +69,5 @@ module _ (change : Planned) (none : records_written change no_numbers ≡ []) wh
   -- and one that loses its own had a free one
   pub gone_free : (entry : OldEntry) → Contains change.gone entry → entry.old.kept.inode ≡ free_inode
   gone_free entry there = same_record (record_of_gone entry) (λ one is.
-    no_record one (Contains-append_right (filter_map written_of_built (nodes_with_grant change no_numbers)) _ one
-    (given_is_in written_of_gone change.gone entry one there is)))
+      no_record one (Contains-append_right (filter_map written_of_built (nodes_with_grant change no_numbers)) _ one
+      (given_is_in written_of_gone change.gone entry one there is)))
