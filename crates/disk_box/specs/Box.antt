@@ -13,7 +13,13 @@ use Rattle.disk_box.specs.Desk.{DeskFits}
 
 -- some key, of a box that nobody has
 abbrev pub NO_KEY : {D : Type 0} → BoxKey D
-NO_KEY = record { layout = record { blocks = 0; inodes = 0; cores = 0; slots = 0 }; faults = 0; start = 0; space = record { blocks = record { first = 0; statuses = [] }; inodes = record { first = 0; statuses = [] } }; first = None }
+NO_KEY = record {
+  layout = record { blocks = 0; inodes = 0; cores = 0; slots = 0 };
+  faults = 0;
+  start = 0;
+  space = record { blocks = record { first = 0; statuses = [] }; inodes = record { first = 0; statuses = [] } };
+  first = None;
+}
 
 -- what the labels of a history come to
 abbrev pub past_of : {D : Type 0} → BoxKey D → List (Event Label) → BoxPast

@@ -234,7 +234,7 @@ module _ {D : Type 0} where
           room = fresh.room;
           is = subst (IsDue seat.pen) (sym (are.rest place d within)) (new_eased t place seat.pen fresh);
         };
-        layout_is = ap (λ (k : Desk (BoxKey D)). k.given.layout) fresh.outside.table_is ∙ is;
+        layout_is = ap (λ (k : Desk (BoxKey _)). k.given.layout) fresh.outside.table_is ∙ is;
       }
 
   -- There are some.

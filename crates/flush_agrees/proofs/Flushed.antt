@@ -172,8 +172,8 @@ module _ {D : Type 0} (at : FlushAt D) (cores : ℕ) (site : IsSite at.t at.node
 
     plan : PlanAgrees (asked_by planned) making from done result
     plan = plan_agrees (asked_by planned) making from done seen.sees (ap (λ (p : FsyncPlan). p.change) seen.makes.plan_is)
-        (subst (λ (k : Desk (BoxKey D)). IsChangeOn k.given.layout planned.drafted.draft.plan.change) (sym from_table) on_disk)
-        (subst (λ (k : Desk (BoxKey D)). IsSpaceOn k.given.layout k.given.space) (sym from_table) site.space) result comes
+        (subst (λ (k : Desk (BoxKey _)). IsChangeOn k.given.layout planned.drafted.draft.plan.change) (sym from_table) on_disk)
+        (subst (λ (k : Desk (BoxKey _)). IsSpaceOn k.given.layout k.given.space) (sym from_table) site.space) result comes
 
     abbrev turns : List BoxTurn
     turns = idle.turns ++ plan.turns
@@ -225,7 +225,7 @@ module _ {D : Type 0} (at : FlushAt D) (cores : ℕ) (site : IsSite at.t at.node
                 });
           };
           reserved = numbered.reserved;
-          grants = subst (λ (k : Desk (BoxKey D)). GrantsNeed k.given.layout one) (from_table ∙ sym done_table) numbered.grants;
+          grants = subst (λ (k : Desk (BoxKey _)). GrantsNeed k.given.layout one) (from_table ∙ sym done_table) numbered.grants;
         })
 
   served_refused : (planned : PlannedFsync) (from : PenHand D) (refusal : CommitRefusal) → IsTried at planned → TellsNoTurn at.pen from

@@ -55,7 +55,7 @@ module _ {D : Type 0} (t : FileState) (before after : FileHand) (pen done : PenH
   made_on flush one made = record {
     sight = sight_on flush one.making made.sight;
     reserved = on.numbers one.number made.reserved;
-    grants = subst (λ (k : Desk (BoxKey D)). GrantsNeed k.given.layout one) (sym on.table) made.grants;
+    grants = subst (λ (k : Desk (BoxKey _)). GrantsNeed k.given.layout one) (sym on.table) made.grants;
   }
 
   is_made_on : (flush : Flush) (made : Option FlushMade) → MadeIsAgreed t before pen flush made → MadeIsAgreed t after done flush made
@@ -76,7 +76,7 @@ module _ {D : Type 0} (t : FileState) (before after : FileHand) (pen done : PenH
   fails_on faults sees = record {
     front = sees.front;
     seen = begins_on sees.front pen.view.seen done.view.seen sees.seen on.saw;
-    failed = subst (λ (k : Desk (BoxKey D)). (past_of k.given sees.front).failed ≡ Some faults) (sym on.table) sees.failed;
+    failed = subst (λ (k : Desk (BoxKey _)). (past_of k.given sees.front).failed ≡ Some faults) (sym on.table) sees.failed;
   }
 
   pub entry_on : (one : FlushTold) (entry : Entry) (node : NodeId) → EntryAgrees before pen one entry node → EntryAgrees after done one entry node

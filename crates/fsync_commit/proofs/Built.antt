@@ -79,9 +79,9 @@ pub grant_on : {D : Type 0} (asked : CommitRequest) (before after : PenHand D) (
 grant_on asked before after grant goes it space on =
     let was = it.reserved in
     let key : after.table.given ≡ before.table.given = ap (λ (h : PenHand _). h.table.given) goes.frame in
-    let first : IsSpaceOn after.table.given.layout after.table.given.space = subst (λ (k : BoxKey D). IsSpaceOn k.layout k.space) (sym key) space in
+    let first : IsSpaceOn after.table.given.layout after.table.given.space = subst (λ (k : BoxKey _). IsSpaceOn k.layout k.space) (sym key) space in
     let there : IsSpaceOn before.table.given.layout was.space =
-    subst (λ (k : BoxKey D). IsSpaceOn k.layout was.space) key
+    subst (λ (k : BoxKey _). IsSpaceOn k.layout was.space) key
     (space_on after.table.given.layout was.front _ after.table.given.space was.space was.goes first)
     in
     let few = on.few in

@@ -16,8 +16,8 @@ use Rattle.image_laws.specs.Image.{ImageFault as Fault, Super as SuperFault, Jou
 use Rattle.journal_one.specs.Calls.{IsCalm}
 use Rattle.history_check.specs.Legal.{IsLegalText}
 use Rattle.history_check.specs.declared.checking.TheConstants.{LONGEST_HISTORY}
-use Rattle.mount.specs.Mounted.{IsMountOf, IsSoundMount, share_of_nodes}
-use Rattle.mount.specs.declared.begin.Mounted.{Mounted}
+use Rattle.mount_begin.specs.Mounted.{IsMountOf, IsSoundMount, share_of_nodes}
+use Rattle.mount_begin.specs.declared.begin.Mounted.{Mounted}
 use Rattle.recovery.specs.Cause.{is_recover_disk_fault}
 use Rattle.recovery.specs.Judging.{IsFaultOf}
 use Rattle.recovery.specs.Recovered.{HoldsRecovered, LeavesRefused}

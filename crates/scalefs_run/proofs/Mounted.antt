@@ -14,7 +14,7 @@ use Rattle.cut_laws.specs.Cut.{Cut}
 use Rattle.crash_laws.specs.SoFar.{StandsSoFar}
 use Rattle.crash_laws.specs.Wrote.{Mounts}
 use Rattle.crash_laws.proofs.Begins.{runs_begin}
-use Rattle.mount.specs.Mounted.{share_of_nodes}
+use Rattle.mount_begin.specs.Mounted.{share_of_nodes}
 use Rattle.flush_laws.specs.Volume.{Volume}
 use Rattle.volume_one.specs.Begins.{Begins, HoldsNew}
 use Rattle.scalefs_run.specs.Begun.{RunBegins}

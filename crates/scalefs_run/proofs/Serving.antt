@@ -20,7 +20,7 @@ use Rattle.sfs_dev.specs.Run.{Advances, CountsOn, EachMoment, HasReadCause, Unwr
 use Rattle.sfs_dev.specs.Steps.{IfTold}
 use Rattle.image_laws.specs.Image.{ImageFault as Fault, Super as SuperFault, Journal as JournalFault, Tree as TreeFault, fault_of, tree_of}
 use Rattle.journal_one.specs.Calls.{IsCalm}
-use Rattle.mount.specs.Mounted.{share_of_nodes}
+use Rattle.mount_begin.specs.Mounted.{share_of_nodes}
 use Rattle.recovery.specs.Cause.{is_recover_disk_fault}
 use Rattle.recovery.specs.Judging.{IsFaultOf}
 use Rattle.recovery.specs.Recovered.{ShowsTheSame, LeavesRefused}

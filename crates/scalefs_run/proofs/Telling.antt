@@ -9,7 +9,7 @@ use Rattle.image_verdict.specs.declared.judging.Verdict.{Verdict}
 use Rattle.image_verdict.specs.declared.judging.Verdict.TheVariants as verdict
 use Rattle.sfs_image.specs.Settled.{layout_of}
 use Rattle.tree_laws.specs.Tree.{TreeState}
-use Rattle.mount.specs.Mounted.{share_of_nodes}
+use Rattle.mount_begin.specs.Mounted.{share_of_nodes}
 use Rattle.recovery.proofs.JudgedImage.{has_no_fault}
 use Rattle.scalefs_run.specs.Checked.{ChecksOver, HasCheckCause, was_checked}
 use Rattle.scalefs_run.specs.Complete.{ChecksAreComplete, TellsOfText, VerdictsAreComplete}

@@ -7,7 +7,7 @@ use Rattle.sfs_image.specs.Settled.{layout_of}
 use Rattle.tree_laws.specs.Laws.{IsSoundTree}
 use Rattle.image_laws.specs.Image.{tree_of}
 use Rattle.journal_one.specs.Calls.{IsCalm}
-use Rattle.mount.specs.Mounted.{share_of_nodes}
+use Rattle.mount_begin.specs.Mounted.{share_of_nodes}
 use Rattle.flush_laws.specs.Volume.{Volume}
 use Rattle.turn_laws.specs.Need.{ImageState}
 use Rattle.scalefs_run.specs.RunInvariant.{RunStands, StandsNow}

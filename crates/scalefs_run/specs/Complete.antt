@@ -12,7 +12,7 @@ use Rattle.sfs_image.specs.Settled.{layout_of}
 use Rattle.image_laws.specs.Image.{fault_of, tree_of}
 use Rattle.history_check.specs.Legal.{IsLegalText, IsFirstWrong}
 use Rattle.history_check.specs.declared.checking.TheConstants.{LONGEST_HISTORY}
-use Rattle.mount.specs.Mounted.{share_of_nodes}
+use Rattle.mount_begin.specs.Mounted.{share_of_nodes}
 use Rattle.script.specs.declared.commands.Line.{Line}
 use Rattle.tree_laws.specs.declared.history.Entry.{Entry}
 use Rattle.tree_laws.specs.declared.reply.Reply.{Reply}

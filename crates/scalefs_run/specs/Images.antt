@@ -8,7 +8,7 @@ use Rattle.tree_laws.specs.declared.history.Entry.{Entry}
 use Rattle.tree_laws.specs.Tree.{TreeState}
 use Rattle.journal_one.specs.Calls.{IsCalm}
 use Rattle.crash_laws.specs.Survives.{SurvivesAll, ReadsBack}
-use Rattle.mount.specs.Mounted.{share_of_nodes}
+use Rattle.mount_begin.specs.Mounted.{share_of_nodes}
 use Rattle.recovery.specs.Recovered.{ShowsTheSame}
 
 -- This holds of the image at the entry of a disk that told it and on which nothing was pending, while the count of its device calls has not

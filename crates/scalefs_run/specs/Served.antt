@@ -11,7 +11,7 @@ use Rattle.sfs_dev.specs.Disk.{View}
 use Rattle.sfs_dev.specs.Run.{CountsOn, Unwritten}
 use Rattle.sfs_dev.specs.Steps.{IfTold}
 use Rattle.image_laws.specs.Image.{tree_of}
-use Rattle.mount.specs.Mounted.{share_of_nodes}
+use Rattle.mount_begin.specs.Mounted.{share_of_nodes}
 use Rattle.script.specs.declared.commands.Line.{Line}
 use Rattle.script.specs.Phases.{phases_of}
 use Rattle.scalefs_run.specs.declared.outcome.Status.{Status}

@@ -14,7 +14,7 @@ use crate::image::{status_of_recovery, write_text};
 use crate::refused::status_of_source;
 use fmt_super::Layout;
 use history_check::{CheckFault, LONGEST_HISTORY, check};
-use mount::{Mounted, mount};
+use mount_begin::{Mounted, mount};
 use sfs_base::{NoMemory, Sink, Source, read_all};
 use sfs_dev::Disk;
 use sfs_tree::Tree;

@@ -65,13 +65,13 @@ space_on layout held used space blocks inodes = record {
 pub new_on : {D : Type 0} (t : TableState (BoxKey D)) (core : ℕ) (pen : PenHand D) (layout : Layout) (disk : View) (space : Space) → IsNewPen t core pen
     → IsKeyOf layout disk space t.table.given → IsSpaceOn layout space → IsSpaceOn pen.table.given.layout pen.table.given.space
 new_on t core pen layout disk space new key on =
-    subst (λ (k : BoxKey D). IsSpaceOn k.layout k.space) (sym (ap (λ (d : Desk (BoxKey D)). d.given) new.outside.table_is))
+    subst (λ (k : BoxKey _). IsSpaceOn k.layout k.space) (sym (ap (λ (d : Desk (BoxKey _)). d.given) new.outside.table_is))
     (subst (λ (z : Layout × Space). IsSpaceOn z.0 z.1) (λ i. (sym key.layout_is i, sym key.space_is i)) on)
 
 -- and the layout is theirs
 pub new_layout : {D : Type 0} (t : TableState (BoxKey D)) (core : ℕ) (pen : PenHand D) (layout : Layout) (disk : View) (space : Space) → IsNewPen t core pen
     → IsKeyOf layout disk space t.table.given → pen.table.given.layout ≡ layout
-new_layout t core pen layout disk space new key = ap (λ (d : Desk (BoxKey D)). d.given.layout) new.outside.table_is ∙ key.layout_is
+new_layout t core pen layout disk space new key = ap (λ (d : Desk (BoxKey _)). d.given.layout) new.outside.table_is ∙ key.layout_is
 
 -- a pen that begins is ready
 pub new_ready : {D : Type 0} (t : TableState (BoxKey D)) (core : ℕ) (pen : PenHand D) → IsNewPen t core pen → IsReady t pen

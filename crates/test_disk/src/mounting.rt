@@ -2,7 +2,7 @@
 // and the root holds the first of them.
 use crate::helpers::{got, same};
 use crate::recovering::with_open_slots;
-use mount::{Mounted, mount};
+use mount_begin::{Mounted, mount};
 use sfs_base::SpaceKind;
 use space_map::{Need, SpaceFault};
 use std::alloc::Global;

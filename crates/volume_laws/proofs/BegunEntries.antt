@@ -20,8 +20,8 @@ use Rattle.commit_laws.proofs.KnownDirectories.{given_is_in}
 use Rattle.commit_laws.proofs.OwnInodes.{mapped_is_in}
 use Rattle.commit_laws.proofs.SeatsOfPlan.{in_mapped}
 use Rattle.flush_laws.specs.Ready.{KeepsEntries}
-use Rattle.mount.specs.Mounted.{entry_mounted, entries_mounted}
-use Rattle.mount.proofs.EntriesAscend.{entries_ascend}
+use Rattle.mount_begin.specs.Mounted.{entry_mounted, entries_mounted}
+use Rattle.mount_begin.proofs.EntriesAscend.{entries_ascend}
 use Rattle.volume_laws.proofs.Begun.{numbered, number_of}
 
 module _ (layout : Layout) (parts : ℕ → Part) where

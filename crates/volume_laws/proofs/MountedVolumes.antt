@@ -5,7 +5,7 @@ use Rattle.sfs_dev.specs.Disk.{View}
 use Rattle.sfs_image.specs.Settled.{image_block, parts_of}
 use Rattle.journal_one.proofs.Kept.{IsLawful}
 use Rattle.recovery.specs.Freed.{without_unlinked}
-use Rattle.mount.specs.declared.begin.Mounted.{Mounted}
+use Rattle.mount_begin.specs.declared.begin.Mounted.{Mounted}
 use Rattle.volume_laws.specs.Mounting.{WasMounted, IsBegunVolume, MountsAreVolumes}
 use Rattle.volume_laws.proofs.Mounts.{mounts_begin}
 use Rattle.volume_laws.proofs.ReadParts.{read_parts_stand}

@@ -20,8 +20,8 @@ use Rattle.flush_laws.specs.Ready.{KeepsEntries}
 use Rattle.mark_laws.specs.Changed.{HasShortFiles}
 use Rattle.crash_laws.proofs.Begins.{first_nodes}
 use Rattle.recovery.specs.Freed.{without_unlinked}
-use Rattle.mount.specs.Mounted.{making_with, IsSoundMount}
-use Rattle.mount.specs.declared.begin.Mounted.{Mounted}
+use Rattle.mount_begin.specs.Mounted.{making_with, IsSoundMount}
+use Rattle.mount_begin.specs.declared.begin.Mounted.{Mounted}
 use Rattle.space_laws.proofs.Mapped.{first_maps_are_right}
 use Rattle.volume_laws.specs.Begun.{volume_begun, StandInBlocks, BeginsVolume, MountsBegin}
 use Rattle.volume_laws.specs.Volume.{IsVolumeStanding}

@@ -11,8 +11,8 @@ use Rattle.image_laws.specs.Image.{IsReadAsTree}
 use Rattle.recovery.specs.Freed.{without_unlinked}
 use Rattle.recovery.specs.Recovered.{ShowsTheSame, IsRecoveredFrom}
 use Rattle.recovery.proofs.JudgedImage.{has_no_fault}
-use Rattle.mount.specs.Mounted.{share_of_nodes}
-use Rattle.mount.specs.declared.begin.Mounted.{Mounted}
+use Rattle.mount_begin.specs.Mounted.{share_of_nodes}
+use Rattle.mount_begin.specs.declared.begin.Mounted.{Mounted}
 use Rattle.volume_laws.specs.Begun.{WasTold, LeavesMounted, ToldMountsLeave}
 
 module _ (nodes : ℕ) (image : List ℕ) (mounted : Mounted) (old new : View) (told : WasTold nodes image mounted old new) where

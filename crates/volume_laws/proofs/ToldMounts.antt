@@ -23,8 +23,8 @@ use Rattle.disk_tree.proofs.PartsSound.{byte_rules_kept}
 use Rattle.disk_tree.proofs.PartsWhole.{part_whole}
 use Rattle.recovery.specs.Freed.{without_unlinked}
 use Rattle.recovery.proofs.JudgedImage.{has_no_fault, are_faultless, parts_read, points_well}
-use Rattle.mount.specs.Mounted.{making_with, share_of_nodes, IsSoundMount}
-use Rattle.mount.specs.declared.begin.Mounted.{Mounted}
+use Rattle.mount_begin.specs.Mounted.{making_with, share_of_nodes, IsSoundMount}
+use Rattle.mount_begin.specs.declared.begin.Mounted.{Mounted}
 use Rattle.volume_laws.specs.Begun.{StandInBlocks, BeginsVolume, WasMountedOf, ToldMountsBegin}
 use Rattle.volume_laws.proofs.Mounts.{mounts_begin}
 

@@ -19,8 +19,8 @@ use Rattle.flush_laws.specs.Ready.{KeepsEntries}
 use Rattle.crash_laws.specs.Wrote.{Mounts}
 use Rattle.recovery.specs.Freed.{without_unlinked}
 use Rattle.recovery.specs.Recovered.{ShowsTheSame, IsRecoveredFrom}
-use Rattle.mount.specs.Mounted.{share_of_nodes, IsMountOf, IsSoundMount}
-use Rattle.mount.specs.declared.begin.Mounted.{Mounted}
+use Rattle.mount_begin.specs.Mounted.{share_of_nodes, IsMountOf, IsSoundMount}
+use Rattle.mount_begin.specs.declared.begin.Mounted.{Mounted}
 use Rattle.space_laws.specs.Map.{IsMapOf}
 use Rattle.volume_laws.specs.Volume.{IsVolumeStanding}
 use Rattle.flush_laws.specs.Volume.{Volume}

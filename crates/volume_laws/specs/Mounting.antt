@@ -14,8 +14,8 @@ use Rattle.commit_one.specs.Carried.{GoesOnTelling}
 use Rattle.crash_laws.specs.Wrote.{Mounts}
 use Rattle.recovery.specs.Freed.{without_unlinked}
 use Rattle.recovery.specs.Recovered.{ShowsTheSame, IsRecoveredFrom}
-use Rattle.mount.specs.Mounted.{share_of_nodes, IsMountOf, IsSoundMount}
-use Rattle.mount.specs.declared.begin.Mounted.{Mounted}
+use Rattle.mount_begin.specs.Mounted.{share_of_nodes, IsMountOf, IsSoundMount}
+use Rattle.mount_begin.specs.declared.begin.Mounted.{Mounted}
 use Rattle.volume_laws.specs.Begun.{volume_begun, BeginsVolume}
 use Rattle.volume_laws.specs.Commits.{HoldsParts}
 

@@ -8,7 +8,7 @@ use Rattle.cut_laws.specs.Cut.{Cut}
 use Rattle.journal_one.specs.Calls.{IsCalm}
 use Rattle.crash_laws.specs.SoFar.{StandsSoFar}
 use Rattle.crash_laws.proofs.Begins.{runs_begin}
-use Rattle.mount.specs.Mounted.{share_of_nodes}
+use Rattle.mount_begin.specs.Mounted.{share_of_nodes}
 use Rattle.flush_laws.specs.Volume.{Volume}
 use Rattle.volume_one.specs.Begins.{Begins}
 use Rattle.volume_one.specs.declared.volume.OpenVolume.{OpenVolume}

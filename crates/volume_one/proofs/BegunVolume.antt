@@ -22,8 +22,8 @@ use Rattle.mark_laws.specs.Changed.{HasShortFiles}
 use Rattle.file_table.specs.Table.{HoldsFilesOf}
 use Rattle.flush_laws.specs.Ready.{KeepsEntries}
 use Rattle.turn_laws.specs.Need.{node_bound}
-use Rattle.mount.specs.Mounted.{IsSoundMount}
-use Rattle.mount.specs.declared.begin.Mounted.{Mounted}
+use Rattle.mount_begin.specs.Mounted.{IsSoundMount}
+use Rattle.mount_begin.specs.declared.begin.Mounted.{Mounted}
 use Rattle.space_laws.specs.Map.{IsMapOf}
 use Rattle.space_laws.specs.Laws.{HasNoneGranted}
 use Rattle.volume_laws.specs.Begun.{volume_begun}

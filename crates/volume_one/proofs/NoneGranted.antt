@@ -10,7 +10,7 @@ use Rattle.space_map.specs.declared.status.Status.TheVariants.{Free, Taken, Gran
 use Rattle.disk_change.specs.GivenUp.{entry_number}
 use Rattle.disk_nodes.specs.declared.old.OldEntry.{OldEntry}
 use Rattle.space_laws.specs.Laws.{HasNoneGranted}
-use Rattle.mount.specs.Mounted.{IsFreeSpace}
+use Rattle.mount_begin.specs.Mounted.{IsFreeSpace}
 
 -- a number's first status is not that of a grant
 first_not_granted : (first end : ℕ) (taken : List ℕ) (number : ℕ) → first_status first end taken number ≢ Some Granted

@@ -14,7 +14,7 @@ use Rattle.disk_nodes.specs.declared.old.OldEntry.{OldEntry}
 use Rattle.journal_one.specs.Calls.{IsCalm}
 use Rattle.crash_laws.specs.Wrote.{Mounts}
 use Rattle.turn_laws.specs.Need.{node_bound}
-use Rattle.mount.specs.Mounted.{share_of_nodes}
+use Rattle.mount_begin.specs.Mounted.{share_of_nodes}
 use Rattle.recovery.specs.Freed.{without_unlinked}
 use Rattle.flush_laws.specs.Volume.{Volume}
 use Rattle.volume_one.specs.Fsync.{HoldsVolume}

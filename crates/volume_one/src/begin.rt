@@ -12,7 +12,7 @@ use crate::entries::{make_places, replace_entries};
 use core_logs::CoreLogs;
 use disk_nodes::OldEntry;
 use file_table::FileTable;
-use mount::{Mounted, mount};
+use mount_begin::{Mounted, mount};
 use node_lists::KnownNodes;
 use recovery::RecoverFault;
 use sfs_base::{NoMemory, NodeId};

@@ -90,6 +90,7 @@ module _ (before after : FileHand) (more : OnlySeesMore before after) where
     first = ap (λ (v : View TreeState (Event Fact)). v.first) more.view;
     events = ap (λ (v : View TreeState (Event Fact)). filter is_of_fsync v.mine) more.view;
     entries = ap (filter is_fsync_entry) more_entries;
+    seen = more.seen;
   }
 
   pub more_none : AddsNone before after
@@ -133,6 +134,7 @@ made_keeps t c reply before after between not made =
       first = made.between.first_is ∙ sym between.first_is;
       events = ap (filter is_of_fsync) made.stands.4 ∙ dropped is_of_fsync before.view.mine (Called entry) asks;
       entries = ap (filter is_fsync_entry) made.stands.3 ∙ dropped is_fsync_entry before.entries entry asks;
+      seen = (adds_call t c reply before after made).seen;
     }
 
 -- a call that was refused memory
@@ -142,6 +144,7 @@ refused_keeps t before after between refused = record {
   first = refused.between.first_is ∙ sym between.first_is;
   events = ap (filter is_of_fsync) refused.mine;
   entries = ap (filter is_fsync_entry) refused.entries;
+  seen = refused.seen;
 }
 
 pub refused_none : (t : FileState) (before after : FileHand) → IsRefusedMemory t before after → AddsNone before after

@@ -22,12 +22,13 @@ is_of_fsync (Told core fact) = true
 abbrev pub is_fsync_entry : Entry → Bool
 is_fsync_entry entry = asks_fsync entry.call
 
--- A core has made no fsync and has told nothing: its fsyncs, with their answers, and what it told are those of before.
+-- A core has made no fsync and has told nothing: its fsyncs, with their answers, and what it told are those of before. It may have seen more of the history.
 pub record KeepsFsyncs (before after : FileHand) : Type 0 where
   pub same : IsSameCore before after
   pub first : after.view.first ≡ before.view.first
   pub events : filter is_of_fsync after.view.mine ≡ filter is_of_fsync before.view.mine
   pub entries : filter is_fsync_entry after.entries ≡ filter is_fsync_entry before.entries
+  pub seen : IsPrefix before.view.seen after.view.seen
 
 -- A core was refused memory before a stamp: it has no further entry. It may have seen more of the history.
 pub record AddsNone (before after : FileHand) : Type 0 where

@@ -3,7 +3,7 @@ use Rattle.sfs_image.specs.Super.{Layout, data_start}
 use Rattle.space_map.specs.Pool.{first_status}
 use Rattle.disk_change.specs.GivenUp.{entry_number}
 use Rattle.disk_nodes.specs.declared.old.OldEntry.{OldEntry}
-use Rattle.mount.proofs.free.free_space.Goals as goal
+use Rattle.mount_begin.proofs.free.free_space.Goals as goal
 
 pub returns : goal.returns
 returns c =

@@ -14,11 +14,11 @@ use Rattle.disk_tree.specs.KeptParts.{NumberedKept}
 use Rattle.recovery.specs.Freed.{without_unlinked}
 use Rattle.recovery.specs.Recovered.{IsSoundReport}
 use Rattle.recovery.specs.declared.whole.Report.{Report}
-use Rattle.mount.specs.Mounted.{entry_mounted, share_of_nodes}
-use Rattle.mount.proofs.EntriesAscend.{entries_ascend}
-use Rattle.mount.proofs.Shared.{sound_shared, limits_shared, shared_tree_of}
+use Rattle.mount_begin.specs.Mounted.{entry_mounted, share_of_nodes}
+use Rattle.mount_begin.proofs.EntriesAscend.{entries_ascend}
+use Rattle.mount_begin.proofs.Shared.{sound_shared, limits_shared, shared_tree_of}
 use Rattle.sfs_base.proofs.BasicLists.{zeros_read}
-use Rattle.mount.proofs.begin.mount.Goals as goal
+use Rattle.mount_begin.proofs.begin.mount.Goals as goal
 
 pub entries_of-requires : goal.entries_of-requires
 entries_of-requires g c =

@@ -17,7 +17,7 @@ use Rattle.disk_tree.specs.Judged.{fault_of_parts}
 use Rattle.disk_tree.specs.KeptParts.{NumberedKept, kept_in_use}
 use Rattle.disk_tree.specs.Whole.{IsReadWhole, AreWholeRecords}
 use Rattle.recovery.specs.Freed.{without_unlinked}
-use Rattle.mount.specs.declared.begin.Mounted.{Mounted}
+use Rattle.mount_begin.specs.declared.begin.Mounted.{Mounted}
 
 -- the entry of an inode: its node has the inode's number
 abbrev pub entry_mounted : NumberedKept → OldEntry

@@ -9,7 +9,7 @@ use Rattle.keyed_list.specs.Ascending.{AscendBy}
 use Rattle.disk_nodes.specs.Nodes.{entry_node}
 use Rattle.disk_nodes.specs.declared.old.OldEntry.{OldEntry}
 use Rattle.disk_tree.specs.KeptParts.{NumberedKept, kept_if_used, kept_in_use}
-use Rattle.mount.specs.Mounted.{entry_mounted}
+use Rattle.mount_begin.specs.Mounted.{entry_mounted}
 
 module _ (parts : ℕ → Part) where
   abbrev entries_in : ℕ → ℕ → List OldEntry

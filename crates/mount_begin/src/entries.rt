@@ -2,7 +2,7 @@
 ghost use Rattle.std.specs.Prelude.{◌≡◌, map, IfOk};
 ghost use Rattle.keyed_list.specs.Ascending.{AscendBy};
 ghost use Rattle.disk_nodes.specs.Nodes.{entry_node};
-ghost use Rattle.mount.specs.Mounted.{entry_mounted};
+ghost use Rattle.mount_begin.specs.Mounted.{entry_mounted};
 
 use disk_nodes::{DirectorySlots, OldDisk, OldEntry, OldNode};
 use disk_tree::{KeptPart, PartList};

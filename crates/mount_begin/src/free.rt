@@ -2,7 +2,7 @@
 ghost use Rattle.std.specs.Prelude.{◌≡◌, map, IfOk};
 ghost use Rattle.sfs_image.specs.Super.{InRange};
 ghost use Rattle.disk_change.specs.GivenUp.{entry_number};
-ghost use Rattle.mount.specs.Mounted.{IsFreeSpace};
+ghost use Rattle.mount_begin.specs.Mounted.{IsFreeSpace};
 
 use disk_change::held_blocks;
 use disk_nodes::{OldDisk, OldEntry};

@@ -6,7 +6,7 @@ ghost use Rattle.journal_one.specs.Calls.{IsCalm};
 ghost use Rattle.recovery.specs.Judging.{IsFaultOf};
 ghost use Rattle.recovery.specs.Recovered.{ShowsTheSame, LeavesRefused, HoldsRecovered, RunsRecovery};
 ghost use Rattle.sfs_image.specs.Super.{InRange};
-ghost use Rattle.mount.specs.Mounted.{IsMountOf, IsSoundMount, share_of_nodes};
+ghost use Rattle.mount_begin.specs.Mounted.{IsMountOf, IsSoundMount, share_of_nodes};
 
 use crate::entries::entries_of;
 use crate::free::free_space;
