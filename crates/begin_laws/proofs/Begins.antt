@@ -25,9 +25,9 @@ use Rattle.begin_laws.proofs.Histories.{stands_with, with_history}
 kept_in : (entries : List OldEntry) → AscendBy entry_node entries → (node : ℕ) → IsKeptIn entries node (given_in entries node)
 kept_in entries up node old = (
   (λ given.
-    let there = given_is entries node old given in
-    subst (λ (n : ℕ). Contains entries (entry_keyed (n, old))) there.node_is
-    (subst (λ (kept : OldKept). Contains entries (entry_keyed (entry_node there.entry, kept))) there.old_is there.among)),
+      let there = given_is entries node old given in
+      subst (λ (n : ℕ). Contains entries (entry_keyed (n, old))) there.node_is
+      (subst (λ (kept : OldKept). Contains entries (entry_keyed (entry_node there.entry, kept))) there.old_is there.among)),
   (λ there. given_of_entry entries up (entry_keyed (node, old)) there),
 )
 

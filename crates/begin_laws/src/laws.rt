@@ -1,6 +1,6 @@
-//! What is proved of the begin of a mount and of its pens once they are closed: each function's contract is a law.
+// What is proved of the begin of a mount and of its pens once they are closed: each function's contract is a law.
 ghost use Rattle.begin_laws.specs.Begins.{BegunDisksGoOn, MountsBeginLabels};
-ghost use Rattle.begin_laws.specs.Rests.{ClosedPensRest};
+ghost use Rattle.begin_laws.specs.Rests.{ClosedDisksBegan, ClosedPensRest};
 
 use sfs_dev::Disk;
 
@@ -17,4 +17,9 @@ pub fn begun_disks_go_on<D: Disk>(disk: &D, later: &D)
 /// Where journals were closed each core is at rest with what it told, also one that has no pen.
 pub fn closed_pens_rest<D: Disk>(disk: &D)
     ensures { ClosedPensRest D.view }
+{}
+
+/// And their disk began with the parts for which each image stood as they were made.
+pub fn closed_disks_began<D: Disk>(disk: &D)
+    ensures { ClosedDisksBegan D.view }
 {}

@@ -1,0 +1,4 @@
+pub mod Kept
+pub mod Frees
+pub mod Runs
+pub mod Agreed

@@ -1,0 +1,4 @@
+//! A commit that writes nothing gives nothing up.
+#![tactic(auto)]
+
+pub mod laws;
