@@ -28,8 +28,9 @@ use Rattle.flush_agrees.specs.Closing.{pen_fsyncs}
 use Rattle.flush_agrees.specs.Agreement.{FlushTold}
 use Rattle.named_laws.specs.Mount.{MountEnd, MountEnds, AreNamed}
 use Rattle.named_laws.specs.Laws.{PensToldAt}
-use Rattle.named_laws.proofs.Told.{named_pens_tell}
 use Rattle.named_laws.proofs.Named.{mounts_are_named}
+use Rattle.named_laws.proofs.Told.{named_pens_tell}
+use Rattle.along_laws.proofs.Telling.{named_tell_along}
 use Rattle.mount_laws.specs.Survives.{DiskEnds, TurnsEnd, MountSurvives, MountsSurvive, TurnsOfMountsEnd}
 
 module _ (D : Type 0) (at : MountEnd) (ends : MountEnds D at) where
@@ -144,4 +145,6 @@ module _ (D : Type 0) (disk : View) (share : ℕ) (at : MountEnd) (named : Numbe
       }
 
 pub mounts_survive : (D : Type 0) (disk : View) → MountsSurvive D disk
-mounts_survive D disk share at named ends are along disk_ends = mount_survives D disk share at named ends are along disk_ends
+mounts_survive D disk share at ends disk_ends =
+    let given = mounts_are_named D at ends in
+    mount_survives D disk share at given.0 ends given.1 (named_tell_along D at given.0 ends given.1) disk_ends

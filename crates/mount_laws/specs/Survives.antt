@@ -7,13 +7,11 @@ use Rattle.crash_laws.specs.Survives.{SurvivesAll, ReadsBack}
 use Rattle.merge_laws.specs.Plays.{PensMerge}
 use Rattle.merge_laws.specs.LeftByTurns.{TellInTime, SurvivesByTurns, ReadsByTurns}
 use Rattle.merge_laws.specs.Pens.{AgreesAll}
-use Rattle.slot_laws.specs.Labels.{first_past}
 use Rattle.slot_image_laws.specs.Run.{RunFits, BeganWith}
-use Rattle.label_laws.specs.Maps.{past_of, Numbered}
-use Rattle.label_laws.specs.Beside.{TellAlong}
+use Rattle.label_laws.specs.Maps.{past_of}
 use Rattle.close_laws.specs.Close.{TellsAll}
 use Rattle.flush_agrees.specs.Closing.{pen_fsyncs}
-use Rattle.named_laws.specs.Mount.{MountEnd, MountEnds, AreNamed}
+use Rattle.named_laws.specs.Mount.{MountEnd, MountEnds}
 
 -- What the turns of a mount tell: all cores agree with their pens on them, each with those of its fsyncs that have some; so they are what fsyncs do, each of
 -- which goes one of the ways with its answer; and they tell of answers and acknowledgements, at moments that don't fall.
@@ -45,7 +43,6 @@ pub record MountSurvives (share : ℕ) (at : MountEnd) (disk : View) (ends : Dis
   pub reads_by_turns : ReadsByTurns share at.start.first at.start.history (past_of at.told).turns disk
   pub turns : TurnsEnd at ends.most
 
--- So it is of each mount whose cores tell of their pairs along the labels.
+-- So it is of each mount as it ends.
 abbrev pub MountsSurvive : Type 0 → View → Type 0
-MountsSurvive D disk = (share : ℕ) (at : MountEnd) (named : Numbered) → MountEnds D at → AreNamed at named
-    → TellAlong at.told.layout at.start named at.told.log (first_past at.told.moment) → (ends : DiskEnds at disk) → MountSurvives share at disk ends
+MountsSurvive D disk = (share : ℕ) (at : MountEnd) → MountEnds D at → (ends : DiskEnds at disk) → MountSurvives share at disk ends

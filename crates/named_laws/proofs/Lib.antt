@@ -3,3 +3,4 @@ pub mod Fsyncs
 pub mod Plain
 pub mod Named
 pub mod Told
+pub mod Reaches

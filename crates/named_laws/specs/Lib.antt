@@ -1,2 +1,3 @@
 pub mod Mount
 pub mod Laws
+pub mod Reaches
