@@ -10,7 +10,7 @@ use Rattle.disk_nodes.specs.Nodes.{entry_node}
 use Rattle.disk_nodes.specs.OldKept.{OldKept}
 use Rattle.disk_nodes.specs.declared.old.OldEntry.{OldEntry}
 use Rattle.disk_change.specs.AllBuilt.{entry_keyed}
-use Rattle.mount.specs.declared.begin.Mounted.{Mounted}
+use Rattle.mount_begin.specs.declared.begin.Mounted.{Mounted}
 use Rattle.flush_laws.specs.Volume.{Volume}
 use Rattle.volume_laws.specs.Begun.{volume_begun}
 use Rattle.volume_laws.specs.Mounting.{WasMounted, IsBegunVolume}

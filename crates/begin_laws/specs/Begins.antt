@@ -14,8 +14,8 @@ use Rattle.commit_one.specs.Change.{nothing_open}
 use Rattle.crash_laws.specs.Wrote.{Mounts}
 use Rattle.mark_laws.specs.Changed.{HasShortFiles}
 use Rattle.recovery.specs.Freed.{without_unlinked}
-use Rattle.mount.specs.Mounted.{share_of_nodes}
-use Rattle.mount.specs.declared.begin.Mounted.{Mounted}
+use Rattle.mount_begin.specs.Mounted.{share_of_nodes}
+use Rattle.mount_begin.specs.declared.begin.Mounted.{Mounted}
 use Rattle.flush_laws.specs.Volume.{Volume}
 use Rattle.volume_laws.specs.Mounting.{WasMounted}
 use Rattle.reserve_laws.specs.Olds.{IsKeptIn}

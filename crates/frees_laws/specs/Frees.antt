@@ -2,8 +2,8 @@
 use Rattle.std.specs.Prelude.{◌<◌, ◌≢◌, ◌^◌, ◌-◌, ℕ, Contains}
 use Rattle.sfs_image.specs.Super.{Layout}
 use Rattle.disk_change.specs.AllBuilt.{after_commit}
-use Rattle.mount.specs.Mounted.{IsSoundMount}
-use Rattle.mount.specs.declared.begin.Mounted.{Mounted}
+use Rattle.mount_begin.specs.Mounted.{IsSoundMount}
+use Rattle.mount_begin.specs.declared.begin.Mounted.{Mounted}
 use Rattle.note_laws.specs.Run.{TableRun}
 use Rattle.made_laws.specs.Made.{CoreMade}
 use Rattle.flush_agrees.specs.Made.{FlushMade, GrantsNeed, change_of}

@@ -22,8 +22,8 @@ use Rattle.disk_nodes.specs.OldKept.{OldKept}
 use Rattle.disk_nodes.specs.declared.old.OldEntry.{OldEntry}
 use Rattle.disk_change.specs.GivenUp.{entry_number}
 use Rattle.recovery.specs.Freed.{without_unlinked}
-use Rattle.mount.specs.Mounted.{IsSoundMount, making_with}
-use Rattle.mount.specs.declared.begin.Mounted.{Mounted}
+use Rattle.mount_begin.specs.Mounted.{IsSoundMount, making_with}
+use Rattle.mount_begin.specs.declared.begin.Mounted.{Mounted}
 use Rattle.volume_laws.specs.Begun.{BeginsVolume}
 use Rattle.volume_laws.proofs.Begun.{numbered}
 use Rattle.volume_laws.proofs.Mounts.{mounts_begin}

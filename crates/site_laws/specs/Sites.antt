@@ -10,8 +10,8 @@ use Rattle.mem_values.specs.Start.{given_in}
 use Rattle.mem_begin.specs.Beginning.{CanBeginTable}
 use Rattle.slot_laws.specs.Grants.{NoneGranted}
 use Rattle.fsync_commit.specs.Asked.{IsSpaceOn}
-use Rattle.mount.specs.Mounted.{IsSoundMount}
-use Rattle.mount.specs.declared.begin.Mounted.{Mounted}
+use Rattle.mount_begin.specs.Mounted.{IsSoundMount}
+use Rattle.mount_begin.specs.declared.begin.Mounted.{Mounted}
 
 -- What was mounted with so many new nodes is a site. Its tree is sound and within its limits, a table may begin with it, and it has the layout's cores and no
 -- more nodes than the disk has inodes, but for the new ones. Of exactly its nodes the disk has something, which is an inode of it. And the layout lies in its
