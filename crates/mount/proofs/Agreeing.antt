@@ -60,7 +60,7 @@ served_agrees {D = D} volume node before after pen done given is agrees served =
       comes = served.comes;
     } in
     let behind : (fsyncs : List FlushTold) × CoresAgree volume.shared after done fsyncs =
-    elim (flushes_agree D place given agrees.fsyncs makes agrees.agree) [ | inl same ↦ (agrees.fsyncs, same) | inr more ↦ (_, more.1) ]
+    elim (flushes_agree D place given agrees.fsyncs makes agrees.agree) [ inl same ↦ (agrees.fsyncs, same) | inr more ↦ (_, more.1) ]
     in
     record {
       ready = served.ready;

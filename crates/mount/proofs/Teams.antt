@@ -3,7 +3,6 @@ use Rattle.std.proofs.Common.{◌≡◌, ◌<◌, ◌≤◌, ◌+◌, ◌∷◌,
 use Rattle.std.specs.Prelude.{All, slice_get}
 use Rattle.std.proofs.lemmas.List.{length-map}
 use Rattle.std.proofs.lemmas.Option.{get_or_from_slice_get, slice_get_within}
-
 use Rattle.script.specs.declared.commands.Line.{Line}
 use Rattle.stamp_table.specs.Hand.{Desk}
 use Rattle.stamp_table.specs.Table.{AreAllCores, AreIdleFrom, IsSameCore, first_leads}

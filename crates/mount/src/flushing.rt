@@ -83,5 +83,14 @@ pub fn run_phase<R: Threads + Wait + Sync, D: Disk + Drop, G: Gate>(
         serve: serve_one,
         kinds: PhantomData,
     };
-    drive(rt, alloc, volume.shared(), workers, volume.basis, phase, &by, gate)
+    drive(
+        rt,
+        alloc,
+        volume.shared(),
+        workers,
+        volume.basis,
+        phase,
+        &by,
+        gate,
+    )
 }

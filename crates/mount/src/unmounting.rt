@@ -37,7 +37,10 @@ pub fn unmount<D: Disk + Drop>(
     ensures leaves { LeavesVolume D.view volume workers.items result.0 result.1 result.2.items }
 {
     let Volume {
-        shared, set, room, ..
+        shared,
+        set,
+        room,
+        ..
     } = volume;
     let Room { cores, pens } = part(room, workers);
     let (history, _) = shared.close(cores);
