@@ -24,7 +24,7 @@ at_map f (x ∷ xs) zero d = refl
 at_map f (x ∷ xs) (suc k) d = at_map f xs k d
 
 -- what holds of all holds of the one at a place
-all_there : {X : Type 0} (P : X → Type 0) (xs : List X) (k : ℕ) (x : X) → All P xs → slice_get xs k ≡ Some x → P x
+pub all_there : {X : Type 0} (P : X → Type 0) (xs : List X) (k : ℕ) (x : X) → All P xs → slice_get xs k ≡ Some x → P x
 all_there P xs k x all there = subst P (get_or_from_slice_get xs k x x there) (all k x (slice_get_within xs k x there))
 
 -- some worker of a list that has one at a place

@@ -1,5 +1,6 @@
 pub mod Begun
-pub mod Volume
-pub mod Workers
 pub mod Ends
 pub mod Keeping
+pub mod Phases
+pub mod Volume
+pub mod Workers

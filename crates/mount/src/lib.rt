@@ -3,10 +3,12 @@
 
 mod flushing;
 mod mounting;
+mod running;
 mod unmounting;
 mod volume;
 
 pub use flushing::{PairAgreement, run_phase, serve};
 pub use mounting::{MountFault, mount};
+pub use running::run_phases;
 pub use unmounting::unmount;
 pub use volume::{Mounted, Room, Volume};
