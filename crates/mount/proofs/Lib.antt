@@ -2,3 +2,4 @@ mod Agreeing
 mod Crew
 mod Teams
 mod Together
+mod FromBegin
