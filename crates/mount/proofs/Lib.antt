@@ -3,3 +3,5 @@ mod Crew
 mod Teams
 mod Together
 mod FromBegin
+mod Owned
+mod Ending
