@@ -17,7 +17,7 @@ use Rattle.reserve_laws.specs.Olds.{IsKeptIn}
 use Rattle.stamp_table.specs.Answered.{without_answer, unanswered, is_served}
 use Rattle.stamp_table.specs.Table.{AreIdleFrom}
 use Rattle.stamp_table.specs.declared.event.Event.{Event}
-use Rattle.stamp_table.specs.Events.{event_core, IsLawful, calls_in}
+use Rattle.stamp_table.specs.Events.{event_core, calls_in}
 use Rattle.stamp_table.specs.Rule.{entries_by}
 use Rattle.stamp_table.specs.Hand.{Desk}
 use Rattle.mem_values.specs.declared.fact.Fact.{Fact}
@@ -27,11 +27,14 @@ use Rattle.slot_laws.specs.Grants.{NoneGranted}
 use Rattle.slot_laws.specs.Laws.{AreOfCores}
 use Rattle.slot_image_laws.specs.Run.{KeepsLaws}
 use Rattle.disk_box.specs.Pens.{PenHand}
+use Rattle.journal_one.proofs.Kept.{IsLawful}
+use Rattle.mount_begin.specs.declared.begin.Mounted.{Mounted}
 use Rattle.disk_box.specs.declared.key.BoxKey.{BoxKey}
 use Rattle.disk_box.specs.Box.{LawfulBox}
 use Rattle.label_laws.specs.Beside.{BeginsLabels}
 use Rattle.site_laws.specs.Sites.{IsSiteMount}
 use Rattle.site_laws.proofs.Sites.{mounts_are_sites}
+use Rattle.begin_laws.specs.Begins.{HasBegun}
 use Rattle.begin_laws.proofs.Begins.{mounts_begin_labels}
 use Rattle.begin_laws.proofs.Rests.{closed_pens_rest}
 use Rattle.flush_agrees.specs.Agreement.{FlushTold, run_to, CoresAgree}
@@ -49,7 +52,6 @@ use Rattle.mount.specs.declared.volume.Volume.{Volume}
 use Rattle.mount.specs.Workers.{PairAgrees, core_of, AreWorkers, pen_of}
 use Rattle.mount.specs.Volume.{IsVolume, IsMountOfDisk}
 use Rattle.mount.specs.Ends.{LeavesVolume}
-use Rattle.mount.specs.declared.volume.Mounted.{Mounted}
 use Rattle.mount.proofs.Teams.{workers_count, pens_close}
 use Rattle.mount.proofs.Owned.{event_owned}
 
@@ -167,7 +169,7 @@ module _ {D : Type 0} (view : D → View) (volume : Volume D) (workers : List (W
       let at = agrees_there volume workers unmounted.are.rest core told there in
       let worker = at.worker in
       let pair = at.rests.agree in
-      let number : worker.core.view.core ≡ core = idle_number volume 0 core workers worker unmounted.are.all.ready at.there in
+      let number : worker.core.view.core ≡ core = idle_number volume 0 core workers worker unmounted.are.all.ready at.there ∙ omega arith in
       let key_is : worker.pen.table.given ≡ key = ap (λ (d : Desk (BoxKey D)). d.given) pair.ready.outside.table_is in
       let core_there : slice_get (map core_of workers) core ≡ Some worker.core = slice_get-map core_of workers core ∙ ap (option_map core_of) at.there in
       let pen_there : slice_get (map pen_of workers) core ≡ Some worker.pen = slice_get-map pen_of workers core ∙ ap (option_map pen_of) at.there in
@@ -205,7 +207,8 @@ module _ {D : Type 0} (view : D → View) (volume : Volume D) (workers : List (W
         mounts_begin_labels (view disk) (view mounted.left) (lawful_disk disk) (lawful_disk mounted.left) nodes begun history mounted.was
         (subst (λ (t : TreeState). IsLegal t history) mounted.tree leaves.legal)
 
-    pub end : MountEnd
+    -- its mount as it ends
+    abbrev pub end : MountEnd
     end = record {
       t = volume.shared;
       logs = logs;
