@@ -231,7 +231,8 @@ module _ {D : Type 0} (view : D → View) (volume : Volume D) (workers : List (W
     no_block : NoneGranted key.space.blocks
     no_block = subst (λ (s : Space). NoneGranted s.blocks) (sym mounted.key.space_is) site.no_block
 
-    key_fits : IsLayout key.layout.blocks key.layout
+    -- its layout lies in its own blocks
+    pub key_fits : IsLayout key.layout.blocks key.layout
     key_fits = subst (λ (l : Layout). IsLayout l.blocks l) (sym mounted.key.layout_is) site.fits
 
     cores_end : CoresEnd volume.shared key logs fsyncs

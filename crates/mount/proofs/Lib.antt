@@ -5,3 +5,4 @@ mod Together
 mod FromBegin
 mod Owned
 mod Ending
+mod Surviving

@@ -1,20 +1,28 @@
 -- What an unmounted volume comes to, of the mount with which it began.
-use Rattle.std.specs.Prelude.{◌≤◌, ℕ, List}
+use Rattle.std.specs.Prelude.{◌≤◌, ◌≡◌, ℕ, List, Some}
+use Rattle.std.specs.declared.snapshot.Snapshot.{Snapshot}
 use Rattle.sfs_image.specs.Settled.{layout_of}
 use Rattle.sfs_dev.specs.Disk.{View}
 use Rattle.sfs_dev.specs.Run.{CountsOn}
 use Rattle.sfs_dev.specs.Steps.{IfTold}
+use Rattle.journal_one.specs.Calls.{IsCalm}
+use Rattle.commit_one.specs.Carried.{GoesOnTelling}
 use Rattle.tree_laws.specs.Tree.{TreeState}
 use Rattle.tree_laws.specs.declared.history.Entry.{Entry}
 use Rattle.tree_laws.specs.declared.turns.Turn.{Turn}
-use Rattle.journal_one.specs.Calls.{IsCalm}
 use Rattle.crash_laws.specs.Survives.{ReadsBack, SurvivesAll}
 use Rattle.merge_laws.specs.LeftByTurns.{ReadsByTurns, SurvivesByTurns, TellInTime}
 use Rattle.merge_laws.specs.Pens.{AgreesAll, FsyncTurns}
 use Rattle.merge_laws.specs.Plays.{PensMerge}
 use Rattle.mount_begin.specs.Mounted.{share_of_nodes}
-use Rattle.mount.specs.Volume.{IsMountOfDisk}
+use Rattle.slot_image_laws.specs.Run.{KeepsLaws}
+use Rattle.disk_box.specs.declared.key.BoxKey.{BoxKey}
+use Rattle.disk_box.specs.Pens.{PenHand}
+use Rattle.workers.specs.declared.worker.Worker.{Worker}
+use Rattle.mount.specs.Volume.{IsMountOfDisk, IsVolume}
 use Rattle.mount.specs.declared.volume.Volume.{Volume}
+use Rattle.mount.specs.Workers.{AreWorkers}
+use Rattle.mount.specs.Ends.{LeavesVolume}
 
 -- What the turns of a volume tell, whose disk had so many faults as it was mounted: all cores agree with their pens on them, and no count is above a last one; so
 -- they are what fsyncs do, each of which goes one of the ways with its answer; and they tell of answers and acknowledgements, at moments that don't fall.
@@ -45,3 +53,13 @@ pub record ComesTo {D : Type 0} (view : D → View) (nodes : ℕ) (disk : D) (vo
 abbrev pub VolumeSurvives : {D : Type 0} → (D → View) → Volume D → D → List Entry → List Turn → Type 0
 VolumeSurvives {D} view volume left history turns = (nodes : ℕ) (disk : D) → IsMountOfDisk view nodes disk volume
     → ComesTo view nodes disk volume left history turns
+
+-- A disk goes on telling what a read gives, from what it was as its box was made, where the key tells that.
+pub record TellsSince {D : Type 0} (view : D → View) (key : BoxKey D) (disk : D) : Type 0 where
+  pub tells : (first : Snapshot D) → key.first ≡ Some first → GoesOnTelling (view first.value) (view disk)
+
+-- So it is of each volume that was left, with all workers at rest, on a disk that goes on telling.
+abbrev pub UnmountedSurvive : {D : Type 0} → (D → View) → Type 0
+UnmountedSurvive {D} view = (volume : Volume D) (workers : List (Worker (PenHand D))) (left : D) (history : List Entry) (turns : List Turn)
+    → ((disk : D) → KeepsLaws (view disk)) → IsVolume volume → AreWorkers volume workers → LeavesVolume view volume workers left history turns
+    → TellsSince view volume.set.table.given left → VolumeSurvives view volume left history turns
