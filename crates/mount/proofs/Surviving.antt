@@ -1,13 +1,13 @@
 -- An unmounted volume survives each crash since its mount began.
-use Rattle.std.proofs.Common.{◌≡◌, ◌≤◌, ◌∷◌, ◌∙◌, ℕ, List, [], Some, max, inl, inr, refl, sym, ap, subst, arith, map}
+use Rattle.std.proofs.Common.{◌≡◌, ◌≤◌, ◌∷◌, ◌∙◌, ℕ, List, [], Option, Some, None, is_some, true, false, max, inl, inr, refl, sym, ap, subst, arith, map}
 use Rattle.sfs_image.specs.Super.{Layout}
 use Rattle.sfs_image.specs.ImageOf.{IsImageOf}
 use Rattle.sfs_image.specs.Settled.{layout_of}
 use Rattle.sfs_dev.specs.Disk.{View, images}
 use Rattle.sfs_dev.specs.Run.{Advances, CountsOn}
+use Rattle.sfs_dev.specs.Steps.{TellsAlike}
 use Rattle.journal_one.specs.Calls.{IsCalm}
 use Rattle.commit_one.specs.Change.{nothing_open}
-use Rattle.commit_one.specs.Carried.{GoesOnTelling}
 use Rattle.tree_laws.specs.declared.turns.Turn.{Turn}
 use Rattle.tree_laws.specs.declared.history.Entry.{Entry}
 use Rattle.tree_laws.specs.Tree.{TreeState}
@@ -45,6 +45,14 @@ few_faults : (turns : List Turn) (turn : Turn) → IsOneOf turns turn → turn.f
 few_faults [] turn one = absurd one
 few_faults (next ∷ turns) turn (inl same) = subst (λ (t : Turn). t.faults ≤ max next.faults (most_faults turns)) same (omega arith)
 few_faults (next ∷ turns) turn (inr one) = let low = few_faults turns turn one in omega (arith, low)
+
+-- a disk that tells alike goes on telling what a read gives
+told_still : (old new : View) → TellsAlike old new → (content : List ℕ) → old.content ≡ Some content → (now : List ℕ) × (new.content ≡ Some now)
+told_still old new alike content told = by new.content refl
+  where
+    by : (o : Option (List ℕ)) → new.content ≡ o → (now : List ℕ) × (new.content ≡ Some now)
+    by (Some now) is = (now, is)
+    by None is = absurd (let never : false ≡ true = sym (ap is_some is) ∙ alike ∙ ap is_some told in cc)
 
 module _ {D : Type 0} (view : D → View) (volume : Volume D) (workers : List (Worker (PenHand D))) (left : D) (history : List Entry) (turns : List Turn)
     (unmounted : Unmounted view volume workers left history turns) (nodes : ℕ) (disk : D) (mounted : IsMountOfDisk view nodes disk volume) where
@@ -102,8 +110,8 @@ module _ {D : Type 0} (view : D → View) (volume : Volume D) (workers : List (W
 
     tells_all : TellsAll (view left)
     tells_all =
-        let now = subst (λ (d : D). GoesOnTelling (view d) (view left)) mounted.over.is (tells.tells mounted.over.first mounted.over.told)
-            holds.tells.0 holds.tells.1 in
+        let alike = subst (λ (d : D). TellsAlike (view d) (view left)) mounted.over.is (tells.tells mounted.over.first mounted.over.told) in
+        let now = told_still (view mounted.left) (view left) alike holds.tells.0 holds.tells.1 in
         record { content = now.0; tells = now.1; counts = counts; laws = unmounted.laws left }
 
     disk_ends : DiskEnds at (view left)

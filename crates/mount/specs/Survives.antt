@@ -4,9 +4,8 @@ use Rattle.std.specs.declared.snapshot.Snapshot.{Snapshot}
 use Rattle.sfs_image.specs.Settled.{layout_of}
 use Rattle.sfs_dev.specs.Disk.{View}
 use Rattle.sfs_dev.specs.Run.{CountsOn}
-use Rattle.sfs_dev.specs.Steps.{IfTold}
+use Rattle.sfs_dev.specs.Steps.{IfTold, TellsAlike}
 use Rattle.journal_one.specs.Calls.{IsCalm}
-use Rattle.commit_one.specs.Carried.{GoesOnTelling}
 use Rattle.tree_laws.specs.Tree.{TreeState}
 use Rattle.tree_laws.specs.declared.history.Entry.{Entry}
 use Rattle.tree_laws.specs.declared.turns.Turn.{Turn}
@@ -54,11 +53,11 @@ abbrev pub VolumeSurvives : {D : Type 0} → (D → View) → Volume D → D →
 VolumeSurvives {D} view volume left history turns = (nodes : ℕ) (disk : D) → IsMountOfDisk view nodes disk volume
     → ComesTo view nodes disk volume left history turns
 
--- A disk goes on telling what a read gives, from what it was as its box was made, where the key tells that.
+-- A disk tells what a read gives exactly where it did as its box was made, if the key tells what it was then.
 pub record TellsSince {D : Type 0} (view : D → View) (key : BoxKey D) (disk : D) : Type 0 where
-  pub tells : (first : Snapshot D) → key.first ≡ Some first → GoesOnTelling (view first.value) (view disk)
+  pub tells : (first : Snapshot D) → key.first ≡ Some first → TellsAlike (view first.value) (view disk)
 
--- So it is of each volume that was left, with all workers at rest, on a disk that goes on telling.
+-- So it is of each volume that was left, with all workers at rest, on a disk that tells what a read gives as it did.
 abbrev pub UnmountedSurvive : {D : Type 0} → (D → View) → Type 0
 UnmountedSurvive {D} view = (volume : Volume D) (workers : List (Worker (PenHand D))) (left : D) (history : List Entry) (turns : List Turn)
     → ((disk : D) → KeepsLaws (view disk)) → IsVolume volume → AreWorkers volume workers → LeavesVolume view volume workers left history turns
