@@ -40,7 +40,12 @@ rise_from from to (next ∷ turns) rises turn (inr one) =
     let high = rise_from next.now to turns rises.1 turn one in
     omega (arith, low, high)
 
--- so all are above a moment below it
+-- so they rise from each number below it
+pub rises_before : (before from to : ℕ) (turns : List Turn) → before ≤ from → RisesFrom from turns to → RisesFrom before turns to
+rises_before before from to [] low rises = omega (arith, low, rises)
+rises_before before from to (turn ∷ turns) low rises = ((let here = rises.0 in omega (arith, low, here)), rises.1)
+
+-- and all are above a moment below it
 late_from : (moment : ℕ) (turns : List Turn) → ((turn : Turn) → IsOneOf turns turn → moment < turn.now) → All (λ (turn : Turn). moment < turn.now) turns
 late_from moment [] late k d within = absurd (omega (arith, within))
 late_from moment (turn ∷ turns) late zero d within = late turn (inl refl)
@@ -61,8 +66,8 @@ durable_listed history all some tell within flush one =
       answered = subst MayBeWritten (sym is.answered) tt;
     }
 
--- A mount made a disk of a tree, which has gone on from there to the end of a history and its turns; these lie behind the mount, and what a crash leaves from its
--- end on is safe.
+-- A mount made a disk of a tree, which has gone on from there to the end of a history and its turns; these lie behind the mount, and what a crash leaves from
+-- its end on is safe.
 pub record GoesOnFrom (share from start : ℕ) (first : TreeState) (history : List Entry) (turns : List Turn) (begun left : View) : Type 0 where
   pub mounts : Mounts share from first begun
   pub start_is : start ≡ begun.now
@@ -151,7 +156,10 @@ module _ (share from start : ℕ) (first : TreeState) (history : List Entry) (tu
   pub survive_from_begin : SurvivesByTurns share from first history turns left
   survive_from_begin moment image since until crash = elim (cases_lt moment start) [
     | inl early ↦ elim (cases_lt crash.0 start) [
-      | inl soon ↦ before_end moment crash.0 image early (let low = crash.1 in omega (arith, since, low)) (let same = is.start_is in omega (arith, soon, same)) crash.3
+      | inl soon ↦
+          let low = crash.1 in
+          let same = is.start_is in
+          before_end moment crash.0 image early (omega (arith, since, low)) (omega (arith, soon, same)) crash.3
       | inr late ↦ safe_before moment image early
           (is.survives start image (le_itself start) (let high = crash.2 in omega (arith, late, high)) (crash.0, late, crash.2, crash.3))
     ]

@@ -16,7 +16,7 @@ use Rattle.crash_laws.specs.Wrote.{Mounts}
 use Rattle.merge_laws.specs.LeftByTurns.{SurvivesByTurns}
 use Rattle.merge_laws.proofs.ByTurns.{durables_survive}
 use Rattle.mount_begin.specs.Mounted.{share_of_nodes}
-use Rattle.slot_image_laws.specs.Run.{BeganWith}
+use Rattle.slot_image_laws.specs.Run.{BeganWith, RisesFrom}
 use Rattle.disk_box.specs.Pens.{PenHand}
 use Rattle.disk_box.specs.declared.key.BoxKey.{BoxKey}
 use Rattle.close_laws.specs.Close.{TellsAll}
@@ -33,7 +33,7 @@ use Rattle.mount.specs.Volume.{IsMountOfDisk}
 use Rattle.mount.specs.Ends.{LeavesVolume}
 use Rattle.mount.specs.Survives.{TurnsTellAll, TellsSince, SurvivesSince, ComesTo, UnmountedSurvive}
 use Rattle.mount.proofs.Ending.{Unmounted, end, ends, has_begun, key_fits}
-use Rattle.mount.proofs.FromBegin.{survive_from_begin}
+use Rattle.mount.proofs.FromBegin.{rises_before, survive_from_begin}
 
 -- the greatest count of faults of some turns
 abbrev most_faults : List Turn → ℕ
@@ -156,7 +156,11 @@ module _ {D : Type 0} (view : D → View) (volume : Volume D) (workers : List (W
 
   comes_to : TellsSince view key left → ComesTo view nodes disk volume left history turns
   comes_to tells = record {
-    faults = let never = mounted.was.advances.never_falls in let are = mounted.key.faults_are in omega (arith, never, are);
+    since = let never = mounted.was.advances.never_falls in let are = mounted.key.faults_are in omega (arith, never, are);
+    until = let never = goes_on.never_falls in let are = mounted.key.faults_are in omega (arith, never, are);
+    dated = subst (λ (l : List Turn). RisesFrom (view disk).now l (view left).now) (sym leaves.leaves.record_is)
+        (rises_before (view disk).now key.start (view left).now (past_of at.told).turns
+        (let later = mounted.was.advances.later in let is = mounted.key.start_is in omega (arith, later, is)) leaves.leaves.run.rises);
     turns_tell = turns_tell;
     survives = λ image told calm counts. survives tells image told calm counts;
   }
