@@ -3,3 +3,7 @@ mod Crew
 mod Ran
 mod Teams
 mod Together
+mod FromBegin
+mod Owned
+mod Ending
+mod Surviving
