@@ -140,7 +140,7 @@ module _ {D : Type 0} (volume : Volume D) (phase : List Line) (from : ℕ) (befo
       }
 
   made_at : (core : ℕ) → MadeAt volume phase from core before after
-  made_at core = elim (slice_get_cases before core).1 [ | inl found ↦ made_there core found.0 found.2 | inr past ↦ made_past core past.0 ]
+  made_at core = elim (slice_get_cases before core).1 [ inl found ↦ made_there core found.0 found.2 | inr past ↦ made_past core past.0 ]
 
   -- so the cores have run on
   ran : RanPhase (RunsPhase phase) (own_of before) (own_of after)

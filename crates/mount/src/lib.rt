@@ -8,7 +8,7 @@ mod unmounting;
 mod volume;
 
 pub use flushing::{PairAgreement, run_phase, serve};
-pub use mounting::{MountFault, mount};
+pub use mounting::{MountFault, begin, mount};
 pub use running::run_phases;
 pub use unmounting::unmount;
 pub use volume::{Mounted, Room, Volume};

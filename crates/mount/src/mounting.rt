@@ -4,6 +4,8 @@ ghost use Rattle.std.specs.Vec.{vec_capacity};
 ghost use Rattle.sfs_image.specs.Super.{InRange};
 ghost use Rattle.mem_begin.specs.Beginning.{CanBeginTable};
 ghost use Rattle.mem_values.specs.Places.{node_count};
+ghost use Rattle.volume_laws.specs.Mounting.{WasMounted};
+ghost use Rattle.recovery.specs.declared.fault.RecoverFault.TheVariants as RecoverFault;
 ghost use Rattle.mount.specs.Begun.{IsTableOver, basis_for};
 ghost use Rattle.mount.specs.Volume.{HasRoom, IsMountOfDisk, IsRefusedMount, IsVolume};
 ghost use Rattle.mount.specs.Workers.{AreWorkers, HaveMadeNothing, workers_begun};
@@ -123,26 +125,24 @@ fn table_over<D: Disk + Drop>(
     })
 }
 
-/// Mounts a disk, in whose tree `nodes` new nodes may be made, at most 65,536, shared among the cores, each as many, rounded down: it recovers the disk and puts
-/// its tree on a table, with a worker for each core of the image. It refuses what `recover` refuses, and want of memory; then the disk is handed back as that leaves
-/// it.
-pub fn mount<D: Disk + Drop>(
+/// Begins a volume over a disk that was mounted with so many new nodes, at most 65,536. It is refused for want of memory alone, and then the disk is handed back as
+/// it is.
+pub fn begin<D: Disk + Drop>(
     alloc: Global,
     disk: D,
+    begun: Begun,
     nodes: u32,
 ) -> Result<Mounted<D>, MountFault<D>>
     requires most { nodes ≤ 65536 }
+    requires was { (old : D) × WasMounted nodes begun (D.view old) (D.view disk) }
     ensures volume { IfOk result (λ made. IsVolume made.volume) }
-    ensures mounts { IfOk result (λ made. IsMountOfDisk D.view nodes disk made.volume) }
+    ensures mounts { IfOk result (λ made. (old : D) → WasMounted nodes begun (D.view old) (D.view disk) → IsMountOfDisk D.view nodes old made.volume) }
+    ensures first { IfOk result (λ made. made.volume.shared.first ≡ begun.tree) }
     ensures workers { IfOk result (λ made. AreWorkers made.volume made.workers.items) }
     ensures new { IfOk result (λ made. HaveMadeNothing made.workers.items) }
-    ensures refused { IfErr result (IsRefusedMount D.view disk) }
+    ensures cores { IfOk result (λ made. made.volume.cores ≡ begun.layout.cores) }
+    ensures refused { IfErr result (λ fault. (fault.fault ≡ RecoverFault.NoMemory) × (fault.disk ≡ disk)) }
 {
-    let mut disk = disk;
-    let begun = match mount_begin::mount(alloc, &mut disk, nodes) {
-        Ok(begun) => begun,
-        Err(fault) => return Err(MountFault { fault, disk }),
-    };
     let Begun {
         layout,
         tree,
@@ -182,4 +182,26 @@ pub fn mount<D: Disk + Drop>(
             room,
         },
     })
+}
+
+/// Mounts a disk, in whose tree `nodes` new nodes may be made, at most 65,536, shared among the cores, each as many, rounded down: it recovers the disk and puts
+/// its tree on a table, with a worker for each core of the image. It refuses what `recover` refuses, and want of memory; then the disk is handed back as that leaves
+/// it.
+pub fn mount<D: Disk + Drop>(
+    alloc: Global,
+    disk: D,
+    nodes: u32,
+) -> Result<Mounted<D>, MountFault<D>>
+    requires most { nodes ≤ 65536 }
+    ensures volume { IfOk result (λ made. IsVolume made.volume) }
+    ensures mounts { IfOk result (λ made. IsMountOfDisk D.view nodes disk made.volume) }
+    ensures workers { IfOk result (λ made. AreWorkers made.volume made.workers.items) }
+    ensures new { IfOk result (λ made. HaveMadeNothing made.workers.items) }
+    ensures refused { IfErr result (IsRefusedMount D.view disk) }
+{
+    let mut disk = disk;
+    match mount_begin::mount(alloc, &mut disk, nodes) {
+        Ok(begun) => begin(alloc, disk, begun, nodes),
+        Err(fault) => Err(MountFault { fault, disk }),
+    }
 }

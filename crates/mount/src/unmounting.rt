@@ -2,6 +2,7 @@
 ghost use Rattle.std.specs.Prelude.{◌≡◌, ◌≤◌, [], length, map};
 ghost use Rattle.std.specs.Vec.{vec_capacity};
 ghost use Rattle.mount.specs.Ends.{LeavesVolume};
+ghost use Rattle.mount.specs.Survives.{VolumeSurvives};
 ghost use Rattle.mount.specs.Volume.{HasRoom, IsVolume};
 ghost use Rattle.mount.specs.Workers.{AreWorkers, core_of, pen_of};
 
@@ -35,6 +36,7 @@ pub fn unmount<D: Disk + Drop>(
     requires volume { IsVolume volume }
     requires workers { AreWorkers volume workers.items }
     ensures leaves { LeavesVolume D.view volume workers.items result.0 result.1 result.2.items }
+    ensures survives { VolumeSurvives D.view volume result.0 result.1 result.2.items }
 {
     let Volume {
         shared,
