@@ -1,6 +1,5 @@
 -- Through labels that leave nodes, turns and numbers as they are, what is kept beside the slots goes on to fit.
 use Rattle.sfs_dev.specs.Run.{Advances}
-use Rattle.sfs_dev.specs.Steps.{TellsAlike}
 use Rattle.sfs_dev.proofs.Runs.{GoesOn-trans}
 use Rattle.std.specs.Prelude.{Vec}
 use Rattle.std.specs.declared.alloc.Global.{Global}
@@ -42,7 +41,6 @@ pub record SameBeside {D : Type 0} (view : D → View) (was now : Desk D) : Type
   pub size : (view now.disk).size ≡ (view was.disk).size
   pub later : (view was.disk).now ≤ (view now.disk).now
   pub goes : Advances (view was.disk) (view now.disk)
-  pub tells : TellsAlike (view was.disk) (view now.disk)
 
 pub frame_same : {D : Type 0} (view : D → View) (key : BoxKey D) (old new : BoxPast) (was now : Desk D) → FrameFits view key old was
     → LeavesKept old new → SameBeside view was now → RunFits key.layout key.start new (view now.disk) → FrameFits view key new now
@@ -66,10 +64,7 @@ frame_same view key old new was now frame kept same run =
       failed = same.failed ∙ (frame.failed ∙ sym kept.failed);
       turns = ap (λ (t : Roomy Turn). t.items) same.turns ∙ (frame.turns ∙ sym kept.turns);
       moment = omega (arith, moment, later, stays);
-      since = record {
-        goes = λ first is. GoesOn-trans (view first.value) (view was.disk) (view now.disk) (frame.since.goes first is) same.goes;
-        tells = λ first is. same.tells ∙ frame.since.tells first is;
-      };
+      since = record { goes = λ first is. GoesOn-trans (view first.value) (view was.disk) (view now.disk) (frame.since.goes first is) same.goes };
       run = run;
     }
 

@@ -1,11 +1,4 @@
 -- A label of a slot's device call, or of a slot that is idle again: what is kept beside the slots goes on to fit.
-use Rattle.std.proofs.Common.{List, Bool}
-use Rattle.std.specs.Prelude.{is_some, option_map}
-use Rattle.sfs_dev.specs.Disk.{TornTold}
-use Rattle.sfs_dev.specs.Ranges.{put}
-use Rattle.journal_one.specs.Job.{Piece}
-use Rattle.slot_image_laws.specs.Run.{Writes}
-use Rattle.sfs_dev.specs.Steps.{TellsAlike}
 use Rattle.sfs_dev.proofs.Runs.{GoesOn-call}
 use Rattle.std.proofs.Common.{◌≡◌, ◌+◌, ◌<◌, ◌≤◌, ◌^◌, ◌∙◌, ℕ, length, true, false, Option, Some, None, Result, Ok, Err, OnErr, OnOk, IfErr, refl, sym, ap, subst, arith}
 use Rattle.sfs_base.specs.Ends.{HasRisen}
@@ -129,26 +122,12 @@ slots_leave_space core (label.Settled slot turn) past old new of same = absurd o
 slots_leave_space core (label.Looked turn) past old new of same = absurd of
 slots_leave_space core (label.Empty commit cut opened durable) past old new of same = absurd of
 
--- what a read gives is told behind a write where it was before
-torn_tells : (at n : ℕ) (was told : Option (List ℕ)) → TornTold at n was told → is_some told ≡ is_some was
-torn_tells at n None told torn = ap is_some torn
-torn_tells at n (Some was) told torn = ap is_some torn.1
-
-put_tells : (f : List ℕ → List ℕ) (was : Option (List ℕ)) → is_some (option_map f was) ≡ is_some was
-put_tells f None = refl
-put_tells f (Some was) = refl
-
-pub writes_tell : (done : Bool) (piece : Piece) (old new : View) → Writes done piece old new → TellsAlike old new
-writes_tell true piece old new writes = ap is_some (writes.ok refl) ∙ put_tells (put piece.at piece.bytes) old.content
-writes_tell false piece old new writes = torn_tells piece.at (length piece.bytes) old.content new.content (writes.err refl)
-
 -- A device call was made, and nothing of a desk is another but its disk and its slots, of which there are as many.
 pub record CalledAt {D V : Type 0} (view : D → View) (was now : Desk D) (result : Result V ℕ) : Type 0 where
   pub beside : now ≡ record was { disk = now.disk; slots = now.slots }
   pub count : length now.slots.items ≡ length was.slots.items
   pub size : (view now.disk).size ≡ (view was.disk).size
   pub time : Elapses (view was.disk) (view now.disk)
-  pub tells : TellsAlike (view was.disk) (view now.disk)
   pub answers : AnswersCall (view was.disk) (view now.disk) result
 
 pub called_beside : {D V : Type 0} (view : D → View) (was now : Desk D) (result : Result V ℕ) → KeepsLaws (view was.disk) → CalledAt view was now result
@@ -167,7 +146,6 @@ called_beside view was now result laws called =
       size = called.size;
       later = omega arith;
       goes = GoesOn-call (view was.disk) (view now.disk) laws.now_fits called.time called.size called.answers.cause.never_falls;
-      tells = called.tells;
     }
 
 -- A step has told its label: a desk with what is kept beside the slots, and room, and the slots too where its call answered Ok.

@@ -1,5 +1,4 @@
 -- A box that begins fits what no label has told, and its pens are new.
-use Rattle.std.specs.Prelude.{is_some}
 use Rattle.sfs_dev.specs.Run.{Advances}
 use Rattle.sfs_dev.proofs.Runs.{GoesOn-refl}
 use Rattle.std.specs.declared.snapshot.Snapshot.{Snapshot}
@@ -89,10 +88,7 @@ module _ {D : Type 0} (view : D → View) (laws : (disk : D) → KeepsLaws (view
       failed = new.calm;
       turns = new.no_turns;
       moment = (let same = new.counts.0 in omega (arith, same));
-      since = record {
-        goes = λ first is. subst (λ (d : D). Advances (view d) (view desk.disk)) (sym (new.began first is)) (GoesOn-refl (view desk.disk));
-        tells = λ first is. ap (λ (d : D). is_some (view d).content) (sym (new.began first is));
-      };
+      since = record { goes = λ first is. subst (λ (d : D). Advances (view d) (view desk.disk)) (sym (new.began first is)) (GoesOn-refl (view desk.disk)) };
       run = subst (λ n. Rattle.slot_image_laws.specs.Run.RunFits key.layout n (first_past n) (view desk.disk)) new.counts.0
           (first_runs_fit (view desk.disk) key.layout large);
     };
