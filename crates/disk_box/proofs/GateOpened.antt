@@ -42,7 +42,7 @@ use Rattle.disk_box.proofs.Nexts.{next_opened}
 use Rattle.disk_box.proofs.Owes.{owns_own}
 use Rattle.disk_box.proofs.Phases.{sealed_is}
 use Rattle.disk_box.proofs.SlotLists.{get_put}
-use Rattle.disk_box.proofs.SlotSteps.{steps_so}
+use Rattle.disk_box.proofs.SlotSteps.{steps_so, writes_alike}
 use Rattle.disk_box.proofs.WriteSteps.{placed_at}
 
 -- a core's open commit is the one that it was, and what it owes is two turns less
@@ -232,6 +232,8 @@ module _ {D : Type 0} (view : D → View) (t : TableState (BoxKey D)) (before : 
         since = record {
           goes = λ first is. GoesOn-trans (view first.value) (view was.disk) (view disk) (at.fits.frame.since.goes first is)
               (GoesOn-call (view was.disk) (view disk) (at.fits.frame.laws was.disk).now_fits wrote.writes.time wrote.writes.size wrote.answers.cause.never_falls);
+          tells = λ first is. writes_alike (is_ok result) (next_piece has.slot.phase) (view was.disk) (view disk) wrote.writes
+              ∙ at.fits.frame.since.tells first is;
         };
         run = done_labels_fit (view was.disk) (view disk) key.layout key.faults before.view.core key.start (label.Opened k done cut opened) past
             open_may done_by (at.fits.frame.laws was.disk) at.fits.frame.run;

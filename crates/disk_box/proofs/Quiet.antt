@@ -6,6 +6,7 @@ use Rattle.std.specs.declared.alloc.Global.{Global}
 use Rattle.std.proofs.Common.{option_map, ◌≡◌, ◌≤◌, ◌∙◌, ℕ, length, Option, sym, ap, subst, arith}
 use Rattle.sfs_base.specs.Lists.{Roomy}
 use Rattle.sfs_dev.specs.Disk.{View}
+use Rattle.sfs_dev.specs.Steps.{TellsAlike}
 use Rattle.tree_laws.specs.declared.turns.Turn.{Turn}
 use Rattle.slot_laws.specs.Labels.{BoxPast}
 use Rattle.slot_image_laws.specs.Run.{RunFits}
@@ -41,6 +42,7 @@ pub record SameBeside {D : Type 0} (view : D → View) (was now : Desk D) : Type
   pub size : (view now.disk).size ≡ (view was.disk).size
   pub later : (view was.disk).now ≤ (view now.disk).now
   pub goes : Advances (view was.disk) (view now.disk)
+  pub tells : TellsAlike (view was.disk) (view now.disk)
 
 pub frame_same : {D : Type 0} (view : D → View) (key : BoxKey D) (old new : BoxPast) (was now : Desk D) → FrameFits view key old was
     → LeavesKept old new → SameBeside view was now → RunFits key.layout key.start new (view now.disk) → FrameFits view key new now
@@ -64,7 +66,10 @@ frame_same view key old new was now frame kept same run =
       failed = same.failed ∙ (frame.failed ∙ sym kept.failed);
       turns = ap (λ (t : Roomy Turn). t.items) same.turns ∙ (frame.turns ∙ sym kept.turns);
       moment = omega (arith, moment, later, stays);
-      since = record { goes = λ first is. GoesOn-trans (view first.value) (view was.disk) (view now.disk) (frame.since.goes first is) same.goes };
+      since = record {
+        goes = λ first is. GoesOn-trans (view first.value) (view was.disk) (view now.disk) (frame.since.goes first is) same.goes;
+        tells = λ first is. same.tells ∙ frame.since.tells first is;
+      };
       run = run;
     }
 

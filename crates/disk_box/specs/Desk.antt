@@ -6,6 +6,7 @@ use Rattle.sfs_image.specs.Super.{IsLayout}
 use Rattle.sfs_image.specs.Settled.{slot_count}
 use Rattle.sfs_dev.specs.Disk.{View}
 use Rattle.sfs_dev.specs.Run.{Advances}
+use Rattle.sfs_dev.specs.Steps.{TellsAlike}
 use Rattle.tree_laws.specs.declared.turns.Turn.{Turn}
 use Rattle.slot_laws.specs.Labels.{BoxPast, OwnTold, SlotFlight}
 use Rattle.slot_image_laws.specs.Run.{KeepsLaws, RunFits}
@@ -52,9 +53,10 @@ open_for own None = option_or (option_map (λ number. (number, false)) own.reser
 abbrev pub open_told : OpenView → ℕ × Bool
 open_told one = (one.number, is_some one.debt)
 
--- A disk has gone on by device calls alone from what it was as its box was made, where the key tells that.
+-- A disk has gone on by device calls alone from what it was as its box was made, and tells what a read gives exactly where it did, where the key tells that.
 pub record GoesOnSince {D : Type 0} (view : D → View) (key : BoxKey D) (disk : D) : Type 0 where
   pub goes : (first : Snapshot D) → key.first ≡ Some first → Advances (view first.value) (view disk)
+  pub tells : (first : Snapshot D) → key.first ≡ Some first → TellsAlike (view first.value) (view disk)
 
 -- The disk of a box and what is kept beside its slots fit what labels come to.
 pub record FrameFits {D : Type 0} (view : D → View) (key : BoxKey D) (past : BoxPast) (desk : Desk D) : Type 0 where

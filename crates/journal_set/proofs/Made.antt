@@ -12,6 +12,7 @@ use Rattle.sfs_base.proofs.BasicOptions.{some_same}
 use Rattle.sfs_image.specs.Super.{IsLayout, Layout}
 use Rattle.journal_one.specs.Job.{Place}
 use Rattle.sfs_dev.specs.Disk.{View}
+use Rattle.sfs_dev.specs.Steps.{TellsAlike}
 use Rattle.tree_laws.specs.Tree.{TreeState}
 use Rattle.tree_laws.specs.declared.turns.Turn.{Turn}
 use Rattle.stamp_table.specs.declared.event.Event.{Event}
@@ -88,7 +89,10 @@ module _ {D : Type 0} (view : D → View) (laws : (disk : D) → KeepsLaws (view
       failed = new.calm;
       turns = new.no_turns;
       moment = (let same = new.counts.0 in omega (arith, same));
-      since = record { goes = λ first is. subst (λ (d : D). Advances (view d) (view desk.disk)) (sym (new.began first is)) (GoesOn-refl (view desk.disk)) };
+      since = record {
+        goes = λ first is. subst (λ (d : D). Advances (view d) (view desk.disk)) (sym (new.began first is)) (GoesOn-refl (view desk.disk));
+        tells = λ first is. subst (λ (d : D). TellsAlike (view d) (view desk.disk)) (sym (new.began first is)) refl;
+      };
       run = subst (λ n. Rattle.slot_image_laws.specs.Run.RunFits key.layout n (first_past n) (view desk.disk)) new.counts.0
           (first_runs_fit (view desk.disk) key.layout large);
     };
