@@ -31,7 +31,7 @@ use Rattle.workers.specs.declared.worker.Worker.{Worker}
 use Rattle.mount.specs.declared.volume.Volume.{Volume}
 use Rattle.mount.specs.Volume.{IsMountOfDisk}
 use Rattle.mount.specs.Ends.{LeavesVolume}
-use Rattle.mount.specs.Survives.{TurnsTellAll, TellsSince, SurvivesSince, ComesTo, UnmountedSurvive}
+use Rattle.mount.specs.Survives.{TurnsTellAll, SurvivesSince, ComesTo, UnmountedSurvive}
 use Rattle.mount.proofs.Ending.{Unmounted, end, ends, has_begun, key_fits}
 use Rattle.mount.proofs.FromBegin.{rises_before, survive_from_begin}
 
@@ -90,8 +90,7 @@ module _ {D : Type 0} (view : D → View) (volume : Volume D) (workers : List (W
   goes_on : Advances (view mounted.left) (view left)
   goes_on = subst (λ (d : D). Advances (view d) (view left)) mounted.over.is (leaves.leaves.since.goes mounted.over.first mounted.over.told)
 
-  module _ (tells : TellsSince view key left) (image : List ℕ) (told : (view disk).content ≡ Some image) (calm : IsCalm (view disk))
-      (counts : CountsOn (view left)) where
+  module _ (image : List ℕ) (told : (view disk).content ≡ Some image) (calm : IsCalm (view disk)) (counts : CountsOn (view left)) where
     holds : HoldsStart nodes begun.start (view disk) (view mounted.left)
     holds = begun.told image told calm (let later = goes_on.later in omega (arith, later, counts))
 
@@ -110,7 +109,7 @@ module _ {D : Type 0} (view : D → View) (volume : Volume D) (workers : List (W
 
     tells_all : TellsAll (view left)
     tells_all =
-        let alike = subst (λ (d : D). TellsAlike (view d) (view left)) mounted.over.is (tells.tells mounted.over.first mounted.over.told) in
+        let alike = subst (λ (d : D). TellsAlike (view d) (view left)) mounted.over.is (leaves.leaves.since.tells mounted.over.first mounted.over.told) in
         let now = told_still (view mounted.left) (view left) alike holds.tells.0 holds.tells.1 in
         record { content = now.0; tells = now.1; counts = counts; laws = unmounted.laws left }
 
@@ -154,17 +153,17 @@ module _ {D : Type 0} (view : D → View) (volume : Volume D) (workers : List (W
           reads_by_turns = mount.reads_by_turns;
         })
 
-  comes_to : TellsSince view key left → ComesTo view nodes disk volume left history turns
-  comes_to tells = record {
+  comes_to : ComesTo view nodes disk volume left history turns
+  comes_to = record {
     since = let never = mounted.was.advances.never_falls in let are = mounted.key.faults_are in omega (arith, never, are);
     until = let never = goes_on.never_falls in let are = mounted.key.faults_are in omega (arith, never, are);
     dated = subst (λ (l : List Turn). RisesFrom (view disk).now l (view left).now) (sym leaves.leaves.record_is)
         (rises_before (view disk).now key.start (view left).now (past_of at.told).turns
         (let later = mounted.was.advances.later in let is = mounted.key.start_is in omega (arith, later, is)) leaves.leaves.run.rises);
     turns_tell = turns_tell;
-    survives = λ image told calm counts. survives tells image told calm counts;
+    survives = survives;
   }
 
 pub unmounted_survive : {D : Type 0} (view : D → View) → UnmountedSurvive view
-unmounted_survive view volume workers left history turns laws is are leaves tells nodes disk mounted =
-    comes_to view volume workers left history turns (record { laws = laws; is = is; are = are; leaves = leaves }) nodes disk mounted tells
+unmounted_survive view volume workers left history turns laws is are leaves nodes disk mounted =
+    comes_to view volume workers left history turns (record { laws = laws; is = is; are = are; leaves = leaves }) nodes disk mounted

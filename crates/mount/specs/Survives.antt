@@ -1,10 +1,9 @@
 -- What an unmounted volume comes to, of the mount with which it began.
-use Rattle.std.specs.Prelude.{◌≤◌, ◌≡◌, ℕ, List, Some}
-use Rattle.std.specs.declared.snapshot.Snapshot.{Snapshot}
+use Rattle.std.specs.Prelude.{◌≤◌, ℕ, List}
 use Rattle.sfs_image.specs.Settled.{layout_of}
 use Rattle.sfs_dev.specs.Disk.{View}
 use Rattle.sfs_dev.specs.Run.{CountsOn}
-use Rattle.sfs_dev.specs.Steps.{IfTold, TellsAlike}
+use Rattle.sfs_dev.specs.Steps.{IfTold}
 use Rattle.journal_one.specs.Calls.{IsCalm}
 use Rattle.tree_laws.specs.Tree.{TreeState}
 use Rattle.tree_laws.specs.declared.history.Entry.{Entry}
@@ -15,7 +14,6 @@ use Rattle.merge_laws.specs.Pens.{AgreesAll, FsyncTurns}
 use Rattle.merge_laws.specs.Plays.{PensMerge}
 use Rattle.mount_begin.specs.Mounted.{share_of_nodes}
 use Rattle.slot_image_laws.specs.Run.{KeepsLaws, RisesFrom}
-use Rattle.disk_box.specs.declared.key.BoxKey.{BoxKey}
 use Rattle.disk_box.specs.Pens.{PenHand}
 use Rattle.workers.specs.declared.worker.Worker.{Worker}
 use Rattle.mount.specs.Volume.{IsMountOfDisk, IsVolume}
@@ -57,12 +55,8 @@ abbrev pub VolumeSurvives : {D : Type 0} → (D → View) → Volume D → D →
 VolumeSurvives {D} view volume left history turns = (nodes : ℕ) (disk : D) → IsMountOfDisk view nodes disk volume
     → ComesTo view nodes disk volume left history turns
 
--- A disk tells what a read gives exactly where it did as its box was made, if the key tells what it was then.
-pub record TellsSince {D : Type 0} (view : D → View) (key : BoxKey D) (disk : D) : Type 0 where
-  pub tells : (first : Snapshot D) → key.first ≡ Some first → TellsAlike (view first.value) (view disk)
-
--- So it is of each volume that was left, with all workers at rest, on a disk that tells what a read gives as it did.
+-- So it is of each volume that was left, with all workers at rest.
 abbrev pub UnmountedSurvive : {D : Type 0} → (D → View) → Type 0
 UnmountedSurvive {D} view = (volume : Volume D) (workers : List (Worker (PenHand D))) (left : D) (history : List Entry) (turns : List Turn)
     → ((disk : D) → KeepsLaws (view disk)) → IsVolume volume → AreWorkers volume workers → LeavesVolume view volume workers left history turns
-    → TellsSince view volume.set.table.given left → VolumeSurvives view volume left history turns
+    → VolumeSurvives view volume left history turns
