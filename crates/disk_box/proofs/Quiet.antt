@@ -3,7 +3,7 @@ use Rattle.sfs_dev.specs.Run.{Advances}
 use Rattle.sfs_dev.proofs.Runs.{GoesOn-trans}
 use Rattle.std.specs.Prelude.{Vec}
 use Rattle.std.specs.declared.alloc.Global.{Global}
-use Rattle.std.proofs.Common.{option_map, ◌≡◌, ◌≤◌, ◌∙◌, ℕ, length, Option, sym, ap, subst, arith}
+use Rattle.std.proofs.Common.{option_map, ◌≡◌, ◌≤◌, ◌∙◌, ℕ, length, Option, sym, ap, subst, arith, max}
 use Rattle.sfs_base.specs.Lists.{Roomy}
 use Rattle.sfs_dev.specs.Disk.{View}
 use Rattle.sfs_dev.specs.Steps.{TellsAlike}
@@ -16,8 +16,9 @@ use Rattle.commit_ledger.specs.View.{LedgerView, open_in}
 use Rattle.slot_laws.specs.Lasts.{KeepsNodes}
 use Rattle.disk_box.specs.declared.key.BoxKey.{BoxKey}
 use Rattle.disk_box.specs.declared.desk.Desk.{Desk}
-use Rattle.disk_box.specs.Desk.{FrameFits, RoomFits, owed_of, open_for, open_told, wait_in}
+use Rattle.disk_box.specs.Desk.{FrameFits, RoomFits, owed_of, open_for, open_told, wait_in, HaveFew}
 use Rattle.disk_box.proofs.Frames.{owed_less}
+use Rattle.disk_box.proofs.Few.{few_later}
 
 -- Nodes, turns and numbers are as they were told before, and no core may take more turns.
 pub record LeavesKept (old new : BoxPast) : Type 0 where
@@ -65,6 +66,8 @@ frame_same view key old new was now frame kept same run =
       faults = same.faults ∙ frame.faults;
       failed = same.failed ∙ (frame.failed ∙ sym kept.failed);
       turns = ap (λ (t : Roomy Turn). t.items) same.turns ∙ (frame.turns ∙ sym kept.turns);
+      few = subst (λ l. HaveFew l (max key.faults (view now.disk).faults)) (sym kept.turns)
+          (few_later old.turns key.faults (view was.disk).faults (view now.disk).faults frame.few same.goes.never_falls);
       moment = omega (arith, moment, later, stays);
       since = record {
         goes = λ first is. GoesOn-trans (view first.value) (view was.disk) (view now.disk) (frame.since.goes first is) same.goes;

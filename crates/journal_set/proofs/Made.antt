@@ -2,7 +2,7 @@
 use Rattle.sfs_dev.specs.Run.{Advances}
 use Rattle.sfs_dev.proofs.Runs.{GoesOn-refl}
 use Rattle.std.specs.declared.snapshot.Snapshot.{Snapshot}
-use Rattle.std.proofs.Common.{◌≡◌, ◌+◌, ◌*◌, ◌<◌, ◌≤◌, ◌∷◌, ◌++◌, ◌∙◌, ◌/◌, ◌%◌, ℕ, zero, suc, List, [], length, Option, Some, None, refl, sym, ap, subst, arith, replicate}
+use Rattle.std.proofs.Common.{◌≡◌, ◌+◌, ◌*◌, ◌<◌, ◌≤◌, ◌∷◌, ◌++◌, ◌∙◌, ◌/◌, ◌%◌, ℕ, zero, suc, List, [], length, Option, Some, None, refl, sym, ap, subst, arith, replicate, max}
 use Rattle.std.specs.Prelude.{slice_get, slice_index_or}
 use Rattle.std.proofs.lemmas.List.{length-replicate}
 use lib.ListN.{get_elem?}
@@ -30,6 +30,7 @@ use Rattle.disk_box.specs.Box.{IsHome}
 use Rattle.disk_box.specs.Desk.{DeskFits, open_told, owed_by, wait_in}
 use Rattle.disk_box.specs.Pens.{PenHand}
 use Rattle.disk_box.specs.Slots.{PhaseFits, SlotsFit}
+use Rattle.disk_box.proofs.Few.{few_none}
 use Rattle.journal_set.specs.Making.{AreIdleSlots, AreNewPens}
 
 -- nothing lies in a list of nothing
@@ -88,6 +89,7 @@ module _ {D : Type 0} (view : D → View) (laws : (disk : D) → KeepsLaws (view
       faults = new.faults_are;
       failed = new.calm;
       turns = new.no_turns;
+      few = few_none (max key.faults (view desk.disk).faults);
       moment = (let same = new.counts.0 in omega (arith, same));
       since = record {
         goes = λ first is. subst (λ (d : D). Advances (view d) (view desk.disk)) (sym (new.began first is)) (GoesOn-refl (view desk.disk));

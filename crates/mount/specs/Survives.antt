@@ -21,11 +21,10 @@ use Rattle.mount.specs.declared.volume.Volume.{Volume}
 use Rattle.mount.specs.Workers.{AreWorkers}
 use Rattle.mount.specs.Ends.{LeavesVolume}
 
--- What the turns of a volume tell, whose disk had so many faults as it was mounted: all cores agree with their pens on them, and no count is above a last
--- one; so they are what fsyncs do, each of which goes one of the ways with its answer; and they tell of answers and acknowledgements, at moments that don't
+-- What the turns of a volume tell, whose disk had so many faults as it was mounted and so many at the end: all cores agree with their pens on them, and no
+-- count is above the last one; so they are what fsyncs do, each of which goes one of the ways with its answer; and they tell of answers and acknowledgements, at moments that don't
 -- fall.
-pub record TurnsTellAll (first : TreeState) (history : List Entry) (before : ℕ) (turns : List Turn) : Type 0 where
-  pub most : ℕ
+pub record TurnsTellAll (first : TreeState) (history : List Entry) (before most : ℕ) (turns : List Turn) : Type 0 where
   pub pens : List (List FsyncTurns)
   pub agrees : AgreesAll first history before most turns pens
   pub merge : PensMerge first history turns
@@ -46,7 +45,7 @@ pub record ComesTo {D : Type 0} (view : D → View) (nodes : ℕ) (disk : D) (vo
   pub since : (view disk).faults ≤ volume.set.table.given.faults
   pub until : volume.set.table.given.faults ≤ (view left).faults
   pub dated : RisesFrom (view disk).now turns (view left).now
-  pub turns_tell : TurnsTellAll volume.shared.first history volume.set.table.given.faults turns
+  pub turns_tell : TurnsTellAll volume.shared.first history volume.set.table.given.faults (view left).faults turns
   pub survives : IfTold (view disk).content (λ image. IsCalm (view disk) → CountsOn (view left)
       → SurvivesSince (share_of_nodes nodes (layout_of image)) (view disk).now volume.shared.first history turns (view left))
 
