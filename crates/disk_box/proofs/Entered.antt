@@ -45,6 +45,7 @@ same_beside view desk = record {
   size = refl;
   later = omega arith;
   goes = GoesOn-refl (view desk.disk);
+  tells = refl;
 }
 
 -- nothing is kept otherwise by a label that changes neither nodes, turns, numbers nor what its core told

@@ -18,6 +18,7 @@ use Rattle.disk_box.specs.Desk.{FaultsFit, FrameFits, owed_by}
 use Rattle.disk_box.specs.Pens.{PenHand, past_at, HoldsBox, TellsLabel, IsAtDesk}
 use Rattle.disk_box.proofs.After.{at_told, failed_told, frame_told, past_fits_at, space_told}
 use Rattle.disk_box.proofs.Noted.{noted_frame}
+use Rattle.turn_laws.specs.Books.{CountsFaults}
 
 -- A failure is noted, and the desk keeps it: it fits, whatever its slots are.
 module _ {D : Type 0} (view : D → View) (t : TableState (BoxKey D)) (before after : PenHand D) (turn : Turn) (was now : Desk D) where
@@ -40,7 +41,8 @@ module _ {D : Type 0} (view : D → View) (t : TableState (BoxKey D)) (before af
       let failed = fail_failed calm fails in
       at_told view t before after (label.Noted turn) holds tells was now space
       (ap (λ (d : Desk D). d.ledger.space) same) (record {
-        frame = noted_frame view key before.view.core (past_at before) turn was now frame (past_fits_at t before held) rule moment.1
+        frame = noted_frame view key before.view.core (past_at before) turn was now frame (past_fits_at t before held) rule
+            (let counts = moment.0 in omega (arith, counts)) moment.1
             (same ∙ (λ i. record was { turns = now.turns; failed = sym (ap (λ (d : Desk D). d.failed) same) i })) turns
             (ap (λ (d : Desk D). d.failed) same
             ∙ (sym (ap (λ o. option_or o (Some turn.faults)) (frame.failed ∙ calm))
@@ -67,9 +69,11 @@ cut_goes_on {D = D} view t before mid turn was now held holds tells frame space 
     let key = before.table.given in
     let none : failure_by turn.act turn.faults ≡ None = ap (λ (w : TurnAct). failure_by w turn.faults) cuts in
     let kept : now.failed ≡ was.failed = ap (λ (d : Desk D). d.failed) same in
+    let counted : turn.faults ≡ key.faults = subst (λ (z : Option ℕ × TurnAct). CountsFaults key.faults turn.faults z.0 z.1 turn.faults)
+        (λ i. (calm i, cuts i)) rule.now.counts in
     record {
       frame = frame_told view t before mid (label.Noted turn) holds tells now
-          (noted_frame view key before.view.core (past_at before) turn was now frame (past_fits_at t before held) rule moment
+          (noted_frame view key before.view.core (past_at before) turn was now frame (past_fits_at t before held) rule (omega (arith, counted)) moment
           (same ∙ (λ i. record was { turns = now.turns; failed = sym kept i })) turns (kept ∙ sym (ap (option_or was.failed) none ∙ or_none was.failed)));
       space = space_told view t before mid (label.Noted turn) holds tells was now space (ap (λ (d : Desk D). d.ledger.space) same);
       calm = failed_told view t before mid (label.Noted turn) holds tells None (ap (option_or (past_at before).failed) none ∙ (or_none (past_at before).failed ∙ calm));

@@ -2,7 +2,7 @@
 use Rattle.sfs_dev.proofs.Runs.{GoesOn-call, GoesOn-trans}
 use Rattle.std.specs.Prelude.{Vec, slice_get, option_map}
 use Rattle.std.specs.declared.alloc.Global.{Global}
-use Rattle.std.proofs.Common.{◌≡◌, ◌≢◌, ◌+◌, ◌<◌, ◌≤◌, ◌∷◌, ◌++◌, ◌∙◌, ℕ, List, [], length, true, false, Bool, Option, Some, None, Result, Ok, Err, OnOk, inl, inr, refl, sym, ap, subst, arith, append_assoc, slice_set}
+use Rattle.std.proofs.Common.{◌≡◌, ◌≢◌, ◌+◌, ◌<◌, ◌≤◌, ◌∷◌, ◌++◌, ◌∙◌, ℕ, List, [], length, true, false, Bool, Option, Some, None, Result, Ok, Err, OnOk, inl, inr, refl, sym, ap, subst, arith, append_assoc, slice_set, max}
 use Rattle.std.specs.Option.{option_or}
 use Rattle.std.specs.Result.{is_ok}
 use Rattle.sfs_base.specs.Lists.{Roomy}
@@ -42,8 +42,9 @@ use Rattle.disk_box.proofs.Nexts.{next_opened}
 use Rattle.disk_box.proofs.Owes.{owns_own}
 use Rattle.disk_box.proofs.Phases.{sealed_is}
 use Rattle.disk_box.proofs.SlotLists.{get_put}
-use Rattle.disk_box.proofs.SlotSteps.{steps_so}
+use Rattle.disk_box.proofs.SlotSteps.{steps_so, writes_alike}
 use Rattle.disk_box.proofs.WriteSteps.{placed_at}
+use Rattle.disk_box.proofs.Few.{few_both, few_later, few_one, few_none}
 
 -- a core's open commit is the one that it was, and what it owes is two turns less
 abbrev kept_number : ℕ → ℕ × Bool
@@ -228,10 +229,19 @@ module _ {D : Type 0} (view : D → View) (t : TableState (BoxKey D)) (before : 
         faults = at.fits.frame.faults;
         failed = at.fits.frame.failed;
         turns = items ∙ (append_assoc was.turns.items (cut ∷ []) (opened ∷ []) ∙ ap (λ l. l ++ cut ∷ opened ∷ []) at.fits.frame.turns);
+        few =
+            let most = max key.faults (view disk).faults in
+            let first = turns.cut_faults in
+            let second = turns.opened_faults in
+            few_both past.turns (cut ∷ opened ∷ []) most
+            (few_later past.turns key.faults (view was.disk).faults (view disk).faults at.fits.frame.few wrote.answers.cause.never_falls)
+            (few_one cut (opened ∷ []) most (omega (arith, first)) (few_one opened [] most (omega (arith, second)) (few_none most)));
         moment = (let same = turns.opened_now in omega (arith, same));
         since = record {
           goes = λ first is. GoesOn-trans (view first.value) (view was.disk) (view disk) (at.fits.frame.since.goes first is)
               (GoesOn-call (view was.disk) (view disk) (at.fits.frame.laws was.disk).now_fits wrote.writes.time wrote.writes.size wrote.answers.cause.never_falls);
+          tells = λ first is. writes_alike (is_ok result) (next_piece has.slot.phase) (view was.disk) (view disk) wrote.writes
+              ∙ at.fits.frame.since.tells first is;
         };
         run = done_labels_fit (view was.disk) (view disk) key.layout key.faults before.view.core key.start (label.Opened k done cut opened) past
             open_may done_by (at.fits.frame.laws was.disk) at.fits.frame.run;

@@ -3,6 +3,7 @@ pub mod Amid
 pub mod AtSlots
 pub mod Entered
 pub mod Failure
+pub mod Few
 pub mod Flights
 pub mod Frames
 pub mod GateOpened

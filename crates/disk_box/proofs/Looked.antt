@@ -1,6 +1,6 @@
 -- A core looks at the turn that waits for it.
-use Rattle.disk_box.specs.Desk.{GoesOnSince}
-use Rattle.std.proofs.Common.{◌≡◌, ◌≢◌, ◌<◌, ◌≤◌, ◌∙◌, ℕ, true, false, List, [], length, slice_set, Option, Some, None, IsSome, inl, inr, refl, sym, ap, subst, arith, option_map}
+use Rattle.disk_box.specs.Desk.{GoesOnSince, HaveFew}
+use Rattle.std.proofs.Common.{◌≡◌, ◌≢◌, ◌<◌, ◌≤◌, ◌∙◌, ℕ, true, false, List, [], length, slice_set, Option, Some, None, IsSome, inl, inr, refl, sym, ap, subst, arith, option_map, max}
 use Rattle.sfs_base.proofs.BasicOptions.{none_some, some_same}
 use Rattle.sfs_dev.specs.Disk.{View}
 use Rattle.tree_laws.specs.declared.turns.Turn.{Turn}
@@ -122,6 +122,7 @@ module _ {D : Type 0} (key : BoxKey D) (core : ℕ) (past : BoxPast) (fits : Pas
       faults = ap (λ (d : Desk D). d.faults) same ∙ frame.faults;
       failed = ap (λ (d : Desk D). d.failed) same ∙ frame.failed;
       turns = ap (λ (d : Desk D). d.turns.items) same ∙ frame.turns;
+      few = subst (λ (d : Desk D). HaveFew past.turns (max key.faults (view d.disk).faults)) (sym same) frame.few;
       moment = subst (λ (d : Desk D). past.moment ≤ (view d.disk).now) (sym same) frame.moment;
       since = subst (λ (d : Desk D). GoesOnSince view key d.disk) (sym same) frame.since;
       run = subst (λ (d : Desk D). RunFits key.layout key.start later (view d.disk)) (sym same)

@@ -1,6 +1,6 @@
 -- A turn that is noted: what is kept beside the slots goes on to fit.
-use Rattle.disk_box.specs.Desk.{GoesOnSince}
-use Rattle.std.proofs.Common.{◌≡◌, ◌≢◌, ◌+◌, ◌<◌, ◌≤◌, ◌∷◌, ◌++◌, ◌∙◌, ℕ, List, [], Option, Some, None, inl, inr, refl, sym, ap, subst, arith}
+use Rattle.disk_box.specs.Desk.{GoesOnSince, HaveFew, turn_faults}
+use Rattle.std.proofs.Common.{◌≡◌, ◌≢◌, ◌+◌, ◌<◌, ◌≤◌, ◌∷◌, ◌++◌, ◌∙◌, ℕ, List, [], Option, Some, None, inl, inr, refl, sym, ap, subst, arith, max}
 use Rattle.std.specs.Option.{option_or}
 use Rattle.sfs_base.proofs.BasicOptions.{or_none}
 use Rattle.sfs_dev.specs.Disk.{View}
@@ -20,6 +20,7 @@ use Rattle.disk_box.specs.declared.key.BoxKey.{BoxKey}
 use Rattle.disk_box.specs.declared.desk.Desk.{Desk}
 use Rattle.disk_box.specs.Desk.{DeskFits, FaultsFit, FrameFits, RoomFits, open_for, owed_by}
 use Rattle.disk_box.specs.Slots.{SlotsFit}
+use Rattle.disk_box.proofs.Few.{few_both, few_one, few_none, counts_few}
 
 -- no act but a failure is one
 pub no_failure : (what : TurnAct) (faults : ℕ) → what ≢ act.Fail → failure_by what faults ≡ None
@@ -51,9 +52,10 @@ module _ {D : Type 0} (view : D → View) (key : BoxKey D) (core : ℕ) (past : 
     open_same (Some t) = refl
 
   pub noted_frame : (was now : Desk D) → FrameFits view key past was → PastFits key.layout key.faults past → NotedRule key.faults core turn past
-      → turn.now ≡ (view was.disk).now → now ≡ record was { turns = now.turns; failed = now.failed } → now.turns.items ≡ was.turns.items ++ turn ∷ []
+      → turn.faults ≤ max key.faults (view was.disk).faults → turn.now ≡ (view was.disk).now → now ≡ record was { turns = now.turns; failed = now.failed }
+      → now.turns.items ≡ was.turns.items ++ turn ∷ []
       → now.failed ≡ option_or was.failed (failure_by turn.act turn.faults) → FrameFits view key later now
-  noted_frame was now frame fits rule moment same turns failed = record {
+  noted_frame was now frame fits rule low moment same turns failed = record {
     layout = frame.layout;
     large = subst (λ (d : Desk D). key.layout.blocks ≤ (view d.disk).size) (sym same) frame.large;
     laws = frame.laws;
@@ -70,6 +72,9 @@ module _ {D : Type 0} (view : D → View) (key : BoxKey D) (core : ℕ) (past : 
     faults = ap (λ (d : Desk D). d.faults) same ∙ frame.faults;
     failed = failed ∙ ap (λ o. option_or o (failure_by turn.act turn.faults)) frame.failed;
     turns = turns ∙ ap (λ l. l ++ turn ∷ []) frame.turns;
+    few = subst (λ (d : Desk D). HaveFew later.turns (max key.faults (view d.disk).faults)) (sym same)
+        (few_both past.turns (turn ∷ []) (max key.faults (view was.disk).faults) frame.few
+        (few_one turn [] (max key.faults (view was.disk).faults) low (few_none (max key.faults (view was.disk).faults))));
     moment = subst (λ (d : Desk D). turn.now ≤ (view d.disk).now) (sym same) (omega (arith, moment));
     since = subst (λ (d : Desk D). GoesOnSince view key d.disk) (sym same) frame.since;
     run = subst (λ (d : Desk D). Rattle.slot_image_laws.specs.Run.RunFits key.layout key.start later (view d.disk)) (sym same)
@@ -78,14 +83,16 @@ module _ {D : Type 0} (view : D → View) (key : BoxKey D) (core : ℕ) (past : 
 
   -- where it is no failure, what was said of faults and slots is said still
   pub noted_fits : (was now : Desk D) → DeskFits view key past was → PastFits key.layout key.faults past → NotedRule key.faults core turn past
-      → turn.act ≢ act.Fail → turn.now ≡ (view was.disk).now → now ≡ record was { turns = now.turns } → now.turns.items ≡ was.turns.items ++ turn ∷ []
+      → turn.act ≢ act.Fail → turn.faults ≡ turn_faults was.faults was.failed (view was.disk).faults → turn.now ≡ (view was.disk).now
+      → now ≡ record was { turns = now.turns } → now.turns.items ≡ was.turns.items ++ turn ∷ []
       → owed_by key.layout.cores later ≤ now.turns.spare → DeskFits view key later now
-  noted_fits was now old fits rule not moment same turns room =
+  noted_fits was now old fits rule not counts moment same turns room =
       let none : failure_by turn.act turn.faults ≡ None = no_failure turn.act turn.faults not in
       let stays : later.failed ≡ past.failed = ap (option_or past.failed) none ∙ or_none past.failed in
       let kept : now.failed ≡ was.failed = ap (λ (d : Desk D). d.failed) same in
       record {
-        frame = noted_frame was now old.frame fits rule moment (λ i. record (same i) { failed = now.failed }) turns
+        frame = noted_frame was now old.frame fits rule (counts_few turn key.faults was.faults was.failed (view was.disk).faults counts old.frame.faults) moment
+            (λ i. record (same i) { failed = now.failed }) turns
             (kept ∙ sym (ap (option_or was.failed) none ∙ or_none was.failed));
         room = room;
         faults = subst (λ (z : Option ℕ × Desk D). FaultsFit key.faults z.0 (view z.1.disk).faults) (λ i. (sym stays i, sym same i)) old.faults;

@@ -3,9 +3,10 @@ use Rattle.sfs_dev.specs.Run.{Advances}
 use Rattle.sfs_dev.proofs.Runs.{GoesOn-trans}
 use Rattle.std.specs.Prelude.{Vec}
 use Rattle.std.specs.declared.alloc.Global.{Global}
-use Rattle.std.proofs.Common.{option_map, ◌≡◌, ◌≤◌, ◌∙◌, ℕ, length, Option, sym, ap, subst, arith}
+use Rattle.std.proofs.Common.{option_map, ◌≡◌, ◌≤◌, ◌∙◌, ℕ, length, Option, sym, ap, subst, arith, max}
 use Rattle.sfs_base.specs.Lists.{Roomy}
 use Rattle.sfs_dev.specs.Disk.{View}
+use Rattle.sfs_dev.specs.Steps.{TellsAlike}
 use Rattle.tree_laws.specs.declared.turns.Turn.{Turn}
 use Rattle.slot_laws.specs.Labels.{BoxPast}
 use Rattle.slot_image_laws.specs.Run.{RunFits}
@@ -15,8 +16,9 @@ use Rattle.commit_ledger.specs.View.{LedgerView, open_in}
 use Rattle.slot_laws.specs.Lasts.{KeepsNodes}
 use Rattle.disk_box.specs.declared.key.BoxKey.{BoxKey}
 use Rattle.disk_box.specs.declared.desk.Desk.{Desk}
-use Rattle.disk_box.specs.Desk.{FrameFits, RoomFits, owed_of, open_for, open_told, wait_in}
+use Rattle.disk_box.specs.Desk.{FrameFits, RoomFits, owed_of, open_for, open_told, wait_in, HaveFew}
 use Rattle.disk_box.proofs.Frames.{owed_less}
+use Rattle.disk_box.proofs.Few.{few_later}
 
 -- Nodes, turns and numbers are as they were told before, and no core may take more turns.
 pub record LeavesKept (old new : BoxPast) : Type 0 where
@@ -41,6 +43,7 @@ pub record SameBeside {D : Type 0} (view : D → View) (was now : Desk D) : Type
   pub size : (view now.disk).size ≡ (view was.disk).size
   pub later : (view was.disk).now ≤ (view now.disk).now
   pub goes : Advances (view was.disk) (view now.disk)
+  pub tells : TellsAlike (view was.disk) (view now.disk)
 
 pub frame_same : {D : Type 0} (view : D → View) (key : BoxKey D) (old new : BoxPast) (was now : Desk D) → FrameFits view key old was
     → LeavesKept old new → SameBeside view was now → RunFits key.layout key.start new (view now.disk) → FrameFits view key new now
@@ -63,8 +66,13 @@ frame_same view key old new was now frame kept same run =
       faults = same.faults ∙ frame.faults;
       failed = same.failed ∙ (frame.failed ∙ sym kept.failed);
       turns = ap (λ (t : Roomy Turn). t.items) same.turns ∙ (frame.turns ∙ sym kept.turns);
+      few = subst (λ l. HaveFew l (max key.faults (view now.disk).faults)) (sym kept.turns)
+          (few_later old.turns key.faults (view was.disk).faults (view now.disk).faults frame.few same.goes.never_falls);
       moment = omega (arith, moment, later, stays);
-      since = record { goes = λ first is. GoesOn-trans (view first.value) (view was.disk) (view now.disk) (frame.since.goes first is) same.goes };
+      since = record {
+        goes = λ first is. GoesOn-trans (view first.value) (view was.disk) (view now.disk) (frame.since.goes first is) same.goes;
+        tells = λ first is. same.tells ∙ frame.since.tells first is;
+      };
       run = run;
     }
 

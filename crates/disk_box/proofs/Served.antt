@@ -157,6 +157,7 @@ module _ {D : Type 0} (view : D → View) (t : TableState (BoxKey D)) (pen : Pen
       size = refl;
       later = omega arith;
       goes = GoesOn-refl (view was.disk);
+      tells = refl;
     }
 
     served_quiet : SlotFits (place_at key.layout k) (past.slots k) new → awaits_sync (kind_of new.phase) ≡ false → IsServing view t pen now (k + 1)

@@ -1,7 +1,7 @@
 -- A commit is durable behind a sync: its turn is taken, it has ended, and waits for its core to look.
-use Rattle.disk_box.specs.Desk.{GoesOnSince}
+use Rattle.disk_box.specs.Desk.{GoesOnSince, HaveFew}
 use Rattle.std.specs.Prelude.{is_some, slice_get, option_map}
-use Rattle.std.proofs.Common.{◌≡◌, ◌≢◌, ◌<◌, ◌≤◌, ◌+◌, ◌*◌, ◌/◌, ◌∷◌, ◌++◌, ◌∙◌, ℕ, Bool, List, [], length, true, false, cond, Option, Some, None, inl, inr, refl, sym, ap, subst, arith, slice_set}
+use Rattle.std.proofs.Common.{◌≡◌, ◌≢◌, ◌<◌, ◌≤◌, ◌+◌, ◌*◌, ◌/◌, ◌∷◌, ◌++◌, ◌∙◌, ℕ, Bool, List, [], length, true, false, cond, Option, Some, None, inl, inr, refl, sym, ap, subst, arith, slice_set, max}
 use Rattle.std.proofs.lemmas.Grind.{get_or-set_at}
 use Rattle.std.proofs.lemmas.List.{get_or-set_other, length-set}
 use Rattle.std.proofs.lemmas.Option.{slice_get_within}
@@ -48,6 +48,7 @@ use Rattle.disk_box.proofs.Phases.{opened_is}
 use Rattle.disk_box.proofs.Served.{awaits_next, gate_same, notes_kept}
 use Rattle.disk_box.proofs.SlotLists.{slots_put}
 use Rattle.disk_box.proofs.Waits.{wait_put}
+use Rattle.disk_box.proofs.Few.{few_both, few_one, few_none}
 
 -- The turn of a durable commit in a slot, at the moment of now.
 pub record IsSettling (core before moment : ℕ) (slot : Slot) (turn : Turn) : Type 0 where
@@ -251,6 +252,10 @@ module _ {D : Type 0} (view : D → View) (t : TableState (BoxKey D)) (pen : Pen
           faults = ap (λ (d : Desk D). d.faults) keeps.beside ∙ serving.at.fits.frame.faults;
           failed = ap (λ (d : Desk D). d.failed) keeps.beside ∙ serving.at.fits.frame.failed;
           turns = keeps.items ∙ ap (λ l. l ++ turn ∷ []) serving.at.fits.frame.turns;
+          few = subst (λ (d : Desk D). HaveFew later.turns (max key.faults (view d.disk).faults)) (sym keeps.beside)
+              (few_both past.turns (turn ∷ []) (max key.faults (view was.disk).faults) serving.at.fits.frame.few
+              (few_one turn [] (max key.faults (view was.disk).faults) (let same = settling.faults in omega (arith, same))
+              (few_none (max key.faults (view was.disk).faults))));
           moment = subst (λ (d : Desk D). turn.now ≤ (view d.disk).now) (sym keeps.beside) (let is = settling.now in omega (arith, is));
           since = subst (λ (d : Desk D). GoesOnSince view key d.disk) (sym keeps.beside) serving.at.fits.frame.since;
           run = subst (λ (d : Desk D). Rattle.slot_image_laws.specs.Run.RunFits key.layout key.start later (view d.disk)) (sym keeps.beside)

@@ -1,10 +1,12 @@
 -- A label of a slot's device call, or of a slot that is idle again: what is kept beside the slots goes on to fit.
 use Rattle.sfs_dev.proofs.Runs.{GoesOn-call}
-use Rattle.std.proofs.Common.{◌≡◌, ◌+◌, ◌<◌, ◌≤◌, ◌^◌, ◌∙◌, ℕ, length, true, false, Option, Some, None, Result, Ok, Err, OnErr, OnOk, IfErr, refl, sym, ap, subst, arith}
+use Rattle.std.proofs.Common.{◌≡◌, ◌+◌, ◌<◌, ◌≤◌, ◌^◌, ◌∙◌, ℕ, length, true, false, Option, Some, None, Result, Ok, Err, OnErr, OnOk, IfErr, refl, sym, ap, subst, arith, List, is_some, option_map, Bool}
 use Rattle.sfs_base.specs.Ends.{HasRisen}
 use Rattle.sfs_base.specs.declared.numbers.CoreId.{CoreId}
 use Rattle.sfs_image.specs.Super.{Layout}
-use Rattle.sfs_dev.specs.Disk.{View, Elapses}
+use Rattle.sfs_dev.specs.Disk.{View, Elapses, TornTold}
+use Rattle.sfs_dev.specs.Ranges.{put}
+use Rattle.sfs_dev.specs.Steps.{TellsAlike}
 use Rattle.space_map.specs.Space.{Space}
 use Rattle.stamp_table.specs.declared.event.Event.TheVariants.{Told}
 use Rattle.stamp_table.specs.Table.{TableState}
@@ -14,7 +16,7 @@ use Rattle.slot_laws.specs.declared.label.Label.TheVariants as label
 use Rattle.slot_laws.specs.Labels.{BoxPast, after_label}
 use Rattle.slot_laws.specs.Rules.{MayLabel}
 use Rattle.slot_laws.specs.Grants.{SpaceDoes}
-use Rattle.slot_image_laws.specs.Run.{KeepsLaws}
+use Rattle.slot_image_laws.specs.Run.{KeepsLaws, Writes}
 use Rattle.slot_image_laws.specs.Labels.{IsDoneBy}
 use Rattle.slot_image_laws.proofs.Running.{done_labels_fit}
 use Rattle.disk_box.specs.declared.key.BoxKey.{BoxKey}
@@ -30,6 +32,7 @@ use Rattle.disk_box.proofs.StepsTold.{step_told}
 use Rattle.disk_box.proofs.After.{failed_told, fits_told, frame_told, key_same, room_told, space_told}
 use Rattle.disk_box.proofs.Entered.{open_same, owed_same}
 use Rattle.disk_box.proofs.Quiet.{LeavesKept, SameBeside, frame_same, room_same}
+use Rattle.journal_one.specs.Job.{Piece}
 
 -- whether a label changes nothing but what is known of slots
 abbrev pub IsOfSlots : Label → Type 0
@@ -122,12 +125,28 @@ slots_leave_space core (label.Settled slot turn) past old new of same = absurd o
 slots_leave_space core (label.Looked turn) past old new of same = absurd of
 slots_leave_space core (label.Empty commit cut opened durable) past old new of same = absurd of
 
+-- bytes that were put leave it told what a read gives where it was
+put_alike : (piece : Piece) (was : Option (List ℕ)) → is_some (option_map (put piece.at piece.bytes) was) ≡ is_some was
+put_alike piece (Some content) = refl
+put_alike piece None = refl
+
+-- and so do bytes that were torn
+torn_alike : (at n : ℕ) (was now : Option (List ℕ)) → TornTold at n was now → is_some now ≡ is_some was
+torn_alike at n (Some content) now torn = ap is_some torn.1
+torn_alike at n None now torn = ap is_some torn
+
+-- so does each device call that writes
+pub writes_alike : (done : Bool) (piece : Piece) (old new : View) → Writes done piece old new → TellsAlike old new
+writes_alike true piece old new writes = ap is_some (writes.ok refl) ∙ put_alike piece old.content
+writes_alike false piece old new writes = torn_alike piece.at (length piece.bytes) old.content new.content (writes.err refl)
+
 -- A device call was made, and nothing of a desk is another but its disk and its slots, of which there are as many.
 pub record CalledAt {D V : Type 0} (view : D → View) (was now : Desk D) (result : Result V ℕ) : Type 0 where
   pub beside : now ≡ record was { disk = now.disk; slots = now.slots }
   pub count : length now.slots.items ≡ length was.slots.items
   pub size : (view now.disk).size ≡ (view was.disk).size
   pub time : Elapses (view was.disk) (view now.disk)
+  pub tells : TellsAlike (view was.disk) (view now.disk)
   pub answers : AnswersCall (view was.disk) (view now.disk) result
 
 pub called_beside : {D V : Type 0} (view : D → View) (was now : Desk D) (result : Result V ℕ) → KeepsLaws (view was.disk) → CalledAt view was now result
@@ -146,6 +165,7 @@ called_beside view was now result laws called =
       size = called.size;
       later = omega arith;
       goes = GoesOn-call (view was.disk) (view now.disk) laws.now_fits called.time called.size called.answers.cause.never_falls;
+      tells = called.tells;
     }
 
 -- A step has told its label: a desk with what is kept beside the slots, and room, and the slots too where its call answered Ok.

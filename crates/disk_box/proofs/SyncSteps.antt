@@ -1,6 +1,6 @@
 -- The step that syncs the disk: behind its call, and behind its label.
 use Rattle.std.specs.Prelude.{option_map}
-use Rattle.std.proofs.Common.{◌≡◌, ◌<◌, ◌≤◌, ◌+◌, ◌++◌, ◌∙◌, ℕ, List, [], length, true, false, Option, Some, None, Result, Ok, Err, OnOk, IfErr, refl, sym, ap, subst, arith, append_assoc, append-nil}
+use Rattle.std.proofs.Common.{◌≡◌, ◌<◌, ◌≤◌, ◌+◌, ◌++◌, ◌∙◌, ℕ, List, [], length, true, false, Option, Some, None, Result, Ok, Err, OnOk, IfErr, refl, sym, ap, subst, arith, append_assoc, append-nil, is_some}
 use Rattle.std.specs.Result.{is_ok}
 use Rattle.sfs_base.specs.Ends.{HasRisen}
 use Rattle.sfs_image.specs.Super.{Layout}
@@ -135,7 +135,14 @@ module _ {D : Type 0} (view : D → View) (t : TableState (BoxKey D)) (before : 
   -- what the call leaves of the desk
   called_sync : {V : Type 0} (result : Result V ℕ) (done : Rattle.std.proofs.Common.Bool) → Syncs done (view was.disk) (view disk)
       → AnswersCall (view was.disk) (view disk) result → CalledAt view was mid result
-  called_sync result done syncs answers = record { beside = refl; count = refl; size = syncs.size; time = syncs.time; answers = answers }
+  called_sync result done syncs answers = record {
+    beside = refl;
+    count = refl;
+    size = syncs.size;
+    time = syncs.time;
+    tells = ap is_some syncs.content;
+    answers = answers;
+  }
 
   -- a sync that failed, of which no label tells
   pub sync_failed : (faults : ℕ) → Syncs false (view was.disk) (view disk) → AnswersCall {V = Unit {0}} (view was.disk) (view disk) (Err faults)

@@ -28,7 +28,7 @@ use Rattle.disk_box.proofs.After.{past_fits_at}
 use Rattle.disk_box.proofs.AtSlots.{IsTold, known_put, known_put_ok, of_there, ok_then, told_at, writes_as}
 use Rattle.disk_box.proofs.Nexts.{next_filled, next_placed, next_shut}
 use Rattle.disk_box.proofs.Phases.{copied_is, durable_is, filling_is}
-use Rattle.disk_box.proofs.SlotSteps.{CalledAt, framed_of_slots, steps_so}
+use Rattle.disk_box.proofs.SlotSteps.{CalledAt, framed_of_slots, steps_so, writes_alike}
 
 module _ {D : Type 0} (view : D → View) (t : TableState (BoxKey D)) (before : PenHand D) (was : Desk D) (k : ℕ) (at : WorksAtDesk view t before was) where
   abbrev key : BoxKey D
@@ -204,6 +204,7 @@ pub called_for : {D V : Type 0} (view : D → View) (was : Desk D) (disk : D) (s
     → CalledAt view was (record was { disk = disk; slots = slots }) result
 called_for view was disk slots k old new result put wrote = record {
   beside = refl;
+  tells = writes_alike (is_ok result) (next_piece old.phase) (view was.disk) (view disk) wrote.writes;
   count = ap length put ∙ length-set was.slots.items k new;
   size = wrote.writes.size;
   time = wrote.writes.time;

@@ -1,11 +1,12 @@
 -- What lies in the box fits what the labels come to.
 use Rattle.std.specs.declared.snapshot.Snapshot.{Snapshot}
-use Rattle.std.specs.Prelude.{◌≡◌, ◌+◌, ◌≤◌, ℕ, zero, suc, Bool, true, false, List, length, Option, Some, None, is_some, if◌then◌else◌, slice_get, unwrap_or, option_map}
+use Rattle.std.specs.Prelude.{◌≡◌, ◌+◌, ◌≤◌, ℕ, zero, suc, Bool, true, false, List, length, Option, Some, None, is_some, if◌then◌else◌, slice_get, unwrap_or, option_map, max}
 use Rattle.std.specs.Option.{option_or}
 use Rattle.sfs_image.specs.Super.{IsLayout}
 use Rattle.sfs_image.specs.Settled.{slot_count}
 use Rattle.sfs_dev.specs.Disk.{View}
 use Rattle.sfs_dev.specs.Run.{Advances}
+use Rattle.sfs_dev.specs.Steps.{TellsAlike}
 use Rattle.tree_laws.specs.declared.turns.Turn.{Turn}
 use Rattle.slot_laws.specs.Labels.{BoxPast, OwnTold, SlotFlight}
 use Rattle.slot_image_laws.specs.Run.{KeepsLaws, RunFits}
@@ -14,6 +15,7 @@ use Rattle.commit_ledger.specs.View.{OpenView, open_in}
 use Rattle.disk_box.specs.declared.key.BoxKey.{BoxKey}
 use Rattle.disk_box.specs.declared.desk.Desk.{Desk}
 use Rattle.disk_box.specs.Slots.{SlotsFit}
+use Rattle.cut_laws.specs.Rules.{IsOneOf}
 
 -- the turn that waits for a core in a list by core
 abbrev pub wait_in : List (Option Turn) → ℕ → Option Turn
@@ -52,9 +54,14 @@ open_for own None = option_or (option_map (λ number. (number, false)) own.reser
 abbrev pub open_told : OpenView → ℕ × Bool
 open_told one = (one.number, is_some one.debt)
 
--- A disk has gone on by device calls alone from what it was as its box was made, where the key tells that.
+-- A disk has gone on by device calls alone from what it was as its box was made, and tells what a read gives exactly where it did, where the key tells that.
 pub record GoesOnSince {D : Type 0} (view : D → View) (key : BoxKey D) (disk : D) : Type 0 where
   pub goes : (first : Snapshot D) → key.first ≡ Some first → Advances (view first.value) (view disk)
+  pub tells : (first : Snapshot D) → key.first ≡ Some first → TellsAlike (view first.value) (view disk)
+
+-- no turn has a count of faults above this
+abbrev pub HaveFew : List Turn → ℕ → Type 0
+HaveFew turns most = (turn : Turn) → IsOneOf turns turn → turn.faults ≤ most
 
 -- The disk of a box and what is kept beside its slots fit what labels come to.
 pub record FrameFits {D : Type 0} (view : D → View) (key : BoxKey D) (past : BoxPast) (desk : Desk D) : Type 0 where
@@ -71,6 +78,7 @@ pub record FrameFits {D : Type 0} (view : D → View) (key : BoxKey D) (past : B
   pub faults : desk.faults ≡ key.faults
   pub failed : desk.failed ≡ past.failed
   pub turns : desk.turns.items ≡ past.turns
+  pub few : HaveFew past.turns (max key.faults (view desk.disk).faults)
   pub moment : past.moment ≤ (view desk.disk).now
   pub since : GoesOnSince view key desk.disk
   pub run : RunFits key.layout key.start past (view desk.disk)

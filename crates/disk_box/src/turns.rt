@@ -70,6 +70,7 @@ pub fn note_turn<D: Disk + Drop>(
     requires at { IsAtDesk D.view table.now pen.old desk.old }
     requires may { NotedRule pen.old.table.given.faults pen.old.view.core turn (past_at pen.old) }
     requires no_fail { turn.act ≢ act.Fail }
+    requires faults { turn.faults ≡ turn_faults desk.old.faults desk.old.failed (D.view desk.old.disk).faults }
     requires now { turn.now ≡ (D.view desk.old.disk).now }
     requires room { owed_by pen.old.table.given.layout.cores
         (after_label pen.old.table.given.layout pen.old.view.core (label.Noted turn) (past_at pen.old)) < desk.old.turns.spare }

@@ -1,6 +1,6 @@
 -- A commit begins in an idle slot: what lies in the box goes on to fit.
-use Rattle.disk_box.specs.Desk.{GoesOnSince}
-use Rattle.std.proofs.Common.{◌≡◌, ◌+◌, ◌<◌, ◌≤◌, ◌∙◌, ℕ, Bool, true, false, length, slice_get, slice_set, Option, Some, None, inl, inr, refl, sym, ap, subst, arith}
+use Rattle.disk_box.specs.Desk.{GoesOnSince, HaveFew}
+use Rattle.std.proofs.Common.{◌≡◌, ◌+◌, ◌<◌, ◌≤◌, ◌∙◌, ℕ, Bool, true, false, length, slice_get, slice_set, Option, Some, None, inl, inr, refl, sym, ap, subst, arith, max}
 use Rattle.std.proofs.lemmas.List.{length-set}
 use Rattle.std.proofs.lemmas.Option.{slice_get_within}
 use Rattle.sfs_base.proofs.BasicOptions.{some_same}
@@ -164,6 +164,7 @@ module _ {D : Type 0} (view : D → View) (key : BoxKey D) (core : ℕ) (past : 
         faults = ap (λ (d : Desk D). d.faults) same ∙ frame.faults;
         failed = ap (λ (d : Desk D). d.failed) same ∙ frame.failed;
         turns = ap (λ (d : Desk D). d.turns.items) same ∙ frame.turns;
+        few = subst (λ (d : Desk D). HaveFew past.turns (max key.faults (view d.disk).faults)) (sym same) frame.few;
         moment = subst (λ (d : Desk D). past.moment ≤ (view d.disk).now) (sym same) frame.moment;
         since = subst (λ (d : Desk D). GoesOnSince view key d.disk) (sym same) frame.since;
         run = subst (λ (d : Desk D). Rattle.slot_image_laws.specs.Run.RunFits key.layout key.start later (view d.disk)) (sym same)

@@ -1,5 +1,5 @@
 -- What journals leave where they are closed.
-use Rattle.std.proofs.Common.{◌≡◌, ◌<◌, ◌∙◌, ℕ, List, Option, Some, None, inl, inr, sym, ap, subst, arith, length}
+use Rattle.std.proofs.Common.{◌≡◌, ◌<◌, ◌∙◌, ℕ, List, Option, Some, None, inl, inr, sym, ap, subst, arith, length, max}
 use Rattle.std.specs.Prelude.{slice_get}
 use Rattle.std.proofs.lemmas.Option.{slice_get_cases}
 use Rattle.sfs_dev.specs.Disk.{View}
@@ -14,6 +14,7 @@ use Rattle.disk_box.specs.declared.key.BoxKey.{BoxKey}
 use Rattle.disk_box.specs.declared.desk.Desk.{Desk as BoxDesk}
 use Rattle.disk_box.specs.Box.{IsHome, StandsBox, WasTold}
 use Rattle.disk_box.specs.Pens.{PenHand, own_at}
+use Rattle.disk_box.specs.Desk.{HaveFew}
 use Rattle.journal_set.specs.Making.{LeavesDisk, MayClose}
 use Rattle.journal_set.specs.Ready.{HasNothingDue}
 
@@ -33,6 +34,7 @@ leaves_disk view key t pens log desk may count told mine seen home = record {
   mine = mine;
   seen = seen;
   record_is = home.fits.frame.turns;
+  few = subst (λ l. HaveFew l (max key.faults (view desk.disk).faults)) (sym home.fits.frame.turns) home.fits.frame.few;
   parts = λ core pen there.
       let own = ap (λ l. own_from l nothing_told) (sym (mine core pen there)) in
       ap (Rattle.merge_laws.specs.Pens.turns_of_core core) home.fits.frame.turns

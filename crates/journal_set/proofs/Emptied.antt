@@ -1,6 +1,6 @@
 -- A commit that writes nothing: what lies in the box goes on to fit.
-use Rattle.disk_box.specs.Desk.{GoesOnSince}
-use Rattle.std.proofs.Common.{◌≡◌, ◌∷◌, ◌++◌, ◌+◌, ◌<◌, ◌≤◌, ◌∙◌, ℕ, false, [], length, slice_set, Option, Some, None, refl, sym, ap, subst, arith}
+use Rattle.disk_box.specs.Desk.{GoesOnSince, HaveFew}
+use Rattle.std.proofs.Common.{◌≡◌, ◌∷◌, ◌++◌, ◌+◌, ◌<◌, ◌≤◌, ◌∙◌, ℕ, false, [], length, slice_set, Option, Some, None, refl, sym, ap, subst, arith, max}
 use Rattle.std.proofs.lemmas.List.{length-set}
 use Rattle.sfs_dev.specs.Disk.{View}
 use Rattle.tree_laws.specs.declared.turns.Turn.{Turn}
@@ -19,6 +19,7 @@ use Rattle.disk_box.specs.declared.desk.Desk.{Desk}
 use Rattle.disk_box.specs.Desk.{DeskFits, FaultsFit, FrameFits, RoomFits, open_for, open_told, owed_by, owed_of}
 use Rattle.disk_box.specs.Slots.{SlotsFit}
 use Rattle.disk_box.proofs.Frames.{own_after, others_after, owed_taken}
+use Rattle.disk_box.proofs.Few.{few_one, few_none, few_both}
 use Rattle.journal_set.proofs.Opens.{open_changed, open_nothing}
 use Rattle.journal_set.proofs.Returned.{no_flight, none_waits, owed_none, owed_three}
 
@@ -82,6 +83,16 @@ module _ {D : Type 0} (view : D → View) (key : BoxKey D) (core : ℕ) (past : 
       in
       omega (arith, same))
 
+  -- none of the turns has more faults than before
+  few_three : HaveFew (cut ∷ opened ∷ durable ∷ []) (max key.faults (view was.disk).faults)
+  few_three =
+      let most = max key.faults (view was.disk).faults in
+      let first = three.cut_now.1 in
+      let second = three.opened_now.1 in
+      let third = three.durable_now.1 in
+      few_one cut (opened ∷ durable ∷ []) most (omega (arith, first))
+      (few_one opened (durable ∷ []) most (omega (arith, second)) (few_one durable [] most (omega (arith, third)) (few_none most)))
+
   -- the desk fits, once the turns are in its record and the commit has ended
   module _ (now : Desk D) (same : now ≡ record was { ledger = now.ledger; turns = now.turns })
       (opens : now.ledger.opens ≡ slice_set was.ledger.opens core None)
@@ -106,6 +117,8 @@ module _ {D : Type 0} (view : D → View) (key : BoxKey D) (core : ℕ) (past : 
         faults = ap (λ (d : Desk D). d.faults) same ∙ frame.faults;
         failed = ap (λ (d : Desk D). d.failed) same ∙ frame.failed;
         turns = turns ∙ ap (λ l. l ++ cut ∷ opened ∷ durable ∷ []) frame.turns;
+        few = subst (λ (d : Desk D). HaveFew later.turns (max key.faults (view d.disk).faults)) (sym same)
+            (few_both past.turns (cut ∷ opened ∷ durable ∷ []) (max key.faults (view was.disk).faults) frame.few few_three);
         moment = subst (λ (d : Desk D). durable.now ≤ (view d.disk).now) (sym same) (let at = three.durable_now.0 in omega (arith, at));
         since = subst (λ (d : Desk D). GoesOnSince view key d.disk) (sym same) frame.since;
         run = subst (λ (d : Desk D). Rattle.slot_image_laws.specs.Run.RunFits key.layout key.start later (view d.disk)) (sym same)

@@ -2,7 +2,7 @@
 use Rattle.sfs_dev.specs.Run.{Advances}
 use Rattle.sfs_dev.proofs.Runs.{GoesOn-refl}
 use Rattle.std.specs.declared.snapshot.Snapshot.{Snapshot}
-use Rattle.std.proofs.Common.{◌≡◌, ◌+◌, ◌*◌, ◌<◌, ◌≤◌, ◌∷◌, ◌++◌, ◌∙◌, ◌/◌, ◌%◌, ℕ, zero, suc, List, [], length, Option, Some, None, refl, sym, ap, subst, arith, replicate}
+use Rattle.std.proofs.Common.{◌≡◌, ◌+◌, ◌*◌, ◌<◌, ◌≤◌, ◌∷◌, ◌++◌, ◌∙◌, ◌/◌, ◌%◌, ℕ, zero, suc, List, [], length, Option, Some, None, refl, sym, ap, subst, arith, replicate, max}
 use Rattle.std.specs.Prelude.{slice_get, slice_index_or}
 use Rattle.std.proofs.lemmas.List.{length-replicate}
 use lib.ListN.{get_elem?}
@@ -12,6 +12,7 @@ use Rattle.sfs_base.proofs.BasicOptions.{some_same}
 use Rattle.sfs_image.specs.Super.{IsLayout, Layout}
 use Rattle.journal_one.specs.Job.{Place}
 use Rattle.sfs_dev.specs.Disk.{View}
+use Rattle.sfs_dev.specs.Steps.{TellsAlike}
 use Rattle.tree_laws.specs.Tree.{TreeState}
 use Rattle.tree_laws.specs.declared.turns.Turn.{Turn}
 use Rattle.stamp_table.specs.declared.event.Event.{Event}
@@ -29,6 +30,7 @@ use Rattle.disk_box.specs.Box.{IsHome}
 use Rattle.disk_box.specs.Desk.{DeskFits, open_told, owed_by, wait_in}
 use Rattle.disk_box.specs.Pens.{PenHand}
 use Rattle.disk_box.specs.Slots.{PhaseFits, SlotsFit}
+use Rattle.disk_box.proofs.Few.{few_none}
 use Rattle.journal_set.specs.Making.{AreIdleSlots, AreNewPens}
 
 -- nothing lies in a list of nothing
@@ -87,8 +89,12 @@ module _ {D : Type 0} (view : D → View) (laws : (disk : D) → KeepsLaws (view
       faults = new.faults_are;
       failed = new.calm;
       turns = new.no_turns;
+      few = few_none (max key.faults (view desk.disk).faults);
       moment = (let same = new.counts.0 in omega (arith, same));
-      since = record { goes = λ first is. subst (λ (d : D). Advances (view d) (view desk.disk)) (sym (new.began first is)) (GoesOn-refl (view desk.disk)) };
+      since = record {
+        goes = λ first is. subst (λ (d : D). Advances (view d) (view desk.disk)) (sym (new.began first is)) (GoesOn-refl (view desk.disk));
+        tells = λ first is. subst (λ (d : D). TellsAlike (view d) (view desk.disk)) (sym (new.began first is)) refl;
+      };
       run = subst (λ n. Rattle.slot_image_laws.specs.Run.RunFits key.layout n (first_past n) (view desk.disk)) new.counts.0
           (first_runs_fit (view desk.disk) key.layout large);
     };

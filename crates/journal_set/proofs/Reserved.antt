@@ -121,6 +121,7 @@ module _ {D : Type 0} (view : D → View) (key : BoxKey D) (core : ℕ) (past : 
           faults = frame.faults;
           failed = frame.failed;
           turns = frame.turns;
+          few = frame.few;
           moment = frame.moment;
           since = frame.since;
           run = told_labels_fit (view was.disk) key.layout key.faults core key.start (label.Reserved number nodes grant) past fits reserved_rule tt

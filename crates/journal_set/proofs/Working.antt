@@ -1,6 +1,6 @@
 -- What a core that is at work with the box may note.
-use Rattle.disk_box.specs.Desk.{GoesOnSince}
-use Rattle.std.proofs.Common.{◌≡◌, ◌∷◌, ◌++◌, ◌*◌, ◌<◌, ◌≤◌, ◌∙◌, ℕ, Bool, [], length, option_map, Option, Some, None, inl, inr, refl, sym, ap, subst, arith, true, false}
+use Rattle.disk_box.specs.Desk.{GoesOnSince, HaveFew}
+use Rattle.std.proofs.Common.{◌≡◌, ◌∷◌, ◌++◌, ◌*◌, ◌<◌, ◌≤◌, ◌∙◌, ℕ, Bool, [], length, option_map, Option, Some, None, inl, inr, refl, sym, ap, subst, arith, true, false, max}
 use Rattle.sfs_dev.specs.Disk.{View}
 use Rattle.stamp_table.specs.Table.{TableState}
 use Rattle.tree_laws.specs.declared.turns.Turn.{Turn}
@@ -94,6 +94,7 @@ desk_roomier {D = D} view key past was now old same items more = record {
     faults = ap (λ (d : Desk D). d.faults) same ∙ old.frame.faults;
     failed = ap (λ (d : Desk D). d.failed) same ∙ old.frame.failed;
     turns = items ∙ old.frame.turns;
+    few = subst (λ (d : Desk D). HaveFew past.turns (max key.faults (view d.disk).faults)) (sym same) old.frame.few;
     moment = subst (λ (d : Desk D). past.moment ≤ (view d.disk).now) (sym same) old.frame.moment;
     since = subst (λ (d : Desk D). GoesOnSince view key d.disk) (sym same) old.frame.since;
     run = subst (λ (d : Desk D). RunFits key.layout key.start past (view d.disk)) (sym same) old.frame.run;

@@ -1,5 +1,5 @@
 -- What journals are made of, what their pens are then, and what they leave where they are closed.
-use Rattle.std.specs.Prelude.{◌≡◌, ◌*◌, ◌<◌, ℕ, List, [], length, Some, slice_get}
+use Rattle.std.specs.Prelude.{◌≡◌, ◌*◌, ◌<◌, ℕ, List, [], length, Some, slice_get, max}
 use mathlib.Core.List.{IsPrefix}
 use Rattle.std.specs.declared.snapshot.Snapshot.{Snapshot}
 use Rattle.sfs_image.specs.Super.{Layout}
@@ -21,7 +21,7 @@ use Rattle.disk_box.specs.declared.key.BoxKey.{BoxKey}
 use Rattle.disk_box.specs.declared.desk.Phase.TheVariants as phase
 use Rattle.disk_box.specs.declared.desk.Slot.{Slot}
 use Rattle.disk_box.specs.Box.{LawfulBox, past_of}
-use Rattle.disk_box.specs.Desk.{FaultsFit, GoesOnSince}
+use Rattle.disk_box.specs.Desk.{FaultsFit, GoesOnSince, HaveFew}
 use Rattle.disk_box.specs.Pens.{IsOutside, PenHand, own_at}
 use Rattle.journal_set.specs.Ready.{HasNothingDue}
 
@@ -74,6 +74,7 @@ pub record LeavesDisk {D : Type 0} (view : D → View) (key : BoxKey D) (pens : 
   pub mine : (core : ℕ) (pen : PenHand D) → slice_get pens core ≡ Some pen → pen.view.mine ≡ entries_by event_core core log
   pub seen : (core : ℕ) (pen : PenHand D) → slice_get pens core ≡ Some pen → IsPrefix pen.view.seen log
   pub record_is : turns ≡ (past_of key log).turns
+  pub few : HaveFew turns (max key.faults (view disk).faults)
   pub parts : (core : ℕ) (pen : PenHand D) → slice_get pens core ≡ Some pen → turns_of_core core turns ≡ (own_at pen).told
   pub run : RunFits key.layout key.start (past_of key log) (view disk)
   pub since : GoesOnSince view key disk

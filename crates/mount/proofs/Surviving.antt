@@ -31,20 +31,9 @@ use Rattle.workers.specs.declared.worker.Worker.{Worker}
 use Rattle.mount.specs.declared.volume.Volume.{Volume}
 use Rattle.mount.specs.Volume.{IsMountOfDisk}
 use Rattle.mount.specs.Ends.{LeavesVolume}
-use Rattle.mount.specs.Survives.{TurnsTellAll, TellsSince, SurvivesSince, ComesTo, UnmountedSurvive}
+use Rattle.mount.specs.Survives.{TurnsTellAll, SurvivesSince, ComesTo, UnmountedSurvive}
 use Rattle.mount.proofs.Ending.{Unmounted, end, ends, has_begun, key_fits}
 use Rattle.mount.proofs.FromBegin.{rises_before, survive_from_begin}
-
--- the greatest count of faults of some turns
-abbrev most_faults : List Turn → ℕ
-most_faults [] = 0
-most_faults (turn ∷ turns) = max turn.faults (most_faults turns)
-
--- none has more
-few_faults : (turns : List Turn) (turn : Turn) → IsOneOf turns turn → turn.faults ≤ most_faults turns
-few_faults [] turn one = absurd one
-few_faults (next ∷ turns) turn (inl same) = subst (λ (t : Turn). t.faults ≤ max next.faults (most_faults turns)) same (omega arith)
-few_faults (next ∷ turns) turn (inr one) = let low = few_faults turns turn one in omega (arith, low)
 
 -- a disk that tells alike goes on telling what a read gives
 told_still : (old new : View) → TellsAlike old new → (content : List ℕ) → old.content ≡ Some content → (now : List ℕ) × (new.content ≡ Some now)
@@ -79,19 +68,27 @@ module _ {D : Type 0} (view : D → View) (volume : Volume D) (workers : List (W
       (subst (λ (entries : List Entry). P at.start.first entries turns) at_ends.begins.history
       (subst (λ (told : List Turn). P at.start.first at.start.history told) (sym leaves.leaves.record_is) is))
 
-  turns_tell : TurnsTellAll volume.shared.first history key.faults turns
-  turns_tell =
-      let turns_told = (past_of at.told).turns in
-      let end_of = turns_of_mounts_end D at (most_faults turns_told) at_ends (few_faults turns_told) in
-      of_volume (λ first entries told. TurnsTellAll first entries key.faults told)
-      (record { most = most_faults turns_told; pens = map pen_fsyncs at.fsyncs; agrees = end_of.agrees; merge = end_of.merge; tell = end_of.tell })
-
   -- the disk has gone on from the one that was mounted
   goes_on : Advances (view mounted.left) (view left)
   goes_on = subst (λ (d : D). Advances (view d) (view left)) mounted.over.is (leaves.leaves.since.goes mounted.over.first mounted.over.told)
 
-  module _ (tells : TellsSince view key left) (image : List ℕ) (told : (view disk).content ≡ Some image) (calm : IsCalm (view disk))
-      (counts : CountsOn (view left)) where
+  -- its faults have not fallen, and no turn counts more
+  until : key.faults ≤ (view left).faults
+  until = let never = goes_on.never_falls in let are = mounted.key.faults_are in omega (arith, never, are)
+
+  few : (turn : Turn) → IsOneOf (past_of at.told).turns turn → turn.faults ≤ (view left).faults
+  few turn one =
+      let low = leaves.leaves.few turn (subst (λ (l : List Turn). IsOneOf l turn) (sym leaves.leaves.record_is) one) in
+      let later = until in
+      omega (arith, low, later)
+
+  turns_tell : TurnsTellAll volume.shared.first history key.faults (view left).faults turns
+  turns_tell =
+      let end_of = turns_of_mounts_end D at (view left).faults at_ends few in
+      of_volume (λ first entries told. TurnsTellAll first entries key.faults (view left).faults told)
+      (record { pens = map pen_fsyncs at.fsyncs; agrees = end_of.agrees; merge = end_of.merge; tell = end_of.tell })
+
+  module _ (image : List ℕ) (told : (view disk).content ≡ Some image) (calm : IsCalm (view disk)) (counts : CountsOn (view left)) where
     holds : HoldsStart nodes begun.start (view disk) (view mounted.left)
     holds = begun.told image told calm (let later = goes_on.later in omega (arith, later, counts))
 
@@ -110,7 +107,7 @@ module _ {D : Type 0} (view : D → View) (volume : Volume D) (workers : List (W
 
     tells_all : TellsAll (view left)
     tells_all =
-        let alike = subst (λ (d : D). TellsAlike (view d) (view left)) mounted.over.is (tells.tells mounted.over.first mounted.over.told) in
+        let alike = subst (λ (d : D). TellsAlike (view d) (view left)) mounted.over.is (leaves.leaves.since.tells mounted.over.first mounted.over.told) in
         let now = told_still (view mounted.left) (view left) alike holds.tells.0 holds.tells.1 in
         record { content = now.0; tells = now.1; counts = counts; laws = unmounted.laws left }
 
@@ -119,8 +116,8 @@ module _ {D : Type 0} (view : D → View) (volume : Volume D) (workers : List (W
       run = leaves.leaves.run;
       began = began;
       tells = tells_all;
-      most = most_faults (past_of at.told).turns;
-      few = few_faults (past_of at.told).turns;
+      most = (view left).faults;
+      few = few;
     }
 
     share_is : share_of_nodes nodes begun.start.layout ≡ share_of_nodes nodes (layout_of image)
@@ -154,17 +151,17 @@ module _ {D : Type 0} (view : D → View) (volume : Volume D) (workers : List (W
           reads_by_turns = mount.reads_by_turns;
         })
 
-  comes_to : TellsSince view key left → ComesTo view nodes disk volume left history turns
-  comes_to tells = record {
+  comes_to : ComesTo view nodes disk volume left history turns
+  comes_to = record {
     since = let never = mounted.was.advances.never_falls in let are = mounted.key.faults_are in omega (arith, never, are);
-    until = let never = goes_on.never_falls in let are = mounted.key.faults_are in omega (arith, never, are);
+    until = until;
     dated = subst (λ (l : List Turn). RisesFrom (view disk).now l (view left).now) (sym leaves.leaves.record_is)
         (rises_before (view disk).now key.start (view left).now (past_of at.told).turns
         (let later = mounted.was.advances.later in let is = mounted.key.start_is in omega (arith, later, is)) leaves.leaves.run.rises);
     turns_tell = turns_tell;
-    survives = λ image told calm counts. survives tells image told calm counts;
+    survives = survives;
   }
 
 pub unmounted_survive : {D : Type 0} (view : D → View) → UnmountedSurvive view
-unmounted_survive view volume workers left history turns laws is are leaves tells nodes disk mounted =
-    comes_to view volume workers left history turns (record { laws = laws; is = is; are = are; leaves = leaves }) nodes disk mounted tells
+unmounted_survive view volume workers left history turns laws is are leaves nodes disk mounted =
+    comes_to view volume workers left history turns (record { laws = laws; is = is; are = are; leaves = leaves }) nodes disk mounted

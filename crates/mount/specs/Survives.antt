@@ -1,10 +1,9 @@
 -- What an unmounted volume comes to, of the mount with which it began.
-use Rattle.std.specs.Prelude.{◌≤◌, ◌≡◌, ℕ, List, Some}
-use Rattle.std.specs.declared.snapshot.Snapshot.{Snapshot}
+use Rattle.std.specs.Prelude.{◌≤◌, ℕ, List}
 use Rattle.sfs_image.specs.Settled.{layout_of}
 use Rattle.sfs_dev.specs.Disk.{View}
 use Rattle.sfs_dev.specs.Run.{CountsOn}
-use Rattle.sfs_dev.specs.Steps.{IfTold, TellsAlike}
+use Rattle.sfs_dev.specs.Steps.{IfTold}
 use Rattle.journal_one.specs.Calls.{IsCalm}
 use Rattle.tree_laws.specs.Tree.{TreeState}
 use Rattle.tree_laws.specs.declared.history.Entry.{Entry}
@@ -15,7 +14,6 @@ use Rattle.merge_laws.specs.Pens.{AgreesAll, FsyncTurns}
 use Rattle.merge_laws.specs.Plays.{PensMerge}
 use Rattle.mount_begin.specs.Mounted.{share_of_nodes}
 use Rattle.slot_image_laws.specs.Run.{KeepsLaws, RisesFrom}
-use Rattle.disk_box.specs.declared.key.BoxKey.{BoxKey}
 use Rattle.disk_box.specs.Pens.{PenHand}
 use Rattle.workers.specs.declared.worker.Worker.{Worker}
 use Rattle.mount.specs.Volume.{IsMountOfDisk, IsVolume}
@@ -23,11 +21,10 @@ use Rattle.mount.specs.declared.volume.Volume.{Volume}
 use Rattle.mount.specs.Workers.{AreWorkers}
 use Rattle.mount.specs.Ends.{LeavesVolume}
 
--- What the turns of a volume tell, whose disk had so many faults as it was mounted: all cores agree with their pens on them, and no count is above a last
--- one; so they are what fsyncs do, each of which goes one of the ways with its answer; and they tell of answers and acknowledgements, at moments that don't
+-- What the turns of a volume tell, whose disk had so many faults as it was mounted and so many at the end: all cores agree with their pens on them, and no
+-- count is above the last one; so they are what fsyncs do, each of which goes one of the ways with its answer; and they tell of answers and acknowledgements, at moments that don't
 -- fall.
-pub record TurnsTellAll (first : TreeState) (history : List Entry) (before : ℕ) (turns : List Turn) : Type 0 where
-  pub most : ℕ
+pub record TurnsTellAll (first : TreeState) (history : List Entry) (before most : ℕ) (turns : List Turn) : Type 0 where
   pub pens : List (List FsyncTurns)
   pub agrees : AgreesAll first history before most turns pens
   pub merge : PensMerge first history turns
@@ -48,7 +45,7 @@ pub record ComesTo {D : Type 0} (view : D → View) (nodes : ℕ) (disk : D) (vo
   pub since : (view disk).faults ≤ volume.set.table.given.faults
   pub until : volume.set.table.given.faults ≤ (view left).faults
   pub dated : RisesFrom (view disk).now turns (view left).now
-  pub turns_tell : TurnsTellAll volume.shared.first history volume.set.table.given.faults turns
+  pub turns_tell : TurnsTellAll volume.shared.first history volume.set.table.given.faults (view left).faults turns
   pub survives : IfTold (view disk).content (λ image. IsCalm (view disk) → CountsOn (view left)
       → SurvivesSince (share_of_nodes nodes (layout_of image)) (view disk).now volume.shared.first history turns (view left))
 
@@ -57,12 +54,8 @@ abbrev pub VolumeSurvives : {D : Type 0} → (D → View) → Volume D → D →
 VolumeSurvives {D} view volume left history turns = (nodes : ℕ) (disk : D) → IsMountOfDisk view nodes disk volume
     → ComesTo view nodes disk volume left history turns
 
--- A disk tells what a read gives exactly where it did as its box was made, if the key tells what it was then.
-pub record TellsSince {D : Type 0} (view : D → View) (key : BoxKey D) (disk : D) : Type 0 where
-  pub tells : (first : Snapshot D) → key.first ≡ Some first → TellsAlike (view first.value) (view disk)
-
--- So it is of each volume that was left, with all workers at rest, on a disk that tells what a read gives as it did.
+-- So it is of each volume that was left, with all workers at rest.
 abbrev pub UnmountedSurvive : {D : Type 0} → (D → View) → Type 0
 UnmountedSurvive {D} view = (volume : Volume D) (workers : List (Worker (PenHand D))) (left : D) (history : List Entry) (turns : List Turn)
     → ((disk : D) → KeepsLaws (view disk)) → IsVolume volume → AreWorkers volume workers → LeavesVolume view volume workers left history turns
-    → TellsSince view volume.set.table.given left → VolumeSurvives view volume left history turns
+    → VolumeSurvives view volume left history turns

@@ -15,4 +15,5 @@ returns-clause-at g c =
     at_told g.D.Disk.view c.args.table.now pen c.note.new.pen (label.Noted c.args.turn) c.note.ensures.holds c.note.ensures.tells desk
     (record desk { turns = c.push.new.self }) at.space refl
     (noted_fits g.D.Disk.view pen.table.given pen.view.core (past_at pen) c.args.turn desk (record desk { turns = c.push.new.self }) at.fits
-    (past_fits_at c.args.table.now pen at.holds) c.requires.may c.requires.no_fail c.requires.now refl c.push.ensures.items (omega (arith, spare, room)))
+    (past_fits_at c.args.table.now pen at.holds) c.requires.may c.requires.no_fail c.requires.faults c.requires.now
+    refl c.push.ensures.items (omega (arith, spare, room)))
