@@ -70,7 +70,7 @@ cut_goes_on {D = D} view t before mid turn was now held holds tells frame space 
     let none : failure_by turn.act turn.faults ≡ None = ap (λ (w : TurnAct). failure_by w turn.faults) cuts in
     let kept : now.failed ≡ was.failed = ap (λ (d : Desk D). d.failed) same in
     let counted : turn.faults ≡ key.faults = subst (λ (z : Option ℕ × TurnAct). CountsFaults key.faults turn.faults z.0 z.1 turn.faults)
-        (λ i. (calm i, cuts i)) rule.now.counts in
+    (λ i. (calm i, cuts i)) rule.now.counts in
     record {
       frame = frame_told view t before mid (label.Noted turn) holds tells now
           (noted_frame view key before.view.core (past_at before) turn was now frame (past_fits_at t before held) rule (omega (arith, counted)) moment

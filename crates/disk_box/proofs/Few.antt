@@ -17,7 +17,7 @@ few_one next turns most low few turn (inl same) = subst (λ (t : Turn). t.faults
 few_one next turns most low few turn (inr one) = few turn one
 
 pub few_both : (turns more : List Turn) (most : ℕ) → HaveFew turns most → HaveFew more most → HaveFew (turns ++ more) most
-few_both turns more most few also turn one = elim (in_either turns more turn one) [ | inl before ↦ few turn before | inr later ↦ also turn later ]
+few_both turns more most few also turn one = elim (in_either turns more turn one) [ inl before ↦ few turn before | inr later ↦ also turn later ]
 
 -- a turn that counts the faults as they are
 pub counts_few : (turn : Turn) (before own : ℕ) (failed : Option ℕ) (now : ℕ) → turn.faults ≡ turn_faults own failed now → own ≡ before
