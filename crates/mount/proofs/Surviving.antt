@@ -1,5 +1,5 @@
 -- An unmounted volume survives each crash since its mount began.
-use Rattle.std.proofs.Common.{◌≡◌, ◌≤◌, ◌∷◌, ◌∙◌, ℕ, List, [], Option, Some, None, is_some, true, false, max, inl, inr, refl, sym, ap, subst, arith, map}
+use Rattle.std.proofs.Common.{◌≡◌, ◌≤◌, ◌∙◌, ℕ, List, Option, Some, None, is_some, true, false, refl, sym, ap, subst, arith, map}
 use Rattle.sfs_image.specs.Super.{Layout}
 use Rattle.sfs_image.specs.ImageOf.{IsImageOf}
 use Rattle.sfs_image.specs.Settled.{layout_of}
