@@ -1,6 +1,5 @@
 mod Agreeing
 mod Crew
-mod Ran
 mod Teams
 mod Together
 mod FromBegin

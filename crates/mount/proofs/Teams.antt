@@ -27,6 +27,13 @@ at_map f (x ∷ xs) (suc k) d = at_map f xs k d
 pub all_there : {X : Type 0} (P : X → Type 0) (xs : List X) (k : ℕ) (x : X) → All P xs → slice_get xs k ≡ Some x → P x
 all_there P xs k x all there = subst P (get_or_from_slice_get xs k x x there) (all k x (slice_get_within xs k x there))
 
+-- what a list is mapped to at a place
+pub there_too : {P : Type 0} (workers : List (Worker P)) (k : ℕ) (worker : Worker P) → slice_get workers k ≡ Some worker
+    → slice_get (map core_of workers) k ≡ Some worker.core
+there_too [] k worker there = absurd (let low = slice_get_within [] k worker there in omega (arith, low))
+there_too (w ∷ workers) zero worker there = (let same : w ≡ worker = cc (there) in ap (λ (x : Worker _). Some x.core) same)
+there_too (w ∷ workers) (suc k) worker there = there_too workers k worker there
+
 -- some worker of a list that has one at a place
 some_worker : {P : Type 0} (workers : List (Worker P)) (place : ℕ) → place < length workers → Worker P
 some_worker [] place low = absurd (omega (arith, low))

@@ -2,6 +2,5 @@ pub mod Begun
 pub mod Ends
 pub mod Survives
 pub mod Keeping
-pub mod Phases
 pub mod Volume
 pub mod Workers

@@ -43,7 +43,11 @@ returns-clause-volume g c =
     }
     in
     subst (λ (z : ℕ × Basis). IsVolume (record {
-      shared = c.in-Ok.tabled.shared; set = c.in-Ok-new.made.0; basis = z.1; cores = z.0; room = c.in-Ok.tabled.room;
+      shared = c.in-Ok.tabled.shared;
+      set = c.in-Ok-new.made.0;
+      basis = z.1;
+      cores = z.0;
+      room = c.in-Ok.tabled.room;
     })) (λ i. (sym cores i, sym basis i))
     (volume_is view c.args.nodes old c.args.disk begun c.in-Ok.tabled c.in-Ok-new.made.0 c.in-Ok-new.made.1.items put
     (let low = site.fits.ranges.cores_low in omega (arith, low))

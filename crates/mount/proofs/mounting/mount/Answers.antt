@@ -2,7 +2,7 @@ use Rattle.std.proofs.Common.{Result, Ok, Err, sym, subst}
 use Rattle.std.specs.Prelude.{IfErr, IfOk}
 use Rattle.recovery.specs.declared.fault.RecoverFault.TheVariants as RecoverFault
 use Rattle.volume_laws.specs.Mounting.{WasMounted}
-use Rattle.mount.specs.Volume.{IsMountOfDisk, IsRefusedMount}
+use Rattle.mount.specs.Volume.{IsRefusedMount}
 use Rattle.mount.specs.declared.mounting.MountFault.{MountFault}
 use Rattle.mount.proofs.mounting.mount.Given as given
 use Rattle.mount.proofs.mounting.mount.Goals as goal

@@ -6,9 +6,8 @@ use Rattle.mem_values.specs.Start.{FileHand, given_by}
 use Rattle.disk_box.specs.Pens.{PenHand}
 use Rattle.journal_set.specs.Making.{LeavesDisk, MayClose}
 use Rattle.slot_image_laws.specs.Run.{KeepsLaws}
-use Rattle.mount.proofs.Ran.{there_too}
 use Rattle.mount.proofs.Surviving.{unmounted_survive}
-use Rattle.mount.proofs.Teams.{pens_close}
+use Rattle.mount.proofs.Teams.{pens_close, there_too}
 use Rattle.mount.proofs.unmounting.unmount.Goals as goal
 
 pub close-disk-requires-clause-may : goal.close-disk-requires-clause-may
