@@ -1,0 +1,13 @@
+pub mod Next
+pub mod Goes
+pub mod Played
+pub mod Opens
+pub mod Through
+pub mod Walk
+pub mod Fronts
+pub mod Places
+pub mod Reserved
+pub mod Turns
+pub mod Refused
+pub mod Numbers
+pub mod Recorded
