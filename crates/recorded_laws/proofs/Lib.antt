@@ -11,3 +11,5 @@ pub mod Turns
 pub mod Refused
 pub mod Numbers
 pub mod Recorded
+pub mod Once
+pub mod Lacking

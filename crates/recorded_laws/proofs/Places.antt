@@ -5,6 +5,8 @@ use Rattle.sfs_image.specs.Super.{Layout}
 use Rattle.space_map.specs.Space.{Space}
 use Rattle.tree_laws.specs.declared.turns.TurnAct.TheVariants as act
 use Rattle.cut_laws.specs.Rules.{IsOneOf}
+use Rattle.space_laws.specs.Map.{IsMapOf}
+use Rattle.map_laws.specs.Along.{MapKeeping, BeginsMap}
 use Rattle.stamp_table.specs.declared.event.Event.{Event}
 use Rattle.stamp_table.specs.declared.event.Event.TheVariants.{Called, Told}
 use Rattle.slot_laws.specs.Labels.{BoxPast, first_past, past_from, after_label}
@@ -22,6 +24,7 @@ use Rattle.named_laws.specs.Mount.{MountEnd, MountEnds, AreNamed}
 use Rattle.along_laws.proofs.Landed.{pens}
 use Rattle.along_laws.proofs.Places.{told_labels}
 use Rattle.along_laws.proofs.Telling.{named_tell_along}
+use Rattle.recorded_laws.specs.Recorded.{kept_at}
 use Rattle.recorded_laws.proofs.Opens.{OpensAt}
 use Rattle.recorded_laws.proofs.Walk.{opens_at}
 use Rattle.recorded_laws.proofs.Next.{ComesReserved, behind_reserved, behind_returned}
@@ -92,3 +95,16 @@ module _ (D : Type 0) (at : MountEnd) (named : Numbered) (ends : MountEnds D at)
   -- a number that was reserved is its pair's, with what its grant serves
   pub reserved_as : (one : Reserving) → IsOneOf at.told.log (told_reserving one) → ReservedAs named one.commit one.seen.items one.grant
   reserved_as one among = (told_labels D at named ends are).fit (told_reserving one) among
+
+  -- what the map of free space along its turns is kept from
+  abbrev pub keeping_at : MapKeeping
+  keeping_at = record { kept = kept_at at named; entries = at.entries; first = at.told.first }
+
+  pub begins_map : BeginsMap keeping_at
+  begins_map =
+      let labels = ends.begins.labels in record {
+        stands = labels.walk.stands;
+        keeps = labels.keeps;
+        right = subst (λ l. IsMapOf l at.entries at.told.first) (sym labels.layout_is) labels.right;
+        none = record { inodes = ends.along.no_inodes; blocks = ends.along.no_blocks };
+      }

@@ -1,7 +1,5 @@
 -- The turns of a mount are recorded, as it ends.
-use Rattle.label_laws.specs.Maps.{IsDrawn, past_of}
-use Rattle.reserve_laws.proofs.Fits.{records_fit}
-use Rattle.std.proofs.Common.{◌≡◌, ◌∙◌, List, length, subst, sym, inr, inl, ap, ℕ, refl, map}
+use Rattle.std.proofs.Common.{◌≡◌, ◌∙◌, List, length, subst, inr, inl, ap, ℕ, refl, map}
 use Rattle.sfs_base.specs.declared.numbers.SpaceKind.{SpaceKind}
 use Rattle.space_map.specs.Space.{Space, GrantedNumbers}
 use Rattle.tree_laws.specs.declared.turns.Turn.{Turn}
@@ -11,15 +9,15 @@ use Rattle.cut_laws.specs.Rules.{IsOneOf}
 use Rattle.flush_laws.specs.Volume.{Volume}
 use Rattle.merge_laws.specs.Plays.{PensMerge, PlayState}
 use Rattle.merge_laws.specs.Phases.{phase_of, no_turn_yet}
-use Rattle.space_laws.specs.Map.{IsMapOf}
 use Rattle.turn_ties.specs.Plans.{amount_planned}
 use Rattle.walk_laws.specs.Walk.{IsCalmPlace, FitsRecord}
 use Rattle.walk_laws.specs.Pairs.{bringing_under}
 use Rattle.walk_laws.proofs.Played.{fits_play}
 use Rattle.walk_laws.proofs.Walk.{records_are_kept}
-use Rattle.map_laws.specs.Along.{MapKeeping, BeginsMap, MapPlace, MapDoes, TellsLack}
+use Rattle.map_laws.specs.Along.{MapPlace, MapDoes, TellsLack}
 use Rattle.reserve_laws.specs.Fits.{TellsThere, ReservesTold, BeginsTold, TellsAct, CoresTell}
-use Rattle.label_laws.specs.Maps.{Numbered}
+use Rattle.reserve_laws.proofs.Fits.{records_fit}
+use Rattle.label_laws.specs.Maps.{IsDrawn, past_of, Numbered}
 use Rattle.label_laws.proofs.Along.{maps_are_drawn}
 use Rattle.flush_agrees.specs.Closing.{pen_fsyncs}
 use Rattle.named_laws.specs.Mount.{MountEnd, MountEnds, AreNamed}
@@ -30,29 +28,17 @@ use Rattle.recorded_laws.proofs.Goes.{map_behind, GoesAt, goes_at}
 use Rattle.recorded_laws.proofs.Reserved.{IsBehind, tells_there, own_reserved}
 use Rattle.recorded_laws.proofs.Turns.{granted_behind, first_granted, first_cut, begins_first}
 use Rattle.recorded_laws.proofs.Numbers.{core_has, flush_has, commit_has}
+use Rattle.recorded_laws.proofs.Places.{keeping_at, begins_map}
 module _ (D : Type 0) (at : MountEnd) (named : Numbered) (ends : MountEnds D at) (are : AreNamed at named)
     (merge : PensMerge at.start.first at.start.history (past_of at.told).turns) (lacks : LacksAreTold at named) where
   abbrev turns : List Turn
   turns = (past_of at.told).turns
-
-  -- what the map is kept from
-  abbrev keeping : MapKeeping
-  keeping = record { kept = kept_at at named; entries = at.entries; first = at.told.first }
 
   drawn : IsDrawn named at.told
   drawn = maps_are_drawn named at.told (told_labels D at named ends are)
 
   map_at : List Turn → Space
   map_at front = map_behind named.pairs at.told.first drawn.goes (length front)
-
-  begins : BeginsMap keeping
-  begins =
-      let labels = ends.begins.labels in record {
-        stands = labels.walk.stands;
-        keeps = labels.keeps;
-        right = subst (λ l. IsMapOf l at.entries at.told.first) (sym labels.layout_is) labels.right;
-        none = record { inodes = ends.along.no_inodes; blocks = ends.along.no_blocks };
-      }
 
   module _ (front : List Turn) (turn : Turn) (play : PlayState) (volume : Volume) (place : IsCalmPlace (kept_at at named) turns front turn play volume) where
     goes : GoesAt named.pairs at.told.first drawn.goes front turn
@@ -105,10 +91,10 @@ module _ (D : Type 0) (at : MountEnd) (named : Numbered) (ends : MountEnds D at)
     tells_by act.Durable did = tt
     tells_by act.Fail did = tt
 
-  cores_tell : CoresTell keeping turns
+  cores_tell : CoresTell (keeping_at D at named ends are) turns
   unfolding map_at
   cores_tell = record {
-    begins = begins;
+    begins = begins_map D at named ends are;
     core = core_has D at named ends are merge;
     flush = flush_has D at named ends are merge;
     commit = commit_has D at named ends are merge;
@@ -118,7 +104,7 @@ module _ (D : Type 0) (at : MountEnd) (named : Numbered) (ends : MountEnds D at)
   }
 
   pub record_fits : FitsRecord (kept_at at named) turns
-  record_fits = records_fit keeping turns cores_tell
+  record_fits = records_fit (keeping_at D at named ends are) turns cores_tell
 
 pub mounts_are_recorded : (D : Type 0) → MountsAreRecorded D
 mounts_are_recorded D at named entry_faults most ends are lacks since few =
