@@ -13,3 +13,4 @@ pub mod Numbers
 pub mod Recorded
 pub mod Once
 pub mod Lacking
+pub mod Agreed

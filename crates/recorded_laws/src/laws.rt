@@ -1,5 +1,5 @@
 // What is proved of the turns of a mount of many cores that has ended: each function's contract is a law.
-ghost use Rattle.recorded_laws.specs.Lacks.{MadeLacksAreTold, MadeMountsAreRecorded};
+ghost use Rattle.recorded_laws.specs.Lacks.{AgreedMountsAreRecorded, LacksAreAgreed, MadeLacksAreTold, MadeMountsAreRecorded};
 ghost use Rattle.recorded_laws.specs.Recorded.{MountsAreRecorded};
 
 use sfs_dev::Disk;
@@ -17,4 +17,14 @@ pub fn made_lacks_are_told<D: Disk>(disk: &D)
 /// So they are recorded then.
 pub fn made_mounts_are_recorded<D: Disk>(disk: &D)
     ensures { MadeMountsAreRecorded D }
+{}
+
+/// What cores and pens agree on of turns that tell shortages is that, but for what it does not say.
+pub fn lacks_are_agreed<D: Disk>(disk: &D)
+    ensures { LacksAreAgreed D }
+{}
+
+/// So they are recorded where that is known too.
+pub fn agreed_mounts_are_recorded<D: Disk>(disk: &D)
+    ensures { AgreedMountsAreRecorded D }
 {}
