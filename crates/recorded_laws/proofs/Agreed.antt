@@ -1,5 +1,4 @@
 -- What cores and pens agree on of turns that tell shortages is what the record of turns asks of them.
-use Rattle.along_laws.proofs.Landed.{turn_of}
 use Rattle.std.proofs.Common.{◌≡◌, ◌∙◌, ℕ, sym, subst, arith}
 use Rattle.sfs_image.specs.Super.{Layout}
 use Rattle.space_map.specs.Space.{Space}
@@ -15,6 +14,7 @@ use Rattle.flush_agrees.specs.Agreement.{FlushTold}
 use Rattle.flush_agrees.specs.Closing.{LacksAtEnd}
 use Rattle.named_laws.specs.Mount.{MountEnd, MountEnds, IsFsyncAt, CoreEnds, run_at}
 use Rattle.named_laws.proofs.Named.{mounts_are_named}
+use Rattle.along_laws.proofs.Landed.{turn_of}
 use Rattle.recorded_laws.specs.Lacks.{lack_of, LackKnew, LackMade, LacksAreAgreed, AgreedMountsAreRecorded}
 use Rattle.recorded_laws.proofs.Lacking.{made_mounts_are_recorded}
 module _ (D : Type 0) (at : MountEnd) (ends : MountEnds D at) (one : FlushTold) (there : IsFsyncAt at one) (turn : Turn) (told : LackTold)
@@ -46,7 +46,6 @@ module _ (D : Type 0) (at : MountEnd) (ends : MountEnds D at) (one : FlushTold) 
     space = lack.space;
     goes = subst (λ (p : Layout × ℕ × Space). Goes p.0 p.1 p.2) (λ i. (core.layout_is i, core.start_is i, knew.space i)) lack.goes;
     inodes = let few = lack.few in omega (arith, few);
-    blocks = knew.blocks;
     short = lack.short;
   }
 

@@ -1,22 +1,16 @@
 -- A turn that tells a shortage tells what was so at its place, by what its core made.
-use Rattle.along_laws.proofs.Places.{done_there}
-use Rattle.along_laws.proofs.Boxes.{made_of}
-use Rattle.look_laws.specs.Look.{Look}
-use Rattle.look_laws.specs.Beside.{Knows}
-use Rattle.made_laws.specs.Tells.{commit_made}
-use Rattle.along_laws.proofs.Places.{all_made}
-use Rattle.reserve_laws.proofs.Looks.{knows}
-use Rattle.label_laws.proofs.Drawn.{Drawing}
-use Rattle.label_laws.proofs.Owing.{tells as tells_owed, nobody as nobody_owing}
-use Rattle.std.proofs.Common.{◌≡◌, ◌++◌, ◌∷◌, ◌∙◌, ◌+◌, ◌<◌, ◌^◌, List, ap, append_assoc, [], subst, true, sym, map, refl, ℕ, Some, count_by, sum_by}
+use Rattle.std.proofs.Common.{◌≡◌, ◌++◌, ◌∷◌, ◌∙◌, ◌+◌, ◌<◌, ◌^◌, List, ap, append_assoc, [], subst, true, sym, map, refl, ℕ, Some, count_by, arith}
 use Rattle.sfs_base.specs.Lists.{Roomy}
 use Rattle.space_map.specs.Space.{Space, shortage}
 use Rattle.space_map.specs.declared.fault.SpaceFault.TheVariants.{NoSpace}
+use Rattle.space_map.proofs.Free.{length-free_from}
 use Rattle.tree_laws.specs.declared.turns.Turn.{Turn}
-use Rattle.disk_change.specs.Planned.{Planned, enters, blocks_taken}
+use Rattle.disk_change.specs.Planned.{Planned, enters}
 use Rattle.cut_laws.specs.Closure.{Flush}
 use Rattle.cut_laws.specs.Rules.{IsOneOf}
 use Rattle.cut_laws.proofs.Basics.{in_left}
+use Rattle.look_laws.specs.Look.{Look}
+use Rattle.look_laws.specs.Beside.{Knows}
 use Rattle.beside_laws.specs.Commits.{CoreCommit}
 use Rattle.beside_laws.specs.Box.{BoxState}
 use Rattle.flush_laws.specs.Volume.{Volume}
@@ -28,20 +22,22 @@ use Rattle.merge_laws.proofs.Lists.{among_at}
 use Rattle.plan_laws.specs.Plans.{Sources, PlansFsync, beside}
 use Rattle.turn_ties.specs.Plans.{Planning}
 use Rattle.turn_ties.specs.Led.{planning_led}
+use Rattle.turn_ties.proofs.Fits.{blocks_low}
 use Rattle.turn_ties.proofs.Led.{led_plans_are_tied}
 use Rattle.bringing_laws.specs.Imagined.{Imagines}
 use Rattle.walk_laws.specs.Walk.{brought_under}
 use Rattle.walk_laws.specs.Pairs.{commit_under}
+use Rattle.map_laws.specs.Out.{IsMapWithOut, CountsBooks, books_out}
 use Rattle.map_laws.specs.Along.{LackTold, MapPlace, MapGoes, beside_at, TellsLack}
-use Rattle.map_laws.specs.Out.{CountsBooks, books_out}
-use Rattle.map_laws.proofs.Counted.{maps_count_books}
+use Rattle.map_laws.proofs.Counted.{few_inodes, maps_count_books}
 use Rattle.map_laws.proofs.Placed.{maps_go_along}
 use Rattle.reserve_laws.specs.Plans.{bringing_made}
 use Rattle.reserve_laws.specs.Looks.{CoreTells, LookBrings}
-use Rattle.reserve_laws.proofs.Looks.{looks_bring}
+use Rattle.reserve_laws.proofs.Looks.{knows, looks_bring}
 use Rattle.stamp_table.specs.declared.event.Event.{Event}
 use Rattle.stamp_table.specs.declared.event.Event.TheVariants.{Told}
 use Rattle.note_laws.specs.Joined.{BoxKnows}
+use Rattle.made_laws.specs.Tells.{commit_made}
 use Rattle.made_laws.specs.Made.{sources_of}
 use Rattle.tell_laws.specs.Tells.{MadePlace, MadeThere, entries_at}
 use Rattle.tell_laws.proofs.Telling.{mades_tell}
@@ -58,13 +54,15 @@ use Rattle.slot_laws.proofs.NodesBack.{labels_keep_the_box}
 use Rattle.label_laws.specs.Maps.{Numbered, past_of, commit_numbered, AreSameMaps}
 use Rattle.label_laws.specs.Beside.{stamps_under, brought_at}
 use Rattle.label_laws.specs.Own.{owes_nothing, OwesTurn, TellsBeside, owes_granted, owes_given_back, StandBeside, OwnOwed}
+use Rattle.label_laws.proofs.Drawn.{Drawing}
+use Rattle.label_laws.proofs.Owing.{tells as tells_owed, nobody as nobody_owing}
 use Rattle.label_laws.proofs.Along.{drawing_along, drawing_first}
 use Rattle.label_laws.proofs.Same.{same_count}
 use Rattle.fsync_commit.specs.Asked.{need_planned}
 use Rattle.named_laws.specs.Mount.{MountEnd, MountEnds, AreNamed, run_at}
 use Rattle.named_laws.proofs.Named.{mounts_are_named}
-use Rattle.along_laws.proofs.Places.{PlaceHere, place_behind, end_past, end_lands, goes_to_end, all_done, done_of_all, done_told, beside_there, disk_there, volume_there, told_labels}
-use Rattle.along_laws.proofs.Boxes.{ReservesHere, commits_under, unmoved_here, gives_here}
+use Rattle.along_laws.proofs.Places.{done_there, all_made, PlaceHere, place_behind, end_past, end_lands, goes_to_end, all_done, done_of_all, done_told, beside_there, disk_there, volume_there, told_labels}
+use Rattle.along_laws.proofs.Boxes.{made_of, ReservesHere, commits_under, unmoved_here, gives_here}
 use Rattle.mount_laws.proofs.Survives.{turns_of_mounts_end}
 use Rattle.recorded_laws.specs.Recorded.{TellsShort}
 use Rattle.recorded_laws.specs.Lacks.{LackMade, MadeLacksAreTold, MadeMountsAreRecorded}
@@ -264,9 +262,9 @@ module _ (D : Type 0) (at : MountEnd) (named : Numbered) (ends : MountEnds D at)
   abbrev map_place : Space → MapPlace
   map_place space = record { front = front; at = short.play; volume = volume; space = space }
 
-  counts : (space : Space) → MapGoes named.pairs at.told.first front space → CountsBooks space (books_out (beside_at (keeping_at D at named ends are) (map_place space)))
-  counts space goes =
-      maps_count_books (beside_at (keeping_at D at named ends are) (map_place space)) space
+  right_there : (space : Space) → MapGoes named.pairs at.told.first front space
+      → IsMapWithOut (beside_at (keeping_at D at named ends are) (map_place space)) space
+  right_there space goes =
       (maps_go_along (keeping_at D at named ends are) (map_place space) (record {
         begins = begins_map D at named ends are;
         plays = short.place.plays;
@@ -274,6 +272,9 @@ module _ (D : Type 0) (at : MountEnd) (named : Numbered) (ends : MountEnds D at)
         imagines = short.place.imagined.imagines;
         goes = goes;
       })).right
+
+  counts : (space : Space) → MapGoes named.pairs at.told.first front space → CountsBooks space (books_out (beside_at (keeping_at D at named ends are) (map_place space)))
+  counts space goes = maps_count_books (beside_at (keeping_at D at named ends are) (map_place space)) space (right_there space goes)
 
   drawn_goes : MapGoes named.pairs at.told.first front drawing.so.drawn
   drawn_goes = subst (λ t. MapGoes named.pairs at.told.first t drawing.so.drawn) front_is drawing.so.goes
@@ -295,10 +296,10 @@ module _ (D : Type 0) (at : MountEnd) (named : Numbered) (ends : MountEnds D at)
         planning = planning;
         plans = record { has = tied.has; touched = tied.touched; own = lack.flush_is };
         lacks = record {
-          small = record {
-            inodes = subst (λ (c : Planned). count_by enters c.seats < 2 ^ 32) led.led.leads.made lack.inodes;
-            blocks = subst (λ (c : Planned). sum_by blocks_taken c.seats < 2 ^ 32) led.led.leads.made lack.blocks;
-          };
+          inodes = subst (λ (c : Planned). count_by enters c.seats < 2 ^ 32) led.led.leads.made lack.inodes;
+          blocks = λ enough. blocks_low volume planning tied.has
+              (let few = few_inodes (beside_at (keeping_at D at named ends are) (map_place short.space)) short.space (right_there short.space short.goes) in
+              let long = length-free_from short.space.inodes.first short.space.inodes.statuses in omega (arith, enough, few, long));
           short = ap (λ (c : Planned). shortage short.space (need_planned c)) (sym led.led.leads.made) ∙ same_short;
         };
       }

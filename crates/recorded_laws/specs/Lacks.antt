@@ -1,13 +1,12 @@
 -- What a core made for an fsync that is refused for want of space, and that the turns of a mount tell so.
-use Rattle.fsync_commit.specs.Asked.{need_planned}
-use Rattle.space_map.specs.declared.fault.SpaceFault.TheVariants.{NoSpace}
-use Rattle.std.specs.Prelude.{◌≡◌, ◌++◌, ◌∷◌, ◌<◌, ◌^◌, ◌≤◌, List, ℕ, Some, count_by, sum_by}
+use Rattle.std.specs.Prelude.{◌≡◌, ◌++◌, ◌∷◌, ◌<◌, ◌^◌, ◌≤◌, List, ℕ, Some, count_by}
 use Rattle.sfs_base.specs.declared.numbers.SpaceKind.{SpaceKind}
 use Rattle.sfs_base.specs.declared.numbers.CoreId.{CoreId}
+use Rattle.space_map.specs.declared.fault.SpaceFault.TheVariants.{NoSpace}
 use Rattle.space_map.specs.Space.{Space, shortage}
 use Rattle.tree_laws.specs.declared.turns.Turn.{Turn}
 use Rattle.tree_laws.specs.declared.turns.TurnAct.TheVariants as act
-use Rattle.disk_change.specs.Planned.{enters, blocks_taken}
+use Rattle.disk_change.specs.Planned.{enters}
 use Rattle.cut_laws.specs.Closure.{Flush}
 use Rattle.cut_laws.specs.Rules.{IsOneOf}
 use Rattle.turn_laws.specs.Books.{flush_at}
@@ -27,6 +26,7 @@ use Rattle.slot_laws.specs.Labels.{past_from, first_past}
 use Rattle.slot_laws.specs.Grants.{SpaceGoes}
 use Rattle.disk_box.specs.declared.key.BoxKey.{BoxKey}
 use Rattle.label_laws.specs.Maps.{past_of, Numbered}
+use Rattle.fsync_commit.specs.Asked.{need_planned}
 use Rattle.flush_agrees.specs.Agreement.{FlushTold}
 use Rattle.flush_agrees.specs.Closing.{LacksAtEnd}
 use Rattle.flush_agrees.specs.Made.{SeesConcerned}
@@ -34,7 +34,7 @@ use Rattle.named_laws.specs.Mount.{IsFsyncAt, MountEnd, run_at, MountEnds, AreNa
 use Rattle.recorded_laws.specs.Recorded.{LacksAreTold}
 
 -- What a core made for the fsync of a turn, as a mount ends; and the place of its labels where the turn was noted: the nodes that the fsync concerns had not moved
--- there, and a map that has gone along the labels up to there has too little of this for what the plan needs, which fits words.
+-- there, and a map that has gone along the labels up to there has too little of this for what the plan needs; and a word counts the nodes that enter by it.
 pub record LackMade (at : MountEnd) (turn : Turn) (told : LackTold) : Type 0 where
   pub making : CoreMaking
   pub made_in : CoreMade (run_at at) making
@@ -50,7 +50,6 @@ pub record LackMade (at : MountEnd) (turn : Turn) (told : LackTold) : Type 0 whe
   pub space : Space
   pub goes : SpaceGoes at.told.layout front (first_past at.told.moment) at.told.first space
   pub inodes : count_by enters making.plan.change.seats < 2 ^ 32
-  pub blocks : sum_by blocks_taken making.plan.change.seats < 2 ^ 32
   pub short : shortage space (need_planned making.plan.change) ≡ Some (NoSpace told.kind told.asked told.have)
 
 -- So it is of each turn that tells a shortage.
@@ -76,13 +75,12 @@ abbrev pub lack_of : (D : Type 0) (at : MountEnd) (ends : MountEnds D at) (one :
 lack_of D at ends one there turn told among did =
     (ends.each there.core there.fsyncs there.there).agree.lacked one turn told.kind told.asked told.have there.among among did
 
--- What that does not say: the nodes that the fsync concerns had not moved where its turn was noted, a word has room for the blocks that its plan needs, and the
--- map that its pen's box was given is the one with which the labels begin.
+-- What that does not say: the nodes that the fsync concerns had not moved where its turn was noted, and the map that its pen's box was given is the one with
+-- which the labels begin.
 pub record LackKnew {D : Type 0} {run : TableRun} {key : BoxKey D} {labels : List (Event Label)} {flush : Flush} {turn : Turn} {kind : SpaceKind}
     {need free : ℕ} (at : MountEnd) (lack : LacksAtEnd run key labels flush turn kind need free) : Type 0 where
   pub unmoved : (node last : ℕ) → last_seen lack.seen node ≡ Some last
       → (past_from at.told.layout lack.front (first_past at.told.moment)).lasts node ≡ last_ended last
-  pub blocks : sum_by blocks_taken lack.making.plan.change.seats < 2 ^ 32
   pub space : key.space ≡ at.told.first
 
 -- So it is of each such turn.
