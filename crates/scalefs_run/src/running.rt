@@ -1,7 +1,6 @@
 // Phases of a script are run on a volume that is begun over a mounted disk and unmounted behind them.
 ghost use Rattle.std.specs.Prelude.{◌≡◌, ◌≤◌, IfErr, IfOk};
 ghost use Rattle.std.specs.List.{AllByRecursion};
-ghost use Rattle.sfs_dev.specs.Run.{Advances};
 ghost use Rattle.mount.specs.Phases.{HaveWorkers};
 ghost use Rattle.script.specs.Ready.{LinesMayRun};
 ghost use Rattle.volume_laws.specs.Mounting.{WasMounted};
@@ -45,7 +44,6 @@ pub fn run_begun<R: Threads + Wait + Sync, D: Disk + Drop, G: Gate>(
     ensures leaves { IfOk result (λ ran. (old : D) → WasMounted nodes begun (D.view old) (D.view disk)
         → LeavesRun nodes begun.tree (D.view old) (D.view ran.disk) ran.history ran.turns.items) }
     ensures calls { IfOk result (λ ran. HasCalls phases.now ran.history ran.ended) }
-    ensures advances { IfOk result (λ ran. Advances (D.view disk) (D.view ran.disk)) }
     ensures refused { IfErr result (λ left. left ≡ disk) }
 {
     let Mounted {
