@@ -1,7 +1,7 @@
 -- The image with which a run on many cores begins.
-use Rattle.std.proofs.Common.{◌≡◌, ℕ, List, [], Option, Some, None, IsSome, IsTrue, option_map, refl, sym, ap, subst, ◌∙◌, arith}
 use Rattle.std.specs.FinMap.{empty, get}
 use Rattle.std.specs.Prelude.{is_some, Contains}
+use Rattle.std.proofs.Common.{◌≡◌, ◌∙◌, ℕ, List, [], Option, Some, None, IsSome, option_map, refl, sym, ap, subst, arith, true, Bool}
 use Rattle.sfs_base.proofs.BasicOptions.{some_same}
 use Rattle.sfs_image.specs.Part.{Part}
 use Rattle.sfs_image.specs.Seen.{Seen, SeenInodes}
@@ -16,23 +16,23 @@ use Rattle.image_laws.specs.Image.{inodes_shown}
 use Rattle.image_laws.specs.Renamed.{Numbering}
 use Rattle.image_laws.specs.Stands.{inode_under, row_on, ShowsNode, StandsForTree}
 use Rattle.disk_nodes.specs.declared.old.OldEntry.{OldEntry}
+use Rattle.commit_laws.proofs.OwnInodes.{mapped_is_in}
+use Rattle.disk_tree.specs.KeptParts.{kept_in_use}
 use Rattle.cut_laws.specs.Closure.{none}
 use Rattle.cut_laws.specs.Cut.{Cut, cut_of, tree_at_cut}
 use Rattle.cut_laws.specs.LawsGrowth.{HasMoreNodes}
 use Rattle.cut_laws.proofs.Lists.{lists_keep}
 use Rattle.cut_laws.proofs.WholeHistory.{cut_trees_grow}
-use Rattle.commit_laws.proofs.OwnInodes.{mapped_is_in}
 use Rattle.crash_laws.proofs.Begins.{first_nodes}
+use Rattle.flush_laws.specs.Volume.{Volume}
 use Rattle.turn_laws.proofs.MoreNodes.{kind_more, bytes_more, links_more, row_more}
-use Rattle.turn_ties.specs.Plans.{image_held}
 use Rattle.recovery.specs.Freed.{AreUnlinkedFree, without_unlinked}
-use Rattle.disk_tree.specs.KeptParts.{kept_in_use}
-use Rattle.mount_begin.specs.Mounted.{entry_mounted, entries_mounted}
+use Rattle.mount_begin.specs.Mounted.{entry_mounted}
 use Rattle.mount_begin.specs.declared.begin.Mounted.{Mounted}
-use Rattle.flush_laws.specs.Volume.{Volume, tree_held}
 use Rattle.volume_laws.specs.Mounting.{WasMounted}
+use Rattle.turn_ties.specs.Plans.{image_held}
 use Rattle.begin_laws.specs.Begins.{HasBegun}
-use Rattle.scalefs_run.specs.Turns.{AreOfImage, HaveOwnNumbers, IsImageAtFirst}
+use Rattle.scalefs_run.specs.Turns.{HaveOwnNumbers, IsImageAtFirst}
 
 -- What stands for a tree with more nodes stands for the tree, where each node with a number is one of it.
 module _ (num : Numbering) (tree more : TreeState) (sound : IsSound tree) (has : HasMoreNodes tree more)

@@ -1,6 +1,6 @@
 -- The calls that the workers of a volume made, in the history that it leaves.
-use Rattle.std.proofs.Common.{◌≡◌, ℕ, suc, ◌<◌, ◌≤◌, List, [], ◌∷◌, length, cond, Some, Result, Ok, Err, inl, inr, refl, sym, ap, subst, ◌∙◌, arith}
 use Rattle.std.specs.Prelude.{OnErr, OnOk, filter, slice_get}
+use Rattle.std.proofs.Common.{◌≡◌, ◌≤◌, ◌∷◌, ◌∙◌, ℕ, suc, List, [], length, cond, Some, Result, Ok, Err, inl, inr, refl, sym, ap, subst, arith}
 use Rattle.std.proofs.lemmas.Bool.Decides.{eqb_tells}
 use Rattle.std.proofs.lemmas.Option.{slice_get_cases, slice_get_past}
 use Rattle.tree_laws.specs.declared.history.Entry.{Entry}
@@ -8,11 +8,11 @@ use Rattle.tree_laws.specs.History.{IsLegal, IsLegalFrom, tree_after_entry}
 use Rattle.tree_laws.specs.Merged.{is_core}
 use Rattle.tree_laws.specs.Tree.{TreeState}
 use Rattle.tree_laws.proofs.Cores.{cores_after}
-use Rattle.script.specs.declared.commands.Line.{Line}
-use Rattle.script.specs.Follows.{core_entries}
 use Rattle.workers.specs.Phases.{HasMadePhases, HasMadeSoFar, HasOwn}
 use Rattle.workers.specs.declared.worker.Worker.{Worker}
 use Rattle.mount.specs.Phases.{entries_of, own_of}
+use Rattle.script.specs.declared.commands.Line.{Line}
+use Rattle.script.specs.Follows.{core_entries}
 use Rattle.scalefs_run.specs.Ran.{HasCalls}
 
 -- a legal history has no entry of a core that its tree does not have

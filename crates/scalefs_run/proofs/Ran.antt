@@ -8,10 +8,10 @@ use Rattle.tree_laws.specs.declared.turns.Turn.{Turn}
 use Rattle.tree_laws.specs.Tree.{TreeState}
 use Rattle.turn_laws.specs.Need.{ImageState}
 use Rattle.turn_laws.specs.Recorded.{IsRecorded}
-use Rattle.turn_ties.specs.Plans.{image_held}
 use Rattle.mount_begin.specs.declared.begin.Mounted.{Mounted}
-use Rattle.begin_laws.specs.Begins.{HasBegun}
+use Rattle.turn_ties.specs.Plans.{image_held}
 use Rattle.disk_box.specs.Pens.{PenHand}
+use Rattle.begin_laws.specs.Begins.{HasBegun}
 use Rattle.workers.specs.declared.worker.Worker.{Worker}
 use Rattle.mount.specs.declared.volume.Volume.{Volume}
 use Rattle.mount.specs.Ends.{LeavesVolume}

@@ -1,9 +1,9 @@
 -- A history that is made again from the tree with which it began.
-use Rattle.std.proofs.Common.{◌≡◌, ℕ, zero, suc, ◌+◌, ◌<◌, ◌≤◌, List, [], ◌∷◌, length, drop, Option, Some, None, refl, sym, ap, subst, ◌∙◌, arith}
 use Rattle.std.specs.Prelude.{slice_get}
+use Rattle.std.proofs.Common.{◌≡◌, ◌<◌, ◌≤◌, ◌∷◌, ◌∙◌, ℕ, zero, suc, List, [], length, drop, Option, Some, None, refl, sym, ap, subst}
 use Rattle.std.proofs.Math.Seq.{take-length}
-use Rattle.sfs_base.proofs.BasicOptions.{none_some, some_same}
 use Rattle.sfs_base.specs.declared.numbers.NodeId.{NodeId}
+use Rattle.sfs_base.proofs.BasicOptions.{none_some, some_same}
 use Rattle.tree_laws.specs.declared.call.Call.TheVariants as call
 use Rattle.tree_laws.specs.declared.history.Entry.{Entry}
 use Rattle.tree_laws.specs.declared.reply.Code.{Code}
@@ -12,7 +12,7 @@ use Rattle.tree_laws.specs.Effect.{tree_with}
 use Rattle.tree_laws.specs.History.{IsLegalFrom, tree_after, tree_after_entry}
 use Rattle.tree_laws.specs.Laws.{IsSoundTree}
 use Rattle.tree_laws.specs.Tree.{TreeState, bytes_of}
-use Rattle.tree_laws.specs.Verdict.{answered, file_fault, or_else, tree_after_call, verdict}
+use Rattle.tree_laws.specs.Verdict.{answered, file_fault, or_else, tree_after_call}
 use Rattle.tree_laws.proofs.FileHistories.{bytes_at-tree_after}
 use Rattle.mark_laws.proofs.Short.{files_stay_short}
 use Rattle.scalefs_run.specs.Writing.{CanReplay}

@@ -1,11 +1,11 @@
 -- Where no worker is without a core, each has one.
-use Rattle.std.proofs.Common.{◌≡◌, ℕ, ◌<◌, ◌≤◌, true, false, cond, List, [], ◌∷◌, Option, Some, None, option_map, refl, sym, ap, ◌∙◌, arith, nat_le}
-use Rattle.std.proofs.lemmas.Bool.Decides.{nat_tests}
 use Rattle.std.specs.List.{find, AllByRecursion}
+use Rattle.std.specs.Option.{option_or}
+use Rattle.std.proofs.Common.{◌≡◌, ◌<◌, ◌∷◌, ◌∙◌, ℕ, true, false, cond, List, [], Some, None, option_map, refl, arith, nat_le}
+use Rattle.std.proofs.lemmas.Bool.Decides.{nat_tests}
 use Rattle.mount.specs.Phases.{HaveWorkers}
 use Rattle.script.specs.declared.commands.Line.{Line}
 use Rattle.scalefs_run.specs.WithoutCore.{worker_without_core, worker_without_core_in}
-use Rattle.std.specs.Option.{option_or}
 
 phase_within : (cores : ℕ) (phase : List Line) → worker_without_core_in cores phase ≡ None → HaveWorkers cores phase
 phase_within cores [] none = tt

@@ -1,16 +1,16 @@
 -- What a crash leaves of a run.
 use Rattle.std.specs.Prelude.{ℕ, Bool, true, false, List}
+use Rattle.sfs_image.specs.Settled.{layout_of}
 use Rattle.sfs_dev.specs.Disk.{View}
 use Rattle.sfs_dev.specs.Run.{CountsOn, EachMoment}
 use Rattle.sfs_dev.specs.Steps.{IfTold}
-use Rattle.sfs_image.specs.Settled.{layout_of}
+use Rattle.journal_one.specs.Calls.{IsCalm}
 use Rattle.tree_laws.specs.declared.history.Entry.{Entry}
 use Rattle.tree_laws.specs.declared.turns.Turn.{Turn}
 use Rattle.tree_laws.specs.Tree.{TreeState}
-use Rattle.journal_one.specs.Calls.{IsCalm}
+use Rattle.recovery.specs.Recovered.{ShowsTheSame}
 use Rattle.mount_begin.specs.Mounted.{share_of_nodes}
 use Rattle.mount.specs.Survives.{SurvivesSince}
-use Rattle.recovery.specs.Recovered.{ShowsTheSame}
 
 -- This holds of the image at the entry of a disk that told it and on which nothing was pending, while the count of its device calls has not
 -- come to its last value.

@@ -8,9 +8,9 @@ use Rattle.tree_laws.specs.declared.turns.Turn.{Turn}
 use Rattle.tree_laws.specs.History.{IsLegal}
 use Rattle.tree_laws.specs.Tree.{TreeState}
 use Rattle.mount_begin.specs.Mounted.{share_of_nodes}
+use Rattle.mount.specs.Survives.{SurvivesSince}
 use Rattle.script.specs.declared.commands.Line.{Line}
 use Rattle.script.specs.Follows.{Follows, FollowsSoFar}
-use Rattle.mount.specs.Survives.{SurvivesSince}
 use Rattle.scalefs_run.specs.Images.{IfToldAndCalm}
 use Rattle.scalefs_run.specs.Turns.{HasTurns}
 use Rattle.scalefs_run.specs.Writing.{CanReplay}

@@ -2,18 +2,19 @@
 use Rattle.std.specs.Prelude.{◌≡◌, ℕ, Bool, true, false, List, [], Option, Some}
 use Rattle.sfs_base.specs.Ends.{HasRisen}
 use Rattle.sfs_image.specs.Settled.{layout_of}
+use Rattle.sfs_dev.specs.Disk.{View}
+use Rattle.sfs_dev.specs.Run.{Unwritten}
+use Rattle.sfs_dev.specs.Steps.{IfTold}
 use Rattle.tree_laws.specs.declared.history.Entry.{Entry}
 use Rattle.tree_laws.specs.declared.turns.Turn.{Turn}
 use Rattle.tree_laws.specs.History.{IsLegal}
 use Rattle.tree_laws.specs.Laws.{IsSoundTree}
 use Rattle.tree_laws.specs.Tree.{TreeState}
-use Rattle.sfs_dev.specs.Disk.{View}
-use Rattle.sfs_dev.specs.Run.{Unwritten}
-use Rattle.sfs_dev.specs.Steps.{IfTold}
 use Rattle.image_laws.specs.Image.{tree_of}
 use Rattle.mount_begin.specs.Mounted.{share_of_nodes}
 use Rattle.script.specs.declared.commands.Line.{Line}
 use Rattle.script.specs.Phases.{phases_of}
+use Rattle.made_script.specs.Made.{made}
 use Rattle.scalefs_run.specs.declared.outcome.Status.{Status}
 use Rattle.scalefs_run.specs.declared.outcome.Status.TheVariants.{Done, WriteFault, NoMemory}
 use Rattle.scalefs_run.specs.Due.{Judgement, IsJudged, due, judged_status, phases_in}
@@ -24,7 +25,6 @@ use Rattle.scalefs_run.specs.Turns.{HasTurnsBy}
 use Rattle.scalefs_run.specs.Writing.{text_behind}
 use Rattle.scalefs_run.specs.declared.writing.Writing.{Writing}
 use Rattle.scalefs_run.specs.declared.writing.Writing.TheVariants.{History, Load}
-use Rattle.made_script.specs.Made.{made}
 
 -- Whether an image was mounted and the script begun, by the status of a run: memory may have been refused before, and then no call was made.
 abbrev pub IsMountedBy : Status → List Entry → Bool → Type 0

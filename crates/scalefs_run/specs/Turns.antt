@@ -1,27 +1,27 @@
 -- What the turns at the disk tell of a run.
-use Rattle.std.specs.Prelude.{◌≡◌, ℕ, ◌≤◌, Bool, true, false, List, [], is_some, Some}
+use Rattle.std.specs.Prelude.{◌≡◌, ◌≤◌, ℕ, Bool, true, false, List, [], is_some, Some}
 use Rattle.std.specs.FinMap.{empty, get}
 use Rattle.sfs_image.specs.ImageOf.{IsImageOf}
 use Rattle.sfs_image.specs.Part.{Part}
 use Rattle.sfs_image.specs.Settled.{layout_of, parts_of}
 use Rattle.sfs_image.specs.Super.{Layout}
+use Rattle.sfs_dev.specs.Disk.{View}
+use Rattle.sfs_dev.specs.Steps.{IfTold}
+use Rattle.commit_one.specs.Change.{nothing_open}
 use Rattle.tree_laws.specs.declared.history.Entry.{Entry}
 use Rattle.tree_laws.specs.declared.turns.Turn.{Turn}
 use Rattle.tree_laws.specs.Tree.{TreeState}
-use Rattle.sfs_dev.specs.Disk.{View}
-use Rattle.sfs_dev.specs.Steps.{IfTold}
 use Rattle.image_laws.specs.Image.{inodes_shown}
 use Rattle.image_laws.specs.Renamed.{Numbering}
 use Rattle.image_laws.specs.Stands.{StandsForTree}
-use Rattle.commit_one.specs.Change.{nothing_open}
 use Rattle.cut_laws.specs.Cut.{tree_at_cut}
-use Rattle.recovery.specs.Freed.{AreUnlinkedFree}
 use Rattle.turn_laws.specs.Need.{ImageState}
 use Rattle.turn_laws.specs.Recorded.{IsRecorded}
 use Rattle.turn_laws.specs.Ways.{EachGoes}
 use Rattle.merge_laws.specs.LeftByTurns.{TellInTime}
-use Rattle.slot_image_laws.specs.Run.{RisesFrom}
 use Rattle.space_laws.specs.Laws.{state_of_parts}
+use Rattle.recovery.specs.Freed.{AreUnlinkedFree}
+use Rattle.slot_image_laws.specs.Run.{RisesFrom}
 use Rattle.scalefs_run.specs.Images.{IfToldAndCalm}
 
 -- a layout and parts are an image's: its layout, and its settled parts but for orphans, which are freed

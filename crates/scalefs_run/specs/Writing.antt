@@ -1,11 +1,11 @@
 -- What a run writes at its end.
-use Rattle.std.specs.Prelude.{ℕ, List, ◌++◌, codes, decimal, length}
+use Rattle.std.specs.Prelude.{◌++◌, ℕ, List, codes, decimal, length}
 use Rattle.tree_laws.specs.declared.history.Entry.{Entry}
 use Rattle.tree_laws.specs.History.{tree_after}
 use Rattle.tree_laws.specs.Tree.{TreeState}
-use Rattle.mark_laws.specs.Changed.{HasShortFiles}
-use Rattle.raise_laws.specs.Next.{IsMountedHistory}
 use Rattle.tree_totals.specs.Totals.{total_bytes, total_rows}
+use Rattle.raise_laws.specs.Next.{IsMountedHistory}
+use Rattle.mark_laws.specs.Changed.{HasShortFiles}
 use Rattle.script.specs.Texts.{history_text}
 use Rattle.scalefs_run.specs.declared.writing.Ending.{Ending}
 use Rattle.scalefs_run.specs.declared.writing.Ending.TheVariants as ending
