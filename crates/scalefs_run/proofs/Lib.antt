@@ -9,5 +9,6 @@ mod Reading
 pub mod Replayed
 pub mod Serving
 mod Telling
+pub mod Told
 mod Unread
 pub mod Within

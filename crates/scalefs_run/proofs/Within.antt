@@ -1,7 +1,7 @@
 -- Where no worker is without a core, each has one.
 use Rattle.std.specs.List.{find, AllByRecursion}
 use Rattle.std.specs.Option.{option_or}
-use Rattle.std.proofs.Common.{◌≡◌, ◌<◌, ◌∷◌, ◌∙◌, ℕ, true, false, cond, List, [], Some, None, option_map, refl, arith, nat_le}
+use Rattle.std.proofs.Common.{◌≡◌, ◌<◌, ◌∷◌, ◌∙◌, ℕ, true, false, cond, List, [], Some, None, option_map, refl, arith, nat_le, All, suc}
 use Rattle.std.proofs.lemmas.Bool.Decides.{nat_tests}
 use Rattle.mount.specs.Phases.{HaveWorkers}
 use Rattle.script.specs.declared.commands.Line.{Line}
@@ -28,3 +28,8 @@ within_all cores (phase ∷ phases) none =
       | Some worker ↦ λ o e. absurd (let never : Some worker ≡ None = e in cc)
       | None ↦ λ o e. (phase_within cores phase o, within_all cores phases e)
     ] refl none
+
+-- what holds of each element does so by recursion
+pub by_recursion : {X : Type 0} (P : X → Type 0) (xs : List X) → All P xs → AllByRecursion P xs
+by_recursion P [] all = tt
+by_recursion P (x ∷ xs) all = (all 0 x (omega arith), by_recursion P xs (λ k d within. all (suc k) d (omega (arith, within))))
