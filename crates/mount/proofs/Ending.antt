@@ -34,18 +34,18 @@ use Rattle.disk_box.specs.Box.{LawfulBox}
 use Rattle.label_laws.specs.Beside.{BeginsLabels}
 use Rattle.site_laws.specs.Sites.{IsSiteMount}
 use Rattle.site_laws.proofs.Sites.{mounts_are_sites}
-use Rattle.begin_laws.specs.Begins.{HasBegun}
-use Rattle.begin_laws.proofs.Begins.{mounts_begin_labels}
-use Rattle.begin_laws.proofs.Rests.{closed_pens_rest}
+use Rattle.end_laws.specs.Begins.{HasBegun}
+use Rattle.end_laws.proofs.Begins.{mounts_begin_labels}
+use Rattle.end_laws.proofs.Rests.{closed_pens_rest}
 use Rattle.flush_agrees.specs.Agreement.{FlushTold, run_to, CoresAgree}
 use Rattle.flush_agrees.specs.Closing.{MountLogs, ReachesEnd}
-use Rattle.named_laws.specs.Mount.{MountEnd, BeginsAt, MountEnds}
-use Rattle.named_laws.specs.Reaches.{MountReaches}
-use Rattle.named_laws.proofs.Reaches.{mounts_reach_ends}
-use Rattle.frees_laws.specs.Agreed.{CoresEnd}
-use Rattle.frees_laws.specs.Kept.{AreWellKept}
-use Rattle.frees_laws.proofs.Mounted.{mounts_keep_well}
-use Rattle.frees_laws.proofs.Agreed.{agreed_free_nothing}
+use Rattle.end_laws.specs.Mount.{MountEnd, BeginsAt, MountEnds}
+use Rattle.end_laws.specs.Reaches.{MountReaches}
+use Rattle.end_laws.proofs.Reaches.{mounts_reach_ends}
+use Rattle.end_laws.specs.Agreed.{CoresEnd}
+use Rattle.end_laws.specs.Kept.{AreWellKept}
+use Rattle.end_laws.proofs.Mounted.{mounts_keep_well}
+use Rattle.end_laws.proofs.Agreed.{agreed_free_nothing}
 use Rattle.workers.specs.declared.worker.Worker.{Worker}
 use Rattle.workers.specs.Works.{Rests}
 use Rattle.mount.specs.declared.volume.Volume.{Volume}

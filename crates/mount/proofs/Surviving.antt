@@ -20,13 +20,13 @@ use Rattle.slot_image_laws.specs.Run.{BeganWith, RisesFrom}
 use Rattle.disk_box.specs.Pens.{PenHand}
 use Rattle.disk_box.specs.declared.key.BoxKey.{BoxKey}
 use Rattle.close_laws.specs.Close.{TellsAll}
-use Rattle.begin_laws.specs.Begins.{HasBegun, HoldsStart}
-use Rattle.begin_laws.proofs.Rests.{closed_disks_began}
+use Rattle.end_laws.specs.Begins.{HasBegun, HoldsStart}
+use Rattle.end_laws.proofs.Rests.{closed_disks_began}
 use Rattle.flush_agrees.specs.Closing.{pen_fsyncs}
-use Rattle.named_laws.specs.Mount.{MountEnd, MountEnds}
+use Rattle.end_laws.specs.Mount.{MountEnd, MountEnds}
 use Rattle.label_laws.specs.Maps.{past_of}
-use Rattle.mount_laws.specs.Survives.{DiskEnds}
-use Rattle.mount_laws.proofs.Survives.{turns_of_mounts_end, mounts_survive}
+use Rattle.end_laws.specs.Survives.{DiskEnds}
+use Rattle.end_laws.proofs.Survives.{turns_of_mounts_end, mounts_survive}
 use Rattle.workers.specs.declared.worker.Worker.{Worker}
 use Rattle.mount.specs.declared.volume.Volume.{Volume}
 use Rattle.mount.specs.Volume.{IsMountOfDisk}

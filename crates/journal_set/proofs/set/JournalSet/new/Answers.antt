@@ -101,3 +101,10 @@ disk_of-requires-clause-one g c κs within =
     c.push_reserved.ensures.items ∙ ap (λ l. l ++ Some (Some desk) ∷ []) fresh.cells_none
     in
     (desk, c.in-Err.ensures.back ∙ items)
+
+pub returns-in-Ok-make_of_slots-clause-began : goal.returns-in-Ok-make_of_slots-clause-began
+returns-in-Ok-make_of_slots-clause-began g c = record {
+  first = c.of.result;
+  told = ap (λ (k : BoxKey _). k.first) (c.in-Ok-make_of_slots.ensures.table.given_is ∙ c.of-given.ensures);
+  is = c.of.ensures;
+}

@@ -1,5 +1,0 @@
-use Rattle.along_laws.proofs.Telling.{named_tell_along as law}
-use Rattle.along_laws.proofs.laws.named_tell_along.Goals as goal
-
-pub returns : goal.returns
-returns g c = law _

@@ -1,4 +1,0 @@
-//! That cores tell of their pairs along the labels of a mount.
-#![tactic(auto)]
-
-pub mod laws;

@@ -1,5 +1,0 @@
-use Rattle.begin_laws.proofs.Begins.{begun_disks_go_on as law}
-use Rattle.begin_laws.proofs.laws.begun_disks_go_on.Goals as goal
-
-pub returns : goal.returns
-returns g c = law (g.D.Disk.view c.args.disk.now) (g.D.Disk.view c.args.later.now)

@@ -1,5 +1,0 @@
-use Rattle.begin_laws.proofs.Rests.{closed_pens_rest as law}
-use Rattle.begin_laws.proofs.laws.closed_pens_rest.Goals as goal
-
-pub returns : goal.returns
-returns g c = law g.D.Disk.view

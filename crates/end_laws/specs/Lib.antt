@@ -1,0 +1,12 @@
+pub mod Fitting
+pub mod Mount
+pub mod Laws
+pub mod Reaches
+pub mod Along
+pub mod Survives
+pub mod Kept
+pub mod Frees
+pub mod Runs
+pub mod Agreed
+pub mod Begins
+pub mod Rests

@@ -1,0 +1,4 @@
+//! What a mount of many cores comes to where it ends.
+#![tactic(auto)]
+
+pub mod laws;

@@ -1,4 +1,0 @@
-//! What a core made for its fsyncs fits what commits bring.
-#![tactic(auto)]
-
-pub mod laws;

@@ -1,9 +1,0 @@
-pub mod Unwritten
-pub mod Rewritten
-pub mod Frees
-pub mod Mounted
-pub mod Left
-pub mod Runs
-pub mod Reserved
-pub mod Told
-pub mod Agreed

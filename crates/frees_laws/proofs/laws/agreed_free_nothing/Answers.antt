@@ -1,5 +1,0 @@
-use Rattle.frees_laws.proofs.Agreed.{agreed_free_nothing as law}
-use Rattle.frees_laws.proofs.laws.agreed_free_nothing.Goals as goal
-
-pub returns : goal.returns
-returns g c = law _

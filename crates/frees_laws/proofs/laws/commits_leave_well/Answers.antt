@@ -1,5 +1,0 @@
-use Rattle.frees_laws.proofs.Left.{commits_leave_well as law}
-use Rattle.frees_laws.proofs.laws.commits_leave_well.Goals as goal
-
-pub returns : goal.returns
-returns c = law

@@ -1,5 +1,0 @@
-use Rattle.frees_laws.proofs.Mounted.{mounts_keep_well as law}
-use Rattle.frees_laws.proofs.laws.mounts_keep_well.Goals as goal
-
-pub returns : goal.returns
-returns c = law

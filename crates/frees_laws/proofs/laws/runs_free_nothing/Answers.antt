@@ -1,5 +1,0 @@
-use Rattle.frees_laws.proofs.Runs.{runs_free_nothing as law}
-use Rattle.frees_laws.proofs.laws.runs_free_nothing.Goals as goal
-
-pub returns : goal.returns
-returns c = law

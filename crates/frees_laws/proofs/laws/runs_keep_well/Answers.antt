@@ -1,5 +1,0 @@
-use Rattle.frees_laws.proofs.Runs.{runs_keep_well as law}
-use Rattle.frees_laws.proofs.laws.runs_keep_well.Goals as goal
-
-pub returns : goal.returns
-returns c = law

@@ -1,4 +1,0 @@
-pub mod Kept
-pub mod Frees
-pub mod Runs
-pub mod Agreed

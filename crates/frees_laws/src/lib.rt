@@ -1,4 +1,0 @@
-//! A commit that writes nothing gives nothing up.
-#![tactic(auto)]
-
-pub mod laws;

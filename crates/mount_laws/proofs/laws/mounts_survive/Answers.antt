@@ -1,5 +1,0 @@
-use Rattle.mount_laws.proofs.Survives.{mounts_survive as law}
-use Rattle.mount_laws.proofs.laws.mounts_survive.Goals as goal
-
-pub returns : goal.returns
-returns g c = law _ (g.D.Disk.view c.args.disk.now)

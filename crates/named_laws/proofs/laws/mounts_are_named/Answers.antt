@@ -1,5 +1,0 @@
-use Rattle.named_laws.proofs.Named.{mounts_are_named as law}
-use Rattle.named_laws.proofs.laws.mounts_are_named.Goals as goal
-
-pub returns : goal.returns
-returns g c = law _

@@ -1,5 +1,0 @@
-use Rattle.named_laws.proofs.Reaches.{mounts_reach_ends as law}
-use Rattle.named_laws.proofs.laws.mounts_reach_ends.Goals as goal
-
-pub returns : goal.returns
-returns g c = law _

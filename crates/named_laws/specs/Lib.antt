@@ -1,3 +1,0 @@
-pub mod Mount
-pub mod Laws
-pub mod Reaches
