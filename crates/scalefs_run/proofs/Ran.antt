@@ -11,7 +11,7 @@ use Rattle.turn_laws.specs.Recorded.{IsRecorded}
 use Rattle.mount_begin.specs.declared.begin.Mounted.{Mounted}
 use Rattle.turn_ties.specs.Plans.{image_held}
 use Rattle.disk_box.specs.Pens.{PenHand}
-use Rattle.begin_laws.specs.Begins.{HasBegun}
+use Rattle.end_laws.specs.Begins.{HasBegun}
 use Rattle.workers.specs.declared.worker.Worker.{Worker}
 use Rattle.mount.specs.declared.volume.Volume.{Volume}
 use Rattle.mount.specs.Ends.{LeavesVolume}
