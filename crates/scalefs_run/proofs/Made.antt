@@ -2,14 +2,22 @@
 use Rattle.std.specs.Prelude.{OnErr, OnOk, filter, slice_get}
 use Rattle.std.proofs.Common.{◌≡◌, ◌≤◌, ◌∷◌, ◌∙◌, ℕ, suc, List, [], length, cond, Some, Result, Ok, Err, inl, inr, refl, sym, ap, subst, arith}
 use Rattle.std.proofs.lemmas.Bool.Decides.{eqb_tells}
+use Rattle.std.proofs.lemmas.List.{length-map}
 use Rattle.std.proofs.lemmas.Option.{slice_get_cases, slice_get_past}
+use Rattle.sfs_dev.specs.Disk.{View}
 use Rattle.tree_laws.specs.declared.history.Entry.{Entry}
+use Rattle.tree_laws.specs.declared.turns.Turn.{Turn}
 use Rattle.tree_laws.specs.History.{IsLegal, IsLegalFrom, tree_after_entry}
 use Rattle.tree_laws.specs.Merged.{is_core}
 use Rattle.tree_laws.specs.Tree.{TreeState}
 use Rattle.tree_laws.proofs.Cores.{cores_after}
+use Rattle.disk_box.specs.Pens.{PenHand}
 use Rattle.workers.specs.Phases.{HasMadePhases, HasMadeSoFar, HasOwn}
 use Rattle.workers.specs.declared.worker.Worker.{Worker}
+use Rattle.mount.specs.Ends.{LeavesVolume}
+use Rattle.mount.specs.Volume.{IsVolume}
+use Rattle.mount.specs.Workers.{AreWorkers, core_of}
+use Rattle.mount.specs.declared.volume.Volume.{Volume}
 use Rattle.mount.specs.Phases.{entries_of, own_of}
 use Rattle.script.specs.declared.commands.Line.{Line}
 use Rattle.script.specs.Follows.{core_entries}
@@ -62,4 +70,14 @@ pub has_calls : {P V F : Type 0} (first : TreeState) (history : List Entry) (wor
 has_calls first history workers phases ended is ok err = record {
   ok = on_ok ended (λ made. made history is.legal (has_own first history workers is)) ok;
   err = on_err ended (λ made. made history is.legal (has_own first history workers is)) err;
+}
+
+-- the history that a volume leaves is of its workers
+pub of_workers : {D : Type 0} (view : D → View) (volume : Volume D) (workers : List (Worker (PenHand D))) (left : D) (history : List Entry)
+    (turns : List Turn) → IsVolume volume → AreWorkers volume workers → LeavesVolume view volume workers left history turns
+    → IsOfWorkers volume.shared.first history workers
+of_workers view volume workers left history turns is are leaves = record {
+  legal = leaves.legal;
+  cores = sym (length-map workers core_of) ∙ (are.all.count ∙ (is.table_cores ∙ is.site.cores_are));
+  own = leaves.own;
 }

@@ -10,13 +10,15 @@ use Rattle.turn_laws.specs.Need.{ImageState}
 use Rattle.turn_laws.specs.Recorded.{IsRecorded}
 use Rattle.mount_begin.specs.declared.begin.Mounted.{Mounted}
 use Rattle.turn_ties.specs.Plans.{image_held}
+use Rattle.slot_image_laws.specs.Run.{KeepsLaws}
 use Rattle.disk_box.specs.Pens.{PenHand}
 use Rattle.end_laws.specs.Begins.{HasBegun}
 use Rattle.workers.specs.declared.worker.Worker.{Worker}
 use Rattle.mount.specs.declared.volume.Volume.{Volume}
 use Rattle.mount.specs.Ends.{LeavesVolume}
 use Rattle.mount.specs.Survives.{VolumeSurvives}
-use Rattle.mount.specs.Volume.{IsMountOfDisk}
+use Rattle.mount.specs.Volume.{IsMountOfDisk, IsVolume}
+use Rattle.mount.specs.Workers.{AreWorkers}
 use Rattle.scalefs_run.specs.Ran.{LeavesRun}
 use Rattle.scalefs_run.specs.Turns.{IsImageAtFirst}
 use Rattle.scalefs_run.specs.Writing.{CanReplay}
@@ -26,6 +28,13 @@ use Rattle.scalefs_run.proofs.AtFirst.{image_at_first}
 pub record RecordsAre (nodes : ℕ) (begun : Mounted) (old mid new : View) (history : List Entry) (turns : List Turn) : Type 0 where
   pub has : HasBegun nodes begun history old mid
   pub recorded : IsRecorded begun.tree history (image_held has.start) old.faults new.faults turns
+
+-- So it is of each volume that was mounted and was unmounted with all workers at rest.
+abbrev pub UnmountedAreRecorded : {D : Type 0} → (D → View) → Type 0
+UnmountedAreRecorded {D} view = (volume : Volume D) (workers : List (Worker (PenHand D))) (left : D) (history : List Entry) (turns : List Turn)
+    → ((disk : D) → KeepsLaws (view disk)) → IsVolume volume → AreWorkers volume workers → LeavesVolume view volume workers left history turns
+    → (nodes : ℕ) (disk : D) (mounted : IsMountOfDisk view nodes disk volume)
+    → RecordsAre nodes mounted.begun (view disk) (view mounted.left) (view left) history turns
 
 -- A volume was mounted of a disk with so many new nodes and was unmounted, and its turns are recorded.
 pub record EndsMount {D : Type 0} (view : D → View) (nodes : ℕ) (disk left : D) (volume : Volume D) (history : List Entry) (turns : List Turn) : Type 0 where
