@@ -15,7 +15,9 @@ use Rattle.tree_laws.specs.Tree.{TreeState, bytes_of}
 use Rattle.tree_laws.specs.Verdict.{answered, file_fault, or_else, tree_after_call}
 use Rattle.tree_laws.proofs.FileHistories.{bytes_at-tree_after}
 use Rattle.mark_laws.proofs.Short.{files_stay_short}
-use Rattle.scalefs_run.specs.Writing.{CanReplay}
+use Rattle.scalefs_run.specs.Writing.{CanEnd, CanReplay, ending_of, text_behind, text_due}
+use Rattle.scalefs_run.specs.declared.writing.Writing.{Writing}
+use Rattle.scalefs_run.specs.declared.writing.Writing.TheVariants.{History, Load}
 
 -- an answer or an error leaves a tree as it is
 answers_stay : (tree : TreeState) (core : ℕ) (fault : Option Code) (reply : Reply)
@@ -78,3 +80,13 @@ short_after first history can node =
     (subst (λ (l : List ℕ). length l ≤ 67551232)
     (bytes_at-tree_after first history node (length history) can.mounted.sound can.mounted.legal)
     (files_stay_short first history can.mounted can.short node (length history)))
+
+-- the text that is due by what was kept of a tree is the text behind it
+pub text_is : (writing : Writing) (first : TreeState) (history : List Entry) → text_due (ending_of writing first) history ≡ text_behind writing first history
+text_is History first history = refl
+text_is (Load seed count workers) first history = refl
+
+-- and by that the history may be made again
+pub can_end : (writing : Writing) (first : TreeState) (history : List Entry) → CanReplay first history → CanEnd (ending_of writing first) history
+can_end History first history can = tt
+can_end (Load seed count workers) first history can = can

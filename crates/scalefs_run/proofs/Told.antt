@@ -1,5 +1,6 @@
 -- What a call told that made no calls, and what a mount was.
 use Rattle.std.proofs.Common.{◌≡◌, List, [], sym, subst, ℕ}
+use Rattle.sfs_base.specs.Lists.{Roomy}
 use Rattle.sfs_dev.specs.Disk.{View}
 use Rattle.sfs_dev.specs.Run.{Advances, CountsOn, EachMoment}
 use Rattle.sfs_dev.specs.Steps.{IfTold}
@@ -29,6 +30,15 @@ told_none {D = D} P outcome status disk has is =
     (subst (λ (l : List Turn). P disk (run_told outcome.status outcome.history l)) (sym has.turns)
     (subst (λ (h : List Entry). P disk (run_told outcome.status h [])) (sym has.history)
     (subst (λ (s : Status). P disk (run_told s [] [])) (sym has.status_is) is)))
+
+-- what is so of calls that were made is so of the outcome that has them
+pub told_kept : {D : Type 0} (P : D → RunTold → Type 0) (outcome : Outcome D) (history : List Entry) (turns : Roomy Turn) (disk : D)
+    → outcome.history ≡ history → outcome.turns ≡ turns → outcome.disk ≡ disk → P disk (run_told outcome.status history turns.items)
+    → P outcome.disk (run_told outcome.status outcome.history outcome.turns.items)
+told_kept {D = D} P outcome history turns disk same_history same_turns same_disk is =
+    subst (λ (d : D). P d (run_told outcome.status outcome.history outcome.turns.items)) (sym same_disk)
+    (subst (λ (t : Roomy Turn). P disk (run_told outcome.status outcome.history t.items)) (sym same_turns)
+    (subst (λ (h : List Entry). P disk (run_told outcome.status h turns.items)) (sym same_history) is))
 
 -- a mount that ended with an Ok
 pub was_mounted : (nodes : ℕ) (begun : Mounted) (old new : View) → IfTold old.content (λ image. IsMountOf nodes image begun)

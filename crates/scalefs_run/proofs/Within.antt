@@ -1,7 +1,9 @@
 -- Where no worker is without a core, each has one.
 use Rattle.std.specs.List.{find, AllByRecursion}
 use Rattle.std.specs.Option.{option_or}
-use Rattle.std.proofs.Common.{◌≡◌, ◌<◌, ◌∷◌, ◌∙◌, ℕ, true, false, cond, List, [], Some, None, option_map, refl, arith, nat_le, All, suc}
+use Rattle.std.proofs.Common.{◌≡◌, ◌<◌, ◌∷◌, ◌++◌, ◌∙◌, ℕ, suc, true, false, cond, List, [], All, Some, None, length, take, drop, option_map, append-nil, refl, sym, ap, arith, nat_le}
+use Rattle.std.proofs.Math.ListN.{drop_of_length-le}
+use Rattle.std.proofs.Math.Seq.{take-length}
 use Rattle.std.proofs.lemmas.Bool.Decides.{nat_tests}
 use Rattle.mount.specs.Phases.{HaveWorkers}
 use Rattle.script.specs.declared.commands.Line.{Line}
@@ -33,3 +35,10 @@ within_all cores (phase ∷ phases) none =
 pub by_recursion : {X : Type 0} (P : X → Type 0) (xs : List X) → All P xs → AllByRecursion P xs
 by_recursion P [] all = tt
 by_recursion P (x ∷ xs) all = (all 0 x (omega arith), by_recursion P xs (λ k d within. all (suc k) d (omega (arith, within))))
+
+-- what is written back over a whole list is what was written
+pub written_back : {X : Type 0} (count : ℕ) (new old : List X) → length new ≡ length old → count ≡ length old
+    → take count (new ++ drop (length new) old) ≡ new
+written_back count new old same is =
+    ap (take count) (ap (λ l. new ++ l) (drop_of_length-le old (omega (arith, same))) ∙ append-nil new)
+    ∙ (ap (λ n. take n new) (is ∙ sym same) ∙ take-length new)

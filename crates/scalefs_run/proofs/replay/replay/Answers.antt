@@ -4,8 +4,8 @@ use Rattle.std.proofs.lemmas.Option.{slice_get_within}
 use Rattle.scalefs_run.proofs.Replayed.{ReplayedTo, replay_begins, replays_all, replays_core, replays_one}
 use Rattle.scalefs_run.proofs.replay.replay.Goals as goal
 
-pub loop-entry-starts : goal.loop-entry-starts
-loop-entry-starts c = record {
+pub loop-entry-init : goal.loop-entry-init
+loop-entry-init c = record {
   to = subst (λ n. ReplayedTo c.args.tree c.args.history.now n c.args.tree) (sym c.first-cursor.ensures)
       (replay_begins c.args.tree c.args.history.now c.requires);
   within = omega (arith, c.first-cursor.ensures);

@@ -5,7 +5,7 @@ use Rattle.scalefs_run.proofs.replay.replay.Given as goal
 -- the entries before the cursor were made again
 abbrev pub invariant-loop-entry : goal.invariant-loop-entry
 invariant-loop-entry l = record {
-  to : ReplayedTo l.tree l.history l.cursor l.after;
+  to : ReplayedTo l.fn.tree l.history l.cursor l.after;
   within : l.cursor ≤ length l.history;
 }
 
