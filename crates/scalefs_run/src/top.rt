@@ -137,7 +137,16 @@ fn serve_source<R: Threads + Wait + Sync, S: Source, K: Sink, D: Disk + Drop + S
     ensures advances { Advances (D.view disk) (D.view result.disk) }
 {
     match read_script(alloc, source) {
-        Ok(script) => serve_script(rt, alloc, nodes, &script, Writing::History, sink, disk, gate),
+        Ok(script) => serve_script(
+            rt,
+            alloc,
+            nodes,
+            &script,
+            Writing::History,
+            sink,
+            disk,
+            gate,
+        ),
         Err(status) => no_calls(alloc, status, disk),
     }
 }

@@ -58,12 +58,7 @@ pub fn begin_writing(writing: Writing, tree: &Tree) -> Result<Ending, NoMemory>
 }
 
 /// Writes what is due of a history.
-pub fn write_end<K: Sink>(
-    alloc: Global,
-    ending: Ending,
-    history: &History,
-    sink: &mut K,
-) -> Status
+pub fn write_end<K: Sink>(alloc: Global, ending: Ending, history: &History, sink: &mut K) -> Status
     requires ready { CanEnd ending history.now }
     ensures status { IsWriteStatus (HasRisen (K.faults sink.old) (K.faults sink.new)) result }
     ensures text { HasText (text_due ending history.now) (K.written sink.old) (K.written sink.new) result }

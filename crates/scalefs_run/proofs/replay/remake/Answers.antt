@@ -1,5 +1,5 @@
 -- A read leaves the tree as it is, and each other call may be made again.
-use Rattle.std.proofs.Common.{◌≡◌, sym, ap, ◌∙◌}
+use Rattle.std.proofs.Common.{sym, ap, ◌∙◌}
 use Rattle.tree_laws.specs.declared.call.Call.{Call}
 use Rattle.tree_laws.specs.Verdict.{tree_after_call}
 use Rattle.scalefs_run.proofs.Replayed.{reads_stay}

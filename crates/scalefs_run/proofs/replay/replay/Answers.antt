@@ -1,5 +1,5 @@
 -- Entry by entry the tree after the history is made again.
-use Rattle.std.proofs.Common.{◌≡◌, ℕ, ◌+◌, sym, subst, arith}
+use Rattle.std.proofs.Common.{sym, subst, arith}
 use Rattle.std.proofs.lemmas.Option.{slice_get_within}
 use Rattle.scalefs_run.proofs.Replayed.{ReplayedTo, replay_begins, replays_all, replays_core, replays_one}
 use Rattle.scalefs_run.proofs.replay.replay.Goals as goal

@@ -1,5 +1,5 @@
 -- A history has the calls that belong to its status.
-use Rattle.std.proofs.Common.{List, OnErr, OnOk, Result, sym, subst}
+use Rattle.std.proofs.Common.{OnErr, OnOk, Result, sym, subst}
 use Rattle.script.specs.Follows.{Follows, FollowsSoFar}
 use Rattle.scalefs_run.specs.Outcome.{HasHistory}
 use Rattle.scalefs_run.proofs.Serving.{write_history}

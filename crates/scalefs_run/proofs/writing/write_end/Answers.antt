@@ -1,5 +1,5 @@
 -- The tree after the history is had by making it again.
-use Rattle.std.proofs.Common.{◌≡◌, ◌≤◌, ℕ, List, length, sym, ap, subst, ◌∙◌}
+use Rattle.std.proofs.Common.{◌≤◌, ℕ, List, length, sym, ap, subst, ◌∙◌}
 use Rattle.tree_laws.specs.Tree.{TreeState, bytes_of}
 use Rattle.scalefs_run.specs.Outcome.{HasText}
 use Rattle.scalefs_run.specs.Writing.{CanEnd, load_text, text_due}
