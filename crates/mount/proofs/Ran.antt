@@ -61,7 +61,7 @@ no_commands cores core (line ∷ phase) have past = elim (eqb_tells line.worker 
 ]
 
 -- what a list is mapped to at a place
-there_too : {P : Type 0} (workers : List (Worker P)) (k : ℕ) (worker : Worker P) → slice_get workers k ≡ Some worker
+pub there_too : {P : Type 0} (workers : List (Worker P)) (k : ℕ) (worker : Worker P) → slice_get workers k ≡ Some worker
     → slice_get (map core_of workers) k ≡ Some worker.core
 there_too [] k worker there = absurd (let low = slice_get_within [] k worker there in omega (arith, low))
 there_too (w ∷ workers) zero worker there = (let same : w ≡ worker = cc (there) in ap (λ (x : Worker _). Some x.core) same)
