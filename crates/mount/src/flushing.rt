@@ -57,7 +57,7 @@ pub fn serve<R: Wait, D: Disk + Drop, G: Gate>(
 
 /// Runs a phase on a volume: each worker its own commands, in a thread of its own where one can be started, and its fsyncs through the journals. All are joined at
 /// its end. A worker that is refused memory before a stamp ends alone; then the answer is want of memory, and what was called so far stands in the cores.
-pub fn run_phase<R: Threads + Wait + Sync, D: Disk + Drop, G: Gate>(
+pub fn run_phase<R: Threads + Wait + Sync, D: Disk + Drop + Sync, G: Gate>(
     rt: &R,
     alloc: Global,
     volume: &Volume<D>,

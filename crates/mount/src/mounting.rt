@@ -91,6 +91,7 @@ fn basis_of(layout: &Layout, nodes: u32) -> Basis
 }
 
 // What a volume is made of before its journals: its table with its cores, and room.
+#[derive(Drop)]
 struct Tabled<D: Disk> {
     shared: FileShared,
     cores: Vec<FileCore>,

@@ -1,0 +1,86 @@
+// Scripts that are drawn, on a disk with ample room: their histories are legal, and where all is flushed the disk has the plain tree.
+use crate::helpers::{holds, some};
+use crate::judged::{Health, answers_in, first_tree, tree_after};
+use crate::runs::{copy_of, image, phases_in, run};
+use crate::scripts::{Dice, add_flushes, draw};
+use crate::trees::{assert_alike, is_deep, recovered};
+use fmt_super::Layout;
+use sfs_base::NoGate;
+use sfs_dev::{Disk, Memory};
+use std::alloc::Global;
+use std::process::Abort;
+use std::sync::Wait;
+use std::thread::Threads;
+
+// How many scripts are drawn.
+const SCRIPTS: u64 = 100;
+
+// How many nodes the workers may make.
+const NODES: u32 = 256;
+
+static LAYOUTS: [Layout; 2] = [
+    Layout {
+        blocks: 1024,
+        inodes: 512,
+        cores: 4,
+        slots: 1,
+    },
+    Layout {
+        blocks: 1024,
+        inodes: 512,
+        cores: 4,
+        slots: 2,
+    },
+];
+
+// Runs a script that is drawn and at whose end all is flushed, and judges its history and the disk. Says whether the tree was flushed to its end: it has no path longer than
+// those that are.
+fn assert_drawn<R: Threads + Wait + Sync + Abort>(
+    rt: &R,
+    alloc: Global,
+    image: &Memory,
+    seed: u64,
+) -> bool {
+    let mut dice = Dice::of(seed);
+    let workers = 1 + dice.below(4);
+    let phases = 1 + dice.below(2);
+    let mut text = draw(rt, alloc, &mut dice, workers, phases);
+    add_flushes(rt, &mut text);
+    let script = phases_in(rt, alloc, text.as_slice());
+    let ran = run(
+        rt,
+        alloc,
+        copy_of(rt, alloc, image),
+        NODES,
+        &script,
+        &NoGate,
+    );
+    let first = first_tree(rt, alloc, image, NODES / 4);
+    let plain = some(
+        rt,
+        tree_after(rt, &ran.history, first, 4, Health::Well, ran.disk.now()),
+    );
+    let (acknowledged, failed, stopped) = answers_in(&ran.history);
+    holds(rt, 0 < acknowledged && failed == 0 && stopped == 0);
+    let tree = recovered(rt, alloc, &ran.disk);
+    if is_deep(rt, alloc, &plain) {
+        return false;
+    }
+    assert_alike(rt, alloc, &tree, &plain);
+    true
+}
+
+#[test]
+fn drawn_scripts_leave_the_tree_that_their_histories_tell(rt: HostRuntime) {
+    let alloc = rt.alloc();
+    let mut flushed = 0u64;
+    for layout in &LAYOUTS {
+        let image = image(&rt, alloc, *layout);
+        for seed in 0..SCRIPTS / 2 {
+            if assert_drawn(&rt, alloc, &image, seed) {
+                flushed = flushed.saturating_add(1);
+            }
+        }
+    }
+    holds(&rt, SCRIPTS / 2 < flushed);
+}
