@@ -17,7 +17,7 @@ use tree_laws::{TurnAct, Turns};
 const TURNS: u64 = 100_000_000;
 
 const LAYOUT: Layout = Layout {
-    blocks: 1024,
+    blocks: 128,
     inodes: 64,
     cores: 2,
     slots: 1,

@@ -22,8 +22,8 @@ const SCRIPTS: u64 = 100;
 const NODES: u32 = 256;
 
 const LAYOUT: Layout = Layout {
-    blocks: 1024,
-    inodes: 512,
+    blocks: 128,
+    inodes: 48,
     cores: 4,
     slots: 1,
 };

@@ -135,7 +135,7 @@ pub(crate) fn draw(
 }
 
 // How long the paths of `add_flushes` are at most, in names.
-const DEEPEST: u32 = 5;
+const DEEPEST: u32 = 4;
 
 // Adds a path, which this number tells: its digits to the base 3, from the last one on, as many as there are names.
 fn add_numbered_path(rt: &impl Abort, script: &mut Vec<u8>, names: u32, number: u32) {
@@ -147,7 +147,7 @@ fn add_numbered_path(rt: &impl Abort, script: &mut Vec<u8>, names: u32, number: 
     }
 }
 
-/// Adds a phase in which worker 0 flushes the root, and what is at each path of at most five names.
+/// Adds a phase in which worker 0 flushes the root, and what is at each path of at most four names.
 pub(crate) fn add_flushes(rt: &impl Abort, script: &mut Vec<u8>) {
     add(rt, script, "---\n0 fsync /\n");
     let mut count = 1u32;

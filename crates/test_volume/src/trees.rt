@@ -149,10 +149,10 @@ fn most_slashes(text: &[u8]) -> u32 {
     most
 }
 
-/// Whether a tree has a path of more than five names.
+/// Whether a tree has a path of more than four names.
 pub(crate) fn is_deep(rt: &impl Abort, alloc: Global, tree: &Tree) -> bool
     requires { IsSound tree.now }
 {
     let text = got(rt, tree_text(alloc, tree));
-    most_slashes(text.as_slice()) > 5
+    most_slashes(text.as_slice()) > 4
 }

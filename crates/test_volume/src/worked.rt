@@ -16,7 +16,7 @@ use std::thread::Threads;
 use tree_laws::{History, Reply};
 
 const PLAIN: Layout = Layout {
-    blocks: 1024,
+    blocks: 128,
     inodes: 64,
     cores: 2,
     slots: 1,
