@@ -1,22 +1,19 @@
 // Scripts that are drawn, on a disk with ample room: their histories are legal, and where all is flushed the disk has the plain tree.
 use crate::helpers::{holds, some};
-use crate::judged::{Health, answers_in, first_tree, tree_after};
-use crate::runs::{copy_of, image, phases_in, run};
+use crate::judged::{Base, Health, NODES, answers_in, base, tree_after};
+use crate::runs::{copy_of, phases_in, run};
 use crate::scripts::{Dice, add_flushes, draw};
-use crate::trees::{assert_alike, is_deep, recovered};
+use crate::trees::{assert_alike, assert_left, is_deep, recovered};
 use fmt_super::Layout;
 use sfs_base::NoGate;
-use sfs_dev::{Disk, Memory};
+use sfs_dev::Disk;
 use std::alloc::Global;
 use std::process::Abort;
 use std::sync::Wait;
 use std::thread::Threads;
 
 // How many scripts are drawn.
-const SCRIPTS: u64 = 50;
-
-// How many nodes the workers may make.
-const NODES: u32 = 256;
+const SCRIPTS: u64 = 30;
 
 // A disk whose cores have one journal slot each, and one whose cores have two.
 const ONE_SLOT: Layout = Layout {
@@ -38,7 +35,7 @@ const TWO_SLOTS: Layout = Layout {
 fn assert_drawn<R: Threads + Wait + Sync + Abort>(
     rt: &R,
     alloc: Global,
-    image: &Memory,
+    base: &Base,
     seed: u64,
 ) -> bool {
     let mut dice = Dice::of(seed);
@@ -50,19 +47,20 @@ fn assert_drawn<R: Threads + Wait + Sync + Abort>(
     let ran = run(
         rt,
         alloc,
-        copy_of(rt, alloc, image),
+        copy_of(rt, alloc, &base.image),
         NODES,
         &script,
         &NoGate,
     );
-    let first = first_tree(rt, alloc, image, NODES / 4);
     let plain = some(
         rt,
-        tree_after(rt, &ran.history, first, 4, Health::Well, ran.disk.now()),
+        tree_after(rt, &ran.history, &base.first, Health::Well, ran.disk.now()),
     );
-    let (acknowledged, failed, stopped) = answers_in(&ran.history);
-    holds(rt, 0 < acknowledged && failed == 0 && stopped == 0);
-    let tree = recovered(rt, alloc, &ran.disk);
+    let (acknowledged, _, _) = answers_in(&ran.history);
+    holds(rt, 0 < acknowledged);
+    let calls = dice.below(ran.disk.now().saturating_add(1));
+    assert_left(rt, alloc, &ran.disk, calls, dice.below(8) as u32);
+    let tree = recovered(rt, alloc, &ran.disk, dice.below(8) as u32);
     if is_deep(rt, alloc, &plain) {
         return false;
     }
@@ -72,10 +70,10 @@ fn assert_drawn<R: Threads + Wait + Sync + Abort>(
 
 // Runs all scripts on disks with this layout. All but a few of them have no path that is too long to be flushed.
 fn assert_all<R: Threads + Wait + Sync + Abort>(rt: &R, alloc: Global, layout: Layout) {
-    let image = image(rt, alloc, layout);
+    let base = base(rt, alloc, layout);
     let mut flushed = 0u64;
     for seed in 0..SCRIPTS {
-        if assert_drawn(rt, alloc, &image, seed) {
+        if assert_drawn(rt, alloc, &base, seed) {
             flushed = flushed.saturating_add(1);
         }
     }

@@ -1,25 +1,22 @@
 // Scripts that are drawn, on a disk one of whose device calls fails: their histories are legal, and what a crash leaves then can be recovered.
 use crate::helpers::{got, holds, same, some};
-use crate::judged::{Health, answers_in, first_tree, tree_after};
-use crate::runs::{Ran, copy_of, image, phases_in, run, run_on};
+use crate::judged::{Base, Health, NODES, answers_in, base, tree_after};
+use crate::runs::{Ran, copy_of, phases_in, run, run_on};
 use crate::scripts::{Dice, draw};
-use crate::trees::assert_recovers;
+use crate::trees::{assert_left, assert_recovers};
 use dev_fake::FailAt;
 use fmt_super::Layout;
-use recovery::{RecoverFault, recover};
+use recovery::RecoverFault;
 use script::Script;
 use sfs_base::NoGate;
-use sfs_dev::{Disk, Memory};
+use sfs_dev::Disk;
 use std::alloc::Global;
 use std::process::Abort;
 use std::sync::Wait;
 use std::thread::Threads;
 
 // How many scripts are drawn.
-const SCRIPTS: u64 = 100;
-
-// How many nodes the workers may make.
-const NODES: u32 = 256;
+const SCRIPTS: u64 = 40;
 
 const LAYOUT: Layout = Layout {
     blocks: 128,
@@ -32,36 +29,30 @@ const LAYOUT: Layout = Layout {
 fn calls_of<R: Threads + Wait + Sync + Abort>(
     rt: &R,
     alloc: Global,
-    image: &Memory,
+    base: &Base,
     script: &Script,
 ) -> u64 {
-    let disk = copy_of(rt, alloc, image);
+    let disk = copy_of(rt, alloc, &base.image);
     run(rt, alloc, disk, NODES, script, &NoGate).disk.now()
 }
 
-// Asserts that each of some images that a crash may leave of a disk recovers.
-fn assert_can_be_recovered(rt: &impl Abort, alloc: Global, disk: &Memory) {
-    for pick in 0..4u32 {
-        let mut left = got(rt, disk.left(alloc, u64::MAX, pick));
-        holds(rt, recover(alloc, &mut left).is_ok());
-    }
-}
-
 // Asserts that the history is legal, that one fsync met the fault if there was one, and that what is left recovers. Says whether there was one.
-fn assert_ran(rt: &impl Abort, alloc: Global, image: &Memory, ran: Ran<FailAt>) -> bool {
+fn assert_ran(rt: &impl Abort, alloc: Global, base: &Base, ran: Ran<FailAt>) -> bool {
     holds(rt, ran.ended);
     let faults = ran.disk.faults();
-    let first = first_tree(rt, alloc, image, NODES / 4);
     let health = if faults == 0 {
         Health::Well
     } else {
         Health::FailsOnce
     };
     let calls = ran.disk.now();
-    let _ = some(rt, tree_after(rt, &ran.history, first, 4, health, calls));
+    let _ = some(rt, tree_after(rt, &ran.history, &base.first, health, calls));
     let (_, failed, _) = answers_in(&ran.history);
     same(rt, &failed, &faults);
-    assert_can_be_recovered(rt, alloc, &ran.disk.into_inner());
+    let disk = ran.disk.into_inner();
+    for pick in 0..4u32 {
+        assert_left(rt, alloc, &disk, u64::MAX, pick);
+    }
     faults == 1
 }
 
@@ -69,7 +60,7 @@ fn assert_ran(rt: &impl Abort, alloc: Global, image: &Memory, ran: Ran<FailAt>) 
 fn assert_failing<R: Threads + Wait + Sync + Abort>(
     rt: &R,
     alloc: Global,
-    image: &Memory,
+    base: &Base,
     seed: u64,
 ) -> bool {
     let mut dice = Dice::of(seed);
@@ -77,12 +68,15 @@ fn assert_failing<R: Threads + Wait + Sync + Abort>(
     let phases = 1 + dice.below(2);
     let text = draw(rt, alloc, &mut dice, workers, phases);
     let script = phases_in(rt, alloc, text.as_slice());
-    let calls = calls_of(rt, alloc, image, &script);
+    let calls = calls_of(rt, alloc, base, &script);
     holds(rt, 0 < calls);
     let call = dice.below(calls);
-    let disk = FailAt::new(copy_of(rt, alloc, image), got(rt, vec![in alloc; call]));
+    let disk = FailAt::new(
+        copy_of(rt, alloc, &base.image),
+        got(rt, vec![in alloc; call]),
+    );
     match run_on(rt, alloc, disk, NODES, &script, &NoGate) {
-        Ok(ran) => assert_ran(rt, alloc, image, ran),
+        Ok(ran) => assert_ran(rt, alloc, base, ran),
         Err(refused) => {
             same(rt, &refused.fault, &RecoverFault::DiskFailed);
             assert_recovers(rt, alloc, &refused.disk.into_inner(), "dir 2 0 /\n");
@@ -94,10 +88,10 @@ fn assert_failing<R: Threads + Wait + Sync + Abort>(
 #[test]
 fn a_device_call_that_fails_leaves_a_legal_history_and_an_image(rt: HostRuntime) {
     let alloc = rt.alloc();
-    let image = image(&rt, alloc, LAYOUT);
+    let base = base(&rt, alloc, LAYOUT);
     let mut met = 0u64;
     for seed in 0..SCRIPTS {
-        if assert_failing(&rt, alloc, &image, seed) {
+        if assert_failing(&rt, alloc, &base, seed) {
             met = met.saturating_add(1);
         }
     }

@@ -4,7 +4,8 @@ ghost use Rattle.tree_laws.specs.Step.{IsReadable};
 ghost use Rattle.tree_laws.specs.Sound.{IsSound};
 
 use crate::helpers::{got, holds};
-use crate::runs::copy_of;
+use crate::runs::{copy_of, image};
+use fmt_super::Layout;
 use recovery::recover;
 use sfs_base::NoMemory;
 use sfs_dev::Memory;
@@ -13,23 +14,42 @@ use std::alloc::Global;
 use std::process::Abort;
 use tree_laws::{Call, Entry, History, Reply};
 
-/// What a disk with ample room may let an fsync of a live node answer, with ample memory.
+/// What a disk may let an fsync of a live node answer besides Ok, with ample memory.
 #[derive(Clone, Copy, PartialEq, Eq)]
 pub(crate) enum Health {
+    /// Nothing: it has ample room, and no device call fails.
     Well,
-    /// One device call fails.
+    /// That the disk failed, or had: it has ample room, and one device call fails.
     FailsOnce,
+    /// That there is too little room: no device call fails.
+    Crowded,
 }
 
-/// The tree of a disk of which nothing is pending, in which each core may make so many nodes. The disk stays as it is.
-pub(crate) fn first_tree(rt: &impl Abort, alloc: Global, disk: &Memory, share: u32) -> Tree
-    requires { share ≤ 256 }
-    ensures { IsSound result }
+/// How many nodes the workers of a drawn script may make.
+pub(crate) const NODES: u32 = 256;
+
+/// How many cores the disks of drawn scripts have.
+pub(crate) const CORES: u8 = 4;
+
+/// An empty disk, and its tree, in which each core may make as many nodes.
+#[derive(Drop)]
+pub(crate) struct Base {
+    pub image: Memory,
+    pub first: Tree,
+}
+
+/// A disk with this layout, with its tree.
+pub(crate) fn base(rt: &impl Abort, alloc: Global, layout: Layout) -> Base
+    ensures sound { IsSound result.first }
+    ensures cores { length result.first.made ≡ CORES }
 {
-    let mut disk = copy_of(rt, alloc, disk);
-    let mut tree = got(rt, recover(alloc, &mut disk)).tree;
-    tree.allow(share);
-    tree
+    let image = image(rt, alloc, layout);
+    let mut disk = copy_of(rt, alloc, &image);
+    let report = got(rt, recover(alloc, &mut disk));
+    holds(rt, report.layout.cores == CORES as u32);
+    let mut first = report.tree;
+    first.allow(NODES / CORES as u32);
+    Base { image, first }
 }
 
 // Whether a disk may let an fsync of a live node be answered so.
@@ -38,6 +58,7 @@ fn may_answer(health: Health, given: &Reply) -> bool {
         Reply::Ok => true,
         Reply::DiskFailed => health == Health::FailsOnce,
         Reply::Stopped { faults } => health == Health::FailsOnce && *faults == 1,
+        Reply::NoSpace { need, free, .. } => health == Health::Crowded && free < need,
         _ => false,
     }
 }
@@ -77,11 +98,11 @@ fn has_due_reply(tree: &mut Tree, entry: &Entry, health: Health) -> Result<bool,
     Ok(may_stand(&entry.call, &due, &entry.reply, health))
 }
 
-// Whether an entry stands at its stamp, is one of so many cores, and has a moment of at most so many device calls exactly where it is an acknowledgement.
-fn is_well_formed(entry: &Entry, stamp: u64, cores: u8, calls: u64) -> bool
-    ensures { result ≡ true → (entry.now.core.0 < cores) × IsReadable entry.now.call }
+// Whether an entry stands at its stamp, is one of the cores, and has a moment of at most so many device calls exactly where it is an acknowledgement.
+fn is_well_formed(entry: &Entry, stamp: u64, calls: u64) -> bool
+    ensures { result ≡ true → (entry.now.core.0 < CORES) × IsReadable entry.now.call }
 {
-    if entry.stamp.0 != stamp || entry.core.0 >= cores || !is_readable(&entry.call) {
+    if entry.stamp.0 != stamp || entry.core.0 >= CORES || !is_readable(&entry.call) {
         return false;
     }
     match entry.ack {
@@ -94,19 +115,19 @@ fn is_well_formed(entry: &Entry, stamp: u64, cores: u8, calls: u64) -> bool
 pub(crate) fn tree_after(
     rt: &impl Abort,
     history: &History,
-    mut tree: Tree,
-    cores: u8,
+    first: &Tree,
     health: Health,
     calls: u64,
 ) -> Option<Tree>
-    requires sound { IsSound tree }
-    requires cores { length tree.made ≡ cores }
+    requires sound { IsSound first.now }
+    requires cores { length first.now.made ≡ CORES }
     ensures sound { IfSome result IsSound }
 {
+    let mut tree = got(rt, first.copy());
     let mut cursor = history.first();
     for stamp in 0..history.len() {
         let entry = history.next(&mut cursor)?;
-        if !is_well_formed(entry, stamp, cores, calls) {
+        if !is_well_formed(entry, stamp, calls) {
             return None;
         }
         if !got(rt, has_due_reply(&mut tree, entry, health)) {
@@ -119,19 +140,19 @@ pub(crate) fn tree_after(
     Some(tree)
 }
 
-/// How many fsyncs of a history were acknowledged, how many met the fault of the disk, and how many were stopped.
+/// How many fsyncs of a history were acknowledged, how many met the fault of the disk, and how many had too little room.
 pub(crate) fn answers_in(history: &History) -> (u64, u64, u64) {
     let mut cursor = history.first();
     let mut acknowledged = 0u64;
     let mut failed = 0u64;
-    let mut stopped = 0u64;
+    let mut short = 0u64;
     for _ in 0..history.len() {
         let Some(entry) = history.next(&mut cursor) else {
             break;
         };
         match &entry.reply {
             Reply::DiskFailed => failed = failed.saturating_add(1),
-            Reply::Stopped { .. } => stopped = stopped.saturating_add(1),
+            Reply::NoSpace { .. } => short = short.saturating_add(1),
             _ => {
                 if is_acknowledged(entry) {
                     acknowledged = acknowledged.saturating_add(1);
@@ -139,5 +160,5 @@ pub(crate) fn answers_in(history: &History) -> (u64, u64, u64) {
             }
         }
     }
-    (acknowledged, failed, stopped)
+    (acknowledged, failed, short)
 }

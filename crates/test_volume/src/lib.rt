@@ -2,7 +2,11 @@
 #![tactic(auto)]
 
 #[cfg(test)]
+mod again;
+#[cfg(test)]
 mod beside;
+#[cfg(test)]
+mod crowded;
 #[cfg(test)]
 mod drawn;
 #[cfg(test)]

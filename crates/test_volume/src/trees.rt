@@ -3,7 +3,6 @@ ghost use Rattle.std.specs.Prelude.{◌≡◌, ◌≤◌, IfSome};
 ghost use Rattle.tree_laws.specs.Sound.{IsSound};
 
 use crate::helpers::{got, holds, same_list};
-use crate::runs::copy_of;
 use recovery::recover;
 use script::tree_text;
 use sfs_base::{Kind, Name, NoMemory, NodeId};
@@ -12,19 +11,27 @@ use sfs_tree::Tree;
 use std::alloc::Global;
 use std::process::Abort;
 
-/// The tree that a disk recovers to, of which nothing is pending. The disk stays as it is.
-pub(crate) fn recovered(rt: &impl Abort, alloc: Global, disk: &Memory) -> Tree
+/// The tree that recovers of what a crash leaves of a disk, with this draw of what was pending. The disk stays as it is.
+pub(crate) fn recovered(rt: &impl Abort, alloc: Global, disk: &Memory, pick: u32) -> Tree
     ensures { IsSound result }
 {
-    let mut disk = copy_of(rt, alloc, disk);
-    got(rt, recover(alloc, &mut disk)).tree
+    let mut left = got(rt, disk.left(alloc, u64::MAX, pick));
+    got(rt, recover(alloc, &mut left)).tree
 }
 
-/// Asserts that a disk recovers to a tree of this text.
+/// Asserts that what a crash leaves of a disk recovers to a tree of this text.
 pub(crate) fn assert_recovers(rt: &impl Abort, alloc: Global, disk: &Memory, wanted: &str) {
-    let tree = recovered(rt, alloc, disk);
-    let is = got(rt, tree_text(alloc, &tree));
-    same_list(rt, is.as_slice(), wanted.as_bytes());
+    for pick in 0..2u32 {
+        let tree = recovered(rt, alloc, disk, pick);
+        let is = got(rt, tree_text(alloc, &tree));
+        same_list(rt, is.as_slice(), wanted.as_bytes());
+    }
+}
+
+/// Asserts that what a crash may leave of a disk recovers, behind so many device calls, with this draw of what was pending.
+pub(crate) fn assert_left(rt: &impl Abort, alloc: Global, disk: &Memory, calls: u64, pick: u32) {
+    let mut left = got(rt, disk.left(alloc, calls, pick));
+    holds(rt, recover(alloc, &mut left).is_ok());
 }
 
 /// The nodes of two trees at the same path.
@@ -110,7 +117,13 @@ pub(crate) fn assert_alike(rt: &impl Abort, alloc: Global, one: &Tree, other: &T
 }
 
 // The child of a directory with this name.
-fn child_of(rt: &impl Abort, alloc: Global, tree: &Tree, node: NodeId, name: &str) -> Option<NodeId> {
+fn child_of(
+    rt: &impl Abort,
+    alloc: Global,
+    tree: &Tree,
+    node: NodeId,
+    name: &str,
+) -> Option<NodeId> {
     let name = got(rt, Name::new(alloc, name.as_bytes()));
     tree.child(node, &name)
 }

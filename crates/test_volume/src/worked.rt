@@ -112,7 +112,7 @@ fn bytes_outlive_the_name_by_which_they_were_flushed(rt: HostRuntime) {
     let lines =
         "0 mkdir /p\n0 mkdir /q\n0 create /p/f\n0 write /p/f 0 6869\n0 fsync /p/f\n0 link /p/f /q/f\n0 unlink /p/f\n0 fsync /p\n0 fsync /q\n";
     let ran = run_on_image(&rt, alloc, PLAIN, lines);
-    let tree = recovered(&rt, alloc, &ran.disk);
+    let tree = recovered(&rt, alloc, &ran.disk, 1);
     let bytes = some(&rt, bytes_at(&rt, alloc, &tree, &["q", "f"]));
     same_list(&rt, bytes, b"hi".as_slice());
 }
@@ -149,8 +149,7 @@ fn an_fsync_without_room_says_what_it_needs(rt: HostRuntime) {
     assert_recovers(&rt, alloc, &ran.disk, "dir 3 1 /\ndir 2 0 /a\n");
 }
 
-const THREE_FSYNCS: &str =
-    "0 mkdir /a\n0 fsync /\n0 mkdir /b\n0 fsync /\n0 mkdir /c\n0 fsync /\n";
+const THREE_FSYNCS: &str = "0 mkdir /a\n0 fsync /\n0 mkdir /b\n0 fsync /\n0 mkdir /c\n0 fsync /\n";
 
 const ANSWERS: &str =
     "0 0 mkdir 0 a = node 64 dir\n1 0 fsync 0 = ok\n2 0 mkdir 0 b = node 65 dir\n3 0 fsync 0 = failed\n4 0 mkdir 0 c = node 66 dir\n5 0 fsync 0 = stopped 1\n";
