@@ -7,7 +7,7 @@ use crate::helpers::{got, holds};
 use crate::runs::{copy_of, image};
 use fmt_super::Layout;
 use recovery::recover;
-use sfs_base::NoMemory;
+use sfs_base::{CoreId, NoMemory};
 use sfs_dev::Memory;
 use sfs_tree::Tree;
 use std::alloc::Global;
@@ -111,6 +111,39 @@ fn is_well_formed(entry: &Entry, stamp: u64, calls: u64) -> bool
     }
 }
 
+// Whether the moments of a core's acknowledgements do not fall, and once it was answered that the disk failed, or had, each later fsync of a live node is told so too.
+fn keeps_order(history: &History, core: CoreId) -> bool {
+    let mut cursor = history.first();
+    let mut last = 0u64;
+    let mut stopped = false;
+    for _ in 0..history.len() {
+        let Some(entry) = history.next(&mut cursor) else {
+            return false;
+        };
+        if entry.core != core {
+            continue;
+        }
+        match (&entry.reply, entry.ack) {
+            (Reply::DiskFailed, _) if stopped => return false,
+            (Reply::DiskFailed | Reply::Stopped { .. }, _) => stopped = true,
+            (_, Some(moment)) if stopped || moment < last => return false,
+            (_, Some(moment)) => last = moment,
+            _ => {}
+        }
+    }
+    true
+}
+
+// Whether this is so of each core.
+fn all_keep_order(history: &History) -> bool {
+    for core in 0..CORES {
+        if !keeps_order(history, CoreId(core)) {
+            return false;
+        }
+    }
+    true
+}
+
 /// The tree after a legal history, on a disk of this health to which so many device calls were made. None where the history is not legal.
 pub(crate) fn tree_after(
     rt: &impl Abort,
@@ -134,7 +167,7 @@ pub(crate) fn tree_after(
             return None;
         }
     }
-    if history.next(&mut cursor).is_some() {
+    if history.next(&mut cursor).is_some() || !all_keep_order(history) {
         return None;
     }
     Some(tree)

@@ -1,5 +1,5 @@
 // Scripts that are drawn.
-ghost use Rattle.std.specs.Prelude.{◌×◌, ◌<◌, ◌≤◌};
+ghost use Rattle.std.specs.Prelude.{◌<◌, ◌≤◌};
 
 use crate::helpers::got;
 use std::alloc::Global;
