@@ -1,11 +1,11 @@
 // Scripts that are drawn, on a disk with too little room: an fsync that is refused says what it needs, and changes nothing.
 use crate::helpers::{holds, some};
-use crate::judged::{Base, Health, NODES, answers_in, base, tree_after};
+use crate::judged::{Base, Health, NODES, answers_in, base_of, tree_after};
 use crate::runs::{copy_of, phases_in, run};
 use crate::scripts::{Dice, draw};
+use crate::shaking::Shaker;
 use crate::trees::assert_left;
 use fmt_super::Layout;
-use sfs_base::NoGate;
 use sfs_dev::Disk;
 use std::alloc::Global;
 use std::process::Abort;
@@ -36,7 +36,7 @@ fn assert_crowded<R: Threads + Wait + Sync + Abort>(
     let text = draw(rt, alloc, &mut dice, workers, phases);
     let script = phases_in(rt, alloc, text.as_slice());
     let disk = copy_of(rt, alloc, &base.image);
-    let ran = run(rt, alloc, disk, NODES, &script, &NoGate);
+    let ran = run(rt, alloc, disk, NODES, &script, &Shaker::of(seed));
     let calls = ran.disk.now();
     let _ = some(
         rt,
@@ -53,7 +53,7 @@ fn assert_crowded<R: Threads + Wait + Sync + Abort>(
 #[test]
 fn fsyncs_without_room_leave_legal_histories(rt: HostRuntime) {
     let alloc = rt.alloc();
-    let base = base(&rt, alloc, FEW_BLOCKS);
+    let base = base_of(&rt, alloc, FEW_BLOCKS);
     let mut all_acknowledged = 0u64;
     let mut all_short = 0u64;
     for seed in 0..SCRIPTS {

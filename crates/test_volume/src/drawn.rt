@@ -1,11 +1,11 @@
 // Scripts that are drawn, on a disk with ample room: their histories are legal, and where all is flushed the disk has the plain tree.
 use crate::helpers::{holds, some};
-use crate::judged::{Base, Health, NODES, answers_in, base, tree_after};
+use crate::judged::{Base, Health, NODES, answers_in, base_of, tree_after};
 use crate::runs::{copy_of, phases_in, run};
 use crate::scripts::{Dice, add_flushes, draw};
+use crate::shaking::Shaker;
 use crate::trees::{assert_alike, assert_left, is_deep, recovered};
 use fmt_super::Layout;
-use sfs_base::NoGate;
 use sfs_dev::Disk;
 use std::alloc::Global;
 use std::process::Abort;
@@ -50,7 +50,7 @@ fn assert_drawn<R: Threads + Wait + Sync + Abort>(
         copy_of(rt, alloc, &base.image),
         NODES,
         &script,
-        &NoGate,
+        &Shaker::of(seed),
     );
     let plain = some(
         rt,
@@ -70,7 +70,7 @@ fn assert_drawn<R: Threads + Wait + Sync + Abort>(
 
 // Runs all scripts on disks with this layout. All but a few of them have no path that is too long to be flushed.
 fn assert_all<R: Threads + Wait + Sync + Abort>(rt: &R, alloc: Global, layout: Layout) {
-    let base = base(rt, alloc, layout);
+    let base = base_of(rt, alloc, layout);
     let mut flushed = 0u64;
     for seed in 0..SCRIPTS {
         if assert_drawn(rt, alloc, &base, seed) {

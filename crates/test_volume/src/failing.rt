@@ -1,14 +1,14 @@
 // Scripts that are drawn, on a disk one of whose device calls fails: their histories are legal, and what a crash leaves then can be recovered.
 use crate::helpers::{got, holds, same, some};
-use crate::judged::{Base, Health, NODES, answers_in, base, tree_after};
+use crate::judged::{Base, Health, NODES, answers_in, base_of, tree_after};
 use crate::runs::{Ran, copy_of, phases_in, run, run_on};
 use crate::scripts::{Dice, draw};
+use crate::shaking::Shaker;
 use crate::trees::{assert_left, assert_recovers};
 use dev_fake::FailAt;
 use fmt_super::Layout;
 use recovery::RecoverFault;
 use script::Script;
-use sfs_base::NoGate;
 use sfs_dev::Disk;
 use std::alloc::Global;
 use std::process::Abort;
@@ -31,9 +31,12 @@ fn calls_of<R: Threads + Wait + Sync + Abort>(
     alloc: Global,
     base: &Base,
     script: &Script,
+    seed: u64,
 ) -> u64 {
     let disk = copy_of(rt, alloc, &base.image);
-    run(rt, alloc, disk, NODES, script, &NoGate).disk.now()
+    run(rt, alloc, disk, NODES, script, &Shaker::of(seed))
+        .disk
+        .now()
 }
 
 // Asserts that the history is legal, that one fsync met the fault if there was one, and that what is left recovers. Says whether there was one.
@@ -68,14 +71,14 @@ fn assert_failing<R: Threads + Wait + Sync + Abort>(
     let phases = 1 + dice.below(2);
     let text = draw(rt, alloc, &mut dice, workers, phases);
     let script = phases_in(rt, alloc, text.as_slice());
-    let calls = calls_of(rt, alloc, base, &script);
+    let calls = calls_of(rt, alloc, base, &script, seed);
     holds(rt, 0 < calls);
     let call = dice.below(calls);
     let disk = FailAt::new(
         copy_of(rt, alloc, &base.image),
         got(rt, vec![in alloc; call]),
     );
-    match run_on(rt, alloc, disk, NODES, &script, &NoGate) {
+    match run_on(rt, alloc, disk, NODES, &script, &Shaker::of(seed)) {
         Ok(ran) => assert_ran(rt, alloc, base, ran),
         Err(refused) => {
             same(rt, &refused.fault, &RecoverFault::DiskFailed);
@@ -88,7 +91,7 @@ fn assert_failing<R: Threads + Wait + Sync + Abort>(
 #[test]
 fn a_device_call_that_fails_leaves_a_legal_history_and_an_image(rt: HostRuntime) {
     let alloc = rt.alloc();
-    let base = base(&rt, alloc, LAYOUT);
+    let base = base_of(&rt, alloc, LAYOUT);
     let mut met = 0u64;
     for seed in 0..SCRIPTS {
         if assert_failing(&rt, alloc, &base, seed) {

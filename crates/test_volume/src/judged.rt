@@ -39,7 +39,7 @@ pub(crate) struct Base {
 }
 
 /// A disk with this layout, with its tree.
-pub(crate) fn base(rt: &impl Abort, alloc: Global, layout: Layout) -> Base
+pub(crate) fn base_of(rt: &impl Abort, alloc: Global, layout: Layout) -> Base
     ensures sound { IsSound result.first }
     ensures cores { length result.first.made ≡ CORES }
 {

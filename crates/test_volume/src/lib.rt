@@ -20,6 +20,8 @@ mod runs;
 #[cfg(test)]
 mod scripts;
 #[cfg(test)]
+mod shaking;
+#[cfg(test)]
 mod smallest;
 #[cfg(test)]
 mod trees;
