@@ -15,9 +15,9 @@ use std::thread::Threads;
 // How many scripts are drawn.
 const SCRIPTS: u64 = 60;
 
-// Four blocks for data.
-const FEW_BLOCKS: Layout = Layout {
-    blocks: 23,
+// One block for data.
+const ONE_BLOCK: Layout = Layout {
+    blocks: 20,
     inodes: 16,
     cores: 4,
     slots: 1,
@@ -53,7 +53,7 @@ fn assert_crowded<R: Threads + Wait + Sync + Abort>(
 #[test]
 fn fsyncs_without_room_leave_legal_histories(rt: HostRuntime) {
     let alloc = rt.alloc();
-    let base = base_of(&rt, alloc, FEW_BLOCKS);
+    let base = base_of(&rt, alloc, ONE_BLOCK);
     let mut all_acknowledged = 0u64;
     let mut all_short = 0u64;
     for seed in 0..SCRIPTS {
