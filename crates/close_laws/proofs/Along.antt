@@ -15,9 +15,9 @@ use Rattle.slot_laws.specs.Labels.{BoxPast, after_label, box_label, own_label, S
 use Rattle.slot_laws.specs.Grants.{SpaceDoes}
 use Rattle.slot_laws.proofs.Basics.{at_other}
 use Rattle.slot_image_laws.specs.Images.{RunStart}
-use Rattle.label_laws.specs.Maps.{Numbered}
-use Rattle.label_laws.specs.Beside.{BeginsLabels, stamps_under}
-use Rattle.label_laws.proofs.Beginning.{PlaceSo}
+use Rattle.close_laws.specs.Maps.{Numbered}
+use Rattle.close_laws.specs.Beside.{BeginsLabels, stamps_under}
+use Rattle.close_laws.proofs.Beginning.{PlaceSo}
 use Rattle.close_laws.specs.Fronts.{AreTurnsOf, AreOneRecord}
 use Rattle.close_laws.proofs.Words.{run_from}
 use Rattle.close_laws.proofs.Flying.{FliesSo, FliesAt, FrontAt}

@@ -27,14 +27,14 @@ use Rattle.merge_laws.specs.LeftByTurns.{TellInTime, IsReadByTurns, SurvivesByTu
 use Rattle.merge_laws.specs.Plays.{durables}
 use Rattle.merge_laws.specs.Laws.{IsFrontUntil}
 use Rattle.merge_laws.proofs.ByTurns.{of_durables, to_durables, moments_cut_turns}
-use Rattle.bringing_laws.specs.Brings.{Bringing}
-use Rattle.bringing_laws.specs.Imagined.{flush_brought}
-use Rattle.walk_laws.specs.Walk.{brought_under}
-use Rattle.walk_laws.specs.Pairs.{commit_under, bringing_under}
+use Rattle.book_laws.specs.Brings.{Bringing}
+use Rattle.book_laws.specs.Imagined.{flush_brought}
+use Rattle.book_laws.specs.Walk.{brought_under}
+use Rattle.book_laws.specs.Pairs.{commit_under, bringing_under}
 use Rattle.slot_image_laws.specs.Run.{RisesFrom}
 use Rattle.slot_image_laws.specs.Images.{RunStart, Shows, disk_books}
-use Rattle.label_laws.specs.Maps.{Telling, past_of, Numbered, bringing_of}
-use Rattle.label_laws.specs.Beside.{run_told}
+use Rattle.close_laws.specs.Maps.{Telling, past_of, Numbered, bringing_of}
+use Rattle.close_laws.specs.Beside.{run_told}
 use Rattle.close_laws.specs.Fronts.{IsOneRecord}
 use Rattle.close_laws.specs.Close.{EndsMount}
 use Rattle.close_laws.proofs.Lists.{none_until}

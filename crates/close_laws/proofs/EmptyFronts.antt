@@ -15,7 +15,7 @@ use Rattle.cut_laws.proofs.Listed.{to_map}
 use Rattle.flush_laws.specs.Volume.{Volume}
 use Rattle.turn_laws.specs.Books.{flush_at}
 use Rattle.merge_laws.specs.Plays.{durables}
-use Rattle.walk_laws.specs.Pairs.{bringing_under}
+use Rattle.book_laws.specs.Pairs.{bringing_under}
 use Rattle.stamp_table.specs.declared.event.Event.{Event}
 use Rattle.stamp_table.specs.declared.event.Event.TheVariants.{Told}
 use Rattle.slot_laws.specs.declared.label.Label.{Label}
@@ -25,12 +25,12 @@ use Rattle.slot_laws.specs.Nodes.{ReservedCommit}
 use Rattle.slot_laws.specs.Grants.{EndsGrant}
 use Rattle.slot_laws.specs.Rules.{EmptyRule}
 use Rattle.slot_image_laws.specs.Images.{RunStart, disk_books, DiskBooks, book_act}
-use Rattle.label_laws.specs.Own.{OwesTurn, owes_granted, owes_given_back, owes_nothing, TellsBeside}
-use Rattle.label_laws.specs.Maps.{Numbered}
-use Rattle.label_laws.specs.Beside.{BeginsLabels, stamps_under}
-use Rattle.label_laws.proofs.Beginning.{PlaceSo}
-use Rattle.label_laws.proofs.Owing.{tells}
-use Rattle.label_laws.proofs.Opens.{ReservedOpen}
+use Rattle.close_laws.specs.Own.{OwesTurn, owes_granted, owes_given_back, owes_nothing, TellsBeside}
+use Rattle.close_laws.specs.Maps.{Numbered}
+use Rattle.close_laws.specs.Beside.{BeginsLabels, stamps_under}
+use Rattle.close_laws.proofs.Beginning.{PlaceSo}
+use Rattle.close_laws.proofs.Owing.{tells}
+use Rattle.close_laws.proofs.Opens.{ReservedOpen}
 use Rattle.close_laws.specs.Fronts.{AreOneRecord, IsOneRecord, DifferBy, WasOpened}
 use Rattle.close_laws.proofs.Words.{run_from, flying, without, not_without, no_end, flush_of}
 use Rattle.close_laws.proofs.Flying.{FliesSo, FliesAt, front_quiet, books_on, books_quiet, fronts_push, opened_on, differ_fewer, front_opened, durables_stay, FrontAt}

@@ -18,15 +18,15 @@ use Rattle.turn_laws.specs.LawsTurns.{durable_by_act, durable_flush}
 use Rattle.turn_laws.specs.Books.{flush_at}
 use Rattle.merge_laws.specs.Plays.{durables}
 use Rattle.merge_laws.proofs.Lists.{joined_at, nothing_there, heads_are}
-use Rattle.bringing_laws.specs.Imagined.{flush_brought}
-use Rattle.walk_laws.specs.Walk.{brought_under}
-use Rattle.walk_laws.specs.Pairs.{bringing_under}
+use Rattle.book_laws.specs.Imagined.{flush_brought}
+use Rattle.book_laws.specs.Walk.{brought_under}
+use Rattle.book_laws.specs.Pairs.{bringing_under}
 use Rattle.slot_laws.specs.Labels.{BoxPast, SlotFlight}
 use Rattle.slot_image_laws.specs.Images.{DiskBooks, book_act, RunStart, disk_books, first_books}
 use Rattle.slot_image_laws.proofs.Trails.{books_more}
 use Rattle.imagined_laws.specs.Parts.{parts_once}
-use Rattle.label_laws.specs.Maps.{Numbered, bringing_of}
-use Rattle.label_laws.specs.Beside.{BeginsLabels, stamps_under, brought_at}
+use Rattle.close_laws.specs.Maps.{Numbered, bringing_of}
+use Rattle.close_laws.specs.Beside.{BeginsLabels, stamps_under, brought_at}
 use Rattle.close_laws.specs.Fronts.{DifferBy, WasOpened, IsOneRecord, AreOneRecord, ImaginedPlace}
 use Rattle.close_laws.proofs.Words.{run_from, flying}
 

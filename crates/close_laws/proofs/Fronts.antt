@@ -9,8 +9,8 @@ use Rattle.cut_laws.specs.Rules.{IsOneOf}
 use Rattle.cut_laws.proofs.Listed.{to_map}
 use Rattle.flush_laws.specs.Volume.{Volume}
 use Rattle.merge_laws.specs.Plays.{durables}
-use Rattle.bringing_laws.specs.Imagined.{flush_brought}
-use Rattle.walk_laws.specs.Walk.{brought_under}
+use Rattle.book_laws.specs.Imagined.{flush_brought}
+use Rattle.book_laws.specs.Walk.{brought_under}
 use Rattle.stamp_table.specs.declared.event.Event.{Event}
 use Rattle.stamp_table.specs.declared.event.Event.TheVariants.{Told}
 use Rattle.slot_laws.specs.declared.label.Label.{Label}
@@ -19,10 +19,10 @@ use Rattle.slot_laws.specs.Slots.{SlotWork}
 use Rattle.slot_laws.specs.Nodes.{ReservedCommit}
 use Rattle.slot_laws.proofs.Basics.{at_other, own_same}
 use Rattle.slot_image_laws.specs.Images.{RunStart}
-use Rattle.label_laws.specs.Maps.{Numbered}
-use Rattle.label_laws.specs.Beside.{BeginsLabels, stamps_under}
-use Rattle.label_laws.proofs.Beginning.{PlaceSo}
-use Rattle.label_laws.proofs.Opens.{AloftOpen}
+use Rattle.close_laws.specs.Maps.{Numbered}
+use Rattle.close_laws.specs.Beside.{BeginsLabels, stamps_under}
+use Rattle.close_laws.proofs.Beginning.{PlaceSo}
+use Rattle.close_laws.proofs.Opens.{AloftOpen}
 use Rattle.close_laws.specs.Fronts.{IsOneRecord, DifferBy, WasOpened}
 use Rattle.close_laws.proofs.Words.{run_from, flying}
 use Rattle.close_laws.proofs.Flying.{FliesAt, FliesSo, FrontAt, as_record}

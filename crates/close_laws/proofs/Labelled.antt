@@ -14,9 +14,9 @@ use Rattle.cut_laws.proofs.Listed.{to_map}
 use Rattle.flush_laws.specs.Volume.{Volume}
 use Rattle.turn_laws.specs.Books.{flush_at}
 use Rattle.merge_laws.specs.Plays.{durables}
-use Rattle.bringing_laws.specs.Imagined.{flush_brought}
-use Rattle.walk_laws.specs.Pairs.{bringing_under, commit_under}
-use Rattle.walk_laws.specs.Walk.{brought_under}
+use Rattle.book_laws.specs.Imagined.{flush_brought}
+use Rattle.book_laws.specs.Pairs.{bringing_under, commit_under}
+use Rattle.book_laws.specs.Walk.{brought_under}
 use Rattle.stamp_table.specs.declared.event.Event.{Event}
 use Rattle.stamp_table.specs.declared.event.Event.TheVariants.{Told}
 use Rattle.slot_laws.specs.declared.label.Label.{Label}
@@ -26,11 +26,11 @@ use Rattle.slot_laws.specs.Slots.{SlotWork}
 use Rattle.slot_laws.specs.Nodes.{ReservedCommit, commits_numbered}
 use Rattle.slot_laws.specs.Grants.{IsOpenNumbered}
 use Rattle.slot_image_laws.specs.Images.{RunStart, DiskBooks}
-use Rattle.label_laws.specs.Maps.{Numbered, bringing_of}
-use Rattle.label_laws.specs.Beside.{BeginsLabels, stamps_under, brought_at}
-use Rattle.label_laws.proofs.Beginning.{PlaceSo}
-use Rattle.label_laws.proofs.Opens.{AloftOpen}
-use Rattle.label_laws.proofs.Walking.{stamps_differ, done_more}
+use Rattle.close_laws.specs.Maps.{Numbered, bringing_of}
+use Rattle.close_laws.specs.Beside.{BeginsLabels, stamps_under, brought_at}
+use Rattle.close_laws.proofs.Beginning.{PlaceSo}
+use Rattle.close_laws.proofs.Opens.{AloftOpen}
+use Rattle.close_laws.proofs.Walking.{stamps_differ, done_more}
 use Rattle.close_laws.specs.Fronts.{AreOneRecord, IsOneRecord, DifferBy, WasOpened}
 use Rattle.close_laws.proofs.Words.{run_from, flying}
 use Rattle.close_laws.proofs.Flying.{FliesSo, FliesAt, front_quiet, books_quiet, fronts_push, differ_more, durables_more, FrontAt, as_record}

@@ -8,11 +8,11 @@ use Rattle.cut_laws.specs.Rules.{IsOneOf}
 use Rattle.cut_laws.proofs.Basics.{in_either}
 use Rattle.cut_laws.proofs.Listed.{from_map}
 use Rattle.crash_laws.specs.Listed.{StampsDiffer}
-use Rattle.bringing_laws.specs.Brings.{Bringing}
+use Rattle.book_laws.specs.Brings.{Bringing}
 use Rattle.slot_image_laws.specs.Commits.{parts_over}
 use Rattle.slot_image_laws.specs.Images.{parts_kept}
 use Rattle.imagined_laws.specs.Parts.{parts_once}
-use Rattle.label_laws.specs.Maps.{Numbered, bringing_of}
+use Rattle.close_laws.specs.Maps.{Numbered, bringing_of}
 use Rattle.close_laws.specs.Fronts.{DifferBy}
 
 -- parts once some more were given

@@ -6,7 +6,7 @@ use Rattle.merge_laws.proofs.ByTurns.{durables_survive, durables_read_back}
 use Rattle.merge_laws.proofs.Told.{merged_tell}
 use Rattle.merge_laws.proofs.Merged.{merged_turns}
 use Rattle.slot_laws.proofs.Lawful.{labels_rise, labels_merge_pens, labels_count_faults}
-use Rattle.label_laws.specs.Maps.{past_of}
+use Rattle.close_laws.specs.Maps.{past_of}
 use Rattle.close_laws.specs.Close.{TurnsClose, TableMountsClose}
 use Rattle.close_laws.proofs.Closing.{survives, reads}
 

@@ -16,7 +16,7 @@ use Rattle.cut_laws.proofs.Listed.{to_map}
 use Rattle.flush_laws.specs.Volume.{Volume}
 use Rattle.turn_laws.specs.Books.{flush_at}
 use Rattle.merge_laws.proofs.Blocks.{same_or_not}
-use Rattle.walk_laws.specs.Pairs.{bringing_under}
+use Rattle.book_laws.specs.Pairs.{bringing_under}
 use Rattle.stamp_table.specs.declared.event.Event.{Event}
 use Rattle.stamp_table.specs.declared.event.Event.TheVariants.{Told}
 use Rattle.slot_laws.specs.declared.label.Label.{Label}
@@ -27,10 +27,10 @@ use Rattle.slot_laws.specs.Nodes.{ReservedCommit}
 use Rattle.slot_laws.specs.Rules.{OpenedRule}
 use Rattle.slot_laws.proofs.Basics.{at_here}
 use Rattle.slot_image_laws.specs.Images.{RunStart, disk_books, DiskBooks, book_act}
-use Rattle.label_laws.specs.Maps.{Numbered}
-use Rattle.label_laws.specs.Beside.{BeginsLabels, stamps_under}
-use Rattle.label_laws.proofs.Beginning.{PlaceSo}
-use Rattle.label_laws.proofs.Opens.{AloftOpen}
+use Rattle.close_laws.specs.Maps.{Numbered}
+use Rattle.close_laws.specs.Beside.{BeginsLabels, stamps_under}
+use Rattle.close_laws.proofs.Beginning.{PlaceSo}
+use Rattle.close_laws.proofs.Opens.{AloftOpen}
 use Rattle.close_laws.specs.Fronts.{AreOneRecord}
 use Rattle.close_laws.proofs.Words.{run_from, flying, no_end, flush_of}
 use Rattle.close_laws.proofs.Flying.{FliesSo, FliesAt, front_quiet, books_on, books_quiet, fronts_push, front_opened, FrontAt}

@@ -9,9 +9,9 @@ use Rattle.slot_laws.specs.Telling.{turns_in}
 use Rattle.slot_laws.specs.Labels.{own_from, nothing_told}
 use Rattle.slot_laws.proofs.Lawful.{pens_make_the_record}
 use Rattle.slot_laws.proofs.Telling.{pens_tell_turns}
-use Rattle.label_laws.specs.Maps.{Numbered, Telling, past_of}
-use Rattle.label_laws.specs.Pens.{PensTell}
-use Rattle.label_laws.proofs.PensFit.{pens_tell_labels, pens_have_turns}
+use Rattle.close_laws.specs.Maps.{Numbered, Telling, past_of}
+use Rattle.close_laws.specs.PenLabels.{PensTell}
+use Rattle.close_laws.proofs.PensFit.{pens_tell_labels, pens_have_turns}
 use Rattle.close_laws.specs.Pens.{PensRest, PensAreTurnsOf, PensMountsClose}
 use Rattle.close_laws.proofs.Mounts.{table_mounts_close}
 

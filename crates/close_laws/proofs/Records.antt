@@ -14,10 +14,10 @@ use Rattle.slot_laws.specs.declared.label.Label.TheVariants as label
 use Rattle.slot_laws.specs.Labels.{BoxPast, after_label, past_from, first_past}
 use Rattle.slot_laws.specs.Grants.{SpaceGoes, GoesAlong}
 use Rattle.slot_image_laws.specs.Images.{RunStart}
-use Rattle.label_laws.specs.Own.{StandBeside}
-use Rattle.label_laws.specs.Maps.{Numbered, FitBringings}
-use Rattle.label_laws.specs.Beside.{BeginsLabels, TellAlong}
-use Rattle.label_laws.proofs.Beginning.{place_step, place_first, PlaceSo}
+use Rattle.close_laws.specs.Own.{StandBeside}
+use Rattle.close_laws.specs.Maps.{Numbered, FitBringings}
+use Rattle.close_laws.specs.Beside.{BeginsLabels, TellAlong}
+use Rattle.close_laws.proofs.Beginning.{place_step, place_first, PlaceSo}
 use Rattle.close_laws.specs.Fronts.{AreOneRecord, IsOneRecord, AreTurnsOf, LabelsAreOneRecord}
 use Rattle.close_laws.proofs.Words.{run_from}
 use Rattle.close_laws.proofs.Flying.{FliesSo}

@@ -11,7 +11,7 @@ use Rattle.cut_laws.specs.Closure.{Flush}
 use Rattle.cut_laws.proofs.RunFacts.{in_filter}
 use Rattle.flush_laws.specs.Volume.{Volume}
 use Rattle.turn_laws.specs.Books.{flush_at}
-use Rattle.walk_laws.specs.Pairs.{bringing_under}
+use Rattle.book_laws.specs.Pairs.{bringing_under}
 use Rattle.stamp_table.specs.declared.event.Event.{Event}
 use Rattle.stamp_table.specs.declared.event.Event.TheVariants.{Told}
 use Rattle.slot_laws.specs.declared.label.Label.{Label}
@@ -22,10 +22,10 @@ use Rattle.slot_laws.specs.Grants.{EndsGrant}
 use Rattle.slot_laws.specs.Rules.{SettledRule}
 use Rattle.slot_laws.proofs.Basics.{at_other, own_same}
 use Rattle.slot_image_laws.specs.Images.{RunStart, disk_books, DiskBooks, book_act}
-use Rattle.label_laws.specs.Maps.{Numbered}
-use Rattle.label_laws.specs.Beside.{BeginsLabels, stamps_under}
-use Rattle.label_laws.proofs.Beginning.{PlaceSo}
-use Rattle.label_laws.proofs.Opens.{AloftOpen}
+use Rattle.close_laws.specs.Maps.{Numbered}
+use Rattle.close_laws.specs.Beside.{BeginsLabels, stamps_under}
+use Rattle.close_laws.proofs.Beginning.{PlaceSo}
+use Rattle.close_laws.proofs.Opens.{AloftOpen}
 use Rattle.close_laws.specs.Fronts.{AreOneRecord, DifferBy, WasOpened}
 use Rattle.close_laws.proofs.Words.{run_from, flying, without, not_without, flush_of}
 use Rattle.close_laws.proofs.Flying.{FliesSo, FliesAt, books_on, fronts_push, opened_on, differ_fewer, FrontAt}

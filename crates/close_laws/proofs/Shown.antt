@@ -21,19 +21,19 @@ use Rattle.crash_laws.specs.Listed.{StampsDiffer, IsListedFsync}
 use Rattle.flush_laws.specs.Volume.{Volume, tree_held}
 use Rattle.merge_laws.specs.LeftByTurns.{TellInTime}
 use Rattle.merge_laws.specs.Plays.{durables}
-use Rattle.bringing_laws.specs.Brings.{Bringing, BringApart, Brings}
-use Rattle.bringing_laws.specs.Imagined.{AllApart, Imagines, IsImagined, flush_brought}
-use Rattle.bringing_laws.proofs.Imagined.{all_end, imagined_are_those}
-use Rattle.walk_laws.specs.Walk.{brought_under}
-use Rattle.walk_laws.specs.Pairs.{IsOpenBeside, commit_under, bringing_under}
-use Rattle.walk_laws.proofs.Ended.{bring_apart}
+use Rattle.book_laws.specs.Brings.{Bringing, BringApart, Brings}
+use Rattle.book_laws.specs.Imagined.{AllApart, Imagines, IsImagined, flush_brought}
+use Rattle.book_laws.proofs.Imagined.{all_end, imagined_are_those}
+use Rattle.book_laws.specs.Walk.{brought_under}
+use Rattle.book_laws.specs.Pairs.{IsOpenBeside, commit_under, bringing_under}
+use Rattle.book_laws.proofs.Ended.{bring_apart}
 use Rattle.slot_image_laws.specs.Images.{RunStart, LeavesPrefixes, Shows, disk_books}
 use Rattle.slot_image_laws.proofs.Running.{records_are_left}
 use Rattle.imagined_laws.specs.Parts.{parts_once, StandsFor}
 use Rattle.imagined_laws.proofs.Parts.{images_are_read}
-use Rattle.label_laws.specs.Maps.{Telling, past_of, Numbered, bringing_of}
-use Rattle.label_laws.specs.Beside.{run_told}
-use Rattle.label_laws.proofs.Beginning.{commits_begin_well}
+use Rattle.close_laws.specs.Maps.{Telling, past_of, Numbered, bringing_of}
+use Rattle.close_laws.specs.Beside.{run_told}
+use Rattle.close_laws.proofs.Beginning.{commits_begin_well}
 use Rattle.close_laws.specs.Fronts.{DifferBy, AreOneRecord, IsOneRecord}
 use Rattle.close_laws.specs.Close.{EndsMount}
 use Rattle.close_laws.proofs.Records.{labels_are_one_record}

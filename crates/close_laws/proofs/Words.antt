@@ -8,9 +8,9 @@ use Rattle.tree_laws.specs.declared.turns.TurnAct.{TurnAct}
 use Rattle.tree_laws.specs.declared.turns.TurnAct.TheVariants as act
 use Rattle.flush_laws.specs.Volume.{Volume}
 use Rattle.turn_laws.specs.Books.{flush_at}
-use Rattle.walk_laws.specs.Pairs.{bringing_under}
+use Rattle.book_laws.specs.Pairs.{bringing_under}
 use Rattle.slot_image_laws.specs.Images.{RunStart, disk_books}
-use Rattle.label_laws.specs.Maps.{Numbered, bringing_of}
+use Rattle.close_laws.specs.Maps.{Numbered, bringing_of}
 
 -- the run from a volume on, whose commits bring what their numbers name
 abbrev pub run_from : Layout → ℕ → Volume → Numbered → RunStart

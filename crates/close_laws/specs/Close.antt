@@ -12,8 +12,8 @@ use Rattle.disk_nodes.specs.declared.old.OldEntry.{OldEntry}
 use Rattle.flush_laws.specs.Volume.{Volume}
 use Rattle.merge_laws.specs.LeftByTurns.{TellInTime, SurvivesByTurns, ReadsByTurns}
 use Rattle.slot_image_laws.specs.Run.{KeepsLaws, RunFits, BeganWith}
-use Rattle.label_laws.specs.Maps.{Telling, past_of, Numbered}
-use Rattle.label_laws.specs.Beside.{IsToldBeside}
+use Rattle.close_laws.specs.Maps.{Telling, past_of, Numbered}
+use Rattle.close_laws.specs.Beside.{IsToldBeside}
 use Rattle.close_laws.specs.Fronts.{AreTurnsOf}
 
 -- A disk tells what a read gives, has counted every call, and keeps what each disk does.

@@ -7,13 +7,13 @@ use Rattle.cut_laws.specs.Rules.{IsOneOf}
 use Rattle.flush_laws.specs.Volume.{Volume}
 use Rattle.turn_laws.specs.Books.{flush_at}
 use Rattle.merge_laws.specs.Plays.{durables}
-use Rattle.bringing_laws.specs.Imagined.{Imagines, flush_brought}
-use Rattle.walk_laws.specs.Walk.{brought_under}
-use Rattle.walk_laws.specs.Pairs.{PairsBeside, bringing_under}
+use Rattle.book_laws.specs.Imagined.{Imagines, flush_brought}
+use Rattle.book_laws.specs.Walk.{brought_under}
+use Rattle.book_laws.specs.Pairs.{PairsBeside, bringing_under}
 use Rattle.slot_image_laws.specs.Images.{RunStart, disk_books}
 use Rattle.imagined_laws.specs.Parts.{parts_once}
-use Rattle.label_laws.specs.Maps.{Telling, past_of, Numbered, bringing_of}
-use Rattle.label_laws.specs.Beside.{IsToldBeside, run_told}
+use Rattle.close_laws.specs.Maps.{Telling, past_of, Numbered, bringing_of}
+use Rattle.close_laws.specs.Beside.{IsToldBeside, run_told}
 
 -- no two of some have one number under this
 abbrev pub DifferBy : {X : Type 0} → (X → ℕ) → List X → Type 0

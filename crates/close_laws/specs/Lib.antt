@@ -1,3 +1,7 @@
+pub mod Own
+pub mod Maps
+pub mod Beside
+pub mod PenLabels
 pub mod Fronts
 pub mod Close
 pub mod Pens

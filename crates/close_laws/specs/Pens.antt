@@ -8,15 +8,15 @@ use Rattle.crash_laws.specs.Survives.{SurvivesAll, ReadsBack}
 use Rattle.flush_laws.specs.Volume.{Volume}
 use Rattle.turn_laws.specs.Books.{flush_at}
 use Rattle.merge_laws.specs.Pens.{FsyncTurns, PenAgrees}
-use Rattle.walk_laws.specs.Pairs.{bringing_under}
+use Rattle.book_laws.specs.Pairs.{bringing_under}
 use Rattle.stamp_table.specs.Events.{event_core}
 use Rattle.stamp_table.specs.Rule.{entries_by}
 use Rattle.slot_laws.specs.Laws.{IsAtRest, AreOfCores}
 use Rattle.slot_laws.specs.Labels.{own_from, nothing_told}
 use Rattle.slot_laws.specs.Telling.{turns_in}
 use Rattle.slot_image_laws.specs.Run.{RunFits, BeganWith}
-use Rattle.label_laws.specs.Maps.{Numbered, Telling, past_of}
-use Rattle.label_laws.specs.Pens.{PensTell, PensTellBeside}
+use Rattle.close_laws.specs.Maps.{Numbered, Telling, past_of}
+use Rattle.close_laws.specs.PenLabels.{PensTell, PensTellBeside}
 use Rattle.close_laws.specs.Fronts.{AreTurnsOf}
 use Rattle.close_laws.specs.Close.{TellsAll}
 

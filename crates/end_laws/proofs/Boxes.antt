@@ -6,13 +6,13 @@ use Rattle.cut_laws.proofs.Listed.{from_map, to_map}
 use Rattle.beside_laws.specs.Commits.{CoreCommit}
 use Rattle.beside_laws.specs.Box.{nobody, somebody, KnewLast, BoxGoesOn, NO_COMMIT, BoxState, IsUnmoved, BoxGives, with_open, here}
 use Rattle.beside_laws.proofs.Boxes.{boxes_give}
-use Rattle.walk_laws.specs.Pairs.{commit_under}
+use Rattle.book_laws.specs.Pairs.{commit_under}
 use Rattle.slot_laws.specs.Nodes.{ReservedCommit, last_seen}
 use Rattle.slot_laws.specs.Lasts.{Reserving, IsMadeAs, NamesLast, held_by_none, held_last_by, KnewItsNodes, box_of}
 use Rattle.slot_laws.specs.Labels.{BoxPast}
 use Rattle.slot_laws.proofs.Lasts.{seen_some}
-use Rattle.label_laws.specs.Maps.{Numbered, commit_numbered}
-use Rattle.label_laws.specs.Beside.{stamps_under}
+use Rattle.close_laws.specs.Maps.{Numbered, commit_numbered}
+use Rattle.close_laws.specs.Beside.{stamps_under}
 use Rattle.end_laws.proofs.Later.{GoesOnFrom}
 
 module _ (named : Numbered) where

@@ -11,15 +11,15 @@ use Rattle.commit_laws.specs.CommitOfPlan.{CommitPlan, change_planned}
 use Rattle.commit_laws.specs.PartsStand.{part_next}
 use Rattle.beside_laws.specs.Commits.{CoreCommit}
 use Rattle.plan_laws.specs.Leads.{commit_made_of}
-use Rattle.bringing_laws.specs.Brings.{Bringing}
+use Rattle.book_laws.specs.Brings.{Bringing}
 use Rattle.reserve_laws.specs.Plans.{bringing_made}
 use Rattle.note_laws.specs.Run.{TableRun}
 use Rattle.made_laws.specs.Made.{IsPlanMade, sources_of}
 use Rattle.slot_laws.specs.declared.label.Seen.{Seen}
 use Rattle.slot_laws.specs.Lasts.{IsMadeAs}
 use Rattle.slot_laws.specs.Telling.{BoxTurn, turn_reserves, turn_empties, turn_begins, turn_works, turn_refuses, turn_returns, turn_opens, turn_lands, turn_fails, turn_fails_begun}
-use Rattle.label_laws.specs.Maps.{Numbered, GrantFits, ReservedAs, IsEmptyAs, bringing_of}
-use Rattle.label_laws.specs.Pens.{TurnFits, IsJobBrought}
+use Rattle.close_laws.specs.Maps.{Numbered, GrantFits, ReservedAs, IsEmptyAs, bringing_of}
+use Rattle.close_laws.specs.PenLabels.{TurnFits, IsJobBrought}
 use Rattle.flush_agrees.specs.Made.{FlushMade, GrantsNeed, change_of, SeesConcerned, TurnMade}
 use Rattle.end_laws.specs.Fitting.{MadesFit, IsBroughtAs, FreesNothing}
 

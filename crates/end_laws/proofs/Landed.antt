@@ -20,8 +20,8 @@ use Rattle.beside_laws.specs.Commits.{CoreCommit}
 use Rattle.dep_closure.proofs.Looked.{to_flat}
 use Rattle.merge_laws.specs.Pens.{turns_of_core}
 use Rattle.merge_laws.proofs.Lists.{in_part}
-use Rattle.bringing_laws.specs.Brings.{Bringing}
-use Rattle.walk_laws.specs.Pairs.{commit_under, bringing_under}
+use Rattle.book_laws.specs.Brings.{Bringing}
+use Rattle.book_laws.specs.Pairs.{commit_under, bringing_under}
 use Rattle.reserve_laws.specs.Olds.{IsKeptIn}
 use Rattle.stamp_table.specs.declared.event.Event.{Event}
 use Rattle.stamp_table.specs.Events.{event_core}
@@ -36,7 +36,7 @@ use Rattle.slot_laws.specs.Labels.{own_from, nothing_told}
 use Rattle.slot_laws.specs.declared.label.Label.{Label}
 use Rattle.slot_laws.proofs.Lawful.{pens_make_the_record}
 use Rattle.slot_laws.proofs.Telling.{pens_tell_turns}
-use Rattle.label_laws.specs.Maps.{Numbered, past_of}
+use Rattle.close_laws.specs.Maps.{Numbered, past_of}
 use Rattle.flush_agrees.specs.Agreement.{FlushTold, HasLanded, turns_of}
 use Rattle.flush_agrees.specs.Made.{FlushMade, LeavesOfNode}
 use Rattle.flush_agrees.specs.Closing.{ToldAtEnd}

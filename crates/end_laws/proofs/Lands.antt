@@ -7,17 +7,17 @@ use Rattle.sfs_image.specs.Super.{Layout}
 use Rattle.space_map.specs.Space.{Space}
 use Rattle.tree_laws.specs.declared.turns.Turn.{Turn}
 use Rattle.tree_laws.specs.declared.turns.TurnAct.TheVariants as act
-use Rattle.label_laws.proofs.Owing.{tells}
+use Rattle.close_laws.proofs.Owing.{tells}
 use Rattle.cut_laws.specs.Rules.{IsOneOf}
 use Rattle.cut_laws.specs.Closure.{Flush}
 use Rattle.cut_laws.proofs.Basics.{in_left, in_either, in_right}
 use Rattle.cut_laws.proofs.Listed.{from_map, to_filter}
 use Rattle.cut_laws.proofs.RunFacts.{in_filter}
 use Rattle.beside_laws.specs.Commits.{Share}
-use Rattle.walk_laws.specs.Pairs.{Pair, commit_under}
+use Rattle.book_laws.specs.Pairs.{Pair, commit_under}
 use Rattle.reserve_laws.specs.Olds.{NumbersRise}
 use Rattle.stamp_table.specs.declared.event.Event.{Event}
-use Rattle.label_laws.proofs.Drawn.{Drawing}
+use Rattle.close_laws.proofs.Drawn.{Drawing}
 use Rattle.sfs_base.proofs.BasicNumbers.{same_number}
 use Rattle.stamp_table.specs.declared.event.Event.TheVariants.{Told, Called}
 use Rattle.slot_laws.specs.Nodes.{ReservedCommit, commits_numbered, is_numbered}
@@ -28,10 +28,10 @@ use Rattle.slot_laws.specs.declared.label.Label.TheVariants as label
 use Rattle.slot_laws.specs.Grants.{SpaceGoes, GoesAlong}
 use Rattle.slot_laws.proofs.Numbered.{last_or_before, find_split, at_seam}
 use Rattle.slot_laws.proofs.NodesTold.{LastsOf}
-use Rattle.label_laws.specs.Maps.{Numbered, commit_numbered, ReservedAs, FitBringings}
-use Rattle.label_laws.specs.Beside.{stamps_under}
-use Rattle.label_laws.specs.Own.{OwesTurn, owes_granted, owes_given_back, owes_nothing, StandBeside, TellsBeside}
-use Rattle.label_laws.proofs.Along.{drawing_first, through_label}
+use Rattle.close_laws.specs.Maps.{Numbered, commit_numbered, ReservedAs, FitBringings}
+use Rattle.close_laws.specs.Beside.{stamps_under}
+use Rattle.close_laws.specs.Own.{OwesTurn, owes_granted, owes_given_back, owes_nothing, StandBeside, TellsBeside}
+use Rattle.close_laws.proofs.AlongLabels.{drawing_first, through_label}
 use Rattle.end_laws.proofs.Later.{IsNumberedIn}
 
 -- numbers go on rising with one that has a greater number than those before it with which it shares a node

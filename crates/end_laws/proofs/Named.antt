@@ -2,19 +2,19 @@
 use Rattle.std.proofs.Common.{◌≡◌, ◌∙◌, ◌∷◌, ℕ, List, [], refl, Some, ap, subst, sym}
 use Rattle.sfs_image.specs.ImageOf.{InodePart}
 use Rattle.flush_laws.specs.Volume.{Volume}
-use Rattle.bringing_laws.specs.Imagined.{OnDisk, all_brought, on_disk, with_brought, Imagines}
-use Rattle.bringing_laws.specs.Brings.{Bringing}
-use Rattle.bringing_laws.proofs.Imagined.{imagined_are_those}
-use Rattle.walk_laws.specs.Pairs.{Pair, bringing_under, commit_under}
-use Rattle.walk_laws.specs.Walk.{brought_under}
+use Rattle.book_laws.specs.Imagined.{OnDisk, all_brought, on_disk, with_brought, Imagines}
+use Rattle.book_laws.specs.Brings.{Bringing}
+use Rattle.book_laws.proofs.Imagined.{imagined_are_those}
+use Rattle.book_laws.specs.Pairs.{Pair, bringing_under, commit_under}
+use Rattle.book_laws.specs.Walk.{brought_under}
 use Rattle.reserve_laws.specs.Plans.{parts_given, bringing_made}
 use Rattle.stamp_table.specs.declared.event.Event.{Event}
 use Rattle.made_laws.specs.Made.{sources_of}
 use Rattle.slot_laws.specs.Labels.{BoxPast, past_from, first_past}
 use Rattle.slot_laws.specs.declared.label.Label.{Label}
 use Rattle.slot_laws.specs.Rules.{MayFrom}
-use Rattle.label_laws.specs.Maps.{Numbered}
-use Rattle.label_laws.specs.Beside.{brought_at, stamps_under}
+use Rattle.close_laws.specs.Maps.{Numbered}
+use Rattle.close_laws.specs.Beside.{brought_at, stamps_under}
 use Rattle.flush_agrees.specs.Agreement.{FlushTold}
 use Rattle.flush_agrees.specs.Made.{FlushMade}
 use Rattle.end_laws.specs.Fitting.{IsBroughtAs}

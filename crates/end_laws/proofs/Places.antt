@@ -12,9 +12,9 @@ use Rattle.beside_laws.specs.Commits.{CoreCommit}
 use Rattle.beside_laws.specs.Answers.{asked}
 use Rattle.flush_laws.specs.Volume.{Volume}
 use Rattle.mark_laws.specs.Changed.{HasShortFiles}
-use Rattle.bringing_laws.specs.Imagined.{Imagines}
-use Rattle.bringing_laws.proofs.Imagined.{imagined_are_those}
-use Rattle.walk_laws.specs.Pairs.{commit_under, bringing_under}
+use Rattle.book_laws.specs.Imagined.{Imagines}
+use Rattle.book_laws.proofs.Imagined.{imagined_are_those}
+use Rattle.book_laws.specs.Pairs.{commit_under, bringing_under}
 use Rattle.reserve_laws.specs.Olds.{IsKeptIn, DoneBeside, AreDoneBeside}
 use Rattle.stamp_table.specs.declared.event.Event.{Event}
 use Rattle.mem_values.specs.Account.{Commitment, held_by}
@@ -28,9 +28,9 @@ use Rattle.slot_laws.specs.Labels.{BoxPast, first_past, past_from}
 use Rattle.slot_laws.specs.declared.label.Label.{Label}
 use Rattle.slot_laws.specs.Nodes.{ReservedCommit}
 use Rattle.slot_laws.proofs.NodesTold.{past_parts}
-use Rattle.label_laws.specs.Maps.{Numbered, past_of, IsTold}
-use Rattle.label_laws.specs.Beside.{stamps_under, brought_at, PairsAt}
-use Rattle.label_laws.proofs.PensFit.{pens_tell_labels}
+use Rattle.close_laws.specs.Maps.{Numbered, past_of, IsTold}
+use Rattle.close_laws.specs.Beside.{stamps_under, brought_at, PairsAt}
+use Rattle.close_laws.proofs.PensFit.{pens_tell_labels}
 use Rattle.end_laws.specs.Mount.{MountEnd, MountEnds, AreNamed, run_at}
 use Rattle.end_laws.proofs.Landed.{pens, LandedAt, landed_at, pair_made, tells_pair, pair_nodes, ToldBy, pair_number, told_by, pair_keeps, turn_there, own_stamp}
 use Rattle.end_laws.proofs.Lands.{PlaceOn, place_first, place_at, LandSo, LandedUnder}

@@ -4,8 +4,8 @@ use Rattle.sfs_base.proofs.BasicOptions.{none_some, some_same}
 use Rattle.sfs_image.specs.ImageOf.{InodePart}
 use Rattle.cut_laws.specs.Closure.{Flush}
 use Rattle.cut_laws.specs.Rules.{IsOneOf}
-use Rattle.bringing_laws.specs.Brings.{Bringing}
-use Rattle.walk_laws.specs.Pairs.{Pair}
+use Rattle.book_laws.specs.Brings.{Bringing}
+use Rattle.book_laws.specs.Pairs.{Pair}
 use Rattle.reserve_laws.specs.Plans.{bringing_made}
 use Rattle.made_laws.specs.Made.{CoreMade, sources_of}
 use Rattle.made_laws.specs.Tells.{commit_made}

@@ -11,7 +11,7 @@ use Rattle.dep_closure.specs.Gathered.{look_of}
 use Rattle.flush_laws.specs.Volume.{Volume}
 use Rattle.flush_plan.specs.Moved.{cuts_after}
 use Rattle.plan_laws.specs.Leads.{found_from}
-use Rattle.bringing_laws.specs.Brings.{Bringing}
+use Rattle.book_laws.specs.Brings.{Bringing}
 use Rattle.reserve_laws.specs.Plans.{bringing_made}
 use Rattle.note_laws.specs.Run.{TableRun, calls_of}
 use Rattle.note_laws.specs.Merged.{is_noted_by}

@@ -18,8 +18,8 @@ use Rattle.sfs_base.proofs.BasicOptions.{none_some, some_same}
 use Rattle.slot_laws.specs.declared.label.Label.TheVariants as label
 use Rattle.slot_laws.specs.Labels.{OwnTold, own_from, nothing_told}
 use Rattle.slot_laws.specs.Nodes.{no_numbers}
-use Rattle.label_laws.specs.Maps.{Numbered}
-use Rattle.label_laws.proofs.PensStand.{works_steps, flights_steps}
+use Rattle.close_laws.specs.Maps.{Numbered}
+use Rattle.close_laws.proofs.PensStand.{works_steps, flights_steps}
 use Rattle.flush_agrees.specs.Made.{TellsNoNumber, FlushMade, TurnMade}
 use Rattle.flush_agrees.specs.Agreement.{FlushTold}
 use Rattle.end_laws.specs.Mount.{MountEnd, IsFsyncAt, MountEnds, AreNamed}

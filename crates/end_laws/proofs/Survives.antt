@@ -18,9 +18,9 @@ use Rattle.slot_laws.specs.Labels.{first_past, past_from}
 use Rattle.slot_laws.specs.Laws.{IsPenOf, AreOfCores}
 use Rattle.slot_laws.specs.Telling.{turns_in}
 use Rattle.slot_laws.proofs.Lawful.{labels_count_faults, labels_merge_pens, labels_rise}
-use Rattle.label_laws.specs.Maps.{past_of, Numbered}
-use Rattle.label_laws.specs.Beside.{TellAlong}
-use Rattle.label_laws.proofs.PensFit.{pens_have_turns, pens_tell_labels}
+use Rattle.close_laws.specs.Maps.{past_of, Numbered}
+use Rattle.close_laws.specs.Beside.{TellAlong}
+use Rattle.close_laws.proofs.PensFit.{pens_have_turns, pens_tell_labels}
 use Rattle.close_laws.specs.Close.{EndsMount}
 use Rattle.close_laws.proofs.PensClose.{pens_are_turns_of}
 use Rattle.close_laws.proofs.Mounts.{turns_close}

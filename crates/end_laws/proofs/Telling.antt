@@ -9,9 +9,9 @@ use Rattle.cut_laws.proofs.Basics.{in_left}
 use Rattle.beside_laws.specs.Box.{BoxGoesOn, NO_COMMIT, BoxState}
 use Rattle.beside_laws.specs.Commits.{CoreCommit}
 use Rattle.flush_laws.specs.Volume.{Volume}
-use Rattle.bringing_laws.specs.Imagined.{Imagines}
-use Rattle.bringing_laws.specs.Brings.{Bringing}
-use Rattle.walk_laws.specs.Pairs.{commit_under, bringing_under}
+use Rattle.book_laws.specs.Imagined.{Imagines}
+use Rattle.book_laws.specs.Brings.{Bringing}
+use Rattle.book_laws.specs.Pairs.{commit_under, bringing_under}
 use Rattle.reserve_laws.specs.Plans.{bringing_made}
 use Rattle.reserve_laws.specs.Fits.{TellsPair, by_look}
 use Rattle.stamp_table.specs.declared.event.Event.{Event}
@@ -31,8 +31,8 @@ use Rattle.slot_laws.specs.Rules.{MayFrom}
 use Rattle.slot_laws.proofs.Numbered.{at_seam}
 use Rattle.slot_laws.proofs.NodesBack.{labels_keep_the_box}
 use Rattle.slot_laws.proofs.NodesTold.{may_parts, reserving_knew, past_parts}
-use Rattle.label_laws.specs.Maps.{Numbered, IsTold, commit_numbered}
-use Rattle.label_laws.specs.Beside.{stamps_under, brought_at, PairsAt, TellsAt, TellAlong}
+use Rattle.close_laws.specs.Maps.{Numbered, IsTold, commit_numbered}
+use Rattle.close_laws.specs.Beside.{stamps_under, brought_at, PairsAt, TellsAt, TellAlong}
 use Rattle.end_laws.specs.Mount.{MountEnd, MountEnds, AreNamed, run_at, IsPairOf, ReservedAt}
 use Rattle.end_laws.specs.Along.{NamedTellAlong}
 use Rattle.end_laws.proofs.Places.{told_labels, PlaceHere, place_behind, end_past, end_lands, goes_to_end, all_done, done_of_all, done_told, beside_there, all_made, disk_there, done_there, volume_there}

@@ -10,15 +10,15 @@ use Rattle.cut_laws.proofs.Basics.{filter_none}
 use Rattle.dep_closure.proofs.Looked.{to_flat}
 use Rattle.turn_laws.specs.Books.{flush_at}
 use Rattle.merge_laws.proofs.Lists.{in_part}
-use Rattle.walk_laws.specs.Pairs.{bringing_under}
+use Rattle.book_laws.specs.Pairs.{bringing_under}
 use Rattle.stamp_table.specs.declared.event.Event.{Event}
 use Rattle.stamp_table.specs.Rule.{entries_by}
 use Rattle.stamp_table.specs.Events.{event_core}
 use Rattle.slot_laws.specs.Telling.{BoxTurn, turn_reserves, turn_empties, turn_begins, turn_works, turn_refuses, turn_returns, turn_opens, turn_lands, turn_fails, turn_fails_begun, events_in, TellTurns, PenTold, turns_in, turns_told, labels_in}
 use Rattle.slot_laws.specs.declared.label.Label.{Label}
 use Rattle.slot_laws.specs.Labels.{nothing_told}
-use Rattle.label_laws.specs.Maps.{Numbered}
-use Rattle.label_laws.specs.Pens.{TurnFits, PensTell}
+use Rattle.close_laws.specs.Maps.{Numbered}
+use Rattle.close_laws.specs.PenLabels.{TurnFits, PensTell}
 use Rattle.close_laws.specs.Pens.{PensRest}
 use Rattle.flush_agrees.specs.Agreement.{FlushTold, turns_of}
 use Rattle.flush_agrees.specs.Made.{TellsNoNumber, FlushMade, GrantsNeed}

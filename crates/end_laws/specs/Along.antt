@@ -1,7 +1,7 @@
 -- What cores tell along the labels of each mount.
 use Rattle.slot_laws.specs.Labels.{first_past}
-use Rattle.label_laws.specs.Maps.{Numbered}
-use Rattle.label_laws.specs.Beside.{TellAlong}
+use Rattle.close_laws.specs.Maps.{Numbered}
+use Rattle.close_laws.specs.Beside.{TellAlong}
 use Rattle.end_laws.specs.Mount.{MountEnd, MountEnds, AreNamed}
 
 -- As a number is reserved its core tells of its pair, beside each volume that is imagined there, along all labels.

@@ -21,7 +21,7 @@ use Rattle.volume_laws.specs.Mounting.{WasMounted}
 use Rattle.reserve_laws.specs.Olds.{IsKeptIn}
 use Rattle.mem_values.specs.Start.{given_in}
 use Rattle.slot_image_laws.specs.Run.{BeganWith}
-use Rattle.label_laws.specs.Beside.{BeginsLabels}
+use Rattle.close_laws.specs.Beside.{BeginsLabels}
 
 -- A volume is one that a mount begins, with all of the history that comes behind it: labels may begin with it beside what was mounted, no fsync is on its disk
 -- yet, no file of its tree is longer than one may be, and what a table is given of a node is what memory keeps of it.

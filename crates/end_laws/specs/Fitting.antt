@@ -10,8 +10,8 @@ use Rattle.made_laws.specs.Tells.{commit_made}
 use Rattle.made_laws.specs.Made.{CoreMade, sources_of}
 use Rattle.slot_laws.specs.Telling.{BoxTurn}
 use Rattle.slot_laws.specs.Nodes.{no_numbers}
-use Rattle.label_laws.specs.Maps.{Numbered, commit_numbered, bringing_of}
-use Rattle.label_laws.specs.Pens.{TurnFits}
+use Rattle.close_laws.specs.Maps.{Numbered, commit_numbered, bringing_of}
+use Rattle.close_laws.specs.PenLabels.{TurnFits}
 use Rattle.flush_agrees.specs.Made.{FlushMade, GrantsNeed, TurnMade, change_of}
 
 -- What was made for a number is what commits bring under its stamp: the commit as its core made it, and the plan with its grant, in some volume.

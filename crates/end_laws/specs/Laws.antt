@@ -1,7 +1,7 @@
 -- What is so of each mount as it ends.
 use Rattle.std.specs.Prelude.{◌≡◌, ℕ, List, Some, slice_get}
-use Rattle.label_laws.specs.Maps.{Numbered}
-use Rattle.label_laws.specs.Pens.{PensTell}
+use Rattle.close_laws.specs.Maps.{Numbered}
+use Rattle.close_laws.specs.PenLabels.{PensTell}
 use Rattle.close_laws.specs.Pens.{PensRest}
 use Rattle.flush_agrees.specs.Agreement.{FlushTold, turns_of}
 use Rattle.end_laws.specs.Mount.{AreNamed, MountEnd, MountEnds}

@@ -9,8 +9,8 @@ use Rattle.cut_laws.specs.Rules.{IsOneOf}
 use Rattle.beside_laws.specs.Answers.{asked}
 use Rattle.flush_laws.specs.Volume.{Volume}
 use Rattle.mark_laws.specs.Changed.{HasShortFiles}
-use Rattle.bringing_laws.specs.Imagined.{Imagines}
-use Rattle.walk_laws.specs.Pairs.{commit_under, bringing_under}
+use Rattle.book_laws.specs.Imagined.{Imagines}
+use Rattle.book_laws.specs.Pairs.{commit_under, bringing_under}
 use Rattle.reserve_laws.specs.Olds.{IsKeptIn}
 use Rattle.reserve_laws.specs.Plans.{bringing_made}
 use Rattle.stamp_table.specs.declared.event.Event.{Event}
@@ -29,8 +29,8 @@ use Rattle.slot_laws.specs.Labels.{first_past, nothing_told, own_from, past_from
 use Rattle.slot_laws.specs.Grants.{GoesAlong}
 use Rattle.slot_laws.specs.Laws.{AreOfCores, IsAtRest}
 use Rattle.disk_box.specs.Pens.{PenHand}
-use Rattle.label_laws.specs.Beside.{BeginsLabels, brought_at}
-use Rattle.label_laws.specs.Maps.{Numbered, Telling}
+use Rattle.close_laws.specs.Beside.{BeginsLabels, brought_at}
+use Rattle.close_laws.specs.Maps.{Numbered, Telling}
 use Rattle.flush_agrees.specs.Agreement.{CoresAgree, FlushTold, run_to}
 use Rattle.flush_agrees.specs.Closing.{AgreeAtEnd, HasStamps, MountLogs, ReachesEnd}
 use Rattle.flush_agrees.specs.Made.{FlushMade}

@@ -8,7 +8,7 @@ use Rattle.merge_laws.specs.Plays.{PensMerge}
 use Rattle.merge_laws.specs.LeftByTurns.{TellInTime, SurvivesByTurns, ReadsByTurns}
 use Rattle.merge_laws.specs.Pens.{AgreesAll}
 use Rattle.slot_image_laws.specs.Run.{RunFits, BeganWith}
-use Rattle.label_laws.specs.Maps.{past_of}
+use Rattle.close_laws.specs.Maps.{past_of}
 use Rattle.close_laws.specs.Close.{TellsAll}
 use Rattle.flush_agrees.specs.Closing.{pen_fsyncs}
 use Rattle.end_laws.specs.Mount.{MountEnd, MountEnds}

@@ -16,12 +16,12 @@ use Rattle.merge_laws.specs.Phases.{phase_of, has_reserved}
 use Rattle.merge_laws.proofs.Lists.{nothing_there, heads_are}
 use Rattle.merge_laws.proofs.Worked.{of_each}
 use Rattle.turn_ties.specs.Plans.{amount_planned}
-use Rattle.walk_laws.specs.Pairs.{Pair, ArePairsApart, bringing_under}
-use Rattle.walk_laws.specs.Walk.{IsVolumeAt}
-use Rattle.walk_laws.proofs.Worked.{nothing_yet, first_volume, last_played, two_pens_are_kept}
-use Rattle.walk_laws.proofs.Played.{fits_play}
-use Rattle.walk_laws.proofs.Walk.{records_are_kept}
-use Rattle.map_laws.specs.Along.{MapGoes, no_turn_made, one_turn_made}
+use Rattle.book_laws.specs.Pairs.{Pair, ArePairsApart, bringing_under}
+use Rattle.book_laws.specs.Walk.{IsVolumeAt}
+use Rattle.book_laws.proofs.Worked.{nothing_yet, first_volume, last_played, two_pens_are_kept}
+use Rattle.book_laws.proofs.Played.{fits_play}
+use Rattle.book_laws.proofs.Walk.{records_are_kept}
+use Rattle.book_laws.specs.Along.{MapGoes, no_turn_made, one_turn_made}
 use Rattle.reserve_laws.specs.Fits.{TellsAct, place_of, ReservesTold, CoresTell}
 use Rattle.example_laws.specs.Fsyncs.{TWO_KEPT, commit_plan, FIRST_FLUSH, SECOND_FLUSH, sources_by, pair_by}
 use Rattle.example_laws.specs.Map.{TWO_TAKEN, TWO_MAPPED}

@@ -20,9 +20,9 @@ use Rattle.flush_laws.specs.Volume.{Volume}
 use Rattle.turn_laws.specs.Need.{nothing}
 use Rattle.merge_laws.proofs.Worked.{of_each}
 use Rattle.turn_ties.specs.Plans.{amount_planned}
-use Rattle.bringing_laws.specs.Imagined.{Imagines}
-use Rattle.bringing_laws.proofs.Imagined.{first_imagined}
-use Rattle.walk_laws.specs.Pairs.{Pair}
+use Rattle.book_laws.specs.Imagined.{Imagines}
+use Rattle.book_laws.proofs.Imagined.{first_imagined}
+use Rattle.book_laws.specs.Pairs.{Pair}
 use Rattle.reserve_laws.specs.Fits.{TellsPair, by_look}
 use Rattle.stamp_table.specs.declared.event.Event.{Event}
 use Rattle.stamp_table.specs.Events.{event_core}
@@ -37,9 +37,9 @@ use Rattle.slot_laws.specs.Worked.{seen_one}
 use Rattle.slot_laws.proofs.Lawful.{none_by}
 use Rattle.slot_laws.proofs.WorkedBegins.{one_unmoved}
 use Rattle.slot_laws.proofs.Comes.{may_both}
-use Rattle.label_laws.specs.Own.{OwnStand, nothing_owed, StandBeside}
-use Rattle.label_laws.specs.Maps.{IsTold, GrantFits, ReservedAs, IsEmptyAs, FitBringings, FitsBringing}
-use Rattle.label_laws.specs.Beside.{IsToldBeside, BeginsLabels}
+use Rattle.close_laws.specs.Own.{OwnStand, nothing_owed, StandBeside}
+use Rattle.close_laws.specs.Maps.{IsTold, GrantFits, ReservedAs, IsEmptyAs, FitBringings, FitsBringing}
+use Rattle.close_laws.specs.Beside.{IsToldBeside, BeginsLabels}
 use Rattle.example_laws.specs.Fsyncs.{core_commit_of, NO_GRANT, Flushing, commit_plan, pair_by, FIRST_FLUSH, SECOND_FLUSH, sources_by}
 use Rattle.example_laws.specs.Told.{UP_TO_THE_FIFTH, AT_THE_EIGHTH, TWO_NUMBERED, TWO_TOLD}
 use Rattle.example_laws.specs.Image.{TWELVE_BLOCKS, TWO_DIRECTORIES, TWO_PARTS, ROOT_BLOCK, TWO_RECORDS}

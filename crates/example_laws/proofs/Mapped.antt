@@ -31,9 +31,9 @@ use Rattle.space_laws.specs.Laws.{HasNoneGranted}
 use Rattle.space_laws.proofs.Mapped.{first_maps_are_right}
 use Rattle.plan_laws.proofs.Nets.{ascend_sorted}
 use Rattle.turn_ties.specs.Plans.{amount_planned}
-use Rattle.bringing_laws.proofs.Left.{ascending_ascends}
-use Rattle.map_laws.specs.Out.{WasReserved}
-use Rattle.map_laws.specs.Along.{EndsBringing}
+use Rattle.book_laws.proofs.Left.{ascending_ascends}
+use Rattle.book_laws.specs.Out.{WasReserved}
+use Rattle.book_laws.specs.Along.{EndsBringing}
 use Rattle.example_laws.specs.Map.{TWO_TAKEN}
 use Rattle.example_laws.specs.Fsyncs.{entry_at, NO_GRANT, roomless, Flushing, commit_plan, pair_by}
 use Rattle.example_laws.specs.Image.{ROOT_INODE, TWELVE_BLOCKS}

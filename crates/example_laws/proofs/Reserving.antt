@@ -5,10 +5,10 @@ use Rattle.commit_laws.specs.CommitOfPlan.{CommitPlan}
 use Rattle.turn_laws.specs.Need.{Amount}
 use Rattle.turn_laws.specs.Books.{FitsFree, Books, least_open, is_open_in}
 use Rattle.turn_ties.specs.Plans.{amount_planned}
-use Rattle.walk_laws.specs.Pairs.{ArePairsApart}
-use Rattle.walk_laws.specs.Worked.{TwoReserve}
-use Rattle.walk_laws.specs.Midway.{books_granted}
-use Rattle.walk_laws.specs.Walk.{grant_at}
+use Rattle.book_laws.specs.Pairs.{ArePairsApart}
+use Rattle.book_laws.specs.Worked.{TwoReserve}
+use Rattle.book_laws.specs.Midway.{books_granted}
+use Rattle.book_laws.specs.Walk.{grant_at}
 use Rattle.example_laws.specs.Fsyncs.{pair_by, SECOND_FLUSH, FIRST_FLUSH, TWO_KEPT, commit_plan}
 use Rattle.example_laws.specs.Image.{TWO_DIRECTORIES}
 use Rattle.example_laws.proofs.Plans.{NeedsNone, first_needs, second_needs}

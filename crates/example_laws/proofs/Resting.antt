@@ -13,7 +13,7 @@ use Rattle.turn_laws.specs.Books.{flush_at}
 use Rattle.merge_laws.specs.Pens.{PenAgrees, FsyncTurns}
 use Rattle.merge_laws.specs.Worked.{TWO_CORES, BOTH_HISTORY, own_fsync, other_fsync}
 use Rattle.merge_laws.proofs.Worked.{own_is, pen_one, own_live, own_only, some_turns, goes_with, never_durable, never_stopped, other_live, other_only, other_is, of_each}
-use Rattle.walk_laws.specs.Pairs.{bringing_under}
+use Rattle.book_laws.specs.Pairs.{bringing_under}
 use Rattle.stamp_table.specs.declared.event.Event.{Event}
 use Rattle.stamp_table.specs.declared.event.Event.TheVariants.{Called, Told}
 use Rattle.slot_laws.specs.declared.label.Label.{Label}
@@ -25,7 +25,7 @@ use Rattle.slot_laws.proofs.Lawful.{lawful_fits, first_fits}
 use Rattle.slot_image_laws.specs.Labels.{IsToldOf}
 use Rattle.slot_image_laws.specs.Run.{KeepsLaws, RunFits, Syncs, BeganWith}
 use Rattle.slot_image_laws.proofs.Running.{told_labels_fit, first_runs_fit, failed_syncs_fit}
-use Rattle.label_laws.specs.Maps.{past_of}
+use Rattle.close_laws.specs.Maps.{past_of}
 use Rattle.close_laws.specs.Close.{PensAgree, EndsMount}
 use Rattle.close_laws.specs.Fronts.{AreTurnsOf}
 use Rattle.close_laws.proofs.Mounts.{table_mounts_close}

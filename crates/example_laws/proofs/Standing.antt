@@ -23,7 +23,7 @@ use Rattle.cut_laws.specs.Closure.{none}
 use Rattle.raise_laws.specs.Next.{IsMountedHistory}
 use Rattle.merge_laws.specs.Worked.{TWO_CORES, BOTH_HISTORY}
 use Rattle.volume_laws.specs.Volume.{IsVolumeStanding}
-use Rattle.walk_laws.specs.Walk.{BeginsWalk}
+use Rattle.book_laws.specs.Walk.{BeginsWalk}
 use Rattle.example_laws.specs.Image.{ROOT_SLOTS, TWO_NUMBERS, TWO_PARTS, TWELVE_BLOCKS, TWO_DIRECTORIES}
 use Rattle.example_laws.proofs.Image.{ROOT_PART, root_is, root_blocks, root_slots, ONE_PART, one_is, one_blocks, inode_cases, root_others, one_has_none, free_has, free_kind, sound_parts}
 use Rattle.example_laws.proofs.Tree.{ROWS, is_root_directory, is_one_directory, root_there, one_there, rows_are, no_bytes, row_is, two_sound, two_limits, two_alive, history_legal, same_at_cut, node_is}

@@ -36,7 +36,7 @@ use Rattle.flush_plan.specs.Plan.{files_written, is_written}
 use Rattle.mark_laws.specs.Changed.{HasShortFiles}
 use Rattle.plan_laws.specs.Plans.{Sources, IsPlanFrom}
 use Rattle.plan_laws.specs.Leads.{found_from, commit_made_of}
-use Rattle.walk_laws.specs.Pairs.{run_with, IsOpenBeside}
+use Rattle.book_laws.specs.Pairs.{run_with, IsOpenBeside}
 use Rattle.reserve_laws.specs.Looks.{MayPlan, IsGatheredFor, CoreTells, ServesPair}
 use Rattle.reserve_laws.specs.Plans.{bringing_made, parts_given}
 use Rattle.reserve_laws.proofs.Looks.{cores_open}

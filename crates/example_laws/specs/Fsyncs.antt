@@ -14,8 +14,8 @@ use Rattle.flush_plan.specs.declared.concern.Concern.{Concern}
 use Rattle.flush_plan.specs.declared.plans.FsyncPlan.{FsyncPlan}
 use Rattle.plan_laws.specs.Leads.{found_from}
 use Rattle.plan_laws.specs.Plans.{Sources}
-use Rattle.walk_laws.specs.Pairs.{Pair}
-use Rattle.walk_laws.specs.Walk.{Bookkeeping}
+use Rattle.book_laws.specs.Pairs.{Pair}
+use Rattle.book_laws.specs.Walk.{Bookkeeping}
 use Rattle.reserve_laws.specs.Plans.{parts_given}
 use Rattle.example_laws.specs.Image.{TWO_PARTS, TWO_DIRECTORIES}
 

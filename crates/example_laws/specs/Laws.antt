@@ -3,9 +3,9 @@ use Rattle.std.specs.Prelude.{[]}
 use Rattle.turn_laws.specs.Recorded.{IsRecorded}
 use Rattle.turn_ties.specs.Plans.{image_held}
 use Rattle.merge_laws.specs.Worked.{TWO_CORES, BOTH_HISTORY, BOTH_TURNS, BOTH_PENS}
-use Rattle.walk_laws.specs.Laws.{AgreesWithBooks}
-use Rattle.walk_laws.specs.Walk.{FitsRecord}
-use Rattle.walk_laws.specs.Worked.{TwoReserve}
+use Rattle.book_laws.specs.WalkLaws.{AgreesWithBooks}
+use Rattle.book_laws.specs.Walk.{FitsRecord}
+use Rattle.book_laws.specs.Worked.{TwoReserve}
 use Rattle.reserve_laws.specs.Fits.{CoresTell}
 use Rattle.reserve_laws.specs.Looks.{CoreTells, ServesPair}
 use Rattle.example_laws.specs.Image.{TWO_DIRECTORIES}

@@ -2,7 +2,7 @@
 use Rattle.std.specs.Prelude.{◌∷◌, [], replicate}
 use Rattle.space_map.specs.Space.{Space}
 use Rattle.space_map.specs.declared.status.Status.TheVariants.{Free, Taken}
-use Rattle.map_laws.specs.Along.{MapKeeping}
+use Rattle.book_laws.specs.Along.{MapKeeping}
 use Rattle.example_laws.specs.Fsyncs.{entry_at, TWO_KEPT}
 
 -- its one data block is the root's, and of its inodes the first two are taken

@@ -16,8 +16,8 @@ use Rattle.stamp_table.specs.declared.event.Event.{Event}
 use Rattle.slot_laws.specs.declared.label.Label.{Label}
 use Rattle.slot_laws.specs.declared.label.Label.TheVariants as label
 use Rattle.slot_laws.specs.Worked.{own_hold, other_hold, seen_one}
-use Rattle.label_laws.specs.Maps.{Numbered, Telling}
-use Rattle.label_laws.specs.Beside.{IsToldBeside}
+use Rattle.close_laws.specs.Maps.{Numbered, Telling}
+use Rattle.close_laws.specs.Beside.{IsToldBeside}
 use Rattle.close_laws.specs.Close.{PensAgree, EndsMount}
 use Rattle.example_laws.specs.Fsyncs.{NO_GRANT, TWO_KEPT, entry_at}
 use Rattle.example_laws.specs.Image.{TWELVE_BLOCKS, TWO_DIRECTORIES, TWO_PARTS, ROOT_INODE, ROOT_SLOTS}

@@ -45,7 +45,7 @@ use Rattle.fsync_commit.specs.Asked.{CommitRequest, reserving_of, emptying_of, I
 use Rattle.fsync_commit.specs.declared.landing.CommitRefusal.{CommitRefusal}
 use Rattle.fsync_commit.specs.declared.landing.Landed.{Landed}
 use Rattle.fsync_catch.specs.declared.looking.WaitingFsync.{WaitingFsync}
-use Rattle.draft_laws.specs.Made.{PlannedFsync, MakesPlanned}
+use Rattle.landing_laws.specs.Made.{PlannedFsync, MakesPlanned}
 use Rattle.landing_laws.specs.Landed.{LandedFsync, commitment_of}
 use Rattle.fsync_dir.specs.Answering.{reply_to, EndsUntold, EndsWaiting}
 use Rattle.fsync_dir.specs.Flush.{FlushAt, TellsNoTurn, IsTried, asked_by, EndsLanded, FsyncComes, wanting, refused, flushed, FlushComes, dead, live}

@@ -46,7 +46,7 @@ use Rattle.fsync_look.specs.Look.{IsBelow}
 use Rattle.fsync_look.proofs.Copied.{pending_of}
 use Rattle.fsync_end.specs.Trimming.{trim_events}
 use Rattle.fsync_end.specs.Finishing.{logs_trimmed}
-use Rattle.draft_laws.specs.Made.{MakesPlanned}
+use Rattle.landing_laws.specs.Made.{MakesPlanned}
 use Rattle.landing_laws.specs.Landed.{LandedFsync, commitment_of, directories_of, nodes_landed, done_of}
 use Rattle.landing_laws.specs.Told.{TellsLanded}
 use Rattle.landing_laws.proofs.Seen.{held_listed, found_wrote}

@@ -29,9 +29,9 @@ use Rattle.fsync_values.proofs.Renewed.{entries_ascend}
 use Rattle.fsync_draft.specs.Drafting.{IsDraftedFile, seens_of, last_of_value}
 use Rattle.catch_laws.specs.Laws.{Further, IsGatheredFor, making_of}
 use Rattle.catch_laws.proofs.Caught.{caught_are_gathered}
-use Rattle.draft_laws.specs.Made.{IsDraftedFsync, IsOwnCopy, MakesPlanned, PlannedFsync, of_directory, of_file, run_planned}
-use Rattle.draft_laws.proofs.Entries.{seen_is_taken, taken_is_seen}
-use Rattle.draft_laws.proofs.HeldNodes.{later_listed}
+use Rattle.landing_laws.specs.Made.{IsDraftedFsync, IsOwnCopy, MakesPlanned, PlannedFsync, of_directory, of_file, run_planned}
+use Rattle.landing_laws.proofs.Entries.{seen_is_taken, taken_is_seen}
+use Rattle.landing_laws.proofs.HeldNodes.{later_listed}
 use Rattle.landing_laws.proofs.Seen.{last_is_seen}
 use Rattle.flush_agrees.specs.Made.{SeesConcerned}
 

@@ -34,7 +34,7 @@ use Rattle.fsync_draft.specs.Drafting.{IsLentOut}
 use Rattle.fsync_draft.specs.declared.lending.DraftedFsync.{DraftedFsync}
 use Rattle.fsync_end.specs.Finishing.{IsToldBehind, logs_trimmed}
 use Rattle.fsync_end.specs.Trimming.{trim_events}
-use Rattle.draft_laws.specs.Made.{PlannedFsync}
+use Rattle.landing_laws.specs.Made.{PlannedFsync}
 use Rattle.landing_laws.specs.Landed.{LandedFsync, commitment_of, directories_of}
 use Rattle.space_map.specs.Space.{GrantedNumbers}
 use Rattle.fsync_dir.specs.Answering.{EndsUntold, EndsWaiting, LetsGoWaiting, reply_to}

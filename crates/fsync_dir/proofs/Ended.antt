@@ -28,10 +28,10 @@ use Rattle.fsync_draft.proofs.Drafts.{back_again, hollow_long, value_of}
 use Rattle.fsync_values.specs.Renewing.{boxes_asked, values_renewed}
 use Rattle.fsync_end.specs.Finishing.{AreWritten, Finishes, MayEnd, TellsEnding}
 use Rattle.fsync_end.specs.declared.finishing.Ending.{Ending}
-use Rattle.draft_laws.specs.Telling.{HasLanded, tree_seen}
-use Rattle.draft_laws.specs.Written.{nodes_wrote}
-use Rattle.draft_laws.proofs.Told.{landed_may_be_told}
-use Rattle.draft_laws.proofs.Written.{renewed_are_written}
+use Rattle.landing_laws.specs.Telling.{HasLanded, tree_seen}
+use Rattle.landing_laws.specs.Written.{nodes_wrote}
+use Rattle.landing_laws.proofs.ToldDrafts.{landed_may_be_told}
+use Rattle.landing_laws.proofs.Written.{renewed_are_written}
 use Rattle.landing_laws.specs.Landed.{LandedFsync, commitment_of, done_of, nodes_landed}
 use Rattle.landing_laws.proofs.Landed.{fsyncs_have_landed}
 use Rattle.fsync_dir.specs.Ending.{HasLandedHere, LandsSo, nodes_told}

@@ -17,7 +17,7 @@ use Rattle.fsync_commit.specs.Asked.{IsChangeOn}
 use Rattle.fsync_commit.specs.Coming.{AreLow, GrantComes, HandsLanded, PlanComesTo, committed, gave_back, numbered, settled, unasked, unnumbered}
 use Rattle.fsync_commit.specs.declared.landing.Landed.{Landed}
 use Rattle.fsync_commit.proofs.Built.{grant_on, none_on}
-use Rattle.draft_laws.specs.Made.{PlannedFsync}
+use Rattle.landing_laws.specs.Made.{PlannedFsync}
 use Rattle.landing_laws.specs.Landed.{HasBecomeDurable, LandedFsync}
 use Rattle.fsync_dir.specs.Attempt.{HasDrafted}
 use Rattle.fsync_dir.specs.Flush.{FlushAt, asked_by}

@@ -25,8 +25,8 @@ use Rattle.fsync_look.specs.Look.{IsBelow}
 use Rattle.fsync_values.specs.Lending.{entries_of}
 use Rattle.fsync_commit.specs.Asked.{IsChangeOn}
 use Rattle.fsync_commit.proofs.OnPlans.{plans_lie_on_disks}
-use Rattle.draft_laws.specs.Made.{IsDraftedFsync, MakesPlanned, PlannedFsync}
-use Rattle.draft_laws.proofs.Drafted.{drafts_are_made}
+use Rattle.landing_laws.specs.Made.{IsDraftedFsync, MakesPlanned, PlannedFsync}
+use Rattle.landing_laws.proofs.Drafted.{drafts_are_made}
 
 -- of items that ascend each has at least the number of its place
 place_low : {X : Type 0} (key : X → ℕ) (xs : List X) (d : X) → AscendBy key xs → (k : ℕ) → k < length xs → k ≤ key (get_or xs k d)

@@ -40,7 +40,7 @@ use Rattle.fsync_catch.specs.declared.looking.WaitingFsync.{WaitingFsync}
 use Rattle.fsync_catch.proofs.Going.{goes_again}
 use Rattle.fsync_end.specs.Finishing.{logs_trimmed}
 use Rattle.fsync_end.specs.Trimming.{trim_events}
-use Rattle.draft_laws.specs.Made.{PlannedFsync}
+use Rattle.landing_laws.specs.Made.{PlannedFsync}
 use Rattle.landing_laws.specs.Landed.{LandedFsync, commitment_of, directories_of}
 use Rattle.fsync_dir.specs.Answering.{EndsWaiting}
 use Rattle.fsync_dir.specs.Flush.{AttemptComes, BeginsAnew, FlushAt, FsyncComes, IsServed, IsTried, TellsNoTurn, asked_by, flushed, refused, wanting}

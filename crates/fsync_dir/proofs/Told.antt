@@ -24,8 +24,8 @@ use Rattle.fsync_values.specs.Lending.{HOLLOW, lent_value, old_of_value}
 use Rattle.fsync_values.specs.Renewing.{boxes_asked, kept_of_node, renewed_by, values_renewed}
 use Rattle.fsync_values.specs.declared.renewing.Renewal.{Renewal}
 use Rattle.fsync_end.specs.declared.finishing.Ending.{Ending}
-use Rattle.draft_laws.specs.Written.{CommitDone, node_wrote, nodes_wrote}
-use Rattle.draft_laws.proofs.HeldNodes.{first_held, later_held}
+use Rattle.landing_laws.specs.Written.{CommitDone, node_wrote, nodes_wrote}
+use Rattle.landing_laws.proofs.HeldNodes.{first_held, later_held}
 use Rattle.fsync_dir.specs.Ending.{node_told, nodes_told}
 
 -- a node is told for each value

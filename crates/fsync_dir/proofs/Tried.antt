@@ -20,7 +20,7 @@ use Rattle.fsync_catch.specs.declared.looking.Caught.{Caught}
 use Rattle.fsync_catch.proofs.Going.{goes_none}
 use Rattle.fsync_draft.specs.Drafting.{IsDraftOf, IsHollow}
 use Rattle.fsync_look.specs.Look.{flushed_place}
-use Rattle.draft_laws.specs.Made.{IsOwnCopy, IsDraftedFsync, PlannedFsync, of_directory, of_file}
+use Rattle.landing_laws.specs.Made.{IsOwnCopy, IsDraftedFsync, PlannedFsync, of_directory, of_file}
 use Rattle.landing_laws.specs.Landed.{directories_of}
 use Rattle.disk_box.specs.Pens.{PenHand}
 use Rattle.fsync_dir.specs.Attempt.{HasCaught, HasDrafted, attempt_at}

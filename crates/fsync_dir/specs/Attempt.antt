@@ -9,7 +9,7 @@ use Rattle.disk_box.specs.Pens.{PenHand}
 use Rattle.fsync_catch.specs.Catch.{IsCaught}
 use Rattle.fsync_catch.specs.declared.looking.Caught.{Caught}
 use Rattle.fsync_draft.specs.Drafting.{IsHollow}
-use Rattle.draft_laws.specs.Made.{PlannedFsync}
+use Rattle.landing_laws.specs.Made.{PlannedFsync}
 use Rattle.landing_laws.specs.Landed.{directories_of}
 use Rattle.fsync_dir.specs.Flush.{FlushAt, IsTried, WasCopied}
 use Rattle.fsync_dir.specs.declared.attempt.OwnFsync.{OwnFsync}

@@ -9,7 +9,7 @@ use Rattle.mem_values.specs.Start.{FileHand, FileState, given_by}
 use Rattle.mem_values.specs.declared.cell.Cell.{Cell}
 use Rattle.mem_values.specs.declared.fact.Fact.{Fact}
 use Rattle.mem_values.specs.declared.fact.HeldNode.{HeldNode}
-use Rattle.draft_laws.specs.Written.{cut_of_value}
+use Rattle.landing_laws.specs.Written.{cut_of_value}
 use Rattle.journal_set.specs.declared.fault.Ack.{Ack}
 use Rattle.fsync_catch.specs.declared.looking.WaitingFsync.{WaitingFsync}
 use Rattle.fsync_commit.specs.declared.landing.Landed.{Landed}

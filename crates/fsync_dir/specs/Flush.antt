@@ -36,7 +36,7 @@ use Rattle.fsync_commit.specs.declared.landing.CommitRefusal.{CommitRefusal}
 use Rattle.fsync_commit.specs.declared.landing.Landed.{Landed}
 use Rattle.fsync_end.specs.Finishing.{IsToldBehind, logs_trimmed}
 use Rattle.fsync_end.specs.Trimming.{trim_events}
-use Rattle.draft_laws.specs.Made.{IsDraftedFsync, PlannedFsync}
+use Rattle.landing_laws.specs.Made.{IsDraftedFsync, PlannedFsync}
 use Rattle.landing_laws.specs.Landed.{HasBecomeDurable, LandedFsync, commitment_of, directories_of}
 use Rattle.fsync_dir.specs.Answering.{EndsUntold, EndsWaiting, LetsGoWaiting, reply_to}
 

@@ -5,7 +5,7 @@ ghost use Rattle.flush_plan.specs.Concerned.{IsConcernOf};
 ghost use Rattle.disk_box.specs.Pens.{PenGoes};
 ghost use Rattle.journal_set.specs.Ready.{IsReady};
 ghost use Rattle.fsync_draft.specs.Drafting.{IsDraftOf, IsHollow};
-ghost use Rattle.draft_laws.specs.Made.{PlannedFsync};
+ghost use Rattle.landing_laws.specs.Made.{PlannedFsync};
 ghost use Rattle.landing_laws.specs.Landed.{directories_of};
 ghost use Rattle.fsync_dir.specs.Attempt.{HasCaught, HasDrafted, attempt_at};
 ghost use Rattle.fsync_dir.specs.Flush.{AttemptComes, WaitsToFlush};

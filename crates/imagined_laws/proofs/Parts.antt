@@ -15,9 +15,9 @@ use Rattle.flush_laws.specs.Planned.{IsPlannedFsync}
 use Rattle.flush_laws.specs.Journal.{IsSpelled, ShowsCommit, parts_brought, AreSpelled}
 use Rattle.flush_laws.proofs.Journal.{listed_given, others_stay, parts_read}
 use Rattle.volume_laws.proofs.Commits.{first_slot, shows}
-use Rattle.bringing_laws.specs.Brings.{Bringing, brought_by}
-use Rattle.bringing_laws.specs.Imagined.{none_brought, one_brought}
-use Rattle.bringing_laws.proofs.Imagined.{imagined_are_those}
+use Rattle.book_laws.specs.Brings.{Bringing, brought_by}
+use Rattle.book_laws.specs.Imagined.{none_brought, one_brought}
+use Rattle.book_laws.proofs.Imagined.{imagined_are_those}
 use Rattle.slot_image_laws.specs.Commits.{parts_over}
 use Rattle.imagined_laws.specs.Parts.{GivenOnce, parts_once, ImaginedShow, ImagesAreRead}
 

@@ -8,8 +8,8 @@ use Rattle.flush_laws.specs.Volume.{Volume, OneFsync, parts_left, tree_held}
 use Rattle.flush_laws.specs.Planned.{IsPlannedFsync}
 use Rattle.flush_laws.specs.Journal.{IsSpelled, parts_brought}
 use Rattle.volume_laws.specs.Volume.{IsVolumeStanding}
-use Rattle.bringing_laws.specs.Brings.{Bringing}
-use Rattle.bringing_laws.specs.Imagined.{Imagines}
+use Rattle.book_laws.specs.Brings.{Bringing}
+use Rattle.book_laws.specs.Imagined.{Imagines}
 use Rattle.slot_image_laws.specs.Commits.{parts_over}
 
 -- A planned fsync of a volume whose records are spelled as their inodes are gives inodes their parts, over those before: so it leaves them.

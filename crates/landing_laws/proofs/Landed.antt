@@ -43,10 +43,10 @@ use Rattle.made_laws.proofs.Known.{mades_are_known}
 use Rattle.mem_calls.specs.Held.{pending_held}
 use Rattle.fsync_values.specs.Renewing.{kept_of_node}
 use Rattle.fsync_catch.specs.Catch.{IsLook}
-use Rattle.draft_laws.specs.Made.{run_planned, MakesPlanned, IsOwnCopy, of_directory, of_file}
-use Rattle.draft_laws.specs.Telling.{tree_seen, HasMembers, HasLanded}
-use Rattle.draft_laws.specs.Written.{HoldsWhatItWrote}
-use Rattle.draft_laws.proofs.Drafted.{drafts_are_made}
+use Rattle.landing_laws.specs.Made.{run_planned, MakesPlanned, IsOwnCopy, of_directory, of_file}
+use Rattle.landing_laws.specs.Telling.{tree_seen, HasMembers, HasLanded}
+use Rattle.landing_laws.specs.Written.{HoldsWhatItWrote}
+use Rattle.landing_laws.proofs.Drafted.{drafts_are_made}
 use Rattle.landing_laws.specs.Landed.{LandedFsync, HasBecomeDurable, nodes_landed, commitment_of, done_of, directories_of, FsyncsHaveLanded}
 use Rattle.landing_laws.proofs.Seen.{held_listed, last_is_seen}
 use Rattle.landing_laws.proofs.Kept.{left_made, root_stays}

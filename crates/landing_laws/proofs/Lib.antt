@@ -1,3 +1,8 @@
+pub mod HeldNodes
+pub mod Entries
+pub mod Drafted
+pub mod Written
+pub mod ToldDrafts
 pub mod Members
 pub mod Left
 pub mod Kept

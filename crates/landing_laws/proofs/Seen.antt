@@ -20,9 +20,9 @@ use Rattle.slot_laws.specs.declared.label.Seen.{Seen}
 use Rattle.mem_calls.specs.Held.{pending_held, as_pending}
 use Rattle.fsync_look.specs.Look.{flushed_place}
 use Rattle.fsync_draft.specs.Drafting.{seens_of, last_of_value}
-use Rattle.draft_laws.specs.Written.{CommitDone, node_wrote, nodes_wrote}
-use Rattle.draft_laws.proofs.HeldNodes.{first_held, later_listed, other_held}
-use Rattle.draft_laws.proofs.Written.{find_first, find_other}
+use Rattle.landing_laws.specs.Written.{CommitDone, node_wrote, nodes_wrote}
+use Rattle.landing_laws.proofs.HeldNodes.{first_held, later_listed, other_held}
+use Rattle.landing_laws.proofs.Written.{find_first, find_other}
 
 -- what is held of a node is of one of the list
 module _ (nodes : ℕ) where

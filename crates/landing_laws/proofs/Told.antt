@@ -34,8 +34,8 @@ use Rattle.made_laws.proofs.Later.{mades_go_on}
 use Rattle.mem_calls.specs.Held.{as_pending}
 use Rattle.fsync_values.specs.Renewing.{cut_then, kept_of_node}
 use Rattle.fsync_gather.specs.Gathers.{GathersNode}
-use Rattle.draft_laws.specs.Written.{cut_of_value}
-use Rattle.draft_laws.specs.Made.{MakesPlanned, run_planned}
+use Rattle.landing_laws.specs.Written.{cut_of_value}
+use Rattle.landing_laws.specs.Made.{MakesPlanned, run_planned}
 use Rattle.landing_laws.specs.Landed.{LandedFsync, HasBecomeDurable, nodes_landed, commitment_of, done_of}
 use Rattle.landing_laws.specs.Told.{TellsLanded, LandedAreTold}
 use Rattle.landing_laws.proofs.Landed.{node_there, member_held, landed}

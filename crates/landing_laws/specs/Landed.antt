@@ -18,9 +18,9 @@ use Rattle.mem_values.specs.Start.{FileState}
 use Rattle.mem_calls.specs.Table.{IsFileTable}
 use Rattle.mem_calls.specs.Working.{IsWorking}
 use Rattle.fsync_draft.specs.Drafting.{seens_of}
-use Rattle.draft_laws.specs.Made.{IsDraftedFsync, PlannedFsync}
-use Rattle.draft_laws.specs.Telling.{HasLanded}
-use Rattle.draft_laws.specs.Written.{CommitDone, nodes_wrote}
+use Rattle.landing_laws.specs.Made.{IsDraftedFsync, PlannedFsync}
+use Rattle.landing_laws.specs.Telling.{HasLanded}
+use Rattle.landing_laws.specs.Written.{CommitDone, nodes_wrote}
 
 -- What was planned, the number and the grant of its commit, and what the disk has of its nodes once it is durable.
 pub record LandedFsync : Type 0 where

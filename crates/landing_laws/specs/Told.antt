@@ -9,7 +9,7 @@ use Rattle.mem_values.specs.declared.cell.Pending.{Pending}
 use Rattle.mem_calls.specs.Held.{pending_held}
 use Rattle.note_laws.specs.Run.{IsTableRun, IsToldIn, TableRun}
 use Rattle.made_laws.specs.Tells.{ToldMade}
-use Rattle.draft_laws.specs.Made.{MakesPlanned}
+use Rattle.landing_laws.specs.Made.{MakesPlanned}
 use Rattle.landing_laws.specs.Landed.{HasBecomeDurable, LandedFsync, commitment_of}
 
 -- A run of the table goes on from what the core had seen as it planned, and tells the commit; what the core knew of its nodes stood just before that.

@@ -1,4 +1,4 @@
-//! That an fsync whose commit became durable may be told, and that what is told of it is what its core made.
+//! That what an fsync planned is what its core made, and what became durable of it.
 #![tactic(auto)]
 
 pub mod laws;

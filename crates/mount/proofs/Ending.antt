@@ -31,7 +31,7 @@ use Rattle.journal_one.proofs.Kept.{IsLawful}
 use Rattle.mount_begin.specs.declared.begin.Mounted.{Mounted}
 use Rattle.disk_box.specs.declared.key.BoxKey.{BoxKey}
 use Rattle.disk_box.specs.Box.{LawfulBox}
-use Rattle.label_laws.specs.Beside.{BeginsLabels}
+use Rattle.close_laws.specs.Beside.{BeginsLabels}
 use Rattle.site_laws.specs.Sites.{IsSiteMount}
 use Rattle.site_laws.proofs.Sites.{mounts_are_sites}
 use Rattle.end_laws.specs.Begins.{HasBegun}

@@ -24,7 +24,7 @@ use Rattle.end_laws.specs.Begins.{HasBegun, HoldsStart}
 use Rattle.end_laws.proofs.Rests.{closed_disks_began}
 use Rattle.flush_agrees.specs.Closing.{pen_fsyncs}
 use Rattle.end_laws.specs.Mount.{MountEnd, MountEnds}
-use Rattle.label_laws.specs.Maps.{past_of}
+use Rattle.close_laws.specs.Maps.{past_of}
 use Rattle.end_laws.specs.Survives.{DiskEnds}
 use Rattle.end_laws.proofs.Survives.{turns_of_mounts_end, mounts_survive}
 use Rattle.workers.specs.declared.worker.Worker.{Worker}

@@ -13,10 +13,10 @@ use Rattle.space_laws.specs.Laws.{ServesAt}
 use Rattle.space_laws.proofs.Asked.{enters_counted}
 use Rattle.space_laws.proofs.Served.{grants_serve}
 use Rattle.turn_ties.specs.Plans.{amount_planned}
-use Rattle.walk_laws.specs.Pairs.{Pair, IsOpenBeside, commit_under, bringing_under}
-use Rattle.walk_laws.specs.Walk.{IsCalmPlace, ReservesThere, grants_in, open_stamps, BeginsThere, FitsAct, FitsRecord}
-use Rattle.map_laws.specs.Along.{MapKeeping, MapPlace, IsMapPlace, beside_at}
-use Rattle.map_laws.proofs.Placed.{map_there, reserves_there, lacks_at}
+use Rattle.book_laws.specs.Pairs.{Pair, IsOpenBeside, commit_under, bringing_under}
+use Rattle.book_laws.specs.Walk.{IsCalmPlace, ReservesThere, grants_in, open_stamps, BeginsThere, FitsAct, FitsRecord}
+use Rattle.book_laws.specs.Along.{MapKeeping, MapPlace, IsMapPlace, beside_at}
+use Rattle.book_laws.proofs.Placed.{map_there, reserves_there, lacks_at}
 use Rattle.reserve_laws.specs.Fits.{ToldReserve, TellsPair, by_look, by_own, CoresTell, place_of, ReservesTold, BeginsTold, TellsAct, RecordsFit}
 use Rattle.reserve_laws.specs.Looks.{ServesPair}
 use Rattle.reserve_laws.proofs.Looks.{opens_beside}

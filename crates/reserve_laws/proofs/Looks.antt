@@ -24,8 +24,8 @@ use Rattle.space_laws.specs.Laws.{ServesAt}
 use Rattle.plan_laws.specs.Plans.{Sources, planned_flush, PlansFsync, beside}
 use Rattle.plan_laws.specs.Leads.{found_from}
 use Rattle.plan_laws.proofs.Leads.{plans_lead_to_cuts}
-use Rattle.bringing_laws.specs.Brings.{Bringing, Brings}
-use Rattle.walk_laws.specs.Pairs.{run_with, Pair, IsOpenBeside}
+use Rattle.book_laws.specs.Brings.{Bringing, Brings}
+use Rattle.book_laws.specs.Pairs.{run_with, Pair, IsOpenBeside}
 use Rattle.reserve_laws.specs.Looks.{MayPlan, IsGatheredFor, LookBrings, LooksBring, CoreTells, CoresOpen, ServesPair}
 use Rattle.reserve_laws.proofs.Plans.{brings_made}
 

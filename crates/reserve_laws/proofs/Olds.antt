@@ -8,11 +8,11 @@ use Rattle.cut_laws.specs.Rules.{IsOneOf}
 use Rattle.cut_laws.proofs.Basics.{in_either}
 use Rattle.cut_laws.proofs.Listed.{to_map}
 use Rattle.beside_laws.specs.Commits.{Share}
-use Rattle.bringing_laws.specs.Imagined.{last_of, entries_by, entries_once}
-use Rattle.bringing_laws.specs.Brings.{Bringing}
-use Rattle.bringing_laws.proofs.Kept.{entries_are_left}
-use Rattle.walk_laws.specs.Pairs.{Pair, commit_under, bringing_under}
-use Rattle.walk_laws.specs.Walk.{brought_under}
+use Rattle.book_laws.specs.Imagined.{last_of, entries_by, entries_once}
+use Rattle.book_laws.specs.Brings.{Bringing}
+use Rattle.book_laws.proofs.Kept.{entries_are_left}
+use Rattle.book_laws.specs.Pairs.{Pair, commit_under, bringing_under}
+use Rattle.book_laws.specs.Walk.{brought_under}
 use Rattle.reserve_laws.specs.Olds.{NumbersRise, DoneBeside, AreDoneBeside, IsKeptIn, SawLeftOf, by_none, by_last, OldsAreLeft, NumbersRiseOn}
 
 module _ (pairs : ℕ → Pair) (node : ℕ) where

@@ -57,8 +57,8 @@ use Rattle.plan_laws.proofs.Nets.{ascend_sorted}
 use Rattle.plan_laws.proofs.Files.{bytes_are_cut, own_file_leads, no_file_leads}
 use Rattle.turn_ties.specs.Plans.{Planning, ChangesOwnFile, HasTouchedPages}
 use Rattle.turn_ties.proofs.OwnFiles.{own_files_are_touched}
-use Rattle.bringing_laws.specs.Brings.{Brings}
-use Rattle.walk_laws.specs.Pairs.{run_with, IsOpenBeside}
+use Rattle.book_laws.specs.Brings.{Brings}
+use Rattle.book_laws.specs.Pairs.{run_with, IsOpenBeside}
 use Rattle.reserve_laws.specs.OwnFile.{OwnMaking, MakesOwnFile, own_plan, ChangesOwn, in_time, too_late, bringing_own, own_pair, OwnFilesBring, OwnFilesOpen}
 
 none_named : (old new : TreeState) (node : ℕ) → ((name : List ℕ) → row_of old node name ≡ None) → ((name : List ℕ) → row_of new node name ≡ None)

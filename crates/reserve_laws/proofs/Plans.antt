@@ -17,7 +17,7 @@ use Rattle.plan_laws.specs.Leads.{LeadsWith}
 use Rattle.plan_laws.proofs.Leads.{plans_lead_to_cuts}
 use Rattle.turn_ties.specs.Led.{LeadsVolume, IsTied, planning_led}
 use Rattle.turn_ties.proofs.Led.{led_plans_are_tied}
-use Rattle.bringing_laws.specs.Brings.{Brings}
+use Rattle.book_laws.specs.Brings.{Brings}
 use Rattle.reserve_laws.specs.Plans.{MayBring, parts_given, bringing_made, PlansBring}
 
 module _ (volume : Volume) (from : Sources) (grant : GrantedNumbers) (may : MayBring volume from grant) where

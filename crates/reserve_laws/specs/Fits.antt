@@ -15,9 +15,9 @@ use Rattle.turn_laws.specs.Ways.{HasCommit}
 use Rattle.merge_laws.specs.Plays.{PlayState}
 use Rattle.plan_laws.specs.Plans.{Sources}
 use Rattle.turn_ties.specs.Plans.{amount_planned}
-use Rattle.walk_laws.specs.Pairs.{Pair, run_with, commit_under, ArePairsApart, PairReserves, bringing_under}
-use Rattle.walk_laws.specs.Walk.{open_stamps, IsCalmPlace, FitsRecord}
-use Rattle.map_laws.specs.Along.{MapPlace, MapDoes, TellsLack, MapKeeping, BeginsMap, MapGoes}
+use Rattle.book_laws.specs.Pairs.{Pair, run_with, commit_under, ArePairsApart, PairReserves, bringing_under}
+use Rattle.book_laws.specs.Walk.{open_stamps, IsCalmPlace, FitsRecord}
+use Rattle.book_laws.specs.Along.{MapPlace, MapDoes, TellsLack, MapKeeping, BeginsMap, MapGoes}
 use Rattle.reserve_laws.specs.Looks.{CoreTells, ServesPair}
 use Rattle.reserve_laws.specs.OwnFile.{OwnMaking, MakesOwnFile, own_pair}
 

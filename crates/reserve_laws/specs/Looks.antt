@@ -17,8 +17,8 @@ use Rattle.mark_laws.specs.Changed.{HasShortFiles}
 use Rattle.plan_laws.specs.Plans.{Sources, HasFileOf, IsPlanFrom}
 use Rattle.plan_laws.specs.Leads.{LeadsWith, commit_made_of, found_from}
 use Rattle.volume_laws.specs.Volume.{IsVolumeStanding}
-use Rattle.bringing_laws.specs.Brings.{Brings}
-use Rattle.walk_laws.specs.Pairs.{run_with, Pair, IsOpenBeside}
+use Rattle.book_laws.specs.Brings.{Brings}
+use Rattle.book_laws.specs.Pairs.{run_with, Pair, IsOpenBeside}
 use Rattle.reserve_laws.specs.Plans.{bringing_made}
 
 -- What a core planned its commit from: what it gathered is the commit's look, with logs of the entries that count; and what it had of the disk is what

@@ -10,9 +10,9 @@ use Rattle.beside_laws.specs.Commits.{Share}
 use Rattle.beside_laws.specs.Progress.{IsLater}
 use Rattle.flush_laws.specs.Ready.{KeepsEntries}
 use Rattle.flush_laws.specs.Volume.{Volume}
-use Rattle.bringing_laws.specs.Imagined.{Imagines, entries_once}
-use Rattle.walk_laws.specs.Pairs.{Pair, commit_under, bringing_under}
-use Rattle.walk_laws.specs.Walk.{brought_under}
+use Rattle.book_laws.specs.Imagined.{Imagines, entries_once}
+use Rattle.book_laws.specs.Pairs.{Pair, commit_under, bringing_under}
+use Rattle.book_laws.specs.Walk.{brought_under}
 
 -- Some fsyncs are done beside a volume, in this order: the first volume, the entries that memory kept of it, the one imagined now, and the pairs by stamp.
 pub record DoneBeside : Type 0 where

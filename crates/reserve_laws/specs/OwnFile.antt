@@ -17,8 +17,8 @@ use Rattle.flush_plan.specs.Touched.{IsFileChange}
 use Rattle.mark_laws.specs.FileAt.{IsFileAt}
 use Rattle.mark_laws.specs.Changed.{HasShortFiles}
 use Rattle.volume_laws.specs.Volume.{IsVolumeStanding}
-use Rattle.bringing_laws.specs.Brings.{Bringing, Brings}
-use Rattle.walk_laws.specs.Pairs.{run_with, Pair, IsOpenBeside}
+use Rattle.book_laws.specs.Brings.{Bringing, Brings}
+use Rattle.book_laws.specs.Pairs.{run_with, Pair, IsOpenBeside}
 use Rattle.reserve_laws.specs.Plans.{parts_given}
 use Rattle.reserve_laws.specs.Looks.{ServesPair}
 

@@ -13,7 +13,7 @@ use Rattle.space_laws.specs.Laws.{ServesAt}
 use Rattle.plan_laws.specs.Plans.{Sources, IsPlanFrom, planned_flush, PlansFsync}
 use Rattle.plan_laws.specs.Leads.{commit_made_of}
 use Rattle.volume_laws.specs.Volume.{IsVolumeStanding}
-use Rattle.bringing_laws.specs.Brings.{Bringing, Brings}
+use Rattle.book_laws.specs.Brings.{Bringing, Brings}
 
 -- the parts that the commit of a plan with a grant gives inodes of a volume
 abbrev pub parts_given : Volume → CommitPlan → GrantedNumbers → List InodePart

@@ -4,7 +4,7 @@ use Rattle.disk_change.specs.AllBuilt.{after_commit}
 use Rattle.commit_laws.specs.CommitOfPlan.{change_planned}
 use Rattle.cut_laws.proofs.Listed.{to_map, from_map}
 use Rattle.beside_laws.specs.Commits.{CoreCommit}
-use Rattle.walk_laws.specs.Pairs.{commit_under, bringing_under}
+use Rattle.book_laws.specs.Pairs.{commit_under, bringing_under}
 use Rattle.reserve_laws.specs.Olds.{DoneBeside, SawLeftOf, by_none, IsKeptIn, by_last}
 use Rattle.mem_values.specs.Stands.{Flushed}
 use Rattle.note_laws.specs.Run.{TableRun, LeftSeen, TellsCommit}

@@ -20,10 +20,10 @@ use Rattle.beside_laws.proofs.Answers.{answers_tell_nothing}
 use Rattle.flush_laws.specs.Volume.{Volume, tree_held}
 use Rattle.flush_plan.specs.Touched.{IsFileChange}
 use Rattle.mark_laws.specs.FileAt.{IsFileAt}
-use Rattle.bringing_laws.specs.Imagined.{entries_once}
-use Rattle.bringing_laws.proofs.Kept.{entries_are_kept}
-use Rattle.walk_laws.specs.Pairs.{run_with, Pair}
-use Rattle.walk_laws.specs.Walk.{brought_under}
+use Rattle.book_laws.specs.Imagined.{entries_once}
+use Rattle.book_laws.proofs.Kept.{entries_are_kept}
+use Rattle.book_laws.specs.Pairs.{run_with, Pair}
+use Rattle.book_laws.specs.Walk.{brought_under}
 use Rattle.reserve_laws.specs.OwnFile.{ChangesOwn, in_time, OwnMaking, MakesOwnFile}
 use Rattle.reserve_laws.specs.Olds.{IsKeptIn}
 use Rattle.reserve_laws.specs.Fits.{TellsPair, by_own}

@@ -28,9 +28,9 @@ use Rattle.flush_laws.specs.Planned.{HasOldEntries}
 use Rattle.flush_plan.specs.Touched.{IsFileChange}
 use Rattle.mark_laws.specs.FileAt.{IsFileAt}
 use Rattle.plan_laws.specs.Plans.{HasFileOf}
-use Rattle.bringing_laws.proofs.Kept.{entries_are_kept}
-use Rattle.walk_laws.specs.Pairs.{run_with}
-use Rattle.walk_laws.specs.Walk.{brought_under}
+use Rattle.book_laws.proofs.Kept.{entries_are_kept}
+use Rattle.book_laws.specs.Pairs.{run_with}
+use Rattle.book_laws.specs.Walk.{brought_under}
 use Rattle.reserve_laws.specs.Looks.{MayPlan, IsGatheredFor, CoreTells}
 use Rattle.reserve_laws.specs.Olds.{IsKeptIn}
 use Rattle.reserve_laws.proofs.Olds.{olds_are_left}

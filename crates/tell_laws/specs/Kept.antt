@@ -3,7 +3,7 @@ use Rattle.std.specs.Prelude.{◌≡◌, ℕ, Some, map}
 use Rattle.disk_change.specs.AllBuilt.{after_commit}
 use Rattle.commit_laws.specs.CommitOfPlan.{change_planned}
 use Rattle.cut_laws.specs.Rules.{IsOneOf}
-use Rattle.walk_laws.specs.Pairs.{commit_under, bringing_under}
+use Rattle.book_laws.specs.Pairs.{commit_under, bringing_under}
 use Rattle.reserve_laws.specs.Olds.{DoneBeside, IsKeptIn, SawLeftOf}
 use Rattle.mem_values.specs.Account.{Commitment, held_by}
 use Rattle.mem_values.specs.Stands.{Flushed}

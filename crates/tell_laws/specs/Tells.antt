@@ -10,9 +10,9 @@ use Rattle.beside_laws.specs.Progress.{Standing}
 use Rattle.flush_laws.specs.Volume.{Volume, tree_held}
 use Rattle.mark_laws.specs.Changed.{HasShortFiles}
 use Rattle.volume_laws.specs.Volume.{IsVolumeStanding}
-use Rattle.bringing_laws.specs.Imagined.{entries_once}
-use Rattle.walk_laws.specs.Pairs.{Pair, commit_under, run_with}
-use Rattle.walk_laws.specs.Walk.{brought_under}
+use Rattle.book_laws.specs.Imagined.{entries_once}
+use Rattle.book_laws.specs.Pairs.{Pair, commit_under, run_with}
+use Rattle.book_laws.specs.Walk.{brought_under}
 use Rattle.reserve_laws.specs.Olds.{DoneBeside, AreDoneBeside}
 use Rattle.reserve_laws.specs.Plans.{bringing_made}
 use Rattle.reserve_laws.specs.Looks.{CoreTells}

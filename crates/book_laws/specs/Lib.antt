@@ -1,0 +1,16 @@
+pub mod BringingLaws
+pub mod Plans
+pub mod Entries
+pub mod Free
+pub mod Parts
+pub mod Brings
+pub mod Imagined
+pub mod Pairs
+pub mod Midway
+pub mod Walk
+pub mod WalkLaws
+pub mod Worked
+pub mod Out
+pub mod MapLaws
+pub mod Ending
+pub mod Along

@@ -1,5 +1,0 @@
-use Rattle.bringing_laws.proofs.Blocks.{blocks_stay_free as law}
-use Rattle.bringing_laws.proofs.laws.blocks_stay_free.Goals as goal
-
-pub returns : goal.returns
-returns c = law

@@ -1,5 +1,0 @@
-use Rattle.bringing_laws.proofs.Brings.{bringings_stay as law}
-use Rattle.bringing_laws.proofs.laws.bringings_stay.Goals as goal
-
-pub returns : goal.returns
-returns c = law

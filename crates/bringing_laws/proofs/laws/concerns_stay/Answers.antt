@@ -1,5 +1,0 @@
-use Rattle.bringing_laws.proofs.Again.{concerns_stay as law}
-use Rattle.bringing_laws.proofs.laws.concerns_stay.Goals as goal
-
-pub returns : goal.returns
-returns c = law

@@ -1,5 +1,0 @@
-use Rattle.bringing_laws.proofs.Left.{entries_go_on as law}
-use Rattle.bringing_laws.proofs.laws.entries_go_on.Goals as goal
-
-pub returns : goal.returns
-returns c = law

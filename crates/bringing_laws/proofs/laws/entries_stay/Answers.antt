@@ -1,5 +1,0 @@
-use Rattle.bringing_laws.proofs.Entries.{entries_stay as law}
-use Rattle.bringing_laws.proofs.laws.entries_stay.Goals as goal
-
-pub returns : goal.returns
-returns c = law

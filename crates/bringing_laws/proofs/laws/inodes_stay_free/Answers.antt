@@ -1,5 +1,0 @@
-use Rattle.bringing_laws.proofs.Free.{inodes_stay_free as law}
-use Rattle.bringing_laws.proofs.laws.inodes_stay_free.Goals as goal
-
-pub returns : goal.returns
-returns c = law

@@ -1,5 +1,0 @@
-use Rattle.bringing_laws.proofs.Parts.{parts_stay as law}
-use Rattle.bringing_laws.proofs.laws.parts_stay.Goals as goal
-
-pub returns : goal.returns
-returns c = law

@@ -1,5 +1,0 @@
-use Rattle.bringing_laws.proofs.Left.{planned_with_each as law}
-use Rattle.bringing_laws.proofs.laws.planned_with_each.Goals as goal
-
-pub returns : goal.returns
-returns c = law

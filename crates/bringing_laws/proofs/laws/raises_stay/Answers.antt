@@ -1,5 +1,0 @@
-use Rattle.bringing_laws.proofs.Inodes.{raises_stay as law}
-use Rattle.bringing_laws.proofs.laws.raises_stay.Goals as goal
-
-pub returns : goal.returns
-returns c = law

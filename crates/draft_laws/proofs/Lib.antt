@@ -1,5 +1,0 @@
-pub mod HeldNodes
-pub mod Entries
-pub mod Drafted
-pub mod Written
-pub mod Told

@@ -1,5 +1,0 @@
-use Rattle.draft_laws.proofs.Written.{renewed_are_written as law}
-use Rattle.draft_laws.proofs.laws.renewed_are_written.Goals as goal
-
-pub returns : goal.returns
-returns c = law

@@ -1,5 +1,0 @@
-use Rattle.label_laws.proofs.PensFit.{pens_have_turns as law}
-use Rattle.label_laws.proofs.laws.pens_have_turns.Goals as goal
-
-pub returns : goal.returns
-returns c = law

@@ -1,5 +1,0 @@
-use Rattle.label_laws.proofs.PensStand.{pens_stand_beside as law}
-use Rattle.label_laws.proofs.laws.pens_stand_beside.Goals as goal
-
-pub returns : goal.returns
-returns c = law

@@ -1,5 +1,0 @@
-use Rattle.label_laws.proofs.PensFit.{pens_tell_labels as law}
-use Rattle.label_laws.proofs.laws.pens_tell_labels.Goals as goal
-
-pub returns : goal.returns
-returns c = law

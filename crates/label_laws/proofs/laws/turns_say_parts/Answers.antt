@@ -1,5 +1,0 @@
-use Rattle.label_laws.proofs.Beginning.{turns_say_parts as law}
-use Rattle.label_laws.proofs.laws.turns_say_parts.Goals as goal
-
-pub returns : goal.returns
-returns c = law

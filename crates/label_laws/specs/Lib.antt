@@ -1,4 +1,0 @@
-pub mod Own
-pub mod Maps
-pub mod Beside
-pub mod Pens

@@ -1,5 +1,0 @@
-use Rattle.map_laws.proofs.Gone.{grants_end as law}
-use Rattle.map_laws.proofs.laws.grants_end.Goals as goal
-
-pub returns : goal.returns
-returns c = law

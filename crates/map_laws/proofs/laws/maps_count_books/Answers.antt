@@ -1,5 +1,0 @@
-use Rattle.map_laws.proofs.Counted.{maps_count_books as law}
-use Rattle.map_laws.proofs.laws.maps_count_books.Goals as goal
-
-pub returns : goal.returns
-returns c = law

@@ -1,5 +1,0 @@
-use Rattle.map_laws.proofs.Lacked.{maps_lack as law}
-use Rattle.map_laws.proofs.laws.maps_lack.Goals as goal
-
-pub returns : goal.returns
-returns c = law

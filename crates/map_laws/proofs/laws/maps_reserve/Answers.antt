@@ -1,5 +1,0 @@
-use Rattle.map_laws.proofs.Reserved.{maps_reserve as law}
-use Rattle.map_laws.proofs.laws.maps_reserve.Goals as goal
-
-pub returns : goal.returns
-returns c = law

@@ -1,5 +1,0 @@
-use Rattle.map_laws.proofs.Placed.{places_lack as law}
-use Rattle.map_laws.proofs.laws.places_lack.Goals as goal
-
-pub returns : goal.returns
-returns c = law

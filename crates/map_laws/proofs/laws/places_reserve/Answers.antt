@@ -1,5 +1,0 @@
-use Rattle.map_laws.proofs.Placed.{places_reserve as law}
-use Rattle.map_laws.proofs.laws.places_reserve.Goals as goal
-
-pub returns : goal.returns
-returns c = law

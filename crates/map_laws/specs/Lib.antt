@@ -1,4 +1,0 @@
-pub mod Out
-pub mod Laws
-pub mod Ending
-pub mod Along

@@ -1,4 +1,0 @@
-//! What a map of free space tells of the books while grants are out.
-#![tactic(auto)]
-
-pub mod laws;

@@ -1,5 +1,0 @@
-use Rattle.walk_laws.proofs.Worked.{two_pens_are_kept as law}
-use Rattle.walk_laws.proofs.laws.two_pens_are_kept.Goals as goal
-
-pub returns : goal.returns
-returns c = law

@@ -1,5 +1,0 @@
-use Rattle.walk_laws.proofs.Walk.{walks_are_booked as law}
-use Rattle.walk_laws.proofs.laws.walks_are_booked.Goals as goal
-
-pub returns : goal.returns
-returns c = law
