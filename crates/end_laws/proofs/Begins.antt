@@ -18,7 +18,7 @@ use Rattle.volume_laws.proofs.MountedVolumes.{begun_volume}
 use Rattle.reserve_laws.specs.Olds.{IsKeptIn}
 use Rattle.mem_values.specs.Start.{given_in}
 use Rattle.site_laws.proofs.Given.{given_is, given_of_entry}
-use Rattle.end_laws.specs.Begins.{BegunDisksGoOn, MountsBeginLabels, HasBegun}
+use Rattle.end_laws.specs.Begins.{BegunDisksGoOn, MountsBeginLabels, HasBegunVolume}
 use Rattle.end_laws.proofs.Histories.{stands_with, with_history}
 
 -- what is given of a node by a list that ascends is what the list has of it
@@ -39,7 +39,7 @@ module _ (nodes : ℕ) (mounted : Mounted) (history : List Entry) (old new : Vie
   abbrev at_first : IsBegunVolume nodes mounted old new → Volume
   at_first b = volume_begun mounted.tree mounted.layout b.store b.parts
 
-  has_begun : (b : IsBegunVolume nodes mounted old new) → HasBegun nodes mounted history old new
+  has_begun : (b : IsBegunVolume nodes mounted old new) → HasBegunVolume nodes mounted history old new
   has_begun b = record {
     start = with_history (at_first b) history;
     begins = record {
@@ -62,7 +62,7 @@ module _ (nodes : ℕ) (mounted : Mounted) (history : List Entry) (old new : Vie
         record { left = leaves.holds leaves.tells.0 leaves.tells.1; mounts = leaves.mounts; tells = leaves.tells };
   }
 
-  pub mount_has_begun : HasBegun nodes mounted history old new
+  pub mount_has_begun : HasBegunVolume nodes mounted history old new
   mount_has_begun = has_begun begun
 
 pub mounts_begin_labels : (old new : View) → IsLawful old → IsLawful new → MountsBeginLabels old new

@@ -54,12 +54,12 @@ module _ (old : List OldEntry) (nets : List DirectoryNet) (files : List FileChan
   change = planned old nets files enter leave
 
   -- Each node that has an inode afterwards is that of one that begins well.
-  pub record HasBegun (seat : Seated) : Type 0 where
+  pub record HasBegunSeat (seat : Seated) : Type 0 where
     pub begun : Begun
     pub is : seated change.changes begun ≡ seat
     pub begins : BeginsWell begun
 
-  pub has_begun : (seat : Seated) → Contains change.seats seat → HasBegun seat
+  pub has_begun : (seat : Seated) → Contains change.seats seat → HasBegunSeat seat
   has_begun seat there = elim
       (Contains-append_cases (map (seated_old change.changes) (staying old leave)) (map (seated_entering change.changes) enter) seat there) [
         | inl stays ↦

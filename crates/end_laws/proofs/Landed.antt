@@ -37,10 +37,10 @@ use Rattle.slot_laws.specs.declared.label.Label.{Label}
 use Rattle.slot_laws.proofs.Lawful.{pens_make_the_record}
 use Rattle.slot_laws.proofs.Telling.{pens_tell_turns}
 use Rattle.close_laws.specs.Maps.{Numbered, past_of}
-use Rattle.flush_agrees.specs.Agreement.{FlushTold, HasLanded, turns_of}
+use Rattle.flush_agrees.specs.Agreement.{FlushTold, IsDurableFsync, turns_of}
 use Rattle.flush_agrees.specs.Made.{FlushMade, LeavesOfNode}
 use Rattle.flush_agrees.specs.Closing.{ToldAtEnd}
-use Rattle.end_laws.specs.Mount.{MountEnd, IsFsyncAt, run_at, MountEnds, AreNamed}
+use Rattle.end_laws.specs.Mount.{MountEnd, IsFsyncAt, run_at, MountEnds, AreNamedAlong}
 use Rattle.end_laws.specs.Laws.{PensToldAt}
 use Rattle.end_laws.proofs.Told.{named_pens_tell}
 use Rattle.end_laws.proofs.Plans.{same_commit_made, brings_of, keeps_of, nodes_of}
@@ -75,12 +75,12 @@ pub record LandedAt (at : MountEnd) (stamp : ℕ) : Type 0 where
 pub record ToldBy (at : MountEnd) (told : Commitment) : Type 0 where
   pub one : FlushTold
   pub there : IsFsyncAt at one
-  pub landed : HasLanded one
+  pub landed : IsDurableFsync one
   pub made : FlushMade
   pub is : one.made ≡ Some made
   pub tells : ToldAtEnd (run_at at) made told
 
-module _ (D : Type 0) (at : MountEnd) (named : Numbered) (ends : MountEnds D at) (are : AreNamed at named) where
+module _ (D : Type 0) (at : MountEnd) (named : Numbered) (ends : MountEnds D at) (are : AreNamedAlong at named) where
   pub pens : PensToldAt at named
   pens = named_pens_tell D at named ends are
 

@@ -18,7 +18,7 @@ use Rattle.close_laws.specs.Beside.{brought_at, stamps_under}
 use Rattle.flush_agrees.specs.Agreement.{FlushTold}
 use Rattle.flush_agrees.specs.Made.{FlushMade}
 use Rattle.end_laws.specs.Fitting.{IsBroughtAs}
-use Rattle.end_laws.specs.Mount.{MountEnd, MountEnds, IsFsyncAt, ReservedAt, run_at, IsPairOf, AreNamed}
+use Rattle.end_laws.specs.Mount.{MountEnd, MountEnds, IsFsyncAt, ReservedAt, run_at, IsPairOf, AreNamedAlong}
 use Rattle.end_laws.specs.Laws.{MountsAreNamed}
 use Rattle.end_laws.proofs.Fronts.{before_number, place_is_first}
 use Rattle.end_laws.proofs.Plain.{with_parts, plain_pair, IsPlainOf, plain_is}
@@ -112,7 +112,7 @@ module _ (D : Type 0) (at : MountEnd) (ends : MountEnds D at) where
     pair_is : IsPairOf at named one made
     pair_is = record { made_in = from.made_in; commit = from.commit; brings = brings; is = is_brought }
 
-  pub are_named : AreNamed at named
+  pub are_named : AreNamedAlong at named
   are_named = record {
     stamps = λ one made there is. stamp_is one made there is;
     flush = λ one there. (plain_is D at ends one there).flush;

@@ -31,13 +31,13 @@ use Rattle.slot_laws.proofs.NodesTold.{past_parts}
 use Rattle.close_laws.specs.Maps.{Numbered, past_of, IsTold}
 use Rattle.close_laws.specs.Beside.{stamps_under, brought_at, PairsAt}
 use Rattle.close_laws.proofs.PensFit.{pens_tell_labels}
-use Rattle.end_laws.specs.Mount.{MountEnd, MountEnds, AreNamed, run_at}
+use Rattle.end_laws.specs.Mount.{MountEnd, MountEnds, AreNamedAlong, run_at}
 use Rattle.end_laws.proofs.Landed.{pens, LandedAt, landed_at, pair_made, tells_pair, pair_nodes, ToldBy, pair_number, told_by, pair_keeps, turn_there, own_stamp}
 use Rattle.end_laws.proofs.Lands.{PlaceOn, place_first, place_at, LandSo, LandedUnder}
 use Rattle.end_laws.proofs.Later.{GoesOnFrom, goes_along, goes_first}
 use Rattle.end_laws.proofs.Boxes.{made_of}
 
-module _ (D : Type 0) (at : MountEnd) (named : Numbered) (ends : MountEnds D at) (are : AreNamed at named) where
+module _ (D : Type 0) (at : MountEnd) (named : Numbered) (ends : MountEnds D at) (are : AreNamedAlong at named) where
   abbrev pub run : TableRun
   run = run_at at
 

@@ -22,7 +22,7 @@ use Rattle.close_laws.specs.Maps.{Numbered}
 use Rattle.close_laws.proofs.PensStand.{works_steps, flights_steps}
 use Rattle.flush_agrees.specs.Made.{TellsNoNumber, FlushMade, TurnMade}
 use Rattle.flush_agrees.specs.Agreement.{FlushTold}
-use Rattle.end_laws.specs.Mount.{MountEnd, IsFsyncAt, MountEnds, AreNamed}
+use Rattle.end_laws.specs.Mount.{MountEnd, IsFsyncAt, MountEnds, AreNamedAlong}
 use Rattle.end_laws.proofs.Landed.{pens, has_fsyncs}
 
 -- a turn at the box reserves this number
@@ -145,7 +145,7 @@ pub record ReservedFor (at : MountEnd) (number : ℕ) : Type 0 where
   pub is : one.made ≡ Some made
   pub number_is : number ≡ made.number
 
-module _ (D : Type 0) (at : MountEnd) (named : Numbered) (ends : MountEnds D at) (are : AreNamed at named) where
+module _ (D : Type 0) (at : MountEnd) (named : Numbered) (ends : MountEnds D at) (are : AreNamedAlong at named) where
   pub reserved_for : (core : CoreId) (number : ℕ) (seen : Roomy Seen) (grant : GrantedNumbers)
       → IsOneOf at.told.log (Told core (label.Reserved number seen grant)) → ReservedFor at number
   reserved_for core number seen grant among =

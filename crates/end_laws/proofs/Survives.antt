@@ -26,7 +26,7 @@ use Rattle.close_laws.proofs.PensClose.{pens_are_turns_of}
 use Rattle.close_laws.proofs.Mounts.{turns_close}
 use Rattle.flush_agrees.specs.Closing.{pen_fsyncs}
 use Rattle.flush_agrees.specs.Agreement.{FlushTold}
-use Rattle.end_laws.specs.Mount.{MountEnd, MountEnds, AreNamed}
+use Rattle.end_laws.specs.Mount.{MountEnd, MountEnds, AreNamedAlong}
 use Rattle.end_laws.specs.Laws.{PensToldAt}
 use Rattle.end_laws.proofs.Named.{mounts_are_named}
 use Rattle.end_laws.proofs.Told.{named_pens_tell}
@@ -81,7 +81,7 @@ module _ (D : Type 0) (at : MountEnd) (ends : MountEnds D at) where
       (subst (λ (l : List Turn). PenAgrees at.t.first at.logs.history l end.hand.view.core (pen_fsyncs has.own))
       (past_is key.layout key.start end.layout_is end.start_is) end.agree.agrees))))
 
-  module _ (named : Numbered) (are : AreNamed at named) where
+  module _ (named : Numbered) (are : AreNamedAlong at named) where
     told : PensToldAt at named
     told = named_pens_tell D at named ends are
 
@@ -118,7 +118,7 @@ module _ (D : Type 0) (at : MountEnd) (ends : MountEnds D at) where
 pub turns_of_mounts_end : (D : Type 0) → TurnsOfMountsEnd D
 turns_of_mounts_end D at most ends few = turns_end D at ends most few
 
-module _ (D : Type 0) (disk : View) (share : ℕ) (at : MountEnd) (named : Numbered) (ends : MountEnds D at) (are : AreNamed at named)
+module _ (D : Type 0) (disk : View) (share : ℕ) (at : MountEnd) (named : Numbered) (ends : MountEnds D at) (are : AreNamedAlong at named)
     (along : TellAlong at.told.layout at.start named at.told.log (first_past at.told.moment)) (disk_ends : DiskEnds at disk) where
   mount_ends : EndsMount at.start at.entries named at.told disk
   mount_ends =

@@ -33,13 +33,13 @@ use Rattle.slot_laws.proofs.NodesBack.{labels_keep_the_box}
 use Rattle.slot_laws.proofs.NodesTold.{may_parts, reserving_knew, past_parts}
 use Rattle.close_laws.specs.Maps.{Numbered, IsTold, commit_numbered}
 use Rattle.close_laws.specs.Beside.{stamps_under, brought_at, PairsAt, TellsAt, TellAlong}
-use Rattle.end_laws.specs.Mount.{MountEnd, MountEnds, AreNamed, run_at, IsPairOf, ReservedAt}
+use Rattle.end_laws.specs.Mount.{MountEnd, MountEnds, AreNamedAlong, run_at, IsPairOf, ReservedAt}
 use Rattle.end_laws.specs.Along.{NamedTellAlong}
 use Rattle.end_laws.proofs.Places.{told_labels, PlaceHere, place_behind, end_past, end_lands, goes_to_end, all_done, done_of_all, done_told, beside_there, all_made, disk_there, done_there, volume_there}
 use Rattle.end_laws.proofs.Reserved.{ReservedFor, reserved_for}
 use Rattle.end_laws.proofs.Boxes.{ReservesHere, made_of, commits_under, unmoved_here, gives_here}
 
-module _ (D : Type 0) (at : MountEnd) (named : Numbered) (ends : MountEnds D at) (are : AreNamed at named) where
+module _ (D : Type 0) (at : MountEnd) (named : Numbered) (ends : MountEnds D at) (are : AreNamedAlong at named) where
   abbrev begun : BoxPast
   begun = first_past at.told.moment
 

@@ -23,7 +23,7 @@ use Rattle.close_laws.specs.Pens.{PensRest}
 use Rattle.flush_agrees.specs.Agreement.{FlushTold, turns_of}
 use Rattle.flush_agrees.specs.Made.{TellsNoNumber, FlushMade, GrantsNeed}
 use Rattle.end_laws.proofs.Fitting.{mades_fit}
-use Rattle.end_laws.specs.Mount.{MountEnd, MountEnds, AreNamed, IsFsyncAt, run_at}
+use Rattle.end_laws.specs.Mount.{MountEnd, MountEnds, AreNamedAlong, IsFsyncAt, run_at}
 use Rattle.end_laws.specs.Laws.{NamedPensTell}
 
 -- the turns at the box of a core that may have fsyncs
@@ -44,7 +44,7 @@ no_number_fits named (turn_lands turn) none = tt
 no_number_fits named (turn_fails facts cut fail) none = tt
 no_number_fits named (turn_fails_begun facts fail) none = tt
 
-module _ (D : Type 0) (at : MountEnd) (named : Numbered) (ends : MountEnds D at) (are : AreNamed at named) where
+module _ (D : Type 0) (at : MountEnd) (named : Numbered) (ends : MountEnds D at) (are : AreNamedAlong at named) where
   abbrev events_at : ℕ → List (Event Label)
   events_at core = entries_by event_core core at.told.log
 

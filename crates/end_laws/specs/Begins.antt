@@ -42,7 +42,7 @@ pub record HoldsStart (nodes : ℕ) (start : Volume) (old new : View) : Type 0 w
 
 -- A mount has begun such a volume. Where its disk told an image, the parts are the image's without orphans; where nothing was pending on it, it holds the
 -- volume.
-pub record HasBegun (nodes : ℕ) (mounted : Mounted) (history : List Entry) (old new : View) : Type 0 where
+pub record HasBegunVolume (nodes : ℕ) (mounted : Mounted) (history : List Entry) (old new : View) : Type 0 where
   pub start : Volume
   pub begins : BeginsMount mounted history start
   pub of_image : IfTold old.content (λ image. start.parts ≡ without_unlinked (parts_of mounted.layout image))
@@ -51,10 +51,10 @@ pub record HasBegun (nodes : ℕ) (mounted : Mounted) (history : List Entry) (ol
 -- So has each mount that ended with an Ok, for each legal history from its tree on.
 abbrev pub MountsBeginLabels : View → View → Type 0
 MountsBeginLabels old new = (nodes : ℕ) (mounted : Mounted) (history : List Entry) → WasMounted nodes mounted old new → IsLegal mounted.tree history
-    → HasBegun nodes mounted history old new
+    → HasBegunVolume nodes mounted history old new
 
 -- A disk has gone on from one on which each image stood for these parts with no slot open, and has counted each device call.
-pub record HasGoneOn (layout : Layout) (parts : ℕ → Part) (new later : View) : Type 0 where
+pub record HasGoneOnSince (layout : Layout) (parts : ℕ → Part) (new later : View) : Type 0 where
   pub fits : IsLayout layout.blocks layout
   pub left : (image : List ℕ) → images new image → IsImageOf layout nothing_open parts image
   pub advances : Advances new later
@@ -62,4 +62,4 @@ pub record HasGoneOn (layout : Layout) (parts : ℕ → Part) (new later : View)
 
 -- Then it began with them.
 abbrev pub BegunDisksGoOn : View → View → Type 0
-BegunDisksGoOn new later = (layout : Layout) (parts : ℕ → Part) → HasGoneOn layout parts new later → BeganWith layout parts new.now later
+BegunDisksGoOn new later = (layout : Layout) (parts : ℕ → Part) → HasGoneOnSince layout parts new later → BeganWith layout parts new.now later

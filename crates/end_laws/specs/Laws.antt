@@ -4,11 +4,11 @@ use Rattle.close_laws.specs.Maps.{Numbered}
 use Rattle.close_laws.specs.PenLabels.{PensTell}
 use Rattle.close_laws.specs.Pens.{PensRest}
 use Rattle.flush_agrees.specs.Agreement.{FlushTold, turns_of}
-use Rattle.end_laws.specs.Mount.{AreNamed, MountEnd, MountEnds}
+use Rattle.end_laws.specs.Mount.{AreNamedAlong, MountEnd, MountEnds}
 
 -- There is what commits bring by the stamps of the fsyncs.
 abbrev pub MountsAreNamed : Type 0 → Type 0
-MountsAreNamed D = (at : MountEnd) → MountEnds D at → (named : Numbered) × AreNamed at named
+MountsAreNamed D = (at : MountEnd) → MountEnds D at → (named : Numbered) × AreNamedAlong at named
 
 -- By that the pens told turn by turn at the box, each the turns of its core's fsyncs, and are at rest.
 pub record PensToldAt (at : MountEnd) (named : Numbered) : Type 0 where
@@ -17,4 +17,4 @@ pub record PensToldAt (at : MountEnd) (named : Numbered) : Type 0 where
   pub rest : PensRest named at.told pens
 
 abbrev pub NamedPensTell : Type 0 → Type 0
-NamedPensTell D = (at : MountEnd) (named : Numbered) → MountEnds D at → AreNamed at named → PensToldAt at named
+NamedPensTell D = (at : MountEnd) (named : Numbered) → MountEnds D at → AreNamedAlong at named → PensToldAt at named

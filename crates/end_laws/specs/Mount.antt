@@ -117,7 +117,7 @@ pub record IsPairOf (at : MountEnd) (named : Numbered) (one : FlushTold) (made :
 
 -- What commits bring has the stamps of the fsyncs: each number that was made for one has its stamp, what stands under the stamp of each fsync is of that fsync,
 -- and where something was made it is of that.
-pub record AreNamed (at : MountEnd) (named : Numbered) : Type 0 where
+pub record AreNamedAlong (at : MountEnd) (named : Numbered) : Type 0 where
   pub stamps : (one : FlushTold) (made : FlushMade) → IsFsyncAt at one → one.made ≡ Some made → named.stamps made.number ≡ one.flush.stamp
   pub flush : (one : FlushTold) → IsFsyncAt at one → (bringing_under named.pairs one.flush.stamp).flush ≡ one.flush
   pub pair : (one : FlushTold) (made : FlushMade) → IsFsyncAt at one → one.made ≡ Some made → IsPairOf at named one made

@@ -44,7 +44,7 @@ use Rattle.fsync_dir.specs.Answering.{EndsWaiting}
 use Rattle.fsync_dir.proofs.Pens.{numbers_more}
 use Rattle.pen_laws.specs.Agreement.{IsServedFsync}
 use Rattle.flush_agrees.specs.Made.{FlushMade, TurnIsOf}
-use Rattle.flush_agrees.specs.Agreement.{ToldInSight, MadeIsAgreed, FlushTold, CoresAgree, EntryAgrees, FlushAgrees, turns_of, NumbersHave, fsync_turns, NumbersDiffer, HasFlushFor, HasLanded, IsToldOfOne}
+use Rattle.flush_agrees.specs.Agreement.{ToldInSight, MadeIsAgreed, FlushTold, CoresAgree, EntryAgrees, FlushAgrees, turns_of, NumbersHave, fsync_turns, NumbersDiffer, HasFlushFor, IsDurableFsync, IsToldOfOne}
 use Rattle.flush_agrees.specs.Laws.{FlushPlace}
 use Rattle.flush_agrees.proofs.Turns.{TakesOwn, OwnTurn, own_each}
 use Rattle.flush_agrees.proofs.Growing.{GoesFurther, one_on, flush_on, entry_on}
@@ -114,7 +114,7 @@ way_landed (granted_halted faults) is = absurd (cc is)
 way_landed (begun_halted faults) is = absurd (cc is)
 way_landed (opened_halted faults) is = absurd (cc is)
 
-ok_landed : (one : FlushTold) (given : Reply) → GoesWay (turns_in one.turns) given → given ≡ reply.Ok → HasLanded one
+ok_landed : (one : FlushTold) (given : Reply) → GoesWay (turns_in one.turns) given → given ≡ reply.Ok → IsDurableFsync one
 ok_landed one given way is =
     let there = way_landed way.way (sym way.answered ∙ is) in
     let from = from_map (λ (turn : Turn). turn.act) (turns_in one.turns) act.Durable (subst (λ l. IsOneOf l act.Durable) (sym way.acts) there) in

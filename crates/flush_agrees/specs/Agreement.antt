@@ -118,7 +118,7 @@ NumbersDiffer fsyncs = (one other : FlushTold) (made also : FlushMade) → IsOne
     → other.made ≡ Some also → made.number ≡ also.number → one.flush.stamp ≡ other.flush.stamp
 
 -- An fsync has become durable: one of its turns says so.
-pub record HasLanded (one : FlushTold) : Type 0 where
+pub record IsDurableFsync (one : FlushTold) : Type 0 where
   pub turn : Turn
   pub among : IsOneOf (turns_in one.turns) turn
   pub durable : turn.act ≡ act.Durable
@@ -127,7 +127,7 @@ pub record HasLanded (one : FlushTold) : Type 0 where
 pub record IsToldOfOne (t : FileState) (hand : FileHand) (fsyncs : List FlushTold) (told : Commitment) : Type 0 where
   pub one : FlushTold
   pub among : IsOneOf fsyncs one
-  pub landed : HasLanded one
+  pub landed : IsDurableFsync one
   pub made : FlushMade
   pub is : one.made ≡ Some made
   pub tells : ToldInSight t hand made told

@@ -26,7 +26,7 @@ use Rattle.slot_laws.specs.Labels.{nothing_told}
 use Rattle.disk_box.specs.Pens.{PenHand}
 use Rattle.disk_box.specs.Box.{LawfulBox, past_of}
 use Rattle.disk_box.specs.declared.key.BoxKey.{BoxKey}
-use Rattle.flush_agrees.specs.Agreement.{run_to, FlushTold, HasLanded, fsync_turns, turns_of, NumbersHave, CoresAgree}
+use Rattle.flush_agrees.specs.Agreement.{run_to, FlushTold, IsDurableFsync, fsync_turns, turns_of, NumbersHave, CoresAgree}
 use Rattle.flush_agrees.specs.Made.{FlushMade, GrantsNeed, TurnMade, TellsNoNumber, LeavesOfNode}
 
 -- What a mount leaves: its history with all answers, the events of its table, and the labels of the box.
@@ -76,7 +76,7 @@ pub record ToldAtEnd (run : TableRun) (made : FlushMade) (told : Commitment) : T
 pub record IsToldAtEnd (run : TableRun) (fsyncs : List FlushTold) (told : Commitment) : Type 0 where
   pub one : FlushTold
   pub among : IsOneOf fsyncs one
-  pub landed : HasLanded one
+  pub landed : IsDurableFsync one
   pub made : FlushMade
   pub is : one.made ≡ Some made
   pub tells : ToldAtEnd run made told

@@ -84,23 +84,21 @@ impl<D: Disk + Drop> JournalSet<D> {
                 let line = Line::new();
                 Ok((JournalSet { table, line }, pens))
             }
-            Err(cells) => Err(NewFault {
-                disk: disk_of(cells),
-            }),
+            Err(cells) => Err(handed_back(cells)),
         }
     }
 }
 
-// The disk of a box that was not made.
-fn disk_of<D: Disk + Drop>(mut cells: Vec<Option<Option<Desk<D>>>>) -> D
+// The disk of a box that was not made, handed back.
+fn handed_back<D: Disk + Drop>(mut cells: Vec<Option<Option<Desk<D>>>>) -> NewFault<D>
     requires one { (desk : DeskOf D) × (cells.items ≡ Some (Some desk) ∷ []) }
-    ensures { (desk : DeskOf D) → cells.items ≡ Some (Some desk) ∷ [] → result ≡ desk.disk }
+    ensures { (desk : DeskOf D) → cells.items ≡ Some (Some desk) ∷ [] → result.disk ≡ desk.disk }
 {
     let cell = cells.swap_remove(0);
     let Some(value) = cell else { unreachable!() };
     let Some(desk) = value else { unreachable!() };
     let Desk { disk, .. } = desk;
-    disk
+    NewFault { disk }
 }
 
 // What a box is made of beside its disk: memory for its cell, a tree for its table, which has as many cores, and what lies in it.

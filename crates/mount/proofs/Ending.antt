@@ -34,7 +34,7 @@ use Rattle.disk_box.specs.Box.{LawfulBox}
 use Rattle.close_laws.specs.Beside.{BeginsLabels}
 use Rattle.site_laws.specs.Sites.{IsSiteMount}
 use Rattle.site_laws.proofs.Sites.{mounts_are_sites}
-use Rattle.end_laws.specs.Begins.{HasBegun}
+use Rattle.end_laws.specs.Begins.{HasBegunVolume}
 use Rattle.end_laws.proofs.Begins.{mounts_begin_labels}
 use Rattle.end_laws.proofs.Rests.{closed_pens_rest}
 use Rattle.flush_agrees.specs.Agreement.{FlushTold, run_to, CoresAgree}
@@ -202,7 +202,7 @@ module _ {D : Type 0} (view : D → View) (volume : Volume D) (workers : List (W
     site = mounts_are_sites nodes (view disk).size begun mounted.was.sound
 
     -- the volume that the mount began
-    pub has_begun : HasBegun nodes begun history (view disk) (view mounted.left)
+    pub has_begun : HasBegunVolume nodes begun history (view disk) (view mounted.left)
     has_begun =
         mounts_begin_labels (view disk) (view mounted.left) (lawful_disk disk) (lawful_disk mounted.left) nodes begun history mounted.was
         (subst (λ (t : TreeState). IsLegal t history) mounted.tree leaves.legal)

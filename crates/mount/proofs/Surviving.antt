@@ -20,7 +20,7 @@ use Rattle.slot_image_laws.specs.Run.{BeganWith, RisesFrom}
 use Rattle.disk_box.specs.Pens.{PenHand}
 use Rattle.disk_box.specs.declared.key.BoxKey.{BoxKey}
 use Rattle.close_laws.specs.Close.{TellsAll}
-use Rattle.end_laws.specs.Begins.{HasBegun, HoldsStart}
+use Rattle.end_laws.specs.Begins.{HasBegunVolume, HoldsStart}
 use Rattle.end_laws.proofs.Rests.{closed_disks_began}
 use Rattle.flush_agrees.specs.Closing.{pen_fsyncs}
 use Rattle.end_laws.specs.Mount.{MountEnd, MountEnds}
@@ -31,7 +31,7 @@ use Rattle.workers.specs.declared.worker.Worker.{Worker}
 use Rattle.mount.specs.declared.volume.Volume.{Volume}
 use Rattle.mount.specs.Volume.{IsMountOfDisk}
 use Rattle.mount.specs.Ends.{LeavesVolume}
-use Rattle.mount.specs.Survives.{TurnsTellAll, SurvivesSince, ComesTo, UnmountedSurvive}
+use Rattle.mount.specs.Survives.{TurnsTellAll, SurvivesSince, MountComesTo, UnmountedSurvive}
 use Rattle.mount.proofs.Ending.{Unmounted, end, ends, has_begun, key_fits}
 use Rattle.mount.proofs.FromBegin.{rises_before, survive_from_begin}
 
@@ -57,7 +57,7 @@ module _ {D : Type 0} (view : D → View) (volume : Volume D) (workers : List (W
   at_ends : MountEnds D at
   at_ends = ends view volume workers left history turns unmounted nodes disk mounted
 
-  abbrev begun : HasBegun nodes mounted.begun history (view disk) (view mounted.left)
+  abbrev begun : HasBegunVolume nodes mounted.begun history (view disk) (view mounted.left)
   begun = has_begun view volume workers left history turns unmounted nodes disk mounted
 
   -- what is so of the mount's tree, history and turns is so of the volume's
@@ -151,7 +151,7 @@ module _ {D : Type 0} (view : D → View) (volume : Volume D) (workers : List (W
           reads_by_turns = mount.reads_by_turns;
         })
 
-  comes_to : ComesTo view nodes disk volume left history turns
+  comes_to : MountComesTo view nodes disk volume left history turns
   comes_to = record {
     since = let never = mounted.was.advances.never_falls in let are = mounted.key.faults_are in omega (arith, never, are);
     until = until;

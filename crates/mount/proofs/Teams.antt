@@ -13,7 +13,7 @@ use Rattle.disk_box.specs.Pens.{PenHand}
 use Rattle.journal_set.specs.Making.{MayClose}
 use Rattle.workers.specs.Works.{Rests, WorksEach}
 use Rattle.workers.specs.declared.worker.Worker.{Worker}
-use Rattle.mount.specs.Volume.{HasRoom, IsVolume}
+use Rattle.mount.specs.Volume.{HasRoomForWorkers, IsVolume}
 use Rattle.mount.specs.Workers.{AreWorkers, PairAgrees, core_of, pen_of, worker_begun}
 use Rattle.mount.specs.declared.volume.Volume.{Volume}
 
@@ -125,6 +125,6 @@ pens_close {D = D} volume workers is are =
 
 -- and there is room for them
 pub room_is : {D : Type 0} (volume : Volume D) (workers : List (Worker (PenHand D))) → IsVolume volume → AreWorkers volume workers
-    → HasRoom (length workers) volume.room
+    → HasRoomForWorkers (length workers) volume.room
 room_is volume workers is are =
-    subst (λ n. HasRoom n volume.room) (sym (workers_count volume workers are ∙ is.table_cores)) is.room
+    subst (λ n. HasRoomForWorkers n volume.room) (sym (workers_count volume workers are ∙ is.table_cores)) is.room

@@ -24,7 +24,7 @@ use Rattle.workers.specs.Phases.{AreBefore}
 use Rattle.workers.specs.Works.{IsBasisOf, Rests}
 use Rattle.workers.specs.declared.worker.Worker.{Worker}
 use Rattle.mount.specs.Begun.{IsTableOver, basis_for}
-use Rattle.mount.specs.Volume.{HasRoom, IsMountOfDisk, IsVolume}
+use Rattle.mount.specs.Volume.{HasRoomForWorkers, IsMountOfDisk, IsVolume}
 use Rattle.mount.specs.Workers.{AreWorkers, HaveMadeNothing, PairAgrees, core_of, pen_of, worker_begun, workers_begun}
 use Rattle.mount.specs.declared.mounting.Tabled.{Tabled}
 use Rattle.mount.specs.declared.volume.Volume.{Volume}
@@ -35,7 +35,7 @@ pub record PutTogether {D : Type 0} (view : D → View) (nodes : ℕ) (disk left
   pub was : WasMounted nodes begun (view disk) (view left)
   pub most : nodes ≤ 65536
   pub table : IsTableOver begun.tree begun.old begun.layout.cores (basis_for begun.layout nodes).nodes tabled
-  pub room : HasRoom begun.layout.cores tabled.room
+  pub room : HasRoomForWorkers begun.layout.cores tabled.room
   pub key : IsKeyOf begun.layout (view left) begun.space set.table.given
   pub over : BeganOver left set.table.given
   pub new : AreNewPens set pens

@@ -40,7 +40,7 @@ pub record SurvivesSince (share from : ℕ) (first : TreeState) (history : List 
 
 -- What a volume comes to that was mounted of a disk with so many new nodes: its turns tell all, at moments that rise from the mount's begin to the end; and where
 -- that disk told its content and nothing was pending on it, the volume survives each crash since then, while the count of device calls goes on.
-pub record ComesTo {D : Type 0} (view : D → View) (nodes : ℕ) (disk : D) (volume : Volume D) (left : D) (history : List Entry) (turns : List Turn)
+pub record MountComesTo {D : Type 0} (view : D → View) (nodes : ℕ) (disk : D) (volume : Volume D) (left : D) (history : List Entry) (turns : List Turn)
     : Type 0 where
   pub since : (view disk).faults ≤ volume.set.table.given.faults
   pub until : volume.set.table.given.faults ≤ (view left).faults
@@ -52,7 +52,7 @@ pub record ComesTo {D : Type 0} (view : D → View) (nodes : ℕ) (disk : D) (vo
 -- So it does, whichever disk it was mounted of.
 abbrev pub VolumeSurvives : {D : Type 0} → (D → View) → Volume D → D → List Entry → List Turn → Type 0
 VolumeSurvives {D} view volume left history turns = (nodes : ℕ) (disk : D) → IsMountOfDisk view nodes disk volume
-    → ComesTo view nodes disk volume left history turns
+    → MountComesTo view nodes disk volume left history turns
 
 -- So it is of each volume that was left, with all workers at rest.
 abbrev pub UnmountedSurvive : {D : Type 0} → (D → View) → Type 0

@@ -19,7 +19,7 @@ use Rattle.mount.specs.declared.volume.Room.{Room}
 use Rattle.mount.specs.declared.mounting.MountFault.{MountFault}
 
 -- There is room for so many cores and pens, and none is in it yet.
-pub record HasRoom {D : Type 0} (cores : ℕ) (room : Room D) : Type 0 where
+pub record HasRoomForWorkers {D : Type 0} (cores : ℕ) (room : Room D) : Type 0 where
   pub no_cores : room.cores.items ≡ []
   pub no_pens : room.pens.items ≡ []
   pub for_cores : cores ≤ vec_capacity room.cores
@@ -34,7 +34,7 @@ pub record IsVolume {D : Type 0} (volume : Volume D) : Type 0 where
   pub table_cores : volume.shared.cores ≡ volume.cores
   pub set_cores : volume.set.cores ≡ volume.cores
   pub few : volume.basis.nodes ≤ 2 ^ 32 - 1
-  pub room : HasRoom volume.cores volume.room
+  pub room : HasRoomForWorkers volume.cores volume.room
 
 -- A volume was mounted of a disk with so many new nodes: the disk was recovered, and what it begins with was gathered from it; its table is over that tree and was
 -- given what the disk has of each node, and its journals are over the recovered disk with that layout and free space.

@@ -7,7 +7,7 @@ ghost use Rattle.mem_values.specs.Places.{node_count};
 ghost use Rattle.volume_laws.specs.Mounting.{WasMounted};
 ghost use Rattle.recovery.specs.declared.fault.RecoverFault.TheVariants as RecoverFault;
 ghost use Rattle.mount.specs.Begun.{IsTableOver, basis_for};
-ghost use Rattle.mount.specs.Volume.{HasRoom, IsMountOfDisk, IsRefusedMount, IsVolume};
+ghost use Rattle.mount.specs.Volume.{HasRoomForWorkers, IsMountOfDisk, IsRefusedMount, IsVolume};
 ghost use Rattle.mount.specs.Workers.{AreWorkers, HaveMadeNothing, workers_begun};
 
 use crate::volume::{Mounted, Room, Volume};
@@ -65,7 +65,7 @@ fn room_for<D: Disk + Drop>(
     alloc: Global,
     cores: usize,
 ) -> Result<(Room<D>, Vec<Worker<Pen<D>>>), NoMemory>
-    ensures room { IfOk result (λ made. HasRoom cores made.0) }
+    ensures room { IfOk result (λ made. HasRoomForWorkers cores made.0) }
     ensures none { IfOk result (λ made. made.1.items ≡ []) }
     ensures workers { IfOk result (λ made. cores ≤ vec_capacity made.1) }
 {
@@ -113,7 +113,7 @@ fn table_over<D: Disk + Drop>(
     requires nodes { basis.nodes ≡ node_count tree.now }
     requires cores { (0 < cores) × (cores ≡ length tree.now.made) }
     ensures table { IfOk result (IsTableOver tree.now old cores basis.nodes) }
-    ensures room { IfOk result (λ made. HasRoom cores made.room) }
+    ensures room { IfOk result (λ made. HasRoomForWorkers cores made.room) }
     ensures workers { IfOk result (λ made. (made.workers.items ≡ []) × (cores ≤ vec_capacity made.workers)) }
 {
     let (shared, hands) = make(alloc, tree, old, basis.nodes, cores)?;

@@ -3,7 +3,7 @@ ghost use Rattle.std.specs.Prelude.{◌≡◌, ◌≤◌, [], length, map};
 ghost use Rattle.std.specs.Vec.{vec_capacity};
 ghost use Rattle.mount.specs.Ends.{LeavesVolume};
 ghost use Rattle.mount.specs.Survives.{VolumeSurvives};
-ghost use Rattle.mount.specs.Volume.{HasRoom, IsVolume};
+ghost use Rattle.mount.specs.Volume.{HasRoomForWorkers, IsVolume};
 ghost use Rattle.mount.specs.Workers.{AreWorkers, core_of, pen_of};
 
 use crate::volume::{Room, Volume};
@@ -14,7 +14,7 @@ use workers::Worker;
 
 // The cores and the pens of workers, in room that there is for them.
 fn part<D: Disk + Drop>(room: Room<D>, workers: Vec<Worker<Pen<D>>>) -> Room<D>
-    requires { HasRoom (length workers.items) room }
+    requires { HasRoomForWorkers (length workers.items) room }
     ensures cores { result.cores.items ≡ map core_of workers.items }
     ensures pens { result.pens.items ≡ map pen_of workers.items }
 {

@@ -4,7 +4,7 @@ use Rattle.tree_laws.specs.Tree.{TreeState}
 use Rattle.stamp_table.specs.Table.{AreNew}
 use Rattle.workers.specs.declared.worker.Basis.{Basis}
 use Rattle.mount.specs.Begun.{IsTableOver}
-use Rattle.mount.specs.Volume.{HasRoom, IsVolume}
+use Rattle.mount.specs.Volume.{HasRoomForWorkers, IsVolume}
 use Rattle.mount.specs.Workers.{AreWorkers, HaveMadeNothing}
 use Rattle.mount.proofs.Crew.{BeginsWith, none_made, workers_are}
 use Rattle.mount.proofs.Together.{PutTogether, nodes_are, site_of, volume_is}
@@ -36,7 +36,7 @@ returns-clause-volume g c =
       was = was;
       most = c.requires.most;
       table = subst (λ (z : ℕ × Basis). IsTableOver begun.tree begun.old z.0 z.1.nodes c.in-Ok.tabled) (λ i. (cores i, basis i)) c.in-Ok.ensures.table;
-      room = subst (λ n. HasRoom n c.in-Ok.tabled.room) cores c.in-Ok.ensures.room;
+      room = subst (λ n. HasRoomForWorkers n c.in-Ok.tabled.room) cores c.in-Ok.ensures.room;
       key = made.key;
       over = made.began;
       new = made.pens;

@@ -83,8 +83,8 @@ returns-in-Ok-make_of_slots-clause-pens g c =
     (ap (λ (f : TreeState). length f.made) fresh.tree_is
     ∙ (length-replicate c.args.layout.cores 0 ∙ ap (λ (k : BoxKey _). k.layout.cores) (sym c.of-given.ensures))) made.cores made.new made.room
 
-pub disk_of-requires-clause-one : goal.disk_of-requires-clause-one
-disk_of-requires-clause-one g c κs within =
+pub handed_back-requires-clause-one : goal.handed_back-requires-clause-one
+handed_back-requires-clause-one g c κs within =
     let fresh = c.in-Ok.ensures.fresh in
     let key : BoxKey _ = record { layout = c.args.layout; faults = c.faults.result; start = c.now.result; space = c.args.space; first = Some c.of.result } in
     let desk : Desk g.row.D.Denot = record {

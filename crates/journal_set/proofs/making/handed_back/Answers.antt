@@ -2,7 +2,7 @@ use Rattle.std.proofs.Common.{◌≡◌, ◌∙◌, Some, sym, ap}
 use Rattle.sfs_base.proofs.BasicOptions.{none_some, some_same}
 use Rattle.disk_box.specs.declared.desk.Desk.{Desk}
 use Rattle.journal_set.proofs.Made.{first_read}
-use Rattle.journal_set.proofs.making.disk_of.Goals as goal
+use Rattle.journal_set.proofs.making.handed_back.Goals as goal
 
 pub unreachable-requires : goal.unreachable-requires
 unreachable-requires g c =
