@@ -126,8 +126,8 @@ pub record LacksInSight {D : Type 0} (t : FileState) (hand : FileHand) (pen : Pe
   pub goes : SpaceGoes pen.table.given.layout front (first_past pen.table.given.start) pen.table.given.space space
   pub short : shortage space (need_planned making.plan.change) ≡ Some (NoSpace kind need free)
 
--- A core and its pen agree on an fsync: by its entry, by what was made of it, of which its turns at the box are, and by what was told of it once it was durable;
--- and by what was made of it where it was refused for want of space.
+-- A core and its pen agree on an fsync: by its entry, by what was made of it, of which its turns at the box are, by what was told of it once it was durable, and
+-- by what was made of it where it was refused for want of space.
 pub record FlushAgrees {D : Type 0} (t : FileState) (hand : FileHand) (pen : PenHand D) (one : FlushTold) : Type 0 where
   pub entry : Entry
   pub node : NodeId

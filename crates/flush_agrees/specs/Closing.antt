@@ -100,7 +100,7 @@ pub record LandedAtEnd (run : TableRun) (one : FlushTold) : Type 0 where
   pub told : Commitment
   pub tells : ToldAtEnd run made told
 
--- What a core made for an fsync that was refused for want of space it made in the whole run; and where its turn was noted, none of the nodes that it concerns had
+-- What a core made for an fsync that was refused for want of space it made in the whole run; and where its turn was noted none of the nodes that it concerns had
 -- moved, and a map that had gone along all labels up to there has too little of this kind for what the plan needs.
 pub record LacksAtEnd {D : Type 0} (run : TableRun) (key : BoxKey D) (labels : List (Event Label)) (flush : Flush) (turn : Turn) (kind : SpaceKind)
     (need free : ℕ) : Type 0 where

@@ -22,19 +22,24 @@ use Rattle.journal_set.specs.Refusing.{MayReserve}
 
 module _ {D : Type 0} (view : D → View) (t : TableState (BoxKey D)) (asked : ReserveRequest) (pen after : PenHand D) (desk : Desk D)
     (may : MayReserve view t asked.seen pen desk) where
+  -- the box is about what it was about
   key_same : (turn : Turn) → TellsLabel (label.Noted turn) pen after → after.table.given ≡ pen.table.given
   key_same turn tells = ap (λ (h : PenHand D). h.table.given) tells.goes.frame
 
+  -- the cause of a refused number: what is due, where something is
+  abbrev pub IsCauseOf : Option SpaceFault → SpaceFault → Type 0
+  IsCauseOf o fault = MatchOption o (fault ≡ WantsMemory) (λ due. fault ≡ due)
+
   -- what is due where the map has too little
   due : (o : Option SpaceFault) (kind : SpaceKind) (need free : ℕ)
-      → MatchOption o (◌≡◌ {A = SpaceFault} (NoSpace kind need free) WantsMemory) (λ fault. NoSpace kind need free ≡ fault)
-      → o ≡ Some (NoSpace kind need free)
+      → IsCauseOf o (NoSpace kind need free) → o ≡ Some (NoSpace kind need free)
   due None kind need free is = cc is
   due (Some fault) kind need free is = ap Some (sym is)
 
+  -- so it has found too little, with nodes that had not moved
   pub finds_short : (turn : Turn) (kind : SpaceKind) (need free : ℕ) → IsTurnBy turn (act.Short kind need free) pen.view.core 0 asked.flush
       → TellsLabel (label.Noted turn) pen after
-      → MatchOption (shortage desk.ledger.space asked.need) (◌≡◌ {A = SpaceFault} (NoSpace kind need free) WantsMemory) (λ fault. NoSpace kind need free ≡ fault)
+      → IsCauseOf (shortage desk.ledger.space asked.need) (NoSpace kind need free)
       → FindsShort asked pen after kind need free
   finds_short turn kind need free by tells cause =
       let same = key_same turn tells in
