@@ -14,6 +14,7 @@ use Rattle.slot_laws.specs.declared.label.Label.TheVariants as label
 use Rattle.slot_laws.specs.Labels.{BoxPast, past_from, after_label}
 use Rattle.slot_laws.specs.Rules.{MayFrom, MayLabel}
 use Rattle.slot_laws.proofs.NodesTold.{may_parts, past_parts}
+
 pub data StartsWith (turn : Turn) (fact : Label) : Type 0 where
   notes_it : fact ≡ label.Noted turn → StartsWith turn fact
   opens_it : (k : ℕ) (ok : Bool) (opened : Turn) → fact ≡ label.Opened k ok turn opened → StartsWith turn fact

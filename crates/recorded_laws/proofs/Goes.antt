@@ -6,6 +6,7 @@ use Rattle.tree_laws.specs.declared.turns.Turn.{Turn}
 use Rattle.merge_laws.proofs.Lists.{nothing_there, joined_at, heads_are}
 use Rattle.book_laws.specs.Pairs.{Pair}
 use Rattle.book_laws.specs.Along.{no_turn_made, one_turn_made, MapGoes, MapDoes}
+
 module _ (pairs : ℕ → Pair) (first : Space) where
   -- the map behind so many turns
   pub map_behind : {turns : List Turn} {now : Space} → MapGoes pairs first turns now → ℕ → Space

@@ -68,6 +68,7 @@ use Rattle.recorded_laws.specs.Lacks.{LackMade, MadeLacksAreTold}
 use Rattle.recorded_laws.proofs.Places.{layout, begun, PlaceAt, place_there, opens_there, reserved_as, keeping_at, begins_map}
 use Rattle.recorded_laws.proofs.Once.{turns_go_on, NoneOf, none_of, split_once, stand_begins, same_shortage}
 use Rattle.recorded_laws.proofs.Played.{may_come_there, plays_done}
+
 module _ (D : Type 0) (at : MountEnd) (named : Numbered) (ends : MountEnds D at) (are : AreNamedAlong at named)
     (merge : PensMerge at.start.first at.start.history (past_of at.told).turns) (front : List Turn) (turn : Turn) (told : LackTold)
     (short : TellsShort at named front turn told) (lack : LackMade at turn told) where

@@ -23,6 +23,7 @@ use Rattle.slot_laws.specs.Rules.{IsTurnBy, HasTurn, MayFrom, MayEvent}
 use Rattle.slot_laws.specs.Labels.{OwnTold, own_from, BoxPast, after_label, past_from, nothing_told}
 use Rattle.slot_laws.proofs.NodesTold.{may_parts}
 use Rattle.close_laws.specs.Own.{NotesTurn}
+
 module _ (stamps : ℕ → ℕ) where
   -- A label ends the commit that a grant of nothing was reserved for.
   pub record EmptiesAt (number : ℕ) (grant : GrantedNumbers) (fact : Label) : Type 0 where
@@ -120,14 +121,13 @@ module _ (stamps : ℕ → ℕ) where
   unfolding notes_by
   next_in_turn core number flush (turn_works facts) log is named rest = (tt, work_first core facts (label.Gave ∷ []) log is (tt, rest))
   next_in_turn core number flush (turn_refuses turn) log is named rest = (tt, (tt, (tt, rest)))
-  next_in_turn core number flush (turn_reserves own seen grant turn) log is named rest =
-      (
-        tt,
-        (
-          inl (record { notes = notes_by act.Granted core number own flush turn is.0 is.1 named; commit_is = is.1.commit_is ∙ sym is.0 }),
-          (tt, (tt, rest)),
-        ),
-      )
+  next_in_turn core number flush (turn_reserves own seen grant turn) log is named rest = (
+    tt,
+    (
+      inl (record { notes = notes_by act.Granted core number own flush turn is.0 is.1 named; commit_is = is.1.commit_is ∙ sym is.0 }),
+      (tt, (tt, rest)),
+    ),
+  )
   next_in_turn core number flush (turn_returns own turn) log is named rest =
       (tt, (notes_by act.GivenBack core number own flush turn is.0 is.1 named, (tt, (tt, rest))))
   next_in_turn core number flush (turn_empties own seen cut opened durable) log is named rest = (
@@ -137,12 +137,16 @@ module _ (stamps : ℕ → ℕ) where
   next_in_turn core number flush (turn_begins filling own node stamp blocks inodes) log is named rest = (tt, (tt, (tt, rest)))
   next_in_turn core number flush (turn_opens slot done cut opened) log is named rest = (tt, (tt, (tt, rest)))
   next_in_turn core number flush (turn_lands turn) log is named rest = (tt, (tt, (tt, rest)))
-  next_in_turn core number flush (turn_fails facts cut fail) log is named rest =
-      (tt, subst (λ l. NextOfEach (labels_by core l ++ log)) (sym (append_assoc facts (label.Noted cut ∷ label.Noted fail ∷ []) (label.Gave ∷ [])))
-      (work_first core facts (label.Noted cut ∷ label.Noted fail ∷ label.Gave ∷ []) log is.0 (tt, (tt, (tt, rest)))))
-  next_in_turn core number flush (turn_fails_begun facts fail) log is named rest =
-      (tt, subst (λ l. NextOfEach (labels_by core l ++ log)) (sym (append_assoc facts (label.Noted fail ∷ []) (label.Gave ∷ [])))
-      (flight_first core number flush facts (label.Noted fail ∷ label.Gave ∷ []) log is.0 (tt, (tt, rest))))
+  next_in_turn core number flush (turn_fails facts cut fail) log is named rest = (
+    tt,
+    subst (λ l. NextOfEach (labels_by core l ++ log)) (sym (append_assoc facts (label.Noted cut ∷ label.Noted fail ∷ []) (label.Gave ∷ [])))
+        (work_first core facts (label.Noted cut ∷ label.Noted fail ∷ label.Gave ∷ []) log is.0 (tt, (tt, (tt, rest)))),
+  )
+  next_in_turn core number flush (turn_fails_begun facts fail) log is named rest = (
+    tt,
+    subst (λ l. NextOfEach (labels_by core l ++ log)) (sym (append_assoc facts (label.Noted fail ∷ []) (label.Gave ∷ [])))
+        (flight_first core number flush facts (label.Noted fail ∷ label.Gave ∷ []) log is.0 (tt, (tt, rest))),
+  )
 
   next_in_turns : (core : ℕ) (own : OwnTold) (turns : List BoxTurn) → TellTurns stamps core own turns → NextOfEach (events_in core turns)
   next_in_turns core own [] tell = tt

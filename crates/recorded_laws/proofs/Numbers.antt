@@ -34,6 +34,7 @@ use Rattle.recorded_laws.specs.Recorded.{core_at}
 use Rattle.recorded_laws.proofs.Refused.{IsRefused, number_of, told_for, refused_commit}
 use Rattle.recorded_laws.proofs.Turns.{granted_behind, begins_first}
 use Rattle.recorded_laws.proofs.Reserved.{own_number, number_up}
+
 data WayStarts (acts : List TurnAct) : Type 0 where
   starts_none : acts ≡ [] → WayStarts acts
   starts_granted : (rest : List TurnAct) → acts ≡ act.Granted ∷ rest → WayStarts acts

@@ -23,6 +23,7 @@ use Rattle.slot_laws.specs.declared.label.Label.{Label}
 use Rattle.slot_laws.specs.Labels.{BoxPast, after_label, past_from, OwnTold, own_label, nothing_told}
 use Rattle.slot_laws.specs.declared.label.Label.TheVariants as label
 use Rattle.close_laws.specs.Own.{OwnOwed, OwnStand, own_owed, StandBeside, nothing_owed}
+
 abbrev pub NoneOf : ℕ → List Turn → Type 0
 NoneOf stamp turns = (turn : Turn) → IsOneOf turns turn → turn.stamp.0 ≢ stamp
 

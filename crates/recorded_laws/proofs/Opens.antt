@@ -39,6 +39,7 @@ use Rattle.close_laws.specs.Own.{NotesTurn}
 use Rattle.close_laws.proofs.Drawn.{Drawing}
 use Rattle.recorded_laws.proofs.Played.{is_underway, others_stay}
 use Rattle.recorded_laws.proofs.Next.{behind_returned, ComesReserved, behind_reserved}
+
 module _ (named : Numbered) where
   -- the last of some events reserved a number
   pub record ReservedLast (front : List (Event Label)) (number : ℕ) : Type 0 where

@@ -28,6 +28,7 @@ use Rattle.recorded_laws.specs.Recorded.{kept_at}
 use Rattle.recorded_laws.proofs.Opens.{OpensAt}
 use Rattle.recorded_laws.proofs.Walk.{opens_at}
 use Rattle.recorded_laws.proofs.Next.{ComesReserved, behind_reserved, behind_returned}
+
 module _ (D : Type 0) (at : MountEnd) (named : Numbered) (ends : MountEnds D at) (are : AreNamedAlong at named) where
   abbrev pub layout : Layout
   layout = at.told.layout

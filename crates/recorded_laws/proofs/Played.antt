@@ -25,6 +25,7 @@ use Rattle.merge_laws.proofs.Lists.{among_at}
 use Rattle.book_laws.specs.Walk.{open_stamps}
 use Rattle.book_laws.proofs.Played.{fits_play}
 use Rattle.close_laws.proofs.Flying.{durables_stay, durables_more}
+
 abbrev pub is_underway : Phase → Bool
 is_underway has_reserved = true
 is_underway has_begun = true

@@ -29,6 +29,7 @@ use Rattle.recorded_laws.proofs.Reserved.{IsBehind, tells_there, own_reserved}
 use Rattle.recorded_laws.proofs.Turns.{granted_behind, first_granted, first_cut, begins_first}
 use Rattle.recorded_laws.proofs.Numbers.{core_has, flush_has, commit_has}
 use Rattle.recorded_laws.proofs.Places.{keeping_at, begins_map}
+
 module _ (D : Type 0) (at : MountEnd) (named : Numbered) (ends : MountEnds D at) (are : AreNamedAlong at named)
     (merge : PensMerge at.start.first at.start.history (past_of at.told).turns) (lacks : LacksAreTold at named) where
   abbrev turns : List Turn

@@ -14,6 +14,7 @@ use Rattle.slot_laws.specs.Rules.{IsTurnBy}
 use Rattle.slot_laws.specs.declared.label.Label.TheVariants as label
 use Rattle.slot_laws.specs.Labels.{OwnTold, own_from}
 use Rattle.flush_agrees.specs.Made.{FlushMade, TurnIsOf}
+
 abbrev pub IsRefused : TurnAct → Type 0
 IsRefused (act.Short kind need free) = Unit {0}
 IsRefused act.Halted = Unit {0}

@@ -32,6 +32,7 @@ use Rattle.recorded_laws.specs.Recorded.{kept_at}
 use Rattle.recorded_laws.proofs.Places.{begun, layout, PlaceAt, place_there, opens_there, comes_returned, reserved_as}
 use Rattle.recorded_laws.proofs.Opens.{OpensAt}
 use Rattle.recorded_laws.proofs.Played.{plays_done, is_underway, open_underway}
+
 module _ (D : Type 0) (at : MountEnd) (named : Numbered) (ends : MountEnds D at) (are : AreNamedAlong at named) where
   -- A turn comes right behind a label that reserved the number of its fsync.
   pub record IsBehind (front : List Turn) (turn : Turn) : Type 0 where
@@ -83,6 +84,7 @@ module _ (D : Type 0) (at : MountEnd) (named : Numbered) (ends : MountEnds D at)
     own_reserved =
         reserved_as D at named ends are is.one
         (subst (λ l. IsOneOf l event) (sym whole_so) (at_seam is.rest (Told is.core is.fact ∷ is.back) event))
+
     pub own_number : (commit_under named.pairs turn.stamp.0).number ≡ is.one.commit
     own_number = ap (λ s. (commit_under named.pairs s).number) is.stamp_is ∙ own_reserved.made.number_is
 

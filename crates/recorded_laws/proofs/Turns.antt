@@ -34,6 +34,7 @@ use Rattle.recorded_laws.proofs.Next.{ComesReserved}
 use Rattle.recorded_laws.proofs.Reserved.{IsBehind}
 use Rattle.recorded_laws.proofs.Walk.{own_there}
 use Rattle.recorded_laws.proofs.Through.{freely}
+
 module _ (D : Type 0) (at : MountEnd) (named : Numbered) (ends : MountEnds D at) (are : AreNamedAlong at named) where
   abbrev turns : List Turn
   turns = (past_of at.told).turns

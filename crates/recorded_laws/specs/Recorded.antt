@@ -1,5 +1,4 @@
 -- That the turns of a mount of many cores are recorded, as it ends.
--- the core of the call with a stamp
 use Rattle.std.specs.Prelude.{◌≡◌, ◌≤◌, List, ℕ, unwrap_or, option_map, slice_get}
 use Rattle.space_map.specs.Space.{Space}
 use Rattle.tree_laws.specs.declared.history.Entry.{Entry}
@@ -14,6 +13,8 @@ use Rattle.book_laws.specs.Walk.{Bookkeeping, IsCalmPlace}
 use Rattle.book_laws.specs.Along.{LackTold, MapGoes, TellsLack}
 use Rattle.close_laws.specs.Maps.{past_of, Numbered}
 use Rattle.end_laws.specs.Mount.{AreNamedAlong, MountEnd, MountEnds}
+
+-- the core of the call with a stamp
 abbrev pub core_at : List Entry → ℕ → ℕ
 core_at history stamp = unwrap_or (option_map (λ (entry : Entry). entry.core.0) (slice_get history stamp)) 0
 
