@@ -85,7 +85,8 @@ module _ (D : Type 0) (at : MountEnd) (named : Numbered) (ends : MountEnds D at)
   volume = short.volume
 
   -- the turns before it are those before its label
-  turns_whole : turns ≡ past.turns ++ turn ∷ (turns_go_on (layout D at named ends are) lack.back (after_label at.told.layout lack.core.0 (label.Noted turn) past)).0
+  turns_whole : turns ≡ past.turns
+      ++ turn ∷ (turns_go_on (layout D at named ends are) lack.back (after_label at.told.layout lack.core.0 (label.Noted turn) past)).0
   turns_whole =
       let on = turns_go_on (layout D at named ends are) lack.back (after_label at.told.layout lack.core.0 (label.Noted turn) past) in
       ap (λ l. (past_from at.told.layout l (first_past at.told.moment)).turns) lack.whole
@@ -272,7 +273,8 @@ module _ (D : Type 0) (at : MountEnd) (named : Numbered) (ends : MountEnds D at)
         goes = goes;
       })).right
 
-  counts : (space : Space) → MapGoes named.pairs at.told.first front space → CountsBooks space (books_out (beside_at (keeping_at D at named ends are) (map_place space)))
+  counts : (space : Space) → MapGoes named.pairs at.told.first front space
+      → CountsBooks space (books_out (beside_at (keeping_at D at named ends are) (map_place space)))
   counts space goes = maps_count_books (beside_at (keeping_at D at named ends are) (map_place space)) space (right_there space goes)
 
   drawn_goes : MapGoes named.pairs at.told.first front drawing.so.drawn

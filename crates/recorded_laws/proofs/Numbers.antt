@@ -146,8 +146,8 @@ module _ (D : Type 0) (at : MountEnd) (named : Numbered) (ends : MountEnds D at)
             there = there.there;
             among = own;
           }) is)) told.x in_all in
-          refused_commit core.hand.view.core tells.0 tells.1 turn refused of_one.one.made told.x tells.2 (is_of core.agree of_one.one.made refl told.x told.among)
-          told.has
+          refused_commit core.hand.view.core tells.0 tells.1 turn refused of_one.one.made told.x tells.2
+          (is_of core.agree of_one.one.made refl told.x told.among) told.has
         where
           is_of : {hand : FileHand} {pen : PenHand D} → AgreeAtEnd at.t hand pen there.fsyncs at.logs → (o : Option FlushMade) → of_one.one.made ≡ o
               → (one : BoxTurn) → IsOneOf of_one.one.turns one → TurnIsOf o one
@@ -225,7 +225,8 @@ module _ (D : Type 0) (at : MountEnd) (named : Numbered) (ends : MountEnds D at)
   pub core_has : (turn : Turn) → IsOneOf turns turn → turn.core.0 ≡ core_at at.start.history turn.stamp.0
   core_has turn among =
       let its = merge.each turn among in
-      let stands = (entries_may_come at.start.first at.start.history its.entry ends.begins.labels.walk.stands.between.history_is.legal its.fsync.among).stands in
+      let stands = (entries_may_come at.start.first at.start.history its.entry ends.begins.labels.walk.stands.between.history_is.legal
+      its.fsync.among).stands in
       ap (λ (c : CoreId). c.0) its.core
       ∙ sym (ap (core_at at.start.history) (ap (λ (s : Stamp). s.0) its.stamp)
       ∙ ap (λ (o : Option Entry). unwrap_or (option_map (λ (entry : Entry). entry.core.0) o) 0) stands)

@@ -86,7 +86,8 @@ module _ (named : Numbered) (layout : Layout) (before moment : ℕ) (first : Spa
   abbrev pub begun : BoxPast
   begun = first_past moment
 
-  module _ (front : List (Event Label)) (core : CoreId) (back : List (Event Label)) (space : Space) (so : OpensAt named front (past_from layout front begun)) where
+  module _ (front : List (Event Label)) (core : CoreId) (back : List (Event Label)) (space : Space)
+      (so : OpensAt named front (past_from layout front begun)) where
     abbrev pub past : BoxPast
     past = past_from layout front begun
 
@@ -174,7 +175,8 @@ module _ (named : Numbered) (layout : Layout) (before moment : ℕ) (first : Spa
     reserved_label commit seen grant whole = record {
       opened = λ stamp up.
           let was =
-          from_map (λ (c : ReservedCommit). named.stamps c.number) past.opens stamp (was_open (label.Reserved commit seen grant) whole plain.no_note stamp up) in
+          from_map (λ (c : ReservedCommit). named.stamps c.number) past.opens stamp
+          (was_open (label.Reserved commit seen grant) whole plain.no_note stamp up) in
           inl (subst (IsOneOf (stamps_under named (past.opens ++ new ∷ []))) was.2
           (to_map (λ (c : ReservedCommit). named.stamps c.number) (past.opens ++ new ∷ []) was.0 (in_left past.opens (new ∷ []) was.0 was.1)));
       had = λ one among. elim (last_or_before past.opens new one among) [

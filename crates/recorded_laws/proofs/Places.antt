@@ -62,7 +62,8 @@ module _ (D : Type 0) (at : MountEnd) (named : Numbered) (ends : MountEnds D at)
         tell = named_tell_along D at named ends are;
       }
 
-  place_on : (done some rest : List (Event Label)) (past : BoxPast) → PlaceAt done past (some ++ rest) → PlaceAt (done ++ some) (past_from layout some past) rest
+  place_on : (done some rest : List (Event Label)) (past : BoxPast) → PlaceAt done past (some ++ rest)
+      → PlaceAt (done ++ some) (past_from layout some past) rest
   place_on done [] rest past here = subst (λ l. PlaceAt l past rest) (sym (append-nil done)) here
   place_on done (Called entry ∷ some) rest past here = absurd here.is.drawing.owing.may.0
   place_on done (Told core fact ∷ some) rest past here =
