@@ -4,3 +4,5 @@ pub mod Survives
 pub mod Keeping
 pub mod Volume
 pub mod Workers
+pub mod Phases
+pub mod Serving
