@@ -8,7 +8,7 @@ use Rattle.workers.specs.Works.{Rests}
 use Rattle.workers.specs.declared.worker.Worker.{Worker}
 use Rattle.mount.specs.Workers.{AreWorkers, PairAgrees}
 use Rattle.mount.specs.declared.volume.Volume.{Volume}
-use Rattle.mount.proofs.Teams.{AreBack, at_map, team_again}
+use Rattle.mount.specs.Workers.{AreBack, at_map, team_again}
 use Rattle.library_example.specs.Calls.{IsBack}
 use Rattle.library_example.specs.Seats.{worker_at}
 use Rattle.library_example.specs.declared.seats.Seat.{Seat}

@@ -14,7 +14,7 @@ use Rattle.journal_set.specs.Making.{MayClose}
 use Rattle.workers.specs.Works.{Rests, WorksEach}
 use Rattle.workers.specs.declared.worker.Worker.{Worker}
 use Rattle.mount.specs.Volume.{HasRoomForWorkers, IsVolume}
-use Rattle.mount.specs.Workers.{AreWorkers, PairAgrees, core_of, pen_of, worker_begun}
+use Rattle.mount.specs.Workers.{AreBack, AreWorkers, PairAgrees, core_of, pen_of, worker_begun}
 use Rattle.mount.specs.declared.volume.Volume.{Volume}
 
 -- what is so of workers by an agreement is so of them by one that it implies
@@ -57,12 +57,6 @@ there_too (w ∷ workers) (suc k) worker there = there_too workers k worker ther
 some_worker : {P : Type 0} (workers : List (Worker P)) (place : ℕ) → place < length workers → Worker P
 some_worker [] place low = absurd (omega (arith, low))
 some_worker (worker ∷ workers) place low = worker
-
--- Workers are back from calls, each with the core that it had, and rest.
-abbrev pub AreBack : {D : Type 0} → Volume D → List (Worker (PenHand D)) → List (Worker (PenHand D)) → Type 0
-AreBack {D} volume before after = (place : ℕ) (d : Worker (PenHand D)) → place < length before
-    → Rests volume.shared (PairAgrees volume) (slice_index_or after place d)
-    × IsSameCore (slice_index_or before place d).core (slice_index_or after place d).core
 
 -- one of them has the same core, which holds nothing
 same_at : {D : Type 0} (volume : Volume D) (workers after : List (Worker (PenHand D))) → AreBack volume workers after → (place : ℕ) (d : FileHand)
