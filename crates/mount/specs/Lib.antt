@@ -2,5 +2,6 @@ pub mod Begun
 pub mod Ends
 pub mod Survives
 pub mod Keeping
+pub mod Phases
 pub mod Volume
 pub mod Workers

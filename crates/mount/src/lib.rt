@@ -1,12 +1,14 @@
-//! A volume: a disk is mounted, its workers have a core of the table over its tree and a pen, by which an fsync reaches the disk, and it is unmounted.
+//! A volume: a disk is mounted, its workers run phases on the table over its tree, their fsyncs reach the disk, and it is unmounted.
 #![tactic(auto)]
 
 mod flushing;
 mod mounting;
+mod running;
 mod unmounting;
 mod volume;
 
-pub use flushing::{PairAgreement, serve};
+pub use flushing::{PairAgreement, run_phase, serve};
 pub use mounting::{MountFault, begin, mount};
+pub use running::run_phases;
 pub use unmounting::unmount;
 pub use volume::{Mounted, Room, Volume};
