@@ -7,7 +7,9 @@ use Rattle.stamp_table.specs.declared.event.Event.{Event}
 use Rattle.stamp_table.specs.declared.event.Event.TheVariants.{Called, Told}
 use Rattle.stamp_table.specs.Answered.{asks_fsync}
 use Rattle.mem_values.specs.Account.{Commitment, commit_told}
-use Rattle.mem_values.specs.Start.{FileHand}
+use Rattle.stamp_table.specs.Hand.{Desk}
+use Rattle.stamp_table.specs.Table.{TableState}
+use Rattle.mem_values.specs.Start.{FileHand, FileState}
 use Rattle.mem_values.specs.declared.fact.Fact.{Fact}
 use Rattle.slot_laws.specs.Labels.{own_from, nothing_told}
 use Rattle.disk_box.specs.declared.key.BoxKey.{BoxKey}
@@ -22,45 +24,36 @@ use Rattle.flush_agrees.specs.Laws.{FlushPlace, MakesFlush}
 use Rattle.flush_agrees.proofs.Flushed.{flushes_agree}
 use Rattle.flush_agrees.proofs.Growing.{new_pairs_agree, other_calls_keep, same_fsyncs_keep_served}
 use Rattle.workers.specs.Keeping.{KeepsFsyncs, is_of_fsync}
+use Rattle.mount.specs.Serving.{ServesAt}
 use Rattle.mount.specs.Volume.{IsVolume}
-use Rattle.mount.specs.Workers.{PairAgrees}
+use Rattle.mount.specs.Workers.{AgreeAt, PairAgrees}
 use Rattle.mount.specs.declared.volume.Volume.{Volume}
 
 -- an fsync was served: its core, its pen and the reply before and behind it
-pub record ServesOne {D : Type 0} (volume : Volume D) (node : NodeId) (before after : FileHand) (pen done : PenHand D) (given : Reply) : Type 0 where
-  pub answers : AnswersFsync volume.shared node given before after
-  pub ready : IsReady volume.set done
-  pub goes : PenGoes pen done
-  pub comes : FlushComes volume.shared volume.basis.nodes node before after pen done given
+pub record ServesOne {D : Type 0} (set : TableState (BoxKey D)) (at : FlushPlace D) (given : Reply) : Type 0 where
+  pub answers : AnswersFsync at.t at.node given at.before at.after
+  pub ready : IsReady set at.done
+  pub goes : PenGoes at.pen at.done
+  pub comes : FlushComes at.t at.nodes at.node at.before at.after at.pen at.done given
 
--- where fsyncs are served by a pen of the volume's
-pub site_at : {D : Type 0} (volume : Volume D) (pen : PenHand D) → IsVolume volume → IsReady volume.set pen
-    → IsSite volume.shared volume.basis.nodes volume.cores pen.table.given
-site_at volume pen is ready =
-    subst (λ (k : BoxKey _). IsSite volume.shared volume.basis.nodes volume.cores k) (sym (ap (λ (d : Rattle.stamp_table.specs.Hand.Desk (BoxKey _)). d.given) ready.outside.table_is)) is.site
+-- where fsyncs are served by a pen of the journals
+pub site_at : {D : Type 0} (shared : FileState) (set : TableState (BoxKey D)) (nodes cores : ℕ) (pen : PenHand D) → ServesAt shared set nodes cores
+    → IsReady set pen → IsSite shared nodes cores pen.table.given
+site_at shared set nodes cores pen serves ready =
+    subst (λ (k : BoxKey _). IsSite shared nodes cores k) (sym (ap (λ (d : Desk (BoxKey _)). d.given) ready.outside.table_is)) serves.site
 
 -- it leaves them in agreement
-pub served_agrees : {D : Type 0} (volume : Volume D) (node : NodeId) (before after : FileHand) (pen done : PenHand D) (given : Reply) → IsVolume volume
-    → PairAgrees volume before pen → ServesOne volume node before after pen done given → PairAgrees volume after done
-served_agrees {D = D} volume node before after pen done given is agrees served =
-    let place : FlushPlace D = record {
-      t = volume.shared;
-      nodes = volume.basis.nodes;
-      cores = volume.cores;
-      node = node;
-      before = before;
-      after = after;
-      pen = pen;
-      done = done;
-    } in
-    let makes : MakesFlush place given = record {
-      site = site_at volume pen is agrees.ready;
-      few = is.few;
+pub served_agrees : {D : Type 0} (set : TableState (BoxKey D)) (at : FlushPlace D) (given : Reply) → ServesAt at.t set at.nodes at.cores
+    → AgreeAt at.t set at.before at.pen → ServesOne set at given → AgreeAt at.t set at.after at.done
+served_agrees {D = D} set at given serves agrees served =
+    let makes : MakesFlush at given = record {
+      site = site_at at.t set at.nodes at.cores at.pen serves agrees.ready;
+      few = serves.few;
       goes = served.goes;
       comes = served.comes;
     } in
-    let behind : (fsyncs : List FlushTold) × CoresAgree volume.shared after done fsyncs =
-    elim (flushes_agree D place given agrees.fsyncs makes agrees.agree) [ inl same ↦ (agrees.fsyncs, same) | inr more ↦ (_, more.1) ]
+    let behind : (fsyncs : List FlushTold) × CoresAgree at.t at.after at.done fsyncs =
+    elim (flushes_agree D at given agrees.fsyncs makes agrees.agree) [ inl same ↦ (agrees.fsyncs, same) | inr more ↦ (_, more.1) ]
     in
     record {
       ready = served.ready;

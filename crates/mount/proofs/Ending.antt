@@ -285,6 +285,7 @@ module _ {D : Type 0} (view : D → View) (volume : Volume D) (workers : List (W
         core_is = at.core_is;
         layout_is = ap (λ (k : BoxKey D). k.layout) at.key_is;
         start_is = ap (λ (k : BoxKey D). k.start) at.key_is;
+        space_is = ap (λ (k : BoxKey D). k.space) at.key_is;
         agrees = at.agree;
         reaches = at.reaches;
         mine = at.mine;

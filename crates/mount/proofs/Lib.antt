@@ -1,6 +1,7 @@
 mod Agreeing
 mod Crew
 mod Teams
+mod Ran
 mod Together
 mod FromBegin
 mod Owned

@@ -13,9 +13,11 @@ use Rattle.tree_laws.specs.declared.history.Entry.{Entry}
 use Rattle.tree_laws.specs.Tree.{TreeState}
 use Rattle.cut_laws.specs.Rules.{IsOneOf}
 use Rattle.crash_laws.specs.Wrote.{Mounts}
+use Rattle.turn_laws.specs.Recorded.{IsRecorded}
 use Rattle.merge_laws.specs.LeftByTurns.{SurvivesByTurns}
 use Rattle.merge_laws.proofs.ByTurns.{durables_survive}
 use Rattle.mount_begin.specs.Mounted.{share_of_nodes}
+use Rattle.turn_ties.specs.Plans.{image_held}
 use Rattle.slot_image_laws.specs.Run.{BeganWith, RisesFrom}
 use Rattle.disk_box.specs.Pens.{PenHand}
 use Rattle.disk_box.specs.declared.key.BoxKey.{BoxKey}
@@ -27,6 +29,7 @@ use Rattle.end_laws.specs.Mount.{MountEnd, MountEnds}
 use Rattle.close_laws.specs.Maps.{past_of}
 use Rattle.end_laws.specs.Survives.{DiskEnds}
 use Rattle.end_laws.proofs.Survives.{turns_of_mounts_end, mounts_survive}
+use Rattle.recorded_laws.proofs.Agreed.{agreed_mounts_are_recorded}
 use Rattle.workers.specs.declared.worker.Worker.{Worker}
 use Rattle.mount.specs.declared.volume.Volume.{Volume}
 use Rattle.mount.specs.Volume.{IsMountOfDisk}
@@ -151,14 +154,21 @@ module _ {D : Type 0} (view : D → View) (volume : Volume D) (workers : List (W
           reads_by_turns = mount.reads_by_turns;
         })
 
-  comes_to : MountComesTo view nodes disk volume left history turns
+  since : (view disk).faults ≤ key.faults
+  since = let never = mounted.was.advances.never_falls in let are = mounted.key.faults_are in omega (arith, never, are)
+
+  comes_to : MountComesTo view nodes disk volume left history turns mounted
   comes_to = record {
-    since = let never = mounted.was.advances.never_falls in let are = mounted.key.faults_are in omega (arith, never, are);
+    since = since;
     until = until;
     dated = subst (λ (l : List Turn). RisesFrom (view disk).now l (view left).now) (sym leaves.leaves.record_is)
         (rises_before (view disk).now key.start (view left).now (past_of at.told).turns
         (let later = mounted.was.advances.later in let is = mounted.key.start_is in omega (arith, later, is)) leaves.leaves.run.rises);
     turns_tell = turns_tell;
+    has = begun;
+    recorded =
+        of_volume (λ first entries told. IsRecorded first entries (image_held begun.start) (view disk).faults (view left).faults told)
+        (agreed_mounts_are_recorded D at (view disk).faults (view left).faults at_ends since few);
     survives = survives;
   }
 

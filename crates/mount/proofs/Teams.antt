@@ -1,6 +1,6 @@
 -- The workers of a volume, before and after they ran, and as they are taken in.
 use Rattle.std.proofs.Common.{◌≡◌, ◌<◌, ◌≤◌, ◌+◌, ◌∷◌, ◌∙◌, ℕ, zero, suc, List, [], Some, length, map, get_or, true, refl, sym, ap, subst, arith}
-use Rattle.std.specs.Prelude.{All, slice_get}
+use Rattle.std.specs.Prelude.{All, slice_get, slice_index_or}
 use Rattle.std.proofs.lemmas.List.{length-map}
 use Rattle.std.proofs.lemmas.Option.{get_or_from_slice_get, slice_get_within}
 use Rattle.script.specs.declared.commands.Line.{Line}
@@ -8,7 +8,7 @@ use Rattle.stamp_table.specs.Hand.{Desk}
 use Rattle.stamp_table.specs.Table.{AreAllCores, AreIdleFrom, IsSameCore, first_leads}
 use Rattle.stamp_table.proofs.Beginning.{all_again}
 use Rattle.commit_laws.proofs.CommitMade.{map_there}
-use Rattle.mem_values.specs.Start.{FileHand}
+use Rattle.mem_values.specs.Start.{FileHand, FileState}
 use Rattle.disk_box.specs.Pens.{PenHand}
 use Rattle.journal_set.specs.Making.{MayClose}
 use Rattle.workers.specs.Works.{Rests, WorksEach}
@@ -16,6 +16,25 @@ use Rattle.workers.specs.declared.worker.Worker.{Worker}
 use Rattle.mount.specs.Volume.{HasRoomForWorkers, IsVolume}
 use Rattle.mount.specs.Workers.{AreWorkers, PairAgrees, core_of, pen_of, worker_begun}
 use Rattle.mount.specs.declared.volume.Volume.{Volume}
+
+-- what is so of workers by an agreement is so of them by one that it implies
+module _ {P : Type 0} (t : FileState) (From To : FileHand → P → Type 0) (more : (core : FileHand) (pen : P) → From core pen → To core pen) where
+  pub rests_by : (worker : Worker P) → Rests t From worker → Rests t To worker
+  rests_by worker rests = record { between = rests.between; agree = more worker.core worker.pen rests.agree; past = rests.past }
+
+  pub each_by : (phase : List Line) (from : ℕ) (before after : List (Worker P)) → WorksEach t From phase from before after → WorksEach t To phase from before after
+  each_by phase from before after each place d low =
+      let works = each place d low in
+      record {
+        made = works.made;
+        rests = rests_by (slice_index_or after place d) works.rests;
+        same = works.same;
+        grown = works.grown;
+        makes = works.makes;
+        past = works.past;
+        late = works.late;
+        refused = works.refused;
+      }
 
 -- what a list is mapped to, place by place
 at_map : {X Y : Type 0} (f : X → Y) (xs : List X) (k : ℕ) (d : X) → get_or (map f xs) k (f d) ≡ f (get_or xs k d)

@@ -2,6 +2,7 @@ pub mod Begun
 pub mod Ends
 pub mod Survives
 pub mod Keeping
-pub mod Phases
 pub mod Volume
 pub mod Workers
+pub mod Phases
+pub mod Serving

@@ -9,12 +9,15 @@ use Rattle.tree_laws.specs.Tree.{TreeState}
 use Rattle.tree_laws.specs.declared.history.Entry.{Entry}
 use Rattle.tree_laws.specs.declared.turns.Turn.{Turn}
 use Rattle.crash_laws.specs.Survives.{ReadsBack, SurvivesAll}
+use Rattle.turn_laws.specs.Recorded.{IsRecorded}
 use Rattle.merge_laws.specs.LeftByTurns.{ReadsByTurns, SurvivesByTurns, TellInTime}
 use Rattle.merge_laws.specs.Pens.{AgreesAll, FsyncTurns}
 use Rattle.merge_laws.specs.Plays.{PensMerge}
 use Rattle.mount_begin.specs.Mounted.{share_of_nodes}
+use Rattle.turn_ties.specs.Plans.{image_held}
 use Rattle.slot_image_laws.specs.Run.{KeepsLaws, RisesFrom}
 use Rattle.disk_box.specs.Pens.{PenHand}
+use Rattle.end_laws.specs.Begins.{HasBegunVolume}
 use Rattle.workers.specs.declared.worker.Worker.{Worker}
 use Rattle.mount.specs.Volume.{IsMountOfDisk, IsVolume}
 use Rattle.mount.specs.declared.volume.Volume.{Volume}
@@ -38,21 +41,24 @@ pub record SurvivesSince (share from : ℕ) (first : TreeState) (history : List 
   pub images_by_turns : SurvivesByTurns share from first history turns disk
   pub reads_by_turns : ReadsByTurns share first history turns disk
 
--- What a volume comes to that was mounted of a disk with so many new nodes: its turns tell all, at moments that rise from the mount's begin to the end; and where
--- that disk told its content and nothing was pending on it, the volume survives each crash since then, while the count of device calls goes on.
+-- What a volume comes to that was mounted of a disk with so many new nodes: its turns tell all, at moments that rise from the mount's begin to the end, and the
+-- books of free space of the disk with which the mount began are kept along them; and where that disk told its content and nothing was pending on it, the volume
+-- survives each crash since then, while the count of device calls goes on.
 pub record MountComesTo {D : Type 0} (view : D → View) (nodes : ℕ) (disk : D) (volume : Volume D) (left : D) (history : List Entry) (turns : List Turn)
-    : Type 0 where
+    (mounted : IsMountOfDisk view nodes disk volume) : Type 0 where
   pub since : (view disk).faults ≤ volume.set.table.given.faults
   pub until : volume.set.table.given.faults ≤ (view left).faults
   pub dated : RisesFrom (view disk).now turns (view left).now
   pub turns_tell : TurnsTellAll volume.shared.first history volume.set.table.given.faults (view left).faults turns
+  pub has : HasBegunVolume nodes mounted.begun history (view disk) (view mounted.left)
+  pub recorded : IsRecorded volume.shared.first history (image_held has.start) (view disk).faults (view left).faults turns
   pub survives : IfTold (view disk).content (λ image. IsCalm (view disk) → CountsOn (view left)
       → SurvivesSince (share_of_nodes nodes (layout_of image)) (view disk).now volume.shared.first history turns (view left))
 
 -- So it does, whichever disk it was mounted of.
 abbrev pub VolumeSurvives : {D : Type 0} → (D → View) → Volume D → D → List Entry → List Turn → Type 0
-VolumeSurvives {D} view volume left history turns = (nodes : ℕ) (disk : D) → IsMountOfDisk view nodes disk volume
-    → MountComesTo view nodes disk volume left history turns
+VolumeSurvives {D} view volume left history turns = (nodes : ℕ) (disk : D) (mounted : IsMountOfDisk view nodes disk volume)
+    → MountComesTo view nodes disk volume left history turns mounted
 
 -- So it is of each volume that was left, with all workers at rest.
 abbrev pub UnmountedSurvive : {D : Type 0} → (D → View) → Type 0

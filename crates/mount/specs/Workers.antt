@@ -1,23 +1,28 @@
 -- The workers of a volume.
 use Rattle.std.specs.Prelude.{◌≡◌, ◌∷◌, List, [], ℕ, All, false, map, true}
 use Rattle.tree_laws.specs.declared.history.Entry.{Entry}
-use Rattle.stamp_table.specs.Table.{AreAllCores}
-use Rattle.mem_values.specs.Start.{FileHand}
+use Rattle.stamp_table.specs.Table.{AreAllCores, TableState}
+use Rattle.mem_values.specs.Start.{FileHand, FileState}
 use Rattle.disk_box.specs.Pens.{PenHand}
+use Rattle.disk_box.specs.declared.key.BoxKey.{BoxKey}
 use Rattle.journal_set.specs.Ready.{IsReady}
 use Rattle.flush_agrees.specs.Agreement.{CoresAgree, FlushTold}
 use Rattle.workers.specs.Works.{Rests}
 use Rattle.workers.specs.declared.worker.Worker.{Worker}
 use Rattle.mount.specs.declared.volume.Volume.{Volume}
 
--- A core of a volume's table and its pen agree on all fsyncs of the core: the pen may begin anew, the pen of core 0 leads, and what the
+-- A core of a table and its pen at journals agree on all fsyncs of the core: the pen may begin anew, the pen of core 0 leads, and what the
 -- core made and told of each fsync is what the pen told of it at the box.
-pub record PairAgrees {D : Type 0} (volume : Volume D) (core : FileHand) (pen : PenHand D) : Type 0 where
-  pub ready : IsReady volume.set pen
-  pub cores : pen.cores ≡ volume.set.cores
+pub record AgreeAt {D : Type 0} (shared : FileState) (set : TableState (BoxKey D)) (core : FileHand) (pen : PenHand D) : Type 0 where
+  pub ready : IsReady set pen
+  pub cores : pen.cores ≡ set.cores
   pub leads : core.view.core ≡ 0 → pen.leads ≡ true
   pub fsyncs : List FlushTold
-  pub agree : CoresAgree volume.shared core pen fsyncs
+  pub agree : CoresAgree shared core pen fsyncs
+
+-- a core of a volume's table and its pen agree
+abbrev pub PairAgrees : {D : Type 0} → Volume D → FileHand → PenHand D → Type 0
+PairAgrees volume = AgreeAt volume.shared volume.set
 
 -- the core of a worker
 abbrev pub core_of : {P : Type 0} → Worker P → FileHand

@@ -1,16 +1,16 @@
-// A phase is run on a volume, whose fsyncs reach its disk.
-ghost use Rattle.std.specs.Prelude.{◌≡◌, ℕ, ◌<◌, ◌≤◌, is_err, length};
+// An fsync of a core of a volume reaches its disk.
+ghost use Rattle.std.specs.Prelude.{◌≡◌, ℕ, All, length, is_err};
 ghost use Rattle.script.specs.Ready.{LinesMayRun};
-ghost use Rattle.stamp_table.specs.Table.{IsBetweenCalls};
-ghost use Rattle.fsync_stamp.specs.Stamping.{AnswersFsync};
-ghost use Rattle.workers.specs.Works.{WorksEach, any_refused};
+ghost use Rattle.workers.specs.Serving.{HasServed, MayServe};
+ghost use Rattle.workers.specs.Works.{IsBasisOf, Rests, WorksEach, any_refused};
 ghost use Rattle.mount.specs.Keeping.{pairs_kept};
+ghost use Rattle.mount.specs.Serving.{ServesAt};
 ghost use Rattle.mount.specs.Volume.{IsVolume};
-ghost use Rattle.mount.specs.Workers.{AreWorkers, PairAgrees};
+ghost use Rattle.mount.specs.Workers.{AgreeAt, AreWorkers, PairAgrees};
 
 use crate::volume::Volume;
 use disk_box::Pen;
-use fsync_dir::flush;
+use fsync_dir::{FlushSite, flush};
 use mem_values::FileCore;
 use script::Phase;
 use sfs_base::{Gate, NoMemory, NodeId};
@@ -20,44 +20,70 @@ use std::marker::PhantomData;
 use std::sync::Wait;
 use std::thread::Threads;
 use tree_laws::Reply;
-use workers::{Agreement, FlushBy, Worker, drive};
+use workers::{Agreement, Basis, FlushBy, Worker, drive};
 
-/// What a core of a volume and its pen agree on.
+/// What a core of a volume and its pen agree on, by where its fsyncs are served.
 pub struct PairAgreement<D> {
     disk: PhantomData<D>,
 }
 
-impl<D: Disk + Drop> Agreement<Volume<D>, Pen<D>> for PairAgreement<D> {
-    ghost agrees = { λ volume core pen. PairAgrees volume core pen };
+impl<'a, D: Disk + Drop> Agreement<FlushSite<'a, D>, Pen<D>> for PairAgreement<D> {
+    ghost agrees = { λ site core pen. AgreeAt site.shared.now site.set.now core pen };
 
-    ghost kept = { λ volume before after pen keeps agree. pairs_kept volume before after pen keeps agree };
+    ghost kept = { λ site before after pen keeps agree. pairs_kept site.shared.now site.set.now before after pen keeps agree };
 }
 
-/// Serves an fsync of a core of a volume, and answers it as `flush` does.
+/// Serves an fsync of a core at a table and journals, and answers it as `flush` does.
 pub fn serve<R: Wait, D: Disk + Drop, G: Gate>(
     rt: &R,
     alloc: Global,
-    volume: &Volume<D>,
+    site: &FlushSite<D>,
     core: &mut FileCore,
     pen: &mut Pen<D>,
     node: NodeId,
     gate: &G,
 ) -> Reply
-    requires volume { IsVolume volume.now }
-    requires core { IsBetweenCalls volume.now.shared core.old }
-    requires spare { 0 < core.old.spare }
-    requires room { 3 ≤ core.old.room }
-    requires agree { PairAgrees volume.now core.old pen.old }
-    ensures answers { AnswersFsync volume.now.shared node result core.old core.new }
-    ensures agree { PairAgrees volume.now core.new pen.new }
+    requires site { ServesAt site.now.shared.now site.now.set.now site.now.nodes site.now.cores }
+    requires may { MayServe site.now.shared.now (AgreeAt site.now.shared.now site.now.set.now) core.old pen.old }
+    ensures { HasServed site.now.shared.now (AgreeAt site.now.shared.now site.now.set.now) node result core.old core.new pen.new }
 {
-    let site = volume.site();
-    flush(rt, alloc, &site, core, pen, node, gate)
+    flush(rt, alloc, site, core, pen, node, gate)
 }
 
-/// Runs a phase on a volume: each worker its own commands, in a thread of its own where one can be started, and its fsyncs through the journals. All are joined at
-/// its end. A worker that is refused memory before a stamp ends alone; then the answer is want of memory, and what was called so far stands in the cores.
-pub fn run_phase<R: Threads + Wait + Sync, D: Disk + Drop, G: Gate>(
+// Runs a phase at a table and journals, where each worker's core and pen agree.
+fn run_at<R: Threads + Wait + Sync, D: Disk + Drop + Sync, G: Gate>(
+    rt: &R,
+    alloc: Global,
+    site: &FlushSite<D>,
+    workers: &mut [Worker<Pen<D>>],
+    basis: Basis,
+    phase: &Phase,
+    gate: &G,
+) -> Result<(), NoMemory>
+    requires site { ServesAt site.now.shared.now site.now.set.now site.now.nodes site.now.cores }
+    requires basis { IsBasisOf site.now.shared.now basis }
+    requires rest { All (Rests site.now.shared.now (AgreeAt site.now.shared.now site.now.set.now)) workers.old }
+    requires ready { LinesMayRun phase.now }
+    ensures count { length workers.new ≡ length workers.old }
+    ensures each { (from : ℕ) × WorksEach site.now.shared.now (AgreeAt site.now.shared.now site.now.set.now) phase.now from workers.old workers.new }
+    ensures refused { is_err result ≡ any_refused workers.new }
+{
+    let serve_one = |core: &mut FileCore, pen: &mut Pen<D>, node: NodeId| -> Reply
+        requires { ServesAt site.now.shared.now site.now.set.now site.now.nodes site.now.cores × MayServe site.now.shared.now (AgreeAt site.now.shared.now site.now.set.now) core.now pen.now }
+        ensures { HasServed site.entry.now.shared.now (AgreeAt site.entry.now.shared.now site.entry.now.set.now) node result core.entry.now core.exit.now pen.exit.now }
+    { serve(rt, alloc, site, core, pen, node, gate) };
+    let by: FlushBy<FlushSite<D>, Pen<D>, PairAgreement<D>, _> = FlushBy {
+        files: site.shared,
+        set: site,
+        serve: serve_one,
+        kinds: PhantomData,
+    };
+    drive(rt, alloc, site.shared, workers, basis, phase, &by, gate)
+}
+
+/// Runs a phase on a volume: each worker its own commands, in a thread of its own where one can be started. A worker that is refused memory before a
+/// stamp ends alone; then the answer is want of memory.
+pub fn run_phase<R: Threads + Wait + Sync, D: Disk + Drop + Sync, G: Gate>(
     rt: &R,
     alloc: Global,
     volume: &Volume<D>,
@@ -73,24 +99,6 @@ pub fn run_phase<R: Threads + Wait + Sync, D: Disk + Drop, G: Gate>(
     ensures each { (from : ℕ) × WorksEach volume.now.shared (PairAgrees volume.now) phase.now from workers.old workers.new }
     ensures refused { is_err result ≡ any_refused workers.new }
 {
-    let serve_one = |core: &mut FileCore, pen: &mut Pen<D>, node: NodeId| -> Reply
-        requires { IsVolume volume.now × IsBetweenCalls volume.now.shared core.now × (0 < core.now.spare) × (3 ≤ core.now.room) × PairAgrees volume.now core.now pen.now }
-        ensures { AnswersFsync volume.entry.now.shared node result core.entry.now core.exit.now × PairAgrees volume.entry.now core.exit.now pen.exit.now }
-    { serve(rt, alloc, volume, core, pen, node, gate) };
-    let by: FlushBy<Volume<D>, Pen<D>, PairAgreement<D>, _> = FlushBy {
-        files: volume.shared(),
-        set: volume,
-        serve: serve_one,
-        kinds: PhantomData,
-    };
-    drive(
-        rt,
-        alloc,
-        volume.shared(),
-        workers,
-        volume.basis,
-        phase,
-        &by,
-        gate,
-    )
+    let site = volume.site();
+    run_at(rt, alloc, &site, workers, volume.basis, phase, gate)
 }

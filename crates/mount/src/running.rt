@@ -19,7 +19,7 @@ use std::thread::Threads;
 use workers::Worker;
 
 /// Runs phases on a volume, one after another, with workers that have made no call. Where a worker is refused memory before a stamp no further phase begins.
-pub fn run_phases<R: Threads + Wait + Sync, D: Disk + Drop, G: Gate>(
+pub fn run_phases<R: Threads + Wait + Sync, D: Disk + Drop + Sync, G: Gate>(
     rt: &R,
     alloc: Global,
     volume: &Volume<D>,

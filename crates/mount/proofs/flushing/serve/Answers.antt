@@ -1,31 +1,37 @@
-use Rattle.std.proofs.Common.{ℕ, subst}
-use Rattle.stamp_table.specs.Table.{TableState}
-use Rattle.mem_values.specs.Start.{FileState}
-use Rattle.disk_box.specs.declared.key.BoxKey.{BoxKey}
-use Rattle.journal_set.specs.Ready.{IsReady}
-use Rattle.fsync_stamp.specs.Stamping.{AnswersFsync}
 use Rattle.fsync_dir.specs.Flush.{FlushComes}
+use Rattle.flush_agrees.specs.Laws.{FlushPlace}
 use Rattle.flush_agrees.proofs.Growing.{agreeing_cores_tell}
-use Rattle.mount.proofs.Agreeing.{served_agrees}
+use Rattle.mount.proofs.Agreeing.{served_agrees, site_at}
 use Rattle.mount.proofs.flushing.serve.Goals as goal
+
+pub flush-requires-clause-site : goal.flush-requires-clause-site
+flush-requires-clause-site g c κs within =
+    let site = c.args.site.now in
+    site_at site.shared.now site.set.now site.nodes site.cores c.args.pen.now c.requires.site c.requires.may.agree.ready
 
 pub flush-requires-clause-agree : goal.flush-requires-clause-agree
 flush-requires-clause-agree g c κs within =
-    let agree = c.requires.agree in
-    agreeing_cores_tell g.row.D.Denot c.args.volume.now.shared c.args.core.now c.args.pen.now agree.fsyncs agree.agree
+    let agree = c.requires.may.agree in
+    agreeing_cores_tell g.row.D.Denot c.args.site.now.shared.now c.args.core.now c.args.pen.now agree.fsyncs agree.agree
 
-pub returns-clause-agree : goal.returns-clause-agree
-returns-clause-agree g c =
-    let site = c.site-site.ensures in
+pub returns : goal.returns
+returns g c =
+    let site = c.args.site.now in
     let flushed = c.flush.ensures in
-    let before = c.args.core.now in
-    let after = c.flush.new.core in
-    let done = c.flush.new.pen in
-    served_agrees c.args.volume.now c.args.node before after c.args.pen.now done c.flush.result c.requires.volume c.requires.agree
-    (record {
-      answers = subst (λ (t : FileState). AnswersFsync t c.args.node c.flush.result before after) site.shared flushed.answers;
-      ready = subst (λ (t : TableState (BoxKey _)). IsReady t done) site.set flushed.ready;
-      goes = flushed.goes;
-      comes = subst (λ (z : FileState × ℕ). FlushComes z.0 z.1 c.args.node before after c.args.pen.now done c.flush.result) (λ i. (site.shared i, site.nodes i))
-          flushed.comes;
-    })
+    let at : FlushPlace g.row.D.Denot = record {
+      t = site.shared.now;
+      nodes = site.nodes;
+      cores = site.cores;
+      node = c.args.node;
+      before = c.args.core.now;
+      after = c.flush.new.core;
+      pen = c.args.pen.now;
+      done = c.flush.new.pen;
+    } in
+    record {
+      adds = flushed.answers.adds;
+      between = flushed.answers.between;
+      same = flushed.answers.same;
+      agree = served_agrees site.set.now at c.flush.result c.requires.site c.requires.may.agree
+          (record { answers = flushed.answers; ready = flushed.ready; goes = flushed.goes; comes = flushed.comes });
+    }
