@@ -28,7 +28,7 @@ module _ (beside : Beside) (space : Space) (is : IsMapWithOut beside space) wher
       → IsShortOf (amount_planned plan) (free_in (books_out beside)) kind asked have
   lacks plan kind asked have lacking =
       subst (λ (free : Amount). IsShortOf (amount_planned plan) free kind asked have) left_is
-      (says (amount_planned plan) left (low_number few_inodes_left) (low_number few_blocks_left) lacking.small.inodes (λ _. lacking.small.blocks)
+      (says (amount_planned plan) left (low_number few_inodes_left) (low_number few_blocks_left) lacking.inodes lacking.blocks
       (NoSpace kind asked have) lacking.short)
     where
       low_number : {n : ℕ} → n ≤ 262144 → n < 2 ^ 32 - 1

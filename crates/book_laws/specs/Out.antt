@@ -1,5 +1,5 @@
 -- A map of free space from which grants are out, beside the books.
-use Rattle.std.specs.Prelude.{◌≡◌, ◌↔◌, ℕ, ◌<◌, ◌^◌, true, List, length, map, Some, take}
+use Rattle.std.specs.Prelude.{◌≡◌, ◌↔◌, ℕ, ◌<◌, ◌≤◌, ◌^◌, true, List, length, map, Some, take}
 use Rattle.std.specs.List.{flat_map}
 use Rattle.sfs_base.specs.declared.numbers.SpaceKind.{SpaceKind}
 use Rattle.sfs_base.specs.Listed.{is_listed}
@@ -90,9 +90,11 @@ pub record NeedsFitWords (plan : CommitPlan) : Type 0 where
   pub inodes : (amount_planned plan).inodes < 2 ^ 32
   pub blocks : (amount_planned plan).blocks < 2 ^ 32
 
--- A map has too little for a plan, whose needs fit words: of this kind, with both numbers.
+-- A map has too little for a plan: of this kind, with both numbers. A word has room for the inodes that it needs, and where there are as many of these, for the
+-- blocks too.
 pub record IsLacking (space : Space) (plan : CommitPlan) (kind : SpaceKind) (asked have : ℕ) : Type 0 where
-  pub small : NeedsFitWords plan
+  pub inodes : (amount_planned plan).inodes < 2 ^ 32
+  pub blocks : (amount_planned plan).inodes ≤ free_count space.inodes → (amount_planned plan).blocks < 2 ^ 32
   pub short : shortage space (need_planned plan) ≡ Some (NoSpace kind asked have)
 
 -- What a plan needs fits what books have free, the inodes of a grant are their least open ones, and the grant is out as so much as the plan needs.

@@ -49,10 +49,10 @@ module _ (named : Numbered) where
       })
       (is_named ∙ sym own.number_is)
 
-  -- A number is reserved behind some labels, in a history that goes on.
-  pub record ReservesHere (past now : BoxPast) (one : Reserving) : Type 0 where
+  -- A commit may reserve behind some labels, in a history that goes on: it is made as this reserving says, which knows its nodes.
+  pub record ReservesHere (past now : BoxPast) (one : Reserving) (commit : CoreCommit) : Type 0 where
     pub knew : KnewItsNodes past one
-    pub own : IsMadeAs (commit_numbered named one.commit) one.commit one.seen.items
+    pub own : IsMadeAs commit one.commit one.seen.items
     pub opens_are : AreMadeSo past.opens
     pub done_are : AreMadeSo past.done
     pub then_are : AreMadeSo now.done
@@ -60,10 +60,7 @@ module _ (named : Numbered) where
     pub box : BoxGoesOn NO_COMMIT (box_of (commit_numbered named) past)
     pub goes : GoesOnFrom past now
 
-  module _ (past now : BoxPast) (one : Reserving) (is : ReservesHere past now one) where
-    abbrev commit : CoreCommit
-    commit = commit_numbered named one.commit
-
+  module _ (past now : BoxPast) (one : Reserving) (commit : CoreCommit) (is : ReservesHere past now one commit) where
     abbrev box : BoxState
     box = box_of (commit_numbered named) past
 

@@ -19,6 +19,7 @@ module _ (D : Type 0) (at : MountEnd) (ends : MountReaches D at) where
         core_is = has.core_is;
         layout_is = has.layout_is;
         start_is = has.start_is;
+        space_is = has.space_is;
         agrees = has.agrees;
         reaches = has.reaches;
         agree = agreements_end D at.t has.hand has.pen fsyncs at.logs has.agrees has.reaches;

@@ -88,7 +88,7 @@ module _ (D : Type 0) (at : MountEnd) (named : Numbered) (ends : MountEnds D at)
         (labels.fit (told_reserving other)
         (subst (λ l. IsOneOf l (told_reserving other)) (sym whole) (in_left front (event ∷ back) (told_reserving other) there))).made)
 
-    reserves : ReservesHere named past (end_past D at named ends are) one
+    reserves : ReservesHere named past (end_past D at named ends are) one (commit_numbered named number)
     reserves = record {
       knew = reserving_knew past one here.drawing.lasts here.drawing.owing.may.0.1;
       own = (labels.fit event among).made;
@@ -114,8 +114,8 @@ module _ (D : Type 0) (at : MountEnd) (named : Numbered) (ends : MountEnds D at)
     box_knows : BoxKnows run box_made (all_done D at named ends are) (commit_numbered named number)
     box_knows =
         subst (λ (b : BoxState). BoxKnows run b (all_done D at named ends are) (commit_numbered named number)) box_same (record {
-          unmoved = unmoved_here named past (end_past D at named ends are) one reserves;
-          gives = gives_here named past (end_past D at named ends are) one reserves;
+          unmoved = unmoved_here named past (end_past D at named ends are) one (commit_numbered named number) reserves;
+          gives = gives_here named past (end_past D at named ends are) one (commit_numbered named number) reserves;
           among = done_of_all D at named ends are front (event ∷ back) whole;
           told = done_told D at named ends are front (event ∷ back) whole;
         })

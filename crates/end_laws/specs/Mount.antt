@@ -64,6 +64,7 @@ pub record CoreEnds (D : Type 0) (at : MountEnd) (core : ℕ) (fsyncs : List Flu
   pub core_is : hand.view.core ≡ core
   pub layout_is : pen.table.given.layout ≡ at.told.layout
   pub start_is : pen.table.given.start ≡ at.told.moment
+  pub space_is : pen.table.given.space ≡ at.told.first
   pub agrees : CoresAgree at.t hand pen fsyncs
   pub reaches : ReachesEnd at.t hand pen at.logs
   pub agree : AgreeAtEnd at.t hand pen fsyncs at.logs

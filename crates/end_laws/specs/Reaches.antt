@@ -25,6 +25,7 @@ pub record CoreReaches (D : Type 0) (at : MountEnd) (core : ℕ) (fsyncs : List 
   pub core_is : hand.view.core ≡ core
   pub layout_is : pen.table.given.layout ≡ at.told.layout
   pub start_is : pen.table.given.start ≡ at.told.moment
+  pub space_is : pen.table.given.space ≡ at.told.first
   pub agrees : CoresAgree at.t hand pen fsyncs
   pub reaches : ReachesEnd at.t hand pen at.logs
   pub mine : hand.view.mine ≡ entries_by event_core core at.logs.log

@@ -4,6 +4,7 @@ use Rattle.std.proofs.lemmas.List.Elements.{filter_map-append}
 use Rattle.std.proofs.lemmas.List.{append_cancel_left, map-append}
 use Rattle.std.proofs.lemmas.Grind.{flat_map-append}
 use Rattle.sfs_base.specs.declared.numbers.NodeId.{NodeId}
+use Rattle.sfs_base.specs.declared.numbers.SpaceKind.{SpaceKind}
 use Rattle.tree_laws.specs.declared.reply.Reply.{Reply}
 use Rattle.tree_laws.specs.declared.reply.Reply.TheVariants as reply
 use Rattle.tree_laws.specs.declared.history.Entry.{Entry}
@@ -44,7 +45,7 @@ use Rattle.fsync_dir.specs.Answering.{EndsWaiting}
 use Rattle.fsync_dir.proofs.Pens.{numbers_more}
 use Rattle.pen_laws.specs.Agreement.{IsServedFsync}
 use Rattle.flush_agrees.specs.Made.{FlushMade, TurnIsOf}
-use Rattle.flush_agrees.specs.Agreement.{ToldInSight, MadeIsAgreed, FlushTold, CoresAgree, EntryAgrees, FlushAgrees, turns_of, NumbersHave, fsync_turns, NumbersDiffer, HasFlushFor, IsDurableFsync, IsToldOfOne}
+use Rattle.flush_agrees.specs.Agreement.{LacksInSight, ToldInSight, MadeIsAgreed, FlushTold, CoresAgree, EntryAgrees, FlushAgrees, turns_of, NumbersHave, fsync_turns, NumbersDiffer, HasFlushFor, IsDurableFsync, IsToldOfOne}
 use Rattle.flush_agrees.specs.Laws.{FlushPlace}
 use Rattle.flush_agrees.proofs.Turns.{TakesOwn, OwnTurn, own_each}
 use Rattle.flush_agrees.proofs.Growing.{GoesFurther, one_on, flush_on, entry_on}
@@ -75,9 +76,11 @@ pub record ServedBehind {D : Type 0} (t : FileState) (fsync : WaitingFsync) (wai
   pub agreed : MadeIsAgreed t after done (flush_waiting fsync) made
   pub newer : (one : FlushMade) → made ≡ Some one → IsNewerThan pen.view.mine one.number
   pub landed : given ≡ reply.Ok → (m : FlushMade) × (made ≡ Some m) × (one : Commitment) × ToldInSight t after m one
+  pub lacked : (kind : SpaceKind) (need free : ℕ) → given ≡ reply.NoSpace kind need free
+      → LacksInSight t after done (record { flush = flush_waiting fsync; turns = turns; made = made }) kind need free
 
 -- the turns that turns at the box make of what a core told
-turns_more : (core : ℕ) (turns : List BoxTurn) (own : OwnTold) → (own_from (events_in core turns) own).told ≡ own.told ++ turns_in turns
+pub turns_more : (core : ℕ) (turns : List BoxTurn) (own : OwnTold) → (own_from (events_in core turns) own).told ≡ own.told ++ turns_in turns
 turns_more core [] own = sym (append-nil own.told)
 turns_more core (one ∷ turns) own =
     ap (λ (o : OwnTold). o.told) (own_both (at_box core (labels_in one)) (events_in core turns) own)
@@ -241,6 +244,7 @@ module _ {D : Type 0} (at : FlushPlace D) (given : Reply) (fsyncs : List FlushTo
     turns = λ turn among. each_turn (TurnIsOf is.made) is.turns is.are turn among;
     made = is.agreed;
     landed = λ ok. let has = is.landed ok in record { made = has.0; is = has.1; told = has.2; tells = has.3 };
+    lacked = is.lacked;
   }
 
   -- all turns, with its own

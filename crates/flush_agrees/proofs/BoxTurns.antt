@@ -48,25 +48,25 @@ nothing_is made (turn_works (fact ∷ facts)) is = absurd is
 nothing_is made _ is = absurd is
 
 -- one that refuses tells no number
-of_none : (core number : ℕ) (flush : Flush) (did : TurnAct) (one : BoxTurn) → TellsOf core number flush did one → TellsNoNumber one
-of_none core number flush did (turn_refuses turn) is = tt
-of_none core number flush did _ is = absurd is
+of_none : (core : ℕ) (flush : Flush) (did : TurnAct) (one : BoxTurn) → TellsOf core 0 flush did one → TellsNoNumber one
+of_none core flush did (turn_refuses turn) is = is.commit_is
+of_none core flush did _ is = absurd is
 
 pub refusal_none : (core : ℕ) (flush : Flush) (why : CommitFault) (one : BoxTurn) → TellsRefusal core flush why one → TellsNoNumber one
 refusal_none core flush (fault.DiskFailed faults) one is = absurd is
-refusal_none core flush (fault.NoSpace kind need free) one is = of_none core 0 flush (act.Short kind need free) one is
-refusal_none core flush (fault.Stopped faults) one is = of_none core 0 flush act.Halted one is
+refusal_none core flush (fault.NoSpace kind need free) one is = of_none core flush (act.Short kind need free) one is
+refusal_none core flush (fault.Stopped faults) one is = of_none core flush act.Halted one is
 refusal_none core flush (fault.Moved node last) one is = nothing_is None one is
 refusal_none core flush fault.NoMemory one is = nothing_is None one is
 
 -- The turns of a commit of what was made.
-module _ (m : FlushMade) (core number : ℕ) (flush : Flush) where
+module _ (m : FlushMade) (core number : ℕ) (flush : Flush) (number_is : number ≡ m.number) where
   work_made : (one : BoxTurn) → TellsWork one → TurnMade m one
   work_made (turn_works facts) is = tt
   work_made _ is = absurd is
 
   of_made : (did : TurnAct) (one : BoxTurn) → TellsOf core number flush did one → TurnMade m one
-  of_made did (turn_refuses turn) is = tt
+  of_made did (turn_refuses turn) is = is.commit_is ∙ number_is
   of_made did _ is = absurd is
 
   failing_made : (faults : ℕ) (one : BoxTurn) → TellsFailing core number flush faults one → TurnMade m one
@@ -102,7 +102,7 @@ module _ (m : FlushMade) (core number : ℕ) (flush : Flush) where
   end_made (Err why) one is = ended_made why one is
 
   -- its transaction is that of what was planned
-  module _ (tx : Tx) (is_tx : IsTransactionOf (change_of m) m.grant tx) (number_is : number ≡ m.number) where
+  module _ (tx : Tx) (is_tx : IsTransactionOf (change_of m) m.grant tx) where
     begin_made : (one : BoxTurn) → TellsBegin core flush (written_of tx) number one → TurnMade m one
     begin_made (turn_begins filling own node stamp blocks inodes) is = (
       is.0 ∙ number_is,

@@ -1,7 +1,8 @@
 -- A core and its pen that agree do so on the whole of what a mount leaves.
 use mathlib.Core.List.{IsPrefix}
-use Rattle.std.proofs.Common.{◌∷◌, ◌||◌, ◌≡◌, ◌∙◌, ◌++◌, ◌≢◌, ◌⊎◌, Bool, true, false, List, [], map, inl, ap, inr, refl, sym, flat_map, filter, cond, subst, Some}
+use Rattle.std.proofs.Common.{◌∷◌, ◌||◌, ◌≡◌, ◌∙◌, ◌++◌, ◌≢◌, ◌⊎◌, Bool, true, false, List, [], map, inl, ap, inr, refl, sym, flat_map, filter, cond, subst, Some, ℕ, append_assoc}
 use Rattle.std.proofs.lemmas.Grind.{flat_map-append}
+use Rattle.sfs_base.specs.declared.numbers.SpaceKind.{SpaceKind}
 use Rattle.sfs_base.specs.declared.numbers.NodeId.{NodeId}
 use Rattle.sfs_base.specs.declared.numbers.Stamp.{Stamp}
 use Rattle.sfs_base.proofs.BasicTruth.{true_not_false}
@@ -18,6 +19,7 @@ use Rattle.cut_laws.proofs.Listed.{from_map, to_filter, to_map}
 use Rattle.turn_laws.specs.Ways.{no_turn, lacked, returned, committed, at_once, doubted, opened_doubted, halted, granted_halted, begun_halted, opened_halted, Way, acts_of_way, answer_of, GoesWay}
 use Rattle.turn_laws.specs.Books.{flush_at}
 use Rattle.merge_laws.specs.Pens.{FsyncTurns, FsyncsDiffer, HasTurnsFor, PenAgrees}
+use Rattle.stamp_table.specs.declared.event.Event.TheVariants.{Told}
 use Rattle.stamp_table.specs.declared.event.Event.{Event}
 use Rattle.stamp_table.proofs.Keeps.{begins_on, begins_itself}
 use Rattle.mem_values.specs.Start.{FileState, FileHand, given_by}
@@ -28,13 +30,14 @@ use Rattle.made_laws.specs.Made.{run_on, CoreMaking, CoreMade}
 use Rattle.made_laws.specs.Tells.{ToldMade}
 use Rattle.made_laws.proofs.Later.{mades_go_on}
 use Rattle.made_laws.proofs.Told.{told_mades_go_on}
+use Rattle.slot_laws.specs.declared.label.Label.TheVariants as label
 use Rattle.slot_laws.specs.Telling.{turns_in, BoxTurn, turns_told, labels_in, events_in, TellTurns}
 use Rattle.slot_laws.specs.Labels.{nothing_told}
 use Rattle.disk_box.specs.Pens.{PenHand}
 use Rattle.disk_box.specs.Box.{past_of}
 use Rattle.pen_laws.specs.Agreement.{HasTurnsOf, AgreeOn, IsServedFsync}
 use Rattle.pen_laws.proofs.Closing.{agreements_close}
-use Rattle.flush_agrees.specs.Closing.{has_turns, any_turn, MountLogs, ReachesEnd, ToldAtEnd, pen_fsyncs, MadeAtEnd, AgreeAtEnd, AgreementsEnd}
+use Rattle.flush_agrees.specs.Closing.{LacksAtEnd, has_turns, any_turn, MountLogs, ReachesEnd, ToldAtEnd, pen_fsyncs, MadeAtEnd, AgreeAtEnd, AgreementsEnd}
 use Rattle.flush_agrees.specs.Agreement.{FlushTold, fsync_turns, turns_of, CoresAgree, run_to, ToldInSight, EntryAgrees, HasFlushFor, MadeIsAgreed}
 use Rattle.flush_agrees.specs.Made.{FlushMade, TurnIsOf}
 use Rattle.flush_agrees.proofs.Failed.{failure_stays}
@@ -75,6 +78,68 @@ way_ok (opened_halted faults) is = absurd (true_not_false (sym is))
 
 durable_ok : (turns : List Turn) (given : Reply) (turn : Turn) → GoesWay turns given → IsOneOf turns turn → turn.act ≡ act.Durable → given ≡ reply.Ok
 durable_ok turns given turn way among is = way.answered ∙ way_ok way.way (sym (ap any_durable way.acts) ∙ durable_among turns turn among is)
+
+-- whether an act tells a shortage
+abbrev tells_short : TurnAct → Bool
+tells_short (act.Short kind need free) = true
+tells_short _ = false
+
+abbrev any_short : List TurnAct → Bool
+any_short [] = false
+any_short (did ∷ acts) = tells_short did || any_short acts
+
+short_among : (turns : List Turn) (turn : Turn) → IsOneOf turns turn → tells_short turn.act ≡ true → any_short (map (λ (one : Turn). one.act) turns) ≡ true
+short_among [] turn among is = absurd among
+short_among (one ∷ turns) turn (inl same) is =
+    ap (λ a. tells_short a || any_short (map (λ (one : Turn). one.act) turns)) (ap (λ (t : Turn). t.act) same) ∙ first (tells_short turn.act) is
+  where
+    first : (b : Bool) → b ≡ true → (b || any_short (map (λ (one : Turn). one.act) turns)) ≡ true
+    first true e = refl
+    first false e = absurd (true_not_false (sym e))
+short_among (one ∷ turns) turn (inr among) is = either (tells_short one.act) (short_among turns turn among is)
+  where
+    either : (b : Bool) → any_short (map (λ (one : Turn). one.act) turns) ≡ true → (b || any_short (map (λ (one : Turn). one.act) turns)) ≡ true
+    either true later = refl
+    either false later = later
+
+-- A way that tells a shortage tells nothing else, and is answered so.
+record TellsOneShort (way : Way) : Type 0 where
+  kind : SpaceKind
+  need : ℕ
+  free : ℕ
+  acts : acts_of_way way ≡ act.Short kind need free ∷ []
+  answered : answer_of way ≡ reply.NoSpace kind need free
+
+way_short : (way : Way) → any_short (acts_of_way way) ≡ true → TellsOneShort way
+way_short (lacked kind need free) is = record { kind = kind; need = need; free = free; acts = refl; answered = refl }
+way_short no_turn is = absurd (true_not_false (sym is))
+way_short returned is = absurd (true_not_false (sym is))
+way_short committed is = absurd (true_not_false (sym is))
+way_short at_once is = absurd (true_not_false (sym is))
+way_short doubted is = absurd (true_not_false (sym is))
+way_short opened_doubted is = absurd (true_not_false (sym is))
+way_short (halted faults) is = absurd (true_not_false (sym is))
+way_short (granted_halted faults) is = absurd (true_not_false (sym is))
+way_short (begun_halted faults) is = absurd (true_not_false (sym is))
+way_short (opened_halted faults) is = absurd (true_not_false (sym is))
+
+only_act : (turns : List Turn) (did : TurnAct) → map (λ (t : Turn). t.act) turns ≡ did ∷ [] → (turn : Turn) → IsOneOf turns turn → turn.act ≡ did
+only_act [] did e turn among = absurd among
+only_act (own ∷ []) did e turn (inl same) = ap (λ (t : Turn). t.act) (sym same) ∙ cc e
+only_act (own ∷ []) did e turn (inr never) = absurd never
+only_act (own ∷ other ∷ others) did e turn among = absurd (cc e)
+
+-- an fsync with a turn that tells a shortage is answered so
+short_answered : (turns : List Turn) (given : Reply) (turn : Turn) (kind : SpaceKind) (need free : ℕ) → GoesWay turns given → IsOneOf turns turn
+    → turn.act ≡ act.Short kind need free → given ≡ reply.NoSpace kind need free
+short_answered turns given turn kind need free way among is =
+    let one = way_short way.way (sym (ap any_short way.acts) ∙ short_among turns turn among (ap tells_short is)) in
+    let same : act.Short kind need free ≡ act.Short one.kind one.need one.free = sym is ∙ only_act turns (act.Short one.kind one.need one.free)
+    (way.acts ∙ one.acts) turn among in
+    way.answered ∙ (one.answered ∙ sym (again kind one.kind need one.need free one.free same))
+  where
+    again : (a b : SpaceKind) (c d e f : ℕ) → act.Short a c e ≡ act.Short b d f → reply.NoSpace a c e ≡ reply.NoSpace b d f
+    again a b c d e f same = cc same
 
 -- and one without turns NoMemory
 way_none : (way : Way) → acts_of_way way ≡ [] → answer_of way ≡ reply.NoMemory
@@ -221,6 +286,35 @@ module _ {D : Type 0} (t : FileState) (hand : FileHand) (pen : PenHand D) (fsync
         turns = λ turn there. subst (λ o. TurnIsOf o turn) is (was.turns turn there);
       }
 
+  lacked_end : (one : FlushTold) (turn : Turn) (kind : SpaceKind) (need free : ℕ) → IsOneOf fsyncs one → IsOneOf (turns_in one.turns) turn
+      → turn.act ≡ act.Short kind need free → LacksAtEnd run pen.table.given logs.labels one.flush turn kind need free
+  lacked_end one turn kind need free among there did =
+      let was = agree.each one among in
+      let has = was.lacked kind need free (short_answered (turns_in one.turns) was.entry.reply turn kind need free was.entered.way there did) in
+      let same : has.turn ≡ turn = only_there has.turn (subst (λ l. IsOneOf l turn) has.only there) in
+      record {
+        making = has.making;
+        made_in = made_then has.sight.log has.making (goes_on has.sight.log has.sight.since) has.sight.made;
+        flush_is = has.sight.flush_is;
+        seen = has.seen;
+        sees = has.sees;
+        few = has.few;
+        core = has.core;
+        front = has.front;
+        back = has.back ++ ends.saw.0;
+        whole = sym ends.saw.1
+            ∙ (ap (λ l. l ++ ends.saw.0) (has.whole ∙ ap (λ t. has.front ++ Told has.core (label.Noted t) ∷ has.back) same)
+            ∙ append_assoc has.front (Told has.core (label.Noted turn) ∷ has.back) ends.saw.0);
+        unmoved = has.unmoved;
+        space = has.space;
+        goes = has.goes;
+        short = has.short;
+      }
+    where
+      only_there : (own : Turn) → IsOneOf (own ∷ []) turn → own ≡ turn
+      only_there own (inl same) = same
+      only_there own (inr never) = absurd never
+
   pub agree_end : AgreeAtEnd t hand pen fsyncs logs
   agree_end = record {
     mine = sym ends.mine ∙ subst (λ c. pen.view.mine ≡ events_in c (turns_of fsyncs)) agree.one agree.told;
@@ -233,6 +327,7 @@ module _ {D : Type 0} (t : FileState) (hand : FileHand) (pen : PenHand D) (fsync
         let was = agree.each one among in
         let has = was.landed (durable_ok (turns_in one.turns) was.entry.reply turn was.entered.way there durable) in
         record { made = has.made; is = has.is; told = has.told; tells = told_then has.made has.told has.tells };
+    lacked = lacked_end;
     of_flush = of_flush_end;
     turns = sym (some_turns (map fsync_turns fsyncs) ∙ turns_each fsyncs);
     agrees = agrees_end;

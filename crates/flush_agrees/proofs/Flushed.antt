@@ -1,8 +1,10 @@
 -- A core and its pen agree behind an fsync.
 use mathlib.Core.List.{IsPrefix}
-use Rattle.std.proofs.Common.{◌≡◌, ◌∙◌, ◌∷◌, ◌≤◌, ◌^◌, ◌-◌, ◌++◌, ℕ, Some, Err, subst, sym, Ok, List, [], Option, None, refl, ap, append-nil, filter_map, Result, arith, append_assoc, inl, inr}
+use Rattle.std.proofs.Common.{◌≡◌, ◌∙◌, ◌∷◌, ◌≤◌, ◌^◌, ◌-◌, ◌++◌, count_by, ℕ, Some, Err, subst, sym, Ok, List, [], Option, None, refl, ap, append-nil, filter_map, Result, arith, append_assoc, inl, inr}
+use Rattle.std.proofs.lemmas.List.{append_cancel_left}
+use Rattle.sfs_base.specs.declared.numbers.SpaceKind.{SpaceKind}
 use Rattle.sfs_base.proofs.BasicOptions.{some_same, none_some}
-use Rattle.space_map.specs.Space.{GrantedNumbers}
+use Rattle.space_map.specs.Space.{shortage, GrantedNumbers}
 use Rattle.keyed_list.specs.Ascending.{AscendBy}
 use Rattle.tree_laws.specs.declared.reply.Code.TheVariants as code
 use Rattle.tree_laws.specs.declared.reply.Reply.{Reply}
@@ -10,7 +12,7 @@ use Rattle.tree_laws.specs.declared.reply.Reply.TheVariants as reply
 use Rattle.tree_laws.specs.Tree.{TreeState}
 use Rattle.tree_laws.specs.declared.call.Call.TheVariants as call
 use Rattle.disk_nodes.specs.Nodes.{entry_node}
-use Rattle.disk_change.specs.Planned.{Planned}
+use Rattle.disk_change.specs.Planned.{enters, Planned}
 use Rattle.disk_change.specs.AllBuilt.{after_commit}
 use Rattle.cut_laws.specs.Closure.{Flush}
 use Rattle.cut_laws.specs.Rules.{IsOneOf}
@@ -26,22 +28,22 @@ use Rattle.mem_values.specs.Facts.{IsBelowInodes}
 use Rattle.mem_values.specs.declared.fact.Fact.{Fact}
 use Rattle.note_laws.specs.Run.{TableRun}
 use Rattle.made_laws.specs.Made.{CoreMaking, CoreMade, making_flush}
+use Rattle.slot_laws.specs.Telling.{turns_in, BoxTurn, TellTurns, at_box, labels_in, events_in}
 use Rattle.slot_laws.specs.Labels.{OwnTold, own_from}
-use Rattle.slot_laws.specs.Telling.{BoxTurn, TellTurns, at_box, labels_in, events_in}
 use Rattle.slot_laws.proofs.Telling.{events_both, tell_both}
 use Rattle.disk_box.specs.Pens.{PenHand, PenGoes, own_at}
 use Rattle.disk_box.specs.declared.key.BoxKey.{BoxKey}
+use Rattle.journal_set.specs.Reserving.{FindsShort, ReserveRequest, Reserves}
+use Rattle.journal_set.specs.Telling.{AreTurns, TellsNothing, TellsCall}
 use Rattle.journal_set.specs.declared.fault.CommitFault.{CommitFault}
 use Rattle.journal_set.specs.declared.fault.CommitFault.TheVariants as fault
-use Rattle.journal_set.specs.Reserving.{ReserveRequest, Reserves}
 use Rattle.journal_set.specs.Flying.{SeesFailure, IsCausedBy}
 use Rattle.journal_set.specs.Emptying.{Empties}
-use Rattle.journal_set.specs.Telling.{AreTurns, TellsNothing, TellsCall}
 use Rattle.journal_set.specs.Ways.{TakesWay}
 use Rattle.journal_set.specs.Numbering.{IsNewerThan}
 use Rattle.journal_set.proofs.Ties.{nothing_tells}
+use Rattle.fsync_commit.specs.Asked.{need_planned, CommitRequest, reserving_of, emptying_of, IsChangeOn, IsSpaceOn}
 use Rattle.fsync_commit.specs.Coming.{committed, GrantComes, gave_back, PlanComesTo, unasked, unnumbered, numbered, settled}
-use Rattle.fsync_commit.specs.Asked.{CommitRequest, reserving_of, emptying_of, IsChangeOn, IsSpaceOn}
 use Rattle.fsync_commit.specs.declared.landing.CommitRefusal.{CommitRefusal}
 use Rattle.fsync_commit.specs.declared.landing.Landed.{Landed}
 use Rattle.fsync_catch.specs.declared.looking.WaitingFsync.{WaitingFsync}
@@ -51,10 +53,11 @@ use Rattle.fsync_dir.specs.Answering.{reply_to, EndsUntold, EndsWaiting}
 use Rattle.fsync_dir.specs.Flush.{FlushAt, TellsNoTurn, IsTried, asked_by, EndsLanded, FsyncComes, wanting, refused, flushed, FlushComes, dead, live}
 use Rattle.fsync_dir.specs.Site.{IsSite}
 use Rattle.fsync_dir.proofs.Planned.{change_on}
+use Rattle.flush_agrees.specs.Agreement.{LacksInSight, MadeInSight, MadeAgrees, MadeIsAgreed, ToldInSight, CoresAgree}
 use Rattle.flush_agrees.specs.Made.{FlushMade, TellsNoNumber, TurnIsOf, GrantsNeed, change_of}
-use Rattle.flush_agrees.specs.Agreement.{MadeAgrees, MadeIsAgreed, ToldInSight, CoresAgree}
 use Rattle.flush_agrees.specs.Laws.{FlushesAgree, AgreeBehind}
-use Rattle.flush_agrees.proofs.Behind.{ServedBehind, flush_waiting, agrees_more}
+use Rattle.flush_agrees.proofs.Lacking.{lacked_by, plan_lacks}
+use Rattle.flush_agrees.proofs.Behind.{turns_more, ServedBehind, flush_waiting, agrees_more}
 use Rattle.flush_agrees.proofs.BoxTurns.{turns_as, nothing_is, both_are}
 use Rattle.flush_agrees.proofs.Making.{MadeSeen, made_seen}
 use Rattle.flush_agrees.proofs.Planned.{PlanAgrees, plan_agrees, own_behind, LandsMade, IsNumberedPlan}
@@ -143,6 +146,7 @@ module _ {D : Type 0} (at : FlushAt D) (cores : ℕ) (site : IsSite at.t at.node
     agreed = tt;
     newer = λ one same. absurd (none_some same);
     landed = λ ok. absurd (cc (sym is ∙ ok));
+    lacked = λ kind need free short. absurd (cc (sym is ∙ short));
   }
 
   -- What was planned, and what came of it.
@@ -229,6 +233,49 @@ module _ {D : Type 0} (at : FlushAt D) (cores : ℕ) (site : IsSite at.t at.node
           grants = subst (λ (k : Desk (BoxKey _)). GrantsNeed k.given.layout one) (from_table ∙ sym done_table) numbered.grants;
         })
 
+    -- what the core made, in its sight
+    in_sight : IsPrefix planned.hand.view.seen after.view.seen → after.view.core ≡ at.hand.view.core
+        → MadeInSight at.t after (flush_waiting at.fsync) making
+    in_sight since core_is = record {
+      log = planned.hand.view.seen;
+      since = since;
+      made = subst (λ (r : TableRun). CoreMade r making)
+          (λ i. record { given = tried.given_is i; first = tried.work.first i; log = planned.hand.view.seen }) seen.makes.made;
+      core_is = seen.makes.core_is ∙ (ap (λ (v : View TreeState (Event Fact)). v.core) tried.since.view ∙ sym core_is);
+      flush_is = λ i. record {
+        node = (seen.makes.node_is ∙ ap (λ (f : WaitingFsync). f.node.0) tried.fsync_is) i;
+        stamp = (seen.makes.stamp_is ∙ ap (λ (f : WaitingFsync). f.stamp.0) tried.fsync_is) i;
+      };
+    }
+
+    change_asked : making.plan.change ≡ planned.drafted.draft.plan.change
+    change_asked = ap (λ (p : FsyncPlan). p.change) seen.makes.plan_is
+
+    -- and lacked room for
+    lacks_there : (kind : SpaceKind) (need free : ℕ) → FindsShort (reserving_of (asked_by planned)) from done kind need free
+        → IsPrefix planned.hand.view.seen after.view.seen → after.view.core ≡ at.hand.view.core
+        → LacksInSight at.t after done (record { flush = flush_waiting at.fsync; turns = turns; made = plan.made }) kind need free
+    lacks_there kind need free finds since core_is = record {
+      making = making;
+      sight = in_sight since core_is;
+      seen = planned.drafted.draft.seen.items;
+      sees = seen.sees;
+      few = subst (λ (c : Planned). count_by enters c.seats ≤ 2 ^ 32 - 1) (sym change_asked) on_disk.few;
+      turn = finds.turn;
+      only = append_cancel_left (own_at at.pen).told (turns_in turns) (finds.turn ∷ [])
+          (sym (ap (λ (o : OwnTold). o.told) (own_behind at.pen done turns mine_is) ∙ turns_more at.pen.view.core turns (own_at at.pen))
+          ∙ (ap (λ (o : OwnTold). o.told) finds.own ∙ ap (λ (o : OwnTold). o.told ++ finds.turn ∷ []) none.own));
+      did = finds.by.did_is;
+      core = record { 0 = from.view.core };
+      front = finds.front;
+      back = finds.back;
+      whole = finds.whole;
+      unmoved = finds.unmoved;
+      space = finds.space;
+      goes = finds.goes;
+      short = ap (λ (c : Planned). shortage finds.space (need_planned c)) change_asked ∙ finds.short;
+    }
+
   served_refused : (planned : PlannedFsync) (from : PenHand D) (refusal : CommitRefusal) → IsTried at planned → TellsNoTurn at.pen from
       → PlanComesTo (asked_by planned) from done (Err refusal) → reply_to refusal.fault ≡ Some given → EndsUntold at.t at.fsync given at.hand after
       → TellsCall (AreTurns TellsNothing) at.pen from → IsPrefix planned.hand.view.seen after.view.seen → Served
@@ -250,6 +297,10 @@ module _ {D : Type 0} (at : FlushAt D) (cores : ℕ) (site : IsSite at.t at.node
     agreed = agreed planned from tried none idle (Err refusal) comes since ends.ends.same.number;
     newer = newer planned from tried none idle (Err refusal) comes;
     landed = λ ok. absurd (never_ok refusal.fault given is ok);
+    lacked = λ kind need free short.
+        lacks_there planned from tried none idle (Err refusal) comes kind need free
+        (plan_lacks (asked_by planned) from done refusal kind need free (lacked_by refusal.fault given kind need free is short) comes) since
+        ends.ends.same.number;
   }
 
   served_flushed : (s : LandedFsync) (from : PenHand D) (landed : Landed) → IsTried at s.planned → TellsNoTurn at.pen from
@@ -276,6 +327,7 @@ module _ {D : Type 0} (at : FlushAt D) (cores : ℕ) (site : IsSite at.t at.node
     agreed = agreed s.planned from tried none idle (Ok landed) comes since lands.ends.same.number;
     newer = newer s.planned from tried none idle (Ok landed) comes;
     landed = λ ok. (lands_made.one, lands_made.is, commitment_of s, sight);
+    lacked = λ kind need free short. absurd (cc (sym is ∙ short));
   }
     where
       makes : MakesPlanned s.planned

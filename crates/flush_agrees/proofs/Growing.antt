@@ -1,8 +1,9 @@
 -- Cores and pens that agree on fsyncs go on agreeing on them.
 use mathlib.Core.List.{IsPrefix}
-use Rattle.std.proofs.Common.{◌≡◌, ◌∙◌, ◌∷◌, filter_map, ℕ, sym, subst, Option, None, Some, arith, List, refl, ap, [], append-nil, inl, inr, filter}
+use Rattle.std.proofs.Common.{◌≡◌, ◌∙◌, ◌∷◌, ◌++◌, filter_map, ℕ, sym, subst, Option, None, Some, arith, List, refl, ap, [], append-nil, inl, inr, filter, append_assoc}
 use Rattle.std.proofs.lemmas.List.Elements.{filter_map-append}
 use Rattle.sfs_base.specs.declared.numbers.NodeId.{NodeId}
+use Rattle.sfs_base.specs.declared.numbers.SpaceKind.{SpaceKind}
 use Rattle.sfs_base.proofs.BasicTruth.{true_not_false}
 use Rattle.tree_laws.specs.declared.history.Entry.{Entry}
 use Rattle.tree_laws.specs.declared.call.Call.TheVariants as call
@@ -13,7 +14,7 @@ use Rattle.cut_laws.proofs.RunFacts.{in_filter}
 use Rattle.cut_laws.proofs.Listed.{to_filter}
 use Rattle.stamp_table.specs.Hand.{Desk}
 use Rattle.stamp_table.specs.declared.event.Event.{Event}
-use Rattle.stamp_table.specs.declared.event.Event.TheVariants.{Called}
+use Rattle.stamp_table.specs.declared.event.Event.TheVariants.{Called, Told}
 use Rattle.stamp_table.specs.Answered.{asks_fsync, is_refusal}
 use Rattle.stamp_table.proofs.Keeps.{begins_on, begins_itself, begins_longer}
 use Rattle.mem_values.specs.Start.{FileHand, FileState}
@@ -21,13 +22,16 @@ use Rattle.mem_values.specs.Account.{Commitment, commit_told}
 use Rattle.mem_values.specs.declared.fact.Fact.{Fact}
 use Rattle.mem_values.proofs.Told.{calls_grow}
 use Rattle.made_laws.specs.Made.{CoreMaking}
+use Rattle.slot_laws.specs.Grants.{SpaceGoes}
+use Rattle.slot_laws.specs.Labels.{first_past}
+use Rattle.slot_laws.specs.declared.label.Label.TheVariants as label
 use Rattle.disk_box.specs.Box.{past_of}
 use Rattle.disk_box.specs.Pens.{PenHand}
 use Rattle.disk_box.specs.declared.key.BoxKey.{BoxKey}
 use Rattle.journal_set.specs.Numbering.{numbers_reserved}
 use Rattle.journal_set.specs.Flying.{SeesFailure}
 use Rattle.pen_laws.specs.Agreement.{IsServedFsync}
-use Rattle.flush_agrees.specs.Agreement.{MadeInSight, MadeAgrees, MadeIsAgreed, ToldInSight, FlushTold, EntryAgrees, FlushAgrees, IsToldOfOne}
+use Rattle.flush_agrees.specs.Agreement.{LacksInSight, MadeInSight, MadeAgrees, MadeIsAgreed, ToldInSight, FlushTold, EntryAgrees, FlushAgrees, IsToldOfOne}
 use Rattle.flush_agrees.specs.Made.{FlushMade, GrantsNeed}
 use Rattle.flush_agrees.specs.Laws.{NewPairsAgree, OtherCallsKeep, AnswersKeepServed, RefusedMemoryKeepsServed, SameFsyncsKeepServed, AgreeingCoresTell}
 
@@ -61,6 +65,28 @@ module _ {D : Type 0} (t : FileState) (before after : FileHand) (pen done : PenH
   is_made_on : (flush : Flush) (made : Option FlushMade) → MadeIsAgreed t before pen flush made → MadeIsAgreed t after done flush made
   is_made_on flush None made = tt
   is_made_on flush (Some one) made = made_on flush one made
+
+  lacks_on : (one : FlushTold) (kind : SpaceKind) (need free : ℕ) → LacksInSight t before pen one kind need free → LacksInSight t after done one kind need free
+  lacks_on one kind need free lacks = record {
+    making = lacks.making;
+    sight = sight_on one.flush lacks.making lacks.sight;
+    seen = lacks.seen;
+    sees = lacks.sees;
+    few = lacks.few;
+    turn = lacks.turn;
+    only = lacks.only;
+    did = lacks.did;
+    core = lacks.core;
+    front = lacks.front;
+    back = lacks.back ++ on.saw.0;
+    whole = sym on.saw.1
+        ∙ (ap (λ l. l ++ on.saw.0) lacks.whole ∙ append_assoc lacks.front (Told lacks.core (label.Noted lacks.turn) ∷ lacks.back) on.saw.0);
+    unmoved = λ node last seen.
+        ap (λ (k : Desk (BoxKey _)). (past_of k.given lacks.front).lasts node) on.table ∙ lacks.unmoved node last seen;
+    space = lacks.space;
+    goes = subst (λ (k : Desk (BoxKey _)). SpaceGoes k.given.layout lacks.front (first_past k.given.start) k.given.space lacks.space) (sym on.table) lacks.goes;
+    short = lacks.short;
+  }
 
   pub told_on : (one : FlushMade) (told : Commitment) → ToldInSight t before one told → ToldInSight t after one told
   told_on one told sight = record {
@@ -100,6 +126,7 @@ module _ {D : Type 0} (t : FileState) (before after : FileHand) (pen done : PenH
     turns = was.turns;
     made = is_made_on one.flush one.made was.made;
     landed = λ ok. let has = was.landed ok in record { made = has.made; is = has.is; told = has.told; tells = told_on has.made has.told has.tells };
+    lacked = λ kind need free short. lacks_on one kind need free (was.lacked kind need free short);
   }
 
   -- and what was told is of one of some fsyncs as before

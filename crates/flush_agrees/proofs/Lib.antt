@@ -5,6 +5,7 @@ pub mod Planned
 pub mod Making
 pub mod Behind
 pub mod Landing
+pub mod Lacking
 pub mod Flushed
 pub mod Failed
 pub mod Closing

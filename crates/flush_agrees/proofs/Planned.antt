@@ -151,7 +151,7 @@ module _ {D : Type 0} (asked : CommitRequest) (making : CoreMaking) (before afte
         × ((stamps : ℕ → ℕ) → stamps reserves.comes.number ≡ asked.flush.stamp → TellTurns stamps middle.view.core (own_at middle) turns)
     returned_turns [] is = absurd is
     returned_turns (one ∷ []) is = (
-      (return_made m middle.view.core is.number asked.flush one is.is, tt),
+      (return_made m middle.view.core is.number asked.flush (its_number is.number is.had) one is.is, tt),
       λ stamps named. (
         returns_tell stamps middle.view.core is.number asked.flush (own_at middle) one
             (record { had = is.had; named = ap stamps (its_number is.number is.had) ∙ named }) is.is,
@@ -170,9 +170,8 @@ module _ {D : Type 0} (asked : CommitRequest) (making : CoreMaking) (before afte
           commits.tells.turns,
           record {
             mine_is = commits.tells.mine_is;
-            are = commit_made_so m middle.view.core is.number asked.flush commits.tx
-                (subst (λ (c : Planned). IsTransactionOf c grant commits.tx) (sym change_is) commits.is) (its_number is.number is.had) given
-                commits.tells.turns is.is;
+            are = commit_made_so m middle.view.core is.number asked.flush (its_number is.number is.had) commits.tx
+                (subst (λ (c : Planned). IsTransactionOf c grant commits.tx) (sym change_is) commits.is) given commits.tells.turns is.is;
             tells = λ stamps named.
                 commits_tell stamps middle.view.core is.number asked.flush (written_of commits.tx) (own_at middle) given commits.tells.turns
                 (record { had = is.had; named = ap stamps (its_number is.number is.had) ∙ named }) is.is;

@@ -1,15 +1,21 @@
 -- What a core of the table and its pen agree on: what each fsync of the core has told at the box, and what the core made and told of it.
-use Rattle.std.specs.Prelude.{◌≡◌, ◌<◌, List, Option, flat_map, filter_map, ℕ, Some, None, map}
+use Rattle.std.specs.Prelude.{◌≡◌, ◌<◌, ◌≤◌, ◌^◌, ◌-◌, ◌∷◌, ◌++◌, List, [], Option, flat_map, filter_map, ℕ, Some, None, map, count_by}
 use mathlib.Core.List.{IsPrefix}
+use Rattle.sfs_base.specs.declared.numbers.CoreId.{CoreId}
+use Rattle.sfs_base.specs.declared.numbers.SpaceKind.{SpaceKind}
 use Rattle.sfs_base.specs.declared.numbers.NodeId.{NodeId}
+use Rattle.space_map.specs.Space.{Space, shortage}
+use Rattle.space_map.specs.declared.fault.SpaceFault.TheVariants.{NoSpace}
 use Rattle.tree_laws.specs.declared.history.Entry.{Entry}
 use Rattle.tree_laws.specs.declared.turns.Turn.{Turn}
 use Rattle.tree_laws.specs.declared.turns.TurnAct.TheVariants as act
 use Rattle.tree_laws.specs.declared.reply.Reply.TheVariants as reply
+use Rattle.disk_change.specs.Planned.{enters}
 use Rattle.cut_laws.specs.Closure.{Flush}
 use Rattle.cut_laws.specs.Rules.{IsOneOf}
 use Rattle.turn_laws.specs.Ways.{GoesWay}
 use Rattle.merge_laws.specs.Pens.{FsyncTurns, IsTurnOf, FsyncsDiffer}
+use Rattle.stamp_table.specs.declared.event.Event.TheVariants.{Told}
 use Rattle.stamp_table.specs.declared.event.Event.{Event}
 use Rattle.mem_values.specs.Start.{given_by, FileState, FileHand}
 use Rattle.mem_values.specs.declared.fact.Fact.{Fact}
@@ -18,14 +24,21 @@ use Rattle.mem_values.specs.declared.fact.HeldNode.{HeldNode}
 use Rattle.note_laws.specs.Run.{TableRun}
 use Rattle.made_laws.specs.Made.{CoreMaking, CoreMade, making_flush}
 use Rattle.made_laws.specs.Tells.{ToldMade}
+use Rattle.slot_laws.specs.declared.label.Label.{Label}
+use Rattle.slot_laws.specs.declared.label.Label.TheVariants as label
+use Rattle.slot_laws.specs.declared.label.Seen.{Seen}
+use Rattle.slot_laws.specs.Nodes.{last_seen, last_ended}
+use Rattle.slot_laws.specs.Grants.{SpaceGoes}
 use Rattle.slot_laws.specs.Telling.{BoxTurn, turns_in, events_in, TellTurns}
-use Rattle.slot_laws.specs.Labels.{fsync_told, nothing_told}
+use Rattle.slot_laws.specs.Labels.{fsync_told, nothing_told, first_past}
+use Rattle.disk_box.specs.Box.{past_of}
 use Rattle.disk_box.specs.Pens.{PenHand}
 use Rattle.journal_set.specs.Numbering.{numbers_reserved}
 use Rattle.journal_set.specs.Flying.{SeesFailure}
+use Rattle.fsync_commit.specs.Asked.{need_planned}
 use Rattle.fsync_stamp.specs.Adding.{calls_seen}
 use Rattle.pen_laws.specs.Agreement.{IsServedFsync}
-use Rattle.flush_agrees.specs.Made.{FlushMade, GrantsNeed, TurnIsOf, LeavesOfNode}
+use Rattle.flush_agrees.specs.Made.{FlushMade, GrantsNeed, SeesConcerned, TurnIsOf, LeavesOfNode}
 
 -- An fsync as its pen has told it: whose it is, its core's turns at the box, and what the core made of it, where it got a number.
 pub record FlushTold : Type 0 where
@@ -92,7 +105,29 @@ pub record EntryAgrees {D : Type 0} (hand : FileHand) (pen : PenHand D) (one : F
   pub ack : (turn : Turn) → IsOneOf (turns_in one.turns) turn → turn.act ≡ act.Durable → entry.ack ≡ Some turn.now
   pub stopped : (faults : ℕ) → entry.reply ≡ reply.Stopped faults → SeesFailure pen faults
 
--- A core and its pen agree on an fsync: by its entry, by what was made of it, of which its turns at the box are, and by what was told of it once it was durable.
+-- A core made something for an fsync that was refused for want of space: it asked for exactly the nodes that the fsync concerns, and no more nodes enter by its
+-- plan than a word counts. Its one turn says of what there was too little; and where that was noted none of the nodes had moved, and a map which had gone along
+-- the labels up to there has too little of just that for what the plan needs.
+pub record LacksInSight {D : Type 0} (t : FileState) (hand : FileHand) (pen : PenHand D) (one : FlushTold) (kind : SpaceKind) (need free : ℕ) : Type 0 where
+  pub making : CoreMaking
+  pub sight : MadeInSight t hand one.flush making
+  pub seen : List Seen
+  pub sees : SeesConcerned making seen
+  pub few : count_by enters making.plan.change.seats ≤ 2 ^ 32 - 1
+  pub turn : Turn
+  pub only : turns_in one.turns ≡ turn ∷ []
+  pub did : turn.act ≡ act.Short kind need free
+  pub core : CoreId
+  pub front : List (Event Label)
+  pub back : List (Event Label)
+  pub whole : pen.view.seen ≡ front ++ Told core (label.Noted turn) ∷ back
+  pub unmoved : (node last : ℕ) → last_seen seen node ≡ Some last → (past_of pen.table.given front).lasts node ≡ last_ended last
+  pub space : Space
+  pub goes : SpaceGoes pen.table.given.layout front (first_past pen.table.given.start) pen.table.given.space space
+  pub short : shortage space (need_planned making.plan.change) ≡ Some (NoSpace kind need free)
+
+-- A core and its pen agree on an fsync: by its entry, by what was made of it, of which its turns at the box are, by what was told of it once it was durable, and
+-- by what was made of it where it was refused for want of space.
 pub record FlushAgrees {D : Type 0} (t : FileState) (hand : FileHand) (pen : PenHand D) (one : FlushTold) : Type 0 where
   pub entry : Entry
   pub node : NodeId
@@ -100,6 +135,7 @@ pub record FlushAgrees {D : Type 0} (t : FileState) (hand : FileHand) (pen : Pen
   pub turns : (turn : BoxTurn) → IsOneOf one.turns turn → TurnIsOf one.made turn
   pub made : MadeIsAgreed t hand pen one.flush one.made
   pub landed : entry.reply ≡ reply.Ok → HasToldFlush t hand one
+  pub lacked : (kind : SpaceKind) (need free : ℕ) → entry.reply ≡ reply.NoSpace kind need free → LacksInSight t hand pen one kind need free
 
 -- some stamps by numbers give each number that was made with that of its fsync
 abbrev pub NumbersHave : (ℕ → ℕ) → List FlushTold → Type 0

@@ -1,15 +1,22 @@
 -- What a core and its pen agree on where a mount ends, over all that was called, told and noted.
-use Rattle.std.specs.Prelude.{◌≡◌, ◌∷◌, List, filter, Bool, [], false, true, map, ℕ, Some, None, filter_map, flat_map, slice_get}
+use Rattle.std.specs.Prelude.{◌++◌, ◌≤◌, ◌^◌, ◌-◌, ◌≡◌, ◌∷◌, count_by, List, filter, Bool, [], false, true, map, ℕ, Some, None, filter_map, flat_map, slice_get}
 use mathlib.Core.List.{IsPrefix}
+use Rattle.sfs_base.specs.declared.numbers.CoreId.{CoreId}
+use Rattle.sfs_base.specs.declared.numbers.SpaceKind.{SpaceKind}
 use Rattle.sfs_image.specs.Super.{Layout}
+use Rattle.space_map.specs.Space.{Space, shortage}
+use Rattle.space_map.specs.declared.fault.SpaceFault.TheVariants.{NoSpace}
 use Rattle.tree_laws.specs.declared.history.Entry.{Entry}
 use Rattle.tree_laws.specs.History.{IsLegal}
 use Rattle.tree_laws.specs.Merged.{is_core}
 use Rattle.tree_laws.specs.declared.turns.Turn.{Turn}
 use Rattle.tree_laws.specs.declared.turns.TurnAct.TheVariants as act
+use Rattle.disk_change.specs.Planned.{enters}
+use Rattle.cut_laws.specs.Closure.{Flush}
 use Rattle.cut_laws.specs.Rules.{IsOneOf}
 use Rattle.turn_laws.specs.Books.{flush_at}
 use Rattle.merge_laws.specs.Pens.{FsyncTurns, PenAgrees}
+use Rattle.stamp_table.specs.declared.event.Event.TheVariants.{Told}
 use Rattle.stamp_table.specs.Rule.{entries_by}
 use Rattle.stamp_table.specs.declared.event.Event.{Event}
 use Rattle.stamp_table.specs.Events.{event_core}
@@ -18,16 +25,21 @@ use Rattle.mem_values.specs.Start.{FileState, FileHand}
 use Rattle.mem_values.specs.Account.{Commitment, held_by, commit_told}
 use Rattle.mem_values.specs.declared.fact.HeldNode.{HeldNode}
 use Rattle.note_laws.specs.Run.{IsTableRun, TableRun}
-use Rattle.made_laws.specs.Made.{CoreMade, making_flush}
+use Rattle.made_laws.specs.Made.{CoreMaking, CoreMade, making_flush}
 use Rattle.made_laws.specs.Tells.{ToldMade}
+use Rattle.slot_laws.specs.declared.label.Label.TheVariants as label
+use Rattle.slot_laws.specs.declared.label.Seen.{Seen}
+use Rattle.slot_laws.specs.Nodes.{last_seen, last_ended}
+use Rattle.slot_laws.specs.Grants.{SpaceGoes}
+use Rattle.slot_laws.specs.Labels.{first_past, nothing_told}
 use Rattle.slot_laws.specs.declared.label.Label.{Label}
 use Rattle.slot_laws.specs.Telling.{BoxTurn, events_in, TellTurns, turns_in}
-use Rattle.slot_laws.specs.Labels.{nothing_told}
 use Rattle.disk_box.specs.Pens.{PenHand}
 use Rattle.disk_box.specs.Box.{LawfulBox, past_of}
 use Rattle.disk_box.specs.declared.key.BoxKey.{BoxKey}
+use Rattle.fsync_commit.specs.Asked.{need_planned}
+use Rattle.flush_agrees.specs.Made.{SeesConcerned, FlushMade, GrantsNeed, TurnMade, TellsNoNumber, LeavesOfNode}
 use Rattle.flush_agrees.specs.Agreement.{run_to, FlushTold, IsDurableFsync, fsync_turns, turns_of, NumbersHave, CoresAgree}
-use Rattle.flush_agrees.specs.Made.{FlushMade, GrantsNeed, TurnMade, TellsNoNumber, LeavesOfNode}
 
 -- What a mount leaves: its history with all answers, the events of its table, and the labels of the box.
 pub record MountLogs : Type 0 where
@@ -88,6 +100,25 @@ pub record LandedAtEnd (run : TableRun) (one : FlushTold) : Type 0 where
   pub told : Commitment
   pub tells : ToldAtEnd run made told
 
+-- What a core made for an fsync that was refused for want of space it made in the whole run; and where its turn was noted none of the nodes that it concerns had
+-- moved, and a map that had gone along all labels up to there has too little of this kind for what the plan needs.
+pub record LacksAtEnd {D : Type 0} (run : TableRun) (key : BoxKey D) (labels : List (Event Label)) (flush : Flush) (turn : Turn) (kind : SpaceKind)
+    (need free : ℕ) : Type 0 where
+  pub making : CoreMaking
+  pub made_in : CoreMade run making
+  pub flush_is : making_flush making ≡ flush
+  pub seen : List Seen
+  pub sees : SeesConcerned making seen
+  pub few : count_by enters making.plan.change.seats ≤ 2 ^ 32 - 1
+  pub core : CoreId
+  pub front : List (Event Label)
+  pub back : List (Event Label)
+  pub whole : labels ≡ front ++ Told core (label.Noted turn) ∷ back
+  pub unmoved : (node last : ℕ) → last_seen seen node ≡ Some last → (past_of key front).lasts node ≡ last_ended last
+  pub space : Space
+  pub goes : SpaceGoes key.layout front (first_past key.start) key.space space
+  pub short : shortage space (need_planned making.plan.change) ≡ Some (NoSpace kind need free)
+
 -- They agree on the whole of it: what the core told at the box are its fsyncs' turns there, each of one of its commits; what it made of each it made in the whole
 -- run, and it told exactly the durable ones; and with the turns of the record the core and its pen agree on the fsyncs that have some.
 pub record AgreeAtEnd {D : Type 0} (t : FileState) (hand : FileHand) (pen : PenHand D) (fsyncs : List FlushTold) (logs : MountLogs) : Type 0 where
@@ -99,6 +130,8 @@ pub record AgreeAtEnd {D : Type 0} (t : FileState) (hand : FileHand) (pen : PenH
   pub told : (told : Commitment) → IsOneOf (filter_map commit_told hand.view.mine) told → IsToldAtEnd (run_to t logs.log) fsyncs told
   pub landed : (one : FlushTold) (turn : Turn) → IsOneOf fsyncs one → IsOneOf (turns_in one.turns) turn → turn.act ≡ act.Durable
       → LandedAtEnd (run_to t logs.log) one
+  pub lacked : (one : FlushTold) (turn : Turn) (kind : SpaceKind) (need free : ℕ) → IsOneOf fsyncs one → IsOneOf (turns_in one.turns) turn
+      → turn.act ≡ act.Short kind need free → LacksAtEnd (run_to t logs.log) pen.table.given logs.labels one.flush turn kind need free
   pub of_flush : (one : FlushTold) (turn : Turn) → IsOneOf fsyncs one → IsOneOf (turns_in one.turns) turn → flush_at turn ≡ one.flush
   pub turns : turns_in (turns_of fsyncs) ≡ flat_map (λ (one : FsyncTurns). one.turns) (pen_fsyncs fsyncs)
   pub agrees : PenAgrees t.first logs.history (past_of pen.table.given logs.labels).turns hand.view.core (pen_fsyncs fsyncs)

@@ -13,7 +13,7 @@ use Rattle.made_laws.specs.Made.{CoreMaking, is_concerned}
 use Rattle.made_laws.specs.Tells.{last_of_seen}
 use Rattle.slot_laws.specs.declared.label.Seen.{Seen}
 use Rattle.slot_laws.specs.Nodes.{last_seen, no_numbers}
-use Rattle.slot_laws.specs.Telling.{BoxTurn, turn_reserves, turn_empties, turn_begins}
+use Rattle.slot_laws.specs.Telling.{BoxTurn, turn_reserves, turn_empties, turn_begins, turn_refuses}
 use Rattle.fsync_commit.specs.Asked.{need_planned}
 
 -- What a core made for an fsync, and the number and the grant of its commit.
@@ -52,19 +52,21 @@ pub record WritesNothing (one : FlushMade) : Type 0 where
   pub none : tx.records.items ≡ []
 
 -- One turn at the box is of what was made: a number is reserved for exactly the nodes that the fsync concerns, with the grant; a commit begins with the job of
--- its transaction; and one that wrote nothing had nothing to write.
+-- its transaction; one that wrote nothing had nothing to write; and a turn that halts it has its number.
 abbrev pub TurnMade : FlushMade → BoxTurn → Type 0
 TurnMade one (turn_reserves number seen grant turn) = (number ≡ one.number) × (grant ≡ one.grant) × SeesConcerned one.making seen.items
 TurnMade one (turn_empties number seen cut opened durable) = (number ≡ one.number) × SeesConcerned one.making seen.items × WritesNothing one
 TurnMade one (turn_begins filling number node stamp blocks inodes) =
     (number ≡ one.number) × IsJobMade one filling.job (record { inodes = inodes.items; blocks = blocks.items })
+TurnMade one (turn_refuses turn) = turn.commit ≡ one.number
 TurnMade one _ = Unit {0}
 
--- One turn at the box tells no number.
+-- One turn at the box tells no number, and one that is refused a number has none.
 abbrev pub TellsNoNumber : BoxTurn → Type 0
 TellsNoNumber (turn_reserves number seen grant turn) = ⊥
 TellsNoNumber (turn_empties number seen cut opened durable) = ⊥
 TellsNoNumber (turn_begins filling number node stamp blocks inodes) = ⊥
+TellsNoNumber (turn_refuses turn) = turn.commit ≡ 0
 TellsNoNumber _ = Unit {0}
 
 -- what one turn at the box of an fsync says, by what was made for it: it is of that, or tells no number

@@ -58,6 +58,7 @@ module _ {D : Type 0} (asked : ReserveRequest) (before entered done after : PenH
         ∙ (ap (λ l. l ++ goes_out.seen.0) it.whole
         ∙ (append_assoc it.front (Told (record { 0 = entered.view.core }) (label.Noted it.turn) ∷ it.back) goes_out.seen.0
         ∙ (λ i. it.front ++ ((Told (record { 0 = core_in i }) (label.Noted it.turn) ∷ it.back) ++ goes_out.seen.0))));
+    unmoved = λ node last seen. ap (λ (k : BoxKey D). (past_of k it.front).lasts node) key_out ∙ it.unmoved node last seen;
     space = it.space;
     goes = subst (λ (k : BoxKey D). SpaceGoes k.layout it.front (first_past k.start) k.space it.space) (sym key_out) it.goes;
     short = it.short;

@@ -8,6 +8,7 @@ pub mod Emptied
 pub mod Failing
 pub mod GrantKept
 pub mod Grants
+pub mod Lacking
 pub mod Lingering
 pub mod Made
 pub mod Nothing

@@ -14,6 +14,7 @@ use Rattle.stamp_table.specs.declared.event.Event.TheVariants.{Told}
 use Rattle.slot_laws.specs.declared.label.Label.{Label}
 use Rattle.slot_laws.specs.declared.label.Label.TheVariants as label
 use Rattle.slot_laws.specs.declared.label.Seen.{Seen}
+use Rattle.slot_laws.specs.Nodes.{last_seen, last_ended}
 use Rattle.slot_laws.specs.Labels.{own_label, first_past}
 use Rattle.slot_laws.specs.Rules.{IsTurnBy}
 use Rattle.slot_laws.specs.Grants.{SpaceGoes}
@@ -46,7 +47,7 @@ module _ {D : Type 0} (asked : ReserveRequest) (before after : PenHand D) where
     pub newer : IsNewerThan before.view.mine number
     pub reserved : WasReserved after.table.given after.view.seen before.view.core number asked.seen asked.need grant
 
-  -- Too little was free, and the turn Short says of what, how much is needed and how much was free.
+  -- Too little was free, and the turn Short says of what, how much is needed and how much was free. None of the nodes had moved since they were seen.
   pub record FindsShort (kind : SpaceKind) (need free : ℕ) : Type 0 where
     pub turn : Turn
     pub by : IsTurnBy turn (act.Short kind need free) before.view.core 0 asked.flush
@@ -54,6 +55,7 @@ module _ {D : Type 0} (asked : ReserveRequest) (before after : PenHand D) where
     pub front : List (Event Label)
     pub back : List (Event Label)
     pub whole : after.view.seen ≡ front ++ Told (record { 0 = before.view.core }) (label.Noted turn) ∷ back
+    pub unmoved : (node last : ℕ) → last_seen asked.seen node ≡ Some last → (past_of after.table.given front).lasts node ≡ last_ended last
     pub space : Space
     pub goes : SpaceGoes after.table.given.layout front (first_past after.table.given.start) after.table.given.space space
     pub short : shortage space asked.need ≡ Some (space_fault.NoSpace kind need free)

@@ -170,39 +170,8 @@ module _ (need free : Amount) (few_inodes : free.inodes < 2 ^ 32 - 1) (few_block
           → IsShortOf need free kind asked have
       short_of kind asked have few asked_is have_is = record { too_few = few; asked_is = asked_is; have_is = have_is }
 
--- what is free by the map and by the books
-module _ (volume : Volume) (used : List ℕ) (planning : Planning) (space : Space) (is : HasPlan volume planning)
-    (resting : IsRestingMap volume planning.entries space) where
-  counts : CountsFree space (image_held volume)
-  counts = maps_count_free volume planning.entries space is.stands.between is.keeps resting.right resting.none
-
-  minus_none : (n : ℕ) → n ≡ n - 0
-  minus_none n = omega arith
-
-  abbrev free : Amount
-  free = record { inodes = free_count space.inodes; blocks = free_count space.blocks }
-
-  free_is : free ≡ free_in (books_of_rest volume used)
-  free_is = λ i. record {
-    inodes = (counts.inodes ∙ minus_none (free_inodes (image_held volume))) i;
-    blocks = (counts.blocks ∙ minus_none (free_blocks (image_held volume))) i;
-  }
-
-  few_inodes : free_count space.inodes ≤ 16384
-  few_inodes =
-      let count = counts.inodes in
-      let low = rank_low (is_unused (inodes_shown volume.layout volume.parts)) volume.layout.inodes in
-      let range = is.stands.between.sound.ranges.inodes_high in
-      omega (arith, count, low, range)
-
-  few_blocks : free_count space.blocks ≤ 262144
-  few_blocks =
-      let count = counts.blocks in
-      let unheld : ℕ → Bool = λ n. not (is_held_in (inodes_shown volume.layout volume.parts) (data_start volume.layout + n)) in
-      let low = rank_low unheld (volume.layout.blocks - data_start volume.layout) in
-      let range = is.stands.between.sound.ranges.blocks in
-      omega (arith, count, low, range)
-
+-- what a plan needs of blocks
+module _ (volume : Volume) (planning : Planning) (is : HasPlan volume planning) where
   -- nodes with an inode are few
   few_old : length planning.plan.old ≤ 16384
   few_old =
@@ -242,15 +211,51 @@ module _ (volume : Volume) (used : List ℕ) (planning : Planning) (space : Spac
       let low = count_by-le-length (λ entry. not (leaves planning.plan.leave entry)) planning.plan.old in
       omega (arith, both, olds, enter, kept, low)
 
-  -- so where there are inodes enough, 32 bits have room for the number of blocks
-  blocks_fit : (amount_planned planning.plan).inodes ≤ free_count space.inodes → (amount_planned planning.plan).blocks < 2 ^ 32
-  blocks_fit enough =
+  -- so where it needs no more inodes than a disk may have, 32 bits have room for the number of blocks
+  pub blocks_low : (amount_planned planning.plan).inodes ≤ 16384 → (amount_planned planning.plan).blocks < 2 ^ 32
+  blocks_low low =
       let entering = enters_counted planning.plan ∙ length-map planning.plan.enter enter_node in
       let taken = few_taken (change_planned planning.plan).seats in
       let old = few_old in
       let seats = few_seats in
-      let free = few_inodes in
-      omega (arith, enough, entering, taken, old, seats, free)
+      omega (arith, low, entering, taken, old, seats)
+
+-- what is free by the map and by the books
+module _ (volume : Volume) (used : List ℕ) (planning : Planning) (space : Space) (is : HasPlan volume planning)
+    (resting : IsRestingMap volume planning.entries space) where
+  counts : CountsFree space (image_held volume)
+  counts = maps_count_free volume planning.entries space is.stands.between is.keeps resting.right resting.none
+
+  minus_none : (n : ℕ) → n ≡ n - 0
+  minus_none n = omega arith
+
+  abbrev free : Amount
+  free = record { inodes = free_count space.inodes; blocks = free_count space.blocks }
+
+  free_is : free ≡ free_in (books_of_rest volume used)
+  free_is = λ i. record {
+    inodes = (counts.inodes ∙ minus_none (free_inodes (image_held volume))) i;
+    blocks = (counts.blocks ∙ minus_none (free_blocks (image_held volume))) i;
+  }
+
+  few_inodes : free_count space.inodes ≤ 16384
+  few_inodes =
+      let count = counts.inodes in
+      let low = rank_low (is_unused (inodes_shown volume.layout volume.parts)) volume.layout.inodes in
+      let range = is.stands.between.sound.ranges.inodes_high in
+      omega (arith, count, low, range)
+
+  few_blocks : free_count space.blocks ≤ 262144
+  few_blocks =
+      let count = counts.blocks in
+      let unheld : ℕ → Bool = λ n. not (is_held_in (inodes_shown volume.layout volume.parts) (data_start volume.layout + n)) in
+      let low = rank_low unheld (volume.layout.blocks - data_start volume.layout) in
+      let range = is.stands.between.sound.ranges.blocks in
+      omega (arith, count, low, range)
+
+  -- so where there are inodes enough, 32 bits have room for the number of blocks
+  blocks_fit : (amount_planned planning.plan).inodes ≤ free_count space.inodes → (amount_planned planning.plan).blocks < 2 ^ 32
+  blocks_fit enough = blocks_low volume planning is (let free = few_inodes in omega (arith, enough, free))
 
   module _ (tells : HasTouchedPages volume planning) where
     needs : amount_planned planning.plan ≡ need_of_planning volume used planning

@@ -9,11 +9,12 @@ use Rattle.slot_laws.specs.Labels.{OwnTold, own_label, fsync_told}
 use Rattle.slot_laws.specs.Telling.{turn_refuses, turn_reserves}
 use Rattle.disk_box.specs.declared.key.BoxKey.{BoxKey}
 use Rattle.disk_box.specs.declared.desk.Desk.{Desk}
-use Rattle.disk_box.specs.Pens.{PenHand, WorksAtDesk, past_at, own_at}
+use Rattle.disk_box.specs.Pens.{PenHand, TellsLabel, WorksAtDesk, past_at, own_at}
 use Rattle.disk_box.proofs.NotedRules.{granted_rule, short_rule}
 use Rattle.disk_box.proofs.StepsTold.{tells_both}
 use Rattle.journal_set.specs.Grants.{grant_from}
 use Rattle.journal_set.specs.Telling.{TellsAtBox, TellsOf, TellsNothing}
+use Rattle.journal_set.proofs.Lacking.{finds_short}
 use Rattle.journal_set.proofs.Nothing.{over_calm}
 use Rattle.journal_set.proofs.Parts.{grant_more, reserved_later}
 use Rattle.journal_set.proofs.Working.{calm_faults, looked_none, room_beside}
@@ -77,6 +78,22 @@ note_turn-requires-2-clause-room g c κs within =
     (λ i. (sym key_same i, sym ok.turns i)) c.requires.may.room
     in
     room_beside pen.table.given.layout.cores pen.view.core c.number_commit.new.desk.turns.spare _ ok.work.holds.core_is room
+
+pub returns-in-Err-NoSpace-clause-comes : goal.returns-in-Err-NoSpace-clause-comes
+returns-in-Err-NoSpace-clause-comes g c =
+    let D = g.row.D.Denot in
+    let same = c.in-Err-NoSpace.ensures.err in
+    let by = c.turn-turn.ensures.by in
+    finds_short g.D.Disk.view c.args.table.now (record { flush = fsync_told c.args.fsync.node c.args.fsync.stamp; seen = c.args.seen.now; need = c.args.need })
+    c.args.pen.now c.note_turn.new.pen c.args.desk.now c.requires.may c.turn-turn.result c.in-Err-NoSpace.kind c.in-Err-NoSpace.need c.in-Err-NoSpace.free
+    (record {
+      did_is = by.did_is;
+      core_is = by.core_is ∙ (c.number.ensures ∙ ap (λ (h : PenHand D). h.view.core) same.0);
+      commit_is = by.commit_is;
+      flush_is = by.flush_is;
+    })
+    (subst (λ (h : PenHand D). TellsLabel (label.Noted c.turn-turn.result) h c.note_turn.new.pen) same.0 c.note_turn.ensures.tells)
+    c.in-Err-NoSpace.ensures.cause
 
 pub returns-clause-comes : goal.returns-clause-comes
 returns-clause-comes g c =

@@ -1,0 +1,16 @@
+pub mod Next
+pub mod Goes
+pub mod Played
+pub mod Opens
+pub mod Through
+pub mod Walk
+pub mod Fronts
+pub mod Places
+pub mod Reserved
+pub mod Turns
+pub mod Refused
+pub mod Numbers
+pub mod Recorded
+pub mod Once
+pub mod Lacking
+pub mod Agreed
