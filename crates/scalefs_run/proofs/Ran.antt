@@ -7,42 +7,26 @@ use Rattle.tree_laws.specs.declared.history.Entry.{Entry}
 use Rattle.tree_laws.specs.declared.turns.Turn.{Turn}
 use Rattle.tree_laws.specs.Tree.{TreeState}
 use Rattle.turn_laws.specs.Need.{ImageState}
-use Rattle.turn_laws.specs.Recorded.{IsRecorded}
 use Rattle.mount_begin.specs.declared.begin.Mounted.{Mounted}
 use Rattle.turn_ties.specs.Plans.{image_held}
-use Rattle.slot_image_laws.specs.Run.{KeepsLaws}
 use Rattle.disk_box.specs.Pens.{PenHand}
 use Rattle.end_laws.specs.Begins.{HasBegunVolume}
 use Rattle.workers.specs.declared.worker.Worker.{Worker}
 use Rattle.mount.specs.declared.volume.Volume.{Volume}
 use Rattle.mount.specs.Ends.{LeavesVolume}
-use Rattle.mount.specs.Survives.{VolumeSurvives}
-use Rattle.mount.specs.Volume.{IsMountOfDisk, IsVolume}
-use Rattle.mount.specs.Workers.{AreWorkers}
+use Rattle.mount.specs.Survives.{MountComesTo, VolumeSurvives}
+use Rattle.mount.specs.Volume.{IsMountOfDisk}
 use Rattle.scalefs_run.specs.Ran.{LeavesRun}
 use Rattle.scalefs_run.specs.Turns.{IsImageAtFirst}
 use Rattle.scalefs_run.specs.Writing.{CanReplay}
 use Rattle.scalefs_run.proofs.AtFirst.{image_at_first}
 
--- The turns of a mount are recorded over what the image of the volume tells that it has begun.
-pub record RecordsAre (nodes : ℕ) (begun : Mounted) (old mid new : View) (history : List Entry) (turns : List Turn) : Type 0 where
-  pub has : HasBegunVolume nodes begun history old mid
-  pub recorded : IsRecorded begun.tree history (image_held has.start) old.faults new.faults turns
-
--- So it is of each volume that was mounted and was unmounted with all workers at rest.
-abbrev pub UnmountedAreRecorded : {D : Type 0} → (D → View) → Type 0
-UnmountedAreRecorded {D} view = (volume : Volume D) (workers : List (Worker (PenHand D))) (left : D) (history : List Entry) (turns : List Turn)
-    → ((disk : D) → KeepsLaws (view disk)) → IsVolume volume → AreWorkers volume workers → LeavesVolume view volume workers left history turns
-    → (nodes : ℕ) (disk : D) (mounted : IsMountOfDisk view nodes disk volume)
-    → RecordsAre nodes mounted.begun (view disk) (view mounted.left) (view left) history turns
-
--- A volume was mounted of a disk with so many new nodes and was unmounted, and its turns are recorded.
+-- A volume was mounted of a disk with so many new nodes and was unmounted.
 pub record EndsMount {D : Type 0} (view : D → View) (nodes : ℕ) (disk left : D) (volume : Volume D) (history : List Entry) (turns : List Turn) : Type 0 where
   pub workers : List (Worker (PenHand D))
   pub leaves : LeavesVolume view volume workers left history turns
   pub survives : VolumeSurvives view volume left history turns
   pub mounted : IsMountOfDisk view nodes disk volume
-  pub records : RecordsAre nodes mounted.begun (view disk) (view mounted.left) (view left) history turns
 
 -- an image that stands at the begin of a call does so of a longer one
 image_on : (old mid new : View) (first : TreeState) (image : ImageState) → Advances mid new
@@ -71,8 +55,11 @@ module _ {D : Type 0} (view : D → View) (nodes : ℕ) (disk left : D) (volume 
   abbrev begun : Mounted
   begun = ends.mounted.begun
 
+  abbrev comes : MountComesTo view nodes disk volume left history turns ends.mounted
+  comes = ends.survives nodes disk ends.mounted
+
   abbrev has : HasBegunVolume nodes begun history (view disk) (view ends.mounted.left)
-  has = ends.records.has
+  has = comes.has
 
   -- the disk has gone on from the one that was mounted
   goes_on : Advances (view ends.mounted.left) (view left)
@@ -89,7 +76,6 @@ module _ {D : Type 0} (view : D → View) (nodes : ℕ) (disk left : D) (volume 
   -- what was left of the mount's tree
   left_of_tree : LeavesRun nodes volume.shared.first (view disk) (view left) history turns
   left_of_tree =
-      let comes = ends.survives nodes disk ends.mounted in
       let tell = comes.turns_tell in
       let same : begun.tree ≡ volume.shared.first = sym ends.mounted.tree in
       record {
@@ -101,9 +87,7 @@ module _ {D : Type 0} (view : D → View) (nodes : ℕ) (disk left : D) (volume 
               subst (λ (t : TreeState). IsImageAtFirst (view disk) (view left) t (image_held has.start)) same
               (image_on (view disk) (view ends.mounted.left) (view left) begun.tree (image_held has.start) goes_on
               (image_at_first nodes begun history (view disk) (view ends.mounted.left) ends.mounted.was has));
-          recorded =
-              subst (λ (t : TreeState). IsRecorded t history (image_held has.start) (view disk).faults (view left).faults turns) same
-              ends.records.recorded;
+          recorded = comes.recorded;
           goes = tell.merge.goes;
           dated = comes.dated;
           tell = tell.tell;

@@ -145,6 +145,29 @@ pub fn assert_text<R: Threads + Wait + Sync + Abort, D: Disk + Drop>(
     ran.disk
 }
 
+/// Asserts that a script is run to its end with one of these texts.
+pub fn assert_text_among<R: Threads + Wait + Sync + Abort, D: Disk + Drop>(
+    rt: &R,
+    alloc: Global,
+    script: &str,
+    disk: D,
+    texts: &[&str],
+) {
+    let ran = run_script(rt, alloc, script.as_bytes(), disk);
+    same_at(rt, &ran.status, &Status::Done, script);
+    for text in texts {
+        if ran.text.as_slice() == text.as_bytes() {
+            return;
+        }
+    }
+    same_list_at(
+        rt,
+        ran.text.as_slice(),
+        b"one of the texts".as_slice(),
+        script,
+    );
+}
+
 /// Asserts that a disk is shown with this text. Answers the disk afterwards.
 pub fn assert_shown<R: Threads + Wait + Sync + Abort>(
     rt: &R,

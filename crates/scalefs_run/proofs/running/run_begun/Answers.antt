@@ -1,13 +1,11 @@
 -- A volume is begun, runs the phases and is unmounted.
 use Rattle.std.proofs.Common.{List, length, sym, ap, subst, ◌∙◌}
-use Rattle.slot_image_laws.specs.Run.{KeepsLaws}
 use Rattle.disk_box.specs.Pens.{PenHand}
 use Rattle.workers.specs.declared.worker.Worker.{Worker}
 use Rattle.mount.specs.Ends.{LeavesVolume}
 use Rattle.mount.specs.Workers.{AreWorkers, HaveMadeNothing}
 use Rattle.scalefs_run.proofs.Made.{has_calls, of_workers}
 use Rattle.scalefs_run.proofs.Ran.{leaves_run}
-use Rattle.scalefs_run.proofs.Recorded.{unmounted_are_recorded}
 use Rattle.scalefs_run.proofs.Within.{written_back}
 use Rattle.scalefs_run.proofs.running.run_begun.Goals as goal
 
@@ -25,9 +23,6 @@ unmount-disk-requires-clause-workers g c κs within =
 pub returns-clause-leaves : goal.returns-clause-leaves
 returns-clause-leaves g c old was =
     let view = g.D.Disk.view in
-    let disk_laws = g.met.D.Disk g.world.𝓛 g.world.𝓜 g.world.𝓡 ((λ s x. x), (λ x. x), (λ x. x), λ x. x) in
-    let laws : (disk : g.row.D.Denot) → KeepsLaws (view disk) =
-    λ disk. record { whole = disk_laws.whole disk; read_is_left = disk_laws.read_is_left disk; now_fits = disk_laws.now_fits disk } in
     let ran = c.run_phases-ended in
     let volume = c.in-Ok.mounted.volume in
     let workers = ran.new.workers in
@@ -39,15 +34,12 @@ returns-clause-leaves g c old was =
     (ran.ensures.count ∙ ap length c.deref_mut.ensures.value) (sym c.deref_mut.ensures.len ∙ ap length c.deref_mut.ensures.value))
     c.unmount-disk.ensures.leaves
     in
-    let mounted = c.in-Ok.ensures.mounts old was in
     leaves_run view c.args.nodes old left.0 volume left.1 left.2.items
     (record {
       workers = workers;
       leaves = leaves;
       survives = c.unmount-disk.ensures.survives;
-      mounted = mounted;
-      records = unmounted_are_recorded view volume workers left.0 left.1 left.2.items laws c.in-Ok.ensures.volume ran.ensures.workers leaves c.args.nodes
-          old mounted;
+      mounted = c.in-Ok.ensures.mounts old was;
     }) c.args.begun.tree c.in-Ok.ensures.first
 
 pub returns-clause-calls : goal.returns-clause-calls
