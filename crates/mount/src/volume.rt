@@ -48,8 +48,8 @@ impl<D: Disk> Volume<D> {
         &self.set
     }
 
-    // Where its fsyncs are served.
-    pub(crate) fn site(&self) -> FlushSite<'_, D>
+    /// Where its fsyncs are served.
+    pub fn site(&self) -> FlushSite<'_, D>
         ensures shared { result.shared.now ≡ self.now.shared }
         ensures set { result.set.now ≡ self.now.set }
         ensures nodes { result.nodes ≡ self.now.basis.nodes }

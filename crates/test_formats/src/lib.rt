@@ -11,6 +11,8 @@ mod files;
 #[cfg(test)]
 mod helpers;
 #[cfg(test)]
+mod indexed;
+#[cfg(test)]
 mod inodes;
 #[cfg(test)]
 mod journal;

@@ -10,6 +10,7 @@ use crate::helpers::{got, holds, some};
 mod asked;
 mod begun;
 mod beside;
+mod crossing;
 mod drawn;
 mod full;
 mod judged;

@@ -2,3 +2,4 @@ pub mod Added
 pub mod Phases
 pub mod Places
 pub mod UnderWay
+pub mod Once

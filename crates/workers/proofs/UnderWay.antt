@@ -54,7 +54,7 @@ pub before_higher : (low high : ℕ) → low ≤ high → (entries : List Entry)
 before_higher low high le [] below = tt
 before_higher low high le (e ∷ entries) below = ((let b = below.0 in omega (arith, b, le)), before_higher low high le entries below.1)
 
-before_both : (number : ℕ) (front back : List Entry) → AreBefore number front → AreBefore number back → AreBefore number (front ++ back)
+pub before_both : (number : ℕ) (front back : List Entry) → AreBefore number front → AreBefore number back → AreBefore number (front ++ back)
 before_both number [] back below also = also
 before_both number (e ∷ front) back below also = (below.0, before_both number front back below.1 also)
 

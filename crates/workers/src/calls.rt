@@ -3,10 +3,10 @@ ghost use Rattle.std.specs.Prelude.{◌≡◌};
 ghost use Rattle.tree_laws.specs.Step.{IsReadable};
 ghost use Rattle.stamp_table.specs.Table.{IsBetweenCalls, IsSameCore};
 ghost use Rattle.workers.specs.Keeping.{AddsOrRefused};
-ghost use Rattle.workers.specs.Works.{IsBasisOf};
+ghost use Rattle.workers.specs.Works.{IsBasisOf, Rests};
 
 use crate::Flush;
-use crate::worker::Basis;
+use crate::worker::{Basis, Worker};
 use mem_calls::call;
 use mem_rename::{Move, RENAME_CELLS, rename};
 use mem_values::{FileCore, FileShared};
@@ -65,4 +65,39 @@ pub(crate) fn make_call<R: Wait, F: Flush, G: Gate>(
             gate,
         ),
     }
+}
+
+/// Makes a call of a worker that rests, and answers its reply. Where it is refused memory before a stamp the worker has made none. The worker rests behind it.
+pub fn call_worker<R: Wait, F: Flush, G: Gate>(
+    rt: &R,
+    alloc: Global,
+    shared: &FileShared,
+    worker: &mut Worker<F::Pen>,
+    basis: Basis,
+    asked: Call,
+    flush: &F,
+    gate: &G,
+) -> Result<Reply, NoMemory>
+    requires basis { IsBasisOf shared.now basis }
+    requires flush { F.table flush.now ≡ shared.now }
+    requires rest { Rests shared.now (F.agrees flush.now) worker.old }
+    requires readable { IsReadable asked }
+    ensures made { AddsOrRefused asked worker.old.core worker.new.core result }
+    ensures rest { Rests shared.now (F.agrees flush.now) worker.new }
+    ensures same { IsSameCore worker.old.core worker.new.core }
+{
+    worker.core.look_for(rt, shared, worker.until);
+    let made = make_call(
+        rt,
+        alloc,
+        shared,
+        &mut worker.core,
+        &mut worker.pen,
+        basis,
+        asked,
+        flush,
+        gate,
+    );
+    worker.until = worker.core.look(shared);
+    made
 }

@@ -9,6 +9,7 @@ pub mod laws;
 mod plain;
 mod worker;
 
+pub use calls::call_worker;
 pub use driving::drive;
 pub use flush::Flush;
 pub use flush_by::{Agreement, FlushBy};

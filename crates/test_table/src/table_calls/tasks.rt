@@ -6,6 +6,7 @@ ghost use Rattle.begun_tables.specs.Begun.{BeginsTable, IsCallTable};
 use crate::table_calls::ask;
 use crate::table_calls::begun::{FIRST, SHARE};
 use crate::table_calls::beside::{Meeting, call_as_due};
+use crate::table_calls::crossing::cross_often;
 use crate::table_calls::drawn::Draw;
 use crate::table_calls::loops::{Pace, move_often};
 use begun_tables::begun;
@@ -27,6 +28,8 @@ pub(crate) enum Task<'a> {
     Moves { pace: &'a Pace },
     // It is held inside a call, or makes calls while the other one is held.
     Meets { gate: &'a Meeting },
+    // It makes calls in the root beside those of three others.
+    Crosses,
 }
 
 // Makes so many calls that a core draws, or until one is refused memory.
@@ -70,6 +73,7 @@ fn work<R: Wait>(
         Task::Draws { count } => draw_often(rt, alloc, shared, core, nodes, *count),
         Task::Moves { pace } => move_often(rt, alloc, shared, core, nodes, pace),
         Task::Meets { gate } => call_as_due(rt, alloc, shared, core, nodes, gate),
+        Task::Crosses => cross_often(rt, alloc, shared, core, nodes),
     }
 }
 

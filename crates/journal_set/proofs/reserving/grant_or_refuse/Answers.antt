@@ -1,4 +1,4 @@
-use Rattle.std.proofs.Common.{◌≡◌, ◌*◌, ◌<◌, ◌≤◌, ◌∙◌, ◌∷◌, None, sym, ap, subst, arith, refl, []}
+use Rattle.std.proofs.Common.{◌≡◌, ◌*◌, ◌<◌, ◌≤◌, ◌∙◌, ◌∷◌, MatchOption, None, sym, ap, subst, arith, refl, []}
 use Rattle.tree_laws.specs.Tree.{TreeState}
 use Rattle.tree_laws.specs.declared.turns.TurnAct.TheVariants as act
 use Rattle.stamp_table.specs.declared.event.Event.{Event}
@@ -12,6 +12,9 @@ use Rattle.disk_box.specs.declared.desk.Desk.{Desk}
 use Rattle.disk_box.specs.Pens.{PenHand, TellsLabel, WorksAtDesk, past_at, own_at}
 use Rattle.disk_box.proofs.NotedRules.{granted_rule, short_rule}
 use Rattle.disk_box.proofs.StepsTold.{tells_both}
+use Rattle.space_map.specs.Space.{shortage}
+use Rattle.space_map.specs.declared.fault.SpaceFault.{SpaceFault}
+use Rattle.space_map.specs.declared.fault.SpaceFault.TheVariants.{NoMemory as WantsMemory}
 use Rattle.journal_set.specs.Grants.{grant_from}
 use Rattle.journal_set.specs.Telling.{TellsAtBox, TellsOf, TellsNothing}
 use Rattle.journal_set.proofs.Lacking.{finds_short}
@@ -93,7 +96,8 @@ returns-in-Err-NoSpace-clause-comes g c =
       flush_is = by.flush_is;
     })
     (subst (λ (h : PenHand D). TellsLabel (label.Noted c.turn-turn.result) h c.note_turn.new.pen) same.0 c.note_turn.ensures.tells)
-    c.in-Err-NoSpace.ensures.cause
+    (subst (λ (fault : SpaceFault). MatchOption (shortage c.args.desk.now.ledger.space c.args.need) (fault ≡ WantsMemory) (λ due. fault ≡ due))
+    c.in-Err-NoSpace.field-0-is c.in-Err-NoSpace.ensures.cause)
 
 pub returns-clause-comes : goal.returns-clause-comes
 returns-clause-comes g c =
