@@ -28,7 +28,7 @@ pub struct Ran<D> {
 
 /// Begins a volume of many cores over a disk that was mounted with so many new nodes, runs phases on it, each worker of a phase in a thread of its own
 /// where one can be started, and unmounts it. Where memory is refused before the volume is there, the disk is handed back as it is.
-pub fn run_begun<R: Threads + Wait + Sync, D: Disk + Drop, G: Gate>(
+pub fn run_begun<R: Threads + Wait + Sync, D: Disk + Drop + Sync, G: Gate>(
     rt: &R,
     alloc: Global,
     disk: D,

@@ -28,7 +28,7 @@ use std::thread::Threads;
 
 /// Mounts the disk, runs the phases on a volume of as many cores as the image has, and writes what is due of their history, where there is a core for
 /// each worker.
-pub fn serve_script<R: Threads + Wait + Sync, K: Sink, D: Disk + Drop, G: Gate>(
+pub fn serve_script<R: Threads + Wait + Sync, K: Sink, D: Disk + Drop + Sync, G: Gate>(
     rt: &R,
     alloc: Global,
     nodes: u32,

@@ -40,7 +40,7 @@ const LOAD_NODES: u32 = 65_536;
 /// the text from the source is that of a legal history over it. `verify` certifies the image, which is only read, and
 /// writes the certificate. In a phase each worker runs in a thread of its own, where one can be started. The gate is a hook for tests, which can hold a
 /// core.
-pub fn run<R: Threads + Wait + Sync, S: Source, K: Sink, D: Disk + Drop, G: Gate>(
+pub fn run<R: Threads + Wait + Sync, S: Source, K: Sink, D: Disk + Drop + Sync, G: Gate>(
     rt: &R,
     alloc: Global,
     words: &[String],
@@ -63,7 +63,7 @@ pub fn run<R: Threads + Wait + Sync, S: Source, K: Sink, D: Disk + Drop, G: Gate
 }
 
 // Does a command.
-fn serve_command<R: Threads + Wait + Sync, S: Source, K: Sink, D: Disk + Drop, G: Gate>(
+fn serve_command<R: Threads + Wait + Sync, S: Source, K: Sink, D: Disk + Drop + Sync, G: Gate>(
     rt: &R,
     alloc: Global,
     command: Command,
@@ -119,7 +119,7 @@ fn serve_command<R: Threads + Wait + Sync, S: Source, K: Sink, D: Disk + Drop, G
 }
 
 // Runs the script that the source gives, in which so many nodes may be made.
-fn serve_source<R: Threads + Wait + Sync, S: Source, K: Sink, D: Disk + Drop, G: Gate>(
+fn serve_source<R: Threads + Wait + Sync, S: Source, K: Sink, D: Disk + Drop + Sync, G: Gate>(
     rt: &R,
     alloc: Global,
     nodes: u32,
@@ -152,7 +152,7 @@ fn serve_source<R: Threads + Wait + Sync, S: Source, K: Sink, D: Disk + Drop, G:
 }
 
 // Runs a made script and writes its line.
-fn serve_load<R: Threads + Wait + Sync, K: Sink, D: Disk + Drop, G: Gate>(
+fn serve_load<R: Threads + Wait + Sync, K: Sink, D: Disk + Drop + Sync, G: Gate>(
     rt: &R,
     alloc: Global,
     seed: u32,

@@ -85,7 +85,7 @@ pub fn ends(rt: &impl Abort, alloc: Global, script: &[u8]) -> (BytesSource, Byte
 }
 
 /// A run of this script over ends that don't fail.
-pub fn run_script<R: Threads + Wait + Sync + Abort, D: Disk + Drop>(
+pub fn run_script<R: Threads + Wait + Sync + Abort, D: Disk + Drop + Sync>(
     rt: &R,
     alloc: Global,
     script: &[u8],
@@ -96,7 +96,7 @@ pub fn run_script<R: Threads + Wait + Sync + Abort, D: Disk + Drop>(
 }
 
 /// What these words do, with no script.
-pub fn done<R: Threads + Wait + Sync + Abort, D: Disk + Drop>(
+pub fn done<R: Threads + Wait + Sync + Abort, D: Disk + Drop + Sync>(
     rt: &R,
     alloc: Global,
     words: &[&str],
@@ -107,7 +107,7 @@ pub fn done<R: Threads + Wait + Sync + Abort, D: Disk + Drop>(
 }
 
 /// A call between these ends.
-pub fn run_between<R: Threads + Wait + Sync + Abort, D: Disk + Drop>(
+pub fn run_between<R: Threads + Wait + Sync + Abort, D: Disk + Drop + Sync>(
     rt: &R,
     alloc: Global,
     words: &[String],
@@ -132,7 +132,7 @@ pub fn run_between<R: Threads + Wait + Sync + Abort, D: Disk + Drop>(
 }
 
 /// Asserts that a script is run to its end with this text. Answers the disk afterwards.
-pub fn assert_text<R: Threads + Wait + Sync + Abort, D: Disk + Drop>(
+pub fn assert_text<R: Threads + Wait + Sync + Abort, D: Disk + Drop + Sync>(
     rt: &R,
     alloc: Global,
     script: &str,
@@ -146,7 +146,7 @@ pub fn assert_text<R: Threads + Wait + Sync + Abort, D: Disk + Drop>(
 }
 
 /// Asserts that a script is run to its end with one of these texts.
-pub fn assert_text_among<R: Threads + Wait + Sync + Abort, D: Disk + Drop>(
+pub fn assert_text_among<R: Threads + Wait + Sync + Abort, D: Disk + Drop + Sync>(
     rt: &R,
     alloc: Global,
     script: &str,
