@@ -1,11 +1,10 @@
 -- The workers of a volume, before and after they ran, and as they are taken in.
-use Rattle.std.proofs.Common.{◌≡◌, ◌<◌, ◌≤◌, ◌+◌, ◌∷◌, ◌∙◌, ℕ, zero, suc, List, [], Some, length, map, get_or, true, refl, sym, ap, subst, arith}
+use Rattle.std.proofs.Common.{◌≡◌, ◌<◌, ◌+◌, ◌∷◌, ◌∙◌, ℕ, zero, suc, List, [], Some, length, map, get_or, true, refl, sym, ap, subst, arith}
 use Rattle.std.specs.Prelude.{All, slice_get, slice_index_or}
 use Rattle.std.proofs.lemmas.List.{length-map}
 use Rattle.std.proofs.lemmas.Option.{get_or_from_slice_get, slice_get_within}
 use Rattle.script.specs.declared.commands.Line.{Line}
-use Rattle.stamp_table.specs.Hand.{Desk}
-use Rattle.stamp_table.specs.Table.{AreAllCores, AreIdleFrom, IsSameCore, first_leads}
+use Rattle.stamp_table.specs.Table.{AreIdleFrom, IsSameCore, first_leads}
 use Rattle.stamp_table.proofs.Beginning.{all_again}
 use Rattle.commit_laws.proofs.CommitMade.{map_there}
 use Rattle.mem_values.specs.Start.{FileHand, FileState}
@@ -14,7 +13,7 @@ use Rattle.journal_set.specs.Making.{MayClose}
 use Rattle.workers.specs.Works.{Rests, WorksEach}
 use Rattle.workers.specs.declared.worker.Worker.{Worker}
 use Rattle.mount.specs.Volume.{HasRoomForWorkers, IsVolume}
-use Rattle.mount.specs.Workers.{AreWorkers, PairAgrees, core_of, pen_of, worker_begun}
+use Rattle.mount.specs.Workers.{WorkersAreBack, AreWorkers, PairAgrees, core_of, pen_of, worker_begun}
 use Rattle.mount.specs.declared.volume.Volume.{Volume}
 
 -- what is so of workers by an agreement is so of them by one that it implies
@@ -37,7 +36,7 @@ module _ {P : Type 0} (t : FileState) (From To : FileHand → P → Type 0) (mor
       }
 
 -- what a list is mapped to, place by place
-at_map : {X Y : Type 0} (f : X → Y) (xs : List X) (k : ℕ) (d : X) → get_or (map f xs) k (f d) ≡ f (get_or xs k d)
+pub at_map : {X Y : Type 0} (f : X → Y) (xs : List X) (k : ℕ) (d : X) → get_or (map f xs) k (f d) ≡ f (get_or xs k d)
 at_map f [] k d = refl
 at_map f (x ∷ xs) zero d = refl
 at_map f (x ∷ xs) (suc k) d = at_map f xs k d
@@ -58,17 +57,17 @@ some_worker : {P : Type 0} (workers : List (Worker P)) (place : ℕ) → place <
 some_worker [] place low = absurd (omega (arith, low))
 some_worker (worker ∷ workers) place low = worker
 
--- a worker that ran has the same core, which holds nothing
-same_at : {D : Type 0} (volume : Volume D) (workers : List (Worker (PenHand D))) (phase : List Line) (from : ℕ) (after : List (Worker (PenHand D)))
-    → WorksEach volume.shared (PairAgrees volume) phase from workers after → (place : ℕ) (d : FileHand) → place < length workers
+-- one of them has the same core, which holds nothing
+same_at : {D : Type 0} (volume : Volume D) (workers after : List (Worker (PenHand D))) → WorkersAreBack volume workers after → (place : ℕ) (d : FileHand)
+    → place < length workers
     → IsSameCore (get_or (map core_of workers) place d) (get_or (map core_of after) place d) × ((get_or (map core_of after) place d).held ≡ [])
-same_at {D = D} volume workers phase from after each place d low =
+same_at {D = D} volume workers after back place d low =
     let other : Worker (PenHand D) = worker_begun d (some_worker workers place low).pen in
-    let works = each place other low in
+    let is = back place other low in
     let was = at_map core_of workers place other in
     let now = at_map core_of after place other in (
-      subst (λ (z : FileHand × FileHand). IsSameCore z.0 z.1) (λ i. (sym was i, sym now i)) works.same,
-      subst (λ (h : FileHand). h.held ≡ []) (sym now) works.rests.between.holds_none,
+      subst (λ (z : FileHand × FileHand). IsSameCore z.0 z.1) (λ i. (sym was i, sym now i)) is.1,
+      subst (λ (h : FileHand). h.held ≡ []) (sym now) is.0.between.holds_none,
     )
 
 module _ {D : Type 0} (volume : Volume D) (workers : List (Worker (PenHand D))) (are : AreWorkers volume workers) where
@@ -80,19 +79,23 @@ module _ {D : Type 0} (volume : Volume D) (workers : List (Worker (PenHand D))) 
   rest_there : (core : ℕ) (worker : Worker (PenHand D)) → slice_get workers core ≡ Some worker → Rests volume.shared (PairAgrees volume) worker
   rest_there core worker there = all_there (Rests volume.shared (PairAgrees volume)) workers core worker are.rest there
 
-  -- behind a phase they are all workers still
-  pub run_again : (phase : List Line) (from : ℕ) (after : List (Worker (PenHand D))) → length after ≡ length workers
-      → WorksEach volume.shared (PairAgrees volume) phase from workers after → AreWorkers volume after
-  run_again phase from after long each = record {
+  -- where they are back from calls they are all workers still
+  pub team_again : (after : List (Worker (PenHand D))) → length after ≡ length workers → WorkersAreBack volume workers after → AreWorkers volume after
+  team_again after long back = record {
     all = all_again volume.shared (map core_of workers) (map core_of after)
         (length-map after core_of ∙ (long ∙ sym (length-map workers core_of))) same are.all;
-    rest = λ place d within. (each place d (omega (arith, within, long))).rests;
+    rest = λ place d within. (back place d (omega (arith, within, long))).0;
   }
     where
       same : (place : ℕ) (d : FileHand) → place < length (map core_of workers)
           → IsSameCore (get_or (map core_of workers) place d) (get_or (map core_of after) place d)
           × ((get_or (map core_of after) place d).held ≡ [])
-      same place d within = same_at volume workers phase from after each place d (let count = length-map workers core_of in omega (arith, within, count))
+      same place d within = same_at volume workers after back place d (let count = length-map workers core_of in omega (arith, within, count))
+
+  -- so they are behind a phase
+  pub run_again : (phase : List Line) (from : ℕ) (after : List (Worker (PenHand D))) → length after ≡ length workers
+      → WorksEach volume.shared (PairAgrees volume) phase from workers after → AreWorkers volume after
+  run_again phase from after long each = team_again after long (λ place d low. ((each place d low).rests, (each place d low).same))
 
 -- pens of workers that rest are idle as their cores are
 idle_pens : {D : Type 0} (volume : Volume D) (number : ℕ) (workers : List (Worker (PenHand D)))

@@ -1,0 +1,31 @@
+// A disk before a visit, and after it.
+use crate::trouble::Trouble;
+use fmt_super::Layout;
+use recovery::{mkfs, recover};
+use script::tree_text;
+use sfs_dev::{Disk, Memory};
+use std::alloc::Global;
+
+/// A disk in memory with an empty tree, for so many workers.
+pub fn new_disk(alloc: Global, workers: u32) -> Result<Memory, Trouble> {
+    let layout = Layout {
+        blocks: 128,
+        inodes: 64,
+        cores: workers,
+        slots: 1,
+    };
+    let mut disk = Memory::new(alloc, layout.blocks)?;
+    if !layout.is_valid(disk.len()) {
+        return Err(Trouble::NoDisk);
+    }
+    mkfs(alloc, &mut disk, &layout)?;
+    Ok(disk)
+}
+
+/// The text of the tree that recovers of a disk.
+pub fn tree_on(alloc: Global, disk: Memory) -> Result<String, Trouble> {
+    let mut disk = disk;
+    let tree = recover(alloc, &mut disk)?.tree;
+    let text = tree_text(alloc, &tree)?;
+    Ok(String::from_utf8_lossy(alloc, text.as_slice())?)
+}
