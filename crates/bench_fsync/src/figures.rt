@@ -14,7 +14,7 @@ use std::sync::Wait;
 use std::time::Instant;
 
 /// How many changes a run makes.
-pub(crate) const CHANGES: u32 = 1000;
+pub(crate) const CHANGES: u32 = 200;
 
 /// How often a figure is taken.
 const TIMES: usize = 5;

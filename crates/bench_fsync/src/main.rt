@@ -62,13 +62,17 @@ fn shown<R: Wait + Clock + Print>(rt: &R, alloc: Global, case: Case) -> io::Resu
 
 // Says what was found.
 fn show<R: Print>(rt: &R, found: Figures) -> io::Result<()> {
-    let fsyncs = u64::from(CHANGES);
     println!(rt;
-        "  an fsync in {} ns, {} device calls and {} syncs; a change without it in {} ns, the first one with it in {} ns",
+        "  an fsync in {} ns, {} device calls and {} syncs in 100 fsyncs; a change without it in {} ns, the first one with it in {} ns",
         found.fsync,
-        found.device_calls / fsyncs,
-        found.syncs / fsyncs,
+        in_hundred(found.device_calls),
+        in_hundred(found.syncs),
         found.change,
         found.first
     )
+}
+
+// How many in a hundred fsyncs, where all took so many.
+fn in_hundred(count: u64) -> u64 {
+    count.saturating_mul(100) / u64::from(CHANGES)
 }
