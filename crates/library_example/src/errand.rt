@@ -1,4 +1,10 @@
 // What a worker does on a volume.
+ghost use Rattle.tree_laws.specs.Step.{IsReadable};
+ghost use Rattle.workers.specs.Works.{Rests};
+ghost use Rattle.mount.specs.Volume.{IsVolume};
+ghost use Rattle.mount.specs.Workers.{PairAgrees};
+ghost use Rattle.library_example.specs.Calls.{IsBack};
+
 use crate::trouble::Trouble;
 use disk_box::Pen;
 use mount::{Volume, make_call};
@@ -19,17 +25,14 @@ fn ask<R: Wait, D: Disk + Drop>(
     volume: &Volume<D>,
     worker: &mut Worker<Pen<D>>,
     asked: Call,
-) -> Result<Reply, Trouble> {
+) -> Result<Reply, Trouble>
+    requires volume { IsVolume volume.now }
+    requires rest { Rests volume.now.shared (PairAgrees volume.now) worker.old }
+    requires readable { IsReadable asked }
+    ensures { IsBack volume.now worker.old worker.new }
+{
     let site = volume.site();
-    let reply = make_call(
-        rt,
-        alloc,
-        &site,
-        volume.basis,
-        worker,
-        asked,
-        &NoGate,
-    )?;
+    let reply = make_call(rt, alloc, &site, volume.basis, worker, asked, &NoGate)?;
     Ok(reply)
 }
 
@@ -64,7 +67,11 @@ pub fn run_errand<R: Wait, D: Disk + Drop>(
     volume: &Volume<D>,
     worker: &mut Worker<Pen<D>>,
     number: usize,
-) -> Result<String, Trouble> {
+) -> Result<String, Trouble>
+    requires volume { IsVolume volume.now }
+    requires rest { Rests volume.now.shared (PairAgrees volume.now) worker.old }
+    ensures { IsBack volume.now worker.old worker.new }
+{
     let asked = Call::Make {
         dir: ROOT,
         name: Name::new(alloc, format!(in alloc; "worker-{number}")?.as_bytes())?,

@@ -1,4 +1,12 @@
 // A volume from its mount to its end.
+ghost use Rattle.std.specs.Prelude.{◌≤◌, IfOk, map};
+ghost use Rattle.workers.specs.Works.{Rests};
+ghost use Rattle.mount.specs.Volume.{IsVolume};
+ghost use Rattle.mount.specs.Workers.{AreWorkers, PairAgrees};
+ghost use Rattle.library_example.specs.Calls.{IsBack};
+ghost use Rattle.library_example.specs.Left.{IsLeftOf};
+ghost use Rattle.library_example.specs.Seats.{worker_at};
+
 use crate::errand::run_errand;
 use crate::seats::{Seat, parted, seated};
 use crate::trouble::Trouble;
@@ -27,14 +35,19 @@ fn run_all<R: Threads + Wait + Sync, D: Disk + Drop + Sync>(
     alloc: Global,
     volume: &Volume<D>,
     seats: &mut [Seat<D>],
-) {
+)
+    requires volume { IsVolume volume.now }
+    requires workers { AreWorkers volume.now (map worker_at seats.old) }
+    ensures workers { AreWorkers volume.now (map worker_at seats.new) }
+{
     thread::for_each_mut(
         rt,
         seats,
         MOST_THREADS,
-        &|number, seat: &mut Seat<D>| {
-            seat.read = Some(run_errand(rt, alloc, volume, &mut seat.worker, number));
-        },
+        &|number, seat: &mut Seat<D>|
+            requires { IsVolume volume.now × Rests volume.now.shared (PairAgrees volume.now) seat.now.worker }
+            ensures { IsBack volume.entry.now seat.entry.now.worker seat.exit.now.worker }
+        { seat.read = Some(run_errand(rt, alloc, volume, &mut seat.worker, number)) },
     );
 }
 
@@ -44,7 +57,10 @@ pub fn visit<R: Threads + Wait + Sync, D: Disk + Drop + Sync>(
     alloc: Global,
     disk: D,
     nodes: u32,
-) -> Result<Left<D>, Trouble> {
+) -> Result<Left<D>, Trouble>
+    requires { nodes ≤ 65536 }
+    ensures { IfOk result (IsLeftOf D.view nodes disk) }
+{
     let Mounted { volume, workers } = mount(alloc, disk, nodes)?;
     let mut seats = seated(alloc, workers)?;
     run_all(rt, alloc, &volume, seats.as_mut_slice());
