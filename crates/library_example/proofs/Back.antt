@@ -8,7 +8,7 @@ use Rattle.workers.specs.Works.{Rests}
 use Rattle.workers.specs.declared.worker.Worker.{Worker}
 use Rattle.mount.specs.Workers.{AreWorkers, PairAgrees}
 use Rattle.mount.specs.declared.volume.Volume.{Volume}
-use Rattle.mount.proofs.Teams.{AreBack, at_map, team_again}
+use Rattle.mount.specs.Workers.{WorkersAreBack, at_map, team_again}
 use Rattle.library_example.specs.Calls.{IsBack}
 use Rattle.library_example.specs.Seats.{worker_at}
 use Rattle.library_example.specs.declared.seats.Seat.{Seat}
@@ -40,7 +40,7 @@ module _ {D : Type 0} (volume : Volume D) where
   seat_for worker = record { worker = worker; read = None }
 
   -- then the workers are back
-  workers_back : (before after : List (Seat D)) → SeatsBack before after → AreBack volume (map worker_at before) (map worker_at after)
+  workers_back : (before after : List (Seat D)) → SeatsBack before after → WorkersAreBack volume (map worker_at before) (map worker_at after)
   workers_back before after back place d low =
       let is = back place (seat_for d) (let long = length-map before worker_at in omega (arith, low, long)) in
       let was = at_map worker_at before place (seat_for d) in

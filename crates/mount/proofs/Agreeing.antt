@@ -1,33 +1,20 @@
 -- A core of a volume and its pen go on agreeing.
-use Rattle.std.proofs.Common.{◌≡◌, ◌∷◌, ◌∙◌, ℕ, List, [], Bool, true, false, Option, Some, None, inl, inr, refl, sym, ap, subst}
-use Rattle.std.specs.Prelude.{filter, filter_map, ◌-◌, ◌^◌, ◌≤◌}
-use Rattle.sfs_base.specs.declared.numbers.NodeId.{NodeId}
+use Rattle.std.proofs.Common.{◌∙◌, ℕ, List, inl, inr, sym, ap, subst}
 use Rattle.tree_laws.specs.declared.reply.Reply.{Reply}
-use Rattle.stamp_table.specs.declared.event.Event.{Event}
-use Rattle.stamp_table.specs.declared.event.Event.TheVariants.{Called, Told}
-use Rattle.stamp_table.specs.Answered.{asks_fsync}
-use Rattle.mem_values.specs.Account.{Commitment, commit_told}
 use Rattle.stamp_table.specs.Hand.{Desk}
 use Rattle.stamp_table.specs.Table.{TableState}
-use Rattle.mem_values.specs.Start.{FileHand, FileState}
-use Rattle.mem_values.specs.declared.fact.Fact.{Fact}
-use Rattle.slot_laws.specs.Labels.{own_from, nothing_told}
+use Rattle.mem_values.specs.Start.{FileState}
 use Rattle.disk_box.specs.declared.key.BoxKey.{BoxKey}
-use Rattle.disk_box.specs.Pens.{PenGoes, PenHand, own_at}
-use Rattle.journal_set.specs.Making.{IsNewPen}
-use Rattle.journal_set.specs.Ready.{HasNothingDue, IsReady}
+use Rattle.disk_box.specs.Pens.{PenGoes, PenHand}
+use Rattle.journal_set.specs.Ready.{IsReady}
 use Rattle.fsync_stamp.specs.Stamping.{AnswersFsync}
 use Rattle.fsync_dir.specs.Flush.{FlushComes}
 use Rattle.fsync_dir.specs.Site.{IsSite}
 use Rattle.flush_agrees.specs.Agreement.{CoresAgree, FlushTold}
 use Rattle.flush_agrees.specs.Laws.{FlushPlace, MakesFlush}
 use Rattle.flush_agrees.proofs.Flushed.{flushes_agree}
-use Rattle.flush_agrees.proofs.Growing.{new_pairs_agree, other_calls_keep, same_fsyncs_keep_served}
-use Rattle.workers.specs.Keeping.{KeepsFsyncs, is_of_fsync}
 use Rattle.mount.specs.Serving.{ServesAt}
-use Rattle.mount.specs.Volume.{IsVolume}
-use Rattle.mount.specs.Workers.{AgreeAt, PairAgrees}
-use Rattle.mount.specs.declared.volume.Volume.{Volume}
+use Rattle.mount.specs.Workers.{AgreeAt}
 
 -- an fsync was served: its core, its pen and the reply before and behind it
 pub record ServesOne {D : Type 0} (set : TableState (BoxKey D)) (at : FlushPlace D) (given : Reply) : Type 0 where

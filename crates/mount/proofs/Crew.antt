@@ -1,5 +1,5 @@
 -- The workers with which a volume is mounted.
-use Rattle.std.proofs.Common.{◌≡◌, ◌<◌, ◌+◌, ◌∷◌, ◌∙◌, ℕ, zero, suc, List, [], Some, inr, length, map, true, refl, sym, ap, subst, arith}
+use Rattle.std.proofs.Common.{◌≡◌, ◌+◌, ◌∷◌, ◌∙◌, ℕ, zero, suc, List, [], Some, inr, length, map, true, refl, sym, ap, subst, arith}
 use Rattle.std.specs.Prelude.{All, slice_get}
 use Rattle.tree_laws.specs.Tree.{TreeState}
 use Rattle.stamp_table.specs.Table.{AreAllCores, AreIdleFrom, AreNew, IsBetweenCalls, TableState, first_leads}
@@ -8,11 +8,10 @@ use Rattle.slot_laws.specs.Labels.{nothing_told, own_from}
 use Rattle.disk_box.specs.declared.key.BoxKey.{BoxKey}
 use Rattle.disk_box.specs.Pens.{PenHand}
 use Rattle.journal_set.specs.Making.{AreNewPens, IsNewPen}
-use Rattle.journal_set.specs.Ready.{HasNothingDue, IsReady}
+use Rattle.journal_set.specs.Ready.{IsReady}
 use Rattle.flush_agrees.proofs.Growing.{new_pairs_agree}
 use Rattle.workers.specs.Phases.{AreBefore}
 use Rattle.workers.specs.Works.{Rests}
-use Rattle.workers.specs.declared.worker.Worker.{Worker}
 use Rattle.mount.specs.Workers.{AreWorkers, HaveMadeNothing, PairAgrees, core_of, workers_begun}
 use Rattle.mount.specs.declared.volume.Volume.{Volume}
 

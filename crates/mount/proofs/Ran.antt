@@ -1,7 +1,7 @@
 -- What workers made of a phase, in the history that is to come.
 use Rattle.std.proofs.Common.{◌≡◌, ◌<◌, ◌≤◌, ◌+◌, ◌∷◌, ◌++◌, ◌∙◌, ℕ, zero, suc, List, [], Bool, true, false, Option, Some, None, length, map, get_or, take, drop, refl, sym, ap, subst, arith, append-nil, inl, inr, cond, ◌||◌, ◌==◌}
 use Rattle.std.specs.Prelude.{slice_get, is_some}
-use Rattle.std.specs.List.{AllByRecursion, list_any, filter}
+use Rattle.std.specs.List.{AllByRecursion, filter}
 use Rattle.std.proofs.Math.Seq.{drop-cons}
 use Rattle.std.proofs.lemmas.Bool.Decides.{eqb_tells}
 use Rattle.std.proofs.lemmas.List.{take_all, take_more, take-append-drop}
@@ -10,13 +10,13 @@ use Rattle.tree_laws.specs.Tree.{TreeState}
 use Rattle.tree_laws.specs.declared.history.Entry.{Entry}
 use Rattle.script.specs.declared.commands.Line.{Line}
 use Rattle.script.specs.Walks.{commands_of, next_call}
-use Rattle.script.specs.Follows.{Makes, MakesAll, replies_of}
+use Rattle.script.specs.Follows.{Makes, replies_of}
 use Rattle.stamp_table.specs.Hand.{Desk}
 use Rattle.stamp_table.specs.Table.{AreIdleFrom}
 use Rattle.mem_values.specs.Start.{FileHand}
 use Rattle.disk_box.specs.Pens.{PenHand}
 use Rattle.workers.specs.Phases.{AreBefore, AreFrom, EndsPhase, HasMadePhases, HasMadeSoFar, RanPhase, RunsPhase}
-use Rattle.workers.specs.Works.{Works, WorksEach, any_refused}
+use Rattle.workers.specs.Works.{WorksEach, any_refused}
 use Rattle.workers.specs.declared.worker.Worker.{Worker}
 use Rattle.workers.proofs.Phases.{made_more, made_nothing, made_part}
 use Rattle.mount.specs.Phases.{HaveWorkers, entries_of, own_of}

@@ -1,11 +1,10 @@
 -- The workers of a volume, before and after they ran, and as they are taken in.
-use Rattle.std.proofs.Common.{◌≡◌, ◌<◌, ◌≤◌, ◌+◌, ◌∷◌, ◌∙◌, ℕ, zero, suc, List, [], Some, length, map, get_or, true, refl, sym, ap, subst, arith}
+use Rattle.std.proofs.Common.{◌≡◌, ◌<◌, ◌+◌, ◌∷◌, ◌∙◌, ℕ, zero, suc, List, [], Some, length, map, get_or, true, refl, sym, ap, subst, arith}
 use Rattle.std.specs.Prelude.{All, slice_get, slice_index_or}
 use Rattle.std.proofs.lemmas.List.{length-map}
 use Rattle.std.proofs.lemmas.Option.{get_or_from_slice_get, slice_get_within}
 use Rattle.script.specs.declared.commands.Line.{Line}
-use Rattle.stamp_table.specs.Hand.{Desk}
-use Rattle.stamp_table.specs.Table.{AreAllCores, AreIdleFrom, IsSameCore, first_leads}
+use Rattle.stamp_table.specs.Table.{AreIdleFrom, IsSameCore, first_leads}
 use Rattle.stamp_table.proofs.Beginning.{all_again}
 use Rattle.commit_laws.proofs.CommitMade.{map_there}
 use Rattle.mem_values.specs.Start.{FileHand, FileState}
@@ -14,7 +13,7 @@ use Rattle.journal_set.specs.Making.{MayClose}
 use Rattle.workers.specs.Works.{Rests, WorksEach}
 use Rattle.workers.specs.declared.worker.Worker.{Worker}
 use Rattle.mount.specs.Volume.{HasRoomForWorkers, IsVolume}
-use Rattle.mount.specs.Workers.{AreWorkers, PairAgrees, core_of, pen_of, worker_begun}
+use Rattle.mount.specs.Workers.{WorkersAreBack, AreWorkers, PairAgrees, core_of, pen_of, worker_begun}
 use Rattle.mount.specs.declared.volume.Volume.{Volume}
 
 -- what is so of workers by an agreement is so of them by one that it implies
@@ -58,14 +57,8 @@ some_worker : {P : Type 0} (workers : List (Worker P)) (place : ℕ) → place <
 some_worker [] place low = absurd (omega (arith, low))
 some_worker (worker ∷ workers) place low = worker
 
--- Workers are back from calls, each with the core that it had, and rest.
-abbrev pub AreBack : {D : Type 0} → Volume D → List (Worker (PenHand D)) → List (Worker (PenHand D)) → Type 0
-AreBack {D} volume before after = (place : ℕ) (d : Worker (PenHand D)) → place < length before
-    → Rests volume.shared (PairAgrees volume) (slice_index_or after place d)
-    × IsSameCore (slice_index_or before place d).core (slice_index_or after place d).core
-
 -- one of them has the same core, which holds nothing
-same_at : {D : Type 0} (volume : Volume D) (workers after : List (Worker (PenHand D))) → AreBack volume workers after → (place : ℕ) (d : FileHand)
+same_at : {D : Type 0} (volume : Volume D) (workers after : List (Worker (PenHand D))) → WorkersAreBack volume workers after → (place : ℕ) (d : FileHand)
     → place < length workers
     → IsSameCore (get_or (map core_of workers) place d) (get_or (map core_of after) place d) × ((get_or (map core_of after) place d).held ≡ [])
 same_at {D = D} volume workers after back place d low =
@@ -87,7 +80,7 @@ module _ {D : Type 0} (volume : Volume D) (workers : List (Worker (PenHand D))) 
   rest_there core worker there = all_there (Rests volume.shared (PairAgrees volume)) workers core worker are.rest there
 
   -- where they are back from calls they are all workers still
-  pub team_again : (after : List (Worker (PenHand D))) → length after ≡ length workers → AreBack volume workers after → AreWorkers volume after
+  pub team_again : (after : List (Worker (PenHand D))) → length after ≡ length workers → WorkersAreBack volume workers after → AreWorkers volume after
   team_again after long back = record {
     all = all_again volume.shared (map core_of workers) (map core_of after)
         (length-map after core_of ∙ (long ∙ sym (length-map workers core_of))) same are.all;

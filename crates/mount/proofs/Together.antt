@@ -1,31 +1,24 @@
 -- What is put together as a volume is mounted.
-use Rattle.std.proofs.Common.{◌≡◌, ◌≤◌, ◌<◌, ◌+◌, ◌*◌, ◌∷◌, ◌∙◌, ℕ, zero, suc, List, [], Some, None, inr, length, map, true, refl, sym, ap, subst, arith}
+use Rattle.std.proofs.Common.{◌≡◌, ◌≤◌, ◌<◌, ◌+◌, ◌*◌, ◌∙◌, ℕ, List, length, sym, ap, subst, arith}
 use Rattle.std.specs.Prelude.{All, slice_get}
 use Rattle.sfs_image.specs.Super.{IsLayout, InRange}
 use Rattle.sfs_dev.specs.Disk.{View}
 use Rattle.tree_laws.specs.Tree.{TreeState}
-use Rattle.stamp_table.specs.Hand.{Desk}
-use Rattle.stamp_table.specs.Table.{AreAllCores, AreIdleFrom, AreNew, IsBetweenCalls, TableState}
+use Rattle.stamp_table.specs.Table.{TableState}
 use Rattle.mem_values.specs.Places.{node_count}
 use Rattle.mem_values.specs.Start.{FileHand, FileState, given_by}
-use Rattle.slot_laws.specs.Labels.{nothing_told, own_from}
 use Rattle.disk_box.specs.declared.key.BoxKey.{BoxKey}
-use Rattle.disk_box.specs.Pens.{PenHand, own_at}
-use Rattle.journal_set.specs.Making.{AreNewPens, BeganOver, IsKeyOf, IsNewPen}
-use Rattle.journal_set.specs.Ready.{HasNothingDue, IsReady}
+use Rattle.disk_box.specs.Pens.{PenHand}
+use Rattle.journal_set.specs.Making.{AreNewPens, BeganOver, IsKeyOf}
 use Rattle.mount_begin.specs.Mounted.{share_of_nodes}
 use Rattle.mount_begin.specs.declared.begin.Mounted.{Mounted as Begun}
 use Rattle.volume_laws.specs.Mounting.{WasMounted}
 use Rattle.site_laws.specs.Sites.{IsSiteMount}
 use Rattle.site_laws.proofs.Sites.{mounts_are_sites}
 use Rattle.fsync_dir.specs.Site.{IsSite}
-use Rattle.flush_agrees.proofs.Growing.{new_pairs_agree}
-use Rattle.workers.specs.Phases.{AreBefore}
-use Rattle.workers.specs.Works.{IsBasisOf, Rests}
-use Rattle.workers.specs.declared.worker.Worker.{Worker}
+use Rattle.workers.specs.Works.{IsBasisOf}
 use Rattle.mount.specs.Begun.{IsTableOver, basis_for}
 use Rattle.mount.specs.Volume.{HasRoomForWorkers, IsMountOfDisk, IsVolume}
-use Rattle.mount.specs.Workers.{AreWorkers, HaveMadeNothing, PairAgrees, core_of, pen_of, worker_begun, workers_begun}
 use Rattle.mount.specs.declared.mounting.Tabled.{Tabled}
 use Rattle.mount.specs.declared.volume.Volume.{Volume}
 

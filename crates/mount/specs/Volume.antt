@@ -1,5 +1,5 @@
 -- A mounted volume: what is so of it from its mount on.
-use Rattle.std.specs.Prelude.{◌≡◌, ◌≤◌, ◌<◌, ◌^◌, ◌-◌, ℕ, List, [], IfErr}
+use Rattle.std.specs.Prelude.{◌≡◌, ◌≤◌, ◌<◌, ◌^◌, ◌-◌, ℕ, []}
 use Rattle.std.specs.Vec.{vec_capacity}
 use Rattle.sfs_dev.specs.Disk.{View}
 use Rattle.sfs_dev.specs.Run.{CountsOn, EachMoment}
@@ -8,7 +8,7 @@ use Rattle.journal_one.specs.Calls.{IsCalm}
 use Rattle.recovery.specs.Judging.{IsFaultOf}
 use Rattle.recovery.specs.Recovered.{LeavesRefused, RunsRecovery, ShowsTheSame}
 use Rattle.recovery.specs.declared.whole.Report.{Report}
-use Rattle.std.specs.Prelude.{Result, Err}
+use Rattle.std.specs.Prelude.{Err}
 use Rattle.mount_begin.specs.declared.begin.Mounted.{Mounted as Begun}
 use Rattle.volume_laws.specs.Mounting.{WasMounted}
 use Rattle.journal_set.specs.Making.{BeganOver, IsKeyOf}

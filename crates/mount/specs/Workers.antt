@@ -1,7 +1,6 @@
 -- The workers of a volume.
-use Rattle.std.specs.Prelude.{◌≡◌, ◌∷◌, List, [], ℕ, All, false, map, true}
-use Rattle.tree_laws.specs.declared.history.Entry.{Entry}
-use Rattle.stamp_table.specs.Table.{AreAllCores, TableState}
+use Rattle.std.specs.Prelude.{◌≡◌, ◌<◌, ◌∷◌, List, [], ℕ, All, false, length, map, slice_index_or, true}
+use Rattle.stamp_table.specs.Table.{AreAllCores, IsSameCore, TableState}
 use Rattle.mem_values.specs.Start.{FileHand, FileState}
 use Rattle.disk_box.specs.Pens.{PenHand}
 use Rattle.disk_box.specs.declared.key.BoxKey.{BoxKey}
@@ -50,3 +49,9 @@ pub record AreWorkers {D : Type 0} (volume : Volume D) (workers : List (Worker (
 -- Their cores have made no call.
 abbrev pub HaveMadeNothing : {P : Type 0} → List (Worker P) → Type 0
 HaveMadeNothing workers = All (λ worker. worker.core.entries ≡ []) workers
+
+-- Workers are back from calls, each with the core that it had, and rest.
+abbrev pub WorkersAreBack : {D : Type 0} → Volume D → List (Worker (PenHand D)) → List (Worker (PenHand D)) → Type 0
+WorkersAreBack {D} volume before after = (place : ℕ) (d : Worker (PenHand D)) → place < length before
+    → Rests volume.shared (PairAgrees volume) (slice_index_or after place d)
+    × IsSameCore (slice_index_or before place d).core (slice_index_or after place d).core

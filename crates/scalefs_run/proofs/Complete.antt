@@ -19,7 +19,7 @@ use Rattle.turn_laws.proofs.Causes.{last_among}
 use Rattle.scalefs_run.specs.Complete.{IsDone, GoesWell, IsAnsweredInCalm, WentWell, RunsAreComplete, MakingsAreComplete, ShowingsAreComplete, FreshDisksAreAsked, FreshDisksCountOn}
 use Rattle.scalefs_run.specs.Image.{making_due, showing_due}
 use Rattle.scalefs_run.specs.Outcome.{HasStatus}
-use Rattle.scalefs_run.specs.Served.{was_mounted}
+use Rattle.scalefs_run.specs.Served.{IsMountedBy}
 use Rattle.scalefs_run.specs.Turns.{HasTurns, HasTurnsBy}
 use Rattle.scalefs_run.specs.declared.outcome.Status.{Status}
 use Rattle.scalefs_run.specs.declared.outcome.Status.TheVariants.{Done, BadWords, BadScript, ReadFault, WriteFault, DiskFault, BadImage, NoMemory, TooManyWorkers, TooLong, TooSmall, WrongHistory, NotAccepted}
@@ -103,14 +103,14 @@ answered turns entry failed good ends = by (last_turn entry.stamp.0 turns) refl 
         answered_by turns entry failed entry.ack turn there.0 there.1 turn.act refl (good turn there.0) entry.reply ends
 
 -- a run that was not mounted has no call
-no_call : (status : Status) (history : List Entry) → IsDone status → was_mounted status history ≡ false → history ≡ []
-no_call status history (inl done) not = absurd (true_not_false (subst (λ (s : Status). was_mounted s history ≡ false) done not))
-no_call status [] (inr want) not = refl
-no_call status (entry ∷ history) (inr want) not = absurd (true_not_false (subst (λ (s : Status). was_mounted s (entry ∷ history) ≡ false) want not))
+no_call : (status : Status) (history : List Entry) (mounted : Bool) → IsDone status → IsMountedBy status history mounted → mounted ≡ false → history ≡ []
+no_call status history mounted (inl done) is not =
+    absurd (true_not_false (sym (subst (λ (s : Status). IsMountedBy s history mounted) done is) ∙ not))
+no_call status history mounted (inr want) is not = subst (λ (s : Status). IsMountedBy s history mounted) want is not
 
 pub runs_are_complete : (old new : View) → RunsAreComplete old new
 runs_are_complete old new due_by nodes phases writing ends before after status history turns served due nothing =
-    by (was_mounted status history) refl served.turns_are
+    by served.mounted refl served.turns_are
   where
     done : IsDone status
     done =
@@ -128,12 +128,12 @@ runs_are_complete old new due_by nodes phases writing ends before after status h
           answers = λ entry node live. answered turns entry recorded.books.failed good.1 (recorded.ends entry node live);
         }
 
-    by : (was : Bool) → was_mounted status history ≡ was → HasTurnsBy was old new served.first history turns → WentWell served.first status history turns
+    by : (was : Bool) → served.mounted ≡ was → HasTurnsBy was old new served.first history turns → WentWell served.first status history turns
     by true was has = mounted has
     by false was none = record {
       done = done;
       turns_are = λ turn one. absurd (subst (λ (l : List Turn). IsOneOf l turn) none one);
-      answers = λ entry node live. absurd (subst (λ (h : List Entry). IsOneOf h entry) (no_call status history done was) live.among);
+      answers = λ entry node live. absurd (subst (λ (h : List Entry). IsOneOf h entry) (no_call status history served.mounted done served.mounted_is was) live.among);
     }
 
 pub makings_are_complete : (old new : View) → MakingsAreComplete old new

@@ -1,19 +1,14 @@
-pub mod Called
+mod AtFirst
 pub mod Checking
 mod Complete
 mod Crowding
-pub mod Dated
-pub mod Ended
-pub mod Going
 pub mod Images
-pub mod Making
-pub mod Mounted
-pub mod Pushed
+pub mod Made
+pub mod Ran
+mod Reading
+pub mod Replayed
 pub mod Serving
-pub mod Steps
-pub mod Still
 mod Telling
-pub mod Turning
+pub mod Told
 mod Unread
 pub mod Within
-mod Written

@@ -24,7 +24,8 @@ use Rattle.made_script.specs.Made.{made}
 use Rattle.scalefs_run.specs.declared.writing.Writing.TheVariants.{Load as Made}
 use Rattle.scalefs_run.specs.Served.{LOAD_NODES, run_ends, run_told}
 use Rattle.scalefs_run.proofs.Checking.{check_unread}
-use Rattle.scalefs_run.proofs.Serving.{served_no_memory, served_unread, shows_untouched}
+use Rattle.scalefs_run.proofs.Reading.{served_no_memory, served_unread}
+use Rattle.scalefs_run.proofs.Serving.{shows_untouched}
 
 -- a disk on which nothing was done was not written to
 pub unwritten : (disk : View) → Unwritten disk disk

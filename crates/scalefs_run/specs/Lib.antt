@@ -1,6 +1,3 @@
-pub mod Acks
-pub mod Begun
-pub mod Calls
 pub mod Checked
 pub mod Commands
 pub mod Complete
@@ -8,10 +5,8 @@ pub mod Crowded
 pub mod Due
 pub mod Image
 pub mod Images
-pub mod Made
 pub mod Outcome
-pub mod Replies
-pub mod RunInvariant
+pub mod Ran
 pub mod Served
 pub mod Turns
 pub mod Verified

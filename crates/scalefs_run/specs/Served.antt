@@ -1,40 +1,37 @@
 -- What a run has done when it ends.
-use Rattle.std.specs.Prelude.{◌≡◌, ℕ, Bool, true, false, List, [], ◌∷◌, Option, Some}
+use Rattle.std.specs.Prelude.{◌≡◌, ℕ, Bool, true, false, List, [], Option, Some}
 use Rattle.sfs_base.specs.Ends.{HasRisen}
 use Rattle.sfs_image.specs.Settled.{layout_of}
+use Rattle.sfs_dev.specs.Disk.{View}
+use Rattle.sfs_dev.specs.Run.{Unwritten}
+use Rattle.sfs_dev.specs.Steps.{IfTold}
 use Rattle.tree_laws.specs.declared.history.Entry.{Entry}
 use Rattle.tree_laws.specs.declared.turns.Turn.{Turn}
 use Rattle.tree_laws.specs.History.{IsLegal}
 use Rattle.tree_laws.specs.Laws.{IsSoundTree}
 use Rattle.tree_laws.specs.Tree.{TreeState}
-use Rattle.sfs_dev.specs.Disk.{View}
-use Rattle.sfs_dev.specs.Run.{CountsOn, Unwritten}
-use Rattle.sfs_dev.specs.Steps.{IfTold}
 use Rattle.image_laws.specs.Image.{tree_of}
 use Rattle.mount_begin.specs.Mounted.{share_of_nodes}
 use Rattle.script.specs.declared.commands.Line.{Line}
 use Rattle.script.specs.Phases.{phases_of}
+use Rattle.made_script.specs.Made.{made}
 use Rattle.scalefs_run.specs.declared.outcome.Status.{Status}
 use Rattle.scalefs_run.specs.declared.outcome.Status.TheVariants.{Done, WriteFault, NoMemory}
-use Rattle.scalefs_run.specs.Acks.{AcksRise}
 use Rattle.scalefs_run.specs.Due.{Judgement, IsJudged, due, judged_status, phases_in}
 use Rattle.scalefs_run.specs.Image.{IsImageRefused}
 use Rattle.scalefs_run.specs.Images.{IfToldAndCalm, HasImagesBy}
 use Rattle.scalefs_run.specs.Outcome.{IsOf, HasStatus, HasHistory, HasText}
-use Rattle.scalefs_run.specs.Replies.{HasAnswers}
 use Rattle.scalefs_run.specs.Turns.{HasTurnsBy}
 use Rattle.scalefs_run.specs.Writing.{text_behind}
 use Rattle.scalefs_run.specs.declared.writing.Writing.{Writing}
 use Rattle.scalefs_run.specs.declared.writing.Writing.TheVariants.{History, Load}
-use Rattle.made_script.specs.Made.{made}
 
--- whether the image was mounted and the script begun: memory may have been refused before its first call
-abbrev pub was_mounted : Status → List Entry → Bool
-was_mounted Done history = true
-was_mounted WriteFault history = true
-was_mounted NoMemory [] = false
-was_mounted NoMemory (entry ∷ history) = true
-was_mounted _ history = false
+-- Whether an image was mounted and the script begun, by the status of a run: memory may have been refused before, and then no call was made.
+abbrev pub IsMountedBy : Status → List Entry → Bool → Type 0
+IsMountedBy Done history mounted = mounted ≡ true
+IsMountedBy WriteFault history mounted = mounted ≡ true
+IsMountedBy NoMemory history mounted = mounted ≡ false → history ≡ []
+IsMountedBy _ history mounted = mounted ≡ false
 
 -- What was at the ends of a run: whether the count of faults of its source or of its sink rose, what was written to the sink before and after, and
 -- the disk at the begin and at the end.
@@ -75,23 +72,22 @@ pub record IsFirstTree (nodes : ℕ) (old : View) (first : TreeState) : Type 0 w
 pub record Served (due_by : Judgement → Status) (nodes : ℕ) (phases : List (List Line)) (writing : Writing) (ends : RunEnds) (told : RunTold) : Type 0 where
   -- the status has its cause
   pub caused : IsCaused due_by ends told.status
+  -- whether the image was mounted and the script begun
+  pub mounted : Bool
+  pub mounted_is : IsMountedBy told.status told.history mounted
   -- the tree of the image that was mounted
   pub first : TreeState
-  pub first_is : was_mounted told.status told.history ≡ true → IsFirstTree nodes ends.old first
+  pub first_is : mounted ≡ true → IsFirstTree nodes ends.old first
   -- the history is a legal run of a one-thread tree that begins with it
   pub legal : IsLegal first told.history
   -- it holds each worker's calls, each once, in their order, phase by phase
   pub calls : HasHistory phases told.history told.status
   -- its text was written
   pub text : HasText (text_behind writing first told.history) ends.before ends.after told.status
-  -- each fsync is answered as it is for its cause
-  pub answers : HasAnswers ends.old.faults ends.new.faults first told.history
-  -- while the count of device calls has not come to its last value, the moments of acknowledgement do not fall, and lie within the run
-  pub acks : CountsOn ends.new → AcksRise ends.old.now told.history ends.new.now
   -- its turns at the disk tell what each fsync did
-  pub turns_are : HasTurnsBy (was_mounted told.status told.history) ends.old ends.new first told.history told.turns
+  pub turns_are : HasTurnsBy mounted ends.old ends.new first told.history told.turns
   -- what a crash leaves at each moment, and what a read gives at the end
-  pub images : IfToldAndCalm ends.old ends.new (HasImagesBy (was_mounted told.status told.history) nodes first ends.old ends.new told.history)
+  pub images : IfToldAndCalm ends.old ends.new (HasImagesBy mounted nodes first ends.old ends.new told.history told.turns)
 
 -- the same of the script that the source gave
 abbrev pub ServedScript : ℕ → Option (List ℕ) → RunEnds → RunTold → Type 0

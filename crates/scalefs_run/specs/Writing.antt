@@ -1,10 +1,14 @@
 -- What a run writes at its end.
-use Rattle.std.specs.Prelude.{ℕ, List, ◌++◌, codes, decimal, length}
+use Rattle.std.specs.Prelude.{◌++◌, ℕ, List, codes, decimal, length}
 use Rattle.tree_laws.specs.declared.history.Entry.{Entry}
 use Rattle.tree_laws.specs.History.{tree_after}
 use Rattle.tree_laws.specs.Tree.{TreeState}
 use Rattle.tree_totals.specs.Totals.{total_bytes, total_rows}
+use Rattle.raise_laws.specs.Next.{IsMountedHistory}
+use Rattle.mark_laws.specs.Changed.{HasShortFiles}
 use Rattle.script.specs.Texts.{history_text}
+use Rattle.scalefs_run.specs.declared.writing.Ending.{Ending}
+use Rattle.scalefs_run.specs.declared.writing.Ending.TheVariants as ending
 use Rattle.scalefs_run.specs.declared.writing.Writing.{Writing}
 use Rattle.scalefs_run.specs.declared.writing.Writing.TheVariants.{History, Load}
 
@@ -18,11 +22,27 @@ line_text seed count workers calls rows bytes =
 abbrev pub load_text : ℕ → ℕ → ℕ → TreeState → List Entry → List ℕ
 load_text seed count workers tree history = line_text seed count workers (length history) (total_rows tree) (total_bytes tree)
 
--- the text of a run, from the tree after its history: that of the history, or the line of `load`
-abbrev pub text_of : Writing → TreeState → List Entry → List ℕ
-text_of History tree history = history_text history
-text_of (Load seed count workers) tree history = load_text seed count workers tree history
-
--- the same from the first tree
+-- the text of a run, from the tree with which it began: that of its history, or the line of `load` of the tree after it
 abbrev pub text_behind : Writing → TreeState → List Entry → List ℕ
-text_behind writing first history = text_of writing (tree_after first history) history
+text_behind History first history = history_text history
+text_behind (Load seed count workers) first history = load_text seed count workers (tree_after first history) history
+
+-- what is kept for it of that tree
+abbrev pub ending_of : Writing → TreeState → Ending
+ending_of History first = ending.History
+ending_of (Load seed count workers) first = ending.Load seed count workers first
+
+-- and the text that is due by what was kept
+abbrev pub text_due : Ending → List Entry → List ℕ
+text_due ending.History history = history_text history
+text_due (ending.Load seed count workers first) history = load_text seed count workers (tree_after first history) history
+
+-- A history may be made again: it is a mounted one, which began with a tree without too long a file.
+pub record CanReplay (first : TreeState) (history : List Entry) : Type 0 where
+  pub mounted : IsMountedHistory first history
+  pub short : HasShortFiles first
+
+-- what was kept is of a tree with which a history may be made again, if it is one
+abbrev pub CanEnd : Ending → List Entry → Type 0
+CanEnd ending.History history = Unit {0}
+CanEnd (ending.Load seed count workers first) history = CanReplay first history

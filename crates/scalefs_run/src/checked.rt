@@ -2,7 +2,6 @@
 ghost use Rattle.std.specs.Prelude.{◌≡◌, ◌≤◌, ◌<◌, length, true, false, Some, string_bytes, IfOk};
 ghost use Rattle.sfs_base.specs.Ends.{HasRisen};
 ghost use Rattle.sfs_dev.specs.Run.{Advances};
-ghost use Rattle.sfs_image.specs.Super.{InRange};
 ghost use Rattle.tree_laws.specs.Sound.{IsSound};
 ghost use Rattle.history_check.specs.declared.checking.TheConstants.{LONGEST_HISTORY as MOST_BYTES};
 ghost use Rattle.scalefs_run.specs.Checked.{legal_text, ChecksHistory, ChecksOver};
@@ -12,7 +11,7 @@ ghost use Rattle.scalefs_run.specs.Served.{run_ends};
 use crate::Status;
 use crate::image::{status_of_recovery, write_text};
 use crate::refused::status_of_source;
-use fmt_super::Layout;
+use crate::without_core::cores_of;
 use history_check::{CheckFault, LONGEST_HISTORY, check};
 use mount_begin::{Mounted, mount};
 use sfs_base::{NoMemory, Sink, Source, read_all};
@@ -68,14 +67,6 @@ fn check_text<K: Sink, D: Disk>(
         }
         Err(fault) => status_of_recovery(fault),
     }
-}
-
-// How many cores a layout has.
-fn cores_of(layout: &Layout) -> u8
-    requires { InRange layout.now }
-    ensures { result ≡ layout.now.cores }
-{
-    layout.cores as u8
 }
 
 // Checks a text over a tree of so many cores.

@@ -2,13 +2,14 @@
 #![tactic(auto)]
 
 mod checked;
-mod engine;
 mod image;
 pub mod laws;
 mod outcome;
 mod refused;
+mod replay;
+mod running;
+mod scripts;
 mod top;
-mod turns;
 mod verified;
 mod without_core;
 mod writing;

@@ -1,4 +1,4 @@
-ghost use Rattle.std.specs.Prelude.{◌≡◌, string_bytes, IfOk};
+ghost use Rattle.std.specs.Prelude.{◌≡◌, [], string_bytes, IfOk};
 ghost use Rattle.scalefs_run.specs.Outcome.{status_text};
 ghost use Rattle.scalefs_run.specs.declared.outcome.Status.TheVariants.{BadImage};
 
@@ -121,4 +121,19 @@ pub struct Outcome<D> {
     pub history: History,
     pub turns: Turns,
     pub disk: D,
+}
+
+/// What a call leaves that ends with a status and has made no call of a script.
+pub fn no_calls<D>(alloc: Global, status: Status, disk: D) -> Outcome<D>
+    ensures status { result.status ≡ status }
+    ensures history { result.history ≡ [] }
+    ensures turns { result.turns.items ≡ [] }
+    ensures disk { result.disk ≡ disk }
+{
+    Outcome {
+        status,
+        history: History::new(alloc),
+        turns: Turns::new(alloc),
+        disk,
+    }
 }

@@ -5,10 +5,11 @@ ghost use Rattle.tree_laws.specs.Tree.{bytes_of};
 ghost use Rattle.tree_totals.specs.Totals.{LONGEST_FILE};
 ghost use Rattle.script.specs.Texts.{history_text};
 ghost use Rattle.scalefs_run.specs.Outcome.{HasText, IsWriteStatus};
-ghost use Rattle.scalefs_run.specs.Writing.{line_text, load_text, text_of};
+ghost use Rattle.scalefs_run.specs.Writing.{CanEnd, ending_of, line_text, load_text, text_due};
 
 use crate::Status;
 use crate::image::write_text;
+use crate::replay::replay;
 use sfs_base::{NoMemory, Sink};
 use sfs_tree::Tree;
 use std::alloc::Global;
@@ -24,26 +25,56 @@ pub enum Writing {
     Load { seed: u32, count: u32, workers: u32 },
 }
 
-/// Writes what is due of a history and of the tree after it.
-pub fn write_end<K: Sink>(
-    alloc: Global,
-    writing: Writing,
-    tree: &Tree,
-    history: &History,
-    sink: &mut K,
-) -> Status
-    requires short { (node : ℕ) → length (bytes_of tree.now node) ≤ LONGEST_FILE }
-    ensures status { IsWriteStatus (HasRisen (K.faults sink.old) (K.faults sink.new)) result }
-    ensures text { HasText (text_of writing tree.now history.now) (K.written sink.old) (K.written sink.new) result }
+/// The same with what it takes of the run's begin.
+#[derive(Drop)]
+pub enum Ending {
+    History,
+    /// The tree is the one with which the run begins.
+    Load {
+        seed: u32,
+        count: u32,
+        workers: u32,
+        tree: Tree,
+    },
+}
+
+/// What is to be kept of the tree with which a run begins: a copy, for the line of `load`.
+pub fn begin_writing(writing: Writing, tree: &Tree) -> Result<Ending, NoMemory>
+    ensures { IfOk result (λ ending. ending ≡ ending_of writing tree.now) }
 {
     match writing {
-        Writing::History => write_history(alloc, history, sink),
+        Writing::History => Ok(Ending::History),
         Writing::Load {
             seed,
             count,
             workers,
+        } => Ok(Ending::Load {
+            seed,
+            count,
+            workers,
+            tree: tree.copy()?,
+        }),
+    }
+}
+
+/// Writes what is due of a history.
+pub fn write_end<K: Sink>(alloc: Global, ending: Ending, history: &History, sink: &mut K) -> Status
+    requires ready { CanEnd ending history.now }
+    ensures status { IsWriteStatus (HasRisen (K.faults sink.old) (K.faults sink.new)) result }
+    ensures text { HasText (text_due ending history.now) (K.written sink.old) (K.written sink.new) result }
+{
+    match ending {
+        Ending::History => write_history(alloc, history, sink),
+        Ending::Load {
+            seed,
+            count,
+            workers,
+            tree,
         } => {
-            let Ok(line) = load_line(alloc, seed, count, workers, tree, history) else {
+            let Ok(tree) = replay(tree, history) else {
+                return Status::NoMemory;
+            };
+            let Ok(line) = load_line(alloc, seed, count, workers, &tree, history) else {
                 return Status::NoMemory;
             };
             write_text(sink, line.as_bytes())

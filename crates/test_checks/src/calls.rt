@@ -47,7 +47,7 @@ pub(crate) fn source_of(rt: &impl Abort, alloc: Global, bytes: &[u8]) -> BytesSo
 }
 
 // What these words do over a source of these bytes, where no end fails.
-pub(crate) fn done<R: Threads + Wait + Sync + Abort, D: Disk + Drop>(
+pub(crate) fn done<R: Threads + Wait + Sync + Abort, D: Disk + Drop + Sync>(
     rt: &R,
     alloc: Global,
     words: &[&str],
@@ -60,7 +60,7 @@ pub(crate) fn done<R: Threads + Wait + Sync + Abort, D: Disk + Drop>(
 }
 
 // The same between these ends.
-pub(crate) fn done_between<R: Threads + Wait + Sync + Abort, D: Disk + Drop>(
+pub(crate) fn done_between<R: Threads + Wait + Sync + Abort, D: Disk + Drop + Sync>(
     rt: &R,
     alloc: Global,
     words: &[&str],

@@ -41,7 +41,7 @@ pub(crate) struct Ran<D> {
 }
 
 // What these words do over a source and a disk.
-pub(crate) fn done<R: Threads + Wait + Sync + Abort, S: Source + Drop, D: Disk + Drop>(
+pub(crate) fn done<R: Threads + Wait + Sync + Abort, S: Source + Drop, D: Disk + Drop + Sync>(
     rt: &R,
     alloc: Global,
     words: &[&str],

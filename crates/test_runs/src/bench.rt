@@ -85,7 +85,7 @@ pub fn ends(rt: &impl Abort, alloc: Global, script: &[u8]) -> (BytesSource, Byte
 }
 
 /// A run of this script over ends that don't fail.
-pub fn run_script<R: Threads + Wait + Sync + Abort, D: Disk + Drop>(
+pub fn run_script<R: Threads + Wait + Sync + Abort, D: Disk + Drop + Sync>(
     rt: &R,
     alloc: Global,
     script: &[u8],
@@ -96,7 +96,7 @@ pub fn run_script<R: Threads + Wait + Sync + Abort, D: Disk + Drop>(
 }
 
 /// What these words do, with no script.
-pub fn done<R: Threads + Wait + Sync + Abort, D: Disk + Drop>(
+pub fn done<R: Threads + Wait + Sync + Abort, D: Disk + Drop + Sync>(
     rt: &R,
     alloc: Global,
     words: &[&str],
@@ -107,7 +107,7 @@ pub fn done<R: Threads + Wait + Sync + Abort, D: Disk + Drop>(
 }
 
 /// A call between these ends.
-pub fn run_between<R: Threads + Wait + Sync + Abort, D: Disk + Drop>(
+pub fn run_between<R: Threads + Wait + Sync + Abort, D: Disk + Drop + Sync>(
     rt: &R,
     alloc: Global,
     words: &[String],
@@ -132,7 +132,7 @@ pub fn run_between<R: Threads + Wait + Sync + Abort, D: Disk + Drop>(
 }
 
 /// Asserts that a script is run to its end with this text. Answers the disk afterwards.
-pub fn assert_text<R: Threads + Wait + Sync + Abort, D: Disk + Drop>(
+pub fn assert_text<R: Threads + Wait + Sync + Abort, D: Disk + Drop + Sync>(
     rt: &R,
     alloc: Global,
     script: &str,
@@ -143,6 +143,29 @@ pub fn assert_text<R: Threads + Wait + Sync + Abort, D: Disk + Drop>(
     same_at(rt, &ran.status, &Status::Done, script);
     same_list_at(rt, ran.text.as_slice(), text.as_bytes(), script);
     ran.disk
+}
+
+/// Asserts that a script is run to its end with one of these texts.
+pub fn assert_text_among<R: Threads + Wait + Sync + Abort, D: Disk + Drop + Sync>(
+    rt: &R,
+    alloc: Global,
+    script: &str,
+    disk: D,
+    texts: &[&str],
+) {
+    let ran = run_script(rt, alloc, script.as_bytes(), disk);
+    same_at(rt, &ran.status, &Status::Done, script);
+    for text in texts {
+        if ran.text.as_slice() == text.as_bytes() {
+            return;
+        }
+    }
+    same_list_at(
+        rt,
+        ran.text.as_slice(),
+        b"one of the texts".as_slice(),
+        script,
+    );
 }
 
 /// Asserts that a disk is shown with this text. Answers the disk afterwards.

@@ -1,49 +1,51 @@
-// How many device calls a run makes besides those of its mount. A commit that writes b blocks and r inode records makes b + r + 9:
-// besides these the numbers, the records and the head of its journal slot, a sync, the gate, a sync, and after the records in
-// the table a sync, the gate, a sync. An fsync with nothing to write makes none.
+// How many device calls each fsync of one worker makes, whose journal has one slot. A commit that writes b blocks and r inode records makes
+// b + 6: besides the blocks the numbers, the records and the head of the slot, a sync, the gate, a sync. The slot stays open. The next
+// commit frees it first, by r + 3 more: each record goes into the table, a sync, the gate, a sync. An fsync with nothing to write makes
+// none, and behind the last acknowledgement no call is made.
 use crate::bench::{SMALL, copy_of, image, run_script};
 use crate::helpers::{got, holds_at, same};
-use sfs_dev::{Act, Disk, Memory};
+use sfs_dev::{Disk, Memory};
 use std::alloc::Global;
 use std::process::Abort;
 use std::sync::Wait;
 use std::thread::Threads;
 use tree_laws::History;
 
-// Scripts with the calls of each of their commits, on the image with few inodes.
+// Scripts with the calls of each of their fsyncs, on the image with few inodes.
 static FIRST_RUNS: [(&str, &[u64]); 11] = [
     ("", &[]),
     ("0 mkdir /a\n", &[]),
-    ("0 fsync /\n", &[]),
+    ("0 fsync /\n", &[0]),
     // The root's block; the records of the root and of the new node.
-    ("0 create /a\n0 fsync /\n", &[12]),
-    ("0 mkdir /a\n0 fsync /\n0 fsync /\n0 fsync /a\n", &[12]),
-    // Besides, a block of the file; then that block and its record alone.
-    ("0 create /f\n0 write /f 0 61\n0 fsync /f\n", &[13]),
+    ("0 create /a\n0 fsync /\n", &[7]),
+    ("0 mkdir /a\n0 fsync /\n0 fsync /\n0 fsync /a\n", &[7, 0, 0]),
+    // Besides, a block of the file.
+    ("0 create /f\n0 write /f 0 61\n0 fsync /f\n", &[8]),
+    // Then two records are placed, and that block and its record are written.
     (
         "0 create /f\n0 write /f 0 61\n0 fsync /f\n0 fsync /\n0 write /f 0 62\n0 fsync /f\n",
-        &[13, 11],
+        &[8, 0, 12],
     ),
     // A file that was made and removed in between.
     (
         "0 mkdir /d\n0 fsync /\n0 create /d/a\n0 unlink /d/a\n0 fsync /d\n",
-        &[12],
+        &[7, 0],
     ),
     // The bytes are there, and the name comes: two directories, and the file's links.
     (
         "0 mkdir /p\n0 create /p/f\n0 fsync /p\n0 link /p/f /g\n0 fsync /\n",
-        // both blocks; root, p and f
-        &[14, 12],
+        // Both blocks, and root, p and f; these three are placed, and the root's block, root and f are written.
+        &[8, 13],
     ),
     // The last row goes: no block, and the records of the directory and of the file.
     (
         "0 mkdir /p\n0 create /p/f\n0 fsync /p\n0 unlink /p/f\n0 fsync /p\n",
-        &[14, 11],
+        &[8, 12],
     ),
     // A longer file of zeros: its record.
     (
         "0 create /f\n0 fsync /f\n0 trunc /f 100000\n0 fsync /f\n",
-        &[12, 10],
+        &[7, 11],
     ),
 ];
 
@@ -61,21 +63,21 @@ fn acknowledged(rt: &impl Abort, alloc: Global, history: &History) -> Vec<u64> {
     moments
 }
 
-// The device calls of each commit: those up to its fourth sync, from the end of the one before it on.
-fn calls_of_commits(rt: &impl Abort, alloc: Global, disk: &Memory, mount: u64) -> Vec<u64> {
+// The device calls of each fsync that was answered Ok: those from the acknowledgement before it on.
+fn calls_of_fsyncs(
+    rt: &impl Abort,
+    alloc: Global,
+    history: &History,
+    disk: &Memory,
+    mount: u64,
+) -> Vec<u64> {
     let mut counts = Vec::new(alloc);
     let mut before = mount;
-    let mut syncs = 0u32;
-    for call in disk.calls() {
-        if call.act == Act::Sync {
-            syncs = syncs.saturating_add(1);
-            if syncs % 4 == 0 {
-                got(rt, counts.push(call.moment.saturating_sub(before)));
-                before = call.moment;
-            }
-        }
+    for moment in &acknowledged(rt, alloc, history) {
+        got(rt, counts.push(moment.saturating_sub(before)));
+        before = *moment;
     }
-    // Nothing comes behind the last commit.
+    // Nothing comes behind the last one.
     same(rt, &before, &disk.now());
     counts
 }
@@ -96,13 +98,13 @@ fn assert_counts<R: Threads + Wait + Sync + Abort>(
     let mount = calls_of_mount(rt, alloc, disk);
     for (script, due) in cases {
         let ran = run_script(rt, alloc, script.as_bytes(), copy_of(rt, alloc, disk));
-        let counts = calls_of_commits(rt, alloc, &ran.disk, mount);
+        let counts = calls_of_fsyncs(rt, alloc, &ran.history, &ran.disk, mount);
         holds_at(rt, counts.as_slice() == *due, script);
     }
 }
 
 #[test]
-fn a_commit_makes_nine_calls_besides_its_blocks_and_records(rt: HostRuntime) {
+fn a_commit_makes_six_calls_besides_its_blocks_and_frees_a_slot_before(rt: HostRuntime) {
     let disk = image(&rt, rt.alloc(), SMALL);
     assert_counts(&rt, rt.alloc(), &disk, &FIRST_RUNS);
 }
@@ -110,20 +112,20 @@ fn a_commit_makes_nine_calls_besides_its_blocks_and_records(rt: HostRuntime) {
 // A directory `a` and a file `f` of one byte.
 static TWO_NODES: &str = "0 mkdir /a\n0 create /f\n0 write /f 0 61\n0 fsync /f\n";
 
-// Scripts on the disk that has these, with the calls of each of their commits.
+// Scripts on the disk that has these, with the calls of each of their fsyncs. The mount closes the slot that was left open.
 static SECOND_RUNS: [(&str, &[u64]); 5] = [
-    ("0 fsync /\n0 fsync /a\n0 fsync /f\n", &[]),
+    ("0 fsync /\n0 fsync /a\n0 fsync /f\n", &[0, 0, 0]),
     // What went and came back.
     (
         "0 rename /f /g\n0 rename /a /f\n0 rename /f /a\n0 rename /g /f\n0 fsync /\n",
-        &[],
+        &[0],
     ),
     // Another name: the root's block and record.
-    ("0 rename /f /g\n0 fsync /\n", &[11]),
+    ("0 rename /f /g\n0 fsync /\n", &[7]),
     // Another directory of the same name: a block, the root, the new one, and the old one.
-    ("0 rmdir /a\n0 mkdir /a\n0 fsync /\n", &[13]),
+    ("0 rmdir /a\n0 mkdir /a\n0 fsync /\n", &[7]),
     // The same bytes once more: they were touched.
-    ("0 write /f 0 61\n0 fsync /f\n", &[11]),
+    ("0 write /f 0 61\n0 fsync /f\n", &[7]),
 ];
 
 #[test]
@@ -137,9 +139,9 @@ fn a_second_run_writes_what_is_not_there_yet(rt: HostRuntime) {
 // An fsync with nothing to write, one that brings a directory, one with nothing again, one that brings another.
 static FOUR_FSYNCS: &str = "0 fsync /\n0 mkdir /a\n0 fsync /\n0 fsync /\n0 mkdir /b\n0 fsync /b\n";
 
-// Behind the mount: at once; after a block, three writes of the slot, a sync, the gate and a sync; at the end of that commit; and
-// the same again.
-static ACKNOWLEDGED: [u64; 4] = [0, 7, 12, 19];
+// Behind the mount: at once; after a block, three writes of the slot, a sync, the gate and a sync; at once; and after two records,
+// a sync, the gate and a sync, by which the slot is freed, the same again.
+static ACKNOWLEDGED: [u64; 4] = [0, 7, 7, 19];
 
 #[test]
 fn an_fsync_is_acknowledged_at_the_sync_behind_its_gate(rt: HostRuntime) {

@@ -12,7 +12,7 @@ type Row = (&'static str, &'static str, &'static str);
 
 // A file that was made and removed since the last fsync of its directory; link counts of a file whose
 // directories are flushed one after another; a directory below one that was never flushed; a file that
-// moves, where only the directory that it left is flushed; two workers, one after another.
+// moves, where only the directory that it left is flushed; two workers, phase by phase.
 static DIRECTORIES: [Row; 5] = [
     (
         "0 mkdir /d\n0 fsync /\n0 create /d/a\n0 unlink /d/a\n0 fsync /d\n",
@@ -35,7 +35,7 @@ static DIRECTORIES: [Row; 5] = [
         "dir 4 2 /\ndir 2 0 /p\ndir 2 1 /q\nfile 1 0 0 /q/g\n",
     ),
     (
-        "0 mkdir /a\n1 mkdir /b\n0 fsync /a\n1 fsync /b\n---\n1 create /a/f\n0 create /b/g\n1 fsync /a\n0 fsync /b/g\n",
+        "0 mkdir /a\n0 fsync /a\n---\n1 mkdir /b\n1 fsync /b\n---\n0 create /b/g\n0 fsync /b/g\n---\n1 create /a/f\n1 fsync /a\n",
         "0 0 mkdir 0 a = node 64 dir\n1 0 look 0 a = node 64 dir\n2 0 fsync 64 = ok\n3 1 mkdir 0 b = node 2112 dir\n4 1 look 0 b = node 2112 dir\n5 1 fsync 2112 = ok\n6 0 look 0 b = node 2112 dir\n7 0 create 2112 g = node 65 file\n8 0 look 0 b = node 2112 dir\n9 0 look 2112 g = node 65 file\n10 0 fsync 65 = ok\n11 1 look 0 a = node 64 dir\n12 1 create 64 f = node 2113 file\n13 1 look 0 a = node 64 dir\n14 1 fsync 64 = ok\n",
         "dir 4 2 /\ndir 2 1 /a\nfile 1 0 0 /a/f\ndir 2 1 /b\nfile 1 0 1 /b/g\n",
     ),

@@ -1,6 +1,6 @@
 // Images whose cores have several journal slots each, made, shown and run on. On the image of `mkfs 1024 64 2 2` a slot has 10 blocks: slot
 // 0 of core 0 begins at byte 4,096, slot 0 of core 1 at 86,016, the inode table at 167,936, and the data at block 49.
-use crate::helpers::{got, holds, same, same_list};
+use crate::helpers::{got, holds, same, same_list, some};
 use scalefs_run::{Outcome, Status, run};
 use sfs_base::{BytesSink, BytesSource, NoGate};
 use sfs_dev::{Act, Disk, Memory};
@@ -176,29 +176,58 @@ fn with_the_stamps_exchanged_the_other_slot_is_shown(rt: HostRuntime) {
     assert_done(&rt, rt.alloc(), &["show"], "", disk, tree);
 }
 
-#[test]
-fn one_thread_keeps_to_the_first_slot(rt: HostRuntime) {
-    let (words, line) = &LINES[0];
-    let disk = assert_done(&rt, rt.alloc(), words, "", blank(&rt, rt.alloc()), line);
-    let made = disk.calls().len();
-    let script = "0 mkdir /a\n0 fsync /\n1 mkdir /b\n1 fsync /\n";
-    let (status, _, disk) = done(&rt, rt.alloc(), &["run"], script, disk);
-    same(&rt, &status, &Status::Done);
-    let mut gates = 0u32;
-    for call in disk.calls().iter().skip(made) {
-        if let Act::Write { at, count: 1 } = call.act {
-            same(&rt, &at, &4_096);
-            holds(&rt, gates < 4);
-            gates += 1;
+// The writes of one byte among a disk's calls from this one on: where, and which byte.
+fn gates(rt: &impl Abort, alloc: Global, disk: &Memory, from: usize) -> Vec<(u64, u8)> {
+    let mut gates = Vec::new(alloc);
+    let mut place = 0u64;
+    for (number, call) in disk.calls().iter().enumerate() {
+        if let Act::Write { at, count } = call.act {
+            if count == 1 && number >= from {
+                let byte = some(rt, disk.written().get(place as usize));
+                got(rt, gates.push((at, *byte)));
+            }
+            place = place.saturating_add(count);
         }
     }
-    same(&rt, &gates, &4);
-    assert_done(
+    gates
+}
+
+// Asserts that a script makes these writes of one byte first, on the image of two slots a core, and that this tree is shown behind it.
+fn assert_gates<R: Threads + Wait + Sync + Abort>(
+    rt: &R,
+    alloc: Global,
+    script: &str,
+    due: &[(u64, u8)],
+    tree: &str,
+) {
+    let (words, line) = &LINES[0];
+    let disk = assert_done(rt, alloc, words, "", blank(rt, alloc), line);
+    let made = disk.calls().len();
+    let (status, _, disk) = done(rt, alloc, &["run"], script, disk);
+    same(rt, &status, &Status::Done);
+    let gates = gates(rt, alloc, &disk, made);
+    holds(rt, gates.starts_with(due));
+    assert_done(rt, alloc, &["show"], "", disk, tree);
+}
+
+#[test]
+fn a_second_commit_is_opened_before_the_first_slot_is_closed(rt: HostRuntime) {
+    assert_gates(
         &rt,
         rt.alloc(),
-        &["show"],
-        "",
-        disk,
+        "0 mkdir /a\n0 fsync /\n0 mkdir /b\n0 fsync /\n",
+        &[(4_096, 1), (45_056, 1)],
+        "dir 4 2 /\ndir 2 0 /a\ndir 2 0 /b\n",
+    );
+}
+
+#[test]
+fn each_core_has_slots_of_its_own(rt: HostRuntime) {
+    assert_gates(
+        &rt,
+        rt.alloc(),
+        "0 mkdir /a\n0 fsync /\n---\n1 mkdir /b\n1 fsync /\n",
+        &[(4_096, 1), (86_016, 1)],
         "dir 4 2 /\ndir 2 0 /a\ndir 2 0 /b\n",
     );
 }

@@ -1,7 +1,7 @@
 // Whole runs of one worker or two over a fresh image, with their texts worked out by hand.
 use crate::bench::{
-    SMALL, Size, assert_only_read, assert_text, ends, fresh, image, run_alone, run_between,
-    run_script,
+    SMALL, Size, assert_only_read, assert_text, assert_text_among, ends, fresh, image, run_alone,
+    run_between, run_script,
 };
 use crate::helpers::{got, holds, same, same_list};
 use scalefs_run::Status;
@@ -13,9 +13,9 @@ use std::sync::Wait;
 use std::thread::Threads;
 
 // Scripts over the image with few inodes, with their texts, worked out by hand: two names of one file; a directory that
-// would move below itself; one that moves onto an empty one, and one that can't onto another; two
-// workers, twice; bytes put, cut and read; each kind of node with its refusals; an escaped name.
-static TEXTS: [(&str, &str); 8] = [
+// would move below itself; one that moves onto an empty one, and one that can't onto another; bytes put, cut and read; each kind of
+// node with its refusals; an escaped name.
+static TEXTS: [(&str, &str); 6] = [
     (
         "0 create /a\n0 link /a /b\n0 rename /a /b\n0 list /\n0 stat /a\n",
         "0 0 create 0 a = node 64 file\n1 0 look 0 a = node 64 file\n2 0 link 64 0 b = ok\n3 0 rename 0 a 0 b = ok\n4 0 list 0 = list a b\n5 0 look 0 a = node 64 file\n6 0 stat 64 = stat file 2 0\n",
@@ -29,14 +29,6 @@ static TEXTS: [(&str, &str); 8] = [
         "0 0 mkdir 0 a = node 64 dir\n1 0 mkdir 0 b = node 65 dir\n2 0 mkdir 0 c = node 66 dir\n3 0 look 0 c = node 66 dir\n4 0 mkdir 66 x = node 67 dir\n5 0 rename 0 a 0 b = ok\n6 0 rename 0 b 0 c = error NotEmpty\n",
     ),
     (
-        "0 create /a\n1 create /b\n",
-        "0 0 create 0 a = node 64 file\n1 1 create 0 b = node 2112 file\n",
-    ),
-    (
-        "1 create /b\n0 create /a\n---\n1 unlink /a\n0 unlink /b\n",
-        "0 0 create 0 a = node 64 file\n1 1 create 0 b = node 2112 file\n2 0 unlink 0 b = ok\n3 1 unlink 0 a = ok\n",
-    ),
-    (
         "0 create /f\n0 write /f 3 6869\n0 read /f 0 10\n0 trunc /f 1\n0 trunc /f 3\n0 read /f 0 10\n0 read /f 5 1\n0 write /f 9 -\n0 stat /f\n",
         "0 0 create 0 f = node 64 file\n1 0 look 0 f = node 64 file\n2 0 write 64 3 6869 = ok\n3 0 look 0 f = node 64 file\n4 0 read 64 0 10 = bytes 0000006869\n5 0 look 0 f = node 64 file\n6 0 trunc 64 1 = ok\n7 0 look 0 f = node 64 file\n8 0 trunc 64 3 = ok\n9 0 look 0 f = node 64 file\n10 0 read 64 0 10 = bytes 000000\n11 0 look 0 f = node 64 file\n12 0 read 64 5 1 = bytes -\n13 0 look 0 f = node 64 file\n14 0 write 64 9 - = ok\n15 0 look 0 f = node 64 file\n16 0 stat 64 = stat file 1 3\n",
     ),
@@ -45,6 +37,26 @@ static TEXTS: [(&str, &str); 8] = [
         "0 0 create 0 f = node 64 file\n1 0 mkdir 0 d = node 65 dir\n2 0 rmdir 0 f = error NotDir\n3 0 unlink 0 d = error NotPermitted\n4 0 rename 0 d 0 f = error NotDir\n5 0 rename 0 f 0 d = error IsDir\n6 0 look 0 d = node 65 dir\n7 0 link 65 0 e = error NotPermitted\n8 0 mkdir 0 d = error Exists\n9 0 unlink 0 g = error NoEntry\n10 0 look 0 d = node 65 dir\n11 0 read 65 0 1 = error IsDir\n12 0 look 0 f = node 64 file\n13 0 look 64 x = error NotDir\n",
     ),
     ("0 mkdir /a%20b\n", "0 0 mkdir 0 a%20b = node 64 dir\n"),
+];
+
+// Scripts of two workers with each text that they may have: whose call of a phase comes first is not told.
+static EITHER: [(&str, &[&str]); 2] = [
+    (
+        "0 create /a\n1 create /b\n",
+        &[
+            "0 0 create 0 a = node 64 file\n1 1 create 0 b = node 2112 file\n",
+            "0 1 create 0 b = node 2112 file\n1 0 create 0 a = node 64 file\n",
+        ],
+    ),
+    (
+        "1 create /b\n0 create /a\n---\n1 unlink /a\n0 unlink /b\n",
+        &[
+            "0 0 create 0 a = node 64 file\n1 1 create 0 b = node 2112 file\n2 0 unlink 0 b = ok\n3 1 unlink 0 a = ok\n",
+            "0 0 create 0 a = node 64 file\n1 1 create 0 b = node 2112 file\n2 1 unlink 0 a = ok\n3 0 unlink 0 b = ok\n",
+            "0 1 create 0 b = node 2112 file\n1 0 create 0 a = node 64 file\n2 0 unlink 0 b = ok\n3 1 unlink 0 a = ok\n",
+            "0 1 create 0 b = node 2112 file\n1 0 create 0 a = node 64 file\n2 1 unlink 0 a = ok\n3 0 unlink 0 b = ok\n",
+        ],
+    ),
 ];
 
 // Scripts that are refused, with the first line outside the grammar.
@@ -121,6 +133,14 @@ fn assert_texts<R: Threads + Wait + Sync + Abort>(rt: &R, alloc: Global, cases: 
 #[test]
 fn scripts_have_their_texts(rt: HostRuntime) {
     assert_texts(&rt, rt.alloc(), &TEXTS);
+}
+
+#[test]
+fn two_workers_have_one_of_the_texts_of_a_phase(rt: HostRuntime) {
+    for (script, texts) in &EITHER {
+        let disk = image(&rt, rt.alloc(), SMALL);
+        assert_text_among(&rt, rt.alloc(), script, disk, texts);
+    }
 }
 
 // Asserts that each of these is refused at its line.

@@ -14,60 +14,74 @@ use tree_laws::{TurnAct, Turns};
 // Of a turn: the stamp of its fsync, the node, the commit's number, the device calls and the faults so far, and what was done.
 type Told = (u64, u32, u64, u64, u64, TurnAct);
 
-// A commit of a block and two records: the block, the slot's three writes, a sync, the gate and a sync.
+// A commit of a block and two records: the block, the slot's three writes, a sync, the gate and a sync. It is noted with its gate.
 const FIRST: [Told; 4] = [
-    (1, 0, 2, 0, 0, TurnAct::Granted),
-    (1, 0, 2, 0, 0, TurnAct::CutAt),
-    (1, 0, 2, 6, 0, TurnAct::Opened),
-    (1, 0, 2, 7, 0, TurnAct::Durable),
+    (1, 0, 1, 0, 0, TurnAct::Granted),
+    (1, 0, 1, 6, 0, TurnAct::CutAt),
+    (1, 0, 1, 6, 0, TurnAct::Opened),
+    (1, 0, 1, 7, 0, TurnAct::Durable),
 ];
 
-// An fsync with nothing to write, after the first one's twelve device calls.
+// An fsync with nothing to write, after the first one's seven device calls.
 const NOTHING_LEFT: [Told; 3] = [
-    (2, 0, 3, 12, 0, TurnAct::CutAt),
-    (2, 0, 3, 12, 0, TurnAct::Opened),
-    (2, 0, 3, 12, 0, TurnAct::Durable),
+    (2, 0, 2, 7, 0, TurnAct::CutAt),
+    (2, 0, 2, 7, 0, TurnAct::Opened),
+    (2, 0, 2, 7, 0, TurnAct::Durable),
 ];
 
-// The second commit fails at its first device call, and the next fsync is stopped.
-const FAILED: [Told; 4] = [
-    (3, 0, 4, 12, 0, TurnAct::Granted),
-    (3, 0, 4, 12, 0, TurnAct::CutAt),
-    (3, 0, 4, 13, 1, TurnAct::Fail),
+// What the second commit and the next fsync did where a device call fails: the first record that frees the slot, the sync behind its gate,
+// the block, the sync before the gate, the gate, and the sync behind it.
+static FAILED: [(u64, &[Told]); 6] = [
+    (7, &FAILED_FREEING),
+    (11, &FAILED_FREE),
+    (12, &FAILED_BLOCK),
+    (16, &FAILED_SEAL),
+    (17, &FAILED_GATE),
+    (18, &FAILED_OPENED),
+];
+
+const FAILED_FREEING: [Told; 4] = [
+    (3, 0, 2, 7, 0, TurnAct::Granted),
+    (3, 0, 2, 8, 0, TurnAct::CutAt),
+    (3, 0, 2, 8, 1, TurnAct::Fail),
+    (5, 0, 0, 8, 1, TurnAct::Halted),
+];
+
+const FAILED_FREE: [Told; 4] = [
+    (3, 0, 2, 7, 0, TurnAct::Granted),
+    (3, 0, 2, 12, 0, TurnAct::CutAt),
+    (3, 0, 2, 12, 1, TurnAct::Fail),
+    (5, 0, 0, 12, 1, TurnAct::Halted),
+];
+
+const FAILED_BLOCK: [Told; 4] = [
+    (3, 0, 2, 7, 0, TurnAct::Granted),
+    (3, 0, 2, 13, 0, TurnAct::CutAt),
+    (3, 0, 2, 13, 1, TurnAct::Fail),
     (5, 0, 0, 13, 1, TurnAct::Halted),
 ];
 
-// What the second commit and the next fsync did where a device call fails: the sync before the gate, the gate, the sync behind it.
-static FAILED_LATE: [(u64, &[Told]); 3] = [
-    (
-        16,
-        &[
-            (3, 0, 4, 12, 0, TurnAct::Granted),
-            (3, 0, 4, 12, 0, TurnAct::CutAt),
-            (3, 0, 4, 17, 1, TurnAct::Fail),
-            (5, 0, 0, 17, 1, TurnAct::Halted),
-        ],
-    ),
-    (
-        17,
-        &[
-            (3, 0, 4, 12, 0, TurnAct::Granted),
-            (3, 0, 4, 12, 0, TurnAct::CutAt),
-            (3, 0, 4, 18, 0, TurnAct::Opened),
-            (3, 0, 4, 18, 1, TurnAct::Fail),
-            (5, 0, 0, 18, 1, TurnAct::Halted),
-        ],
-    ),
-    (
-        18,
-        &[
-            (3, 0, 4, 12, 0, TurnAct::Granted),
-            (3, 0, 4, 12, 0, TurnAct::CutAt),
-            (3, 0, 4, 18, 0, TurnAct::Opened),
-            (3, 0, 4, 19, 1, TurnAct::Fail),
-            (5, 0, 0, 19, 1, TurnAct::Halted),
-        ],
-    ),
+const FAILED_SEAL: [Told; 4] = [
+    (3, 0, 2, 7, 0, TurnAct::Granted),
+    (3, 0, 2, 17, 0, TurnAct::CutAt),
+    (3, 0, 2, 17, 1, TurnAct::Fail),
+    (5, 0, 0, 17, 1, TurnAct::Halted),
+];
+
+const FAILED_GATE: [Told; 5] = [
+    (3, 0, 2, 7, 0, TurnAct::Granted),
+    (3, 0, 2, 18, 0, TurnAct::CutAt),
+    (3, 0, 2, 18, 0, TurnAct::Opened),
+    (3, 0, 2, 18, 1, TurnAct::Fail),
+    (5, 0, 0, 18, 1, TurnAct::Halted),
+];
+
+const FAILED_OPENED: [Told; 5] = [
+    (3, 0, 2, 7, 0, TurnAct::Granted),
+    (3, 0, 2, 18, 0, TurnAct::CutAt),
+    (3, 0, 2, 18, 0, TurnAct::Opened),
+    (3, 0, 2, 19, 1, TurnAct::Fail),
+    (5, 0, 0, 19, 1, TurnAct::Halted),
 ];
 
 // A block is needed, and the only one holds the root's rows.
@@ -75,7 +89,7 @@ const SHORT: [Told; 1] = [(
     3,
     0,
     0,
-    12,
+    7,
     0,
     TurnAct::Short {
         kind: SpaceKind::Blocks,
@@ -127,7 +141,9 @@ fn a_commit_takes_four_turns_and_one_without_need_three(rt: HostRuntime) {
 
 #[test]
 fn a_commit_that_fails_stops_the_later_ones(rt: HostRuntime) {
-    assert_failing(&rt, rt.alloc(), 12, &FAILED);
+    for (call, due) in &FAILED {
+        assert_failing(&rt, rt.alloc(), *call, due);
+    }
 }
 
 // Asserts the turns where this device call behind the mount fails.
@@ -142,13 +158,6 @@ fn assert_failing<R: Threads + Wait + Sync + Abort>(
     let disk = FailAt::new(image(rt, alloc, SMALL), got(rt, vec![in alloc; number]));
     let ran = run_script(rt, alloc, THREE_DIRECTORIES.as_bytes(), disk);
     assert_told(rt, &ran.turns, mount, &[&FIRST, due]);
-}
-
-#[test]
-fn a_commit_is_opened_once_its_gate_is_written(rt: HostRuntime) {
-    for (call, due) in &FAILED_LATE {
-        assert_failing(&rt, rt.alloc(), *call, due);
-    }
 }
 
 #[test]

@@ -1,4 +1,3 @@
-use Rattle.fsync_dir.specs.Flush.{FlushComes}
 use Rattle.flush_agrees.specs.Laws.{FlushPlace}
 use Rattle.flush_agrees.proofs.Growing.{agreeing_cores_tell}
 use Rattle.mount.proofs.Agreeing.{served_agrees, site_at}

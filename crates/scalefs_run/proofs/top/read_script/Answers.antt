@@ -3,7 +3,7 @@ use Rattle.sfs_base.specs.Ends.{HasRisen}
 use Rattle.scalefs_run.specs.Outcome.{HasReadFault, IsOf}
 use Rattle.scalefs_run.specs.declared.outcome.Status.{Status}
 use Rattle.std.specs.Prelude.{List}
-use Rattle.scalefs_run.proofs.Serving.{read_fault}
+use Rattle.scalefs_run.proofs.Reading.{read_fault}
 use Rattle.std.proofs.lemmas.List.Elements.{All-from_recursion}
 use Rattle.script.specs.Ready.{LinesMayRun}
 use Rattle.script.proofs.ReadyLemmas.{phases_may}

@@ -1,5 +1,5 @@
 -- The numbers of the line are those of the history and of the tree.
-use Rattle.std.proofs.Common.{◌≡◌, List, ℕ, string_bytes, Global, ap₂, subst, ◌∙◌}
+use Rattle.std.proofs.Common.{◌∙◌}
 use Rattle.std.proofs.lemmas.Result.{IfOk-weaker}
 use Rattle.scalefs_run.specs.Writing.{line_text}
 use Rattle.scalefs_run.proofs.writing.load_line.Goals as goal

@@ -1,0 +1,64 @@
+// Phases of a script are run on a volume that is begun over a mounted disk and unmounted behind them.
+ghost use Rattle.std.specs.Prelude.{◌≡◌, ◌≤◌, IfErr, IfOk};
+ghost use Rattle.std.specs.List.{AllByRecursion};
+ghost use Rattle.mount.specs.Phases.{HaveWorkers};
+ghost use Rattle.script.specs.Ready.{LinesMayRun};
+ghost use Rattle.volume_laws.specs.Mounting.{WasMounted};
+ghost use Rattle.words.specs.Words.{MOST_NODES};
+ghost use Rattle.scalefs_run.specs.Ran.{HasCalls, LeavesRun};
+
+use mount::{MountFault, Mounted, begin, run_phases, unmount};
+use mount_begin::Mounted as Begun;
+use script::Phase;
+use sfs_base::{Gate, NoMemory};
+use sfs_dev::Disk;
+use std::alloc::Global;
+use std::sync::Wait;
+use std::thread::Threads;
+use tree_laws::{History, Turns};
+
+/// What phases left that were run on a volume: how they ended, their calls, the turns of these at the disk, and the disk.
+#[derive(Drop)]
+pub struct Ran<D> {
+    pub ended: Result<(), NoMemory>,
+    pub history: History,
+    pub turns: Turns,
+    pub disk: D,
+}
+
+/// Begins a volume of many cores over a disk that was mounted with so many new nodes, runs phases on it, each worker of a phase in a thread of its own
+/// where one can be started, and unmounts it. Where memory is refused before the volume is there, the disk is handed back as it is.
+pub fn run_begun<R: Threads + Wait + Sync, D: Disk + Drop + Sync, G: Gate>(
+    rt: &R,
+    alloc: Global,
+    disk: D,
+    begun: Begun,
+    nodes: u32,
+    phases: &[Phase],
+    gate: &G,
+) -> Result<Ran<D>, D>
+    requires most { nodes ≤ MOST_NODES }
+    requires was { (old : D) × WasMounted nodes begun (D.view old) (D.view disk) }
+    requires ready { AllByRecursion LinesMayRun phases.now }
+    requires within { AllByRecursion (HaveWorkers begun.layout.cores) phases.now }
+    ensures leaves { IfOk result (λ ran. (old : D) → WasMounted nodes begun (D.view old) (D.view disk)
+        → LeavesRun nodes begun.tree (D.view old) (D.view ran.disk) ran.history ran.turns.items) }
+    ensures calls { IfOk result (λ ran. HasCalls phases.now ran.history ran.ended) }
+    ensures refused { IfErr result (λ left. left ≡ disk) }
+{
+    let Mounted {
+        volume,
+        mut workers,
+    } = match begin(alloc, disk, begun, nodes) {
+        Ok(mounted) => mounted,
+        Err(MountFault { fault: _, disk }) => return Err(disk),
+    };
+    let ended = run_phases(rt, alloc, &volume, &mut workers, phases, gate);
+    let (disk, history, turns) = unmount(volume, workers);
+    Ok(Ran {
+        ended,
+        history,
+        turns,
+        disk,
+    })
+}
