@@ -6,9 +6,9 @@ use Rattle.stamp_table.specs.Table.{IsSameCore}
 use Rattle.disk_box.specs.Pens.{PenHand}
 use Rattle.workers.specs.Works.{Rests}
 use Rattle.workers.specs.declared.worker.Worker.{Worker}
-use Rattle.mount.specs.Workers.{AreWorkers, PairAgrees}
+use Rattle.mount.specs.Workers.{AreWorkers, PairAgrees, WorkersAreBack}
 use Rattle.mount.specs.declared.volume.Volume.{Volume}
-use Rattle.mount.specs.Workers.{WorkersAreBack, at_map, team_again}
+use Rattle.mount.proofs.Teams.{at_map, team_again}
 use Rattle.library_example.specs.Calls.{IsBack}
 use Rattle.library_example.specs.Seats.{worker_at}
 use Rattle.library_example.specs.declared.seats.Seat.{Seat}

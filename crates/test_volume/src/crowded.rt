@@ -1,6 +1,7 @@
 // Scripts that are drawn, on a disk with too little room: an fsync that is refused says what it needs, and changes nothing.
 use crate::helpers::holds;
 use crate::judged::{Base, Health, NODES, answers_in, base_of};
+use crate::machine::assert_taken;
 use crate::runs::{copy_of, phases_in, run};
 use crate::scripts::{Dice, draw};
 use crate::shaking::Shaker;
@@ -39,6 +40,7 @@ fn assert_crowded<R: Threads + Wait + Sync + Abort>(
     let disk = copy_of(rt, alloc, &base.image);
     let ran = run(rt, alloc, disk, NODES, &script, &Shaker::of(seed));
     let _ = plain_tree(rt, alloc, base, &ran, Health::Crowded);
+    assert_taken(rt, alloc, base, &ran.history, &ran.turns);
     let calls = ran.disk.now();
     for pick in 0..4u32 {
         let calls = dice.below(calls.saturating_add(1));

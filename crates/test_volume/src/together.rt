@@ -1,6 +1,7 @@
 // Cores that change one directory and flush it, in turn and side by side, and files that are flushed again.
 use crate::helpers::same;
 use crate::judged::{Base, Health, NODES, base_of};
+use crate::machine::assert_taken;
 use crate::runs::{Ran, copy_of, phases_in, run};
 use crate::shaking::Shaker;
 use crate::told::plain_tree;
@@ -79,6 +80,7 @@ fn cores_flush_one_directory(rt: HostRuntime) {
         for seed in 0..TIMES {
             let ran = run_once(&rt, alloc, &base, lines, seed);
             let _ = plain_tree(&rt, alloc, &base, &ran, Health::Well);
+            assert_taken(&rt, alloc, &base, &ran.history, &ran.turns);
             assert_recovers(&rt, alloc, &ran.disk, wanted);
         }
     }
@@ -116,6 +118,7 @@ fn what_is_flushed_already_needs_no_device_call(rt: HostRuntime) {
     let first = run_once(&rt, alloc, &base, FLUSHED_ONCE, 0);
     let ran = run_once(&rt, alloc, &base, FLUSHED_AGAIN, 0);
     let _ = plain_tree(&rt, alloc, &base, &ran, Health::Well);
+    assert_taken(&rt, alloc, &base, &ran.history, &ran.turns);
     let moment = ran.disk.now();
     same(&rt, &moment, &first.disk.now());
     for stamp in &AGAIN {
