@@ -12,8 +12,6 @@ mod histories;
 #[cfg(test)]
 mod logs;
 #[cfg(test)]
-mod mounted;
-#[cfg(test)]
 mod nets;
 #[cfg(test)]
 mod scripts;

@@ -3,14 +3,13 @@ ghost use Rattle.std.specs.Prelude.{◌<◌, ◌≤◌};
 ghost use Rattle.tree_laws.specs.Step.{IsReadable};
 
 use crate::helpers::{got, holds_at};
-use call_log::foresee;
 use script::{text, tree_text};
 use sfs_base::{Chunk, CoreId, Kind, Name, NoMemory, NodeId, Stamp};
 use sfs_tree::Tree;
 use std::alloc::Global;
 use std::marker::Model;
 use std::process::Abort;
-use tree_laws::{Call, Changes, Entry, History, Reply};
+use tree_laws::{Call, Entry, History, Reply};
 
 mod limits;
 mod table;
@@ -144,11 +143,6 @@ pub(crate) fn call_of(rt: &impl Abort, alloc: Global, asked: &Asked) -> Call
 }
 
 impl Trial {
-    // What a call will log at a stamp.
-    pub(crate) fn foresee(&self, rt: &impl Abort, stamp: Stamp, call: &Call) -> Changes {
-        got(rt, foresee(self.alloc, &self.tree, stamp, call))
-    }
-
     // What a call of a core is answered.
     pub(crate) fn step(&mut self, core: u8, call: &Call) -> Result<Reply, NoMemory>
         requires core { core < 2 }

@@ -7,7 +7,6 @@ ghost use Rattle.cut_laws.specs.Machine.{MachineState, MayBeTold};
 use crate::calls::{Trial, root_alone};
 use crate::helpers::{got, holds};
 use crate::machine::{Run, begun_at};
-use call_log::logged_after;
 use dep_closure::{DirectoryChanges, Gathered, NodeBirth, NodeCut, closure};
 use flush_core::Event;
 use plans::OnDisk;
@@ -59,32 +58,6 @@ fn log_all(rt: &impl Abort, logged: &mut Vec<Change>, told: Vec<Change>) {
     for change in told {
         got(rt, logged.push(change));
     }
-}
-
-// Whether these changes, and no others, stand from a place on.
-fn is_last(changes: &[Change], from: usize, logged: &[Change]) -> bool {
-    if changes.len() != logged.len().saturating_sub(from) {
-        return false;
-    }
-    for (place, change) in changes.iter().enumerate() {
-        match logged.get(from.saturating_add(place)) {
-            Some(other) if is_same(change, other) => {}
-            _ => return false,
-        }
-    }
-    true
-}
-
-// Whether two changes are equal.
-fn is_same(change: &Change, other: &Change) -> bool {
-    change.stamp == other.stamp
-        && change.dir == other.dir
-        && change.name.bytes() == other.name.bytes()
-        && change.child == other.child
-        && change.kind == other.kind
-        && change.act == other.act
-        && change.other == other.other
-        && change.above.nodes() == other.above.nodes()
 }
 
 impl Watched {
@@ -217,13 +190,9 @@ impl Watched {
     fn make(&mut self, rt: &impl Abort, call: &Call)
         requires { IsReadable call.now }
     {
-        let foreseen = self.trial.foresee(rt, Stamp(self.stamp), call);
         let told = self.told(rt, call);
         let reply = got(rt, self.trial.step(0, call));
-        let before = self.logged.len();
         self.log(rt, call, &reply, told);
-        let logged = logged_after(self.alloc, foreseen, &reply);
-        holds(rt, is_last(logged.as_slice(), before, &self.logged));
         self.tell_call(rt, call, reply, None);
     }
 

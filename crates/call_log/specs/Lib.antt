@@ -1,2 +1,0 @@
-pub mod Foreseen
-pub mod Laws

@@ -1,4 +1,0 @@
-pub mod Births
-pub mod Cuts
-pub mod Increasing
-pub mod Items
