@@ -122,6 +122,18 @@ def check_commands():
             faults.append(f'README.md: CI does not run {command}')
 
 
+def check_program():
+    """The program that docs/LIBRARY.md shows is its crate's, and so is what it prints."""
+    page = read('docs/LIBRARY.md')
+    for name in ('main', 'visit', 'errand'):
+        path = f'crates/library_example/src/{name}.rt'
+        if '```rust\n' + read(path) + '```' not in page:
+            faults.append(f'docs/LIBRARY.md: the text is not that of {path}')
+    printed = read('crates/library_example/stdout').rstrip('\n').split('\n')
+    if '\n'.join('    ' + line for line in printed) not in page:
+        faults.append('docs/LIBRARY.md: it does not show what the program prints')
+
+
 for path, crate in documents():
     text = read(path)
     check_paths(path, crate, text)
@@ -129,6 +141,7 @@ for path, crate in documents():
 check_floors()
 check_counts()
 check_commands()
+check_program()
 for fault in faults:
     print(fault)
 print(f'documents: {len(faults)} faults')

@@ -6,19 +6,19 @@ use script::tree_text;
 use sfs_dev::{Disk, Memory};
 use std::alloc::Global;
 
-/// A disk in memory with an empty tree, for so many workers.
-pub fn new_disk(alloc: Global, workers: u32) -> Result<Memory, Trouble> {
-    let layout = Layout {
-        blocks: 128,
-        inodes: 64,
-        cores: workers,
-        slots: 1,
-    };
+// How many blocks a disk may have.
+const MOST_BLOCKS: u32 = 262_144;
+
+/// A disk in memory with this layout and an empty tree.
+pub fn new_disk(alloc: Global, layout: &Layout) -> Result<Memory, Trouble> {
+    if layout.blocks > MOST_BLOCKS {
+        return Err(Trouble::NoDisk);
+    }
     let mut disk = Memory::new(alloc, layout.blocks)?;
     if !layout.is_valid(disk.len()) {
         return Err(Trouble::NoDisk);
     }
-    mkfs(alloc, &mut disk, &layout)?;
+    mkfs(alloc, &mut disk, layout)?;
     Ok(disk)
 }
 

@@ -1,13 +1,20 @@
 // What a worker does on a volume.
+ghost use Rattle.tree_laws.specs.Step.{IsReadable};
+ghost use Rattle.workers.specs.Works.{IsBasisOf, Rests};
+ghost use Rattle.mount.specs.Serving.{ServesAt};
+ghost use Rattle.mount.specs.Workers.{AgreeAt};
+ghost use Rattle.library_example.specs.Calls.{IsBack};
+
 use crate::trouble::Trouble;
 use disk_box::Pen;
-use mount::{Volume, make_call};
+use fsync_dir::FlushSite;
+use mount::make_call;
 use sfs_base::{Chunk, Kind, Name, NoGate, NodeId};
 use sfs_dev::Disk;
 use std::alloc::Global;
 use std::sync::Wait;
 use tree_laws::{Call, Reply};
-use workers::Worker;
+use workers::{Basis, Worker};
 
 // The root's node.
 const ROOT: NodeId = NodeId(0);
@@ -16,21 +23,18 @@ const ROOT: NodeId = NodeId(0);
 fn ask<R: Wait, D: Disk + Drop>(
     rt: &R,
     alloc: Global,
-    volume: &Volume<D>,
+    site: &FlushSite<D>,
+    basis: Basis,
     worker: &mut Worker<Pen<D>>,
     asked: Call,
-) -> Result<Reply, Trouble> {
-    let site = volume.site();
-    let reply = make_call(
-        rt,
-        alloc,
-        &site,
-        volume.basis,
-        worker,
-        asked,
-        &NoGate,
-    )?;
-    Ok(reply)
+) -> Result<Reply, Trouble>
+    requires site { ServesAt site.now.shared.now site.now.set.now site.now.nodes site.now.cores }
+    requires basis { IsBasisOf site.now.shared.now basis }
+    requires rest { Rests site.now.shared.now (AgreeAt site.now.shared.now site.now.set.now) worker.old }
+    requires readable { IsReadable asked }
+    ensures { IsBack site.now.shared.now site.now.set.now worker.old worker.new }
+{
+    Ok(make_call(rt, alloc, site, basis, worker, asked, &NoGate)?)
 }
 
 // The node that was made.
@@ -61,33 +65,39 @@ fn told(alloc: Global, reply: Reply) -> Result<String, Trouble> {
 pub fn run_errand<R: Wait, D: Disk + Drop>(
     rt: &R,
     alloc: Global,
-    volume: &Volume<D>,
+    site: &FlushSite<D>,
+    basis: Basis,
     worker: &mut Worker<Pen<D>>,
     number: usize,
-) -> Result<String, Trouble> {
+) -> Result<String, Trouble>
+    requires site { ServesAt site.now.shared.now site.now.set.now site.now.nodes site.now.cores }
+    requires basis { IsBasisOf site.now.shared.now basis }
+    requires rest { Rests site.now.shared.now (AgreeAt site.now.shared.now site.now.set.now) worker.old }
+    ensures { IsBack site.now.shared.now site.now.set.now worker.old worker.new }
+{
     let asked = Call::Make {
         dir: ROOT,
         name: Name::new(alloc, format!(in alloc; "worker-{number}")?.as_bytes())?,
         kind: Kind::Directory,
     };
-    let home = made(ask(rt, alloc, volume, worker, asked)?)?;
+    let home = made(ask(rt, alloc, site, basis, worker, asked)?)?;
     let asked = Call::Make {
         dir: home,
         name: Name::new(alloc, b"note".as_slice())?,
         kind: Kind::File,
     };
-    let note = made(ask(rt, alloc, volume, worker, asked)?)?;
+    let note = made(ask(rt, alloc, site, basis, worker, asked)?)?;
     let asked = Call::Write {
         file: note,
         at: 0,
         bytes: Chunk::new(format!(in alloc; "written by worker {number}")?.into_bytes())?,
     };
-    done(ask(rt, alloc, volume, worker, asked)?)?;
-    done(ask(rt, alloc, volume, worker, Call::Fsync { node: note })?)?;
+    done(ask(rt, alloc, site, basis, worker, asked)?)?;
+    done(ask(rt, alloc, site, basis, worker, Call::Fsync { node: note })?)?;
     let asked = Call::Read {
         file: note,
         at: 0,
         count: 100,
     };
-    told(alloc, ask(rt, alloc, volume, worker, asked)?)
+    told(alloc, ask(rt, alloc, site, basis, worker, asked)?)
 }

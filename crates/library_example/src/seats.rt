@@ -1,4 +1,7 @@
 // Workers, and what comes of their errands.
+ghost use Rattle.std.specs.Prelude.{◌≡◌, IfOk, map};
+ghost use Rattle.library_example.specs.Seats.{worker_at};
+
 use crate::trouble::Trouble;
 use disk_box::Pen;
 use sfs_base::NoMemory;
@@ -17,7 +20,9 @@ pub struct Seat<D: Disk> {
 pub fn seated<D: Disk + Drop>(
     alloc: Global,
     workers: Vec<Worker<Pen<D>>>,
-) -> Result<Vec<Seat<D>>, NoMemory> {
+) -> Result<Vec<Seat<D>>, NoMemory>
+    ensures { IfOk result (λ seats. map worker_at seats.items ≡ workers.items) }
+{
     let mut seats = Vec::with_capacity(alloc, workers.len())?;
     for worker in workers {
         seats.push_reserved(Seat { worker, read: None });
@@ -29,7 +34,9 @@ pub fn seated<D: Disk + Drop>(
 pub fn parted<D: Disk + Drop>(
     alloc: Global,
     seats: Vec<Seat<D>>,
-) -> Result<(Vec<Worker<Pen<D>>>, Vec<Result<String, Trouble>>), NoMemory> {
+) -> Result<(Vec<Worker<Pen<D>>>, Vec<Result<String, Trouble>>), NoMemory>
+    ensures { IfOk result (λ parts. parts.0.items ≡ map worker_at seats.items) }
+{
     let mut workers = Vec::with_capacity(alloc, seats.len())?;
     let mut reads = Vec::with_capacity(alloc, seats.len())?;
     for seat in seats {

@@ -12,15 +12,11 @@ pub enum Trouble {
     /// No disk could be made.
     NoDisk,
     /// A disk was not mounted, or not recovered, for this fault.
-    NoTree {
-        fault: RecoverFault,
-    },
+    NoTree { fault: RecoverFault },
     /// A name or bytes that no call takes.
     BadWord,
     /// A call was answered so, and not as it was meant.
-    Refused {
-        reply: Reply,
-    },
+    Refused { reply: Reply },
 }
 
 impl Trouble {

@@ -1,13 +1,23 @@
 // A volume from its mount to its end.
+ghost use Rattle.std.specs.Prelude.{◌≡◌, ◌≤◌, IfOk, length};
+ghost use Rattle.workers.specs.Works.{IsBasisOf, Rests};
+ghost use Rattle.mount.specs.Serving.{ServesAt};
+ghost use Rattle.mount.specs.Workers.{AgreeAt};
+ghost use Rattle.library_example.specs.Calls.{IsBack};
+ghost use Rattle.library_example.specs.Left.{IsLeftOf};
+ghost use Rattle.library_example.specs.Seats.{AllAreBack, AllRest};
+
 use crate::errand::run_errand;
 use crate::seats::{Seat, parted, seated};
 use crate::trouble::Trouble;
-use mount::{Mounted, Volume, mount, unmount};
+use fsync_dir::FlushSite;
+use mount::{Mounted, mount, unmount};
 use sfs_dev::Disk;
 use std::alloc::Global;
 use std::sync::Wait;
 use std::thread::{self, Threads};
 use tree_laws::{History, Turns};
+use workers::Basis;
 
 // How many threads there are at most: one for each core that a disk may have.
 const MOST_THREADS: usize = 16;
@@ -25,16 +35,25 @@ pub struct Left<D> {
 fn run_all<R: Threads + Wait + Sync, D: Disk + Drop + Sync>(
     rt: &R,
     alloc: Global,
-    volume: &Volume<D>,
+    site: &FlushSite<D>,
+    basis: Basis,
     seats: &mut [Seat<D>],
-) {
+)
+    requires site { ServesAt site.now.shared.now site.now.set.now site.now.nodes site.now.cores }
+    requires basis { IsBasisOf site.now.shared.now basis }
+    requires rest { AllRest site.now.shared.now site.now.set.now seats.old }
+    ensures count { length seats.new ≡ length seats.old }
+    ensures back { AllAreBack site.now.shared.now site.now.set.now seats.old seats.new }
+{
     thread::for_each_mut(
         rt,
         seats,
         MOST_THREADS,
-        &|number, seat: &mut Seat<D>| {
-            seat.read = Some(run_errand(rt, alloc, volume, &mut seat.worker, number));
-        },
+        &|number, seat: &mut Seat<D>|
+            requires { ServesAt site.now.shared.now site.now.set.now site.now.nodes site.now.cores × IsBasisOf site.now.shared.now basis
+                × Rests site.now.shared.now (AgreeAt site.now.shared.now site.now.set.now) seat.now.worker }
+            ensures { IsBack site.entry.now.shared.now site.entry.now.set.now seat.entry.now.worker seat.exit.now.worker }
+        { seat.read = Some(run_errand(rt, alloc, site, basis, &mut seat.worker, number)) },
     );
 }
 
@@ -44,10 +63,19 @@ pub fn visit<R: Threads + Wait + Sync, D: Disk + Drop + Sync>(
     alloc: Global,
     disk: D,
     nodes: u32,
-) -> Result<Left<D>, Trouble> {
+) -> Result<Left<D>, Trouble>
+    requires { nodes ≤ 65536 }
+    ensures { IfOk result (IsLeftOf D.view nodes disk) }
+{
     let Mounted { volume, workers } = mount(alloc, disk, nodes)?;
     let mut seats = seated(alloc, workers)?;
-    run_all(rt, alloc, &volume, seats.as_mut_slice());
+    run_all(
+        rt,
+        alloc,
+        &volume.site(),
+        volume.basis,
+        seats.as_mut_slice(),
+    );
     let (workers, read) = parted(alloc, seats)?;
     let (disk, history, turns) = unmount(volume, workers);
     Ok(Left {

@@ -1,9 +1,11 @@
 // Scripts that are drawn, on a disk with too little room: an fsync that is refused says what it needs, and changes nothing.
-use crate::helpers::{holds, some};
-use crate::judged::{Base, Health, NODES, answers_in, base_of, tree_after};
+use crate::helpers::holds;
+use crate::judged::{Base, Health, NODES, answers_in, base_of};
+use crate::machine::assert_taken;
 use crate::runs::{copy_of, phases_in, run};
 use crate::scripts::{Dice, draw};
 use crate::shaking::Shaker;
+use crate::told::plain_tree;
 use crate::trees::assert_left;
 use fmt_super::Layout;
 use sfs_dev::Disk;
@@ -37,11 +39,9 @@ fn assert_crowded<R: Threads + Wait + Sync + Abort>(
     let script = phases_in(rt, alloc, text.as_slice());
     let disk = copy_of(rt, alloc, &base.image);
     let ran = run(rt, alloc, disk, NODES, &script, &Shaker::of(seed));
+    let _ = plain_tree(rt, alloc, base, &ran, Health::Crowded);
+    assert_taken(rt, alloc, base, &ran.history, &ran.turns);
     let calls = ran.disk.now();
-    let _ = some(
-        rt,
-        tree_after(rt, &ran.history, &base.first, Health::Crowded, calls),
-    );
     for pick in 0..4u32 {
         let calls = dice.below(calls.saturating_add(1));
         assert_left(rt, alloc, &ran.disk, calls, pick);

@@ -1,9 +1,10 @@
 // Scripts that are drawn, on a disk with ample room: their histories are legal, and where all is flushed the disk has the plain tree.
-use crate::helpers::{holds, some};
-use crate::judged::{Base, Health, NODES, answers_in, base_of, tree_after};
+use crate::helpers::holds;
+use crate::judged::{Base, Health, NODES, answers_in, base_of};
 use crate::runs::{copy_of, phases_in, run};
 use crate::scripts::{Dice, add_flushes, draw};
 use crate::shaking::Shaker;
+use crate::told::plain_tree;
 use crate::trees::{assert_alike, assert_left, is_deep, recovered};
 use fmt_super::Layout;
 use sfs_dev::Disk;
@@ -52,10 +53,7 @@ fn assert_drawn<R: Threads + Wait + Sync + Abort>(
         &script,
         &Shaker::of(seed),
     );
-    let plain = some(
-        rt,
-        tree_after(rt, &ran.history, &base.first, Health::Well, ran.disk.now()),
-    );
+    let plain = plain_tree(rt, alloc, base, &ran, Health::Well);
     let (acknowledged, _, _) = answers_in(&ran.history);
     holds(rt, 0 < acknowledged);
     let calls = dice.below(ran.disk.now().saturating_add(1));

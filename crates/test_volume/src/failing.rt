@@ -1,9 +1,11 @@
 // Scripts that are drawn, on a disk one of whose device calls fails: their histories are legal, and what a crash leaves then can be recovered.
-use crate::helpers::{got, holds, same, some};
-use crate::judged::{Base, Health, NODES, answers_in, base_of, tree_after};
+use crate::helpers::{got, holds, same};
+use crate::judged::{Base, Health, NODES, answers_in, base_of};
+use crate::machine::assert_taken;
 use crate::runs::{Ran, copy_of, phases_in, run, run_on};
 use crate::scripts::{Dice, draw};
 use crate::shaking::Shaker;
+use crate::told::plain_tree;
 use crate::trees::{assert_left, assert_recovers};
 use dev_fake::FailAt;
 use fmt_super::Layout;
@@ -48,8 +50,8 @@ fn assert_ran(rt: &impl Abort, alloc: Global, base: &Base, ran: Ran<FailAt>) -> 
     } else {
         Health::FailsOnce
     };
-    let calls = ran.disk.now();
-    let _ = some(rt, tree_after(rt, &ran.history, &base.first, health, calls));
+    let _ = plain_tree(rt, alloc, base, &ran, health);
+    assert_taken(rt, alloc, base, &ran.history, &ran.turns);
     let (_, failed, _) = answers_in(&ran.history);
     same(rt, &failed, &faults);
     let disk = ran.disk.into_inner();

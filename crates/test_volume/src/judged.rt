@@ -71,13 +71,13 @@ fn may_stand(call: &Call, due: &Reply, given: &Reply, health: Health) -> bool {
     }
 }
 
-// Whether an entry is an fsync that is answered Ok.
-fn is_acknowledged(entry: &Entry) -> bool {
+/// Whether an entry is an fsync that is answered Ok.
+pub(crate) fn is_acknowledged(entry: &Entry) -> bool {
     matches!((&entry.call, &entry.reply), (Call::Fsync { .. }, Reply::Ok))
 }
 
-// Whether a call asks for no more bytes than one may.
-fn is_readable(call: &Call) -> bool
+/// Whether a call asks for no more bytes than one may.
+pub(crate) fn is_readable(call: &Call) -> bool
     ensures { result ≡ true → IsReadable call.now }
 {
     match call {

@@ -16,6 +16,8 @@ mod helpers;
 #[cfg(test)]
 mod judged;
 #[cfg(test)]
+mod machine;
+#[cfg(test)]
 mod runs;
 #[cfg(test)]
 mod scripts;
@@ -23,6 +25,10 @@ mod scripts;
 mod shaking;
 #[cfg(test)]
 mod smallest;
+#[cfg(test)]
+mod together;
+#[cfg(test)]
+mod told;
 #[cfg(test)]
 mod trees;
 #[cfg(test)]
