@@ -1,5 +1,5 @@
-//! A program over a mounted volume, and no script: two workers, a thread each, make a directory and a file in it, write the file, flush it and read it back. Then the
-//! volume is unmounted, and what recovers of its disk is printed.
+//! A program over a mounted volume, and no script: two workers, a thread each, make a directory and a file in it, write the file, flush it and read it back.
+//! Then the volume is unmounted, and what recovers of its disk is printed.
 #![tactic(auto)]
 
 mod disks;

@@ -50,7 +50,8 @@ fn run_all<R: Threads + Wait + Sync, D: Disk + Drop + Sync>(
         seats,
         MOST_THREADS,
         &|number, seat: &mut Seat<D>|
-            requires { ServesAt site.now.shared.now site.now.set.now site.now.nodes site.now.cores × IsBasisOf site.now.shared.now basis × Rests site.now.shared.now (AgreeAt site.now.shared.now site.now.set.now) seat.now.worker }
+            requires { ServesAt site.now.shared.now site.now.set.now site.now.nodes site.now.cores × IsBasisOf site.now.shared.now basis
+                × Rests site.now.shared.now (AgreeAt site.now.shared.now site.now.set.now) seat.now.worker }
             ensures { IsBack site.entry.now.shared.now site.entry.now.set.now seat.entry.now.worker seat.exit.now.worker }
         { seat.read = Some(run_errand(rt, alloc, site, basis, &mut seat.worker, number)) },
     );

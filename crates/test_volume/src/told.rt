@@ -85,8 +85,8 @@ fn all_told(turns: &Turns, history: &History) -> bool {
     true
 }
 
-/// The tree after the history of a run that began with a disk's tree. Asserts that the history is legal, by the plain tree and by its text, and that each fsync is
-/// answered as its last turn says.
+/// The tree after the history of a run that began with a disk's tree. Asserts that the history is legal, by the plain tree and by its text, and that each
+/// fsync is answered as its last turn says.
 pub(crate) fn plain_tree<D: Disk>(
     rt: &impl Abort,
     alloc: Global,
