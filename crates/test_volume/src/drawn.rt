@@ -14,7 +14,7 @@ use std::sync::Wait;
 use std::thread::Threads;
 
 // How many scripts are drawn.
-const SCRIPTS: u64 = 30;
+const SCRIPTS: u64 = 20;
 
 // A disk whose cores have one journal slot each, and one whose cores have two.
 const ONE_SLOT: Layout = Layout {
