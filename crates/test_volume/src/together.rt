@@ -16,7 +16,7 @@ use std::thread::Threads;
 use tree_laws::{TurnAct, Turns};
 
 // How often each script is run, each time with other rests at the gate.
-const TIMES: u64 = 8;
+const TIMES: u64 = 4;
 
 const LAYOUT: Layout = Layout {
     blocks: 128,
