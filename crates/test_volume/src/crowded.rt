@@ -1,4 +1,6 @@
 // Scripts that are drawn, on a disk with too little room: an fsync that is refused says what it needs, and changes nothing.
+ghost use Rattle.test_volume.specs.Base.{IsBase};
+
 use crate::helpers::holds;
 use crate::judged::{Base, Health, NODES, answers_in, base_of};
 use crate::machine::assert_taken;
@@ -31,7 +33,9 @@ fn assert_crowded<R: Threads + Wait + Sync + Abort>(
     alloc: Global,
     base: &Base,
     seed: u64,
-) -> (u64, u64) {
+) -> (u64, u64)
+    requires { IsBase base.now }
+{
     let mut dice = Dice::of(seed);
     let workers = 1 + dice.below(4);
     let phases = 1 + dice.below(2);

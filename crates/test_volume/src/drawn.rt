@@ -1,4 +1,6 @@
 // Scripts that are drawn, on a disk with ample room: their histories are legal, and where all is flushed the disk has the plain tree.
+ghost use Rattle.test_volume.specs.Base.{IsBase};
+
 use crate::helpers::holds;
 use crate::judged::{Base, Health, NODES, answers_in, base_of};
 use crate::runs::{copy_of, phases_in, run};
@@ -38,7 +40,9 @@ fn assert_drawn<R: Threads + Wait + Sync + Abort>(
     alloc: Global,
     base: &Base,
     seed: u64,
-) -> bool {
+) -> bool
+    requires { IsBase base.now }
+{
     let mut dice = Dice::of(seed);
     let workers = 1 + dice.below(4);
     let phases = 1 + dice.below(2);

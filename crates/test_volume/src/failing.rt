@@ -1,4 +1,8 @@
 // Scripts that are drawn, on a disk one of whose device calls fails: their histories are legal, and what a crash leaves then can be recovered.
+ghost use Rattle.std.specs.List.{AllByRecursion};
+ghost use Rattle.script.specs.Ready.{LinesMayRun};
+ghost use Rattle.test_volume.specs.Base.{IsBase};
+
 use crate::helpers::{got, holds, same};
 use crate::judged::{Base, Health, NODES, answers_in, base_of};
 use crate::machine::assert_taken;
@@ -34,7 +38,9 @@ fn calls_of<R: Threads + Wait + Sync + Abort>(
     base: &Base,
     script: &Script,
     seed: u64,
-) -> u64 {
+) -> u64
+    requires { AllByRecursion LinesMayRun script.now }
+{
     let disk = copy_of(rt, alloc, &base.image);
     run(rt, alloc, disk, NODES, script, &Shaker::of(seed))
         .disk
@@ -42,7 +48,9 @@ fn calls_of<R: Threads + Wait + Sync + Abort>(
 }
 
 // Asserts that the history is legal, that one fsync met the fault if there was one, and that what is left recovers. Says whether there was one.
-fn assert_ran(rt: &impl Abort, alloc: Global, base: &Base, ran: Ran<FailAt>) -> bool {
+fn assert_ran(rt: &impl Abort, alloc: Global, base: &Base, ran: Ran<FailAt>) -> bool
+    requires { IsBase base.now }
+{
     holds(rt, ran.ended);
     let faults = ran.disk.faults();
     let health = if faults == 0 {
@@ -67,7 +75,9 @@ fn assert_failing<R: Threads + Wait + Sync + Abort>(
     alloc: Global,
     base: &Base,
     seed: u64,
-) -> bool {
+) -> bool
+    requires { IsBase base.now }
+{
     let mut dice = Dice::of(seed);
     let workers = 1 + dice.below(4);
     let phases = 1 + dice.below(2);

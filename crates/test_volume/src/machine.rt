@@ -1,7 +1,7 @@
 // The plain machine of calls and commits, which is told a history and then the turns at the disk.
 ghost use Rattle.std.specs.Prelude.{◌≡◌, length, IfSome};
-ghost use Rattle.tree_laws.specs.Sound.{IsSound};
 ghost use Rattle.cut_laws.specs.Machine.{MachineState, MayBeTold};
+ghost use Rattle.test_volume.specs.Base.{IsBase};
 
 use crate::helpers::{got, holds, some};
 use crate::judged::{Base, CORES, is_acknowledged, is_readable};
@@ -121,8 +121,7 @@ pub(crate) fn assert_taken(
     history: &History,
     turns: &Turns,
 )
-    requires sound { IsSound base.now.first }
-    requires cores { length base.now.first.made ≡ CORES }
+    requires { IsBase base.now }
 {
     let state = State::new(alloc, got(rt, base.first.copy()));
     let mut machine = Machine { state };
