@@ -40,10 +40,20 @@ pub fn copy_of(rt: &impl Abort, alloc: Global, disk: &Memory) -> Memory {
 
 /// A disk with an empty image, which has all its blocks. No device call was made on it yet.
 pub fn image<R: Threads + Wait + Sync + Abort>(rt: &R, alloc: Global, size: Size) -> Memory {
+    image_with(rt, alloc, size, 1)
+}
+
+/// The same whose cores have so many journal slots each.
+pub fn image_with<R: Threads + Wait + Sync + Abort>(
+    rt: &R,
+    alloc: Global,
+    size: Size,
+    slots: u32,
+) -> Memory {
     let (blocks, inodes, cores) = size;
     holds(rt, blocks <= 262_144);
     let mut words = words_of(rt, alloc, &["mkfs"]);
-    for number in [blocks, inodes, cores] {
+    for number in [blocks, inodes, cores, slots] {
         got(rt, words.push(got(rt, format!(in alloc; "{number}"))));
     }
     let (source, sink) = ends(rt, alloc, b"".as_slice());

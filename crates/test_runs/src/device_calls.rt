@@ -3,7 +3,7 @@
 // commit frees it first, by r + 3 more: each record goes into the table, a sync, the gate, a sync. An fsync with nothing to write makes
 // none, and behind the last acknowledgement no call is made.
 use crate::bench::{SMALL, copy_of, image, run_script};
-use crate::helpers::{got, holds_at, same};
+use crate::helpers::{got, holds, holds_at, same, same_list};
 use sfs_dev::{Disk, Memory};
 use std::alloc::Global;
 use std::process::Abort;
@@ -48,6 +48,13 @@ static FIRST_RUNS: [(&str, &[u64]); 11] = [
         &[7, 11],
     ),
 ];
+
+// A file that is flushed twice before its directories are: the second one finds nothing to write.
+static TWICE: &str =
+    "0 mkdir /p\n0 mkdir /q\n0 create /p/f\n0 write /p/f 0 6869\n0 fsync /p/f\n0 fsync /p/f\n0 link /p/f /q/f\n0 unlink /p/f\n0 fsync /p\n0 fsync /q\n";
+
+static TWICE_TEXT: &str =
+    "0 0 mkdir 0 p = node 64 dir\n1 0 mkdir 0 q = node 65 dir\n2 0 look 0 p = node 64 dir\n3 0 create 64 f = node 66 file\n4 0 look 0 p = node 64 dir\n5 0 look 64 f = node 66 file\n6 0 write 66 0 6869 = ok\n7 0 look 0 p = node 64 dir\n8 0 look 64 f = node 66 file\n9 0 fsync 66 = ok\n10 0 look 0 p = node 64 dir\n11 0 look 64 f = node 66 file\n12 0 fsync 66 = ok\n13 0 look 0 p = node 64 dir\n14 0 look 64 f = node 66 file\n15 0 look 0 q = node 65 dir\n16 0 link 66 65 f = ok\n17 0 look 0 p = node 64 dir\n18 0 unlink 64 f = ok\n19 0 look 0 p = node 64 dir\n20 0 fsync 64 = ok\n21 0 look 0 q = node 65 dir\n22 0 fsync 65 = ok\n";
 
 // The number of device calls at each acknowledgement.
 fn acknowledged(rt: &impl Abort, alloc: Global, history: &History) -> Vec<u64> {
@@ -159,4 +166,15 @@ fn assert_behind(rt: &impl Abort, mount: u64, moments: &[u64], due: &[u64]) {
     for (moment, due) in moments.iter().zip(due) {
         same(rt, &moment.saturating_sub(mount), due);
     }
+}
+
+#[test]
+fn a_file_that_is_flushed_again_makes_no_call(rt: HostRuntime) {
+    let alloc = rt.alloc();
+    let disk = image(&rt, alloc, SMALL);
+    let ran = run_script(&rt, alloc, TWICE.as_bytes(), disk);
+    same_list(&rt, ran.text.as_slice(), TWICE_TEXT.as_bytes());
+    let moments = acknowledged(&rt, alloc, &ran.history);
+    holds(&rt, moments.len() == 4);
+    same(&rt, &moments[0], &moments[1]);
 }

@@ -1,7 +1,7 @@
 // Runs that a fault of one of the ends or of the disk breaks off.
 use crate::bench::{
-    SMALL, assert_only_read, assert_shown, blank, copy_of, done, fresh, image, run_alone,
-    run_between, run_script,
+    SMALL, assert_only_read, assert_shown, blank, copy_of, done, fresh, image, image_with,
+    run_alone, run_between, run_script,
 };
 use crate::helpers::{got, holds, same, same_list, some};
 use dev_fake::FailAt;
@@ -109,15 +109,30 @@ fn number_of_sync(disk: &Memory, place: usize) -> Option<u64> {
 fn a_commit_whose_sync_fails_stops_the_later_ones(rt: HostRuntime) {
     // Each commit has two syncs of its own, and from the second one on two more, first, by which its slot is freed.
     for place in 2..6usize {
-        assert_stops(&rt, rt.alloc(), place);
+        assert_stops(&rt, rt.alloc(), 1, place, place == 5);
     }
 }
 
-// Asserts that the second commit fails at this sync, and the third one stops.
-fn assert_stops<R: Threads + Wait + Sync + Abort>(rt: &R, alloc: Global, place: usize) {
-    let whole = run_script(rt, alloc, THRICE, image(rt, alloc, SMALL));
+#[test]
+fn so_it_does_where_cores_have_three_slots(rt: HostRuntime) {
+    // Then no slot is freed before.
+    for place in 2..4usize {
+        assert_stops(&rt, rt.alloc(), 3, place, place == 3);
+    }
+}
+
+// Asserts that the second commit fails at this sync, before its gate is written or behind it, and the third one stops.
+fn assert_stops<R: Threads + Wait + Sync + Abort>(
+    rt: &R,
+    alloc: Global,
+    slots: u32,
+    place: usize,
+    opened: bool,
+) {
+    let image = image_with(rt, alloc, SMALL, slots);
+    let whole = run_script(rt, alloc, THRICE, copy_of(rt, alloc, &image));
     let number = some(rt, number_of_sync(&whole.disk, place));
-    let disk = FailAt::new(image(rt, alloc, SMALL), got(rt, vec![in alloc; number]));
+    let disk = FailAt::new(image, got(rt, vec![in alloc; number]));
     let ran = run_script(rt, alloc, THRICE, disk);
     same(rt, &ran.status, &Status::Done);
     same_list(
@@ -125,15 +140,15 @@ fn assert_stops<R: Threads + Wait + Sync + Abort>(rt: &R, alloc: Global, place: 
         ran.text.as_slice(),
         b"0 0 mkdir 0 a = node 64 dir\n1 0 fsync 0 = ok\n2 0 mkdir 0 b = node 65 dir\n3 0 fsync 0 = failed\n4 0 mkdir 0 c = node 66 dir\n5 0 fsync 0 = stopped 1\n".as_slice(),
     );
-    assert_left_behind(rt, alloc, &ran.disk.into_inner(), place);
+    assert_left_behind(rt, alloc, &ran.disk.into_inner(), opened);
 }
 
-// Asserts that what a crash leaves has the first commit, and the second one only where its gate was written before the sync that failed.
+// Asserts that what a crash leaves has the first commit, and the second one only where its gate was written.
 fn assert_left_behind<R: Threads + Wait + Sync + Abort>(
     rt: &R,
     alloc: Global,
     disk: &Memory,
-    place: usize,
+    opened: bool,
 ) {
     for pick in 0..8u32 {
         let left = got(rt, disk.left(alloc, u64::MAX, pick));
@@ -142,6 +157,6 @@ fn assert_left_behind<R: Threads + Wait + Sync + Abort>(
         let first = b"dir 3 1 /\ndir 2 0 /a\n".as_slice();
         let second = b"dir 4 2 /\ndir 2 0 /a\ndir 2 0 /b\n".as_slice();
         let is_second = ran.text.as_slice() == second;
-        holds(rt, ran.text.as_slice() == first || is_second && place == 5);
+        holds(rt, ran.text.as_slice() == first || is_second && opened);
     }
 }

@@ -1,7 +1,7 @@
 // What a crash leaves of a run: its disk is broken off after each number of device calls, and for what was pending then there are
 // eight draws. Each image is shown as one of the trees that the script's commits make one after another: with those that were
 // acknowledged, and with the next one or without it.
-use crate::bench::{Size, assert_text, copy_of, done, image, run_script};
+use crate::bench::{Size, assert_text, copy_of, done, image, image_with, run_script};
 use crate::helpers::{got, holds, same, same_list};
 use dev_fake::{FailAt, Fuse};
 use scalefs_run::Status;
@@ -14,6 +14,9 @@ use tree_laws::History;
 
 // A disk of thirteen blocks for data. It has few inodes, since each of its images is copied and shown.
 const ROOMY: Size = (24, 16, 2);
+
+// The same with three journal slots a core, of four blocks each.
+const RINGS: Size = (40, 16, 2);
 
 // Directories that move into and out of each other, so that a directory flushed without its other side would lie in itself.
 const MOVES: &str =
@@ -122,15 +125,14 @@ fn assert_left<R: Threads + Wait + Sync + Abort>(
 fn assert_broken_off<R: Threads + Wait + Sync + Abort>(
     rt: &R,
     alloc: Global,
-    size: Size,
+    image: &Memory,
     script: &str,
     trees: &[&str],
 ) {
-    let image = image(rt, alloc, size);
-    let whole = run_script(rt, alloc, script.as_bytes(), copy_of(rt, alloc, &image));
+    let whole = run_script(rt, alloc, script.as_bytes(), copy_of(rt, alloc, image));
     let mut met = got(rt, vec![in alloc; false; trees.len()]);
     for passes in 0..=whole.disk.now() {
-        let fuse = Fuse::new(copy_of(rt, alloc, &image), passes);
+        let fuse = Fuse::new(copy_of(rt, alloc, image), passes);
         let ran = run_script(rt, alloc, script.as_bytes(), fuse);
         let acknowledged = acknowledged_in(&ran.history);
         let disk = ran.disk.into_inner();
@@ -144,15 +146,25 @@ fn assert_broken_off<R: Threads + Wait + Sync + Abort>(
 #[test]
 fn moves_are_whole_after_each_device_call(rt: HostRuntime) {
     let alloc = rt.alloc();
-    assert_text(&rt, alloc, MOVES, image(&rt, alloc, ROOMY), MOVES_TEXT);
-    assert_broken_off(&rt, alloc, ROOMY, MOVES, &MOVES_TREES);
+    let image = image(&rt, alloc, ROOMY);
+    assert_text(&rt, alloc, MOVES, copy_of(&rt, alloc, &image), MOVES_TEXT);
+    assert_broken_off(&rt, alloc, &image, MOVES, &MOVES_TREES);
+}
+
+#[test]
+fn moves_are_whole_where_cores_have_three_slots(rt: HostRuntime) {
+    let alloc = rt.alloc();
+    let image = image_with(&rt, alloc, RINGS, 3);
+    assert_text(&rt, alloc, MOVES, copy_of(&rt, alloc, &image), MOVES_TEXT);
+    assert_broken_off(&rt, alloc, &image, MOVES, &MOVES_TREES);
 }
 
 #[test]
 fn files_are_whole_after_each_device_call(rt: HostRuntime) {
     let alloc = rt.alloc();
-    assert_text(&rt, alloc, FILES, image(&rt, alloc, FULL), FILES_TEXT);
-    assert_broken_off(&rt, alloc, FULL, FILES, &FILES_TREES);
+    let image = image(&rt, alloc, FULL);
+    assert_text(&rt, alloc, FILES, copy_of(&rt, alloc, &image), FILES_TEXT);
+    assert_broken_off(&rt, alloc, &image, FILES, &FILES_TREES);
 }
 
 // The same where one device call fails, and the later ones do not.
