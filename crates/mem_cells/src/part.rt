@@ -33,6 +33,9 @@ pub struct LogPart {
     rooms: u64,
     entries: u64,
     alloc: Global,
+    // The logs of the cores lie side by side in memory, and each call that changes something writes to its own. So they lie a line of
+    // memory further apart.
+    apart: [u64; 8],
 }
 
 impl Model for LogPart {
@@ -59,6 +62,7 @@ impl LogPart {
             rooms: 0,
             entries: 0,
             alloc,
+            apart: [0; 8],
         }
     }
 
@@ -199,6 +203,7 @@ impl LogPart {
             rooms: self.rooms,
             entries: self.entries,
             alloc: self.alloc,
+            apart: [0; 8],
         })
     }
 }
