@@ -39,7 +39,7 @@ use Rattle.home_laws.proofs.Named.{own_names}
 use Rattle.note_laws.specs.Run.{TableRun}
 use Rattle.note_laws.specs.Notes.{CoreNotes, calls_noted}
 use Rattle.note_laws.specs.There.{look_noted, SawBirth, GathersByNotes, WasThere, TouchedWereThere}
-use Rattle.note_laws.specs.Copies.{KeepsFor}
+use Rattle.log_copy.specs.Copies.{KeepsFor}
 use Rattle.note_laws.proofs.Along.{legal_begin}
 use Rattle.note_laws.proofs.Noting.{waits_alive}
 use Rattle.note_laws.proofs.Born.{birthplace_is}

@@ -1,5 +1,5 @@
 -- Copies of a core's log that need not have all that it keeps.
-use Rattle.std.specs.Prelude.{◌≡◌, ◌⊎◌, ℕ, Bool, true, []}
+use Rattle.std.specs.Prelude.{◌≡◌, ◌⊎◌, ℕ, Bool, true, [], All}
 use Rattle.tree_laws.specs.declared.changes.Change.{Change}
 use Rattle.cut_laws.specs.Rules.{IsOneOf}
 use Rattle.mem_cells.specs.Part.{CoreLog, changes_kept}
@@ -11,3 +11,7 @@ pub record KeepsFor (looked_at : ℕ → Bool) (log copy : CoreLog) : Type 0 whe
   pub own : (directory : ℕ) → looked_at directory ≡ true → changes_kept copy directory ≡ changes_kept log directory
   pub naming : (directory : ℕ) (change : Change) → IsOneOf (changes_kept log directory) change → looked_at change.child.0 ≡ true
       → changes_kept copy directory ≡ changes_kept log directory
+
+-- Each change that a log keeps of a directory is one of this directory.
+abbrev pub KeepsOwn : CoreLog → Type 0
+KeepsOwn log = (directory : ℕ) → All (λ change. change.dir.0 ≡ directory) (changes_kept log directory)
