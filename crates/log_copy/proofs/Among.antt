@@ -12,7 +12,7 @@ use Rattle.sfs_base.proofs.BasicNumbers.{less_not_same}
 use Rattle.sfs_base.proofs.BasicTruth.{or_false}
 use Rattle.tree_laws.specs.NameRow.{node_number}
 use Rattle.keyed_list.specs.Ascending.{AscendBy, item_with}
-use Rattle.log_copy.specs.Steps.{is_one_of}
+use Rattle.log_copy.specs.Copies.{is_one_of}
 
 -- whether a node is listed is whether an item has its number
 pub listed_item : (nodes : List NodeId) (n : ℕ) → is_listed (map node_number nodes) n ≡ is_some (item_with node_number n nodes)
@@ -49,7 +49,7 @@ pub not_before : (nodes : List NodeId) → IsStrictlyIncreasing (map node_number
     → is_one_of (take i nodes) (get_or nodes i d).0 ≡ false
 not_before nodes up i d within =
     list_any_none (λ listed. nat_eq listed (get_or nodes i d).0) (map node_number (take i nodes)) (λ k e less.
-    let long  = length-map (take i nodes) node_number in
+    let long = length-map (take i nodes) node_number in
     let few = length-take i nodes in
     let early : k < i = omega (arith, less, long, few, within) in
     let there : get_or (map node_number (take i nodes)) k e ≡ (get_or nodes k (record { 0 = e })).0 =

@@ -15,8 +15,8 @@ use Rattle.cut_laws.proofs.Listed.{from_map, listed_one}
 use Rattle.mem_cells.specs.Part.{CoreLog, changes_kept}
 use Rattle.mem_cells.specs.Named.{namings_of, namings_within, IsNamedOutside}
 use Rattle.mem_cells.proofs.Named.{outside_namings_tell}
-use Rattle.log_copy.specs.Copies.{KeepsFor}
-use Rattle.log_copy.specs.Steps.{is_one_of, HasDirectories, IsCounted}
+use Rattle.log_copy.specs.Copies.{is_one_of, KeepsFor}
+use Rattle.log_copy.specs.Steps.{HasDirectories, IsCounted}
 
 -- one of a list has a place there
 place_of : {X : Type 0} (xs : List X) (x : X) → IsOneOf xs x → (place : ℕ) × (slice_get xs place ≡ Some x)

@@ -11,8 +11,8 @@ use Rattle.tree_laws.specs.NameRow.{node_number}
 use Rattle.tree_laws.specs.declared.changes.Change.{Change}
 use Rattle.cut_laws.specs.Rules.{IsOneOf}
 use Rattle.mem_cells.specs.Part.{CoreLog, changes_kept, is_after, IsLeastAfter, IsNextDirectory}
-use Rattle.log_copy.specs.Copies.{KeepsFor}
-use Rattle.log_copy.specs.Steps.{is_one_of, GetsDirectory, HasDirectories, NamesNone}
+use Rattle.log_copy.specs.Copies.{is_one_of, KeepsFor}
+use Rattle.log_copy.specs.Steps.{GetsDirectory, HasDirectories, NamesNone}
 use Rattle.log_copy.proofs.Among.{listed_more}
 use Rattle.log_copy.proofs.Counted.{all_own, none_other, all_or_none, of_all}
 

@@ -5,10 +5,7 @@ use Rattle.sfs_base.specs.Listed.{is_listed}
 use Rattle.tree_laws.specs.NameRow.{node_number}
 use Rattle.mem_cells.specs.Part.{CoreLog, changes_kept, AscendByDirectory}
 use Rattle.mem_cells.specs.Named.{namings_kept}
-
--- whether a node is one of some
-abbrev pub is_one_of : List NodeId → ℕ → Bool
-is_one_of nodes node = is_listed (map node_number nodes) node
+use Rattle.log_copy.specs.Copies.{is_one_of}
 
 -- A copy gets the changes that a log keeps of a directory, and of all others it has what it had; it counts one entry more at most.
 pub record GetsDirectory (log : CoreLog) (directory : ℕ) (before after : CoreLog) : Type 0 where

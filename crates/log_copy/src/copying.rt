@@ -4,8 +4,8 @@ ghost use Rattle.std.specs.Prelude.{◌≡◌, ◌<◌, ◌≤◌, ◌-◌, ◌^
 ghost use Rattle.std.specs.List.Sorted.{IsStrictlyIncreasing};
 ghost use Rattle.tree_laws.specs.NameRow.{node_number};
 ghost use Rattle.mem_cells.specs.Part.{changes_kept};
-ghost use Rattle.log_copy.specs.Copies.{KeepsFor, KeepsOwn};
-ghost use Rattle.log_copy.specs.Steps.{is_one_of, GetsDirectory, HasDirectories};
+ghost use Rattle.log_copy.specs.Copies.{is_one_of, KeepsFor, KeepsOwn};
+ghost use Rattle.log_copy.specs.Steps.{GetsDirectory, HasDirectories};
 
 use crate::naming::{are_counted, is_among, names_one};
 use mem_cells::LogPart;

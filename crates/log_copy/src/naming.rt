@@ -2,7 +2,8 @@
 ghost use Rattle.std.specs.Prelude.{◌≡◌, true, false, map, All};
 ghost use Rattle.std.specs.List.Sorted.{IsStrictlyIncreasing};
 ghost use Rattle.tree_laws.specs.NameRow.{node_number};
-ghost use Rattle.log_copy.specs.Steps.{is_one_of, IsCounted, NamesNone};
+ghost use Rattle.log_copy.specs.Copies.{is_one_of};
+ghost use Rattle.log_copy.specs.Steps.{IsCounted, NamesNone};
 
 use mem_cells::LogPart;
 use sfs_base::NodeId;

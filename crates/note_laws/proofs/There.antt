@@ -57,7 +57,7 @@ in_one_part (log ∷ parts) directory all change one =
     ]
 
 -- what a copy has is in the log
-in_whole : {looked_at : ℕ → Bool} {log copy : CoreLog} → KeepsFor looked_at log copy → (directory : ℕ) (change : Change)
+pub in_whole : {looked_at : ℕ → Bool} {log copy : CoreLog} → KeepsFor looked_at log copy → (directory : ℕ) (change : Change)
     → IsOneOf (changes_kept copy directory) change → IsOneOf (changes_kept log directory) change
 in_whole keeps directory change one = elim (keeps.each directory) [
   | inl whole ↦ subst (λ l. IsOneOf l change) whole one

@@ -1,6 +1,5 @@
 use Rattle.std.proofs.Common.{sym, subst}
-use Rattle.log_copy.specs.Copies.{KeepsFor}
-use Rattle.log_copy.specs.Steps.{is_one_of}
+use Rattle.log_copy.specs.Copies.{is_one_of, KeepsFor}
 use Rattle.log_copy.proofs.Counted.{counted_enough}
 use Rattle.log_copy.proofs.copying.copy_for.Goals.{then-not-are_counted+in_ok-copy_naming, else-not-are_counted}
 use Rattle.log_copy.proofs.copying.copy_for.Goals as goal

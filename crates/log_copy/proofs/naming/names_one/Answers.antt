@@ -2,7 +2,7 @@ use Rattle.std.proofs.Common.{◌≡◌, ◌∙◌, false, sym, ap}
 use Rattle.std.specs.Option.{option_copied}
 use Rattle.tree_laws.specs.declared.changes.Change.{Change}
 use Rattle.mem_cells.specs.Part.{changes_kept}
-use Rattle.log_copy.specs.Steps.{is_one_of}
+use Rattle.log_copy.specs.Copies.{is_one_of}
 use Rattle.log_copy.proofs.Counted.{all_read, all_passed}
 use Rattle.log_copy.proofs.naming.names_one.Goals as goal
 
