@@ -46,7 +46,7 @@ fn cells_for(nodes: &NodeList) -> Result<u32, NoMemory>
 }
 
 /// Holds what was flushed of the nodes that an fsync concerns by the logs of all cores, each as it was at some moment since all of that was
-/// held. It holds what it knows, looks at what the logs have of that, and where it concerns other nodes than it holds it lets all go and begins again with those, with the
+/// held. It holds what it knows, looks, and where it concerns other nodes than it holds it lets all go and begins again with those, with the
 /// same stamp; it waits while another core has one of the cells. There is room for one cell more then, which may lie above all of these, as a log
 /// does. Where memory is refused it holds nothing.
 pub fn catch_nodes<R: Wait>(
