@@ -30,8 +30,8 @@ use Rattle.close_laws.proofs.Owing.{tells}
 use Rattle.close_laws.proofs.Drawn.{Drawing}
 use Rattle.close_laws.proofs.Opens.{AloftOpen, ReservedOpen}
 use Rattle.close_laws.proofs.Flying.{durables_more, durables_stay}
-use Rattle.recorded_laws.proofs.Opens.{OpensAt, EndsSo, ends_opened, more_under, had_open, ends_done, was_open, HasTurnUnder, comes_reserved}
-use Rattle.recorded_laws.proofs.Played.{is_underway, others_stay}
+use Rattle.end_laws.proofs.Opens.{OpensAt, EndsSo, ends_opened, more_under, had_open, ends_done, was_open, HasTurnUnder, comes_reserved}
+use Rattle.end_laws.proofs.Played.{is_underway, others_stay}
 
 module _ (named : Numbered) (layout : Layout) (before moment : ℕ) (first : Space) (log : List (Event Label))
     (may : MayFrom layout before log (first_past moment)) (told : PensTold named.stamps log) (stand : TurnsStand named.stamps log) where

@@ -28,10 +28,10 @@ use Rattle.close_laws.specs.Maps.{Numbered, ReservedAs}
 use Rattle.close_laws.specs.Own.{NotesTurn}
 use Rattle.close_laws.specs.Beside.{stamps_under, brought_at}
 use Rattle.end_laws.specs.Mount.{MountEnd, MountEnds, AreNamedAlong}
-use Rattle.recorded_laws.specs.Recorded.{kept_at}
-use Rattle.recorded_laws.proofs.Places.{begun, layout, PlaceAt, place_there, opens_there, comes_returned, reserved_as}
-use Rattle.recorded_laws.proofs.Opens.{OpensAt}
-use Rattle.recorded_laws.proofs.Played.{plays_done, is_underway, open_underway}
+use Rattle.end_laws.specs.Recorded.{kept_at}
+use Rattle.end_laws.proofs.TurnPlaces.{begun, layout, PlaceAt, place_there, opens_there, comes_returned, reserved_as}
+use Rattle.end_laws.proofs.Opens.{OpensAt}
+use Rattle.end_laws.proofs.Played.{plays_done, is_underway, open_underway}
 
 module _ (D : Type 0) (at : MountEnd) (named : Numbered) (ends : MountEnds D at) (are : AreNamedAlong at named) where
   -- A turn comes right behind a label that reserved the number of its fsync.

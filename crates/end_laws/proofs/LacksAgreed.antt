@@ -15,9 +15,9 @@ use Rattle.flush_agrees.specs.Closing.{LacksAtEnd}
 use Rattle.end_laws.specs.Mount.{MountEnd, MountEnds, IsFsyncAt, CoreEnds, run_at}
 use Rattle.end_laws.proofs.Named.{mounts_are_named}
 use Rattle.end_laws.proofs.Landed.{turn_of}
-use Rattle.recorded_laws.specs.Lacks.{LackMade, LacksAreAgreed, AgreedMountsAreRecorded}
-use Rattle.recorded_laws.proofs.Recorded.{mounts_are_recorded}
-use Rattle.recorded_laws.proofs.Lacking.{made_lacks_are_told}
+use Rattle.end_laws.specs.Lacks.{LackMade, LacksAreAgreed, AgreedMountsAreRecorded}
+use Rattle.end_laws.proofs.Recorded.{mounts_are_recorded}
+use Rattle.end_laws.proofs.Lacking.{made_lacks_are_told}
 
 module _ (D : Type 0) (at : MountEnd) (ends : MountEnds D at) (one : FlushTold) (there : IsFsyncAt at one) (turn : Turn) (told : LackTold)
     (among : IsOneOf (turns_in one.turns) turn) (did : turn.act ≡ act.Short told.kind told.asked told.have) where

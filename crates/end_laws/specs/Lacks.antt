@@ -24,7 +24,7 @@ use Rattle.close_laws.specs.Maps.{past_of, Numbered}
 use Rattle.fsync_commit.specs.Asked.{need_planned}
 use Rattle.flush_agrees.specs.Made.{SeesConcerned}
 use Rattle.end_laws.specs.Mount.{MountEnd, run_at, MountEnds, AreNamedAlong}
-use Rattle.recorded_laws.specs.Recorded.{LacksAreTold}
+use Rattle.end_laws.specs.Recorded.{LacksAreTold}
 
 -- What a core made for the fsync of a turn, as a mount ends, by a plan with no more new inodes than a word counts; and the place of its labels where the
 -- turn was noted: the nodes that the fsync concerns had not moved there, and a map that has gone along the labels up to there has too little of this for what

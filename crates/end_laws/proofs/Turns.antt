@@ -26,14 +26,14 @@ use Rattle.close_laws.specs.Own.{NotesTurn}
 use Rattle.close_laws.specs.Beside.{stamps_under}
 use Rattle.close_laws.proofs.Opens.{AloftOpen, ReservedOpen}
 use Rattle.end_laws.specs.Mount.{MountEnd, MountEnds, AreNamedAlong}
-use Rattle.recorded_laws.proofs.Places.{layout, begun, PlaceAt, place_there, opens_there, comes_behind, turns_stand, pens_told}
-use Rattle.recorded_laws.proofs.Fronts.{ToldFrom, StartsWith, notes_it, opens_it, ends_it, turns_are_told}
-use Rattle.recorded_laws.proofs.Played.{may_come_there}
-use Rattle.recorded_laws.proofs.Opens.{ReservedLast}
-use Rattle.recorded_laws.proofs.Next.{ComesReserved}
-use Rattle.recorded_laws.proofs.Reserved.{IsBehind}
-use Rattle.recorded_laws.proofs.Walk.{own_there}
-use Rattle.recorded_laws.proofs.Through.{freely}
+use Rattle.end_laws.proofs.TurnPlaces.{layout, begun, PlaceAt, place_there, opens_there, comes_behind, turns_stand, pens_told}
+use Rattle.end_laws.proofs.TurnFronts.{ToldFrom, StartsWith, notes_it, opens_it, ends_it, turns_are_told}
+use Rattle.end_laws.proofs.Played.{may_come_there}
+use Rattle.end_laws.proofs.Opens.{ReservedLast}
+use Rattle.end_laws.proofs.Next.{ComesReserved}
+use Rattle.end_laws.proofs.LacksReserved.{IsBehind}
+use Rattle.end_laws.proofs.Walk.{own_there}
+use Rattle.end_laws.proofs.Through.{freely}
 
 module _ (D : Type 0) (at : MountEnd) (named : Numbered) (ends : MountEnds D at) (are : AreNamedAlong at named) where
   abbrev turns : List Turn

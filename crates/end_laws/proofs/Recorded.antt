@@ -23,12 +23,12 @@ use Rattle.flush_agrees.specs.Closing.{pen_fsyncs}
 use Rattle.end_laws.specs.Mount.{MountEnd, MountEnds, AreNamedAlong}
 use Rattle.end_laws.proofs.Places.{told_labels}
 use Rattle.end_laws.proofs.Survives.{turns_of_mounts_end}
-use Rattle.recorded_laws.specs.Recorded.{LacksAreTold, kept_at, MountsAreRecorded}
-use Rattle.recorded_laws.proofs.Goes.{map_behind, GoesAt, goes_at}
-use Rattle.recorded_laws.proofs.Reserved.{IsBehind, tells_there, own_reserved}
-use Rattle.recorded_laws.proofs.Turns.{granted_behind, first_granted, first_cut, begins_first}
-use Rattle.recorded_laws.proofs.Numbers.{core_has, flush_has, commit_has}
-use Rattle.recorded_laws.proofs.Places.{keeping_at, begins_map}
+use Rattle.end_laws.specs.Recorded.{LacksAreTold, kept_at, MountsAreRecorded}
+use Rattle.end_laws.proofs.Goes.{map_behind, GoesAt, goes_at}
+use Rattle.end_laws.proofs.LacksReserved.{IsBehind, tells_there, own_reserved}
+use Rattle.end_laws.proofs.Turns.{granted_behind, first_granted, first_cut, begins_first}
+use Rattle.end_laws.proofs.Numbers.{core_has, flush_has, commit_has}
+use Rattle.end_laws.proofs.TurnPlaces.{keeping_at, begins_map}
 
 module _ (D : Type 0) (at : MountEnd) (named : Numbered) (ends : MountEnds D at) (are : AreNamedAlong at named)
     (merge : PensMerge at.start.first at.start.history (past_of at.told).turns) (lacks : LacksAreTold at named) where

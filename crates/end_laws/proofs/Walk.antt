@@ -31,9 +31,9 @@ use Rattle.close_laws.specs.Beside.{stamps_under}
 use Rattle.close_laws.proofs.Owing.{tells}
 use Rattle.close_laws.proofs.Drawn.{Drawing}
 use Rattle.close_laws.proofs.Flying.{durables_stay}
-use Rattle.recorded_laws.proofs.Opens.{OpensAt, never_halted, comes_back, more_under, comes_reserved, IsPlain, same_label, reserved_label, returned_label, began_label}
-use Rattle.recorded_laws.proofs.Played.{is_underway}
-use Rattle.recorded_laws.proofs.Through.{opened_label, settled_label, empty_label}
+use Rattle.end_laws.proofs.Opens.{OpensAt, never_halted, comes_back, more_under, comes_reserved, IsPlain, same_label, reserved_label, returned_label, began_label}
+use Rattle.end_laws.proofs.Played.{is_underway}
+use Rattle.end_laws.proofs.Through.{opened_label, settled_label, empty_label}
 
 module _ (named : Numbered) (layout : Layout) (before moment : ℕ) (first : Space) (log : List (Event Label))
     (may : MayFrom layout before log (first_past moment)) (told : PensTold named.stamps log) (stand : TurnsStand named.stamps log) where

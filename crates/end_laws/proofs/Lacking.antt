@@ -63,11 +63,11 @@ use Rattle.end_laws.specs.Mount.{MountEnd, MountEnds, AreNamedAlong, run_at}
 use Rattle.end_laws.proofs.Places.{done_there, all_made, PlaceHere, place_behind, end_past, end_lands, goes_to_end, all_done, done_of_all, done_told, beside_there, disk_there, volume_there, told_labels}
 use Rattle.end_laws.proofs.Boxes.{made_of, ReservesHere, commits_under, unmoved_here, gives_here}
 use Rattle.end_laws.proofs.Survives.{turns_of_mounts_end}
-use Rattle.recorded_laws.specs.Recorded.{TellsShort}
-use Rattle.recorded_laws.specs.Lacks.{LackMade, MadeLacksAreTold}
-use Rattle.recorded_laws.proofs.Places.{layout, begun, PlaceAt, place_there, opens_there, reserved_as, keeping_at, begins_map}
-use Rattle.recorded_laws.proofs.Once.{turns_go_on, NoneOf, none_of, split_once, stand_begins, same_shortage}
-use Rattle.recorded_laws.proofs.Played.{may_come_there, plays_done}
+use Rattle.end_laws.specs.Recorded.{TellsShort}
+use Rattle.end_laws.specs.Lacks.{LackMade, MadeLacksAreTold}
+use Rattle.end_laws.proofs.TurnPlaces.{layout, begun, PlaceAt, place_there, opens_there, reserved_as, keeping_at, begins_map}
+use Rattle.end_laws.proofs.Once.{turns_go_on, NoneOf, none_of, split_once, stand_begins, same_shortage}
+use Rattle.end_laws.proofs.Played.{may_come_there, plays_done}
 
 module _ (D : Type 0) (at : MountEnd) (named : Numbered) (ends : MountEnds D at) (are : AreNamedAlong at named)
     (merge : PensMerge at.start.first at.start.history (past_of at.told).turns) (front : List Turn) (turn : Turn) (told : LackTold)

@@ -24,10 +24,10 @@ use Rattle.end_laws.specs.Mount.{MountEnd, MountEnds, AreNamedAlong}
 use Rattle.end_laws.proofs.Landed.{pens}
 use Rattle.end_laws.proofs.Places.{told_labels}
 use Rattle.end_laws.proofs.Telling.{named_tell_along}
-use Rattle.recorded_laws.specs.Recorded.{kept_at}
-use Rattle.recorded_laws.proofs.Opens.{OpensAt}
-use Rattle.recorded_laws.proofs.Walk.{opens_at}
-use Rattle.recorded_laws.proofs.Next.{ComesReserved, behind_reserved, behind_returned}
+use Rattle.end_laws.specs.Recorded.{kept_at}
+use Rattle.end_laws.proofs.Opens.{OpensAt}
+use Rattle.end_laws.proofs.Walk.{opens_at}
+use Rattle.end_laws.proofs.Next.{ComesReserved, behind_reserved, behind_returned}
 
 module _ (D : Type 0) (at : MountEnd) (named : Numbered) (ends : MountEnds D at) (are : AreNamedAlong at named) where
   abbrev pub layout : Layout

@@ -30,10 +30,10 @@ use Rattle.flush_agrees.specs.Closing.{AgreeAtEnd}
 use Rattle.flush_agrees.specs.Made.{FlushMade, TurnIsOf}
 use Rattle.end_laws.specs.Mount.{MountEnd, MountEnds, AreNamedAlong, IsFsyncAt}
 use Rattle.end_laws.proofs.Landed.{TurnOf, own_stamp, turn_of, pair_number}
-use Rattle.recorded_laws.specs.Recorded.{core_at}
-use Rattle.recorded_laws.proofs.Refused.{IsRefused, number_of, told_for, refused_commit}
-use Rattle.recorded_laws.proofs.Turns.{granted_behind, begins_first}
-use Rattle.recorded_laws.proofs.Reserved.{own_number, number_up}
+use Rattle.end_laws.specs.Recorded.{core_at}
+use Rattle.end_laws.proofs.Refused.{IsRefused, number_of, told_for, refused_commit}
+use Rattle.end_laws.proofs.Turns.{granted_behind, begins_first}
+use Rattle.end_laws.proofs.LacksReserved.{own_number, number_up}
 
 data WayStarts (acts : List TurnAct) : Type 0 where
   starts_none : acts ≡ [] → WayStarts acts

@@ -37,8 +37,8 @@ use Rattle.close_laws.specs.Beside.{stamps_under}
 use Rattle.close_laws.specs.PenLabels.{PensTold}
 use Rattle.close_laws.specs.Own.{NotesTurn}
 use Rattle.close_laws.proofs.Drawn.{Drawing}
-use Rattle.recorded_laws.proofs.Played.{is_underway, others_stay}
-use Rattle.recorded_laws.proofs.Next.{behind_returned, ComesReserved, behind_reserved}
+use Rattle.end_laws.proofs.Played.{is_underway, others_stay}
+use Rattle.end_laws.proofs.Next.{behind_returned, ComesReserved, behind_reserved}
 
 module _ (named : Numbered) where
   -- the last of some events reserved a number
