@@ -52,7 +52,7 @@ raised_over run commit change is_change over = elim (over.made.makes.lifts.other
         let below : change.stamp < (commit_fsync commit).stamp = omega arith in
         let at_most = over.notes.stamp in
         let mark = over.notes.own_marks change.stamp change.directory over.held in
-        let noted : IsNoted commit.look change = over.notes.noted change is_change (over.notes.early change.stamp (omega arith)) (omega arith) in
+        let noted : IsNoted commit.look change = over.notes.noted change is_change (inl over.held) (over.notes.early change.stamp (omega arith)) (omega arith) in
         let there = subst (λ (c : RowChange). Gathers commit.look c.directory) (sym noted.2) own in
         let sight : InSight commit.look noted.0 = record {
           is_noted = noted.1;
@@ -122,9 +122,9 @@ module _ (run : Progress) (commit : CoreCommit) (stands : Standing run) (reserve
           let mark = reserves.notes.own_marks change.stamp change.directory holds in
           let same = (saw change.directory holds).0 in
           let from = span.from in
-          reserves.notes.noted change span.is_change span.counted (omega arith);
+          reserves.notes.noted change span.is_change (inl holds) span.counted (omega arith);
       namings = λ change touched is_change counted open_one.
-          reserves.notes.noted change is_change counted (unmarked change touched is_change open_one);
+          reserves.notes.noted change is_change (inr (held change.child touched)) counted (unmarked change touched is_change open_one);
       unflushed = λ noted one touched from. elim (below_or noted.change.stamp (cut_of run.cut noted.change.directory)) [
         | inr le ↦ le
         | inl within ↦

@@ -181,7 +181,7 @@ module _ (first : TreeState) (history : List Entry) (name other_name : List ℕ)
         stands = λ node among. absurd (subst (λ (l : List ℕ). IsOneOf l node) (plain noted one).0 among);
       };
       unmarked = λ noted one. omega arith;
-      noted = λ change is_change counted kept. change_noted change is_change;
+      noted = λ change is_change of_held counted kept. change_noted change is_change;
       born = λ node directory touched. (
         λ one. elim one [
           | inl same ↦ (0, subst (λ l. IsOneOf l (birth_as 0 directory node)) (sym two.births) (inl (birth_is 0 3 1 directory node same)))

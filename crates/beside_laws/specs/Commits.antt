@@ -1,5 +1,5 @@
 -- Commits as their cores made them.
-use Rattle.std.specs.Prelude.{◌≡◌, ◌↔◌, ℕ, ◌<◌, ◌≤◌, Bool, true, false, List, if◌then◌else◌}
+use Rattle.std.specs.Prelude.{◌≡◌, ◌⊎◌, ◌↔◌, ℕ, ◌<◌, ◌≤◌, Bool, true, false, List, if◌then◌else◌}
 use Rattle.tree_laws.specs.declared.history.Entry.{Entry}
 use Rattle.tree_laws.specs.Tree.{TreeState}
 use Rattle.tree_laws.specs.Changes.{RowChange}
@@ -45,16 +45,21 @@ pub record IsByItsLook (commit : CoreCommit) : Type 0 where
   pub makes : IsLiftingOf commit.look commit.makes
   pub blank : (node : ℕ) → commit.holds node ≡ false → commit.look.cut node ≡ 0
 
--- What a commit noted is what the log parts had as it held its nodes: of the entries that count the changes that the parts' marks had not cut
--- off; all entries below a stamp count, which is not below its fsync's, and its node was alive; of each node that it touches where it was
--- made; and no part was marked past the cut of a directory that it holds.
+-- a change is one of a directory that a commit holds, or the child of its row is a node that it holds
+abbrev pub IsOfHeld : CoreCommit → RowChange → Type 0
+IsOfHeld commit change = (commit.holds change.directory ≡ true) ⊎ (commit.holds change.child ≡ true)
+
+-- What a commit noted is what the log parts had of the nodes that it holds, as it held them: of the entries that count the changes that the parts'
+-- marks had not cut off, each that is one of a directory which it holds or that names a node which it holds, and others or none; all entries
+-- below a stamp count, which is not below its fsync's, and its node was alive; of each node that it touches where it was made; and no part was
+-- marked past the cut of a directory that it holds.
 pub record HasNotes (first : TreeState) (history : List Entry) (commit : CoreCommit) : Type 0 where
   pub early : (stamp : ℕ) → stamp < commit.late → commit.counts stamp ≡ true
   pub stamp : (commit_fsync commit).stamp ≤ commit.late
   pub live : HasLiveNode first history (commit_fsync commit)
   pub truths : (noted : Noted) → IsOneOf commit.look.noted noted → IsTrue first history commit.counts noted
   pub unmarked : (noted : Noted) → IsOneOf commit.look.noted noted → commit.mark noted.change.stamp noted.change.directory ≤ noted.change.stamp
-  pub noted : (change : RowChange) → IsChange first history change → commit.counts change.stamp ≡ true
+  pub noted : (change : RowChange) → IsChange first history change → IsOfHeld commit change → commit.counts change.stamp ≡ true
       → commit.mark change.stamp change.directory ≤ change.stamp → IsNoted commit.look change
   pub born : (node directory : ℕ) → Touches commit.look node
       → IsOneOf commit.look.born (record { node = node; directory = directory }) ↔

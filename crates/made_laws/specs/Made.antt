@@ -27,7 +27,7 @@ use Rattle.mem_values.specs.Facts.{HasFsync}
 use Rattle.mem_values.specs.Stands.{StandsPending}
 use Rattle.mem_values.specs.Account.{account_of}
 use Rattle.note_laws.specs.Notes.{CoreNotes, HasNotedAll}
-use Rattle.note_laws.specs.Merged.{AreMergedOf}
+use Rattle.note_laws.specs.Merged.{AreMergedFor}
 use Rattle.note_laws.specs.Run.{TableRun, calls_of, IsTableRun}
 use Rattle.note_laws.specs.Joined.{CopiedFile}
 
@@ -80,11 +80,11 @@ pub record GathersSeen (making : CoreMaking) (node : ℕ) (value : Pending) : Ty
   pub born : (directory : ℕ) → IsOneOf (map born_as making.gathered.births.items) (record { node = node; directory = directory })
       ↔ (number_of value.made_in ≡ Some directory)
 
--- What was gathered: lists in order, the changes of directories that are merged of all parts, and of each node that the fsync concerns what the core saw,
+-- What was gathered: lists in order, the changes of directories that are merged of copies of all parts, and of each node that the fsync concerns what the core saw,
 -- of any other no cut. The root has an inode.
 pub record HasGathered (making : CoreMaking) : Type 0 where
   pub orderly : IsOrderly making.gathered
-  pub merged : AreMergedOf making.noted.parts making.gathered.logs.items
+  pub merged : AreMergedFor making.noted making.gathered.logs.items
   pub seen : (node : ℕ) → is_concerned making node ≡ true → (value : Pending) × GathersSeen making node value
   pub others : (node : ℕ) → is_concerned making node ≡ false → cut_gathered making node ≡ 0
   pub root : is_concerned making 0 ≡ true → inode_gathered making 0 ≡ true

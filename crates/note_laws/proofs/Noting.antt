@@ -1,7 +1,6 @@
 -- A commit that is made from notes has its notes.
-use Rattle.std.proofs.Common.{◌≤◌, ◌≡◌, ◌∷◌, ◌<◌, ◌++◌, ◌∙◌, ◌↔◌, if◌then◌else◌, List, ℕ, length, [], refl, zero, arith, suc, inl, inr, true, subst, take, Bool, false, sym, nat_lt, filter, eqb-true, nat_le, ap, not, Some, None}
+use Rattle.std.proofs.Common.{◌≤◌, ◌≡◌, ◌∷◌, ◌<◌, ◌++◌, ◌∙◌, ◌↔◌, if◌then◌else◌, List, ℕ, length, [], refl, zero, arith, suc, inl, inr, true, subst, take, Bool, false, sym, nat_lt, filter, eqb-true, ap, not, Some, None, is_some}
 use Rattle.std.proofs.lemmas.Bool.Decides.{nat_tests}
-use Rattle.sfs_base.proofs.BasicTruth.{and_second}
 use Rattle.tree_laws.specs.declared.history.Entry.{Entry}
 use Rattle.tree_laws.specs.Changes.{RowChange}
 use Rattle.tree_laws.specs.Tree.{is_directory, is_alive, TreeState}
@@ -22,7 +21,7 @@ use Rattle.cut_laws.proofs.Listed.{from_map, to_map}
 use Rattle.cut_laws.proofs.RunFacts.{in_filter}
 use Rattle.look_laws.specs.Look.{Look, Noted, Touches}
 use Rattle.look_laws.specs.Fit.{IsNoted, IsTrue}
-use Rattle.beside_laws.specs.Commits.{CoreCommit, commit_fsync, HasNotes}
+use Rattle.beside_laws.specs.Commits.{CoreCommit, commit_fsync, HasNotes, IsOfHeld}
 use Rattle.dep_closure.specs.Gathered.{look_of, noted_in, noted_as}
 use Rattle.dep_closure.specs.History.{logged_of}
 use Rattle.dep_closure.proofs.True.{logs_are_true, logged_row, stands_in_history}
@@ -33,7 +32,7 @@ use Rattle.mem_values.specs.declared.fact.Fact.{Fact}
 use Rattle.mem_values.specs.Facts.{HasFsync}
 use Rattle.mem_values.specs.Logs.{birthplace}
 use Rattle.home_laws.proofs.Birthplaces.{birthplaces_stay}
-use Rattle.note_laws.specs.Merged.{caller_of, GathersNoted, is_noted_by, mark_noted}
+use Rattle.note_laws.specs.Merged.{caller_of, GathersNoted, is_noted_by, mark_noted, is_seen_by, IsOfSeen}
 use Rattle.note_laws.specs.Run.{TableRun, IsTableRun, calls_of}
 use Rattle.note_laws.specs.Joined.{NotedCommit, IsMadeFromNotes, MadeHaveNotes}
 use Rattle.note_laws.specs.Notes.{CoreNotes, NotesGive, calls_noted}
@@ -145,13 +144,9 @@ module _ (run : TableRun) (is : IsTableRun run) where
         (subst (λ l. IsOneOf l change.0) each.is.changes change.1) in
         let own : change.0.dir.0 ≡ log.dir.0 =
         eqb-true change.0.dir.0 log.dir.0 (in_filter (is_logged_in log.dir.0) (logged_of run.first calls) change.0 kept.0).1 in
-        let keeps = sym (each.unmarked change.0.stamp.0) ∙ kept.1 in
         subst (λ (n : Noted). mark_noted run noted n.change.stamp n.change.directory ≤ n.change.stamp) change.2
         (subst (λ d. mark_noted run noted change.0.stamp.0 d ≤ change.0.stamp.0) (sym own)
-        (below (mark_noted run noted change.0.stamp.0 log.dir.0) change.0.stamp.0 (and_second (is_noted_by run noted change.0.stamp.0) _ keeps)))
-      where
-        below : (m n : ℕ) → nat_le m n ≡ true → m ≤ n
-        below m n is_le = grind (arith, nat_tests, is_le)
+        (each.unmarked change.0.stamp.0 kept.1))
 
     unmarked : (one : Noted) → IsOneOf commit.look.noted one → commit.mark one.change.stamp one.change.directory ≤ one.change.stamp
     unmarked one has =
@@ -159,9 +154,13 @@ module _ (run : TableRun) (is : IsTableRun run) where
         (sym (from.marks.directories one.change.stamp one.change.directory (directory_of one.change (truths one has).is_change)))
         (unmarked_there one (subst (λ (look : Look). IsOneOf look.noted one) from.look has))
 
-    is_noted : (change : RowChange) → IsChange run.first calls change → commit.counts change.stamp ≡ true
+    -- what the commit holds its core saw
+    seen_of : (node : ℕ) → commit.holds node ≡ true → is_seen_by noted node ≡ true
+    seen_of node holds = let value = from.seen node holds in ap is_some value.1.seen
+
+    is_noted : (change : RowChange) → IsChange run.first calls change → IsOfHeld commit change → commit.counts change.stamp ≡ true
         → commit.mark change.stamp change.directory ≤ change.stamp → IsNoted commit.look change
-    is_noted change one counted le =
+    is_noted change one of_held counted le =
         let logged = logged_row run.first calls change is.sound is.legal one in
         let row = logged.0 in
         let counts_row : is_noted_by run noted row.stamp.0 ≡ true =
@@ -170,7 +169,12 @@ module _ (run : TableRun) (is : IsTableRun run) where
         let mark_row : mark_noted run noted row.stamp.0 row.dir.0 ≤ row.stamp.0 =
         subst (λ (r : RowChange). mark_noted run noted r.stamp r.directory ≤ r.stamp) (sym logged.2)
         (subst (λ m. m ≤ change.stamp) (from.marks.directories change.stamp change.directory (directory_of change one)) le) in
-        let there = gathered.changes row logged.1 counts_row mark_row in
+        let seen_row : IsOfSeen noted row =
+        elim of_held [
+          | inl own ↦ inl (seen_of row.dir.0 (subst (λ (r : RowChange). commit.holds r.directory ≡ true) (sym logged.2) own))
+          | inr child ↦ inr (seen_of row.child.0 (subst (λ (r : RowChange). commit.holds r.child ≡ true) (sym logged.2) child))
+        ] in
+        let there = gathered.changes row logged.1 seen_row counts_row mark_row in
         let log = there.0 in
         let stands = stands_in_history run.first calls (is_noted_by run noted) log is.legal (gathered.each log there.1).is row there.2 in
         subst (λ (look : Look). IsNoted look change) (sym from.look) (

@@ -1,5 +1,5 @@
 -- The nodes that an fsync touches were there as one of the parts was noted.
-use Rattle.std.proofs.Common.{◌<◌, ◌∷◌, ◌≡◌, ◌∙◌, List, ℕ, length, slice_index_or, [], inl, arith, inr, suc, All, subst, Some, filter, Option, option_map, None, refl, take, true, sym}
+use Rattle.std.proofs.Common.{◌<◌, ◌∷◌, ◌≡◌, ◌∙◌, List, ℕ, length, slice_index_or, [], inl, arith, inr, suc, All, subst, Some, filter, Option, option_map, None, refl, take, true, sym, Bool}
 use Rattle.sfs_base.specs.declared.numbers.NodeId.{NodeId}
 use Rattle.sfs_base.proofs.BasicNumbers.{same_number}
 use Rattle.sfs_base.proofs.BasicOptions.{some_same}
@@ -23,8 +23,8 @@ use Rattle.cut_laws.proofs.Prefixes.{live_node}
 use Rattle.cut_laws.proofs.Commit.{birth_at}
 use Rattle.cut_laws.proofs.MemberKinds.{own_directory}
 use Rattle.log_merge.specs.Merge.{parts_changes, part_changes, is_under, stands_at}
-use Rattle.dep_closure.specs.declared.gathered.Gathered.{Gathered}
 use Rattle.look_laws.specs.Look.{Look, Gathers, Touches, Noted, Born, itself, other_side, ended, ancestor, birth_place, member, named}
+use Rattle.dep_closure.specs.declared.gathered.Gathered.{Gathered}
 use Rattle.dep_closure.specs.Gathered.{noted_in, noted_as}
 use Rattle.dep_closure.specs.declared.gathered.DirectoryChanges.{DirectoryChanges}
 use Rattle.dep_closure.proofs.Looked.{from_flat}
@@ -38,10 +38,11 @@ use Rattle.home_laws.specs.Laws.{IsNodeOf, NamesNodes}
 use Rattle.home_laws.proofs.Named.{own_names}
 use Rattle.note_laws.specs.Run.{TableRun}
 use Rattle.note_laws.specs.Notes.{CoreNotes, calls_noted}
+use Rattle.note_laws.specs.There.{look_noted, SawBirth, GathersByNotes, WasThere, TouchedWereThere}
+use Rattle.note_laws.specs.Copies.{KeepsFor}
 use Rattle.note_laws.proofs.Along.{legal_begin}
 use Rattle.note_laws.proofs.Noting.{waits_alive}
 use Rattle.note_laws.proofs.Born.{birthplace_is}
-use Rattle.note_laws.specs.There.{look_noted, SawBirth, GathersByNotes, WasThere, TouchedWereThere}
 
 -- what some parts keep of a directory is kept by one of them
 in_one_part : (parts : List CoreLog) (directory all : ℕ) (change : Change) → IsOneOf (parts_changes directory all parts) change
@@ -54,6 +55,14 @@ in_one_part (log ∷ parts) directory all change one =
           let found = in_one_part parts directory all change later in
           let less = found.1 in (suc found.0, omega (arith, less), found.2)
     ]
+
+-- what a copy has is in the log
+in_whole : {looked_at : ℕ → Bool} {log copy : CoreLog} → KeepsFor looked_at log copy → (directory : ℕ) (change : Change)
+    → IsOneOf (changes_kept copy directory) change → IsOneOf (changes_kept log directory) change
+in_whole keeps directory change one = elim (keeps.each directory) [
+  | inl whole ↦ subst (λ l. IsOneOf l change) whole one
+  | inr none ↦ absurd (subst (λ l. IsOneOf l change) none one)
+]
 
 -- all of a list by its members
 each_of_all : (P : ℕ → Type 0) (xs : List ℕ) → All P xs → (x : ℕ) → IsOneOf xs x → P x
@@ -95,14 +104,16 @@ module _ (run : TableRun) (noted : CoreNotes) (gathered : Gathered) (by_notes : 
   change_there : (log : DirectoryChanges) → IsOneOf gathered.logs.items log → (change : Change) → IsOneOf log.changes.items change
       → (part : ℕ) × (part < length run.first.made) × NamesNodes (tree_at_note part) change
   change_there log one change in_log =
-      let merged = by_notes.merged.merged log one in
+      let copies = by_notes.merged.copies in
+      let merged = by_notes.merged.merged.merged log one in
       let here = to_filter (stands_at (log_place change)) log.changes.items change in_log (same_number (log_place change)) in
       let there = subst (λ l. IsOneOf l change) (merged.merge.same (log_place change)) here in
-      let kept = (in_filter (stands_at (log_place change)) (parts_changes log.dir.0 merged.all noted.parts) change there).0 in
-      let part = in_one_part noted.parts log.dir.0 merged.all change kept in
-      let known : part.0 < length run.first.made = subst (λ n. part.0 < n) by_notes.notes.as_many part.1 in
+      let kept = (in_filter (stands_at (log_place change)) (parts_changes log.dir.0 merged.all copies) change there).0 in
+      let part = in_one_part copies log.dir.0 merged.all change kept in
+      let among : part.0 < length noted.parts = subst (λ n. part.0 < n) by_notes.merged.as_many part.1 in
+      let known : part.0 < length run.first.made = subst (λ n. part.0 < n) by_notes.notes.as_many among in
       let each = by_notes.notes.each part.0 known in
-      let left = subst (λ l. IsOneOf l change) (each.left log.dir.0) part.2 in
+      let left = subst (λ l. IsOneOf l change) (each.left log.dir.0) (in_whole (by_notes.merged.keep part.0 among) log.dir.0 change part.2) in
       let own = own_logged run.first part.0 (calls_noted noted part.0) in
       let logged =
       (in_filter (is_logged_in log.dir.0) own change

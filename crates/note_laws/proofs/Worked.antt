@@ -129,8 +129,17 @@ module _ (given : ℕ → Option OldKept) (first : TreeState) (sound : IsSoundTr
     some_core = some;
     has = record { as_many = length-replicate (length first.made) blank_part; each = noted_part };
     merged = record {
-      merged = λ log one. absurd one;
-      whole = λ part directory known. inl (ap (λ (log : CoreLog). changes_kept log directory) (blank_there (length first.made) part));
+      copies = noted.parts;
+      as_many = refl;
+      keep = λ part known. record {
+        each = λ directory. inl refl;
+        own = λ directory own. refl;
+        naming = λ directory change one child. refl;
+      };
+      merged = record {
+        merged = λ log one. absurd one;
+        whole = λ part directory known. inl (ap (λ (log : CoreLog). changes_kept log directory) (blank_there (length first.made) part));
+      };
     };
     look = refl;
     by_look = by_look;

@@ -28,7 +28,7 @@ use Rattle.mem_values.specs.Stands.{StandsFile}
 use Rattle.home_laws.specs.Laws.{IsNodeOf}
 use Rattle.note_laws.specs.Run.{TableRun, calls_of, IsTableRun, TellsCommit, AreToldIn}
 use Rattle.note_laws.specs.Notes.{CoreNotes, calls_noted, HasNotedAll}
-use Rattle.note_laws.specs.Merged.{is_noted_by, mark_noted, AreMergedOf}
+use Rattle.note_laws.specs.Merged.{is_noted_by, mark_noted, AreMergedFor}
 
 -- A core's notes for an fsync, what it gathered of them, and the commit that it made.
 pub record NotedCommit : Type 0 where
@@ -57,12 +57,12 @@ pub record HasNotedMarks (run : TableRun) (made : NotedCommit) : Type 0 where
   pub others : (stamp node : ℕ) → is_directory (tree_after run.first (calls_of run)) node ≡ false → made.commit.holds node ≡ false
       → made.commit.mark stamp node ≡ length (calls_of run)
 
--- A commit is made from notes: all parts were noted, and its look is what was merged of them; it follows from its look; those calls count of which its notes
+-- A commit is made from notes: all parts were noted, and its look is what was merged of copies of them; it follows from its look; those calls count of which its notes
 -- know, and all below the earliest note; its marks are those of the parts; and of each node that it holds it has what its core saw.
 pub record IsMadeFromNotes (run : TableRun) (made : NotedCommit) : Type 0 where
   pub some_core : 0 < length run.first.made
   pub has : HasNotedAll run made.noted
-  pub merged : AreMergedOf made.noted.parts made.gathered.logs.items
+  pub merged : AreMergedFor made.noted made.gathered.logs.items
   pub look : made.commit.look ≡ look_of (record { 0 = made.noted.node }) (record { 0 = made.noted.stamp }) made.gathered
   pub by_look : IsByItsLook made.commit
   pub counts : made.commit.counts ≡ is_noted_by run made.noted

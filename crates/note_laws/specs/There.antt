@@ -11,7 +11,7 @@ use Rattle.mem_values.specs.declared.cell.Pending.{Pending}
 use Rattle.home_laws.specs.Laws.{IsNodeOf}
 use Rattle.note_laws.specs.Run.{TableRun, calls_of}
 use Rattle.note_laws.specs.Notes.{CoreNotes, calls_noted, HasNotedAll}
-use Rattle.note_laws.specs.Merged.{AreMergedOf}
+use Rattle.note_laws.specs.Merged.{AreMergedFor}
 
 -- the look of what was gathered for the fsync of a core's notes
 abbrev pub look_noted : CoreNotes → Gathered → Look
@@ -23,14 +23,14 @@ pub record SawBirth (noted : CoreNotes) (born : Born) : Type 0 where
   pub seen : noted.pending born.node ≡ Some value
   pub made_in : number_of value.made_in ≡ Some born.directory
 
--- A core gathered by its notes, of legal calls from a sound tree with some core: it noted all parts, the changes of directories are merged of these, and of
+-- A core gathered by its notes, of legal calls from a sound tree with some core: it noted all parts, the changes of directories are merged of copies of these, and of
 -- each member where it was made is what the core saw of it.
 pub record GathersByNotes (run : TableRun) (noted : CoreNotes) (gathered : Gathered) : Type 0 where
   pub sound : IsSoundTree run.first
   pub legal : IsLegal run.first (calls_of run)
   pub some_core : 0 < length run.first.made
   pub notes : HasNotedAll run noted
-  pub merged : AreMergedOf noted.parts gathered.logs.items
+  pub merged : AreMergedFor noted gathered.logs.items
   pub births : (born : Born) → IsOneOf (look_noted noted gathered).born born → Gathers (look_noted noted gathered) born.node → SawBirth noted born
 
 -- A node was one of the tree as a part was noted.

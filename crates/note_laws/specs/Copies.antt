@@ -1,0 +1,13 @@
+-- Copies of a core's log that need not have all that it keeps.
+use Rattle.std.specs.Prelude.{◌≡◌, ◌⊎◌, ℕ, Bool, true, []}
+use Rattle.tree_laws.specs.declared.changes.Change.{Change}
+use Rattle.cut_laws.specs.Rules.{IsOneOf}
+use Rattle.mem_cells.specs.Part.{CoreLog, changes_kept}
+
+-- A copy of a log keeps what a look at some nodes asks for: of each directory all changes that the log keeps, or none of them; and all where the directory
+-- is one of these nodes, or where the log keeps a change of it that names one.
+pub record KeepsFor (looked_at : ℕ → Bool) (log copy : CoreLog) : Type 0 where
+  pub each : (directory : ℕ) → (changes_kept copy directory ≡ changes_kept log directory) ⊎ (changes_kept copy directory ≡ [])
+  pub own : (directory : ℕ) → looked_at directory ≡ true → changes_kept copy directory ≡ changes_kept log directory
+  pub naming : (directory : ℕ) (change : Change) → IsOneOf (changes_kept log directory) change → looked_at change.child.0 ≡ true
+      → changes_kept copy directory ≡ changes_kept log directory
