@@ -10,3 +10,5 @@ pub mod Runs
 pub mod Agreed
 pub mod Begins
 pub mod Rests
+pub mod Recorded
+pub mod Lacks

@@ -9,6 +9,8 @@ ghost use Rattle.end_laws.specs.Frees.{CommitsLeaveWell, MadesFreeNothing, Mount
 ghost use Rattle.end_laws.specs.Runs.{ReservedAreAbove, RunsFreeNothing, RunsKeepWell};
 ghost use Rattle.end_laws.specs.Begins.{BegunDisksGoOn, MountsBeginLabels};
 ghost use Rattle.end_laws.specs.Rests.{ClosedDisksBegan, ClosedPensRest};
+ghost use Rattle.end_laws.specs.Lacks.{AgreedMountsAreRecorded, LacksAreAgreed, MadeLacksAreTold};
+ghost use Rattle.end_laws.specs.Recorded.{MountsAreRecorded};
 
 use sfs_dev::Disk;
 
@@ -100,4 +102,24 @@ pub fn closed_pens_rest<D: Disk>(disk: &D)
 /// And their disk began with the parts for which each image stood as they were made.
 pub fn closed_disks_began<D: Disk>(disk: &D)
     ensures { ClosedDisksBegan D.view }
+{}
+
+/// The turns of a mount that has ended are recorded, where each turn that tells a shortage tells what was so at its place of the turns.
+pub fn mounts_are_recorded<D: Disk>(disk: &D)
+    ensures { MountsAreRecorded D }
+{}
+
+/// Each does, where its core made what it says of its place of the labels.
+pub fn made_lacks_are_told<D: Disk>(disk: &D)
+    ensures { MadeLacksAreTold D }
+{}
+
+/// What cores and pens agree on of turns that tell shortages is that.
+pub fn lacks_are_agreed<D: Disk>(disk: &D)
+    ensures { LacksAreAgreed D }
+{}
+
+/// So they are recorded.
+pub fn agreed_mounts_are_recorded<D: Disk>(disk: &D)
+    ensures { AgreedMountsAreRecorded D }
 {}

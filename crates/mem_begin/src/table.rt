@@ -90,5 +90,5 @@ pub fn make(
 {
     let start = Snapshot::of(&given);
     let cells = cells_of(alloc, tree, &start, given, nodes, cores)?;
-    Shared::make(alloc, tree, start, 0, cells, cores)
+    Shared::make(alloc, tree, start, nodes as usize, cells, cores)
 }

@@ -1,4 +1,5 @@
 pub mod Filled
+pub mod Fresh
 pub mod Inside
 pub mod Padded
 pub mod Passed

@@ -5,7 +5,7 @@ ghost use Rattle.mem_files.specs.File.{mark_of, room, write_touches, trunc_touch
 use crate::Touched;
 use crate::marks::make_room;
 use crate::page::Page;
-use crate::pages::{copy_to, cut, fill, grow, put};
+use crate::pages::{copy_to, cut, grow, put, written};
 use sfs_base::{NoMemory, Stamp};
 use std::alloc::Global;
 use std::marker::Model;
@@ -75,14 +75,13 @@ impl FileBytes {
         }
         let end = at + from.len() as u64;
         let touched = Touched::of(at, end);
-        grow(&mut self.pages, touched.end as usize)?;
-        fill(
-            &mut self.pages,
-            touched.first as usize,
-            touched.end as usize,
-        )?;
-        make_room(&mut self.marks, touched.end as usize)?;
-        put(&mut self.pages, at as usize, from);
+        let first = touched.first as usize;
+        let end_block = touched.end as usize;
+        let alloc = *self.pages.allocator();
+        let fresh = written(alloc, &self.pages, at as usize, from, first, end_block)?;
+        grow(&mut self.pages, end_block)?;
+        make_room(&mut self.marks, end_block)?;
+        put(&mut self.pages, first, fresh);
         self.size = self.size.max(end);
         Ok(touched)
     }

@@ -1,63 +1,90 @@
-ghost use Rattle.std.specs.Prelude.{◌≡◌, ◌+◌, ◌-◌, ◌/◌, ◌%◌, ◌<◌, ◌≤◌, ◌^◌, ℕ, [], length, slice_index, slice_index_or, nat_lt, OnOk, if◌then◌else◌};
-ghost use Rattle.mem_files.specs.Pages.{byte_at, byte_after, SameBytes, AreFull};
+ghost use Rattle.std.specs.Prelude.{◌≡◌, ◌+◌, ◌-◌, ◌*◌, ◌/◌, ◌%◌, ◌<◌, ◌≤◌, ◌^◌, ℕ, [], length, slice_index, slice_index_or, nat_lt, OnOk, IfOk, if◌then◌else◌};
+ghost use Rattle.mem_files.specs.Pages.{byte_at, byte_after, is_within, IsPieceIn, IsWrittenPage, SameBytes};
 
 use crate::page::{PAGE, Page};
 use sfs_base::NoMemory;
+use std::alloc::Global;
 
 /// Makes the list of pages `end` long at least, by pages that keep no byte.
 pub(crate) fn grow(pages: &mut Vec<Page>, end: usize) -> Result<(), NoMemory>
     ensures ok { OnOk result (end ≤ length pages.new.items) }
     ensures same { SameBytes pages.old.items pages.new.items }
 {
-    let alloc = *pages.allocator();
     for _ in pages.len()..end {
-        pages.push(Page::new(alloc))?;
+        pages.push(Page::new())?;
     }
     Ok(())
 }
 
-/// Keeps all bytes of the pages from `first` to below `end` from now on.
-pub(crate) fn fill(pages: &mut Vec<Page>, first: usize, end: usize) -> Result<(), NoMemory>
-    requires { end ≤ length pages.old.items }
-    ensures ok { OnOk result (AreFull pages.new.items first end) }
-    ensures same { SameBytes pages.old.items pages.new.items }
+/// The pages from `first` to below `end` as they are with bytes written at a place, which lie within them.
+pub(crate) fn written(
+    alloc: Global,
+    pages: &[Page],
+    at: usize,
+    from: &[u8],
+    first: usize,
+    end: usize,
+) -> Result<Vec<Page>, NoMemory>
+    requires first { first * PAGE ≤ at }
+    requires end { at + length from.now ≤ end * PAGE }
+    requires small { end * PAGE < 2 ^ 62 }
+    ensures count { IfOk result (λ fresh. length fresh.items ≡ end - first) }
+    ensures written { IfOk result (λ fresh. (place : ℕ) → first * PAGE ≤ place → place < end * PAGE
+        → byte_at fresh.items (place - first * PAGE) ≡ byte_after (byte_at pages.now) at from.now place) }
 {
+    let mut fresh = Vec::with_capacity(alloc, end - first)?;
     for block in first..end {
-        let page = &mut pages[block];
-        page.fill()?;
+        fresh.push_reserved(written_page(alloc, pages, at, from, block)?);
     }
-    Ok(())
+    Ok(fresh)
 }
 
-/// Writes bytes at a place, into pages that keep all their bytes.
-pub(crate) fn put(pages: &mut Vec<Page>, at: usize, from: &[u8])
-    requires full { AreFull pages.old.items (at / PAGE) ((at + length from.now + PAGE - 1) / PAGE) }
-    requires small { at + length from.now < 2 ^ 62 }
-    ensures { (place : ℕ) → byte_at pages.new.items place
-        ≡ byte_after (byte_at pages.old.items) at from.now place }
+// One page as it is then.
+fn written_page(
+    alloc: Global,
+    pages: &[Page],
+    at: usize,
+    from: &[u8],
+    block: usize,
+) -> Result<Page, NoMemory>
+    requires end { at + length from.now < 2 ^ 62 }
+    requires small { block * PAGE < 2 ^ 62 }
+    ensures { IfOk result (λ page. IsWrittenPage pages.now at from.now block page) }
 {
-    let mut rest = from;
-    let mut at = at;
-    while !rest.is_empty() {
-        let count = rest.len().min(PAGE - at % PAGE);
-        let (now, later) = rest.split_at(count);
-        put_page(pages, at, now);
-        at += count;
-        rest = later;
+    let (offset, piece) = piece_in(at, from, block);
+    match pages.get(block) {
+        Some(page) => page.written(alloc, offset, piece),
+        None => Page::new().written(alloc, offset, piece),
     }
 }
 
-// Writes bytes into one page that keeps all its bytes.
-fn put_page(pages: &mut Vec<Page>, at: usize, from: &[u8])
-    requires full { PAGE ≤ length (slice_index_or pages.old.items (at / PAGE) []) }
-    requires within { at % PAGE + length from.now ≤ PAGE }
-    ensures written { (place : ℕ) → byte_at pages.new.items place
-        ≡ byte_after (byte_at pages.old.items) at from.now place }
-    ensures lengths { (block : ℕ) → length (slice_index_or pages.new.items block [])
-        ≡ length (slice_index_or pages.old.items block []) }
+// The bytes of a write that fall into a block, and where in it they begin.
+fn piece_in(at: usize, from: &[u8], block: usize) -> (usize, &[u8])
+    requires end { at + length from.now < 2 ^ 62 }
+    requires small { block * PAGE < 2 ^ 62 }
+    ensures fits { result.0 + length result.1.now ≤ PAGE }
+    ensures piece { IsPieceIn at from.now block result.0 result.1.now }
 {
-    let page = &mut pages[at / PAGE];
-    page.put(at % PAGE, from);
+    let start = block * PAGE;
+    let end = at + from.len();
+    let low = at.max(start).min(start + PAGE);
+    let high = end.max(low).min(start + PAGE);
+    let skip = low.saturating_sub(at).min(from.len());
+    let stop = high.saturating_sub(at).min(from.len());
+    (low - start, &from[skip..stop.max(skip)])
+}
+
+/// Puts pages in the place of those from `first` on.
+pub(crate) fn put(pages: &mut Vec<Page>, first: usize, fresh: Vec<Page>)
+    requires within { first + length fresh.items ≤ length pages.old.items }
+    ensures length { length pages.new.items ≡ length pages.old.items }
+    ensures pages { (block : ℕ) → slice_index_or pages.new.items block []
+        ≡ (if is_within first (length fresh.items) block then slice_index_or fresh.items (block - first) []
+        else slice_index_or pages.old.items block []) }
+{
+    let mut fresh = fresh;
+    let end = first + fresh.len();
+    pages[first..end].swap_with_slice(&mut fresh);
 }
 
 /// Keeps no byte from `size` on.

@@ -3,6 +3,8 @@ pub mod Facts
 pub mod Home
 pub mod Inode
 pub mod Laws
+pub mod LineLaws
+pub mod Lines
 pub mod Logs
 pub mod Places
 pub mod Start

@@ -1,15 +1,18 @@
 // What the cells of a file tree stand for.
 ghost use Rattle.std.specs.Prelude.{[]};
-ghost use Rattle.stamp_table.specs.Placing.{lies_in_order};
 ghost use Rattle.mem_values.specs.Facts.{IsLawfulLog};
+ghost use Rattle.mem_values.specs.LineLaws.{lines_apart};
+ghost use Rattle.mem_values.specs.Lines.{slot_in, place_in};
 ghost use Rattle.mem_values.specs.Stands.{StandsAt};
 ghost use Rattle.mem_values.specs.Start.{given_in};
 
+use crate::slot::slot_in;
 use crate::{Cell, Fact};
 use disk_nodes::OldDisk;
 use stamp_table::Meaning;
 
-/// The meaning of the cells of a file tree. Given is what the disk has of its nodes as the table begins.
+/// The meaning of the cells of a file tree. Given is what the disk has of its nodes as the table begins. Its cells are laid out in memory by
+/// how many nodes there may be.
 pub struct FileTable;
 
 impl Meaning<Cell, Fact, OldDisk> for FileTable {
@@ -19,13 +22,13 @@ impl Meaning<Cell, Fact, OldDisk> for FileTable {
 
     ghost nothing = { record { items = []; spare = 0 } };
 
-    ghost slot_at = { λ measure place. place };
+    ghost slot_at = { slot_in };
 
-    ghost place_at = { λ measure slot. slot };
+    ghost place_at = { place_in };
 
-    ghost one_to_one = { λ measure. lies_in_order };
+    ghost one_to_one = { lines_apart };
 
-    fn slot_of(_measure: usize, place: usize) -> usize {
-        place
+    fn slot_of(measure: usize, place: usize) -> usize {
+        slot_in(measure, place)
     }
 }

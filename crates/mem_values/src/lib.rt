@@ -9,6 +9,7 @@ mod file_table;
 mod holding;
 mod kept_node;
 pub mod laws;
+mod slot;
 
 pub use bucket::Bucket;
 pub use cell::{Cell, FileCell, PartCell, Pending, TreeLock};

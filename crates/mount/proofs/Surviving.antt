@@ -29,7 +29,7 @@ use Rattle.end_laws.specs.Mount.{MountEnd, MountEnds}
 use Rattle.close_laws.specs.Maps.{past_of}
 use Rattle.end_laws.specs.Survives.{DiskEnds}
 use Rattle.end_laws.proofs.Survives.{turns_of_mounts_end, mounts_survive}
-use Rattle.recorded_laws.proofs.Agreed.{agreed_mounts_are_recorded}
+use Rattle.end_laws.proofs.LacksAgreed.{agreed_mounts_are_recorded}
 use Rattle.workers.specs.declared.worker.Worker.{Worker}
 use Rattle.mount.specs.declared.volume.Volume.{Volume}
 use Rattle.mount.specs.Volume.{IsMountOfDisk}

@@ -17,7 +17,7 @@ use Rattle.mount_begin.specs.Mounted.{share_of_nodes}
 use Rattle.turn_ties.specs.Plans.{image_held}
 use Rattle.slot_image_laws.specs.Run.{KeepsLaws, RisesFrom}
 use Rattle.disk_box.specs.Pens.{PenHand}
-use Rattle.end_laws.specs.Begins.{HasBegunVolume}
+pub use Rattle.end_laws.specs.Begins.{HasBegunVolume}
 use Rattle.workers.specs.declared.worker.Worker.{Worker}
 use Rattle.mount.specs.Volume.{IsMountOfDisk, IsVolume}
 use Rattle.mount.specs.declared.volume.Volume.{Volume}

@@ -31,7 +31,7 @@ use Rattle.mount_begin.specs.Mounted.{entry_mounted}
 use Rattle.mount_begin.specs.declared.begin.Mounted.{Mounted}
 use Rattle.volume_laws.specs.Mounting.{WasMounted}
 use Rattle.turn_ties.specs.Plans.{image_held}
-use Rattle.end_laws.specs.Begins.{HasBegunVolume}
+use Rattle.mount.specs.Survives.{HasBegunVolume}
 use Rattle.scalefs_run.specs.Turns.{HaveOwnNumbers, IsImageAtFirst}
 
 -- What stands for a tree with more nodes stands for the tree, where each node with a number is one of it.

@@ -10,7 +10,7 @@ use Rattle.turn_laws.specs.Need.{ImageState}
 use Rattle.mount_begin.specs.declared.begin.Mounted.{Mounted}
 use Rattle.turn_ties.specs.Plans.{image_held}
 use Rattle.disk_box.specs.Pens.{PenHand}
-use Rattle.end_laws.specs.Begins.{HasBegunVolume}
+use Rattle.mount.specs.Survives.{HasBegunVolume}
 use Rattle.workers.specs.declared.worker.Worker.{Worker}
 use Rattle.mount.specs.declared.volume.Volume.{Volume}
 use Rattle.mount.specs.Ends.{LeavesVolume}

@@ -1,5 +1,0 @@
-use Rattle.recorded_laws.proofs.Agreed.{lacks_are_agreed as law}
-use Rattle.recorded_laws.proofs.laws.lacks_are_agreed.Goals as goal
-
-pub returns : goal.returns
-returns g c = law _
