@@ -63,7 +63,7 @@ pub(crate) fn look_once<R: Wait>(
     requires room { 0 < core.old.room }
     ensures work { IsWorking (given_by shared.now) shared.now core.new }
     ensures saw { SawMore core.old core.new }
-    ensures look { IfOk result (IsLook (given_by shared.now) nodes fsync held.nodes.now core.new) }
+    ensures look { IfOk result (IsLook (given_by shared.now) nodes fsync held.entry.nodes.now core.new) }
 {
     let Holding { nodes: list, whole } = held;
     let parts = copy_logs(rt, alloc, shared, core, nodes, cores, list, whole)?;
