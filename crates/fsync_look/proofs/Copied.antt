@@ -1,5 +1,5 @@
 -- A core that holds a log to copy it, and lets it go.
-use Rattle.std.proofs.Common.{◌≡◌, ◌<◌, ◌+◌, ◌∷◌, ◌++◌, ◌∙◌, ◌⊎◌, ℕ, zero, suc, List, [], length, reverse, slice_get, Option, Some, inl, inr, refl, sym, ap, subst, arith, length-append, append-nil, append_assoc, All, filter, eqb-true, Bool}
+use Rattle.std.proofs.Common.{◌≡◌, ◌<◌, ◌+◌, ◌∷◌, ◌++◌, ◌∙◌, ◌⊎◌, ℕ, zero, suc, List, [], length, reverse, slice_get, Option, Some, inl, inr, refl, sym, ap, subst, arith, length-append, append-nil, append_assoc, All, filter, eqb-true}
 use Rattle.std.proofs.lemmas.Option.{option_and_then_some}
 use Rattle.std.proofs.lemmas.List.Elements.{All-filter, filter_passes}
 use Rattle.sfs_base.specs.declared.numbers.CoreId.{CoreId}
@@ -204,14 +204,6 @@ saw_again a b c one two = record {
   frame = (λ i. record (two.frame i) { view = a.view }) ∙ one.frame;
   view = (λ i. record (two.view i) { seen = a.view.seen }) ∙ one.view;
   seen = (one.seen.0 ++ two.seen.0, sym (append_assoc a.view.seen one.seen.0 two.seen.0) ∙ (ap (λ l. l ++ two.seen.0) one.seen.1 ∙ two.seen.1));
-}
-
--- all of a log keeps what any look asks for
-pub whole_keeps : (looked_at : ℕ → Bool) (log : CoreLog) → KeepsFor looked_at log log
-whole_keeps looked_at log = record {
-  each = λ directory. inl refl;
-  own = λ directory own. refl;
-  naming = λ directory change one child. refl;
 }
 
 -- no copies yet

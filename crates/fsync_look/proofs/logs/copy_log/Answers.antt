@@ -1,4 +1,4 @@
-use Rattle.std.proofs.Common.{◌≡◌, sym, subst, ap, ◌∙◌}
+use Rattle.std.proofs.Common.{sym, subst, ap, ◌∙◌}
 use Rattle.std.proofs.lemmas.Result.{IfOk-weaker}
 use Rattle.stamp_table.specs.Table.{Stands, EachFrom, left_below}
 use Rattle.mem_values.specs.Start.{given_by}
@@ -6,7 +6,7 @@ use Rattle.mem_values.specs.Stands.{StandsAt}
 use Rattle.mem_values.specs.Facts.{IsLawfulLog}
 use Rattle.log_copy.specs.Copies.{is_one_of, KeepsFor}
 use Rattle.fsync_look.specs.Look.{IsCopyOf}
-use Rattle.fsync_look.proofs.Copied.{LogLook, LooksAtLog, goes_home, works, saw_more, keeps_own, copied}
+use Rattle.fsync_look.proofs.Copied.{goes_home, works, saw_more, keeps_own, copied}
 use Rattle.fsync_look.proofs.logs.copy_log.Goals as goal
 
 pub let_go-requires-clause-home : goal.let_go-requires-clause-home
@@ -76,8 +76,8 @@ returns-clause-saw g c =
     c.let_go.new.self c.let_go.ensures.lets_go
     (c.let_go.ensures.left ∙ ap (λ p. left_below p c.hold_more.new.core.held) c.place.ensures) c.let_go.ensures.places
 
-pub copy_asked-requires-clause-own : goal.copy_asked-requires-clause-own
-copy_asked-requires-clause-own g c =
+pub copy_asked-copy-requires-clause-own : goal.copy_asked-copy-requires-clause-own
+copy_asked-copy-requires-clause-own g c =
     keeps_own
     (record {
       given = given_by c.args.shared.now;
