@@ -1,0 +1,5 @@
+mod Moments
+mod Short
+mod Cells
+mod Sums
+mod Whole
