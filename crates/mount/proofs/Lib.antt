@@ -7,3 +7,4 @@ mod FromBegin
 mod Owned
 mod Ending
 mod Surviving
+mod Totalling

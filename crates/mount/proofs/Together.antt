@@ -17,6 +17,7 @@ use Rattle.site_laws.specs.Sites.{IsSiteMount}
 use Rattle.site_laws.proofs.Sites.{mounts_are_sites}
 use Rattle.fsync_dir.specs.Site.{IsSite}
 use Rattle.workers.specs.Works.{IsBasisOf}
+use Rattle.table_totals.specs.Seen.{HasNoLongFile}
 use Rattle.mount.specs.Begun.{IsTableOver, basis_for}
 use Rattle.mount.specs.Volume.{HasRoomForWorkers, IsMountOfDisk, IsVolume}
 use Rattle.mount.specs.declared.mounting.Tabled.{Tabled}
@@ -99,6 +100,7 @@ module _ {D : Type 0} (view : D → View) (nodes : ℕ) (disk left : D) (begun :
   pub volume_is : 0 < begun.layout.cores → (basis_for begun.layout nodes).nodes ≤ 131072 → IsVolume volume_of
   volume_is some few = record {
     basis = basis_is;
+    short = subst HasNoLongFile (sym put.table.first) site.begins.short;
     site = site_is;
     some = some;
     table_cores = table_cores;

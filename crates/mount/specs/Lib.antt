@@ -6,3 +6,4 @@ pub mod Volume
 pub mod Workers
 pub mod Phases
 pub mod Serving
+pub mod Totals

@@ -14,6 +14,7 @@ use Rattle.volume_laws.specs.Mounting.{WasMounted}
 use Rattle.journal_set.specs.Making.{BeganOver, IsKeyOf}
 use Rattle.fsync_dir.specs.Site.{IsSite}
 use Rattle.workers.specs.Works.{IsBasisOf}
+use Rattle.table_totals.specs.Seen.{HasNoLongFile}
 use Rattle.mount.specs.declared.volume.Volume.{Volume}
 use Rattle.mount.specs.declared.volume.Room.{Room}
 use Rattle.mount.specs.declared.mounting.MountFault.{MountFault}
@@ -25,10 +26,11 @@ pub record HasRoomForWorkers {D : Type 0} (cores : ℕ) (room : Room D) : Type 0
   pub for_cores : cores ≤ vec_capacity room.cores
   pub for_pens : cores ≤ vec_capacity room.pens
 
--- A volume: its table is one of a file tree, by whose numbers its cores number new nodes; fsyncs may be served over it; table and journals have as many cores as
--- it has, of which there are some; and there is room for them.
+-- A volume: its table is one of a file tree, by whose numbers its cores number new nodes, and it began with no file longer than a file may be; fsyncs may be served
+-- over it; table and journals have as many cores as it has, of which there are some; and there is room for them.
 pub record IsVolume {D : Type 0} (volume : Volume D) : Type 0 where
   pub basis : IsBasisOf volume.shared volume.basis
+  pub short : HasNoLongFile volume.shared.first
   pub site : IsSite volume.shared volume.basis.nodes volume.cores volume.set.table.given
   pub some : 0 < volume.cores
   pub table_cores : volume.shared.cores ≡ volume.cores

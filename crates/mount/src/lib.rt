@@ -2,6 +2,7 @@
 #![tactic(auto)]
 
 mod calling;
+mod counting;
 mod flushing;
 mod mounting;
 mod running;
@@ -9,6 +10,7 @@ mod unmounting;
 mod volume;
 
 pub use calling::make_call;
+pub use counting::totals;
 pub use flushing::{PairAgreement, run_phase, serve};
 pub use mounting::{MountFault, begin, mount};
 pub use running::run_phases;

@@ -3,3 +3,5 @@ mod Short
 mod Cells
 mod Sums
 mod Whole
+mod Ends
+mod Rested

@@ -3,5 +3,7 @@
 
 mod counting;
 mod parts;
+mod resting;
 
 pub use counting::totals;
+pub use resting::totals_at_rest;
