@@ -1,9 +1,10 @@
 // Phases of a script are run on a volume that is begun over a mounted disk and unmounted behind them.
-ghost use Rattle.std.specs.Prelude.{◌≡◌, ◌≤◌, ℕ, IfErr, IfOk, length};
+ghost use Rattle.std.specs.Prelude.{◌≡◌, ◌≤◌, ℕ, IfErr, IfOk, OnErr, OnOk, length};
 ghost use Rattle.std.specs.List.{AllByRecursion};
 ghost use Rattle.mount.specs.Phases.{HaveWorkers, own_of};
 ghost use Rattle.mount.specs.Volume.{IsVolume};
-ghost use Rattle.mount.specs.Workers.{AreWorkers};
+ghost use Rattle.mount.specs.Workers.{AreWorkers, HaveMadeNothing};
+ghost use Rattle.workers.specs.Phases.{HasMadePhases, HasMadeSoFar};
 ghost use Rattle.script.specs.Ready.{LinesMayRun};
 ghost use Rattle.volume_laws.specs.Mounting.{WasMounted};
 ghost use Rattle.words.specs.Words.{MOST_NODES};
@@ -65,6 +66,32 @@ fn end_of<R: Wait, D: Disk + Drop>(
     }
 }
 
+// Runs phases on a volume, and takes what is to be written behind them.
+fn run_on<R: Threads + Wait + Sync, D: Disk + Drop + Sync, G: Gate>(
+    rt: &R,
+    alloc: Global,
+    volume: &Volume<D>,
+    workers: &mut [Worker<Pen<D>>],
+    phases: &[Phase],
+    writing: Writing,
+    gate: &G,
+) -> (Result<(), NoMemory>, Result<Ending, NoMemory>)
+    requires volume { IsVolume volume.now }
+    requires workers { AreWorkers volume.now workers.old }
+    requires none { HaveMadeNothing workers.old }
+    requires ready { AllByRecursion LinesMayRun phases.now }
+    requires within { AllByRecursion (HaveWorkers volume.now.cores) phases.now }
+    ensures count { length workers.new ≡ length workers.old }
+    ensures workers { AreWorkers volume.now workers.new }
+    ensures ok { OnOk result.0 (HasMadePhases volume.now.shared.first (own_of workers.new) phases.now) }
+    ensures err { OnErr result.0 (HasMadeSoFar volume.now.shared.first (own_of workers.new) phases.now) }
+    ensures due { IfOk result.1 (EndsVolume D.view volume.now workers.new writing) }
+{
+    let ended = run_phases(rt, alloc, volume, workers, phases, gate);
+    let ending = end_of(rt, volume, workers, writing);
+    (ended, ending)
+}
+
 /// Begins a volume of many cores over a disk that was mounted with so many new nodes, runs phases on it, each worker of a phase in a thread of its own
 /// where one can be started, and unmounts it. Where memory is refused before the volume is there, the disk is handed back as it is.
 pub fn run_begun<R: Threads + Wait + Sync, D: Disk + Drop + Sync, G: Gate>(
@@ -94,8 +121,7 @@ pub fn run_begun<R: Threads + Wait + Sync, D: Disk + Drop + Sync, G: Gate>(
         Ok(mounted) => mounted,
         Err(MountFault { fault: _, disk }) => return Err(disk),
     };
-    let ended = run_phases(rt, alloc, &volume, &mut workers, phases, gate);
-    let ending = end_of(rt, &volume, &mut workers, writing);
+    let (ended, ending) = run_on(rt, alloc, &volume, &mut workers, phases, writing, gate);
     let (disk, history, turns) = unmount(volume, workers);
     Ok(Ran {
         ended,
