@@ -18,7 +18,6 @@ use Rattle.mount.specs.Survives.{MountComesTo, VolumeSurvives}
 use Rattle.mount.specs.Volume.{IsMountOfDisk}
 use Rattle.scalefs_run.specs.Ran.{LeavesRun}
 use Rattle.scalefs_run.specs.Turns.{IsImageAtFirst}
-use Rattle.scalefs_run.specs.Writing.{CanReplay}
 use Rattle.scalefs_run.proofs.AtFirst.{image_at_first}
 
 -- A volume was mounted of a disk with so many new nodes and was unmounted.
@@ -67,12 +66,6 @@ module _ {D : Type 0} (view : D → View) (nodes : ℕ) (disk left : D) (volume 
       let over = ends.mounted.over in
       subst (λ (d : D). Advances (view d) (view left)) over.is (ends.leaves.leaves.since.goes over.first over.told)
 
-  again : CanReplay begun.tree history
-  again =
-      subst (λ (t : TreeState). CanReplay t history) has.begins.first_is
-      (subst (CanReplay has.start.first) has.begins.history_is
-      (record { mounted = has.begins.labels.walk.stands.between.history_is; short = has.begins.short }))
-
   -- what was left of the mount's tree
   left_of_tree : LeavesRun nodes volume.shared.first (view disk) (view left) history turns
   left_of_tree =
@@ -80,7 +73,6 @@ module _ {D : Type 0} (view : D → View) (nodes : ℕ) (disk left : D) (volume 
       let same : begun.tree ≡ volume.shared.first = sym ends.mounted.tree in
       record {
         legal = ends.leaves.legal;
-        again = subst (λ (t : TreeState). CanReplay t history) same again;
         turns_are = record {
           image = image_held has.start;
           image_is =

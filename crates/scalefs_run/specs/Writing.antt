@@ -4,8 +4,6 @@ use Rattle.tree_laws.specs.declared.history.Entry.{Entry}
 use Rattle.tree_laws.specs.History.{tree_after}
 use Rattle.tree_laws.specs.Tree.{TreeState}
 use Rattle.tree_totals.specs.Totals.{total_bytes, total_rows}
-use Rattle.raise_laws.specs.Next.{IsMountedHistory}
-use Rattle.mark_laws.specs.Changed.{HasShortFiles}
 use Rattle.script.specs.Texts.{history_text}
 use Rattle.scalefs_run.specs.declared.writing.Ending.{Ending}
 use Rattle.scalefs_run.specs.declared.writing.Ending.TheVariants as ending
@@ -27,22 +25,7 @@ abbrev pub text_behind : Writing → TreeState → List Entry → List ℕ
 text_behind History first history = history_text history
 text_behind (Load seed count workers) first history = load_text seed count workers (tree_after first history) history
 
--- what is kept for it of that tree
-abbrev pub ending_of : Writing → TreeState → Ending
-ending_of History first = ending.History
-ending_of (Load seed count workers) first = ending.Load seed count workers first
-
--- and the text that is due by what was kept
+-- and the text that is due by what was found at its end
 abbrev pub text_due : Ending → List Entry → List ℕ
 text_due ending.History history = history_text history
-text_due (ending.Load seed count workers first) history = load_text seed count workers (tree_after first history) history
-
--- A history may be made again: it is a mounted one, which began with a tree without too long a file.
-pub record CanReplay (first : TreeState) (history : List Entry) : Type 0 where
-  pub mounted : IsMountedHistory first history
-  pub short : HasShortFiles first
-
--- what was kept is of a tree with which a history may be made again, if it is one
-abbrev pub CanEnd : Ending → List Entry → Type 0
-CanEnd ending.History history = Unit {0}
-CanEnd (ending.Load seed count workers first) history = CanReplay first history
+text_due (ending.Load seed count workers found) history = line_text seed count workers (length history) found.rows found.bytes

@@ -6,7 +6,6 @@ mod image;
 pub mod laws;
 mod outcome;
 mod refused;
-mod replay;
 mod running;
 mod scripts;
 mod top;

@@ -1,5 +1,5 @@
 // A script is run on the image of a disk, and what is due of it is written.
-ghost use Rattle.std.specs.Prelude.{◌≡◌, ◌≤◌, List, true};
+ghost use Rattle.std.specs.Prelude.{◌≡◌, ◌≤◌, ℕ, IfOk, List, true};
 ghost use Rattle.std.specs.List.{All};
 ghost use Rattle.sfs_base.specs.Ends.{HasRisen};
 ghost use Rattle.sfs_dev.specs.Run.{Advances};
@@ -10,13 +10,13 @@ ghost use Rattle.scalefs_run.specs.Due.{judged_status};
 ghost use Rattle.scalefs_run.specs.Outcome.{HasHistory, HasText, IsWriteStatus, reaches_disk};
 ghost use Rattle.scalefs_run.specs.Ran.{HasCalls};
 ghost use Rattle.scalefs_run.specs.Served.{Served, run_ends, run_told};
-ghost use Rattle.scalefs_run.specs.Writing.{CanEnd, text_due};
+ghost use Rattle.scalefs_run.specs.Writing.{text_due};
 
 use crate::image::status_of_recovery;
 use crate::outcome::no_calls;
 use crate::running::{Ran, run_begun};
 use crate::without_core::{cores_of, first_worker_without_core};
-use crate::writing::{Ending, Writing, begin_writing, write_end};
+use crate::writing::{Writing, write_end};
 use crate::{Outcome, Status};
 use mount_begin::mount;
 use script::Script;
@@ -63,20 +63,16 @@ pub fn serve_script<R: Threads + Wait + Sync, K: Sink, D: Disk + Drop + Sync, G:
         };
         return no_calls(alloc, status, disk);
     }
-    let Ok(ending) = begin_writing(writing, &begun.tree) else {
-        return no_calls(alloc, Status::NoMemory, disk);
-    };
-    match run_begun(rt, alloc, disk, begun, nodes, script.phases(), gate) {
-        Ok(ran) => end_run(alloc, ran, ending, sink),
+    match run_begun(rt, alloc, disk, begun, nodes, script.phases(), writing, gate) {
+        Ok(ran) => end_run(alloc, ran, sink),
         Err(disk) => no_calls(alloc, Status::NoMemory, disk),
     }
 }
 
 // Writes what is due of phases that were run, unless memory was refused among them.
-fn end_run<K: Sink, D>(alloc: Global, ran: Ran<D>, ending: Ending, sink: &mut K) -> Outcome<D>
-    requires ready { CanEnd ending ran.history }
+fn end_run<K: Sink, D>(alloc: Global, ran: Ran<D>, sink: &mut K) -> Outcome<D>
     ensures status { IsWriteStatus (HasRisen (K.faults sink.old) (K.faults sink.new)) result.status }
-    ensures text { HasText (text_due ending ran.history) (K.written sink.old) (K.written sink.new) result.status }
+    ensures text { (text : List ℕ) → IfOk ran.ending (λ ending. text_due ending ran.history ≡ text) → HasText text (K.written sink.old) (K.written sink.new) result.status }
     ensures calls { (phases : List (List Line)) → HasCalls phases ran.history ran.ended → HasHistory phases ran.history result.status }
     ensures history { result.history ≡ ran.history }
     ensures turns { result.turns ≡ ran.turns }
@@ -84,6 +80,7 @@ fn end_run<K: Sink, D>(alloc: Global, ran: Ran<D>, ending: Ending, sink: &mut K)
 {
     let Ran {
         ended,
+        ending,
         history,
         turns,
         disk,

@@ -8,14 +8,11 @@ use Rattle.script.specs.Ready.{LinesMayRun}
 use Rattle.mount.specs.Phases.{HaveWorkers}
 use Rattle.scalefs_run.specs.Due.{judged_status}
 use Rattle.scalefs_run.specs.Image.{status_of_recovery}
-use Rattle.scalefs_run.specs.Outcome.{HasText}
 use Rattle.scalefs_run.specs.Ran.{HasCalls}
 use Rattle.scalefs_run.specs.Served.{Served, run_ends, run_told}
 use Rattle.scalefs_run.specs.WithoutCore.{worker_without_core}
-use Rattle.scalefs_run.specs.Writing.{CanEnd, text_due}
-use Rattle.scalefs_run.specs.declared.writing.Ending.{Ending}
+use Rattle.scalefs_run.specs.Writing.{text_behind}
 use Rattle.scalefs_run.specs.declared.outcome.Status.TheVariants.{NoMemory, TooManyWorkers}
-use Rattle.scalefs_run.proofs.Replayed.{can_end, text_is}
 use Rattle.scalefs_run.proofs.Serving.{served_refused, served_run, served_unbegun, served_without_core}
 use Rattle.scalefs_run.proofs.Told.{told_kept, told_none, was_mounted}
 use Rattle.scalefs_run.proofs.Within.{by_recursion, within_all}
@@ -70,23 +67,6 @@ returns-in-Some-clause-served g c =
     (was_mounted c.args.nodes begun old new is.ok is.sound c.mount.ensures.moments is.ended is.runs.advances) Sink written c.in-Some.asked c.from-in-Some.result
     (c.from-in-Some.ensures ∙ have_is) found)
 
-pub returns-in_default-begin_writing-clause-served : goal.returns-in_default-begin_writing-clause-served
-returns-in_default-begin_writing-clause-served g c =
-    let view = g.D.Disk.view in
-    let old = view c.args.disk in
-    let new = view c.mount.new.disk in
-    let sink = c.args.sink.now in
-    let phases = c.args.script.now in
-    let Sink = HasRisen (g.K.Sink.faults sink) (g.K.Sink.faults sink) in
-    let written = g.K.Sink.written sink in
-    let none = c.no_calls-in_default-begin_writing.ensures in
-    let is = c.in-Ok.ensures in
-    told_none (λ d told. Served (λ judged. judged_status judged phases) c.args.nodes phases c.args.writing (run_ends ⊥ Sink written written old (view d)) told)
-    c.no_calls-in_default-begin_writing.result NoMemory c.mount.new.disk
-    (record { status_is = none.status; history = none.history; turns = none.turns; disk_is = none.disk })
-    (served_unbegun c.args.nodes c.in-Ok.begun phases c.args.writing old new
-    (was_mounted c.args.nodes c.in-Ok.begun old new is.ok is.sound c.mount.ensures.moments is.ended is.runs.advances) Sink written)
-
 pub run_begun-requires-clause-was : goal.run_begun-requires-clause-was
 run_begun-requires-clause-was g c κs within =
     let view = g.D.Disk.view in
@@ -108,20 +88,6 @@ run_begun-requires-clause-within g c κs within =
     ap (λ n. worker_without_core n c.args.script.now) (sym have_is) ∙ ap (worker_without_core c.cores_of-have.result) (sym c.phases.ensures)
     ∙ sym c.first_worker_without_core.ensures ∙ c.in_default.is in
     subst (λ (p : List (List Line)). AllByRecursion (HaveWorkers cores) p) (sym c.phases-2.ensures) (within_all cores c.args.script.now none)
-
-pub end_run-requires : goal.end_run-requires
-end_run-requires g c =
-    let view = g.D.Disk.view in
-    let old = view c.args.disk in
-    let mid = view c.mount.new.disk in
-    let is = c.in-Ok.ensures in
-    let begun = c.in-Ok.begun in
-    let history = c.in-Ok-run_begun.ran.history in
-    let leaves = c.in-Ok-run_begun.ensures.leaves c.args.disk
-    (was_mounted c.args.nodes begun old mid is.ok is.sound c.mount.ensures.moments is.ended is.runs.advances) in
-    record {
-      ready = subst (λ (e : Ending). CanEnd e history) (sym c.in-Ok-begin_writing.ensures) (can_end c.args.writing begun.tree history leaves.again);
-    }
 
 pub returns-in-Ok-run_begun-clause-served : goal.returns-in-Ok-run_begun-clause-served
 returns-in-Ok-run_begun-clause-served g c =
@@ -151,8 +117,7 @@ returns-in-Ok-run_begun-clause-served g c =
     (served_run nodes begun phases writing old mid was Sink before after (view ran.disk) (run_told status ran.history ran.turns.items) none
     (c.in-Ok-run_begun.ensures.leaves c.args.disk was) ended.status
     (ended.calls phases (subst (λ (p : List (List Line)). HasCalls p ran.history ran.ended) c.phases-2.ensures c.in-Ok-run_begun.ensures.calls))
-    (subst (λ (text : List ℕ). HasText text before after status) (text_is writing begun.tree ran.history)
-    (subst (λ (e : Ending). HasText (text_due e ran.history) before after status) c.in-Ok-begin_writing.ensures ended.text)))
+    (ended.text (text_behind writing begun.tree ran.history) c.in-Ok-run_begun.ensures.due))
 
 pub returns-in-Ok-run_begun-clause-advances : goal.returns-in-Ok-run_begun-clause-advances
 returns-in-Ok-run_begun-clause-advances g c =
