@@ -63,7 +63,16 @@ pub fn serve_script<R: Threads + Wait + Sync, K: Sink, D: Disk + Drop + Sync, G:
         };
         return no_calls(alloc, status, disk);
     }
-    match run_begun(rt, alloc, disk, begun, nodes, script.phases(), writing, gate) {
+    match run_begun(
+        rt,
+        alloc,
+        disk,
+        begun,
+        nodes,
+        script.phases(),
+        writing,
+        gate,
+    ) {
         Ok(ran) => end_run(alloc, ran, sink),
         Err(disk) => no_calls(alloc, Status::NoMemory, disk),
     }
