@@ -55,11 +55,11 @@ has_own first history workers is core = elim (slice_get_cases workers core).1 [
 ]
 
 -- what is so behind an answer leads to more
-on_ok : {V F : Type 0} {A B : Type 0} (answer : Result V F) → (A → B) → OnOk answer A → OnOk answer B
+pub on_ok : {V F : Type 0} {A B : Type 0} (answer : Result V F) → (A → B) → OnOk answer A → OnOk answer B
 on_ok (Ok value) leads is = leads is
 on_ok (Err fault) leads is = tt
 
-on_err : {V F : Type 0} {A B : Type 0} (answer : Result V F) → (A → B) → OnErr answer A → OnErr answer B
+pub on_err : {V F : Type 0} {A B : Type 0} (answer : Result V F) → (A → B) → OnErr answer A → OnErr answer B
 on_err (Ok value) leads is = tt
 on_err (Err fault) leads is = leads is
 
