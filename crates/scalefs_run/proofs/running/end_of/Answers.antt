@@ -4,5 +4,5 @@ use Rattle.scalefs_run.proofs.running.end_of.Goals as goal
 
 pub returns-in_ok-found-in-Load-clause-due : goal.returns-in_ok-found-in-Load-clause-due
 returns-in_ok-found-in-Load-clause-due g c =
-    load_ends g.D.Disk.view c.args.volume.now c.totals.new.workers c.in-Load.seed c.in-Load.count c.in-Load.asked c.in_ok-found-in-Load.found
-    c.in_ok-found-in-Load.ensures.totals
+    rw c.in-Load.is (load_ends g.D.Disk.view c.args.volume.now c.totals.new.workers c.in-Load.seed c.in-Load.count c.in-Load.asked c.in_ok-found-in-Load.found
+    c.in_ok-found-in-Load.ensures.totals)
