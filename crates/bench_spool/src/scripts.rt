@@ -35,8 +35,13 @@ pub fn spool_script(alloc: Global, asked: &Asked) -> Result<String, NoMemory> {
     for i in 0..asked.each {
         for worker in 0..asked.workers {
             let (made, kept) = directories_of(alloc, asked, worker)?;
+            let message = format!(in alloc; "{made}/{worker}.{i}")?;
             let lines = format!(in alloc;
-                "{worker} create {made}/{worker}.{i}\n{worker} write {made}/{worker}.{i} 0 {bytes}\n{worker} fsync {made}/{worker}.{i}\n{worker} link {made}/{worker}.{i} {kept}/{worker}.{i}\n{worker} fsync {kept}\n{worker} unlink {made}/{worker}.{i}\n"
+                "{worker} create {message}\n{worker} write {message} 0 {bytes}\n{worker} fsync {message}\n"
+            )?;
+            script.push_str(lines.as_str())?;
+            let lines = format!(in alloc;
+                "{worker} link {message} {kept}/{worker}.{i}\n{worker} fsync {kept}\n{worker} unlink {message}\n"
             )?;
             script.push_str(lines.as_str())?;
         }

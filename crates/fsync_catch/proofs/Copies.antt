@@ -25,7 +25,7 @@ use Rattle.fsync_catch.proofs.Going.{looked_saw, looked_works, holds_on, all_hel
 pub record LooksAfterCopies (s : Copying) (t : FileState) (mid : FileHand) (number : ℕ) : Type 0 where
   pub work : IsWorking s.given t s.before
   pub still : IsWorking s.given t mid
-  pub copies : AreCopies s.given s.nodes (length t.first.made) s.before mid s.parts
+  pub copies : AreCopies s.given s.nodes (length t.first.made) s.list s.before mid s.copies
   pub saw : SawMore s.before mid
   pub looked : Looked (IsLawfulLog s.given) (StandsAt s.given) mid number s.after
   pub waits : HasItsFsync s.before s.fsync
@@ -48,8 +48,8 @@ module _ (s : Copying) (t : FileState) (mid : FileHand) (number : ℕ) (is : Loo
 
   pub copying : IsCopying s
   copying = record {
-    copies = copies_later s.given s.nodes (length s.before.view.first.made) s.before mid s.after s.parts is.looked.saw.seen
-        (subst (λ (f : TreeState). AreCopies s.given s.nodes (length f.made) s.before mid s.parts) (sym is.work.first) is.copies);
+    copies = copies_later s.given s.nodes (length s.before.view.first.made) s.list s.before mid s.after s.copies is.looked.saw.seen
+        (subst (λ (f : TreeState). AreCopies s.given s.nodes (length f.made) s.list s.before mid s.copies) (sym is.work.first) is.copies);
     saw = saws;
     legal = subst (λ f. IsLegal f (calls_in s.after.view.seen)) first_mid is.looked.saw.legal_seen.legal_calls;
     lawful = subst (λ f. IsLawfulLog s.given f s.after.view.seen) first_mid is.looked.saw.legal_seen.told;

@@ -31,13 +31,13 @@ use Rattle.fsync_look.specs.Look.{IsBelow}
 use Rattle.fsync_gather.specs.Gathers.{GathersNodes}
 use Rattle.fsync_catch.specs.Catch.{IsLook}
 use Rattle.fsync_catch.specs.declared.looking.Caught.{Caught}
-use Rattle.fsync_catch.proofs.Noted.{Copying, IsCopying, noted, has_noted}
+use Rattle.fsync_catch.proofs.Noted.{Copying, IsCopying, noted, has_noted, merged_for}
 use Rattle.fsync_catch.proofs.Counts.{same_count}
 
 -- What was caught by copies: it is in order, merged of them, has of the nodes what is held, and concerns what it does.
 pub record CatchesBy (s : Copying) (caught : Caught) : Type 0 where
   pub orderly : IsOrderly caught.gathered
-  pub merged : AreMergedOf s.parts caught.gathered.logs.items
+  pub merged : AreMergedOf s.copies caught.gathered.logs.items
   pub gathers : GathersNodes s.nodes s.after.held s.list caught.gathered
   pub concern_is : IsConcernOf s.fsync.node s.fsync.stamp caught.gathered caught.concern
 
@@ -73,7 +73,7 @@ module _ (s : Copying) (is : IsCopying s) (sound : IsSoundTree s.before.view.fir
     legal = is.legal;
     some_core = some_core;
     notes = has_noted s is;
-    merged = by_copies.merged;
+    merged = merged_for s is caught.gathered.logs.items by_copies.merged;
     births = λ born one gathers. saw_birth born one;
   }
 
@@ -97,7 +97,7 @@ module _ (s : Copying) (is : IsCopying s) (sound : IsSoundTree s.before.view.fir
     saw = ap (λ cells. λ (node : ℕ). if is_listed (map node_number s.list) node then pending_held s.nodes cells (record { 0 = node }) else None) (sym held_same);
     notes = subst (λ f. HasNotedAll (record { given = s.given; first = f; log = s.after.view.seen }) (noted s is)) (sym first_same) (has_noted s is);
     orderly = by_copies.orderly;
-    merged = by_copies.merged;
+    merged = merged_for s is caught.gathered.logs.items by_copies.merged;
     gathers = by_copies.gathers;
     concern_is = by_copies.concern_is;
     within = all_of (IsBelow s.nodes) caught.concern.nodes.items concerned_below;

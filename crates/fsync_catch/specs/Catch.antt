@@ -15,7 +15,7 @@ use Rattle.mem_values.specs.Facts.{HasFsync, IsLawfulLog}
 use Rattle.mem_calls.specs.Held.{pending_held}
 use Rattle.note_laws.specs.Run.{TableRun, calls_of}
 use Rattle.note_laws.specs.Notes.{CoreNotes, HasNotedAll}
-use Rattle.note_laws.specs.Merged.{AreMergedOf}
+use Rattle.note_laws.specs.Merged.{AreMergedFor}
 use Rattle.fsync_look.specs.Look.{IsBelow, HoldsNodes}
 use Rattle.fsync_gather.specs.Gathers.{GathersNodes}
 use Rattle.fsync_catch.specs.declared.looking.Caught.{Caught}
@@ -45,7 +45,7 @@ abbrev pub run_seen : (ℕ → Option OldKept) → FileHand → TableRun
 run_seen given hand = record { given = given; first = hand.view.first; log = hand.view.seen }
 
 -- What a core looked at for its fsync while it held what was flushed of some nodes: it noted each core's log at a moment up to now at which all that it
--- holds stood; what it gathered is merged of these and has of its nodes what it holds; and what the fsync concerns by that are nodes of the table. What it
+-- holds stood; what it gathered is merged of copies of these which keep what a look at its nodes asks for, and has of its nodes what it holds; and what the fsync concerns by that are nodes of the table. What it
 -- has seen is legal and lawful.
 pub record IsLook (given : ℕ → Option OldKept) (nodes : ℕ) (fsync : WaitingFsync) (list : List NodeId) (hand : FileHand) (caught : Caught) : Type 0 where
   pub noted : CoreNotes
@@ -55,7 +55,7 @@ pub record IsLook (given : ℕ → Option OldKept) (nodes : ℕ) (fsync : Waitin
   pub saw : noted.pending ≡ saw_of nodes list hand
   pub notes : HasNotedAll (run_seen given hand) noted
   pub orderly : IsOrderly caught.gathered
-  pub merged : AreMergedOf noted.parts caught.gathered.logs.items
+  pub merged : AreMergedFor noted caught.gathered.logs.items
   pub gathers : GathersNodes nodes hand.held list caught.gathered
   pub concern_is : IsConcernOf fsync.node fsync.stamp caught.gathered caught.concern
   pub within : All (IsBelow nodes) caught.concern.nodes.items

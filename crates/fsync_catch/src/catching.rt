@@ -6,13 +6,17 @@ ghost use Rattle.mem_calls.specs.Table.{IsFileTable};
 ghost use Rattle.mem_calls.specs.Working.{IsWorking};
 ghost use Rattle.fsync_catch.specs.Catch.{HasItsFsync, IsCaught, GoesOn, LetsAllGo};
 
-use crate::looking::{Caught, WaitingFsync, look_once};
+use crate::looking::{Caught, Holding, WaitingFsync, look_once};
 use fsync_look::hold_nodes;
 use mem_calls::let_all_go;
 use mem_values::{FileCore, FileShared};
 use sfs_base::{NoMemory, NodeId, NodeList};
 use std::alloc::Global;
 use std::sync::Wait;
+
+/// How many looks of an fsync copy of each log only what they ask for. Each of them learns the nodes that it concerns one step further, which
+/// is seldom more than two or three; an fsync that still concerns others than it held then copies whole logs, and learns all at once.
+const SMALL_LOOKS: u32 = 8;
 
 // A list of one node.
 fn one_node(alloc: Global, node: NodeId) -> Result<NodeList, NoMemory>
@@ -68,6 +72,7 @@ pub fn catch_nodes<R: Wait>(
     ensures none { OnErr result (LetsAllGo core.new) }
 {
     let mut held = one_node(alloc, fsync.node)?;
+    let mut looks = 0u32;
     for _ in rt.forever() {
         core.reserve(0, cells_for(&held)?)?;
         hold_nodes(rt, shared, core, nodes, held.as_slice());
@@ -79,7 +84,10 @@ pub fn catch_nodes<R: Wait>(
             nodes,
             cores,
             fsync,
-            held.as_slice(),
+            Holding {
+                nodes: held.as_slice(),
+                whole: looks >= SMALL_LOOKS,
+            },
         ) {
             Ok(caught) => {
                 if are_same(held.as_slice(), caught.concern.nodes.as_slice()) {
@@ -87,6 +95,7 @@ pub fn catch_nodes<R: Wait>(
                 }
                 let_all_go(shared, core);
                 held = nodes_of(caught);
+                looks = looks.saturating_add(1);
             }
             Err(fault) => {
                 let_all_go(shared, core);

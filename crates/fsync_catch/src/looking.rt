@@ -1,4 +1,5 @@
-// One look of an fsync: the logs of all cores are copied while what was flushed of some nodes is held, and what it concerns is worked out.
+// One look of an fsync: the logs of all cores are copied, as far as it asks, while what was flushed of some nodes is held, and what it
+// concerns is worked out.
 ghost use Rattle.std.specs.Prelude.{◌≡◌, ◌+◌, ◌*◌, ◌<◌, IfOk, length, map, All};
 ghost use Rattle.std.specs.List.Sorted.{IsStrictlyIncreasing};
 ghost use Rattle.tree_laws.specs.NameRow.{node_number};
@@ -32,8 +33,16 @@ pub struct Caught {
     pub concern: Concern,
 }
 
-/// Copies the logs of all cores one after another, gathers them with what was flushed of the nodes `held`, and works out what the fsync
-/// concerns. All that the core holds it still holds. It waits while another core has a log. Only want of memory refuses it.
+/// What a look of an fsync goes by: the nodes that the core holds, which ascend, and whether it copies whole logs although less would do.
+#[derive(Clone, Copy)]
+pub(crate) struct Holding<'a> {
+    pub(crate) nodes: &'a [NodeId],
+    pub(crate) whole: bool,
+}
+
+/// Copies of the logs of all cores, one after another, what it asks for, gathers that with what was flushed of the nodes that are held, and
+/// works out what the fsync concerns. All that the core holds it still holds. It waits while another core has a log. Only want of memory
+/// refuses it.
 pub(crate) fn look_once<R: Wait>(
     rt: &R,
     alloc: Global,
@@ -42,23 +51,24 @@ pub(crate) fn look_once<R: Wait>(
     nodes: u32,
     cores: u8,
     fsync: WaitingFsync,
-    held: &[NodeId],
+    held: Holding,
 ) -> Result<Caught, NoMemory>
     requires table { IsFileTable shared.now nodes }
     requires work { IsWorking (given_by shared.now) shared.now core.old }
     requires cores { cores ≡ length shared.now.first.made }
     requires waits { HasItsFsync core.old fsync }
-    requires holds { HoldsNodes nodes held.now core.old }
-    requires within { All (IsBelow nodes) held.now }
-    requires ascend { IsStrictlyIncreasing (map node_number held.now) }
+    requires holds { HoldsNodes nodes held.nodes.now core.old }
+    requires within { All (IsBelow nodes) held.nodes.now }
+    requires ascend { IsStrictlyIncreasing (map node_number held.nodes.now) }
     requires room { 0 < core.old.room }
     ensures work { IsWorking (given_by shared.now) shared.now core.new }
     ensures saw { SawMore core.old core.new }
-    ensures look { IfOk result (IsLook (given_by shared.now) nodes fsync held.now core.new) }
+    ensures look { IfOk result (IsLook (given_by shared.now) nodes fsync held.entry.nodes.now core.new) }
 {
-    let parts = copy_logs(rt, alloc, shared, core, nodes, cores)?;
+    let Holding { nodes: list, whole } = held;
+    let parts = copy_logs(rt, alloc, shared, core, nodes, cores, list, whole)?;
     core.look(shared);
-    let gathered = gather(alloc, core, nodes, held, &parts)?;
+    let gathered = gather(alloc, core, nodes, list, &parts)?;
     let concern = concerned(alloc, fsync.node, fsync.stamp, &gathered)?;
     Ok(Caught { gathered, concern })
 }

@@ -1,20 +1,24 @@
 -- A core that holds a log to copy it, and lets it go.
-use Rattle.std.proofs.Common.{◌≡◌, ◌<◌, ◌+◌, ◌∷◌, ◌++◌, ◌∙◌, ◌⊎◌, ℕ, zero, suc, List, [], length, reverse, slice_get, Option, Some, IsSome, inl, inr, refl, sym, ap, subst, arith, length-append, append-nil, append_assoc}
-use mathlib.Core.List.{IsPrefix}
+use Rattle.std.proofs.Common.{◌≡◌, ◌<◌, ◌+◌, ◌∷◌, ◌++◌, ◌∙◌, ◌⊎◌, ℕ, zero, suc, List, [], length, reverse, slice_get, Option, Some, inl, inr, refl, sym, ap, subst, arith, length-append, append-nil, append_assoc, All, filter, eqb-true}
+use Rattle.std.proofs.lemmas.Option.{option_and_then_some}
+use Rattle.std.proofs.lemmas.List.Elements.{All-filter, filter_passes}
 use Rattle.sfs_base.specs.declared.numbers.CoreId.{CoreId}
 use Rattle.sfs_base.specs.declared.numbers.NodeId.{NodeId}
 use Rattle.sfs_base.proofs.BasicOptions.{some_same}
-use Rattle.std.proofs.lemmas.Option.{option_and_then_some}
 use Rattle.tree_laws.specs.Tree.{TreeState}
+use Rattle.tree_laws.specs.declared.changes.Change.{Change}
+use Rattle.tree_laws.specs.Logged.{is_logged_in}
+use Rattle.mem_cells.specs.Part.{CoreLog, mark_kept}
+use Rattle.mem_cells.specs.Log.{is_from}
 use Rattle.disk_nodes.specs.OldKept.{OldKept}
-use Rattle.mem_cells.specs.Part.{CoreLog}
+use Rattle.log_copy.specs.Copies.{KeepsOwn, KeepsFor, is_one_of}
 use Rattle.stamp_table.specs.declared.event.Event.{Event}
 use Rattle.stamp_table.specs.declared.view.View.{View}
 use Rattle.stamp_table.specs.declared.held.HeldCell.{HeldCell}
 use Rattle.stamp_table.specs.Rule.{Has}
 use Rattle.stamp_table.specs.Hand.{places_of}
 use Rattle.stamp_table.specs.Ascending.{LiesAbove, Falls}
-use Rattle.stamp_table.specs.Table.{HoldsMore, LetsGo, Stands, EachFrom, left_below}
+use Rattle.stamp_table.specs.Table.{LetsGo, Stands, EachFrom, left_below}
 use Rattle.stamp_table.proofs.Hands.{above_all}
 use Rattle.stamp_table.proofs.Keeps.{begins_itself}
 use Rattle.mem_values.specs.Start.{FileHand, FileState}
@@ -22,7 +26,6 @@ use Rattle.mem_values.specs.declared.cell.Cell.{Cell}
 use Rattle.mem_values.specs.declared.cell.Cell.TheVariants as cell
 use Rattle.mem_values.specs.declared.cell.PartCell.{PartCell}
 use Rattle.mem_values.specs.declared.cell.Pending.{Pending}
-use Rattle.mem_values.specs.declared.cell_id.CellId.{CellId}
 use Rattle.mem_values.specs.declared.cell_id.CellId.TheVariants as id
 use Rattle.mem_values.specs.declared.fact.Fact.{Fact}
 use Rattle.mem_values.specs.Places.{cell_place}
@@ -30,6 +33,7 @@ use Rattle.mem_values.specs.Account.{account_of}
 use Rattle.mem_values.specs.Facts.{IsLawfulLog}
 use Rattle.mem_values.specs.Laws.{KnowsCell, KnowsCells}
 use Rattle.mem_values.specs.Stands.{StandsAt, StandsPart, StandsPending, StandsForCell}
+use Rattle.mem_values.specs.Logs.{own_logged}
 use Rattle.mem_calls.specs.Table.{IsFileTable}
 use Rattle.mem_calls.specs.Held.{as_part, as_pending, part_held, pending_held, value_held}
 use Rattle.mem_calls.specs.Working.{IsWorking, Gains}
@@ -88,6 +92,22 @@ module _ (s : LogLook) (may : LooksAtLog s) where
   knows_last : (cells : List (HeldCell Cell)) (c : HeldCell Cell) → KnowsCells s.given s.holding.view (cells ++ c ∷ []) → KnowsCell s.given s.holding.view c
   knows_last [] c knows = knows.0
   knows_last (d ∷ cells) c knows = knows_last cells c knows.1
+
+  -- the log that is held stands for what the core has seen
+  stands_held : (p : PartCell) → part_held s.nodes s.holding.held s.number.0 ≡ Some p
+      → StandsPart s.holding.view.first (account_of s.holding.view.seen) s.number.0 p
+  stands_held p held =
+      option_and_then_some as_part (value_held s.nodes s.holding.held (id.Part s.number)) p held
+      (λ value found kind. part_of_value s.given s.holding.view.first (account_of s.holding.view.seen) s.number.0 value p kind
+      (stands_now s.given s.t s.nodes s.holding may.table may.work (id.Part s.number) value may.within found))
+
+  -- so each change that it keeps of a directory is one of this directory
+  pub keeps_own : (p : PartCell) → part_held s.nodes s.holding.held s.number.0 ≡ Some p → KeepsOwn p.log
+  keeps_own p held directory =
+      let logged = own_logged s.holding.view.first s.number.0 (account_of s.holding.view.seen).calls in
+      subst (All (λ (change : Change). change.dir.0 ≡ directory)) (sym ((stands_held p held).left.changes_left directory))
+      (All-filter (is_from (mark_kept p.log directory)) (λ (change : Change). change.dir.0 ≡ directory) (filter (is_logged_in directory) logged)
+      (λ k d less. eqb-true _ directory (filter_passes (is_logged_in directory) logged k d less)))
 
   -- the log goes home as it is
   pub goes_home : EachFrom place (Stands (IsLawfulLog s.given) (StandsAt s.given) s.holding.view) s.holding.held
@@ -152,19 +172,17 @@ module _ (s : LogLook) (may : LooksAtLog s) where
           (subst (KnowsCells s.given s.holding.view) may.gains.held.1 may.work.knows));
     }
 
-    -- the log that is held, as it stood for what the core had seen, is what was copied
-    pub copied : (p : PartCell) (log : CoreLog) → part_held s.nodes s.holding.held s.number.0 ≡ Some p → p.log ≡ log
-        → IsCopyOf s.given s.nodes s.before after s.number.0 log
-    copied p log held same = record {
+    -- a copy of the log that is held, as it stood for what the core had seen
+    pub copied : (list : List NodeId) (p : PartCell) (copy : CoreLog) → part_held s.nodes s.holding.held s.number.0 ≡ Some p
+        → KeepsFor (is_one_of list) p.log copy → IsCopyOf s.given s.nodes list s.before after s.number.0 copy
+    copied list p copy held keeps = record {
+      log = p.log;
+      keeps = keeps;
       at = s.holding.view.seen;
       since = may.gains.on.seen;
       until = ([], append-nil s.holding.view.seen ∙ sym (ap (λ (v : View TreeState (Event Fact)). v.seen) lets.view));
       made = p.made;
-      stands = subst (λ l. StandsPart s.before.view.first (account_of s.holding.view.seen) s.number.0 (record { log = l; made = p.made })) same
-          (subst (λ f. StandsPart f (account_of s.holding.view.seen) s.number.0 p) first_same
-          (option_and_then_some as_part (value_held s.nodes s.holding.held (id.Part s.number)) p held
-          (λ value found kind. part_of_value s.given s.holding.view.first (account_of s.holding.view.seen) s.number.0 value p kind
-          (stands_now s.given s.t s.nodes s.holding may.table may.work (id.Part s.number) value may.within found))));
+      stands = subst (λ f. StandsPart f (account_of s.holding.view.seen) s.number.0 p) first_same (stands_held p held);
       kept = λ node pending lt held_was. subst (λ f. StandsPending s.given f (account_of s.holding.view.seen) node.0 pending) first_same
           (option_and_then_some as_pending (value_held s.nodes s.before.held (id.Pending node)) pending held_was
           (λ value found kind. pending_of s.given s.holding.view.first s.holding.view.seen node value pending kind
@@ -189,14 +207,17 @@ saw_again a b c one two = record {
 }
 
 -- no copies yet
-pub copies_none : (given : ℕ → Option OldKept) (nodes : ℕ) (hand : FileHand) → AreCopies given nodes 0 hand hand []
-copies_none given nodes hand = record { count = refl; each = λ number log is. absurd (cc (is)) }
+pub copies_none : (given : ℕ → Option OldKept) (nodes : ℕ) (list : List NodeId) (hand : FileHand) → AreCopies given nodes 0 list hand hand []
+copies_none given nodes list hand = record { count = refl; each = λ number log is. absurd (cc (is)) }
 
 -- and one more
-module _ (given : ℕ → Option OldKept) (nodes cores : ℕ) (begun before after : FileHand) (logs : List CoreLog) (copies : AreCopies given nodes cores begun before logs)
+module _ (given : ℕ → Option OldKept) (nodes cores : ℕ) (begun before after : FileHand) (list : List NodeId)
+    (logs : List CoreLog) (copies : AreCopies given nodes cores list begun before logs)
     (since : SawMore begun before) (saw : SawMore before after) where
-  later : (number : ℕ) (log : CoreLog) → IsCopyOf given nodes begun before number log → IsCopyOf given nodes begun after number log
+  later : (number : ℕ) (log : CoreLog) → IsCopyOf given nodes list begun before number log → IsCopyOf given nodes list begun after number log
   later number log copy = record {
+    log = copy.log;
+    keeps = copy.keeps;
     at = copy.at;
     since = copy.since;
     until = (copy.until.0 ++ saw.seen.0, sym (append_assoc copy.at copy.until.0 saw.seen.0) ∙ (ap (λ l. l ++ saw.seen.0) copy.until.1 ∙ saw.seen.1));
@@ -205,11 +226,13 @@ module _ (given : ℕ → Option OldKept) (nodes cores : ℕ) (begun before afte
     kept = copy.kept;
   }
 
-  earlier : (number : ℕ) (log : CoreLog) → IsCopyOf given nodes before after number log → IsCopyOf given nodes begun after number log
+  earlier : (number : ℕ) (log : CoreLog) → IsCopyOf given nodes list before after number log → IsCopyOf given nodes list begun after number log
   earlier number log copy =
       let first : before.view.first ≡ begun.view.first = ap (λ (v : View TreeState (Event Fact)). v.first) since.view in
       let held : before.held ≡ begun.held = ap (λ (h : FileHand). h.held) since.frame in
       record {
+        log = copy.log;
+        keeps = copy.keeps;
         at = copy.at;
         since = (
           since.seen.0 ++ copy.since.0,
@@ -217,17 +240,17 @@ module _ (given : ℕ → Option OldKept) (nodes cores : ℕ) (begun before afte
         );
         until = copy.until;
         made = copy.made;
-        stands = subst (λ f. StandsPart f (account_of copy.at) number (record { log = log; made = copy.made })) first copy.stands;
+        stands = subst (λ f. StandsPart f (account_of copy.at) number (record { log = copy.log; made = copy.made })) first copy.stands;
         kept = λ node pending lt is. subst (λ f. StandsPending given f (account_of copy.at) node.0 pending) first
             (copy.kept node pending lt (ap (λ (l : List (HeldCell Cell)). pending_held nodes l node) held ∙ is));
       }
 
-  pub copies_more : (log : CoreLog) → IsCopyOf given nodes before after cores log → AreCopies given nodes (cores + 1) begun after (logs ++ log ∷ [])
+  pub copies_more : (log : CoreLog) → IsCopyOf given nodes list before after cores log → AreCopies given nodes (cores + 1) list begun after (logs ++ log ∷ [])
   copies_more log copy = record {
     count = length-append logs (log ∷ []) ∙ ap (λ n. n + 1) copies.count;
     each = λ number other is. elim (got_push logs log number other is) [
       | inl there ↦ later number other (copies.each number other there)
-      | inr here ↦ subst (λ (z : ℕ × CoreLog). IsCopyOf given nodes begun after z.0 z.1)
+      | inr here ↦ subst (λ (z : ℕ × CoreLog). IsCopyOf given nodes list begun after z.0 z.1)
           (λ i. (sym (here.0 ∙ copies.count) i, here.1 i)) (earlier cores log copy)
     ];
   }

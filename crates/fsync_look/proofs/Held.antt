@@ -1,16 +1,14 @@
 -- Nodes of which what was flushed is held, one after another.
-use Rattle.std.specs.Prelude.{All}
-use Rattle.std.proofs.Common.{◌≡◌, ◌<◌, ◌≤◌, ◌+◌, ◌*◌, ◌∷◌, ◌++◌, ◌∙◌, ℕ, List, [], length, map, refl, sym, ap, subst, arith}
+use Rattle.std.proofs.Common.{◌∷◌, ◌++◌, ◌∙◌, ℕ, List, [], sym, ap}
 use Rattle.std.proofs.lemmas.List.{map-append}
 use Rattle.sfs_base.specs.declared.numbers.NodeId.{NodeId}
 use Rattle.stamp_table.specs.declared.held.HeldCell.{HeldCell}
 use Rattle.stamp_table.specs.Hand.{places_of}
-use Rattle.stamp_table.specs.Ascending.{LiesAbove}
 use Rattle.mem_values.specs.Start.{FileHand}
 use Rattle.mem_values.specs.declared.cell.Cell.{Cell}
 use Rattle.mem_values.specs.declared.cell_id.CellId.TheVariants as id
 use Rattle.mem_calls.specs.Working.{Gains}
-use Rattle.fsync_look.specs.Look.{IsBelow, flushed_place, HoldsNodes}
+use Rattle.fsync_look.specs.Look.{flushed_place, HoldsNodes}
 
 -- one node more
 pub holds_more : (nodes : ℕ) (front : List NodeId) (node : NodeId) (before after : FileHand) → HoldsNodes nodes front before

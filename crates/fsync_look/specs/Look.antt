@@ -4,6 +4,7 @@ use mathlib.Core.List.{IsPrefix}
 use Rattle.sfs_base.specs.declared.numbers.NodeId.{NodeId}
 use Rattle.disk_nodes.specs.OldKept.{OldKept}
 use Rattle.mem_cells.specs.Part.{CoreLog}
+use Rattle.log_copy.specs.Copies.{is_one_of, KeepsFor}
 use Rattle.stamp_table.specs.declared.event.Event.{Event}
 use Rattle.stamp_table.specs.Hand.{places_of}
 use Rattle.mem_values.specs.Start.{FileHand}
@@ -33,9 +34,11 @@ pub record SawMore (before after : FileHand) : Type 0 where
   pub view : record after.view { seen = before.view.seen } ≡ before.view
   pub seen : IsPrefix before.view.seen after.view.seen
 
--- A copy of a core's log, from a look that began and ended so: the log stood for what the core had seen at a moment between, and so did then what it
--- holds that was flushed of nodes.
-pub record IsCopyOf (given : ℕ → Option OldKept) (nodes : ℕ) (before after : FileHand) (number : ℕ) (log : CoreLog) : Type 0 where
+-- A copy of what a core's log keeps for some nodes, from a look that began and ended so: the log stood for what the core had seen at a moment between, and
+-- so did then what it holds that was flushed of nodes.
+pub record IsCopyOf (given : ℕ → Option OldKept) (nodes : ℕ) (list : List NodeId) (before after : FileHand) (number : ℕ) (copy : CoreLog) : Type 0 where
+  pub log : CoreLog
+  pub keeps : KeepsFor (is_one_of list) log copy
   pub at : List (Event Fact)
   pub since : IsPrefix before.view.seen at
   pub until : IsPrefix at after.view.seen
@@ -44,7 +47,7 @@ pub record IsCopyOf (given : ℕ → Option OldKept) (nodes : ℕ) (before after
   pub kept : (node : NodeId) (pending : Pending) → node.0 < nodes → pending_held nodes before.held node ≡ Some pending
       → StandsPending given before.view.first (account_of at) node.0 pending
 
--- copies of the first cores' logs, so many of them, in their order
-pub record AreCopies (given : ℕ → Option OldKept) (nodes cores : ℕ) (before after : FileHand) (logs : List CoreLog) : Type 0 where
-  pub count : length logs ≡ cores
-  pub each : (number : ℕ) (log : CoreLog) → slice_get logs number ≡ Some log → IsCopyOf given nodes before after number log
+-- such copies of the first cores' logs, so many of them, in their order
+pub record AreCopies (given : ℕ → Option OldKept) (nodes cores : ℕ) (list : List NodeId) (before after : FileHand) (copies : List CoreLog) : Type 0 where
+  pub count : length copies ≡ cores
+  pub each : (number : ℕ) (copy : CoreLog) → slice_get copies number ≡ Some copy → IsCopyOf given nodes list before after number copy

@@ -1,4 +1,5 @@
-//! What an fsync on the shared table looks at: it holds what was flushed of its nodes, and copies the log of each core.
+//! What an fsync on the shared table looks at: it holds what was flushed of its nodes, and copies of the log of each core what these ask
+//! for.
 #![tactic(auto)]
 
 mod holding;

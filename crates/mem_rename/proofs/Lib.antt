@@ -19,6 +19,7 @@ pub mod Homecoming
 pub mod Answering
 pub mod Planned
 pub mod RowsBack
+pub mod RowsSeen
 pub mod HeldChanges
 pub mod Readied
 pub mod Changeable
@@ -29,6 +30,7 @@ pub mod Turned
 pub mod Landed
 pub mod Outside
 pub mod Settled
+pub mod AskedCells
 pub mod Fitted
 pub mod Standing
 pub mod Walking

@@ -1,5 +1,5 @@
 -- A core that begins again, and one that has come to hold all.
-use Rattle.std.proofs.Common.{◌≡◌, ℕ, Bool, true, false, ◌&&◌, List, [], ◌++◌, length, Option, Some, None, inl, inr, refl, sym, ap, ◌∙◌, arith, append-nil, append_assoc}
+use Rattle.std.proofs.Common.{◌≡◌, ℕ, Bool, true, false, ◌&&◌, [], ◌++◌, length, Option, Some, None, inl, inr, refl, sym, ap, ◌∙◌, arith, append-nil, append_assoc}
 use borrow.Author.Tests.{eqb-true}
 use Rattle.std.specs.Option.{option_and_then}
 use Rattle.sfs_base.specs.Name.{bucket as name_bucket}
@@ -24,10 +24,11 @@ use Rattle.mem_calls.specs.Working.{IsWorking, WorksOn, StillHolds}
 use Rattle.mem_calls.proofs.Left.{on_again}
 use Rattle.mem_rename.specs.declared.sides.Move.{Move}
 use Rattle.mem_rename.specs.declared.plans.Plan.{Plan}
+use Rattle.mem_rename.specs.declared.settling.Settled.{Settled}
 use Rattle.mem_rename.specs.Decisions.{look_seen, look_by}
 use Rattle.mem_rename.specs.Plans.{no_plan, is_same_node, same_truth, is_plan, plan_by, asked_cells}
-use Rattle.mem_rename.specs.Ready.{bucket_or, sight_of}
-use Rattle.mem_rename.specs.Rounds.{IsPlanWithin, HoldsRound, SettlesRename}
+use Rattle.mem_rename.specs.Ready.{bucket_or}
+use Rattle.mem_rename.specs.Rounds.{IsPlanWithin, HoldsRound, KeepsLook, SettlesRename, sight_settled, way_read}
 use Rattle.mem_rename.proofs.SoFar.{holds_still}
 use Rattle.mem_rename.proofs.Gathered.{way_stays}
 
@@ -105,38 +106,39 @@ plan_same a b is =
     }
 
 -- A round that holds what follows from it has settled once the own log is held.
-module _ (given : ℕ → Option OldKept) (t : FileState) (nodes : ℕ) (table : IsFileTable t nodes) (move : Move) (plan next : Plan) (above : List ℕ)
-    (begun hand after : FileHand) (round : HoldsRound given t nodes move plan above begun hand) (work : IsWorking given t after) (on : WorksOn hand after)
+module _ (given : ℕ → Option OldKept) (t : FileState) (nodes : ℕ) (table : IsFileTable t nodes) (move : Move) (settle : Settled) (next : Plan)
+    (begun hand after : FileHand) (round : HoldsRound given t nodes move settle.plan (way_read settle) begun hand) (work : IsWorking given t after) (on : WorksOn hand after)
     (still : StillHolds nodes hand after) (legal : IsLegal after.view.first (calls_in after.view.seen)) where
   -- a bucket that was asked for is the same
-  bucket_stays : (node : NodeId) (number : ℕ) → IsOneOf (asked_cells move plan) (id.Bucket node number)
+  bucket_stays : (node : NodeId) (number : ℕ) → IsOneOf (asked_cells move settle.plan) (id.Bucket node number)
       → bucket_or (bucket_held nodes after.held node number) ≡ bucket_or (bucket_held nodes hand.held node number)
   bucket_stays node number among =
       let cell = round.cells (id.Bucket node number) among in
       ap (λ o. bucket_or (option_and_then as_bucket o)) (still.values (id.Bucket node number) cell.0 cell.1 ∙ sym cell.1)
 
-  look_stays : look_seen (sight_of nodes after.held move plan above) move ≡ look_seen (sight_of nodes hand.held move plan above) move
+  look_stays : look_seen (sight_settled nodes after.held move settle) move ≡ look_seen (sight_settled nodes hand.held move settle) move
   look_stays = λ i. look_by (bucket_stays move.directory (name_bucket move.name) (inl refl) i)
       (bucket_stays move.to_directory (name_bucket move.to_name) (inr (inl refl)) i) move
 
-  pub settled : (start : FileHand) → IsPlanWithin nodes plan → IsRefusedMemory t start begun
-      → next ≡ plan_by (look_seen (sight_of nodes hand.held move plan above) move) move → is_plan next plan ≡ true → HoldsPart nodes after
-      → SettlesRename given t nodes move plan above start after
-  settled start within again asked same part = record {
+  pub settled : (start : FileHand) → IsPlanWithin nodes settle.plan → IsRefusedMemory t start begun → KeepsLook nodes hand.held move settle
+      → next ≡ plan_by settle.look move → is_plan next settle.plan ≡ true → HoldsPart nodes after
+      → SettlesRename given t nodes move settle start after
+  settled start within again look asked same part = record {
     begun = begun;
     again = again;
     on = on_again begun hand after round.on on;
     within = within;
+    look = look ∙ sym look_stays;
     ready = record {
       work = work;
       answered = ap (λ (h : FileHand). h.waiting) on.frame ∙ (ap (λ (h : FileHand). h.waiting) round.on.frame ∙ again.between.none_waits);
       part = part;
       cells = λ cell among. holds_still nodes hand after cell still (round.cells cell among);
       lock = λ comes. holds_still nodes hand after id.Lock still (round.lock comes);
-      read = λ comes. way_stays given t nodes table move.to_directory.0 above hand after round.work work on still legal (round.lock comes).0
+      read = λ comes. way_stays given t nodes table move.to_directory.0 (way_read settle) hand after round.work work on still legal (round.lock comes).0
           (round.lock comes).1
           (round.read comes).holders;
       ends = round.ends;
-      asked = sym (plan_same next plan same) ∙ (asked ∙ ap (λ look. plan_by look move) (sym look_stays));
+      asked = sym (plan_same next settle.plan same) ∙ (asked ∙ ap (λ look. plan_by look move) (look ∙ sym look_stays));
     };
   }

@@ -1,9 +1,10 @@
 -- What a rename does to what its core holds, step by step.
-use Rattle.std.specs.Prelude.{◌≡◌, ℕ, ◌-◌, ◌<◌, ◌≤◌, ◌==◌, Bool, true, false, ◌&&◌, List, Option, Some, None, IsSome, MatchOption, if◌then◌else◌, option_map}
-use Rattle.std.specs.FinMap.{FinMap, insert, remove}
+use Rattle.std.specs.Prelude.{◌≡◌, ℕ, ◌-◌, ◌<◌, ◌≤◌, ◌==◌, Bool, true, false, ◌&&◌, List, Option, Some, None, IsSome, MatchOption, if◌then◌else◌, is_some, option_map}
+use Rattle.std.specs.FinMap.{FinMap, get, insert, remove}
 use Rattle.sfs_base.specs.declared.numbers.NodeId.{NodeId}
 use Rattle.sfs_base.specs.declared.numbers.Stamp.{Stamp}
 use Rattle.sfs_base.specs.Name.{bucket as name_bucket}
+use Rattle.tree_laws.specs.NameRow.{number_of}
 use Rattle.tree_laws.specs.Order.{name_cmp}
 use Rattle.mem_cells.specs.Part.{IsSamePart, room_kept}
 use Rattle.stamp_table.specs.declared.held.HeldCell.{HeldCell}
@@ -36,6 +37,11 @@ with_row directory name child bucket = record {
   directories = if directory then insert bucket.directories name child else bucket.directories;
   stands = bucket.stands;
 }
+
+-- What the move of a child has of the row of a name, a bucket has: what the row names, and whether that is a directory.
+pub record ShowsThere (name : List ℕ) (shift : Shift) (bucket : Bucket) : Type 0 where
+  pub rows : number_of shift.there ≡ get bucket.rows name
+  pub directories : shift.there_is_directory ≡ is_some (get bucket.directories name)
 
 -- a bucket without the row of a name
 abbrev pub without_row : List ℕ → Bucket → Bucket
@@ -140,7 +146,7 @@ pub record CanChange (nodes : ℕ) (move : Move) (plan : Plan) (held : List (Hel
 
 -- A core has made ready for a child to move: its log has room, and the new row is in its bucket.
 pub record IsPrepared (nodes : ℕ) (move : Move) (shift : Shift) (before : FileHand) (noted : Noted) (after : FileHand) : Type 0 where
-  pub noted_is : IsNotedMove move noted
+  pub noted_is : IsNotedMove move shift noted
   pub mid : FileHand
   pub room : MakesRoom nodes move before mid
   pub row : PutsBucket nodes move.to_directory (name_bucket move.to_name) (with_row shift.child_is_directory move.to_name shift.child.0) mid after

@@ -1,5 +1,5 @@
 -- What a rename logs of a child that moves, in the words of the code.
-use Rattle.std.specs.Prelude.{◌≡◌, ℕ, ◌≤◌, Bool, List, [], ◌∷◌, ◌++◌, Option, Some, None}
+use Rattle.std.specs.Prelude.{◌≡◌, ℕ, ◌≤◌, Bool, true, List, [], ◌∷◌, ◌++◌, Option, Some, None, is_some}
 use Rattle.tree_laws.specs.declared.changes.Act.TheVariants.{Add, Remove}
 use Rattle.tree_laws.specs.declared.changes.Change.{Change}
 use Rattle.tree_laws.specs.Tree.{kind_if}
@@ -9,6 +9,7 @@ use Rattle.sfs_base.specs.declared.numbers.NodeId.{NodeId}
 use Rattle.mem_rename.specs.declared.sides.Move.{Move}
 use Rattle.mem_rename.specs.declared.looking.Look.{Look}
 use Rattle.mem_rename.specs.declared.shifts.Shift.{Shift}
+use Rattle.mem_rename.specs.declared.shifts.Copied.{Copied}
 use Rattle.mem_rename.specs.declared.shifts.Noted.{Noted}
 
 -- the child of a row goes from it
@@ -28,9 +29,17 @@ shift_logged shift name to_name stamp above =
     ∷ log_entry stamp shift.to.0 to_name shift.child.0 (kind_if shift.child_is_directory) Add (other_side shift.to.0 shift.from.0) above
     ∷ []
 
--- The names of a rename once more, and room for its changes.
-pub record IsNotedMove (move : Move) (noted : Noted) : Type 0 where
-  pub gone : noted.gone ≡ move.to_name
+-- The names of a rename once more, the new one twice, and room for its changes.
+pub record IsCopiedMove (move : Move) (copied : Copied) : Type 0 where
+  pub old : copied.old ≡ move.name
+  pub new : copied.new ≡ move.to_name
+  pub row : copied.row ≡ move.to_name
+  pub none : copied.changes.items ≡ []
+  pub spare : 3 ≤ copied.changes.spare
+
+-- The names of a rename once more, the new one twice where something is replaced, and room for its changes.
+pub record IsNotedMove (move : Move) (shift : Shift) (noted : Noted) : Type 0 where
+  pub gone : is_some shift.there ≡ true → noted.gone ≡ Some move.to_name
   pub old : noted.old ≡ move.name
   pub new : noted.new ≡ move.to_name
   pub none : noted.changes.items ≡ []

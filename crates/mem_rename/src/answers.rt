@@ -1,19 +1,18 @@
 // A rename that changes nothing: it is stamped with its answer.
-ghost use Rattle.std.specs.Prelude.{◌≡◌, ◌<◌, map};
-ghost use Rattle.tree_laws.specs.NameRow.{node_number};
+ghost use Rattle.std.specs.Prelude.{◌≡◌, ◌<◌};
 ghost use Rattle.tree_laws.specs.Verdict.{answered};
 ghost use Rattle.mem_values.specs.Start.{given_by};
 ghost use Rattle.mem_calls.specs.Table.{IsFileTable};
 ghost use Rattle.mem_calls.specs.Reply.{reply_of};
 ghost use Rattle.mem_calls.specs.Outcome.{IsAnswered};
 ghost use Rattle.mem_rename.specs.Sights.{rename_call, rename_by};
-ghost use Rattle.mem_rename.specs.Ready.{sight_of, AreSidesWithin, HoldsRename};
+ghost use Rattle.mem_rename.specs.Ready.{AreSidesWithin, HoldsRename};
+ghost use Rattle.mem_rename.specs.Rounds.{sight_settled, way_read};
 
-use crate::plans::Plan;
+use crate::settling::Settled;
 use crate::sides::Move;
 use mem_calls::{Short, add_entry};
 use mem_values::{FileCore, FileShared};
-use sfs_base::NodeId;
 use std::alloc::Global;
 use tree_laws::Changes;
 
@@ -24,19 +23,17 @@ pub(crate) fn answer(
     core: &mut FileCore,
     nodes: u32,
     move_: Move,
-    plan: Plan,
-    above: &[NodeId],
+    settled: Settled,
     short: Short,
 )
     requires table { IsFileTable shared.now nodes }
     requires within { AreSidesWithin nodes move_ }
-    requires ready { HoldsRename (given_by shared.now) shared.now nodes move_ plan (map node_number above.now) core.old }
+    requires ready { HoldsRename (given_by shared.now) shared.now nodes move_ settled.plan (way_read settled) core.old }
     requires spare { 0 < core.old.spare }
-    requires answers { rename_by (sight_of nodes core.old.held move_ plan (map node_number above.now)) move_ ≡ answered (reply_of short) }
+    requires answers { rename_by (sight_settled nodes core.old.held move_ settled) move_ ≡ answered (reply_of short) }
     ensures { IsAnswered shared.now (rename_call move_) (reply_of short) core.old core.new }
 {
-    let _plan = plan;
-    let _above = above.len();
+    let _settled = settled;
     core.calls_are_few();
     core.stamp(shared, move_.into_call(), short.reply());
     add_entry(core, nodes, Changes::new(alloc));

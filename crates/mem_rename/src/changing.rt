@@ -1,22 +1,50 @@
 // What a rename changes of the buckets and the file that its core holds.
-ghost use Rattle.std.specs.Prelude.{◌≡◌, ◌<◌, ℕ, IsSome, OnOk, OnErr, Some, MatchOption, MatchResult};
+ghost use Rattle.std.specs.Prelude.{◌≡◌, ◌<◌, ℕ, true, IfOk, IsSome, OnOk, OnErr, Some, MatchOption, MatchResult, is_some};
 ghost use Rattle.std.specs.FinMap as finmap;
 ghost use Rattle.sfs_base.specs.Name.{bucket};
 ghost use Rattle.mem_calls.specs.Held.{bucket_held, file_held};
-ghost use Rattle.mem_rename.specs.Moving.{row_again, with_row, without_row, standing, less_one, same_file, in_buckets_of, PutsBucket, PutsFile, ChangesHeld};
+ghost use Rattle.mem_rename.specs.Moving.{row_again, with_row, without_row, standing, less_one, same_file, in_buckets_of, PutsBucket, PutsFile, ChangesHeld, ShowsThere};
+ghost use Rattle.mem_rename.specs.Ready.{bucket_or};
 
+use crate::shifts::Shift;
 use crate::sides::Move;
 use mem_calls::{put, take_bucket, take_file};
 use mem_values::{Bucket, Cell, CellId, FileCell, FileCore};
 use sfs_base::{Name, NoMemory, NodeId, bucket_of};
 use tree_laws::NameMap;
 
-// Gives a name's row this child, or adds it.
-fn put_row(rows: &mut NameMap, name: &Name, child: NodeId) -> Result<(), NoMemory>
+// Gives a name's row this child, where it is there, or adds it. A name that is not needed is given back.
+fn put_row(
+    rows: &mut NameMap,
+    name: Name,
+    child: NodeId,
+    there: bool,
+) -> Result<Option<Name>, NoMemory>
+    requires { there ≡ is_some (finmap.get rows.old name) }
+    ensures ok { OnOk result (rows.new ≡ finmap.insert rows.old name child.0) }
+    ensures left { IfOk result (λ left. there ≡ true → left ≡ Some name) }
+    ensures err { OnErr result (rows.new ≡ rows.old) }
+{
+    if there {
+        rows.replace(&name, child);
+        return Ok(Some(name));
+    }
+    rows.insert(name, child)?;
+    Ok(None)
+}
+
+// The same among the rows that name directories, with a copy of the name where it is added.
+fn put_directory(
+    rows: &mut NameMap,
+    name: &Name,
+    child: NodeId,
+    there: bool,
+) -> Result<(), NoMemory>
+    requires { there ≡ is_some (finmap.get rows.old name.now) }
     ensures ok { OnOk result (rows.new ≡ finmap.insert rows.old name.now child.0) }
     ensures err { OnErr result (rows.new ≡ rows.old) }
 {
-    if rows.get(name).is_some() {
+    if there {
         rows.replace(name, child);
         return Ok(());
     }
@@ -44,59 +72,78 @@ fn drop_row(rows: &mut NameMap, name: &Name)
     }
 }
 
-// A name's row in a bucket names this child; where it is refused memory the bucket is as it was.
+// A name's row in a bucket names the child that moves; where it is refused memory the bucket is as it was. The name once more is given back
+// where the row is there already.
 fn put_child(
     bucket: &mut Bucket,
     name: &Name,
-    child: NodeId,
-    directory: bool,
-) -> Result<(), NoMemory>
-    ensures ok { OnOk result (bucket.new ≡ with_row directory name.now child.0 bucket.old) }
+    shift: Shift,
+    row: Name,
+) -> Result<Option<Name>, NoMemory>
+    requires row { row ≡ name.now }
+    requires there { ShowsThere name.now shift bucket.old }
+    ensures ok { OnOk result (bucket.new ≡ with_row shift.child_is_directory name.now shift.child.0 bucket.old) }
+    ensures left { IfOk result (λ left. is_some shift.there ≡ true → left ≡ Some name.now) }
     ensures err { OnErr result (bucket.new ≡ bucket.old) }
 {
-    let there = bucket.rows.get(name);
-    put_row(&mut bucket.rows, name, child)?;
-    if directory {
-        if let Err(fault) = put_row(&mut bucket.directories, name, child) {
-            put_back(&mut bucket.rows, name, there);
-            return Err(fault);
+    let left = put_row(&mut bucket.rows, row, shift.child, shift.there.is_some())?;
+    if !shift.child_is_directory {
+        return Ok(left);
+    }
+    match put_directory(
+        &mut bucket.directories,
+        name,
+        shift.child,
+        shift.there_is_directory,
+    ) {
+        Ok(()) => Ok(left),
+        Err(fault) => {
+            put_back(&mut bucket.rows, name, shift.there);
+            Err(fault)
         }
     }
-    Ok(())
 }
 
-// The bucket in which a name's row names this child, or the bucket as it was.
+// The bucket in which a name's row names the child that moves, or the bucket as it was.
 fn with_row(
     bucket: Box<Bucket>,
     name: &Name,
-    child: NodeId,
-    directory: bool,
-) -> (Box<Bucket>, Result<(), NoMemory>)
-    ensures ok { OnOk result.1 (result.0.value ≡ with_row directory name.now child.0 bucket.value) }
+    shift: Shift,
+    row: Name,
+) -> (Box<Bucket>, Result<Option<Name>, NoMemory>)
+    requires row { row ≡ name.now }
+    requires there { ShowsThere name.now shift bucket.value }
+    ensures ok { OnOk result.1 (result.0.value ≡ with_row shift.child_is_directory name.now shift.child.0 bucket.value) }
+    ensures left { IfOk result.1 (λ left. is_some shift.there ≡ true → left ≡ Some name.now) }
     ensures err { OnErr result.1 (result.0.value ≡ bucket.value) }
 {
     let mut bucket = bucket;
-    let outcome = put_child(&mut bucket, name, child, directory);
+    let outcome = put_child(&mut bucket, name, shift, row);
     (bucket, outcome)
 }
 
-/// Puts the new row into its bucket, which is held. Where it is refused memory the bucket is as it was.
+/// Puts the new row into its bucket, which is held. Where it is refused memory the bucket is as it was. The name once more is given back where
+/// the row is there already.
 pub(crate) fn add_row(
     core: &mut FileCore,
     nodes: u32,
     move_: &Move,
-    child: NodeId,
-    directory: bool,
-) -> Result<(), NoMemory>
-    requires { IsSome (bucket_held nodes core.old.held move_.now.to_directory (bucket move_.now.to_name)) }
-    ensures { MatchResult result
-        (λ _. PutsBucket nodes move_.now.to_directory (bucket move_.now.to_name) (with_row directory move_.now.to_name child.0) core.old core.new)
+    shift: Shift,
+    row: Name,
+) -> Result<Option<Name>, NoMemory>
+    requires held { IsSome (bucket_held nodes core.old.held move_.now.to_directory (bucket move_.now.to_name)) }
+    requires there { ShowsThere move_.now.to_name shift (bucket_or (bucket_held nodes core.old.held move_.now.to_directory (bucket move_.now.to_name))) }
+    requires row { row ≡ move_.now.to_name }
+    ensures puts { MatchResult result
+        (λ _. PutsBucket nodes move_.now.to_directory (bucket move_.now.to_name)
+        (with_row shift.child_is_directory move_.now.to_name shift.child.0) core.old core.new)
         (λ _. PutsBucket nodes move_.now.to_directory (bucket move_.now.to_name) (λ b. b) core.old core.new) }
+    ensures left { IfOk result (λ left. is_some shift.there ≡ true → left ≡ Some move_.now.to_name) }
 {
     let node = move_.to_directory;
     let number = bucket_of(&move_.to_name);
     let taken = take_bucket(core, nodes, node, number);
-    let (bucket, outcome) = with_row(taken, &move_.to_name, child, directory);
+    let (bucket, outcome) = with_row(taken, &move_.to_name, shift, row);
     let cell = CellId::Bucket {
         node,
         bucket: number,

@@ -10,42 +10,22 @@ ghost use Rattle.mem_calls.specs.Table.{IsFileTable};
 ghost use Rattle.mem_calls.specs.Held.{value_held};
 ghost use Rattle.mem_calls.specs.Outcome.{IsAnswered, IsRefusedMemory};
 ghost use Rattle.mem_rename.specs.Sights.{rename_call, rename_by};
-ghost use Rattle.mem_rename.specs.Holding.{HoldsCells, HoldsCell};
 ghost use Rattle.mem_rename.specs.Moving.{less_one, at_file, bucket_moved, CanChange, ChangesHeld, SetsLock};
-ghost use Rattle.mem_rename.specs.Plans.{asked_cells};
-ghost use Rattle.mem_rename.specs.Ready.{sight_of, AreSidesWithin, HoldsRename};
-ghost use Rattle.mem_rename.specs.Rounds.{IsPlanWithin};
-ghost use Rattle.mem_rename.specs.Shifts.{shift_of};
-ghost use Rattle.mem_rename.specs.Decisions.{look_seen};
+ghost use Rattle.mem_rename.specs.Ready.{AreSidesWithin, HoldsRename};
+ghost use Rattle.mem_rename.specs.Rounds.{IsPlanWithin, KeepsLook, sight_settled, way_read};
+ghost use Rattle.mem_rename.specs.Shifts.{IsCopiedMove};
 
 use crate::changing::{all_stand, lower_links, remove_row};
 use crate::plans::Plan;
 use crate::readying::prepare;
-use crate::shifts::{Shift, shifted};
+use crate::settling::Settled;
+use crate::shifts::{Copied, Shift, shifted};
 use crate::sides::Move;
-use crate::sights::look_in;
 use mem_calls::{add_entry, put};
 use mem_values::{Cell, CellId, FileCore, FileShared, TreeLock};
 use sfs_base::{NoMemory, NodeId, NodeList, Stamp};
 use std::alloc::Global;
 use tree_laws::{Ancestors, Reply};
-
-// The move of a child by what is held.
-fn shift_in(core: &FileCore, nodes: u32, move_: &Move, plan: Plan, child: NodeId) -> Shift
-    requires { HoldsCells nodes core.now.held (asked_cells move_.now plan) }
-    ensures { (above : _) → result ≡ shift_of (look_seen (sight_of nodes core.now.held move_.now plan above) move_.now) move_.now child }
-{
-    let _plan = plan;
-    let look = look_in(core, nodes, move_);
-    Shift {
-        from: move_.directory,
-        to: move_.to_directory,
-        child,
-        there: look.there,
-        child_is_directory: look.child_is_directory,
-        there_is_directory: look.there_is_directory,
-    }
-}
 
 // What changes of the buckets besides the new row, and of the file that is replaced.
 fn change_held(core: &mut FileCore, nodes: u32, move_: &Move, plan: Plan)
@@ -92,23 +72,26 @@ pub(crate) fn move_child(
     core: &mut FileCore,
     nodes: u32,
     move_: Move,
-    plan: Plan,
-    above: Vec<NodeId>,
+    settled: Settled,
+    copied: Copied,
     child: NodeId,
 ) -> Result<(), NoMemory>
     requires table { IsFileTable shared.now nodes }
     requires within { AreSidesWithin nodes move_ }
-    requires plan { IsPlanWithin nodes plan }
-    requires ready { HoldsRename (given_by shared.now) shared.now nodes move_ plan (map node_number above.items) core.old }
+    requires plan { IsPlanWithin nodes settled.plan }
+    requires ready { HoldsRename (given_by shared.now) shared.now nodes move_ settled.plan (way_read settled) core.old }
+    requires look { KeepsLook nodes core.old.held move_ settled }
+    requires copied { IsCopiedMove move_ copied }
     requires spare { 0 < core.old.spare }
-    requires moves { rename_by (sight_of nodes core.old.held move_ plan (map node_number above.items)) move_
+    requires moves { rename_by (sight_settled nodes core.old.held move_ settled) move_
         ≡ done (MovesEffect move_.directory.0 move_.name move_.to_directory.0 move_.to_name child.0) }
     ensures { MatchResult result (λ _. IsAnswered shared.now (rename_call move_) reply.Ok core.old core.new) (λ _. IsRefusedMemory shared.now core.old core.new) }
 {
     core.calls_are_few();
+    let Settled { plan, look, above } = settled;
     let comes = plan.comes.is_some();
-    let shift = shift_in(core, nodes, &move_, plan, child);
-    let noted = prepare(alloc, shared, core, nodes, &move_, shift)?;
+    let shift = Shift::by(look, &move_, child);
+    let noted = prepare(shared, core, nodes, &move_, shift, copied)?;
     change_held(core, nodes, &move_, plan);
     let way = way_of(alloc, comes, above);
     let stamp = core.stamp(shared, move_.into_call(), Reply::Ok);

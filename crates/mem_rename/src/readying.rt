@@ -1,4 +1,5 @@
-// What may be refused memory of a child that moves, done before the stamp: the new row last, so that nothing has to be taken back.
+// What may be refused memory of a child that moves while its cells are held, done before the stamp: the new row last, so that nothing has to be
+// taken back.
 ghost use Rattle.std.specs.Prelude.{◌≡◌, ◌≤◌, IsSome, OnOk, MatchResult, None};
 ghost use Rattle.sfs_base.specs.Name.{bucket};
 ghost use Rattle.mem_cells.specs.Part.{IsSamePart, room_kept};
@@ -7,18 +8,18 @@ ghost use Rattle.mem_calls.specs.Table.{IsFileTable};
 ghost use Rattle.mem_calls.specs.Held.{bucket_held, HoldsPart};
 ghost use Rattle.mem_calls.specs.Outcome.{IsRefusedMemory};
 ghost use Rattle.mem_calls.specs.Working.{IsWorking};
-ghost use Rattle.mem_rename.specs.Moving.{KeepsPart, MakesRoom, IsPrepared};
-ghost use Rattle.mem_rename.specs.Ready.{AreSidesWithin};
+ghost use Rattle.mem_rename.specs.Moving.{KeepsPart, MakesRoom, IsPrepared, ShowsThere};
+ghost use Rattle.mem_rename.specs.Ready.{AreSidesWithin, bucket_or};
+ghost use Rattle.mem_rename.specs.Shifts.{IsCopiedMove};
 
 use crate::changing::add_row;
 use crate::rounds::give_up;
-use crate::shifts::{Noted, Shift, note};
+use crate::shifts::{Copied, Noted, Shift};
 use crate::sides::Move;
 use mem_calls::{put, take_part};
 use mem_cells::LogPart;
 use mem_values::{Cell, CellId, FileCore, FileShared, PartCell};
 use sfs_base::NoMemory;
-use std::alloc::Global;
 
 // Room for three more changes of either directory.
 fn reserve_both(log: &mut LogPart, move_: &Move) -> Result<(), NoMemory>
@@ -57,12 +58,12 @@ fn reserve_log(core: &mut FileCore, nodes: u32, move_: &Move) -> Result<(), NoMe
 
 /// Makes ready for a child to move. Where it is refused memory the call is given up.
 pub(crate) fn prepare(
-    alloc: Global,
     shared: &FileShared,
     core: &mut FileCore,
     nodes: u32,
     move_: &Move,
     shift: Shift,
+    copied: Copied,
 ) -> Result<Noted, NoMemory>
     requires table { IsFileTable shared.now nodes }
     requires work { IsWorking (given_by shared.now) shared.now core.old }
@@ -70,22 +71,30 @@ pub(crate) fn prepare(
     requires within { AreSidesWithin nodes move_.now }
     requires part { HoldsPart nodes core.old }
     requires held { IsSome (bucket_held nodes core.old.held move_.now.to_directory (bucket move_.now.to_name)) }
+    requires there { ShowsThere move_.now.to_name shift (bucket_or (bucket_held nodes core.old.held move_.now.to_directory (bucket move_.now.to_name))) }
+    requires copied { IsCopiedMove move_.now copied }
     ensures { MatchResult result (λ noted. IsPrepared nodes move_.now shift core.old noted core.new) (λ _. IsRefusedMemory shared.now core.old core.new) }
 {
-    let noted = match note(alloc, move_) {
-        Ok(noted) => noted,
-        Err(fault) => {
-            give_up(shared, core);
-            return Err(fault);
-        }
-    };
+    let Copied {
+        changes,
+        old,
+        new,
+        row,
+    } = copied;
     if let Err(fault) = reserve_log(core, nodes, move_) {
         give_up(shared, core);
         return Err(fault);
     }
-    if let Err(fault) = add_row(core, nodes, move_, shift.child, shift.child_is_directory) {
-        give_up(shared, core);
-        return Err(fault);
+    match add_row(core, nodes, move_, shift, row) {
+        Ok(gone) => Ok(Noted {
+            changes,
+            old,
+            new,
+            gone,
+        }),
+        Err(fault) => {
+            give_up(shared, core);
+            Err(fault)
+        }
     }
-    Ok(noted)
 }

@@ -10,6 +10,7 @@ use crate::answers::answer;
 use crate::looking::Decision;
 use crate::moving::move_child;
 use crate::settling::{decide_in, settle};
+use crate::shifts::Copied;
 use crate::sides::Move;
 use mem_calls::{answer_call, directory_fault_in, hold_directory, hold_part};
 use mem_values::{FileCore, FileShared};
@@ -84,14 +85,15 @@ pub fn rename<R: Wait, G: Gate>(
     if nodes <= move_.directory.0 || nodes <= move_.to_directory.0 {
         return Ok(answer_outside(rt, alloc, shared, core, nodes, move_, gate));
     }
-    let (plan, above) = settle(rt, alloc, shared, core, nodes, &move_, gate)?;
-    match decide_in(core, nodes, &move_, plan, &above) {
+    let copied = Copied::new(alloc, &move_)?;
+    let settled = settle(rt, alloc, shared, core, nodes, &move_, gate)?;
+    match decide_in(core, nodes, &move_, &settled) {
         Decision::Answers { short } => {
-            answer(alloc, shared, core, nodes, move_, plan, &above, short);
+            answer(alloc, shared, core, nodes, move_, settled, short);
             Ok(short.reply())
         }
         Decision::Moves { child } => {
-            move_child(alloc, shared, core, nodes, move_, plan, above, child)?;
+            move_child(alloc, shared, core, nodes, move_, settled, copied, child)?;
             Ok(Reply::Ok)
         }
     }

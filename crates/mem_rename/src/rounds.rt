@@ -11,7 +11,7 @@ ghost use Rattle.mem_rename.specs.Ready.{AreSidesWithin};
 ghost use Rattle.mem_rename.specs.Rounds.{IsPlanWithin, HoldsRound};
 ghost use Rattle.mem_rename.specs.Ways.{HoldsLock, HasReadAll};
 
-use crate::asked::asked;
+use crate::asked::{asked, both_buckets, listed};
 use crate::holding::hold_asked;
 use crate::plans::Plan;
 use crate::renaming::RENAME_CELLS;
@@ -80,12 +80,13 @@ pub(crate) fn hold_round<R: Wait>(
         (λ above. HoldsRound (given_by shared.now) shared.now nodes move_.now plan (map node_number above.items) core.old core.new)) }
     ensures refused { IfErr result (λ fault. IsRefusedMemory shared.now core.old core.new) }
 {
-    let cells = asked(alloc, move_, plan)?;
+    let both = both_buckets(move_);
+    let listed = listed(alloc, &both, move_, plan)?;
     let comes = plan.comes.is_some();
     let to = move_.to_directory;
     match hold_lock(rt, alloc, shared, core, nodes, to, comes) {
         Ok(Some(above)) => {
-            hold_asked(rt, shared, core, nodes, &cells);
+            hold_asked(rt, shared, core, nodes, asked(&both, &listed, plan));
             Ok(Some(above))
         }
         other => {

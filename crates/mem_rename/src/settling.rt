@@ -1,7 +1,6 @@
 // A core comes to hold all that its rename asks for.
-ghost use Rattle.std.specs.Prelude.{◌≡◌, ◌+◌, ◌*◌, ◌<◌, ◌≤◌, map, MatchResult};
+ghost use Rattle.std.specs.Prelude.{◌≡◌, ◌+◌, ◌*◌, ◌<◌, ◌≤◌, MatchResult};
 ghost use Rattle.tree_laws.specs.History.{IsLegal};
-ghost use Rattle.tree_laws.specs.NameRow.{node_number};
 ghost use Rattle.stamp_table.specs.Ascending.{LiesAbove};
 ghost use Rattle.stamp_table.specs.Events.{calls_in};
 ghost use Rattle.stamp_table.specs.Table.{IsBetweenCalls};
@@ -14,20 +13,28 @@ ghost use Rattle.mem_rename.specs.Sights.{rename_by};
 ghost use Rattle.mem_rename.specs.Decisions.{verdict_of};
 ghost use Rattle.mem_rename.specs.Holding.{HoldsCells};
 ghost use Rattle.mem_rename.specs.Plans.{asked_cells};
-ghost use Rattle.mem_rename.specs.Ready.{sight_of, AreSidesWithin};
-ghost use Rattle.mem_rename.specs.Rounds.{SettlesRename};
+ghost use Rattle.mem_rename.specs.Ready.{AreSidesWithin};
+ghost use Rattle.mem_rename.specs.Rounds.{KeepsLook, SettlesRename, sight_settled};
 
-use crate::looking::{Decision, decide};
+use crate::looking::{Decision, Look, decide};
 use crate::plans::Plan;
 use crate::renaming::RENAME_CELLS;
 use crate::rounds::{give_up, hold_round};
 use crate::sides::Move;
-use crate::sights::{look_in, next_plan, reads_in};
+use crate::sights::{next_plan, reads_in};
 use mem_calls::hold_more;
 use mem_values::{CellId, FileCore, FileShared};
 use sfs_base::{Gate, NoMemory, NodeId, Place};
 use std::alloc::Global;
 use std::sync::Wait;
+
+/// By what plan a core holds the cells of its rename, what the two buckets tell, and the directories above the new one.
+#[derive(Drop)]
+pub(crate) struct Settled {
+    pub(crate) plan: Plan,
+    pub(crate) look: Look,
+    pub(crate) above: Vec<NodeId>,
+}
 
 // Holds the own log, above all other cells.
 fn hold_own<R: Wait, G: Gate>(
@@ -63,13 +70,13 @@ pub(crate) fn settle<R: Wait, G: Gate>(
     nodes: u32,
     move_: &Move,
     gate: &G,
-) -> Result<(Plan, Vec<NodeId>), NoMemory>
+) -> Result<Settled, NoMemory>
     requires table { IsFileTable shared.now nodes }
     requires core { IsBetweenCalls shared.now core.old }
     requires within { AreSidesWithin nodes move_.now }
     requires room { RENAME_CELLS ≤ core.old.room }
     ensures { MatchResult result
-        (λ held. SettlesRename (given_by shared.now) shared.now nodes move_.now held.0 (map node_number held.1.items) core.old core.new)
+        (λ settled. SettlesRename (given_by shared.now) shared.now nodes move_.now settled core.old core.new)
         (λ fault. IsRefusedMemory shared.now core.old core.new) }
 {
     let mut plan = Plan::none();
@@ -78,10 +85,10 @@ pub(crate) fn settle<R: Wait, G: Gate>(
             plan = Plan::none();
             continue;
         };
-        let next = next_plan(core, nodes, move_, plan);
+        let (look, next) = next_plan(core, nodes, move_, plan);
         if next.is(plan) {
             hold_own(rt, shared, core, nodes, gate);
-            return Ok((plan, above));
+            return Ok(Settled { plan, look, above });
         }
         give_up(shared, core);
         plan = next;
@@ -90,17 +97,18 @@ pub(crate) fn settle<R: Wait, G: Gate>(
 }
 
 /// What a rename does by what is held.
-pub(crate) fn decide_in(
-    core: &FileCore,
-    nodes: u32,
-    move_: &Move,
-    plan: Plan,
-    above: &[NodeId],
-) -> Decision
-    requires { HoldsCells nodes core.now.held (asked_cells move_.now plan) }
-    ensures { rename_by (sight_of nodes core.now.held move_.now plan (map node_number above.now)) move_.now ≡ verdict_of move_.now result }
+pub(crate) fn decide_in(core: &FileCore, nodes: u32, move_: &Move, settled: &Settled) -> Decision
+    requires held { HoldsCells nodes core.now.held (asked_cells move_.now settled.now.plan) }
+    requires look { KeepsLook nodes core.now.held move_.now settled.now }
+    ensures { rename_by (sight_settled nodes core.now.held move_.now settled.now) move_.now ≡ verdict_of move_.now result }
 {
-    let look = look_in(core, nodes, move_);
-    let reads = reads_in(core, nodes, move_, plan, look, above);
-    decide(look, reads, move_)
+    let reads = reads_in(
+        core,
+        nodes,
+        move_,
+        settled.plan,
+        settled.look,
+        &settled.above,
+    );
+    decide(settled.look, reads, move_)
 }

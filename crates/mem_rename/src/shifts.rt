@@ -1,11 +1,12 @@
 // The changes that a rename logs of a child that moves.
-ghost use Rattle.std.specs.Prelude.{◌≡◌, ◌+◌, ◌<◌, ◌≤◌, [], ◌∷◌, ◌++◌, IfOk, option_map};
+ghost use Rattle.std.specs.Prelude.{◌≡◌, ◌+◌, ◌<◌, ◌≤◌, [], ◌∷◌, ◌++◌, true, IfOk, Some, IsSome, is_some, option_map};
 ghost use Rattle.tree_laws.specs.declared.changes.Act.TheVariants.{Add as Adding};
 ghost use Rattle.tree_laws.specs.Changes.{other_side};
 ghost use Rattle.tree_laws.specs.Logged.{numbered_node, log_entry};
 ghost use Rattle.tree_laws.specs.Tree.{kind_if};
-ghost use Rattle.mem_rename.specs.Shifts.{gone_entry, gone_by, shift_logged, IsNotedMove};
+ghost use Rattle.mem_rename.specs.Shifts.{gone_entry, gone_by, shift_logged, shift_of, IsCopiedMove};
 
+use crate::looking::Look;
 use crate::sides::Move;
 use sfs_base::{Kind, Name, NoMemory, NodeId, Stamp};
 use std::alloc::Global;
@@ -22,30 +23,58 @@ pub(crate) struct Shift {
     pub(crate) there_is_directory: bool,
 }
 
-/// The names of a rename once more, the new one twice, and room for three changes.
+impl Shift {
+    /// That of a child by what its rename has looked at.
+    pub(crate) fn by(look: Look, move_: &Move, child: NodeId) -> Self
+        ensures { result ≡ shift_of look move_.now child }
+    {
+        Shift {
+            from: move_.directory,
+            to: move_.to_directory,
+            child,
+            there: look.there,
+            child_is_directory: look.child_is_directory,
+            there_is_directory: look.there_is_directory,
+        }
+    }
+}
+
+/// What a rename takes of memory before it holds anything: its names once more, the new one twice, and room for three changes.
+#[derive(Drop)]
+pub(crate) struct Copied {
+    pub(crate) changes: Changes,
+    pub(crate) old: Name,
+    pub(crate) new: Name,
+    pub(crate) row: Name,
+}
+
+impl Copied {
+    /// Of a rename.
+    pub(crate) fn new(alloc: Global, move_: &Move) -> Result<Self, NoMemory>
+        ensures { IfOk result (λ copied. IsCopiedMove move_.now copied) }
+    {
+        let old = move_.name.copy()?;
+        let new = move_.to_name.copy()?;
+        let row = move_.to_name.copy()?;
+        let mut changes = Changes::new(alloc);
+        changes.reserve(3)?;
+        Ok(Copied {
+            changes,
+            old,
+            new,
+            row,
+        })
+    }
+}
+
+/// What is left of this for the changes, once the new row has its name: where it came in place of another one, that name is for the change of
+/// what was there.
 #[derive(Drop)]
 pub(crate) struct Noted {
     pub(crate) changes: Changes,
-    pub(crate) gone: Name,
     pub(crate) old: Name,
     pub(crate) new: Name,
-}
-
-/// What the changes of a rename take of memory, before its stamp.
-pub(crate) fn note(alloc: Global, move_: &Move) -> Result<Noted, NoMemory>
-    ensures { IfOk result (λ noted. IsNotedMove move_.now noted) }
-{
-    let gone = move_.to_name.copy()?;
-    let old = move_.name.copy()?;
-    let new = move_.to_name.copy()?;
-    let mut changes = Changes::new(alloc);
-    changes.reserve(3)?;
-    Ok(Noted {
-        changes,
-        gone,
-        old,
-        new,
-    })
+    pub(crate) gone: Option<Name>,
 }
 
 // The other one of two directories, where they are two.
@@ -105,16 +134,26 @@ fn come(stamp: Stamp, shift: Shift, name: Name, above: Ancestors) -> Change
 }
 
 // The change of what is replaced, in room that was made.
-fn with_gone(alloc: Global, changes: Changes, stamp: Stamp, shift: Shift, name: Name) -> Changes
-    requires { 0 < changes.spare }
-    ensures items { result.items ≡ changes.items ++ gone_by shift name stamp.0 shift.there }
+fn with_gone(
+    alloc: Global,
+    changes: Changes,
+    stamp: Stamp,
+    shift: Shift,
+    name: Option<Name>,
+) -> Changes
+    requires room { 0 < changes.spare }
+    requires name { is_some shift.there ≡ true → IsSome name }
+    ensures items { (new : _) → (is_some shift.there ≡ true → name ≡ Some new)
+        → result.items ≡ changes.items ++ gone_by shift new stamp.0 shift.there }
     ensures spare { changes.spare ≤ result.spare + 1 }
 {
     let mut changes = changes;
-    if let Some(there) = shift.there {
-        let child = (there, shift.there_is_directory);
-        changes.push(gone(alloc, stamp, (shift.to, shift.from), name, child));
-    }
+    let Some(there) = shift.there else {
+        return changes;
+    };
+    let Some(name) = name else { unreachable!() };
+    let child = (there, shift.there_is_directory);
+    changes.push(gone(alloc, stamp, (shift.to, shift.from), name, child));
     changes
 }
 
@@ -128,7 +167,7 @@ pub(crate) fn shifted(
 ) -> Changes
     requires none { noted.changes.items ≡ [] }
     requires room { 3 ≤ noted.changes.spare }
-    requires same { noted.gone ≡ noted.new }
+    requires gone { is_some shift.there ≡ true → noted.gone ≡ Some noted.new }
     ensures { result.items ≡ shift_logged shift noted.old noted.new stamp.0 above }
 {
     let mut changes = with_gone(alloc, noted.changes, stamp, shift, noted.gone);

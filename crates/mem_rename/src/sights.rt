@@ -5,7 +5,7 @@ ghost use Rattle.tree_laws.specs.NameRow.{node_number};
 ghost use Rattle.mem_values.specs.declared.cell_id.CellId.TheVariants as id;
 ghost use Rattle.mem_calls.specs.Held.{bucket_held, file_held};
 ghost use Rattle.mem_rename.specs.Sights.{are_bare};
-ghost use Rattle.mem_rename.specs.Decisions.{look_by, reads_of};
+ghost use Rattle.mem_rename.specs.Decisions.{look_by, look_seen, reads_of};
 ghost use Rattle.mem_rename.specs.Holding.{HoldsCells};
 ghost use Rattle.mem_rename.specs.Plans.{asked_cells};
 ghost use Rattle.mem_rename.specs.Ready.{bucket_or, links_if, buckets_held, is_empty_held, is_at_or_in, is_among_nodes, sight_of};
@@ -20,8 +20,8 @@ use sfs_base::{NodeId, bucket_of};
 // How many rows a bucket has at most.
 const BUCKET_ROWS: usize = 4096;
 
-/// What the two buckets tell that are held.
-pub(crate) fn look_in(core: &FileCore, nodes: u32, move_: &Move) -> Look
+// What the two buckets tell that are held.
+fn look_in(core: &FileCore, nodes: u32, move_: &Move) -> Look
     requires old { IsSome (bucket_held nodes core.now.held move_.now.directory (bucket move_.now.name)) }
     requires new { IsSome (bucket_held nodes core.now.held move_.now.to_directory (bucket move_.now.to_name)) }
     ensures { result ≡ look_by (bucket_or (bucket_held nodes core.now.held move_.now.directory (bucket move_.now.name)))
@@ -97,8 +97,7 @@ pub(crate) fn reads_in(
     above: &[NodeId],
 ) -> Reads
     requires held { HoldsCells nodes core.now.held (asked_cells move_.now plan) }
-    requires look { look ≡ look_by (bucket_or (bucket_held nodes core.now.held move_.now.directory (bucket move_.now.name)))
-        (bucket_or (bucket_held nodes core.now.held move_.now.to_directory (bucket move_.now.to_name))) move_.now }
+    requires look { look ≡ look_seen (sight_of nodes core.now.held move_.now plan (map node_number above.now)) move_.now }
     ensures { result ≡ reads_of (sight_of nodes core.now.held move_.now plan (map node_number above.now)) move_.now }
 {
     let new = bucket_in(core, nodes, move_.to_directory, bucket_of(&move_.to_name));
@@ -113,21 +112,22 @@ pub(crate) fn reads_in(
 
 ghost use Rattle.mem_values.specs.Places.{node_count};
 ghost use Rattle.mem_values.specs.Laws.{MayMeet};
-ghost use Rattle.mem_rename.specs.Decisions.{look_seen};
 ghost use Rattle.mem_rename.specs.Plans.{plan_by};
 ghost use Rattle.mem_rename.specs.Ready.{AreSidesWithin};
 ghost use Rattle.mem_rename.specs.Rounds.{IsPlanWithin};
 ghost use Rattle.mem_rename.specs.Ways.{tree_seen};
 
-/// What a rename asks for by what is held by a plan. Where it is that plan, all is held that it asks for.
-pub(crate) fn next_plan(core: &FileCore, nodes: u32, move_: &Move, plan: Plan) -> Plan
+/// What the two buckets tell that are held by a plan, and what a rename asks for by this. Where it is that plan, all is held that it asks for.
+pub(crate) fn next_plan(core: &FileCore, nodes: u32, move_: &Move, plan: Plan) -> (Look, Plan)
     requires counted { nodes ≡ node_count core.now.view.first }
     requires within { AreSidesWithin nodes move_.now }
     requires held { HoldsCells nodes core.now.held (asked_cells move_.now plan) }
     requires met { MayMeet core.now.view core.now.held (tree_seen core.now) }
-    ensures asked { (above : _) → result ≡ plan_by (look_seen (sight_of nodes core.now.held move_.now plan above) move_.now) move_.now }
-    ensures within { IsPlanWithin nodes result }
+    ensures look { (above : _) → result.0 ≡ look_seen (sight_of nodes core.now.held move_.now plan above) move_.now }
+    ensures asked { result.1 ≡ plan_by result.0 move_.now }
+    ensures within { IsPlanWithin nodes result.1 }
 {
     let _held = plan;
-    plan_for(look_in(core, nodes, move_), move_)
+    let look = look_in(core, nodes, move_);
+    (look, plan_for(look, move_))
 }

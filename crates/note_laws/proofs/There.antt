@@ -39,7 +39,7 @@ use Rattle.home_laws.proofs.Named.{own_names}
 use Rattle.note_laws.specs.Run.{TableRun}
 use Rattle.note_laws.specs.Notes.{CoreNotes, calls_noted}
 use Rattle.note_laws.specs.There.{look_noted, SawBirth, GathersByNotes, WasThere, TouchedWereThere}
-use Rattle.note_laws.specs.Copies.{KeepsFor}
+use Rattle.log_copy.specs.Copies.{KeepsFor}
 use Rattle.note_laws.proofs.Along.{legal_begin}
 use Rattle.note_laws.proofs.Noting.{waits_alive}
 use Rattle.note_laws.proofs.Born.{birthplace_is}
@@ -57,7 +57,7 @@ in_one_part (log ∷ parts) directory all change one =
     ]
 
 -- what a copy has is in the log
-in_whole : {looked_at : ℕ → Bool} {log copy : CoreLog} → KeepsFor looked_at log copy → (directory : ℕ) (change : Change)
+pub in_whole : {looked_at : ℕ → Bool} {log copy : CoreLog} → KeepsFor looked_at log copy → (directory : ℕ) (change : Change)
     → IsOneOf (changes_kept copy directory) change → IsOneOf (changes_kept log directory) change
 in_whole keeps directory change one = elim (keeps.each directory) [
   | inl whole ↦ subst (λ l. IsOneOf l change) whole one

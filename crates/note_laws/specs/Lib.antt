@@ -1,6 +1,5 @@
 pub mod Run
 pub mod Notes
-pub mod Copies
 pub mod Merged
 pub mod Joined
 pub mod There

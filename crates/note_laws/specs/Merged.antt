@@ -15,7 +15,7 @@ use Rattle.dep_closure.specs.Gathered.{IsOwnLog}
 use Rattle.dep_closure.specs.History.{logged_of, IsLogOf}
 use Rattle.note_laws.specs.Run.{TableRun, calls_of, IsTableRun}
 use Rattle.note_laws.specs.Notes.{CoreNotes, part_noted, calls_noted, HasNotedAll}
-use Rattle.note_laws.specs.Copies.{KeepsFor}
+use Rattle.log_copy.specs.Copies.{KeepsFor}
 
 -- whose the call with a stamp is; past the last one core 0
 abbrev pub caller_of : List Entry → ℕ → ℕ

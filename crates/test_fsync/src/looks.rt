@@ -1,4 +1,4 @@
-// What a core looks at for an fsync: it holds what was flushed of a node, and copies the logs of all cores.
+// What a core looks at for an fsync: it holds what was flushed of a node, and copies the logs of all cores as far as that node asks.
 ghost use Rattle.std.specs.Prelude.{◌≡◌};
 ghost use Rattle.stamp_table.specs.Table.{IsBetweenCalls, IsSameCore};
 ghost use Rattle.begun_tables.specs.Begun.{IsCallTable};
@@ -57,37 +57,53 @@ fn has_one_change(log: &LogPart) -> bool {
     }
 }
 
-// Whether the logs are those of a core that made one file and of one that made no call.
-fn are_right(logs: &[LogPart]) -> bool {
+// Whether the first of two copies has the one change of a core that made a file, the second none. It is not said where they differ from both
+// that and two copies without changes.
+fn has_first(logs: &[LogPart]) -> Option<bool> {
     match logs {
         [first, second] => {
-            has_one_change(first) && second.next_dir(None).is_none() && second.entries() == 0
+            if second.next_dir(None).is_some() {
+                None
+            } else if has_one_change(first) {
+                Some(true)
+            } else if first.next_dir(None).is_none() {
+                Some(false)
+            } else {
+                None
+            }
         }
-        _ => false,
+        _ => None,
     }
 }
 
-// Holds what was flushed of the root, copies both logs, and lets go: whether the copies are right.
-fn looks<R: Wait>(rt: &R, alloc: Global, shared: &FileShared, core: &mut FileCore) -> bool
+// Holds what was flushed of the root, copies of both logs what a look at a node asks for, or all, and lets go: whether the change was copied.
+fn looks<R: Wait>(
+    rt: &R,
+    alloc: Global,
+    shared: &FileShared,
+    core: &mut FileCore,
+    node: NodeId,
+    whole: bool,
+) -> Option<bool>
     requires table { IsCallTable shared.now 4 2 NODES }
     requires core { IsBetweenCalls shared.now core.old }
     ensures same { IsSameCore core.old core.new }
     ensures between { IsBetweenCalls shared.now core.new }
 {
     if core.reserve(0, 2).is_err() {
-        return false;
+        return None;
     }
     hold_nodes(rt, shared, core, NODES, &[ROOT]);
-    let logs = copy_logs(rt, alloc, shared, core, NODES, CORES);
+    let logs = copy_logs(rt, alloc, shared, core, NODES, CORES, &[node], whole);
     core.let_go(shared, 0);
     match logs {
-        Ok(logs) => are_right(&logs),
-        Err(_) => false,
+        Ok(logs) => has_first(&logs),
+        Err(_) => None,
     }
 }
 
 #[test]
-fn a_look_copies_the_logs_of_all_cores(rt: HostRuntime) {
+fn a_look_copies_what_its_node_asks_for_of_the_logs_of_all_cores(rt: HostRuntime) {
     let alloc = rt.alloc();
     let tree = got(&rt, root_alone(alloc, 4, 2, CORES));
     let (shared, mut cores) = got(&rt, begun(alloc, &tree, 4, 2, CORES));
@@ -95,5 +111,22 @@ fn a_look_copies_the_logs_of_all_cores(rt: HostRuntime) {
     let first = some(&rt, cores.get_mut(0));
     holds(&rt, make_file(&rt, alloc, &shared, first, name));
     let second = some(&rt, cores.get_mut(1));
-    holds(&rt, looks(&rt, alloc, &shared, second));
+    let made = NodeId(4);
+    let other = NodeId(5);
+    holds(
+        &rt,
+        looks(&rt, alloc, &shared, second, ROOT, false) == Some(true),
+    );
+    holds(
+        &rt,
+        looks(&rt, alloc, &shared, second, made, false) == Some(true),
+    );
+    holds(
+        &rt,
+        looks(&rt, alloc, &shared, second, other, false) == Some(false),
+    );
+    holds(
+        &rt,
+        looks(&rt, alloc, &shared, second, other, true) == Some(true),
+    );
 }

@@ -1,4 +1,4 @@
-use Rattle.std.proofs.Common.{◌<◌, ◌≤◌, ◌^◌, ◌-◌, ℕ, List, length, sym, ap, ◌∙◌, subst, arith}
+use Rattle.std.proofs.Common.{rules, ◌<◌, ◌≤◌, ◌^◌, ◌-◌, ℕ, List, length, sym, ap, ◌∙◌, subst, arith}
 use Rattle.tree_laws.specs.Tree.{TreeState}
 use Rattle.tree_laws.specs.Laws.{IsSoundTree}
 use Rattle.mem_cells.specs.Part.{CoreLog}
@@ -6,6 +6,7 @@ use Rattle.mem_values.specs.Start.{given_by}
 use Rattle.mem_values.specs.Places.{node_count}
 use Rattle.fsync_look.specs.Look.{AreCopies}
 use Rattle.fsync_catch.proofs.Noted.{Copying, keep_own, end_below}
+use Rattle.fsync_catch.proofs.Counts.{no_more}
 use Rattle.fsync_catch.proofs.Copies.{LooksAfterCopies, hold_still, copying}
 use Rattle.fsync_catch.proofs.Going.{logs_above, looked_works}
 use Rattle.fsync_catch.proofs.Looked.{is_look}
@@ -13,8 +14,14 @@ use Rattle.fsync_catch.proofs.looking.look_once.Goals as goal
 
 pub copy_logs-requires-clause-below : goal.copy_logs-requires-clause-below
 copy_logs-requires-clause-below g c =
-    logs_above (given_by c.args.shared.now) c.args.shared.now c.args.nodes c.args.held.now c.args.core.now c.requires.table c.requires.work c.requires.holds
+    logs_above (given_by c.args.shared.now) c.args.shared.now c.args.nodes c.args.held.nodes.now c.args.core.now c.requires.table c.requires.work c.requires.holds
     c.requires.within
+
+pub copy_logs-requires-clause-few : goal.copy_logs-requires-clause-few
+copy_logs-requires-clause-few g c =
+    let long = no_more c.args.nodes c.args.held.nodes.now c.requires.ascend c.requires.within in
+    let fits : c.args.nodes < 2 ^ 32 = search rules in
+    omega (arith, long, fits)
 
 pub gather-requires-clause-holds : goal.gather-requires-clause-holds
 gather-requires-clause-holds g c =
@@ -24,17 +31,17 @@ gather-requires-clause-holds g c =
       given = given_by t;
       nodes = c.args.nodes;
       fsync = c.args.fsync;
-      list = c.args.held.now;
+      list = c.args.held.nodes.now;
       before = c.args.core.now;
       after = c.look.new.self;
-      parts = c.deref.result.now;
+      copies = c.deref.result.now;
     } in
     let is : LooksAfterCopies s t c.copy_logs.new.core c.look.result = record {
       work = c.requires.work;
       still = c.in_ok-parts.ensures.work;
-      copies = subst (λ (l : List CoreLog). AreCopies (given_by t) c.args.nodes (length t.first.made) c.args.core.now c.copy_logs.new.core l)
+      copies = subst (λ (l : List CoreLog). AreCopies (given_by t) c.args.nodes (length t.first.made) c.args.held.nodes.now c.args.core.now c.copy_logs.new.core l)
           (sym c.deref.ensures.value)
-          (subst (λ (n : ℕ). AreCopies (given_by t) c.args.nodes n c.args.core.now c.copy_logs.new.core c.in_ok-parts.parts.items) c.requires.cores
+          (subst (λ (n : ℕ). AreCopies (given_by t) c.args.nodes n c.args.held.nodes.now c.args.core.now c.copy_logs.new.core c.in_ok-parts.parts.items) c.requires.cores
           c.in_ok-parts.ensures.copies);
       saw = c.in_ok-parts.ensures.saw;
       looked = c.look.ensures;
@@ -52,17 +59,17 @@ gather-requires-clause-ends g c =
       given = given_by t;
       nodes = c.args.nodes;
       fsync = c.args.fsync;
-      list = c.args.held.now;
+      list = c.args.held.nodes.now;
       before = c.args.core.now;
       after = c.look.new.self;
-      parts = c.deref.result.now;
+      copies = c.deref.result.now;
     } in
     let is : LooksAfterCopies s t c.copy_logs.new.core c.look.result = record {
       work = c.requires.work;
       still = c.in_ok-parts.ensures.work;
-      copies = subst (λ (l : List CoreLog). AreCopies (given_by t) c.args.nodes (length t.first.made) c.args.core.now c.copy_logs.new.core l)
+      copies = subst (λ (l : List CoreLog). AreCopies (given_by t) c.args.nodes (length t.first.made) c.args.held.nodes.now c.args.core.now c.copy_logs.new.core l)
           (sym c.deref.ensures.value)
-          (subst (λ (n : ℕ). AreCopies (given_by t) c.args.nodes n c.args.core.now c.copy_logs.new.core c.in_ok-parts.parts.items) c.requires.cores
+          (subst (λ (n : ℕ). AreCopies (given_by t) c.args.nodes n c.args.held.nodes.now c.args.core.now c.copy_logs.new.core c.in_ok-parts.parts.items) c.requires.cores
           c.in_ok-parts.ensures.copies);
       saw = c.in_ok-parts.ensures.saw;
       looked = c.look.ensures;
@@ -80,17 +87,17 @@ gather-requires-clause-own g c =
       given = given_by t;
       nodes = c.args.nodes;
       fsync = c.args.fsync;
-      list = c.args.held.now;
+      list = c.args.held.nodes.now;
       before = c.args.core.now;
       after = c.look.new.self;
-      parts = c.deref.result.now;
+      copies = c.deref.result.now;
     } in
     let is : LooksAfterCopies s t c.copy_logs.new.core c.look.result = record {
       work = c.requires.work;
       still = c.in_ok-parts.ensures.work;
-      copies = subst (λ (l : List CoreLog). AreCopies (given_by t) c.args.nodes (length t.first.made) c.args.core.now c.copy_logs.new.core l)
+      copies = subst (λ (l : List CoreLog). AreCopies (given_by t) c.args.nodes (length t.first.made) c.args.held.nodes.now c.args.core.now c.copy_logs.new.core l)
           (sym c.deref.ensures.value)
-          (subst (λ (n : ℕ). AreCopies (given_by t) c.args.nodes n c.args.core.now c.copy_logs.new.core c.in_ok-parts.parts.items) c.requires.cores
+          (subst (λ (n : ℕ). AreCopies (given_by t) c.args.nodes n c.args.held.nodes.now c.args.core.now c.copy_logs.new.core c.in_ok-parts.parts.items) c.requires.cores
           c.in_ok-parts.ensures.copies);
       saw = c.in_ok-parts.ensures.saw;
       looked = c.look.ensures;
@@ -120,17 +127,17 @@ returns-clause-look g c =
       given = given_by t;
       nodes = c.args.nodes;
       fsync = c.args.fsync;
-      list = c.args.held.now;
+      list = c.args.held.nodes.now;
       before = c.args.core.now;
       after = c.look.new.self;
-      parts = c.deref.result.now;
+      copies = c.deref.result.now;
     } in
     let is : LooksAfterCopies s t c.copy_logs.new.core c.look.result = record {
       work = c.requires.work;
       still = c.in_ok-parts.ensures.work;
-      copies = subst (λ (l : List CoreLog). AreCopies (given_by t) c.args.nodes (length t.first.made) c.args.core.now c.copy_logs.new.core l)
+      copies = subst (λ (l : List CoreLog). AreCopies (given_by t) c.args.nodes (length t.first.made) c.args.held.nodes.now c.args.core.now c.copy_logs.new.core l)
           (sym c.deref.ensures.value)
-          (subst (λ (n : ℕ). AreCopies (given_by t) c.args.nodes n c.args.core.now c.copy_logs.new.core c.in_ok-parts.parts.items) c.requires.cores
+          (subst (λ (n : ℕ). AreCopies (given_by t) c.args.nodes n c.args.held.nodes.now c.args.core.now c.copy_logs.new.core c.in_ok-parts.parts.items) c.requires.cores
           c.in_ok-parts.ensures.copies);
       saw = c.in_ok-parts.ensures.saw;
       looked = c.look.ensures;

@@ -9,6 +9,6 @@ abbrev pub invariant-loop-number : goal.invariant-loop-number
 invariant-loop-number g l = record {
   work : IsWorking (given_by l.shared) l.shared l.core;
   saw : SawMore l.initial.core l.core;
-  copies : AreCopies (given_by l.shared) l.nodes l.number l.initial.core l.core l.logs.items;
+  copies : AreCopies (given_by l.shared) l.nodes l.number l.held l.initial.core l.core l.logs.items;
   room : l.cores ≤ vec_capacity l.logs;
 }

@@ -1,5 +1,4 @@
-use Rattle.std.proofs.Common.{refl, subst, sym, ap, map, ◌∙◌}
-use Rattle.tree_laws.specs.NameRow.{node_number}
+use Rattle.std.proofs.Common.{refl, subst, sym, ap, ◌∙◌}
 use Rattle.tree_laws.specs.declared.call.Call.{Call}
 use Rattle.tree_laws.specs.declared.reply.Reply.{Reply}
 use Rattle.tree_laws.specs.Verdict.{Verdict, answered}
@@ -12,6 +11,7 @@ use Rattle.mem_calls.specs.Parts.{MayTake, TakesEntry}
 use Rattle.mem_calls.proofs.Finished.{ends_as}
 use Rattle.mem_calls.proofs.Nothing.{has_room, final_is, same_count, goes_home}
 use Rattle.mem_rename.specs.Sights.{rename_call}
+use Rattle.mem_rename.specs.Rounds.{way_read}
 use Rattle.mem_rename.proofs.Answering.{may_come, verdict_stamped}
 use Rattle.mem_rename.proofs.answers.answer.Goals as goal
 
@@ -19,16 +19,16 @@ pub stamp-requires-clause-may : goal.stamp-requires-clause-may
 stamp-requires-clause-may c =
     subst (λ (z : Call × Reply). MayCall (IsLawfulLog (given_by c.args.shared.now)) (StandsAt (given_by c.args.shared.now)) c.args.core.now.view z.0 z.1)
     (λ i. (sym c.into_call.ensures i, (ap (λ (v : Verdict). v.reply) c.requires.answers ∙ sym c.reply.ensures) i))
-    (may_come (given_by c.args.shared.now) c.args.shared.now c.args.nodes c.requires.table c.args.move_ c.requires.within c.args.plan
-    (map node_number c.args.above.now) c.args.core.now c.requires.ready)
+    (may_come (given_by c.args.shared.now) c.args.shared.now c.args.nodes c.requires.table c.args.move_ c.requires.within c.args.settled.plan
+    (way_read c.args.settled) c.args.core.now c.requires.ready)
 
 pub add_entry-requires-clause-may : goal.add_entry-requires-clause-may
 add_entry-requires-clause-may c =
     let stamps = subst (λ (z : Call × Reply). Stamps (IsLawfulLog (given_by c.args.shared.now))
     (StandsAt (given_by c.args.shared.now)) z.0 z.1 c.args.core.now c.stamp.result.0 c.stamp.new.self)
     (λ i. (c.into_call.ensures i, c.reply.ensures i)) c.stamp.ensures in
-    let due = verdict_stamped (given_by c.args.shared.now) c.args.shared.now c.args.nodes c.requires.table c.args.move_ c.requires.within c.args.plan
-    (map node_number c.args.above.now) c.args.core.now c.requires.ready (reply_of c.args.short) c.stamp.result.0 c.stamp.new.self stamps
+    let due = verdict_stamped (given_by c.args.shared.now) c.args.shared.now c.args.nodes c.requires.table c.args.move_ c.requires.within c.args.settled.plan
+    (way_read c.args.settled) c.args.core.now c.requires.ready (reply_of c.args.short) c.stamp.result.0 c.stamp.new.self stamps
     ∙ c.requires.answers in
     subst (λ l. MayTake c.args.nodes l c.stamp.new.self) (sym (ap (λ r. r.items) c.new.ensures))
     (has_room (given_by c.args.shared.now) c.args.shared.now c.args.nodes c.args.core.now c.requires.table c.requires.ready.work (rename_call c.args.move_)
@@ -39,8 +39,8 @@ let_go-requires-clause-home c =
     let stamps = subst (λ (z : Call × Reply). Stamps (IsLawfulLog (given_by c.args.shared.now))
     (StandsAt (given_by c.args.shared.now)) z.0 z.1 c.args.core.now c.stamp.result.0 c.stamp.new.self)
     (λ i. (c.into_call.ensures i, c.reply.ensures i)) c.stamp.ensures in
-    let due = verdict_stamped (given_by c.args.shared.now) c.args.shared.now c.args.nodes c.requires.table c.args.move_ c.requires.within c.args.plan
-    (map node_number c.args.above.now) c.args.core.now c.requires.ready (reply_of c.args.short) c.stamp.result.0 c.stamp.new.self stamps
+    let due = verdict_stamped (given_by c.args.shared.now) c.args.shared.now c.args.nodes c.requires.table c.args.move_ c.requires.within c.args.settled.plan
+    (way_read c.args.settled) c.args.core.now c.requires.ready (reply_of c.args.short) c.stamp.result.0 c.stamp.new.self stamps
     ∙ c.requires.answers in
     let takes = subst (λ l. TakesEntry c.args.nodes l c.stamp.new.self c.add_entry.new.core) (ap (λ r. r.items) c.new.ensures) c.add_entry.ensures in
     goes_home (given_by c.args.shared.now) c.args.shared.now c.args.nodes c.args.core.now c.requires.table c.requires.ready.work (rename_call c.args.move_)
@@ -51,8 +51,8 @@ returns c =
     let stamps = subst (λ (z : Call × Reply). Stamps (IsLawfulLog (given_by c.args.shared.now))
     (StandsAt (given_by c.args.shared.now)) z.0 z.1 c.args.core.now c.stamp.result.0 c.stamp.new.self)
     (λ i. (c.into_call.ensures i, c.reply.ensures i)) c.stamp.ensures in
-    let due = verdict_stamped (given_by c.args.shared.now) c.args.shared.now c.args.nodes c.requires.table c.args.move_ c.requires.within c.args.plan
-    (map node_number c.args.above.now) c.args.core.now c.requires.ready (reply_of c.args.short) c.stamp.result.0 c.stamp.new.self stamps
+    let due = verdict_stamped (given_by c.args.shared.now) c.args.shared.now c.args.nodes c.requires.table c.args.move_ c.requires.within c.args.settled.plan
+    (way_read c.args.settled) c.args.core.now c.requires.ready (reply_of c.args.short) c.stamp.result.0 c.stamp.new.self stamps
     ∙ c.requires.answers in
     let takes = subst (λ l. TakesEntry c.args.nodes l c.stamp.new.self c.add_entry.new.core) (ap (λ r. r.items) c.new.ensures) c.add_entry.ensures in
     ends_as (given_by c.args.shared.now) c.args.shared.now c.args.nodes c.args.core.now c.requires.table c.requires.ready.work (rename_call c.args.move_)

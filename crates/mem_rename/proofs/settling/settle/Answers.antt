@@ -16,8 +16,9 @@ hold_round-requires-clause-room g c = let r = c.loop.invariant.again.room in let
 
 pub returns-then-is : goal.returns-then-is
 returns-then-is g c =
-    settled (given_by c.args.shared.now) c.args.shared.now c.args.nodes c.requires.table c.args.move_.now c.loop.plan c.next_plan-next.result
-    (map node_number c.in-Some-2.above.items) c.loop.core c.hold_round.new.core c.hold_own.new.core
+    settled (given_by c.args.shared.now) c.args.shared.now c.args.nodes c.requires.table c.args.move_.now
+    (record { plan = c.loop.plan; look = c.next_plan.result.0; above = c.in-Some-2.above }) c.next_plan.result.1 c.loop.core c.hold_round.new.core c.hold_own.new.core
     (rw c.in-Some-2.is at c.in_ok-above.ensures.held) c.hold_own.ensures.work c.hold_own.ensures.on c.hold_own.ensures.still c.hold_own.ensures.legal
-    c.args.core.now c.loop.invariant.within c.loop.invariant.again (c.next_plan-next.ensures.asked (map node_number c.in-Some-2.above.items))
+    c.args.core.now c.loop.invariant.within c.loop.invariant.again (c.next_plan.ensures.look (map node_number c.in-Some-2.above.items))
+    c.next_plan.ensures.asked
     (sym c.is.ensures ∙ c.if-is.true) c.hold_own.ensures.part

@@ -1,0 +1,4 @@
+mod Among
+mod Counted
+mod Added
+mod Growing
