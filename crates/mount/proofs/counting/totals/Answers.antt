@@ -2,7 +2,7 @@ use Rattle.mount.proofs.Totalling.{all_at_rest, entries_stay, still_many, still_
 use Rattle.mount.proofs.counting.totals.Goals as goal
 
 pub totals_at_rest-requires-clause-rest : goal.totals_at_rest-requires-clause-rest
-totals_at_rest-requires-clause-rest g c κs within = all_at_rest c.args.volume.now c.args.workers.now c.requires.volume c.requires.workers
+totals_at_rest-requires-clause-rest g c = all_at_rest c.args.volume.now c.args.workers.now c.requires.volume c.requires.workers
 
 pub returns-clause-count : goal.returns-clause-count
 returns-clause-count g c = still_many c.args.volume.now c.args.workers.now c.totals_at_rest.new.workers c.totals_at_rest.ensures.saw
