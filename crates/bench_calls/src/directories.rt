@@ -4,7 +4,6 @@ ghost use Rattle.stamp_table.specs.Table.{IsBetweenCalls};
 ghost use Rattle.begun_tables.specs.Begun.{BeginsTable, IsCallTable};
 
 use crate::loads::{Load, own_name};
-use crate::runs::Figures;
 use begun_tables::{begun, make_call, root_alone};
 use mem_calls::Numbers;
 use mem_values::{FileCore, FileShared};
@@ -18,6 +17,13 @@ use std::thread::Threads;
 use std::time::Instant;
 use std::{io, thread};
 use tree_laws::{Call, Reply};
+
+/// How many calls were done in how many microseconds.
+#[derive(Clone, Copy)]
+pub(crate) struct Figures {
+    pub(crate) done: u64,
+    pub(crate) micros: u128,
+}
 
 /// How many directories a core may make at most.
 pub(crate) const MOST: u32 = 65_536;

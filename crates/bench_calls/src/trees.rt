@@ -1,4 +1,4 @@
-// The tree with which each table begins: four directories, in each of which one file has many names.
+// The tree with which each table begins: four directories, in each of which one file has some names.
 ghost use Rattle.std.specs.Prelude.{◌≡◌, ◌<◌, ◌≤◌, IfSome};
 ghost use Rattle.begun_tables.specs.Begun.{BeginsTable, IsBuiltTree, KeepsNumbers};
 
@@ -10,9 +10,6 @@ use std::alloc::Global;
 
 /// How many directories there are; the first has number 1.
 pub(crate) const DIRECTORIES: u8 = 4;
-
-/// How many names of a directory are looked up.
-pub(crate) const NAMES: u32 = 64;
 
 /// The number of the first new node, and how many nodes each core may make.
 pub(crate) const FIRST: u32 = 6;
@@ -49,29 +46,29 @@ fn add_node(alloc: Global, tree: &mut Tree, node: NodeId, kind: Kind) -> Option<
     }
 }
 
-// Gives the file the names in a directory that are looked up.
-fn add_names(alloc: Global, tree: &mut Tree, dir: NodeId) -> Option<()>
+// Gives the file so many names in a directory that are looked up.
+fn add_names(alloc: Global, tree: &mut Tree, dir: NodeId, rows: u32) -> Option<()>
     requires built { IsBuiltTree tree.old }
     ensures built { IfSome result (λ _. IsBuiltTree tree.new) }
     ensures numbers { IfSome result (λ _. KeepsNumbers tree.old tree.new) }
 {
-    for number in 0..NAMES {
+    for number in 0..rows {
         add_row(tree, dir, first_name(alloc, number)?, FILE)?;
     }
     Some(())
 }
 
-// Gives the file the first name in a directory that each core renames.
+// Gives the file the first name in a directory that each thread renames.
 fn add_own_names(alloc: Global, tree: &mut Tree, dir: NodeId) -> Option<()>
     requires built { IsBuiltTree tree.old }
     ensures built { IfSome result (λ _. IsBuiltTree tree.new) }
     ensures numbers { IfSome result (λ _. KeepsNumbers tree.old tree.new) }
 {
-    for core in 0..DIRECTORIES {
+    for thread in 0..DIRECTORIES {
         add_row(
             tree,
             dir,
-            own_name(alloc, Load::Renames, CoreId(core), 0)?,
+            own_name(alloc, Load::Renames, CoreId(thread), 0)?,
             FILE,
         )?;
     }
@@ -79,7 +76,7 @@ fn add_own_names(alloc: Global, tree: &mut Tree, dir: NodeId) -> Option<()>
 }
 
 // Puts the directories into the root, with their rows.
-fn add_directories(alloc: Global, tree: &mut Tree) -> Option<()>
+fn add_directories(alloc: Global, tree: &mut Tree, rows: u32) -> Option<()>
     requires built { IsBuiltTree tree.old }
     requires first { tree.old.first ≡ FIRST }
     ensures built { IfSome result (λ _. IsBuiltTree tree.new) }
@@ -94,20 +91,20 @@ fn add_directories(alloc: Global, tree: &mut Tree) -> Option<()>
             own_name(alloc, Load::Renames, CoreId(number), 0)?,
             dir,
         )?;
-        add_names(alloc, tree, dir)?;
+        add_names(alloc, tree, dir, rows)?;
         add_own_names(alloc, tree, dir)?;
     }
     Some(())
 }
 
-/// The tree. None, where there is no memory for it.
-pub(crate) fn begun_tree(alloc: Global, cores: u8) -> Option<Tree>
+/// The tree, in which each directory has so many names that are looked up. None, where there is no memory for it.
+pub(crate) fn begun_tree(alloc: Global, cores: u8, rows: u32) -> Option<Tree>
     requires { cores ≤ 4 }
     ensures { IfSome result (λ tree. BeginsTable tree FIRST SHARE cores) }
 {
     let mut tree = root_alone(alloc, FIRST, SHARE, cores).ok()?;
     add_node(alloc, &mut tree, FILE, Kind::File)?;
-    add_directories(alloc, &mut tree)?;
+    add_directories(alloc, &mut tree, rows)?;
     tree.allow(SHARE);
     Some(tree)
 }

@@ -1,5 +1,0 @@
-use Rattle.stamp_table.specs.Table.{IsBetweenCalls}
-use Rattle.bench_calls.proofs.runs.call_often.Given as goal
-
-abbrev pub invariant-loop-round : goal.invariant-loop-round
-invariant-loop-round g l = IsBetweenCalls l.shared l.core
