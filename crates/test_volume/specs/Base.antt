@@ -1,10 +1,9 @@
--- An empty disk and its tree.
+-- The tree of an empty disk.
 use Rattle.std.specs.Prelude.{◌≡◌, length}
 use Rattle.tree_laws.specs.Sound.{IsSound}
-use Rattle.test_volume.specs.declared.judged.Base.{Base}
-use Rattle.test_volume.specs.declared.judged.TheConstants.{CORES}
+use Rattle.tree_laws.specs.Tree.{TreeState}
 
--- Its tree is sound, and has the cores that disks of drawn scripts have.
-pub record IsBase (base : Base) : Type 0 where
-  pub sound : IsSound base.first
-  pub cores : length base.first.made ≡ CORES
+-- It is sound, and has the four cores that disks of drawn scripts have.
+pub record IsFirst (tree : TreeState) : Type 0 where
+  pub sound : IsSound tree
+  pub cores : length tree.made ≡ 4

@@ -1,5 +1,5 @@
 // Scripts that are drawn, on a disk with too little room: an fsync that is refused says what it needs, and changes nothing.
-ghost use Rattle.test_volume.specs.Base.{IsBase};
+ghost use Rattle.test_volume.specs.Base.{IsFirst};
 
 use crate::helpers::holds;
 use crate::judged::{Base, Health, NODES, answers_in, base_of};
@@ -34,7 +34,7 @@ fn assert_crowded<R: Threads + Wait + Sync + Abort>(
     base: &Base,
     seed: u64,
 ) -> (u64, u64)
-    requires { IsBase base.now }
+    requires { IsFirst base.now.first }
 {
     let mut dice = Dice::of(seed);
     let workers = 1 + dice.below(4);

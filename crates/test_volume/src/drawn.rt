@@ -1,5 +1,5 @@
 // Scripts that are drawn, on a disk with ample room: their histories are legal, and where all is flushed the disk has the plain tree.
-ghost use Rattle.test_volume.specs.Base.{IsBase};
+ghost use Rattle.test_volume.specs.Base.{IsFirst};
 
 use crate::helpers::holds;
 use crate::judged::{Base, Health, NODES, answers_in, base_of};
@@ -41,7 +41,7 @@ fn assert_drawn<R: Threads + Wait + Sync + Abort>(
     base: &Base,
     seed: u64,
 ) -> bool
-    requires { IsBase base.now }
+    requires { IsFirst base.now.first }
 {
     let mut dice = Dice::of(seed);
     let workers = 1 + dice.below(4);

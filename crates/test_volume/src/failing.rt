@@ -1,7 +1,7 @@
 // Scripts that are drawn, on a disk one of whose device calls fails: their histories are legal, and what a crash leaves then can be recovered.
 ghost use Rattle.std.specs.List.{AllByRecursion};
 ghost use Rattle.script.specs.Ready.{LinesMayRun};
-ghost use Rattle.test_volume.specs.Base.{IsBase};
+ghost use Rattle.test_volume.specs.Base.{IsFirst};
 
 use crate::helpers::{got, holds, same};
 use crate::judged::{Base, Health, NODES, answers_in, base_of};
@@ -49,7 +49,7 @@ fn calls_of<R: Threads + Wait + Sync + Abort>(
 
 // Asserts that the history is legal, that one fsync met the fault if there was one, and that what is left recovers. Says whether there was one.
 fn assert_ran(rt: &impl Abort, alloc: Global, base: &Base, ran: Ran<FailAt>) -> bool
-    requires { IsBase base.now }
+    requires { IsFirst base.now.first }
 {
     holds(rt, ran.ended);
     let faults = ran.disk.faults();
@@ -76,7 +76,7 @@ fn assert_failing<R: Threads + Wait + Sync + Abort>(
     base: &Base,
     seed: u64,
 ) -> bool
-    requires { IsBase base.now }
+    requires { IsFirst base.now.first }
 {
     let mut dice = Dice::of(seed);
     let workers = 1 + dice.below(4);

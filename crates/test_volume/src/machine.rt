@@ -1,7 +1,7 @@
 // The plain machine of calls and commits, which is told a history and then the turns at the disk.
 ghost use Rattle.std.specs.Prelude.{◌≡◌, length, IfSome};
 ghost use Rattle.cut_laws.specs.Machine.{MachineState, MayBeTold};
-ghost use Rattle.test_volume.specs.Base.{IsBase};
+ghost use Rattle.test_volume.specs.Base.{IsFirst};
 
 use crate::helpers::{got, holds, some};
 use crate::judged::{Base, CORES, is_acknowledged, is_readable};
@@ -121,7 +121,7 @@ pub(crate) fn assert_taken(
     history: &History,
     turns: &Turns,
 )
-    requires { IsBase base.now }
+    requires { IsFirst base.now.first }
 {
     let state = State::new(alloc, got(rt, base.first.copy()));
     let mut machine = Machine { state };

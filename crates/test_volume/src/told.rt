@@ -1,6 +1,6 @@
 // What is asserted of each run: its history is legal, by the plain tree and by its text, and the turns at the disk tell what its fsyncs were answered.
 ghost use Rattle.tree_laws.specs.Sound.{IsSound};
-ghost use Rattle.test_volume.specs.Base.{IsBase};
+ghost use Rattle.test_volume.specs.Base.{IsFirst};
 
 use crate::helpers::{got, holds, same, some};
 use crate::judged::{Base, CORES, Health, tree_after};
@@ -16,7 +16,7 @@ use tree_laws::{Call, Code, Entry, History, Reply, Turn, TurnAct, Turns};
 
 // Asserts that the text of a history is that of a legal one of as many calls, by a check that has nothing but the text and the tree with which it begins.
 fn assert_legal_text(rt: &impl Abort, alloc: Global, base: &Base, history: &History)
-    requires { IsBase base.now }
+    requires { IsFirst base.now.first }
 {
     let text = got(rt, text(alloc, history));
     holds(rt, text.len() <= LONGEST_HISTORY);
@@ -93,7 +93,7 @@ pub(crate) fn plain_tree<D: Disk>(
     ran: &Ran<D>,
     health: Health,
 ) -> Tree
-    requires { IsBase base.now }
+    requires { IsFirst base.now.first }
     ensures { IsSound result }
 {
     let calls = ran.disk.now();
