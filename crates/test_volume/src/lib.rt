@@ -26,6 +26,8 @@ mod shaking;
 #[cfg(test)]
 mod smallest;
 #[cfg(test)]
+mod swept;
+#[cfg(test)]
 mod together;
 #[cfg(test)]
 mod told;
