@@ -1,4 +1,4 @@
-// What is run: a script of one worker, and a disk in memory with an empty image.
+// What is run, and a disk in memory with an empty image.
 use crate::runs::made;
 use sfs_base::NoMemory;
 use sfs_dev::Memory;
@@ -24,6 +24,8 @@ pub enum Load {
     MailSpool,
     /// Empty files, by turns in each of some directories.
     Directories,
+    /// A script of 16 workers that the program makes, which has 1,000 items for each of them.
+    Made,
 }
 
 impl Load {
@@ -32,19 +34,29 @@ impl Load {
         match self {
             Load::MailSpool => "mail spool",
             Load::Directories => "directories",
+            Load::Made => "load 7 1000 16",
         }
     }
 
-    /// How many messages or files it has.
+    /// The words that run it.
+    pub fn words(self) -> &'static [&'static str] {
+        match self {
+            Load::MailSpool | Load::Directories => &["run", "65536"],
+            Load::Made => &["load", "7", "1000", "16"],
+        }
+    }
+
+    /// How many messages, files or items of a made script it has.
     pub fn items(self) -> u64 {
         match self {
             Load::MailSpool => MESSAGES as u64,
             Load::Directories => DIRECTORIES as u64 * FILES as u64,
+            Load::Made => 16_000,
         }
     }
 }
 
-/// The script of a load, and a disk for it.
+/// The script of a load, empty where the program makes it, and a disk for it.
 pub fn begun<R: Threads + Wait + Sync>(
     rt: &R,
     alloc: Global,
@@ -58,6 +70,11 @@ pub fn begun<R: Threads + Wait + Sync>(
         Load::Directories => {
             let disk = made(rt, alloc, 16_384, &["mkfs", "16384", "16384", "1"])?;
             Ok((directories(alloc)?, disk))
+        }
+        Load::Made => {
+            let words = ["mkfs", "262144", "16384", "16", "2"];
+            let disk = made(rt, alloc, 262_144, &words)?;
+            Ok((String::new(alloc), disk))
         }
     }
 }

@@ -22,10 +22,10 @@ fn main(rt: HostRuntime) -> io::Result<()> {
         Err(_) => false,
     };
     if !asked {
-        println!(rt; "bench_run measure: calls, fsyncs and device calls of two runs")?;
+        println!(rt; "bench_run measure: calls, fsyncs and device calls of three runs")?;
         return Ok(());
     }
-    for load in [Load::MailSpool, Load::Directories] {
+    for load in [Load::MailSpool, Load::Directories, Load::Made] {
         let name = load.name();
         let items = load.items();
         let Ok((script, disk)) = begun(&rt, alloc, load) else {
@@ -33,7 +33,7 @@ fn main(rt: HostRuntime) -> io::Result<()> {
             return Ok(());
         };
         let start = Instant::now(&rt)?;
-        let found = measured(&rt, alloc, script, disk);
+        let found = measured(&rt, alloc, load.words(), script, disk);
         let passed = start.elapsed(&rt)?.as_micros();
         let Ok(figures) = found else {
             println!(rt; "{name}: no memory")?;

@@ -82,7 +82,7 @@ fn run_of<R: Threads + Wait + Sync + Clock>(
         return Ok(None);
     };
     let start = Instant::now(rt)?;
-    let found = measured(rt, alloc, script, disk);
+    let found = measured(rt, alloc, &["run", "65536"], script, disk);
     let nanos = start.elapsed(rt)?.as_nanos();
     let Ok(figures) = found else {
         return Ok(None);

@@ -64,14 +64,15 @@ pub fn left_by<R: Threads + Wait + Sync>(
     outcome.disk.left(alloc, u64::MAX, 0)
 }
 
-/// Runs a script on a disk, with as many new nodes as there may be.
+/// What these words run on a disk takes, with this script as their source.
 pub fn measured<R: Threads + Wait + Sync>(
     rt: &R,
     alloc: Global,
+    words: &[&str],
     script: String,
     disk: Memory,
 ) -> Result<Figures, NoMemory> {
-    let words = words_of(alloc, &["run", "65536"])?;
+    let words = words_of(alloc, words)?;
     let mut source = BytesSource::new(script.into_bytes(), Vec::new(alloc));
     let mut sink = BytesSink::new(alloc, Vec::new(alloc));
     let Outcome {

@@ -9,7 +9,7 @@ ghost use Rattle.mem_rename.specs.Sights.{rename_call};
 use crate::answers::answer;
 use crate::looking::Decision;
 use crate::moving::move_child;
-use crate::settling::{decide_in, settle};
+use crate::settling::{decide_in, hold_for_rename};
 use crate::shifts::Copied;
 use crate::sides::Move;
 use mem_calls::{answer_call, directory_fault_in, hold_directory, hold_part};
@@ -86,7 +86,7 @@ pub fn rename<R: Wait, G: Gate>(
         return Ok(answer_outside(rt, alloc, shared, core, nodes, move_, gate));
     }
     let copied = Copied::new(alloc, &move_)?;
-    let settled = settle(rt, alloc, shared, core, nodes, &move_, gate)?;
+    let settled = hold_for_rename(rt, alloc, shared, core, nodes, &move_, gate)?;
     match decide_in(core, nodes, &move_, &settled) {
         Decision::Answers { short } => {
             answer(alloc, shared, core, nodes, move_, settled, short);

@@ -37,7 +37,7 @@ pub(crate) struct Settled {
 }
 
 // Holds the own log, above all other cells.
-fn hold_own<R: Wait, G: Gate>(
+fn hold_log<R: Wait, G: Gate>(
     rt: &R,
     shared: &FileShared,
     core: &mut FileCore,
@@ -62,7 +62,7 @@ fn hold_own<R: Wait, G: Gate>(
 
 /// Holds all that a rename asks for by what is held: it begins again as long as that is more than the plan has, or the way up broke off.
 /// Where it begins again it has let go of all, and made no call.
-pub(crate) fn settle<R: Wait, G: Gate>(
+pub(crate) fn hold_for_rename<R: Wait, G: Gate>(
     rt: &R,
     alloc: Global,
     shared: &FileShared,
@@ -87,7 +87,7 @@ pub(crate) fn settle<R: Wait, G: Gate>(
         };
         let (look, next) = next_plan(core, nodes, move_, plan);
         if next.is(plan) {
-            hold_own(rt, shared, core, nodes, gate);
+            hold_log(rt, shared, core, nodes, gate);
             return Ok(Settled { plan, look, above });
         }
         give_up(shared, core);
