@@ -114,7 +114,7 @@ labels_may = may_both TWELVE_BLOCKS 0 UP_TO_THE_FIFTH AT_THE_EIGHTH (first_past 
 abbrev stays : (event : Event Label) (past : BoxPast) → SpaceDoes event past TWO_TAKEN TWO_TAKEN → SpaceStep event past TWO_TAKEN
 stays event past does = record { next = TWO_TAKEN; does = does }
 
-takes_nothing : TakesGrant TWO_TAKEN NO_GRANT TWO_TAKEN
+pub takes_nothing : TakesGrant TWO_TAKEN NO_GRANT TWO_TAKEN
 takes_nothing = record {
   inodes = grants_none TWO_TAKEN.inodes 0 refl;
   blocks = grants_none TWO_TAKEN.blocks 0 refl;
@@ -122,7 +122,7 @@ takes_nothing = record {
 }
 
 -- a commit that reserved nothing ends
-ends_nothing : (opens : List ReservedCommit) (number : ℕ) (one : ReservedCommit) → IsOneOf opens one → one.number ≡ number → one.grant ≡ NO_GRANT
+pub ends_nothing : (opens : List ReservedCommit) (number : ℕ) (one : ReservedCommit) → IsOneOf opens one → one.number ≡ number → one.grant ≡ NO_GRANT
     → one.gives_up ≡ no_numbers → EndsGrant opens number TWO_TAKEN TWO_TAKEN
 ends_nothing opens number one among same grant given = record {
   own = record { commit = one; among = among; number_is = same };
@@ -218,7 +218,7 @@ made_as flushing node =
     by false = refl
 
 -- no node had a commit
-last_none : (flushing : Flushing) (node last : ℕ) → last_seen (seen_one flushing.node 0).items node ≡ Some last → 0 ≡ last
+pub last_none : (flushing : Flushing) (node last : ℕ) → last_seen (seen_one flushing.node 0).items node ≡ Some last → 0 ≡ last
 last_none flushing node last seen = ap (λ (one : LastCommit). one.number) (one_unmoved (λ _. last_ended 0) flushing.node 0 refl node last seen)
 
 labels_fit : FitBringings TWO_NUMBERED (UP_TO_THE_FIFTH ++ AT_THE_EIGHTH)

@@ -2,6 +2,7 @@ pub mod Tree
 pub mod Image
 pub mod Standing
 pub mod Plans
+pub mod Leaving
 pub mod Telling
 pub mod Reserving
 pub mod Mapped

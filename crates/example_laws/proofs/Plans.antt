@@ -53,7 +53,7 @@ module _ (inode : Inode) (none : (k : ℕ) → slice_index inode.indirect k ≡ 
       cond-false (nat_lt (FILE_BLOCKS + table) FILE_BLOCKS) _ _ (le-ltb (FILE_BLOCKS + table) FILE_BLOCKS (omega arith))
       ∙ ap (slice_index inode.indirect) (let e : FILE_BLOCKS + table - FILE_BLOCKS ≡ table = omega arith in e) ∙ none table
 
-  still : (table : ℕ) → rewrites_table rewrite table ≡ false
+  pub still : (table : ℕ) → rewrites_table rewrite table ≡ false
   still table =
       ap (λ b. b || (not (pointer_kept inode [] (FILE_BLOCKS + table) == 0) && nat_le rewrite.blocks (first_block table)))
       (none_passes (changes_pointer rewrite) (table_blocks table) (λ n. refl))
@@ -114,14 +114,14 @@ kept_one = λ i. record { inode = one_is i; tables = tables i; slots = slots i }
         ∙ ap (map slots_of) one_blocks
 
 -- the plan of a node of which this is kept
-abbrev plan_kept : ℕ → Kept → CommitPlan
+abbrev pub plan_kept : ℕ → Kept → CommitPlan
 plan_kept node kept =
     record { old = record { node = record { 0 = node }; old = record { number = node; kept = kept } } ∷ []; nets = []; files = []; enter = []; leave = [] }
 
-abbrev root_seat : Seated
+abbrev pub root_seat : Seated
 root_seat = directory_seated (changes_in (0 ∷ []) [] []) (begun_old (record { node = record { 0 = 0 }; old = record { number = 0; kept = KEPT_ROOT } }))
 
-abbrev one_seat : Seated
+abbrev pub one_seat : Seated
 one_seat = directory_seated (changes_in (1 ∷ []) [] []) (begun_old (record { node = record { 0 = 1 }; old = record { number = 1; kept = KEPT_ONE } }))
 
 root_takes : blocks_taken root_seat ≡ 0
@@ -186,7 +186,7 @@ serves_none plan enter needs = record {
 
 -- where no block is rewritten and no indirect block is there each pointer stays
 module _ (inode : Inode) (none : (k : ℕ) → slice_index inode.indirect k ≡ 0) (fresh : List ℕ) where
-  pointer_stays : (place : ℕ) → pointer_remapped (rewrite_of inode [] []) fresh place ≡ pointer_kept inode [] place
+  pub pointer_stays : (place : ℕ) → pointer_remapped (rewrite_of inode [] []) fresh place ≡ pointer_kept inode [] place
   pointer_stays place = by (nat_lt place FILE_BLOCKS)
     where
       by : (b : Bool)

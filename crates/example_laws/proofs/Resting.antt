@@ -86,12 +86,12 @@ turns_of_them turn one did =
     (refl, (refl, (refl, (refl, (refl, (refl, tt)))))) turn one
 
 -- labels that are all told of a disk as it is
-abbrev AllToldOf : List (Event Label) → View → Type 0
+abbrev pub AllToldOf : List (Event Label) → View → Type 0
 AllToldOf [] disk = Unit {0}
 AllToldOf (Called entry ∷ log) disk = ⊥
 AllToldOf (Told core fact ∷ log) disk = IsToldOf fact disk × AllToldOf log disk
 
-told_fit : (disk : View) → KeepsLaws disk → (log : List (Event Label)) (past : BoxPast) → PastFits TWELVE_BLOCKS 0 past → MayFrom TWELVE_BLOCKS 0 log past
+pub told_fit : (disk : View) → KeepsLaws disk → (log : List (Event Label)) (past : BoxPast) → PastFits TWELVE_BLOCKS 0 past → MayFrom TWELVE_BLOCKS 0 log past
     → AllToldOf log disk → RunFits TWELVE_BLOCKS 5 past disk → RunFits TWELVE_BLOCKS 5 (past_from TWELVE_BLOCKS log past) disk
 told_fit disk laws [] past fits may told run = run
 told_fit disk laws (Called entry ∷ log) past fits may told run = absurd told
@@ -117,7 +117,7 @@ layout_fits = record {
 }
 
 module _ (share : ℕ) (image : List ℕ) (is : IsTwoImage image) where
-  laws : (now : ℕ) → now < 2 ^ 64 → KeepsLaws (still_disk image now)
+  pub laws : (now : ℕ) → now < 2 ^ 64 → KeepsLaws (still_disk image now)
   laws now fits = record {
     whole = λ content told. subst (λ c. length c ≡ 4096 * 12) (some_same told) is.whole;
     read_is_left = λ content told. sym (some_same told);
@@ -125,7 +125,7 @@ module _ (share : ℕ) (image : List ℕ) (is : IsTwoImage image) where
   }
 
   -- a sync that fails leaves all as it is, but for the count of calls
-  sync_fails : (now later : ℕ) → later ≡ min (now + 1) (2 ^ 64 - 1) → Syncs false (still_disk image now) (still_disk image later)
+  pub sync_fails : (now later : ℕ) → later ≡ min (now + 1) (2 ^ 64 - 1) → Syncs false (still_disk image now) (still_disk image later)
   sync_fails now later counted = record {
     ok = λ never. absurd (true_not_false (sym never));
     err = λ failed other. (λ it. it, λ it. it);

@@ -361,6 +361,11 @@ module _ (f : Flushing) (told : IsTold f) where
     one = one_made gathered.plans no_enter;
   }
 
+  -- its plan lets no node enter
+  pub enters_none : core_tells.gathered.plans.enter ≡ []
+  unfolding core_tells
+  enters_none = no_enter
+
   pub serves : ServesPair TWO_DIRECTORIES (pair_by f)
   serves = serves_none (commit_plan f) refl told.needs
 

@@ -1,0 +1,5 @@
+pub mod Table
+pub mod Making
+pub mod Box
+pub mod Mount
+pub mod Laws
