@@ -36,7 +36,8 @@ module _ (inode : Inode) (none : (k : ℕ) → slice_index inode.indirect k ≡ 
 
   no_table : (k : ℕ) → table_remapped (rewrite_of inode [] []) fresh [] k ≡ None
   no_table k =
-      ap (λ b. table_by_fate (if b then (if table_has_pointer (rewrite_of inode [] []) k then IsWritten else Goes) else Stays) (rewrite_of inode [] []) fresh [] k)
+      ap (λ b. table_by_fate (if b then
+      (if table_has_pointer (rewrite_of inode [] []) k then IsWritten else Goes) else Stays) (rewrite_of inode [] []) fresh [] k)
       (still inode none k)
 
   tables_stay : tables_remapped (rewrite_of inode [] []) fresh [] ≡ []

@@ -224,7 +224,8 @@ module _ (alloc : Global) (core : ℕ) (f : Flushing) (way : IsUnderWay core f) 
         by_cases node held = elim (cases_eq f.node node) [
           | inl same ↦ listed node (sym same)
           | inr other ↦
-              absurd (false_not_true (sym (ap (λ b. is_some (cond b (Some (held_by_flush f)) (let o : Option HeldNode = None in o))) (ne_eqb f.node node other)) ∙ held))
+              absurd (false_not_true
+              (sym (ap (λ b. is_some (cond b (Some (held_by_flush f)) (let o : Option HeldNode = None in o))) (ne_eqb f.node node other)) ∙ held))
         ]
 
     pub told_made : ToldMade (two_run alloc) (making_of core f) (commitment_of core f)

@@ -143,7 +143,8 @@ module _ (D : Type 0) (alloc : Global) where
       in_list zero fsyncs there among =
           of_one (flush_told 0 OWN_FLUSH 8) (made_of 0 OWN_FLUSH) refl own_frees (subst (λ (l : List FlushTold). IsOneOf l one) (sym (some_same there)) among)
       in_list (suc zero) fsyncs there among =
-          of_one (flush_told 1 OTHER_FLUSH 5) (made_of 1 OTHER_FLUSH) refl other_frees (subst (λ (l : List FlushTold). IsOneOf l one) (sym (some_same there)) among)
+          of_one (flush_told 1 OTHER_FLUSH 5) (made_of 1 OTHER_FLUSH) refl other_frees
+          (subst (λ (l : List FlushTold). IsOneOf l one) (sym (some_same there)) among)
       in_list (suc (suc core)) fsyncs there among = absurd (none_some there)
 
   begins : BeginsAt (two_mount alloc)
@@ -205,7 +206,10 @@ module _ (D : Type 0) (alloc : Global) where
         record { run = run_at_eight; began = ends.began; tells = ends.tells; most = 0; few = few }
 
     survives : SurvivesAtRest alloc share image
-    survives = record { disk = disk_ends; survives = mounts_survive D (still_disk image 8) share (two_mount alloc) (mounts_reach_ends D (two_mount alloc) reaches) disk_ends }
+    survives = record {
+      disk = disk_ends;
+      survives = mounts_survive D (still_disk image 8) share (two_mount alloc) (mounts_reach_ends D (two_mount alloc) reaches) disk_ends;
+    }
 
   two_mount_is : IsTwoMount D alloc
   two_mount_is =

@@ -13,8 +13,8 @@ use Rattle.end_laws.specs.Survives.{DiskEnds, MountSurvives}
 use Rattle.example_mount.specs.Mount.{two_mount}
 use Rattle.example_mount.specs.Box.{TURN_BY_TURN}
 
--- On a disk at rest with an image of the two directories the mount ends: the disk is in the run that its labels tell, and so the mount survives each crash since
--- it began and is read back at its end.
+-- On a disk at rest with an image of the two directories the mount ends: the disk is in the run that its labels tell, and so the mount survives each crash
+-- since it began and is read back at its end.
 pub record SurvivesAtRest (alloc : Global) (share : ℕ) (image : List ℕ) : Type 0 where
   pub disk : DiskEnds (two_mount alloc) (still_disk image 8)
   pub survives : MountSurvives share (two_mount alloc) (still_disk image 8) disk
