@@ -22,6 +22,7 @@ use Rattle.disk_change.specs.declared.files.FileChange.{FileChange}
 use Rattle.disk_change.specs.Built.{rewrite_in}
 use Rattle.commit_laws.proofs.NumbersGiven.{kept_in}
 use Rattle.commit_laws.proofs.OwnInodes.{mapped_is_in}
+use Rattle.made_laws.specs.Made.{of_notes, of_file}
 use Rattle.slot_laws.specs.Nodes.{no_numbers}
 use Rattle.end_laws.specs.Frees.{MadesFreeNothing}
 use Rattle.end_laws.specs.Kept.{AreWellKept}
@@ -113,8 +114,12 @@ module _ (old : List OldEntry) (nets : List DirectoryNet) (files : List FileChan
     )
 
 pub mades_free_nothing : MadesFreeNothing
-mades_free_nothing run made core well tx is none =
+mades_free_nothing run made (of_notes core) well tx is none =
     let plans = core.plans in
     frees_nothing made.making.old _ _ plans.enter made.making.plan.leave.items well
     (ap (λ (change : Planned). records_written change no_numbers) (sym plans.made) ∙ sym is.records ∙ none)
     tx (subst (λ (change : Planned). IsTransactionOf change no_numbers tx) plans.made is)
+mades_free_nothing run made (of_file own) well tx is none =
+    frees_nothing made.making.old [] own.own.files [] [] well
+    (ap (λ (change : Planned). records_written change no_numbers) (sym own.change_is) ∙ sym is.records ∙ none)
+    tx (subst (λ (change : Planned). IsTransactionOf change no_numbers tx) own.change_is is)

@@ -1,11 +1,14 @@
 -- A turn that tells a shortage tells what was so at its place, by what its core made.
-use Rattle.std.proofs.Common.{◌≡◌, ◌++◌, ◌∷◌, ◌∙◌, ◌+◌, ◌<◌, ◌^◌, List, ap, append_assoc, [], subst, true, sym, map, refl, ℕ, Some, count_by, arith}
+use Rattle.std.proofs.Common.{◌≡◌, ◌++◌, ◌∷◌, ◌∙◌, ◌+◌, ◌<◌, ◌^◌, List, ap, append_assoc, [], subst, true, sym, map, refl, ℕ, Some, count_by, arith, is_some, eqb-true}
 use Rattle.sfs_base.specs.Lists.{Roomy}
+use Rattle.sfs_base.proofs.BasicNumbers.{same_number}
 use Rattle.space_map.specs.Space.{Space, shortage}
 use Rattle.space_map.specs.declared.fault.SpaceFault.TheVariants.{NoSpace}
 use Rattle.space_map.proofs.Free.{length-free_from}
 use Rattle.tree_laws.specs.declared.turns.Turn.{Turn}
+use Rattle.disk_nodes.specs.declared.old.OldEntry.{OldEntry}
 use Rattle.disk_change.specs.Planned.{Planned, enters}
+use Rattle.commit_laws.specs.CommitOfPlan.{change_planned}
 use Rattle.cut_laws.specs.Closure.{Flush}
 use Rattle.cut_laws.specs.Rules.{IsOneOf}
 use Rattle.cut_laws.proofs.Basics.{in_left}
@@ -26,26 +29,30 @@ use Rattle.turn_ties.proofs.Fits.{blocks_low}
 use Rattle.turn_ties.proofs.Led.{led_plans_are_tied}
 use Rattle.book_laws.specs.Imagined.{Imagines}
 use Rattle.book_laws.specs.Walk.{brought_under}
-use Rattle.book_laws.specs.Pairs.{commit_under}
+use Rattle.book_laws.specs.Pairs.{commit_under, run_with}
 use Rattle.book_laws.specs.Out.{IsMapWithOut, CountsBooks, books_out}
 use Rattle.book_laws.specs.Along.{LackTold, MapPlace, MapGoes, beside_at, TellsLack}
 use Rattle.book_laws.proofs.Counted.{few_inodes, maps_count_books}
 use Rattle.book_laws.proofs.Placed.{maps_go_along}
 use Rattle.reserve_laws.specs.Plans.{bringing_made}
 use Rattle.reserve_laws.specs.Looks.{CoreTells, LookBrings}
+use Rattle.reserve_laws.specs.Olds.{DoneBeside}
+use Rattle.reserve_laws.specs.OwnFile.{OwnMaking, MakesOwnFile}
 use Rattle.reserve_laws.proofs.Looks.{knows, looks_bring}
+use Rattle.reserve_laws.proofs.OwnFile.{has_plan}
 use Rattle.stamp_table.specs.declared.event.Event.{Event}
 use Rattle.stamp_table.specs.declared.event.Event.TheVariants.{Told}
 use Rattle.note_laws.specs.Joined.{BoxKnows}
-use Rattle.made_laws.specs.Tells.{commit_made}
-use Rattle.made_laws.specs.Made.{sources_of}
-use Rattle.tell_laws.specs.Tells.{MadePlace, MadeThere, entries_at}
+use Rattle.made_laws.specs.Tells.{commit_made, last_of_seen}
+use Rattle.made_laws.specs.Made.{sources_of, CoreMade, OwnMade, OwnFileMaking, own_flush, of_notes, of_file, MadeIn}
+use Rattle.tell_laws.specs.Tells.{MadePlace, MadeThere, entries_at, IsVolumeThere, making_own}
 use Rattle.tell_laws.proofs.Telling.{mades_tell}
+use Rattle.tell_laws.proofs.Own.{OwnKnown, makes}
 use Rattle.slot_laws.specs.declared.label.Label.{Label}
 use Rattle.slot_laws.specs.declared.label.Label.TheVariants as label
 use Rattle.slot_laws.specs.Labels.{BoxPast, past_from, after_label, first_past}
 use Rattle.slot_laws.specs.declared.label.Seen.{Seen}
-use Rattle.slot_laws.specs.Lasts.{Reserving, told_reserving, box_of}
+use Rattle.slot_laws.specs.Lasts.{Reserving, told_reserving, box_of, IsMadeAs}
 use Rattle.slot_laws.specs.Nodes.{no_numbers}
 use Rattle.slot_laws.specs.Rules.{MayFrom}
 use Rattle.slot_laws.proofs.NodesTold.{past_parts, may_parts}
@@ -60,14 +67,18 @@ use Rattle.close_laws.proofs.AlongLabels.{drawing_along, drawing_first}
 use Rattle.close_laws.proofs.Same.{same_count}
 use Rattle.fsync_commit.specs.Asked.{need_planned}
 use Rattle.end_laws.specs.Mount.{MountEnd, MountEnds, AreNamedAlong, run_at}
+use Rattle.end_laws.specs.Recorded.{TellsShort}
+use Rattle.end_laws.specs.Lacks.{LackMade, MadeLacksAreTold}
 use Rattle.end_laws.proofs.Places.{done_there, all_made, PlaceHere, place_behind, end_past, end_lands, goes_to_end, all_done, done_of_all, done_told, beside_there, disk_there, volume_there, told_labels}
 use Rattle.end_laws.proofs.Boxes.{made_of, ReservesHere, commits_under, unmoved_here, gives_here}
 use Rattle.end_laws.proofs.Survives.{turns_of_mounts_end}
-use Rattle.end_laws.specs.Recorded.{TellsShort}
-use Rattle.end_laws.specs.Lacks.{LackMade, MadeLacksAreTold}
 use Rattle.end_laws.proofs.TurnPlaces.{layout, begun, PlaceAt, place_there, opens_there, reserved_as, keeping_at, begins_map}
 use Rattle.end_laws.proofs.Once.{turns_go_on, NoneOf, none_of, split_once, stand_begins, same_shortage}
 use Rattle.end_laws.proofs.Played.{may_come_there, plays_done}
+use Rattle.end_laws.proofs.Making.{concerns_own}
+use Rattle.beside_laws.specs.OwnFile.{own_commit}
+use Rattle.reserve_laws.proofs.OwnFile.{touched}
+use Rattle.reserve_laws.proofs.OwnFile.{planning as planned_own}
 
 module _ (D : Type 0) (at : MountEnd) (named : Numbered) (ends : MountEnds D at) (are : AreNamedAlong at named)
     (merge : PensMerge at.start.first at.start.history (past_of at.told).turns) (front : List Turn) (turn : Turn) (told : LackTold)
@@ -128,18 +139,15 @@ module _ (D : Type 0) (at : MountEnd) (named : Numbered) (ends : MountEnds D at)
   abbrev one : Reserving
   one = record { core = lack.core; commit = past.commits + 1; seen = seen; grant = no_numbers }
 
-  abbrev commit : CoreCommit
-  commit = commit_made (run_at at) lack.making lack.made_in.plans (past.commits + 1)
-
-  reserves : ReservesHere named past (end_past D at named ends are) one commit
-  reserves = record {
+  reserves_with : (commit : CoreCommit) → IsMadeAs commit (past.commits + 1) lack.seen → ReservesHere named past (end_past D at named ends are) one commit
+  reserves_with commit own = record {
     knew = record {
       next = refl;
       ended = lack.unmoved;
       knew = names_seen past.lasts past.opens past.done past.commits here.is.drawing.lasts (past.commits + 1) lack.seen no_numbers refl lack.unmoved;
       none_open = none_of_seen past.lasts past.opens past.done past.commits here.is.drawing.lasts (past.commits + 1) lack.seen no_numbers refl lack.unmoved;
     };
-    own = record { number_is = refl; holds = lack.sees.holds; last = lack.sees.last };
+    own = own;
     opens_are = λ other there. (here.is.drawing.opens.grants other there).made;
     done_are = lands.lands.made;
     then_are = (end_lands D at named ends are).made;
@@ -163,72 +171,23 @@ module _ (D : Type 0) (at : MountEnd) (named : Numbered) (ends : MountEnds D at)
   box_same : box_of (commit_numbered named) past ≡ box_made
   box_same i = record { done = sym (commits_under named past.done) i; opens = map (made_of named) past.opens; number = past.commits }
 
-  box_knows : BoxKnows (run_at at) box_made (all_done D at named ends are) commit
-  box_knows =
+  knows_with : (commit : CoreCommit) → IsMadeAs commit (past.commits + 1) lack.seen → BoxKnows (run_at at) box_made (all_done D at named ends are) commit
+  knows_with commit own =
       subst (λ (b : BoxState). BoxKnows (run_at at) b (all_done D at named ends are) commit) box_same (record {
-        unmoved = unmoved_here named past (end_past D at named ends are) one commit reserves;
-        gives = gives_here named past (end_past D at named ends are) one commit reserves;
+        unmoved = unmoved_here named past (end_past D at named ends are) one commit (reserves_with commit own);
+        gives = gives_here named past (end_past D at named ends are) one commit (reserves_with commit own);
         among = done_of_all D at named ends are lack.front (event ∷ lack.back) lack.whole;
         told = done_told D at named ends are lack.front (event ∷ lack.back) lack.whole;
       })
 
-  abbrev place : MadePlace
-  place = record {
-    run = run_at at;
-    making = lack.making;
-    pair = record { commit = commit; one = bringing_made volume (sources_of lack.making []) lack.made_in.plans no_numbers };
-    beside = beside_there D at named ends are lack.front (event ∷ lack.back) lack.whole volume;
-    opens = map (made_of named) past.opens;
-    number = past.commits;
-    all = all_done D at named ends are;
-  }
-
-  made_there : MadeThere place
-  made_there = record {
-    table = ends.table;
-    made = lack.made_in;
-    pair = record { commit = refl; one = refl };
-    all_made = all_made D at named ends are;
-    box_knows = box_knows;
-    disk = disk_there D at named ends are lack.front (event ∷ lack.back) lack.whole volume;
-    done = done_there D at named ends are lack.front (event ∷ lack.back) lack.whole volume imagines;
-    volume = volume_there D at named ends are lack.front (event ∷ lack.back) lack.whole volume imagines (here.is.beside.beside volume imagines);
-  }
-
-  abbrev from : Sources
-  from = sources_of lack.making (entries_at place)
-
   abbrev done : List CoreCommit
   done = map (commit_under named.pairs) (stamps_under named past.done)
 
-  tells : CoreTells volume done place.pair from
-  tells = mades_tell place made_there
+  abbrev done_beside : DoneBeside
+  done_beside = beside_there D at named ends are lack.front (event ∷ lack.back) lack.whole volume
 
-  led : LookBrings volume from tells.gathered.plans
-  led = looks_bring volume done commit from tells.may tells.gathered
-
-  planned : PlansFsync volume from
-  planned = record {
-    ready = tells.may.stands.between;
-    keeps = tells.gathered.keeps;
-    short = tells.may.short;
-    orderly = tells.gathered.orderly;
-    gathers = beside (record {
-      late = commit.late;
-      counts = commit.counts;
-      logs = tells.gathered.logs;
-      knows = subst (λ (look : Look). Knows
-          (record { first = volume.first; history = volume.history; counts = commit.counts; late = commit.late; look = look }) volume.cut volume.inodes)
-          (sym tells.gathered.look) (knows volume done commit from tells.may tells.gathered);
-    });
-    concern_is = tells.gathered.concern_is;
-    old_is = tells.gathered.old_is;
-    file_is = tells.gathered.file_is;
-    plans = tells.gathered.plans;
-  }
-
-  abbrev planning : Planning
-  planning = planning_led volume from led.led.leads
+  volume_is : IsVolumeThere (run_at at) volume done
+  volume_is = volume_there D at named ends are lack.front (event ∷ lack.back) lack.whole volume imagines (here.is.beside.beside volume imagines)
 
   -- nobody owes a turn there
   nobody_owes : (core : ℕ) → (here.is.drawing.owing.own core).owes ≡ owes_nothing
@@ -289,21 +248,152 @@ module _ (D : Type 0) (at : MountEnd) (named : Numbered) (ends : MountEnds D at)
       (mine.blocks ∙ (sym theirs.blocks ∙ same_count drawing.so.drawn.blocks lack.space.blocks same_maps.blocks))
       ∙ lack.short
 
+  -- It was made by what was noted.
+  module _ (core : CoreMade (run_at at) lack.making) where
+    abbrev commit : CoreCommit
+    commit = commit_made (run_at at) lack.making core.plans (past.commits + 1)
+
+    own_made : IsMadeAs commit (past.commits + 1) lack.seen
+    own_made = record { number_is = refl; holds = lack.sees.holds; last = lack.sees.last }
+
+    abbrev place : MadePlace
+    place = record {
+      run = run_at at;
+      making = lack.making;
+      pair = record { commit = commit; one = bringing_made volume (sources_of lack.making []) core.plans no_numbers };
+      beside = done_beside;
+      opens = map (made_of named) past.opens;
+      number = past.commits;
+      all = all_done D at named ends are;
+    }
+
+    made_there : MadeThere place
+    made_there = record {
+      table = ends.table;
+      made = core;
+      pair = record { commit = refl; one = refl };
+      all_made = all_made D at named ends are;
+      box_knows = knows_with commit own_made;
+      disk = disk_there D at named ends are lack.front (event ∷ lack.back) lack.whole volume;
+      done = done_there D at named ends are lack.front (event ∷ lack.back) lack.whole volume imagines;
+      volume = volume_is;
+    }
+
+    abbrev from : Sources
+    from = sources_of lack.making (entries_at place)
+
+    tells : CoreTells volume done place.pair from
+    tells = mades_tell place made_there
+
+    led : LookBrings volume from tells.gathered.plans
+    led = looks_bring volume done commit from tells.may tells.gathered
+
+    planned : PlansFsync volume from
+    planned = record {
+      ready = tells.may.stands.between;
+      keeps = tells.gathered.keeps;
+      short = tells.may.short;
+      orderly = tells.gathered.orderly;
+      gathers = beside (record {
+        late = commit.late;
+        counts = commit.counts;
+        logs = tells.gathered.logs;
+        knows = subst (λ (look : Look). Knows
+            (record { first = volume.first; history = volume.history; counts = commit.counts; late = commit.late; look = look }) volume.cut volume.inodes)
+            (sym tells.gathered.look) (knows volume done commit from tells.may tells.gathered);
+      });
+      concern_is = tells.gathered.concern_is;
+      old_is = tells.gathered.old_is;
+      file_is = tells.gathered.file_is;
+      plans = tells.gathered.plans;
+    }
+
+    abbrev planning : Planning
+    planning = planning_led volume from led.led.leads
+
+    lack_look : TellsLack volume short.space turn told
+    unfolding planned tells
+    lack_look =
+        let tied = led_plans_are_tied volume from tells.may.stands planned led.led in
+        record {
+          planning = planning;
+          plans = record { has = tied.has; touched = tied.touched; own = lack.flush_is };
+          lacks = record {
+            inodes = subst (λ (c : Planned). count_by enters c.seats < 2 ^ 32) led.led.leads.made lack.inodes;
+            blocks = λ enough. blocks_low volume planning tied.has
+                (let few = few_inodes (beside_at (keeping_at D at named ends are) (map_place short.space)) short.space (right_there short.space short.goes) in
+                let long = length-free_from short.space.inodes.first short.space.inodes.statuses in omega (arith, enough, few, long));
+            short = ap (λ (c : Planned). shortage short.space (need_planned c)) (sym led.led.leads.made) ∙ same_short;
+          };
+        }
+
+  -- It was made by its own file.
+  module _ (file : OwnMade (run_at at) lack.making) where
+    abbrev own : OwnFileMaking
+    own = file.own
+
+    abbrev commit_own : CoreCommit
+    commit_own = own_commit (run_with volume done) (own_flush own) (making_own volume own (past.commits + 1)).numbers
+
+    own_made_so : IsMadeAs commit_own (past.commits + 1) lack.seen
+    own_made_so = record {
+      number_is = refl;
+      holds = λ node. sym (concerns_own (run_at at) lack.making file node) ∙ lack.sees.holds node;
+      last = λ node last is.
+          let concerned = lack.sees.holds node ∙ ap is_some is in
+          let number : node ≡ own.node = eqb-true node own.node (sym (concerns_own (run_at at) lack.making file node) ∙ concerned) in
+          sym (ap last_of_seen (ap lack.making.noted.pending number ∙ file.saw)) ∙ lack.sees.last node last is;
+    }
+
+    box_own : BoxKnows (run_at at) box_made (all_done D at named ends are) commit_own
+    box_own = knows_with commit_own own_made_so
+
+    known : OwnKnown (run_at at) own done_beside
+    known = record {
+      table = ends.table;
+      made = file.made;
+      told = box_own.told;
+      knew = box_own.unmoved.knew own.node (same_number own.node);
+      disk = disk_there D at named ends are lack.front (event ∷ lack.back) lack.whole volume;
+      done = done_there D at named ends are lack.front (event ∷ lack.back) lack.whole volume imagines;
+      volume = volume_is;
+    }
+
+    abbrev of_own : OwnMaking
+    of_own = making_own volume own (past.commits + 1)
+
+    makes_own : MakesOwnFile volume done of_own
+    makes_own = makes (run_at at) own done_beside known (past.commits + 1)
+
+    abbrev planning_own : Planning
+    planning_own = planned_own volume done of_own makes_own
+
+    change_own : lack.making.plan.change ≡ change_planned planning_own.plan
+    change_own = file.change_is ∙ ap (λ (l : List OldEntry). planned l [] own.files [] []) file.old_is
+
+    lack_own : TellsLack volume short.space turn told
+    lack_own = record {
+      planning = planning_own;
+      plans = record {
+        has = has_plan volume done of_own makes_own;
+        touched = touched volume done of_own makes_own;
+        own = sym file.flush_is ∙ lack.flush_is;
+      };
+      lacks = record {
+        inodes = subst (λ (c : Planned). count_by enters c.seats < 2 ^ 32) change_own lack.inodes;
+        blocks = λ enough. blocks_low volume planning_own (has_plan volume done of_own makes_own)
+            (let few = few_inodes (beside_at (keeping_at D at named ends are) (map_place short.space)) short.space (right_there short.space short.goes) in
+            let long = length-free_from short.space.inodes.first short.space.inodes.statuses in omega (arith, enough, few, long));
+        short = ap (λ (c : Planned). shortage short.space (need_planned c)) (sym change_own) ∙ same_short;
+      };
+    }
+
+  lack_so : MadeIn (run_at at) lack.making → TellsLack volume short.space turn told
+  lack_so (of_notes core) = lack_look core
+  lack_so (of_file file) = lack_own file
+
   pub lack_told : TellsLack volume short.space turn told
-  unfolding planned tells
-  lack_told =
-      let tied = led_plans_are_tied volume from tells.may.stands planned led.led in
-      record {
-        planning = planning;
-        plans = record { has = tied.has; touched = tied.touched; own = lack.flush_is };
-        lacks = record {
-          inodes = subst (λ (c : Planned). count_by enters c.seats < 2 ^ 32) led.led.leads.made lack.inodes;
-          blocks = λ enough. blocks_low volume planning tied.has
-              (let few = few_inodes (beside_at (keeping_at D at named ends are) (map_place short.space)) short.space (right_there short.space short.goes) in
-              let long = length-free_from short.space.inodes.first short.space.inodes.statuses in omega (arith, enough, few, long));
-          short = ap (λ (c : Planned). shortage short.space (need_planned c)) (sym led.led.leads.made) ∙ same_short;
-        };
-      }
+  lack_told = lack_so lack.made_in
 
 pub made_lacks_are_told : (D : Type 0) → MadeLacksAreTold D
 made_lacks_are_told D at named most ends are few lacks front turn told short =

@@ -1,36 +1,35 @@
 -- Which fsyncs became durable by the end of a mount, and of which one each told commit is.
 use Rattle.std.proofs.Common.{◌≡◌, ◌∷◌, ◌<◌, ◌∙◌, List, filter_map, [], inr, inl, refl, ap, Option, None, Some, ℕ, length, slice_get, arith, nat_eq, subst, flat_map, sym}
 use Rattle.std.proofs.lemmas.Option.{slice_get_cases}
+use Rattle.sfs_base.proofs.BasicNumbers.{same_number, not_same}
+use Rattle.space_map.specs.Space.{GrantedNumbers}
 use Rattle.tree_laws.specs.declared.turns.Turn.{Turn}
 use Rattle.tree_laws.specs.declared.turns.TurnAct.TheVariants as act
 use Rattle.disk_nodes.specs.OldKept.{OldKept}
-use Rattle.disk_nodes.specs.declared.old.OldEntry.{OldEntry}
 use Rattle.disk_change.specs.AllBuilt.{after_commit}
 use Rattle.disk_change.specs.Directory.{is_among}
+use Rattle.disk_change.specs.Planned.{Planned}
 use Rattle.commit_laws.specs.CommitOfPlan.{change_planned}
 use Rattle.cut_laws.specs.Rules.{IsOneOf}
 use Rattle.cut_laws.specs.Closure.{Flush}
 use Rattle.cut_laws.proofs.Basics.{below_or, filter_none}
 use Rattle.cut_laws.proofs.Listed.{to_filter}
 use Rattle.cut_laws.proofs.RunFacts.{in_filter}
-use Rattle.mem_values.proofs.Told.{own_commit}
-use Rattle.stamp_table.specs.Rule.{entries_by}
-use Rattle.sfs_base.proofs.BasicNumbers.{same_number, not_same}
-use Rattle.beside_laws.specs.Commits.{CoreCommit}
 use Rattle.dep_closure.proofs.Looked.{to_flat}
 use Rattle.merge_laws.specs.Pens.{turns_of_core}
 use Rattle.merge_laws.proofs.Lists.{in_part}
-use Rattle.book_laws.specs.Brings.{Bringing}
 use Rattle.book_laws.specs.Pairs.{commit_under, bringing_under}
 use Rattle.reserve_laws.specs.Olds.{IsKeptIn}
+use Rattle.stamp_table.specs.Rule.{entries_by}
 use Rattle.stamp_table.specs.declared.event.Event.{Event}
 use Rattle.stamp_table.specs.Events.{event_core}
 use Rattle.stamp_table.specs.declared.event.Event.TheVariants.{Called, Told}
 use Rattle.mem_values.specs.declared.fact.Fact.{Fact}
 use Rattle.mem_values.specs.Account.{Commitment, commit_told, account_of}
 use Rattle.mem_values.specs.declared.fact.Fact.TheVariants.{Trimmed, Committed}
+use Rattle.mem_values.proofs.Told.{own_commit}
 use Rattle.note_laws.specs.Run.{TellsCommit}
-use Rattle.made_laws.specs.Tells.{commit_made, IsMadeCommit, by_notes}
+use Rattle.made_laws.specs.Tells.{IsMadeCommit}
 use Rattle.slot_laws.specs.Telling.{turns_in, events_in, BoxTurn, turns_told, labels_in}
 use Rattle.slot_laws.specs.Labels.{own_from, nothing_told}
 use Rattle.slot_laws.specs.declared.label.Label.{Label}
@@ -43,7 +42,6 @@ use Rattle.flush_agrees.specs.Closing.{ToldAtEnd}
 use Rattle.end_laws.specs.Mount.{MountEnd, IsFsyncAt, run_at, MountEnds, AreNamedAlong}
 use Rattle.end_laws.specs.Laws.{PensToldAt}
 use Rattle.end_laws.proofs.Told.{named_pens_tell}
-use Rattle.end_laws.proofs.Plans.{same_commit_made, brings_of, keeps_of, nodes_of}
 
 -- a commit that a log tells is told by an event of its core
 told_event : (log : List (Event Fact)) (told : Commitment) → IsOneOf (filter_map commit_told log) told
@@ -188,44 +186,27 @@ module _ (D : Type 0) (at : MountEnd) (named : Numbered) (ends : MountEnds D at)
   -- the number of what was made has the stamp of its fsync, and is that of its pair
   pub pair_number : (one : FlushTold) (there : IsFsyncAt at one) (made : FlushMade) → one.made ≡ Some made
       → (commit_under named.pairs one.flush.stamp).number ≡ made.number
-  pair_number one there made is = ap (λ (c : CoreCommit). c.number) (are.pair one made there is).commit
+  pair_number one there made is = (are.pair one made there is).commit.number_is
 
   -- what an fsync told is its pair's commit
   pub tells_pair : (one : FlushTold) (there : IsFsyncAt at one) (made : FlushMade) → one.made ≡ Some made → (told : Commitment)
       → ToldAtEnd (run_at at) made told → TellsCommit (run_at at) (commit_under named.pairs one.flush.stamp) told
-  tells_pair one there made is told tells =
-      let pair = are.pair one made there is in
-      subst (λ c. TellsCommit (run_at at) c told)
-      (same_commit_made (run_at at) made.making tells.tells.made.plans pair.made_in.plans told.number
-      ∙ (ap (commit_made (run_at at) made.making pair.made_in.plans) tells.number_is ∙ sym pair.commit))
-      tells.tells.tells
+  tells_pair one there made is told tells = (are.pair one made there is).tells told tells
 
   -- so it is made
   pub pair_made : (one : FlushTold) (there : IsFsyncAt at one) (made : FlushMade) → one.made ≡ Some made
       → IsMadeCommit (run_at at) (commit_under named.pairs one.flush.stamp)
-  pair_made one there made is =
-      let pair = are.pair one made there is in
-      by_notes made.making pair.made_in
-      (pair.commit ∙ ap (commit_made (run_at at) made.making pair.made_in.plans) (sym (pair_number one there made is)))
+  pair_made one there made is = (are.pair one made there is).made_so
 
   -- and the pair brings its change, of the nodes that it concerns
-  brings_as : (one : FlushTold) (there : IsFsyncAt at one) (made : FlushMade) (is : one.made ≡ Some made)
-      → bringing_under named.pairs one.flush.stamp ≡ brings_of (are.pair one made there is).is.volume made (are.pair one made there is).is.made_in.plans
-  brings_as one there made is =
-      ap (bringing_under named.pairs) (sym (are.stamps one made there is)) ∙ (are.pair one made there is).is.one
-
   pub pair_keeps : (one : FlushTold) (there : IsFsyncAt at one) (made : FlushMade) → one.made ≡ Some made → (node : ℕ) (kept : Option OldKept)
       → LeavesOfNode made node kept
       → IsKeptIn (after_commit (change_planned (bringing_under named.pairs one.flush.stamp).plan) (bringing_under named.pairs one.flush.stamp).grant) node kept
   pair_keeps one there made is node kept leaves =
-      let pair = (are.pair one made there is).is in
-      subst (λ (l : List OldEntry). IsKeptIn l node kept)
-      (sym (ap (λ (b : Bringing). after_commit (change_planned b.plan) b.grant) (brings_as one there made is) ∙ keeps_of pair.volume made pair.made_in.plans))
-      leaves
+      let brings = (are.pair one made there is).brings in
+      subst (λ (z : Planned × GrantedNumbers). IsKeptIn (after_commit z.0 z.1) node kept) (λ i. (sym brings.change i, sym brings.grant i)) leaves
 
   pub pair_nodes : (one : FlushTold) (there : IsFsyncAt at one) (made : FlushMade) → one.made ≡ Some made → (node : ℕ)
       → is_among (bringing_under named.pairs one.flush.stamp).nodes node ≡ (commit_under named.pairs one.flush.stamp).holds node
   pair_nodes one there made is node =
-      let pair = (are.pair one made there is).is in
-      ap (λ (b : Bringing). is_among b.nodes node) (brings_as one there made is)
-      ∙ (nodes_of pair.volume made pair.made_in.plans node ∙ ap (λ (c : CoreCommit). c.holds node) (sym (are.pair one made there is).commit))
+      let pair = are.pair one made there is in pair.brings.nodes node ∙ sym (pair.commit.holds node)

@@ -1,8 +1,8 @@
 -- What a commit leaves of nodes that are well kept is well kept.
 use Rattle.std.specs.Prelude.{slice_index}
 use Rattle.std.specs.List.{range_with_len}
-use Rattle.std.proofs.Common.{◌≡◌, ◌≢◌, ◌+◌, ◌-◌, ◌<◌, ◌≤◌, ◌^◌, ◌&&◌, ◌∷◌, ◌∙◌, ℕ, zero, suc, Bool, true, false, cond, List, [], length, map, take, drop, min, Option, Some, sum_by, refl, sym, ap, subst, arith, Contains, nat_lt, nat_eq, get_or, eqb-true}
-use Rattle.std.proofs.lemmas.Bool.{cond-false, le-ltb, eqb-true}
+use Rattle.std.proofs.Common.{◌≡◌, ◌≢◌, ◌+◌, ◌-◌, ◌<◌, ◌≤◌, ◌^◌, ◌&&◌, ◌∷◌, ◌∙◌, ℕ, zero, suc, Bool, true, false, cond, List, [], length, map, take, drop, min, Option, Some, sum_by, refl, sym, ap, subst, arith, Contains, nat_lt, nat_eq, get_or}
+use Rattle.std.proofs.lemmas.Bool.{eqb-true, cond-false, le-ltb}
 use Rattle.std.proofs.lemmas.List.{length-take, length-drop}
 use Rattle.std.proofs.lemmas.List.Sums.{sum_by-cons}
 use Rattle.sfs_base.specs.declared.numbers.NodeId.{NodeId}
@@ -12,6 +12,7 @@ use Rattle.sfs_base.proofs.BasicOptions.{none_some}
 use Rattle.sfs_image.specs.Inode.{Inode, Table}
 use Rattle.sfs_image.specs.Slot.{kind_byte}
 use Rattle.sfs_image.specs.Seen.{FILE_BLOCKS, PLACES}
+use Rattle.sfs_image.specs.Super.{Layout}
 use Rattle.sfs_image.proofs.Basics.{get_or-tabulate, found_passes}
 use Rattle.space_map.specs.declared.grant.Need.{Need}
 use Rattle.space_map.specs.Space.{GrantedNumbers}
@@ -35,7 +36,9 @@ use Rattle.disk_change.proofs.NumbersGiven.{further_in}
 use Rattle.commit_laws.proofs.Granted.{given_by, in_dropped, low_place}
 use Rattle.commit_laws.proofs.OwnInodes.{ascending_is_in, mapped_is_in}
 use Rattle.commit_laws.proofs.Shown.{found_is_in}
-use Rattle.end_laws.specs.Frees.{CommitsLeaveWell}
+use Rattle.made_laws.specs.Made.{of_notes, of_file}
+use Rattle.flush_agrees.specs.Made.{FlushMade, change_of}
+use Rattle.end_laws.specs.Frees.{CommitsLeaveWell, WasGranted}
 use Rattle.end_laws.specs.Kept.{AreWellKept, IsWellKept}
 use Rattle.end_laws.proofs.Frees.{BeginsWell, IsSeatOf, has_begun, seat_is}
 use Rattle.end_laws.proofs.Unwritten.{nothing_in}
@@ -177,14 +180,20 @@ module _ (old : List OldEntry) (nets : List DirectoryNet) (files : List FileChan
       (of_seat has.begun has.begins one.seat (subst (IsSeatOf has.begun) has.is (seat_is change.changes has.begun)) one.fresh one.enough
       (λ block own. some block (one.own block own)))
 
-pub commits_leave_well : CommitsLeaveWell
-commits_leave_well run layout made core well granted =
-    let plans = core.plans in
-    let need : min (sum_by blocks_taken made.making.plan.change.seats) (2 ^ 32 - 1) ≡ length made.grant.blocks =
-    ap (λ (n : Need). n.blocks) granted.grants.need in
+-- the blocks that the plan takes were granted
+blocks_granted : (layout : Layout) (made : FlushMade) → WasGranted layout made → sum_by blocks_taken (change_of made).seats ≤ length made.grant.blocks
+blocks_granted layout made granted =
+    let need : min (sum_by blocks_taken (change_of made).seats) (2 ^ 32 - 1) ≡ length made.grant.blocks = ap (λ (n : Need). n.blocks) granted.grants.need in
     let few = granted.few in
-    let most = granted.grants.blocks in
-    let all : sum_by blocks_taken made.making.plan.change.seats ≤ length made.grant.blocks = omega (arith, need, few, most) in
+    let most = granted.grants.blocks in omega (arith, need, few, most)
+
+pub commits_leave_well : CommitsLeaveWell
+commits_leave_well run layout made (of_notes core) well granted =
+    let plans = core.plans in
     subst (λ (change : Planned). AreWellKept (after_commit change made.grant)) (sym plans.made)
     (left_well made.making.old _ _ plans.enter made.making.plan.leave.items made.grant well granted.some
-    (subst (λ (change : Planned). sum_by blocks_taken change.seats ≤ length made.grant.blocks) plans.made all))
+    (subst (λ (change : Planned). sum_by blocks_taken change.seats ≤ length made.grant.blocks) plans.made (blocks_granted layout made granted)))
+commits_leave_well run layout made (of_file own) well granted =
+    subst (λ (change : Planned). AreWellKept (after_commit change made.grant)) (sym own.change_is)
+    (left_well made.making.old [] own.own.files [] [] made.grant well granted.some
+    (subst (λ (change : Planned). sum_by blocks_taken change.seats ≤ length made.grant.blocks) own.change_is (blocks_granted layout made granted)))

@@ -1,3 +1,5 @@
+pub mod Cuts
+pub mod Making
 pub mod Fitting
 pub mod Fronts
 pub mod Fsyncs

@@ -1,23 +1,15 @@
 -- What a core made for an fsync is one commit, whichever proof says that its plan is made so; and what the pair of it brings.
-use Rattle.std.proofs.Common.{◌≡◌, ◌↔◌, Bool, true, refl, false, sym, ℕ, map, ap, length, [], List}
+use Rattle.std.proofs.Common.{◌≡◌, ◌↔◌, Bool, true, refl, false, sym, ℕ, map, ap, length, []}
 use Rattle.sfs_base.specs.Listed.{is_listed}
-use Rattle.sfs_base.specs.declared.numbers.NodeId.{NodeId}
 use Rattle.tree_laws.specs.NameRow.{node_number}
 use Rattle.disk_change.specs.Nodes.{enter_node}
-use Rattle.disk_change.specs.AllBuilt.{after_commit}
-use Rattle.disk_change.specs.Directory.{is_among}
-use Rattle.commit_laws.specs.CommitOfPlan.{change_planned}
 use Rattle.dep_closure.specs.Gathered.{look_of}
-use Rattle.flush_laws.specs.Volume.{Volume}
 use Rattle.flush_plan.specs.Moved.{cuts_after}
 use Rattle.plan_laws.specs.Leads.{found_from}
-use Rattle.book_laws.specs.Brings.{Bringing}
-use Rattle.reserve_laws.specs.Plans.{bringing_made}
 use Rattle.note_laws.specs.Run.{TableRun, calls_of}
 use Rattle.note_laws.specs.Merged.{is_noted_by}
 use Rattle.made_laws.specs.Made.{CoreMaking, IsPlanMade, is_concerned, sources_of}
 use Rattle.made_laws.specs.Tells.{commit_made, earliest, mark_made, last_of_seen}
-use Rattle.flush_agrees.specs.Made.{FlushMade, change_of}
 
 -- tests that are true of the same are one
 same_test : {X : Type 0} (one other : Bool) → (one ≡ true) ↔ X → (other ≡ true) ↔ X → one ≡ other
@@ -53,14 +45,3 @@ same_commit_made run making one other number =
         loses = is_listed (map node_number making.plan.leave.items);
       };
     }) (λ i node. same_gets making one other node i)
-
--- what is brought of something that was made: its change with its grant, of the nodes that it concerns
-module _ (volume : Volume) (made : FlushMade) (plans : IsPlanMade made.making) where
-  abbrev pub brings_of : Bringing
-  brings_of = bringing_made volume (sources_of made.making []) plans made.grant
-
-  pub keeps_of : after_commit (change_planned brings_of.plan) brings_of.grant ≡ after_commit (change_of made) made.grant
-  keeps_of = ap (λ c. after_commit c made.grant) (sym plans.made)
-
-  pub nodes_of : (node : ℕ) → is_among brings_of.nodes node ≡ is_concerned made.making node
-  nodes_of node = ap (λ (l : List NodeId). is_listed (map node_number l) node) plans.nodes

@@ -16,12 +16,13 @@ use Rattle.mem_values.specs.declared.fact.Fact.{Fact}
 use Rattle.mem_values.specs.declared.fact.HeldNode.{HeldNode}
 use Rattle.note_laws.specs.Run.{TableRun}
 use Rattle.note_laws.proofs.Saws.{last_is_one}
-use Rattle.made_laws.specs.Made.{CoreMade, CoreMaking, is_concerned, old_of}
+use Rattle.made_laws.specs.Made.{CoreMaking, is_concerned, old_of, MadeIn}
 use Rattle.made_laws.specs.Tells.{last_of_seen}
 use Rattle.end_laws.specs.Kept.{AreWellKept, IsWellKept}
 use Rattle.end_laws.specs.Runs.{AreToldWell, IsGivenWell, RunsFreeNothing, RunsKeepWell}
 use Rattle.end_laws.proofs.Frees.{mades_free_nothing}
 use Rattle.end_laws.proofs.Left.{commits_leave_well}
+use Rattle.end_laws.proofs.Making.{saw_old, sees_flushed, making_told}
 
 -- what is told in the first part of a log is told in all of it
 in_whole : (at rest log : List (Event Fact)) → at ++ rest ≡ log → (told : Commitment) → IsOneOf (account_of at).commits told
@@ -56,18 +57,18 @@ module _ (run : TableRun) (layout : Layout) (given : IsGivenWell run) (all : Are
           (sym (ap (λ (f : Flushed). f.old) same) ∙ is)
 
   -- so what a core made something of is well kept, where it knew of commits below a bound
-  made_well : (bound : ℕ) → AreWellBelow bound → (making : CoreMaking) → CoreMade run making
+  made_well : (bound : ℕ) → AreWellBelow bound → (making : CoreMaking) → MadeIn run making
       → (entry : OldEntry) → Contains making.old entry → last_of_seen (making.noted.pending entry.node.0) < bound → IsWellKept entry.old.kept
   made_well bound below making made entry there few = by (making.noted.pending entry.node.0) refl
     where
       one : (is_concerned making entry.node.0 ≡ true) × (old_of (making.noted.pending entry.node.0) ≡ Some entry.old)
-      one = (made.old_is.each entry.node.0 entry.old).0 there
+      one = saw_old run making made entry there
 
       by : (o : Option Pending) → making.noted.pending entry.node.0 ≡ o → IsWellKept entry.old.kept
       by None none = absurd (none_some (sym (ap old_of none) ∙ one.1))
       by (Some value) saw =
-          let note = made.notes.each 0 made.some_core in
-          seen_well bound below (making.noted.notes 0).at note.rest note.whole entry.node.0 value (note.stands entry.node.0 value saw).flushed
+          let sees = sees_flushed run making made entry.node.0 value one.0 saw in
+          seen_well bound below sees.at sees.rest sees.whole entry.node.0 value sees.flushed
           (subst (λ (o : Option Pending). last_of_seen o < bound) saw few) entry.old (sym (ap old_of saw) ∙ one.1)
 
   all_below : (bound : ℕ) → AreWellBelow bound
@@ -75,15 +76,15 @@ module _ (run : TableRun) (layout : Layout) (given : IsGivenWell run) (all : Are
   all_below (suc bound) told there low node held holds old is =
       let one = all told there in
       let made = one.made in
-      let core = one.tells.tells.made in
+      let core = making_told run made.making told one.tells.tells in
       let number = one.tells.number_is in
       let well : AreWellKept made.making.old = λ entry kept.
-      let concerned = ((core.old_is.each entry.node.0 entry.old).0 kept).0 in
+      let concerned = (saw_old run made.making core entry kept).0 in
       let less = one.above entry.node.0 concerned in
       made_well bound (all_below bound) made.making core entry kept (omega (arith, less, number, low)) in
       commits_leave_well run layout made core well one.granted (entry_keyed (node, old)) ((one.tells.wrote node held holds old).0 is)
 
-  pub run_well : (making : CoreMaking) → CoreMade run making → AreWellKept making.old
+  pub run_well : (making : CoreMaking) → MadeIn run making → AreWellKept making.old
   run_well making made entry there =
       let bound = suc (last_of_seen (making.noted.pending entry.node.0)) in
       made_well bound (all_below bound) making made entry there (omega arith)

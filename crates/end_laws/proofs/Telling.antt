@@ -1,27 +1,34 @@
 -- Along the labels of a mount each core tells of its pair as it reserves a number.
-use Rattle.std.proofs.Common.{◌≡◌, ◌++◌, ◌∷◌, ◌∙◌, List, ℕ, subst, sym, ap, map, [], append_assoc, refl}
+use Rattle.std.proofs.Common.{◌≡◌, ◌++◌, ◌∷◌, ◌∙◌, List, ℕ, subst, sym, ap, map, [], append_assoc, refl, is_some}
 use Rattle.sfs_base.specs.declared.numbers.CoreId.{CoreId}
 use Rattle.sfs_base.specs.Lists.{Roomy}
+use Rattle.sfs_base.proofs.BasicNumbers.{same_number}
 use Rattle.sfs_image.specs.Super.{Layout}
 use Rattle.space_map.specs.Space.{GrantedNumbers}
+use Rattle.disk_change.specs.AllBuilt.{entry_keyed}
 use Rattle.cut_laws.specs.Rules.{IsOneOf}
+use Rattle.cut_laws.specs.Cut.{cut_of}
 use Rattle.cut_laws.proofs.Basics.{in_left}
 use Rattle.beside_laws.specs.Box.{BoxGoesOn, NO_COMMIT, BoxState}
 use Rattle.beside_laws.specs.Commits.{CoreCommit}
 use Rattle.flush_laws.specs.Volume.{Volume}
 use Rattle.book_laws.specs.Imagined.{Imagines}
 use Rattle.book_laws.specs.Brings.{Bringing}
-use Rattle.book_laws.specs.Pairs.{commit_under, bringing_under}
+use Rattle.book_laws.specs.Pairs.{commit_under, bringing_under, run_with}
 use Rattle.reserve_laws.specs.Plans.{bringing_made}
 use Rattle.reserve_laws.specs.Fits.{TellsPair, by_look}
+use Rattle.reserve_laws.specs.Olds.{DoneBeside}
+use Rattle.reserve_laws.specs.OwnFile.{bringing_own}
 use Rattle.stamp_table.specs.declared.event.Event.{Event}
 use Rattle.stamp_table.specs.declared.event.Event.TheVariants.{Told, Called}
 use Rattle.note_laws.specs.Run.{TableRun}
 use Rattle.note_laws.specs.Joined.{BoxKnows}
-use Rattle.made_laws.specs.Made.{sources_of}
+use Rattle.made_laws.specs.Made.{sources_of, CoreMade, OwnMade, own_flush, OwnFileMaking}
 use Rattle.made_laws.specs.Tells.{commit_made}
-use Rattle.tell_laws.specs.Tells.{MadePlace, IsPairMade, MadeThere, entries_at}
+use Rattle.made_laws.specs.Own.{commit_of_own}
+use Rattle.tell_laws.specs.Tells.{MadePlace, MadeThere, entries_at, IsVolumeThere, making_own, OwnPlace}
 use Rattle.tell_laws.proofs.Telling.{mades_tell}
+use Rattle.tell_laws.proofs.Own.{OwnKnown, commit_same, owns_tell}
 use Rattle.slot_laws.specs.Labels.{BoxPast, first_past, past_from}
 use Rattle.slot_laws.specs.declared.label.Label.{Label}
 use Rattle.slot_laws.specs.declared.label.Seen.{Seen}
@@ -35,9 +42,15 @@ use Rattle.close_laws.specs.Maps.{Numbered, IsTold, commit_numbered}
 use Rattle.close_laws.specs.Beside.{stamps_under, brought_at, PairsAt, TellsAt, TellAlong}
 use Rattle.end_laws.specs.Mount.{MountEnd, MountEnds, AreNamedAlong, run_at, IsPairOf, ReservedAt}
 use Rattle.end_laws.specs.Along.{NamedTellAlong}
+use Rattle.end_laws.specs.Cuts.{cuts_left, lift_of}
+use Rattle.end_laws.specs.Pairs.{IsPairThere, of_look, of_own}
 use Rattle.end_laws.proofs.Places.{told_labels, PlaceHere, place_behind, end_past, end_lands, goes_to_end, all_done, done_of_all, done_told, beside_there, all_made, disk_there, done_there, volume_there}
 use Rattle.end_laws.proofs.Reserved.{ReservedFor, reserved_for}
 use Rattle.end_laws.proofs.Boxes.{ReservesHere, made_of, commits_under, unmoved_here, gives_here}
+use Rattle.end_laws.proofs.Cuts.{cuts_are_left}
+use Rattle.std.specs.FinMap.{get}
+use Rattle.beside_laws.specs.OwnFile.{own_commit}
+use Rattle.reserve_laws.specs.OwnFile.{own_pair}
 
 module _ (D : Type 0) (at : MountEnd) (named : Numbered) (ends : MountEnds D at) (are : AreNamedAlong at named) where
   abbrev begun : BoxPast
@@ -120,17 +133,19 @@ module _ (D : Type 0) (at : MountEnd) (named : Numbered) (ends : MountEnds D at)
           told = done_told D at named ends are front (event ∷ back) whole;
         })
 
+    -- the pair under the fsync's stamp
+    abbrev own_stamp : ℕ
+    own_stamp = of_one.one.flush.stamp
+
+    knows_pair : BoxKnows run box_made (all_done D at named ends are) (commit_under named.pairs own_stamp)
+    knows_pair = subst (λ s. BoxKnows run box_made (all_done D at named ends are) (commit_under named.pairs s)) stamp_same box_knows
+
     module _ (volume : Volume) (imagines : Imagines at.start (brought_at named past) volume) (beside : PairsAt named past volume) where
-      abbrev place : MadePlace
-      place = record {
-        run = run;
-        making = of_one.made.making;
-        pair = named.pairs (named.stamps number);
-        beside = beside_there D at named ends are front (event ∷ back) whole volume;
-        opens = map (made_of named) past.opens;
-        number = past.commits;
-        all = all_done D at named ends are;
-      }
+      abbrev commits_done : List CoreCommit
+      commits_done = map (commit_under named.pairs) (stamps_under named past.done)
+
+      abbrev done_beside : DoneBeside
+      done_beside = beside_there D at named ends are front (event ∷ back) whole volume
 
       -- the number was reserved there
       reserved_there : ReservedAt at.told of_one.made.number front
@@ -142,34 +157,119 @@ module _ (D : Type 0) (at : MountEnd) (named : Numbered) (ends : MountEnds D at)
         whole = subst (λ n. at.told.log ≡ front ++ Told core (label.Reserved n seen grant) ∷ back) of_one.number_is whole;
       }
 
-      brings : bringing_under named.pairs (named.stamps number)
-          ≡ bringing_made volume (sources_of of_one.made.making []) pair_is.made_in.plans of_one.made.grant
-      brings = ap (bringing_under named.pairs) stamp_same ∙ pair_is.brings front volume reserved_there imagines
+      volume_is : IsVolumeThere run volume commits_done
+      volume_is = volume_there D at named ends are front (event ∷ back) whole volume imagines beside
 
-      commits : commit_under named.pairs (named.stamps number) ≡ commit_made run of_one.made.making pair_is.made_in.plans of_one.made.number
-      commits = ap (commit_under named.pairs) stamp_same ∙ pair_is.commit
+      -- by what was noted
+      module _ (made_in : CoreMade run of_one.made.making)
+          (commits : commit_under named.pairs own_stamp ≡ commit_made run of_one.made.making made_in.plans of_one.made.number)
+          (brings : bringing_under named.pairs own_stamp ≡ bringing_made volume (sources_of of_one.made.making []) made_in.plans of_one.made.grant) where
+        abbrev place : MadePlace
+        place = record {
+          run = run;
+          making = of_one.made.making;
+          pair = named.pairs own_stamp;
+          beside = done_beside;
+          opens = map (made_of named) past.opens;
+          number = past.commits;
+          all = all_done D at named ends are;
+        }
 
-      pair_made_so : IsPairMade place pair_is.made_in.plans
-      pair_made_so = record {
-        commit = commits ∙ ap (commit_made run of_one.made.making pair_is.made_in.plans) (sym (ap (λ (c : CoreCommit). c.number) commits));
-        one = brings
-            ∙ ap (bringing_made volume (sources_of of_one.made.making []) pair_is.made_in.plans) (sym (ap (λ (b : Bringing). b.grant) brings));
-      }
+        made_there : MadeThere place
+        made_there = record {
+          table = ends.table;
+          made = made_in;
+          pair = record {
+            commit = commits ∙ ap (commit_made run of_one.made.making made_in.plans) (sym (ap (λ (c : CoreCommit). c.number) commits));
+            one = brings
+                ∙ ap (bringing_made volume (sources_of of_one.made.making []) made_in.plans) (sym (ap (λ (b : Bringing). b.grant) brings));
+          };
+          all_made = all_made D at named ends are;
+          box_knows = knows_pair;
+          disk = disk_there D at named ends are front (event ∷ back) whole volume;
+          done = done_there D at named ends are front (event ∷ back) whole volume imagines;
+          volume = volume_is;
+        }
 
-      made_there : MadeThere place
-      made_there = record {
-        table = ends.table;
-        made = pair_is.made_in;
-        pair = pair_made_so;
-        all_made = all_made D at named ends are;
-        box_knows = box_knows;
-        disk = disk_there D at named ends are front (event ∷ back) whole volume;
-        done = done_there D at named ends are front (event ∷ back) whole volume imagines;
-        volume = volume_there D at named ends are front (event ∷ back) whole volume imagines beside;
-      }
+        tells_look : TellsPair volume commits_done (named.pairs own_stamp)
+        tells_look = by_look (sources_of of_one.made.making (entries_at place)) (mades_tell place made_there)
 
-      tells_there : TellsPair volume (map (commit_under named.pairs) (stamps_under named past.done)) (named.pairs (named.stamps number))
-      tells_there = by_look (sources_of of_one.made.making (entries_at place)) (mades_tell place made_there)
+      -- by its own file
+      module _ (one_file : OwnMade run of_one.made.making)
+          (commits : commit_under named.pairs own_stamp
+          ≡ commit_of_own volume.first volume.history (cuts_left (map lift_of commits_done)) one_file.own of_one.made.number)
+          (brings : bringing_under named.pairs own_stamp
+          ≡ bringing_own volume (own_flush one_file.own) (entry_keyed (one_file.own.node, one_file.own.kept)) one_file.own.files of_one.made.grant) where
+        abbrev own : OwnFileMaking
+        own = one_file.own
+
+        box_own : BoxKnows run box_made (all_done D at named ends are)
+            (commit_of_own volume.first volume.history (cuts_left (map lift_of commits_done)) own of_one.made.number)
+        box_own = subst (BoxKnows run box_made (all_done D at named ends are)) commits knows_pair
+
+        known : OwnKnown run own done_beside
+        known = record {
+          table = ends.table;
+          made = one_file.made;
+          told = box_own.told;
+          knew = box_own.unmoved.knew own.node (same_number own.node);
+          disk = disk_there D at named ends are front (event ∷ back) whole volume;
+          done = done_there D at named ends are front (event ∷ back) whole volume imagines;
+          volume = volume_is;
+        }
+
+        -- what those that are done have left is the volume's cut
+        cuts_same : cuts_left (map lift_of commits_done) ≡ cut_of volume.cut
+        cuts_same = λ i node.
+            cuts_are_left commits_done node (is_some (get volume.first.nodes node)) (record { stamp = cut_of volume.cut node; inode = volume.inodes node })
+            volume_is.standing.numbered (volume_is.standing.left node) i
+
+        commit_is : commit_under named.pairs own_stamp ≡ own_commit (run_with volume commits_done) (own_flush own) (making_own volume own of_one.made.number).numbers
+        commit_is =
+            commits
+            ∙ (ap (λ cuts. commit_of_own volume.first volume.history cuts own of_one.made.number) cuts_same
+            ∙ commit_same run own done_beside known of_one.made.number)
+
+        abbrev own_place : OwnPlace
+        own_place = record {
+          run = run;
+          own = own;
+          pair = named.pairs own_stamp;
+          beside = done_beside;
+          opens = map (made_of named) past.opens;
+          number = past.commits;
+          all = all_done D at named ends are;
+        }
+
+        number_same : (commit_under named.pairs own_stamp).number ≡ of_one.made.number
+        number_same = ap (λ (c : CoreCommit). c.number) commit_is
+
+        grant_same : (bringing_under named.pairs own_stamp).grant ≡ of_one.made.grant
+        grant_same = ap (λ (b : Bringing). b.grant) brings
+
+        pair_same : named.pairs own_stamp ≡ own_pair volume commits_done
+            (making_own volume own (commit_under named.pairs own_stamp).number) (bringing_under named.pairs own_stamp).grant
+        pair_same =
+            (λ i. record { commit = commit_is i; one = brings i })
+            ∙ (λ i. own_pair volume commits_done (making_own volume own (sym number_same i)) (sym grant_same i))
+
+        tells_own : TellsPair volume commits_done (named.pairs own_stamp)
+        tells_own = owns_tell own_place (record {
+          table = ends.table;
+          made = one_file.made;
+          pair = pair_same;
+          box_knows = knows_pair;
+          disk = known.disk;
+          done = known.done;
+          volume = volume_is;
+        })
+
+      tells_so : IsPairThere run of_one.made volume commits_done (named.pairs own_stamp) → TellsPair volume commits_done (named.pairs own_stamp)
+      tells_so (of_look core_made commits brings) = tells_look core_made commits brings
+      tells_so (of_own one_file commits brings) = tells_own one_file commits brings
+
+      tells_there : TellsPair volume commits_done (named.pairs (named.stamps number))
+      tells_there = subst (λ s. TellsPair volume commits_done (named.pairs s)) (sym stamp_same) (tells_so (pair_is.there front volume reserved_there imagines))
 
   -- at each place
   tells_here : (front back : List (Event Label)) (event : Event Label) → at.told.log ≡ front ++ event ∷ back

@@ -4,22 +4,21 @@ use Rattle.sfs_image.specs.Super.{Layout}
 use Rattle.fmt_journal.specs.declared.tx.Tx.{Tx}
 use Rattle.disk_change.specs.Written.{IsTransactionOf}
 use Rattle.flush_laws.specs.Volume.{Volume}
-use Rattle.reserve_laws.specs.Plans.{bringing_made}
 use Rattle.note_laws.specs.Run.{TableRun}
-use Rattle.made_laws.specs.Tells.{commit_made}
-use Rattle.made_laws.specs.Made.{CoreMade, sources_of}
 use Rattle.slot_laws.specs.Telling.{BoxTurn}
 use Rattle.slot_laws.specs.Nodes.{no_numbers}
 use Rattle.close_laws.specs.Maps.{Numbered, commit_numbered, bringing_of}
 use Rattle.close_laws.specs.PenLabels.{TurnFits}
 use Rattle.flush_agrees.specs.Made.{FlushMade, GrantsNeed, TurnMade, change_of}
+use Rattle.end_laws.specs.Pairs.{IsCommitOf, BringsMade}
+use Rattle.made_laws.specs.Made.{MadeIn}
 
 -- What was made for a number is what commits bring under its stamp: the commit as its core made it, and the plan with its grant, in some volume.
 pub record IsBroughtAs (run : TableRun) (named : Numbered) (made : FlushMade) : Type 0 where
-  pub made_in : CoreMade run made.making
-  pub commit : commit_numbered named made.number ≡ commit_made run made.making made_in.plans made.number
+  pub made_in : MadeIn run made.making
+  pub commit : IsCommitOf made (commit_numbered named made.number)
   pub volume : Volume
-  pub one : bringing_of named made.number ≡ bringing_made volume (sources_of made.making []) made_in.plans made.grant
+  pub brings : BringsMade made volume (bringing_of named made.number)
 
 -- Where what was planned has no record to write, with no grant, it gives nothing up.
 abbrev pub FreesNothing : FlushMade → Type 0

@@ -1,3 +1,5 @@
+pub mod Cuts
+pub mod Pairs
 pub mod Fitting
 pub mod Mount
 pub mod Laws

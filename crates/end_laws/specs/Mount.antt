@@ -12,16 +12,15 @@ use Rattle.mark_laws.specs.Changed.{HasShortFiles}
 use Rattle.book_laws.specs.Imagined.{Imagines}
 use Rattle.book_laws.specs.Pairs.{commit_under, bringing_under}
 use Rattle.reserve_laws.specs.Olds.{IsKeptIn}
-use Rattle.reserve_laws.specs.Plans.{bringing_made}
 use Rattle.stamp_table.specs.declared.event.Event.{Event}
 use Rattle.stamp_table.specs.declared.event.Event.TheVariants.{Told}
 use Rattle.stamp_table.specs.Events.{event_core}
 use Rattle.stamp_table.specs.Rule.{entries_by}
 use Rattle.mem_values.specs.declared.fact.Fact.{Fact}
 use Rattle.mem_values.specs.Start.{FileHand, FileState, given_by}
-use Rattle.note_laws.specs.Run.{TableRun, IsTableRun, calls_of}
-use Rattle.made_laws.specs.Made.{CoreMade, sources_of}
-use Rattle.made_laws.specs.Tells.{commit_made}
+use Rattle.mem_values.specs.Account.{Commitment}
+use Rattle.note_laws.specs.Run.{TableRun, IsTableRun, calls_of, TellsCommit}
+use Rattle.made_laws.specs.Tells.{IsMadeCommit}
 use Rattle.slot_laws.specs.declared.label.Label.{Label}
 use Rattle.slot_laws.specs.declared.label.Seen.{Seen}
 use Rattle.slot_laws.specs.declared.label.Label.TheVariants as label
@@ -29,12 +28,14 @@ use Rattle.slot_laws.specs.Labels.{first_past, nothing_told, own_from, past_from
 use Rattle.slot_laws.specs.Grants.{GoesAlong}
 use Rattle.slot_laws.specs.Laws.{AreOfCores, IsAtRest}
 use Rattle.disk_box.specs.Pens.{PenHand}
-use Rattle.close_laws.specs.Beside.{BeginsLabels, brought_at}
+use Rattle.close_laws.specs.Beside.{BeginsLabels, brought_at, stamps_under}
 use Rattle.close_laws.specs.Maps.{Numbered, Telling}
 use Rattle.flush_agrees.specs.Agreement.{CoresAgree, FlushTold, run_to}
-use Rattle.flush_agrees.specs.Closing.{AgreeAtEnd, HasStamps, MountLogs, ReachesEnd}
+use Rattle.flush_agrees.specs.Closing.{AgreeAtEnd, HasStamps, MountLogs, ReachesEnd, ToldAtEnd}
 use Rattle.flush_agrees.specs.Made.{FlushMade}
 use Rattle.end_laws.specs.Fitting.{FreesNothing, IsBroughtAs}
+use Rattle.end_laws.specs.Pairs.{IsCommitOf, BringsMade, IsPairThere}
+use Rattle.made_laws.specs.Made.{MadeIn}
 
 -- A mount as it ends: its table with the logs that it leaves, the volume that it began with and what memory kept of that, what was told at its box, and the
 -- fsyncs of each core.
@@ -106,14 +107,19 @@ pub record ReservedAt (told : Telling) (number : ℕ) (front : List (Event Label
   pub back : List (Event Label)
   pub whole : told.log ≡ front ++ Told core (label.Reserved number seen grant) ∷ back
 
--- The pair under an fsync's stamp is of what its core made: its commit is that one, and it brings what is made of the plan with its grant, to each volume that
--- is imagined where its number was reserved.
+-- The pair under an fsync's stamp is of what its core made: so are its commit, which is told wherever that is told, and what it brings; and beside each volume that is
+-- imagined where its number was reserved it is the pair of that there.
 pub record IsPairOf (at : MountEnd) (named : Numbered) (one : FlushTold) (made : FlushMade) : Type 0 where
-  pub made_in : CoreMade (run_at at) made.making
-  pub commit : commit_under named.pairs one.flush.stamp ≡ commit_made (run_at at) made.making made_in.plans made.number
-  pub brings : (front : List (Event Label)) (volume : Volume) → ReservedAt at.told made.number front
+  pub made_in : MadeIn (run_at at) made.making
+  pub commit : IsCommitOf made (commit_under named.pairs one.flush.stamp)
+  pub made_so : IsMadeCommit (run_at at) (commit_under named.pairs one.flush.stamp)
+  pub tells : (told : Commitment) → ToldAtEnd (run_at at) made told → TellsCommit (run_at at) (commit_under named.pairs one.flush.stamp) told
+  pub volume : Volume
+  pub brings : BringsMade made volume (bringing_under named.pairs one.flush.stamp)
+  pub there : (front : List (Event Label)) (volume : Volume) → ReservedAt at.told made.number front
       → Imagines at.start (brought_at named (past_from at.told.layout front (first_past at.told.moment))) volume
-      → bringing_under named.pairs one.flush.stamp ≡ bringing_made volume (sources_of made.making []) made_in.plans made.grant
+      → IsPairThere (run_at at) made volume
+      (map (commit_under named.pairs) (stamps_under named (past_from at.told.layout front (first_past at.told.moment)).done)) (named.pairs one.flush.stamp)
   pub is : IsBroughtAs (run_at at) named made
 
 -- What commits bring has the stamps of the fsyncs: each number that was made for one has its stamp, what stands under the stamp of each fsync is of that fsync,

@@ -54,7 +54,7 @@ use Rattle.example_mount.specs.Box.{TURN_BY_TURN, ends_at, flush_turn, pen_at_en
 use Rattle.example_mount.specs.Mount.{flush_told, made_of, two_mount}
 use Rattle.example_mount.specs.Making.{making_of, notes_of, pending_seen}
 use Rattle.example_mount.specs.Table.{TWO_TABLE, hand_at_end, table_log, held_by_flush}
-use Rattle.example_mount.proofs.Made.{made_in, told_made}
+use Rattle.example_mount.proofs.Made.{made_by_notes, told_by_notes}
 use Rattle.example_mount.proofs.Labels.{labels_may}
 use Rattle.example_mount.proofs.Run.{CALLS, IsUnderWay, commitment_of, table_runs, holds_own}
 
@@ -170,7 +170,7 @@ module _ (D : Type 0) (alloc : Global) (core : ℕ) (f : Flushing) (now : ℕ) (
     log = table_log alloc;
     since = prefix_refl (table_log alloc);
     among = subst (λ (l : List Commitment). IsOneOf l (commitment_of core f)) (sym is.told) (inl refl);
-    made = told_made alloc core f is.way is.there is.calls is.none;
+    made = told_by_notes alloc core f is.way is.there is.calls is.none;
     number_is = refl;
     wrote = leaves core f is.left;
   }
@@ -185,7 +185,7 @@ module _ (D : Type 0) (alloc : Global) (core : ℕ) (f : Flushing) (now : ℕ) (
       sight = record {
         log = table_log alloc;
         since = prefix_refl (table_log alloc);
-        made = made_in alloc core f is.way;
+        made = made_by_notes alloc core f is.way;
         core_is = refl;
         flush_is = refl;
       };

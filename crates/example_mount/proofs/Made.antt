@@ -30,7 +30,8 @@ use Rattle.mem_values.specs.declared.fact.HeldNode.{HeldNode}
 use Rattle.note_laws.specs.Merged.{AreMergedFor}
 use Rattle.note_laws.specs.Notes.{HasNotedAll, IsNotedPart}
 use Rattle.note_laws.specs.Run.{IsToldIn, TellsCommit, WroteNode}
-use Rattle.made_laws.specs.Made.{CoreMade, HasGathered, HasSeenOld, HasMadeFile, is_concerned, old_of}
+use Rattle.made_laws.specs.Made.{CoreMade, HasGathered, HasSeenOld, HasMadeFile, MadeIn, of_notes, is_concerned, old_of}
+use Rattle.made_laws.specs.Own.{TellsMaking, told_notes}
 use Rattle.made_laws.specs.Tells.{ToldMade, commit_made}
 use Rattle.example_laws.specs.Fsyncs.{Flushing, entry_at}
 use Rattle.disk_change.specs.Nodes.{enter_node}
@@ -179,6 +180,10 @@ module _ (alloc : Global) (core : ℕ) (f : Flushing) (way : IsUnderWay core f) 
     plans = (core_tells f way.told).gathered.plans;
   }
 
+  -- so it made it by its notes
+  pub made_by_notes : MadeIn (two_run alloc) (making_of core f)
+  made_by_notes = of_notes made_in
+
   no_enter : made_in.plans.enter ≡ []
   unfolding made_in
   no_enter = enters_none f way.told
@@ -230,3 +235,6 @@ module _ (alloc : Global) (core : ℕ) (f : Flushing) (way : IsUnderWay core f) 
 
     pub told_made : ToldMade (two_run alloc) (making_of core f) (commitment_of core f)
     told_made = record { made = made_in; tells = tells }
+
+    pub told_by_notes : TellsMaking (two_run alloc) (making_of core f) (commitment_of core f)
+    told_by_notes = told_notes told_made

@@ -47,7 +47,7 @@ use Rattle.example_mount.specs.Table.{BOTH_CALLED, OTHER_FLUSH, OWN_FLUSH, TWO_T
 use Rattle.example_mount.specs.Mount.{flush_told, made_of, two_mount}
 use Rattle.example_mount.proofs.Agreed.{IsInMount, core_reaches}
 use Rattle.example_mount.proofs.Labels.{cores_rest, labels_go, labels_own, may_other, may_own}
-use Rattle.example_mount.proofs.Made.{made_in}
+use Rattle.example_mount.proofs.Made.{made_by_notes}
 use Rattle.example_mount.proofs.Run.{other_way, own_way, table_runs}
 
 -- no other node was given
@@ -125,10 +125,10 @@ module _ (D : Type 0) (alloc : Global) where
 
   -- what was made gives nothing up
   own_frees : FreesNothing (made_of 0 OWN_FLUSH)
-  own_frees = mades_free_nothing (two_run alloc) (made_of 0 OWN_FLUSH) (made_in alloc 0 OWN_FLUSH own_way) (well 1 KEPT_ONE kept_one (λ e. cc) refl)
+  own_frees = mades_free_nothing (two_run alloc) (made_of 0 OWN_FLUSH) (made_by_notes alloc 0 OWN_FLUSH own_way) (well 1 KEPT_ONE kept_one (λ e. cc) refl)
 
   other_frees : FreesNothing (made_of 1 OTHER_FLUSH)
-  other_frees = mades_free_nothing (two_run alloc) (made_of 1 OTHER_FLUSH) (made_in alloc 1 OTHER_FLUSH other_way) (well 0 KEPT_ROOT kept_root (λ e. cc) refl)
+  other_frees = mades_free_nothing (two_run alloc) (made_of 1 OTHER_FLUSH) (made_by_notes alloc 1 OTHER_FLUSH other_way) (well 0 KEPT_ROOT kept_root (λ e. cc) refl)
 
   frees : (one : FlushTold) (made : FlushMade) → IsFsyncAt (two_mount alloc) one → one.made ≡ Some made → FreesNothing made
   frees one made at is = in_list at.core at.fsyncs at.there at.among

@@ -26,10 +26,10 @@ use Rattle.mem_values.specs.Start.{FileState, FileHand, given_by}
 use Rattle.mem_values.specs.declared.fact.Fact.{Fact}
 use Rattle.mem_values.specs.Account.{Commitment}
 use Rattle.note_laws.specs.Run.{TableRun, IsTableRun}
-use Rattle.made_laws.specs.Made.{run_on, CoreMaking, CoreMade}
-use Rattle.made_laws.specs.Tells.{ToldMade}
-use Rattle.made_laws.proofs.Later.{mades_go_on}
-use Rattle.made_laws.proofs.Told.{told_mades_go_on}
+use Rattle.made_laws.specs.Made.{run_on, CoreMaking, MadeIn}
+use Rattle.made_laws.specs.Own.{TellsMaking}
+use Rattle.made_laws.proofs.Later.{makings_go_on}
+use Rattle.made_laws.proofs.Owns.{tellings_go_on}
 use Rattle.slot_laws.specs.declared.label.Label.TheVariants as label
 use Rattle.slot_laws.specs.Telling.{turns_in, BoxTurn, turns_told, labels_in, events_in, TellTurns}
 use Rattle.slot_laws.specs.Labels.{nothing_told}
@@ -198,17 +198,17 @@ module _ {D : Type 0} (t : FileState) (hand : FileHand) (pen : PenHand D) (fsync
   run_is : (log : List (Event Fact)) (on : IsPrefix log logs.log) → run_on (run_to t log) on.0 ≡ run
   run_is log on = λ i. record { given = given_by t; first = t.first; log = on.1 i }
 
-  made_then : (log : List (Event Fact)) (making : CoreMaking) → IsPrefix log logs.log → CoreMade (run_to t log) making → CoreMade run making
+  made_then : (log : List (Event Fact)) (making : CoreMaking) → IsPrefix log logs.log → MadeIn (run_to t log) making → MadeIn run making
   made_then log making on made =
-      subst (λ r. CoreMade r making) (run_is log on)
-      (mades_go_on (run_to t log) on.0 making (subst IsTableRun (sym (run_is log on)) ends.table) made)
+      subst (λ r. MadeIn r making) (run_is log on)
+      (makings_go_on (run_to t log) on.0 making (subst IsTableRun (sym (run_is log on)) ends.table) made)
 
   told_then : (one : FlushMade) (told : Commitment) → ToldInSight t hand one told → ToldAtEnd run one told
   told_then one told sight =
       let on = goes_on sight.log sight.since in
       record {
-        tells = subst (λ r. ToldMade r one.making told) (run_is sight.log on)
-            (told_mades_go_on (run_to t sight.log) on.0 one.making told (subst IsTableRun (sym (run_is sight.log on)) ends.table) sight.made);
+        tells = subst (λ r. TellsMaking r one.making told) (run_is sight.log on)
+            (tellings_go_on (run_to t sight.log) on.0 one.making told (subst IsTableRun (sym (run_is sight.log on)) ends.table) sight.made);
         number_is = sight.number_is;
         wrote = sight.wrote;
       }

@@ -36,7 +36,7 @@ use Rattle.mem_values.specs.Places.{cell_place, node_count}
 use Rattle.mem_values.specs.declared.fact.HeldNode.{HeldNode}
 use Rattle.note_laws.specs.Run.{TableRun, IsTableRun}
 use Rattle.made_laws.specs.Made.{CoreMaking}
-use Rattle.made_laws.specs.Tells.{ToldMade}
+use Rattle.made_laws.specs.Own.{TellsMaking}
 use Rattle.journal_set.specs.declared.fault.Ack.{Ack}
 use Rattle.mem_calls.specs.Held.{pending_held, as_pending, value_held}
 use Rattle.mem_calls.proofs.Shown.{held_cell, knows_found}
@@ -135,10 +135,10 @@ module _ {D : Type 0} (at : FlushAt D) (s : LandedFsync) (ack : Ack) (after : Fi
   stood : (node : NodeId) (value : Pending) → pending_held nodes hand.held node ≡ Some value
       → StandsPending (given_by at.t) at.t.first (account_of lands.behind.log) node.0 value
   stood node value held =
-      let listed = held_listed nodes list hand.held lands.durable.planned.caught.holds node value held in
+      let listed = held_listed nodes list hand.held lands.durable.planned.holds node value held in
       let found = from_map node_number list node.0 ((listed_one (map node_number list) node.0).0 listed) in
       let below : node.0 < nodes =
-      subst (λ n. n < nodes) found.2 (one_of_all (IsBelow nodes) list found.0 lands.durable.planned.caught.look.within found.1)
+      subst (λ n. n < nodes) found.2 (one_of_all (IsBelow nodes) list found.0 lands.durable.planned.within found.1)
       in
       subst (λ first. StandsPending (given_by at.t) first (account_of lands.behind.log) node.0 value) tried.work.first
       (option_and_then_some as_pending (value_held nodes hand.held (id.Pending node)) value held (λ cell is kind.
@@ -179,10 +179,10 @@ module _ {D : Type 0} (at : FlushAt D) (s : LandedFsync) (ack : Ack) (after : Fi
     since = begins_itself after.view.seen;
     among = subst (λ l. IsOneOf l (commitment_of s)) (sym commits_landed)
         (in_right (filter_map commit_told at.hand.view.mine) (commitment_of s ∷ []) (commitment_of s) (inl refl));
-    made = subst (λ (c : CoreMaking). ToldMade run c (commitment_of s)) (sym making) (landed_are_told at.t s makes run lands.durable tells_landed);
+    made = subst (λ (c : CoreMaking). TellsMaking run c (commitment_of s)) (sym making) (landed_are_told at.t s makes run lands.durable tells_landed);
     number_is = sym number;
     wrote = λ node held found.
-        let one = found_wrote nodes (done_of s) list hand.held lands.durable.planned.caught.holds node held found in
+        let one = found_wrote nodes (done_of s) list hand.held lands.durable.planned.holds node held found in
         subst (λ (l : List OldEntry). HaveOf l node held.new) after_is
         (subst (HaveOf s.after node) (sym (ap (λ (h : HeldNode). h.new) one.is)) (kept_in s.after up node));
   }

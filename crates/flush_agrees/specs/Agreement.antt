@@ -22,8 +22,8 @@ use Rattle.mem_values.specs.declared.fact.Fact.{Fact}
 use Rattle.mem_values.specs.Account.{Commitment, commit_told, held_by}
 use Rattle.mem_values.specs.declared.fact.HeldNode.{HeldNode}
 use Rattle.note_laws.specs.Run.{TableRun}
-use Rattle.made_laws.specs.Made.{CoreMaking, CoreMade, making_flush}
-use Rattle.made_laws.specs.Tells.{ToldMade}
+use Rattle.made_laws.specs.Made.{CoreMaking, making_flush, MadeIn}
+use Rattle.made_laws.specs.Own.{TellsMaking}
 use Rattle.slot_laws.specs.declared.label.Label.{Label}
 use Rattle.slot_laws.specs.declared.label.Label.TheVariants as label
 use Rattle.slot_laws.specs.declared.label.Seen.{Seen}
@@ -62,7 +62,7 @@ run_to t log = record { given = given_by t; first = t.first; log = log }
 pub record MadeInSight (t : FileState) (hand : FileHand) (flush : Flush) (making : CoreMaking) : Type 0 where
   pub log : List (Event Fact)
   pub since : IsPrefix log hand.view.seen
-  pub made : CoreMade (run_to t log) making
+  pub made : MadeIn (run_to t log) making
   pub core_is : making.noted.core ≡ hand.view.core
   pub flush_is : making_flush making ≡ flush
 
@@ -71,7 +71,7 @@ pub record ToldInSight (t : FileState) (hand : FileHand) (one : FlushMade) (told
   pub log : List (Event Fact)
   pub since : IsPrefix log hand.view.seen
   pub among : IsOneOf (filter_map commit_told hand.view.mine) told
-  pub made : ToldMade (run_to t log) one.making told
+  pub made : TellsMaking (run_to t log) one.making told
   pub number_is : told.number ≡ one.number
   pub wrote : (node : ℕ) (held : HeldNode) → held_by told node ≡ Some held → LeavesOfNode one node held.new
 

@@ -3,3 +3,4 @@ pub mod Noted
 pub mod Looked
 pub mod Copies
 pub mod Going
+pub mod HeldAlone

@@ -1,21 +1,25 @@
 -- What a core catches for an fsync that waits: values that it holds, and what it gathered of all logs since it held them.
-use Rattle.std.specs.Prelude.{◌≡◌, ℕ, List, [], map, Option, None, All, if◌then◌else◌}
+use Rattle.std.specs.Prelude.{◌≡◌, if◌then◌else◌, ◌∷◌, ◌<◌, ◌+◌, ◌*◌, ℕ, List, [], map, Option, None, All, Some, is_some}
 use mathlib.Core.List.{IsPrefix}
 use Rattle.sfs_base.specs.declared.numbers.NodeId.{NodeId}
 use Rattle.sfs_base.specs.Listed.{is_listed}
+use Rattle.sfs_base.specs.declared.numbers.Stamp.{Stamp}
 use Rattle.tree_laws.specs.NameRow.{node_number}
 use Rattle.tree_laws.specs.History.{IsLegal}
 use Rattle.disk_nodes.specs.OldKept.{OldKept}
 use Rattle.dep_closure.specs.Gathered.{IsOrderly}
 use Rattle.flush_plan.specs.Concerned.{IsConcernOf}
 use Rattle.stamp_table.specs.Events.{calls_in}
+use Rattle.stamp_table.specs.Ascending.{LiesAbove}
 use Rattle.mem_values.specs.Start.{FileHand}
 use Rattle.mem_values.specs.declared.cell.Pending.{Pending}
 use Rattle.mem_values.specs.Facts.{HasFsync, IsLawfulLog}
-use Rattle.mem_calls.specs.Held.{pending_held}
+use Rattle.mem_values.specs.Stands.{StandsPending}
+use Rattle.mem_values.specs.Account.{account_of}
 use Rattle.note_laws.specs.Run.{TableRun, calls_of}
 use Rattle.note_laws.specs.Notes.{CoreNotes, HasNotedAll}
 use Rattle.note_laws.specs.Merged.{AreMergedFor}
+use Rattle.mem_calls.specs.Held.{pending_held}
 use Rattle.fsync_look.specs.Look.{IsBelow, HoldsNodes}
 use Rattle.fsync_gather.specs.Gathers.{GathersNodes}
 use Rattle.fsync_catch.specs.declared.looking.Caught.{Caught}
@@ -66,3 +70,24 @@ pub record IsLook (given : ℕ → Option OldKept) (nodes : ℕ) (fsync : Waitin
 pub record IsCaught (given : ℕ → Option OldKept) (nodes : ℕ) (fsync : WaitingFsync) (hand : FileHand) (caught : Caught) : Type 0 where
   pub holds : HoldsNodes nodes caught.concern.nodes.items hand
   pub look : IsLook given nodes fsync caught.concern.nodes.items hand caught
+
+-- the stamp up to which something was flushed of a node, where it has an inode
+abbrev pub cut_if_inode : Option Pending → Option Stamp
+cut_if_inode None = None
+cut_if_inode (Some value) = if is_some value.old then Some value.cut else None
+
+-- A core holds what was flushed of its fsync's node, which has an inode, and nothing else: up to this stamp something was flushed of it. That stood for all that the core
+-- has seen, which has the fsync's call, and is legal and lawful. There is room for a log, which lies above.
+pub record IsCaughtAlone (given : ℕ → Option OldKept) (nodes : ℕ) (fsync : WaitingFsync) (hand : FileHand) (cut : Stamp) : Type 0 where
+  pub value : Pending
+  pub kept : OldKept
+  pub holds : HoldsNodes nodes (fsync.node ∷ []) hand
+  pub held : pending_held nodes hand.held fsync.node ≡ Some value
+  pub has : value.old ≡ Some kept
+  pub cut_is : value.cut ≡ cut
+  pub stamped : HasItsFsync hand fsync
+  pub stands : StandsPending given hand.view.first (account_of hand.view.seen) fsync.node.0 value
+  pub legal : IsLegal hand.view.first (calls_of (run_seen given hand))
+  pub lawful : IsLawfulLog given hand.view.first hand.view.seen
+  pub room : 0 < hand.room
+  pub below : LiesAbove (32 + 10 * nodes) hand.view.held

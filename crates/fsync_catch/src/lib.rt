@@ -1,8 +1,10 @@
 //! What an fsync on the shared table catches: it holds what was flushed of exactly the nodes that it concerns by the logs of all cores.
 #![tactic(auto)]
 
+mod alone;
 mod catching;
 mod looking;
 
+pub use alone::catch_alone;
 pub use catching::catch_nodes;
 pub use looking::{Caught, WaitingFsync};

@@ -165,11 +165,11 @@ module _ {D : Type 0} (at : FlushAt D) (s : PlannedFsync) (todo : PlannedCommit)
     lent = record {
       count = length-map s.hand.held (λ (c : Rattle.stamp_table.specs.declared.held.HeldCell.HeldCell _). c.value)
           ∙ (sym (length-map s.hand.held (λ (c : Rattle.stamp_table.specs.declared.held.HeldCell.HeldCell _). c.place))
-          ∙ (ap length has.tried.is.caught.holds
+          ∙ (ap length has.tried.is.holds
           ∙ length-map s.caught.concern.nodes.items (Rattle.fsync_look.specs.Look.flushed_place s.nodes)));
-      values = ap (λ (d : DraftedFsync). d.values.items) drafted_back ∙ has.tried.is.drafted.lent;
+      values = ap (λ (d : DraftedFsync). d.values.items) drafted_back ∙ has.tried.is.lent.lent;
       entries = old_back (asked_by s) at.pen done refusal comes
-          ∙ ap (λ (c : Rattle.disk_change.specs.Planned.Planned). c.old) has.tried.is.drafted.planned.made;
+          ∙ has.tried.is.lent.old;
     };
   }
 
@@ -189,15 +189,15 @@ module _ {D : Type 0} (at : FlushAt D) (s : PlannedFsync) (todo : PlannedCommit)
         number_is = refl;
         after_is = refl;
         members_are = ap (λ (d : DraftedFsync). d.draft.plan.members.items) drafted_back
-            ∙ has.tried.is.drafted.planned.members;
+            ∙ has.tried.is.lent.members;
         directories_are = has.directories_are;
         nodes_are = ap (λ (d : DraftedFsync). d.draft.plan.nodes.items) drafted_back
-            ∙ has.tried.is.drafted.planned.nodes;
+            ∙ has.tried.is.lent.nodes;
         boxes = subst (λ (d : DraftedFsync).
             (after : List _) (nodes : List NodeId)
             → Rattle.std.specs.Prelude.◌≤◌ (Rattle.fsync_values.specs.Renewing.boxes_asked after nodes (values_in s.hand.held)) (length d.draft.spares.items))
-            has.drafted_is has.tried.is.drafted.boxes;
-        lent = ap (λ (d : DraftedFsync). d.values.items) drafted_back ∙ has.tried.is.drafted.lent;
+            has.drafted_is has.tried.is.lent.boxes;
+        lent = ap (λ (d : DraftedFsync). d.values.items) drafted_back ∙ has.tried.is.lent.lent;
         hollow = has.hollow;
         waiting = ap (λ (h : FileHand). h.waiting) has.hollow.after_is ∙ has.holds.waiting;
       }

@@ -87,7 +87,7 @@ module _ (e : EndPlace) (there : LandsThere e) where
 
   pub members_ascend : IsStrictlyIncreasing (map node_number e.left.members.items)
   members_ascend = subst (λ (l : List NodeId). IsStrictlyIncreasing (map node_number l)) (sym is.members_are)
-      is.durable.planned.caught.look.concern_is.members.ascending
+      is.durable.planned.members_ascend
 
   pub enough : (after : List OldEntry) → boxes_asked after e.left.nodes.items e.left.values.items ≤ length e.left.spares.items
   enough after = subst (λ (n : ℕ). n ≤ length e.left.spares.items)

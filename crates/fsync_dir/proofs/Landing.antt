@@ -71,7 +71,7 @@ module _ {D : Type 0} (at : FlushAt D) (s : PlannedFsync) (todo : PlannedCommit)
           (subst (λ l. IsOneOf (filter_map commit_told l) other) (sym (ap (λ (v : Rattle.stamp_table.specs.declared.view.View.View _ _). v.mine) view_same)) told))
           in
           omega (arith, lower, same);
-      above = subst (λ (l : List Seen). (node last : ℕ) → last_seen l node ≡ Some last → last < landed.ack.commit) has.tried.is.drafted.seen got.above;
+      above = subst (λ (l : List Seen). (node last : ℕ) → last_seen l node ≡ Some last → last < landed.ack.commit) has.tried.is.lent.seen got.above;
       enough = got.enough;
       after_is = got.hands.after_is;
       low = λ entry there. let one = low entry there in let same = site.inodes in omega (arith, one, same);

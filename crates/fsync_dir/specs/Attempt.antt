@@ -1,12 +1,13 @@
 -- An attempt at an fsync: what was caught, and what was planned of it.
-use Rattle.std.specs.Prelude.{◌≡◌, ◌<◌, ◌≤◌, ◌+◌, ◌-◌, ◌*◌, ◌^◌, ℕ, Some}
+use Rattle.std.specs.Prelude.{◌≡◌, ◌<◌, ◌≤◌, ◌+◌, ◌-◌, ◌*◌, ◌^◌, ℕ, Some, IsSome}
+use Rattle.sfs_base.specs.declared.numbers.Stamp.{Stamp}
 use Rattle.stamp_table.specs.Ascending.{LiesAbove}
 use Rattle.stamp_table.specs.Events.{calls_in}
 use Rattle.mem_values.specs.Facts.{HasFsync}
 use Rattle.mem_values.specs.Start.{FileHand, FileState, given_by}
-use Rattle.mem_calls.specs.Working.{IsWorking}
 use Rattle.disk_box.specs.Pens.{PenHand}
-use Rattle.fsync_catch.specs.Catch.{IsCaught}
+use Rattle.mem_calls.specs.Working.{IsWorking}
+use Rattle.fsync_catch.specs.Catch.{IsCaught, IsCaughtAlone}
 use Rattle.fsync_catch.specs.declared.looking.Caught.{Caught}
 use Rattle.fsync_draft.specs.Drafting.{IsHollow}
 use Rattle.landing_laws.specs.Made.{PlannedFsync}
@@ -34,6 +35,21 @@ pub record HasCaught (t : FileState) (nodes : ℕ) (own : OwnFsync) (caught : Ca
   pub holds : HoldsWaiting t nodes own hand
   pub work : IsWorking (given_by t) t hand
   pub has : IsCaught (given_by t) nodes own.fsync hand caught
+
+-- It holds the value of the fsync's own node alone, which is a file and has an inode: up to this stamp something was flushed of it. The nodes are as many as a word
+-- counts at most.
+pub record HoldsFile (t : FileState) (nodes : ℕ) (own : OwnFsync) (hand : FileHand) (cut : Stamp) : Type 0 where
+  pub alone : IsCaughtAlone (given_by t) nodes own.fsync hand cut
+  pub file : IsSome own.file
+  pub few : nodes ≤ 2 ^ 32 - 1
+
+-- And of one that works and holds the value of the fsync's own file alone, which has an inode: up to this stamp something was flushed of it.
+pub record HasHeldAlone (t : FileState) (nodes : ℕ) (own : OwnFsync) (cut : Stamp) (hand : FileHand) : Type 0 where
+  pub holds : HoldsWaiting t nodes own hand
+  pub work : IsWorking (given_by t) t hand
+  pub alone : IsCaughtAlone (given_by t) nodes own.fsync hand cut
+  pub within : own.fsync.node.0 < nodes
+  pub file : IsSome own.file
 
 -- And of one that has planned it: other values stand in its cells, and the directories among the members are these.
 pub record HasDrafted {D : Type 0} (at : FlushAt D) (planned : PlannedFsync) (todo : PlannedCommit) (hand : FileHand) : Type 0 where

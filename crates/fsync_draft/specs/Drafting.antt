@@ -1,22 +1,24 @@
 -- What an fsync plans by what it caught.
-use Rattle.std.specs.Prelude.{◌≡◌, ℕ, ◌≤◌, List, [], ◌∷◌, Option, Some, None, length, map, is_some}
+use Rattle.std.specs.Prelude.{◌≡◌, ◌≤◌, ◌∷◌, ◌<◌, ℕ, List, [], Option, Some, None, length, map, is_some}
 use Rattle.sfs_base.specs.declared.numbers.NodeId.{NodeId}
+use Rattle.sfs_base.specs.declared.numbers.Stamp.{Stamp}
 use Rattle.mem_files.specs.File.{File}
 use Rattle.disk_nodes.specs.declared.old.OldEntry.{OldEntry}
 use Rattle.disk_change.specs.declared.files.FileChange.{FileChange}
+use Rattle.disk_change.specs.Planned.{planned}
 use Rattle.dep_closure.specs.declared.gathered.Gathered.{Gathered}
 use Rattle.dep_closure.specs.Gathered.{cut_in}
 use Rattle.flush_plan.specs.Plan.{IsPlanOf}
 use Rattle.flush_plan.specs.Touched.{IsFileChange}
-use Rattle.slot_laws.specs.declared.label.Seen.{Seen}
 use Rattle.stamp_table.specs.Table.{values_in, with_values}
 use Rattle.mem_values.specs.Start.{FileHand}
 use Rattle.mem_values.specs.declared.cell.Cell.{Cell}
 use Rattle.mem_values.specs.declared.cell.Cell.TheVariants as cell
-use Rattle.fsync_catch.specs.declared.looking.Caught.{Caught}
-use Rattle.fsync_catch.specs.declared.looking.WaitingFsync.{WaitingFsync}
+use Rattle.slot_laws.specs.declared.label.Seen.{Seen}
 use Rattle.fsync_values.specs.Lending.{IsLent, entries_of, lent_value}
 use Rattle.fsync_values.specs.Renewing.{boxes_asked}
+use Rattle.fsync_catch.specs.declared.looking.Caught.{Caught}
+use Rattle.fsync_catch.specs.declared.looking.WaitingFsync.{WaitingFsync}
 use Rattle.fsync_draft.specs.declared.drafting.Draft.{Draft}
 use Rattle.fsync_draft.specs.declared.lending.DraftedFsync.{DraftedFsync}
 
@@ -61,3 +63,25 @@ pub record IsLentOut (before hand : FileHand) (values : List Cell) (old : List O
   pub nodes : List NodeId
   pub hollow : IsHollow before hand
   pub lent : IsLent nodes (values_in before.held) values old
+
+-- the changes of a file that has an inode, by its copy: those from its cut on, and none where something later than the fsync was flushed
+abbrev pub IsDraftedAlone : WaitingFsync → Stamp → File → List FileChange → Type 0
+IsDraftedAlone fsync cut file [] = fsync.stamp.0 < cut.0
+IsDraftedAlone fsync cut file (change ∷ []) = (cut.0 ≤ fsync.stamp.0) × IsFileChange fsync.node cut.0 file change
+IsDraftedAlone fsync cut file _ = ⊥
+
+-- What was planned of a file that has an inode, over its own value: the file alone is changed, over what the disk has of it, which was taken out of the value; there
+-- are boxes enough, and its last commit was seen.
+pub record IsOwnDraft (fsync : WaitingFsync) (cut : Stamp) (file : File) (was now : List Cell) (draft : Draft) : Type 0 where
+  pub files : List FileChange
+  pub files_are : IsDraftedAlone fsync cut file files
+  pub change_is : draft.plan.change ≡ planned (entries_of (fsync.node ∷ []) was) [] files [] []
+  pub members : draft.plan.members.items ≡ fsync.node ∷ []
+  pub nodes : draft.plan.nodes.items ≡ fsync.node ∷ []
+  pub lent : now ≡ map lent_value was
+  pub boxes : (after : List OldEntry) (nodes : List NodeId) → boxes_asked after nodes was ≤ length draft.spares.items
+  pub seen : draft.seen.items ≡ seens_of (fsync.node ∷ []) was
+
+-- So it was over the value of the cell that a core held.
+abbrev pub IsOwnDraftOf : WaitingFsync → Stamp → File → FileHand → DraftedFsync → Type 0
+IsOwnDraftOf fsync cut file before drafted = IsOwnDraft fsync cut file (values_in before.held) drafted.values.items drafted.draft

@@ -30,7 +30,7 @@ use Rattle.made_laws.specs.Made.{old_of}
 use Rattle.landing_laws.proofs.HeldNodes.{first_held, other_held, later_listed}
 
 -- what the disk has of a node by its value is what it has by what was flushed of it
-old_same : (value : Cell) → old_of_value value ≡ old_of (as_pending value)
+pub old_same : (value : Cell) → old_of_value value ≡ old_of (as_pending value)
 old_same (cell.Pending pending) = refl
 old_same (cell.Lock lock) = refl
 old_same (cell.Bucket bucket) = refl

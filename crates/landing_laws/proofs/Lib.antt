@@ -7,5 +7,6 @@ pub mod Members
 pub mod Left
 pub mod Kept
 pub mod Seen
+pub mod Planned
 pub mod Landed
 pub mod Told

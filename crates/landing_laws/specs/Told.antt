@@ -6,9 +6,9 @@ use Rattle.mem_values.specs.Account.{account_of}
 use Rattle.mem_values.specs.Stands.{StandsPending}
 use Rattle.mem_values.specs.Start.{FileState}
 use Rattle.mem_values.specs.declared.cell.Pending.{Pending}
-use Rattle.mem_calls.specs.Held.{pending_held}
 use Rattle.note_laws.specs.Run.{IsTableRun, IsToldIn, TableRun}
-use Rattle.made_laws.specs.Tells.{ToldMade}
+use Rattle.made_laws.specs.Own.{TellsMaking}
+use Rattle.mem_calls.specs.Held.{pending_held}
 use Rattle.landing_laws.specs.Made.{MakesPlanned}
 use Rattle.landing_laws.specs.Landed.{HasBecomeDurable, LandedFsync, commitment_of}
 
@@ -25,4 +25,4 @@ pub record TellsLanded (s : LandedFsync) (run : TableRun) : Type 0 where
 -- Then it tells what the core made.
 abbrev pub LandedAreTold : Type 0
 LandedAreTold = (t : FileState) (s : LandedFsync) (made : MakesPlanned s.planned) (run : TableRun) → HasBecomeDurable t s → TellsLanded s run
-    → ToldMade run made.making (commitment_of s)
+    → TellsMaking run made.making (commitment_of s)

@@ -2,3 +2,4 @@ pub mod There
 pub mod Later
 pub mod Known
 pub mod Told
+pub mod Owns

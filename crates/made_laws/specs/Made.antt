@@ -9,6 +9,7 @@ use Rattle.disk_nodes.specs.declared.old.OldEntry.{OldEntry}
 use Rattle.disk_nodes.specs.OldKept.{OldKept}
 use Rattle.disk_nodes.specs.Nodes.{entry_node}
 use Rattle.disk_change.specs.AllBuilt.{entry_keyed}
+use Rattle.disk_change.specs.Planned.{planned}
 use Rattle.disk_change.specs.declared.files.FileChange.{FileChange}
 use Rattle.cut_laws.specs.Closure.{Flush}
 use Rattle.cut_laws.specs.Rules.{IsOneOf}
@@ -176,3 +177,27 @@ pub record OwnFileMade (run : TableRun) (own : OwnFileMaking) : Type 0 where
 abbrev pub OwnsGoOn : Type 0
 OwnsGoOn = (run : TableRun) (more : List (Event Fact)) (own : OwnFileMaking) → IsTableRun (run_on run more) → OwnFileMade run own
     → OwnFileMade (run_on run more) own
+
+-- What a core made for the fsync of a file that has an inode, in the words of what it makes for any fsync: this noted no log, concerns the file's node alone, has
+-- its entry, and changes nothing but the file.
+pub record OwnMade (run : TableRun) (making : CoreMaking) : Type 0 where
+  pub own : OwnFileMaking
+  pub made : OwnFileMade run own
+  pub core_is : making.noted.core ≡ own.core
+  pub flush_is : making_flush making ≡ own_flush own
+  pub no_parts : making.noted.parts ≡ []
+  pub concerns : making.concern.nodes.items ≡ record { 0 = own.node } ∷ []
+  pub members_are : making.concern.members.items ≡ record { 0 = own.node } ∷ []
+  pub saw : making.noted.pending own.node ≡ Some own.value
+  pub old_is : making.old ≡ entry_keyed (own.node, own.kept) ∷ []
+  pub change_is : making.plan.change ≡ planned making.old [] own.files [] []
+
+-- What a core made for an fsync it made in a run: by its notes of all logs, or by its own file alone.
+pub data MadeIn (run : TableRun) (making : CoreMaking) : Type 0 where
+  of_notes : CoreMade run making → MadeIn run making
+  of_file : OwnMade run making → MadeIn run making
+
+-- So it did in each run that goes on from there.
+abbrev pub MakingsGoOn : Type 0
+MakingsGoOn = (run : TableRun) (more : List (Event Fact)) (making : CoreMaking) → IsTableRun (run_on run more) → MadeIn run making
+    → MadeIn (run_on run more) making

@@ -55,7 +55,7 @@ use Rattle.mark_laws.proofs.Short.{files_stay_short}
 use Rattle.mark_laws.proofs.Made.{marks_make_files}
 use Rattle.plan_laws.proofs.Nets.{ascend_sorted}
 use Rattle.plan_laws.proofs.Files.{bytes_are_cut, own_file_leads, no_file_leads}
-use Rattle.turn_ties.specs.Plans.{Planning, ChangesOwnFile, HasTouchedPages}
+use Rattle.turn_ties.specs.Plans.{Planning, ChangesOwnFile, HasTouchedPages, HasPlan}
 use Rattle.turn_ties.proofs.OwnFiles.{own_files_are_touched}
 use Rattle.book_laws.specs.Brings.{Brings}
 use Rattle.book_laws.specs.Pairs.{run_with, IsOpenBeside}
@@ -262,7 +262,7 @@ module _ (volume : Volume) (done : List CoreCommit) (own : OwnMaking) (is : Make
   plans : IsPlanAt volume.first volume.history volume.cut volume.inodes flush raised volume.inodes (node ∷ []) is.entry_is.entries plan
   plans = record { concerns = concerns; old = old_entries; nets = nets; moves = moves; files = files_by own.files is.changes }
 
-  abbrev planning : Planning
+  abbrev pub planning : Planning
   planning = record {
     flush = flush;
     raised = raised;
@@ -276,11 +276,13 @@ module _ (volume : Volume) (done : List CoreCommit) (own : OwnMaking) (is : Make
   changes_own _ (in_time file change low at changed) = ChangesOwnFile.own_file file change refl at changed low
   changes_own _ (too_late late) = ChangesOwnFile.unwritten is.is_own.file refl (λ held. late_stays late)
 
-  touched : HasTouchedPages volume planning
+  -- it has its plan, which touches what it has to
+  pub has_plan : HasPlan volume planning
+  has_plan = record { stands = is.stands; keeps = is.entry_is.keeps; raises = raises; inodes_after = inodes_stay; plans = plans }
+
+  pub touched : HasTouchedPages volume planning
   touched =
-      own_files_are_touched volume planning
-      (record { stands = is.stands; keeps = is.entry_is.keeps; raises = raises; inodes_after = inodes_stay; plans = plans })
-      (changes_own own.files is.changes)
+      own_files_are_touched volume planning has_plan (changes_own own.files is.changes)
 
   own_files : (files : List FileChange) → ChangesOwn volume flush files → (change : FileChange) → Contains files change
       → is_among (node ∷ []) change.node.0 ≡ true

@@ -1,0 +1,60 @@
+// What was flushed of an fsync's own file, held alone.
+ghost use Rattle.std.specs.Prelude.{◌≡◌, ◌<◌, [], IfOk, IsSome, MatchOption, OnErr};
+ghost use Rattle.mem_values.specs.Start.{given_by};
+ghost use Rattle.mem_calls.specs.Held.{pending_held};
+ghost use Rattle.mem_calls.specs.Table.{IsFileTable};
+ghost use Rattle.mem_calls.specs.Working.{IsWorking};
+ghost use Rattle.fsync_catch.specs.Catch.{GoesOn, HasItsFsync, IsCaughtAlone, LetsAllGo, cut_if_inode};
+
+use crate::looking::WaitingFsync;
+use fsync_gather::flushed_value;
+use fsync_look::hold_nodes;
+use mem_calls::let_all_go;
+use mem_values::{FileCore, FileShared};
+use sfs_base::{NoMemory, NodeId, Stamp};
+use std::sync::Wait;
+
+// The stamp up to which something was flushed of a node whose value is held, where the node has an inode.
+fn cut_with_inode(core: &FileCore, nodes: u32, node: NodeId) -> Option<Stamp>
+    requires { IsSome (pending_held nodes core.now.held node) }
+    ensures { result ≡ cut_if_inode (pending_held nodes core.now.held node) }
+{
+    let pending = flushed_value(core, nodes, node);
+    if pending.old.is_some() {
+        Some(pending.cut)
+    } else {
+        None
+    }
+}
+
+/// Holds what was flushed of the node of an fsync, and nothing else: where it has an inode it answers up to which stamp something was flushed of it; where it has none it
+/// lets it go, and holds nothing. It takes no log, and waits while another core has the node's value. Where memory is refused it holds nothing.
+pub fn catch_alone<R: Wait>(
+    rt: &R,
+    shared: &FileShared,
+    core: &mut FileCore,
+    nodes: u32,
+    fsync: WaitingFsync,
+) -> Result<Option<Stamp>, NoMemory>
+    requires table { IsFileTable shared.now nodes }
+    requires work { IsWorking (given_by shared.now) shared.now core.old }
+    requires none { (core.old.held ≡ []) × (core.old.view.held ≡ []) }
+    requires within { fsync.node.0 < nodes }
+    requires waits { HasItsFsync core.old fsync }
+    ensures work { IsWorking (given_by shared.now) shared.now core.new }
+    ensures on { GoesOn core.old core.new }
+    ensures caught { IfOk result (λ cut. MatchOption cut (LetsAllGo core.new) (IsCaughtAlone (given_by shared.now) nodes fsync core.new)) }
+    ensures none { OnErr result (LetsAllGo core.new) }
+{
+    core.reserve(0, 2)?;
+    let list = [fsync.node];
+    hold_nodes(rt, shared, core, nodes, &list);
+    core.look(shared);
+    match cut_with_inode(core, nodes, fsync.node) {
+        Some(cut) => Ok(Some(cut)),
+        None => {
+            let_all_go(shared, core);
+            Ok(None)
+        }
+    }
+}
