@@ -8,6 +8,7 @@ use scalefs_run::Status;
 use sfs_base::Measure;
 use sfs_dev::Disk;
 use std::alloc::Global;
+use std::ops::Range;
 use std::process::Abort;
 use std::sync::Wait;
 use std::thread::Threads;
@@ -274,24 +275,43 @@ fn hex_digit(value: u16) -> u8 {
         .unwrap_or(b'?')
 }
 
-// A script that fills a bucket: names of three hex digits, each written twice, lie in bucket 0.
-fn full_bucket(rt: &impl Abort, alloc: Global) -> Vec<u8> {
-    let mut script = got(rt, Vec::from_slice(alloc, b"0 create /000000\n".as_slice()));
-    for i in 1..4096u16 {
+// Adds lines that give a file names with these numbers in a directory: each is three hex digits, each written twice, and lies in bucket 0.
+fn add_links(
+    rt: &impl Abort,
+    script: &mut Vec<u8>,
+    file: &str,
+    directory: &str,
+    numbers: Range<u16>,
+) {
+    for i in numbers {
         let (high, middle, low) = (
             hex_digit(i / 256),
             hex_digit(i / 16 % 16),
             hex_digit(i % 16),
         );
-        got(rt, script.extend_from_slice(b"0 link /000000 /".as_slice()));
-        got(
-            rt,
-            script.extend_from_slice(&[high, high, middle, middle, low, low, b'\n']),
-        );
+        add(rt, script, "0 link ");
+        add(rt, script, file);
+        add(rt, script, " ");
+        add(rt, script, directory);
+        let name = [b'/', high, high, middle, middle, low, low, b'\n'];
+        got(rt, script.extend_from_slice(&name));
     }
-    got(
+}
+
+// Adds a text.
+fn add(rt: &impl Abort, script: &mut Vec<u8>, text: &str) {
+    got(rt, script.extend_from_slice(text.as_bytes()));
+}
+
+// A script that fills a bucket.
+fn full_bucket(rt: &impl Abort, alloc: Global) -> Vec<u8> {
+    let mut script = Vec::new(alloc);
+    add(rt, &mut script, "0 create /000000\n");
+    add_links(rt, &mut script, "/000000", "", 1..4096);
+    add(
         rt,
-        script.extend_from_slice(b"0 link /000000 /gggggg\n0 link /000000 /a\n".as_slice()),
+        &mut script,
+        "0 link /000000 /gggggg\n0 link /000000 /a\n",
     );
     script
 }
@@ -310,6 +330,64 @@ fn a_bucket_holds_4096_rows(rt: HostRuntime) {
         &rt,
         ran.text.ends_with(
             b"8191 0 look 0 000000 = node 64 file\n8192 0 link 64 0 gggggg = error DirFull\n8193 0 look 0 000000 = node 64 file\n8194 0 link 64 0 a = ok\n".as_slice(),
+        ),
+    );
+}
+
+// Directories in which a file has 65,535 names: 4,096 in each but the last.
+static SIXTEEN: [(&str, u16, u16); 16] = [
+    ("/0", 1, 4096),
+    ("/1", 0, 4096),
+    ("/2", 0, 4096),
+    ("/3", 0, 4096),
+    ("/4", 0, 4096),
+    ("/5", 0, 4096),
+    ("/6", 0, 4096),
+    ("/7", 0, 4096),
+    ("/8", 0, 4096),
+    ("/9", 0, 4096),
+    ("/a", 0, 4096),
+    ("/b", 0, 4096),
+    ("/c", 0, 4096),
+    ("/d", 0, 4096),
+    ("/e", 0, 4096),
+    ("/f", 0, 4095),
+];
+
+// A script that gives a file so many names, and one more.
+fn most_links(rt: &impl Abort, alloc: Global) -> Vec<u8> {
+    let mut script = Vec::new(alloc);
+    for (directory, _, _) in &SIXTEEN {
+        add(rt, &mut script, "0 mkdir ");
+        add(rt, &mut script, directory);
+        add(rt, &mut script, "\n");
+    }
+    add(rt, &mut script, "0 create /0/000000\n");
+    for (directory, from, to) in &SIXTEEN {
+        add_links(rt, &mut script, "/0/000000", directory, *from..*to);
+    }
+    add(
+        rt,
+        &mut script,
+        "0 link /0/000000 /f/ffffff\n0 stat /0/000000\n",
+    );
+    script
+}
+
+#[test]
+fn a_file_has_65535_names_at_most(rt: HostRuntime) {
+    let alloc = rt.alloc();
+    let ran = run_script(
+        &rt,
+        alloc,
+        &most_links(&rt, alloc),
+        image(&rt, alloc, SMALL),
+    );
+    same(&rt, &ran.status, &Status::Done);
+    holds(
+        &rt,
+        ran.text.ends_with(
+            b"\n262157 0 link 80 79 ffffff = error TooManyLinks\n262158 0 look 0 0 = node 64 dir\n262159 0 look 64 000000 = node 80 file\n262160 0 stat 80 = stat file 65535 0\n".as_slice(),
         ),
     );
 }

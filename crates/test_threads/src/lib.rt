@@ -10,6 +10,8 @@ mod loops;
 #[cfg(test)]
 mod meetings;
 #[cfg(test)]
+mod orders;
+#[cfg(test)]
 mod runs;
 #[cfg(test)]
 mod spools;

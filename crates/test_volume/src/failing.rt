@@ -31,8 +31,8 @@ const LAYOUT: Layout = Layout {
     slots: 1,
 };
 
-// How many device calls a script makes on a disk that does not fail.
-fn calls_of<R: Threads + Wait + Sync + Abort>(
+/// How many device calls a script makes on a disk that does not fail.
+pub(crate) fn calls_of<R: Threads + Wait + Sync + Abort>(
     rt: &R,
     alloc: Global,
     base: &Base,
@@ -47,8 +47,8 @@ fn calls_of<R: Threads + Wait + Sync + Abort>(
         .now()
 }
 
-// Asserts that the history is legal, that one fsync met the fault if there was one, and that what is left recovers. Says whether there was one.
-fn assert_ran(rt: &impl Abort, alloc: Global, base: &Base, ran: Ran<FailAt>) -> bool
+/// Asserts that the history is legal, and that one fsync met the fault if there was one. Answers how many faults there were.
+pub(crate) fn assert_answers(rt: &impl Abort, alloc: Global, base: &Base, ran: &Ran<FailAt>) -> u64
     requires { IsFirst base.now.first }
 {
     holds(rt, ran.ended);
@@ -58,10 +58,18 @@ fn assert_ran(rt: &impl Abort, alloc: Global, base: &Base, ran: Ran<FailAt>) -> 
     } else {
         Health::FailsOnce
     };
-    let _ = plain_tree(rt, alloc, base, &ran, health);
+    let _ = plain_tree(rt, alloc, base, ran, health);
     assert_taken(rt, alloc, base, &ran.history, &ran.turns);
     let (_, failed, _) = answers_in(&ran.history);
     same(rt, &failed, &faults);
+    faults
+}
+
+// The same, and that what is left recovers. Says whether there was a fault.
+fn assert_ran(rt: &impl Abort, alloc: Global, base: &Base, ran: Ran<FailAt>) -> bool
+    requires { IsFirst base.now.first }
+{
+    let faults = assert_answers(rt, alloc, base, &ran);
     let disk = ran.disk.into_inner();
     for pick in 0..4u32 {
         assert_left(rt, alloc, &disk, u64::MAX, pick);

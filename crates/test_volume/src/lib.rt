@@ -6,17 +6,25 @@ mod again;
 #[cfg(test)]
 mod beside;
 #[cfg(test)]
+mod called;
+#[cfg(test)]
 mod crowded;
+#[cfg(test)]
+mod cuts;
 #[cfg(test)]
 mod drawn;
 #[cfg(test)]
 mod failing;
+#[cfg(test)]
+mod follows;
 #[cfg(test)]
 mod helpers;
 #[cfg(test)]
 mod judged;
 #[cfg(test)]
 mod machine;
+#[cfg(test)]
+mod moments;
 #[cfg(test)]
 mod runs;
 #[cfg(test)]
@@ -25,6 +33,8 @@ mod scripts;
 mod shaking;
 #[cfg(test)]
 mod smallest;
+#[cfg(test)]
+mod swept;
 #[cfg(test)]
 mod together;
 #[cfg(test)]

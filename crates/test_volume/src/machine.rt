@@ -5,15 +5,17 @@ ghost use Rattle.test_volume.specs.Base.{IsFirst};
 
 use crate::helpers::{got, holds, some};
 use crate::judged::{Base, CORES, is_acknowledged, is_readable};
-use flush_core::{Event, State};
+use flush_core::{Cut, Event, State};
+use sfs_base::RoomyList;
 use std::alloc::Global;
 use std::marker::Model;
+use std::ops::Range;
 use std::process::Abort;
 use tree_laws::{Call, Entry, History, Turn, TurnAct, Turns};
 
-// The machine. Contracts see how many cores its first tree has.
+/// The machine. Contracts see how many cores its first tree has.
 #[derive(Drop)]
-struct Machine {
+pub(crate) struct Machine {
     state: State,
 }
 
@@ -28,6 +30,37 @@ impl Model for Machine {
 }
 
 impl Machine {
+    /// The machine that was told all calls of a history.
+    pub(crate) fn new(rt: &impl Abort, alloc: Global, base: &Base, history: &History) -> Machine
+        requires { IsFirst base.now.first }
+    {
+        let state = State::new(alloc, got(rt, base.first.copy()));
+        let mut machine = Machine { state };
+        tell_calls(rt, &mut machine, history);
+        machine
+    }
+
+    /// Tells the turns at these places, in their order.
+    pub(crate) fn tell_turns(&mut self, rt: &impl Abort, turns: &Turns, places: Range<u64>) {
+        for place in places.start..places.end {
+            let turn = some(rt, turns.get(place));
+            if let Some(event) = turn_event(turn) {
+                self.tell(rt, &event);
+            }
+        }
+    }
+
+    /// Tells a crash, behind which there is what these commits wrote.
+    pub(crate) fn tell_crash(&mut self, rt: &impl Abort, kept: Vec<u64>) {
+        let kept = RoomyList::from_vec(kept);
+        self.tell(rt, &Event::Crash { kept });
+    }
+
+    /// What it says is on the disk of each node.
+    pub(crate) fn cut(&self) -> &Cut {
+        self.state.cut()
+    }
+
     // Tells an event, which the machine takes.
     fn tell(&mut self, rt: &impl Abort, event: &Event)
         requires { (state : MachineState) → length state.first.made ≡ 4 → MayBeTold state event.now }
@@ -88,16 +121,6 @@ fn tell_calls(rt: &impl Abort, machine: &mut Machine, history: &History) {
     }
 }
 
-// Tells the machine all turns.
-fn tell_turns(rt: &impl Abort, machine: &mut Machine, turns: &Turns) {
-    for place in 0..turns.len() {
-        let turn = some(rt, turns.get(place));
-        if let Some(event) = turn_event(turn) {
-            machine.tell(rt, &event);
-        }
-    }
-}
-
 // Whether each fsync that was acknowledged is in the cut.
 fn covers_all(machine: &Machine, history: &History) -> bool {
     let mut cursor = history.first();
@@ -123,9 +146,7 @@ pub(crate) fn assert_taken(
 )
     requires { IsFirst base.now.first }
 {
-    let state = State::new(alloc, got(rt, base.first.copy()));
-    let mut machine = Machine { state };
-    tell_calls(rt, &mut machine, history);
-    tell_turns(rt, &mut machine, turns);
+    let mut machine = Machine::new(rt, alloc, base, history);
+    machine.tell_turns(rt, turns, 0..turns.len());
     holds(rt, covers_all(&machine, history));
 }

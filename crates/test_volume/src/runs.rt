@@ -8,25 +8,27 @@ ghost use Rattle.mount.specs.Workers.{AreWorkers};
 use crate::helpers::{got, holds, same};
 use disk_box::Pen;
 use fmt_super::Layout;
-use mount::{MountFault, Mounted, Volume, mount, run_phase, unmount};
+use mount::{MountFault, Mounted, Volume, mount, run_phase, totals, unmount};
 use recovery::mkfs;
 use script::{Phase, Script, read};
-use sfs_base::Gate;
+use sfs_base::{Gate, NoMemory};
 use sfs_dev::{Disk, Memory};
 use std::alloc::Global;
 use std::process::Abort;
 use std::sync::Wait;
 use std::thread::Threads;
 use tree_laws::{History, Turns};
+use tree_totals::TreeTotals;
 use workers::Worker;
 
-/// What a run leaves, and whether each phase came to its end.
+/// What a run leaves, whether each phase came to its end, and how much the tree had then.
 #[derive(Drop)]
 pub(crate) struct Ran<D> {
     pub disk: D,
     pub history: History,
     pub turns: Turns,
     pub ended: bool,
+    pub totals: Result<TreeTotals, NoMemory>,
 }
 
 /// A disk of that content without a device call, where nothing is pending on this one.
@@ -73,6 +75,26 @@ fn run_all<R: Threads + Wait + Sync, D: Disk + Drop + Sync, G: Gate>(
     true
 }
 
+// The same, and counts how much the tree has then.
+fn run_and_count<R: Threads + Wait + Sync, D: Disk + Drop + Sync, G: Gate>(
+    rt: &R,
+    alloc: Global,
+    volume: &Volume<D>,
+    workers: &mut [Worker<Pen<D>>],
+    phases: &[Phase],
+    gate: &G,
+) -> (bool, Result<TreeTotals, NoMemory>)
+    requires volume { IsVolume volume.now }
+    requires workers { AreWorkers volume.now workers.old }
+    requires ready { AllByRecursion LinesMayRun phases.now }
+    ensures count { length workers.new ≡ length workers.old }
+    ensures workers { AreWorkers volume.now workers.new }
+{
+    let ended = run_all(rt, alloc, volume, workers, phases, gate);
+    let counted = totals(rt, volume, workers);
+    (ended, counted)
+}
+
 /// Runs a script on the volume that a disk is mounted as, in which so many nodes may be made.
 pub(crate) fn run_on<R: Threads + Wait + Sync, D: Disk + Drop + Sync, G: Gate>(
     rt: &R,
@@ -89,7 +111,7 @@ pub(crate) fn run_on<R: Threads + Wait + Sync, D: Disk + Drop + Sync, G: Gate>(
         volume,
         mut workers,
     } = mount(alloc, disk, nodes)?;
-    let ended = run_all(
+    let (ended, totals) = run_and_count(
         rt,
         alloc,
         &volume,
@@ -103,6 +125,7 @@ pub(crate) fn run_on<R: Threads + Wait + Sync, D: Disk + Drop + Sync, G: Gate>(
         history,
         turns,
         ended,
+        totals,
     })
 }
 

@@ -89,7 +89,7 @@ fn add_fsync(rt: &impl Abort, script: &mut Vec<u8>, dice: &mut Dice) {
     }
 }
 
-// Adds a line of which a third are fsyncs.
+// Adds a line, of which a quarter are fsyncs.
 fn add_line(rt: &impl Abort, script: &mut Vec<u8>, dice: &mut Dice, workers: u64)
     requires { (0 < workers) × (workers ≤ 4) }
 {
@@ -100,7 +100,7 @@ fn add_line(rt: &impl Abort, script: &mut Vec<u8>, dice: &mut Dice, workers: u64
         _ => "3 ",
     };
     add(rt, script, worker);
-    if dice.below(3) == 0 {
+    if dice.below(4) == 0 {
         add_fsync(rt, script, dice);
     } else {
         let (verb, operands) = VERBS[dice.below(11) as usize];
@@ -112,7 +112,7 @@ fn add_line(rt: &impl Abort, script: &mut Vec<u8>, dice: &mut Dice, workers: u64
     add(rt, script, "\n");
 }
 
-/// A script of so many workers and phases, of some 16 lines a worker.
+/// A script of so many workers and phases, of some 40 lines a worker.
 pub(crate) fn draw(
     rt: &impl Abort,
     alloc: Global,
@@ -127,7 +127,7 @@ pub(crate) fn draw(
         if phase > 0 {
             add(rt, &mut script, "---\n");
         }
-        for _ in 0..workers * 16 / phases {
+        for _ in 0..workers * 40 / phases {
             add_line(rt, &mut script, dice, workers);
         }
     }

@@ -7,12 +7,13 @@ use crate::judged::{Base, CORES, Health, tree_after};
 use crate::runs::Ran;
 use history_check::{LONGEST_HISTORY, check};
 use script::text;
-use sfs_base::Stamp;
+use sfs_base::{Kind, NoMemory, NodeId, Stamp};
 use sfs_dev::Disk;
 use sfs_tree::Tree;
 use std::alloc::Global;
 use std::process::Abort;
 use tree_laws::{Call, Code, Entry, History, Reply, Turn, TurnAct, Turns};
+use tree_totals::TreeTotals;
 
 // Asserts that the text of a history is that of a legal one of as many calls, by a check that has nothing but the text and the tree with which it begins.
 fn assert_legal_text(rt: &impl Abort, alloc: Global, base: &Base, history: &History)
@@ -84,8 +85,36 @@ fn all_told(turns: &Turns, history: &History) -> bool {
     true
 }
 
-/// The tree after the history of a run that began with a disk's tree. Asserts that the history is legal, by the plain tree and by its text, and that each
-/// fsync is answered as its last turn says.
+// The numbers of nodes in trees of drawn scripts lie below this one.
+const HIGHEST: u32 = 1_024;
+
+// The rows of a tree's directories, and the bytes of its live files.
+fn totals_of(tree: &Tree) -> (u64, u64) {
+    let mut rows = 0u64;
+    let mut bytes = 0u64;
+    for number in 0..HIGHEST {
+        let node = NodeId(number);
+        match tree.kind(node) {
+            Some(Kind::Directory) => rows = rows.saturating_add(tree.row_count(node) as u64),
+            Some(Kind::File) if tree.is_alive(node) => {
+                bytes = bytes.saturating_add(tree.bytes(node).len() as u64);
+            }
+            _ => {}
+        }
+    }
+    (rows, bytes)
+}
+
+// Asserts that these are the rows and bytes of a tree.
+fn assert_counted(rt: &impl Abort, counted: &Result<TreeTotals, NoMemory>, tree: &Tree) {
+    match counted {
+        Ok(totals) => same(rt, &(totals.rows, totals.bytes), &totals_of(tree)),
+        Err(NoMemory) => panic!(rt; "no memory"),
+    }
+}
+
+/// The tree after the history of a run that began with a disk's tree. Asserts that the history is legal, by the plain tree and by its text, that each
+/// fsync is answered as its last turn says, and that as much was counted at the end as the tree has.
 pub(crate) fn plain_tree<D: Disk>(
     rt: &impl Abort,
     alloc: Global,
@@ -100,5 +129,6 @@ pub(crate) fn plain_tree<D: Disk>(
     let plain = some(rt, tree_after(rt, &ran.history, &base.first, health, calls));
     assert_legal_text(rt, alloc, base, &ran.history);
     holds(rt, all_told(&ran.turns, &ran.history));
+    assert_counted(rt, &ran.totals, &plain);
     plain
 }

@@ -36,13 +36,21 @@ pub(crate) fn assert_left(rt: &impl Abort, alloc: Global, disk: &Memory, calls: 
 
 /// The nodes of two trees at the same path.
 #[derive(Clone, Copy)]
-struct Pair {
-    one: NodeId,
-    other: NodeId,
+pub(crate) struct Pair {
+    pub one: NodeId,
+    pub other: NodeId,
 }
 
-// Puts the children of two directories last, each with the one at the same place. Says whether they have the same names.
-fn add_children(
+impl Pair {
+    /// The roots.
+    pub(crate) const ROOTS: Pair = Pair {
+        one: NodeId(0),
+        other: NodeId(0),
+    };
+}
+
+/// Puts the children of two directories last, each with the one at the same place. Says whether they have the same names.
+pub(crate) fn add_children(
     one: &Tree,
     other: &Tree,
     pair: Pair,
@@ -90,10 +98,7 @@ const MOST_MET: u32 = 100_000;
 // Whether two trees have the same names, and files of the same bytes under them.
 fn have_same_bytes(alloc: Global, one: &Tree, other: &Tree) -> Result<bool, NoMemory> {
     let mut unmet = Vec::new(alloc);
-    unmet.push(Pair {
-        one: NodeId(0),
-        other: NodeId(0),
-    })?;
+    unmet.push(Pair::ROOTS)?;
     for _ in 0..MOST_MET {
         let Some(pair) = unmet.pop() else {
             return Ok(true);

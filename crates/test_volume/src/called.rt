@@ -1,0 +1,130 @@
+// Calls of one worker of a volume, each by itself and with ample memory.
+ghost use Rattle.tree_laws.specs.Step.{IsReadable};
+ghost use Rattle.workers.specs.Works.{IsBasisOf, Rests};
+ghost use Rattle.mount.specs.Serving.{ServesAt};
+ghost use Rattle.mount.specs.Workers.{AgreeAt};
+
+use crate::helpers::{got, holds};
+use crate::runs::image;
+use disk_box::Pen;
+use fmt_super::Layout;
+use fsync_dir::FlushSite;
+use mount::{Mounted, make_call, mount};
+use sfs_base::{Chunk, Kind, Name, NoGate, NodeId};
+use sfs_dev::Memory;
+use std::alloc::Global;
+use std::process::Abort;
+use std::sync::Wait;
+use tree_laws::{Call, Reply};
+use workers::{Basis, Worker};
+
+const LAYOUT: Layout = Layout {
+    blocks: 128,
+    inodes: 64,
+    cores: 2,
+    slots: 1,
+};
+
+// Makes a call, and asserts its answer.
+fn assert_answered<R: Wait + Abort>(
+    rt: &R,
+    alloc: Global,
+    site: &FlushSite<Memory>,
+    basis: Basis,
+    worker: &mut Worker<Pen<Memory>>,
+    asked: Call,
+    due: &Reply,
+)
+    requires site { ServesAt site.now.shared.now site.now.set.now site.now.nodes site.now.cores }
+    requires basis { IsBasisOf site.now.shared.now basis }
+    requires rest { Rests site.now.shared.now (AgreeAt site.now.shared.now site.now.set.now) worker.old }
+    requires readable { IsReadable asked }
+    ensures { Rests site.now.shared.now (AgreeAt site.now.shared.now site.now.set.now) worker.new }
+{
+    let is = got(
+        rt,
+        make_call(rt, alloc, site, basis, worker, asked, &NoGate),
+    );
+    holds(rt, is.equals(due));
+}
+
+// A name.
+fn name(rt: &impl Abort, alloc: Global, text: &str) -> Name {
+    got(rt, Name::new(alloc, text.as_bytes()))
+}
+
+// Some bytes.
+fn chunk(rt: &impl Abort, alloc: Global) -> Chunk {
+    got(
+        rt,
+        Chunk::new(got(rt, Vec::from_slice(alloc, b"hi".as_slice()))),
+    )
+}
+
+const HOME: NodeId = NodeId(64);
+
+const NOTE: NodeId = NodeId(65);
+
+// Makes a directory and a file in it, writes it, flushes it and reads it, and asserts each answer.
+fn assert_errand<R: Wait + Abort>(
+    rt: &R,
+    alloc: Global,
+    site: &FlushSite<Memory>,
+    basis: Basis,
+    worker: &mut Worker<Pen<Memory>>,
+)
+    requires site { ServesAt site.now.shared.now site.now.set.now site.now.nodes site.now.cores }
+    requires basis { IsBasisOf site.now.shared.now basis }
+    requires rest { Rests site.now.shared.now (AgreeAt site.now.shared.now site.now.set.now) worker.old }
+{
+    let asked = Call::Make {
+        dir: NodeId(0),
+        name: name(rt, alloc, "home"),
+        kind: Kind::Directory,
+    };
+    let due = Reply::Node {
+        node: HOME,
+        kind: Kind::Directory,
+    };
+    assert_answered(rt, alloc, site, basis, worker, asked, &due);
+    let asked = Call::Make {
+        dir: HOME,
+        name: name(rt, alloc, "note"),
+        kind: Kind::File,
+    };
+    let due = Reply::Node {
+        node: NOTE,
+        kind: Kind::File,
+    };
+    assert_answered(rt, alloc, site, basis, worker, asked, &due);
+    let asked = Call::Write {
+        file: NOTE,
+        at: 0,
+        bytes: chunk(rt, alloc),
+    };
+    assert_answered(rt, alloc, site, basis, worker, asked, &Reply::Ok);
+    let asked = Call::Fsync { node: NOTE };
+    assert_answered(rt, alloc, site, basis, worker, asked, &Reply::Ok);
+    let asked = Call::Read {
+        file: NOTE,
+        at: 0,
+        count: 100,
+    };
+    let due = Reply::Bytes {
+        bytes: chunk(rt, alloc),
+    };
+    assert_answered(rt, alloc, site, basis, worker, asked, &due);
+}
+
+#[test]
+fn a_worker_makes_calls_by_themselves(rt: HostRuntime) {
+    let alloc = rt.alloc();
+    let disk = image(&rt, alloc, LAYOUT);
+    let Mounted {
+        volume,
+        mut workers,
+    } = got(&rt, mount(alloc, disk, 64));
+    holds(&rt, workers.len() == 2);
+    let site = volume.site();
+    assert_errand(&rt, alloc, &site, volume.basis, &mut workers[0]);
+}
