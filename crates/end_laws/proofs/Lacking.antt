@@ -162,11 +162,7 @@ module _ (D : Type 0) (at : MountEnd) (named : Numbered) (ends : MountEnds D at)
 
   -- the box there, as a place has it
   abbrev box_made : BoxState
-  box_made = record {
-    done = map (commit_under named.pairs) (stamps_under named past.done);
-    opens = map (made_of named) past.opens;
-    number = past.commits;
-  }
+  box_made = record { done = map (commit_under named.pairs) (stamps_under named past.done); opens = map (made_of named) past.opens; number = past.commits }
 
   box_same : box_of (commit_numbered named) past ≡ box_made
   box_same i = record { done = sym (commits_under named past.done) i; opens = map (made_of named) past.opens; number = past.commits }

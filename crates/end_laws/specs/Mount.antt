@@ -107,8 +107,8 @@ pub record ReservedAt (told : Telling) (number : ℕ) (front : List (Event Label
   pub back : List (Event Label)
   pub whole : told.log ≡ front ++ Told core (label.Reserved number seen grant) ∷ back
 
--- The pair under an fsync's stamp is of what its core made: so are its commit, which is told wherever that is told, and what it brings; and beside each volume that is
--- imagined where its number was reserved it is the pair of that there.
+-- The pair under an fsync's stamp is of what its core made: so are its commit, which is told wherever that is told, and what it brings; and beside each
+-- volume that is imagined where its number was reserved it is the pair of that there.
 pub record IsPairOf (at : MountEnd) (named : Numbered) (one : FlushTold) (made : FlushMade) : Type 0 where
   pub made_in : MadeIn (run_at at) made.making
   pub commit : IsCommitOf made (commit_under named.pairs one.flush.stamp)

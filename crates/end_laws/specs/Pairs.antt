@@ -29,8 +29,8 @@ pub record BringsMade (made : FlushMade) (volume : Volume) (one : Bringing) : Ty
   pub grant : one.grant ≡ made.grant
   pub parts : one.parts ≡ parts_given volume one.plan one.grant
 
--- A pair is of what a core made, beside a volume where some commits are done: its commit is that one, by what was noted, or by its own file where these commits have left
--- such stamps; and it brings what is made of the plan with its grant.
+-- A pair is of what a core made, beside a volume where some commits are done: its commit is that one, by what was noted, or by its own file where these
+-- commits have left such stamps; and it brings what is made of the plan with its grant.
 pub data IsPairThere (run : TableRun) (made : FlushMade) (volume : Volume) (done : List CoreCommit) (pair : Pair) : Type 0 where
   of_look : (core : CoreMade run made.making) → pair.commit ≡ commit_made run made.making core.plans made.number
       → pair.one ≡ bringing_made volume (sources_of made.making []) core.plans made.grant → IsPairThere run made volume done pair

@@ -76,8 +76,8 @@ abbrev pub cut_if_inode : Option Pending → Option Stamp
 cut_if_inode None = None
 cut_if_inode (Some value) = if is_some value.old then Some value.cut else None
 
--- A core holds what was flushed of its fsync's node, which has an inode, and nothing else: up to this stamp something was flushed of it. That stood for all that the core
--- has seen, which has the fsync's call, and is legal and lawful. There is room for a log, which lies above.
+-- A core holds what was flushed of its fsync's node, which has an inode, and nothing else: up to this stamp something was flushed of it. That stood for all
+-- that the core has seen, which has the fsync's call, and is legal and lawful. There is room for a log, which lies above.
 pub record IsCaughtAlone (given : ℕ → Option OldKept) (nodes : ℕ) (fsync : WaitingFsync) (hand : FileHand) (cut : Stamp) : Type 0 where
   pub value : Pending
   pub kept : OldKept

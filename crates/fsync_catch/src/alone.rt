@@ -27,8 +27,8 @@ fn cut_with_inode(core: &FileCore, nodes: u32, node: NodeId) -> Option<Stamp>
     }
 }
 
-/// Holds what was flushed of the node of an fsync, and nothing else: where it has an inode it answers up to which stamp something was flushed of it; where it has none it
-/// lets it go, and holds nothing. It takes no log, and waits while another core has the node's value. Where memory is refused it holds nothing.
+/// Holds what was flushed of the node of an fsync, and nothing else: where it has an inode it answers up to which stamp something was flushed of it; where it
+/// has none it lets it go, and holds nothing. It takes no log, and waits while another core has the node's value. Where memory is refused it holds nothing.
 pub fn catch_alone<R: Wait>(
     rt: &R,
     shared: &FileShared,

@@ -263,8 +263,8 @@ fn hold_file<R: Wait, D: Disk + Drop>(
     }
 }
 
-/// Tries to flush: the fsync is answered, or a node has moved, and it waits on and may be tried again. A file that has an inode is flushed by its own value alone, and no log
-/// is looked at for it.
+/// Tries to flush: the fsync is answered, or a node has moved, and it waits on and may be tried again. A file that has an inode is flushed by its own value
+/// alone, and no log is looked at for it.
 pub(crate) fn attempt<R: Wait, D: Disk + Drop, G: Gate>(
     rt: &R,
     alloc: Global,

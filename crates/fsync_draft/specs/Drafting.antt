@@ -70,8 +70,8 @@ IsDraftedAlone fsync cut file [] = fsync.stamp.0 < cut.0
 IsDraftedAlone fsync cut file (change ∷ []) = (cut.0 ≤ fsync.stamp.0) × IsFileChange fsync.node cut.0 file change
 IsDraftedAlone fsync cut file _ = ⊥
 
--- What was planned of a file that has an inode, over its own value: the file alone is changed, over what the disk has of it, which was taken out of the value; there
--- are boxes enough, and its last commit was seen.
+-- What was planned of a file that has an inode, over its own value: the file alone is changed, over what the disk has of it, which was taken out of the
+-- value; there are boxes enough, and its last commit was seen.
 pub record IsOwnDraft (fsync : WaitingFsync) (cut : Stamp) (file : File) (was now : List Cell) (draft : Draft) : Type 0 where
   pub files : List FileChange
   pub files_are : IsDraftedAlone fsync cut file files

@@ -81,9 +81,9 @@ fn drafted_alone(
     }
 }
 
-/// Plans what the fsync of a file changes that has an inode and of which something was flushed up to `cut`, by these bytes, which the file had at the fsync's stamp.
-/// The file's value is all that the core holds; it is taken out of its cell, and what the disk has of the file is lent to the plan. Where memory is wanting the core is
-/// as it was.
+/// Plans what the fsync of a file changes that has an inode and of which something was flushed up to `cut`, by these bytes, which the file had at the fsync's
+/// stamp. The file's value is all that the core holds; it is taken out of its cell, and what the disk has of the file is lent to the plan. Where memory is
+/// wanting the core is as it was.
 pub fn draft_alone(
     alloc: Global,
     core: &mut FileCore,

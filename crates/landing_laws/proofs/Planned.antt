@@ -53,8 +53,8 @@ cut_within given first log node lawful = by (last_writer node (account_of log).c
     by (Some writer) is =
         let one = last_is_one node (account_of log).commits writer is in cuts_within given first log writer.0 node writer.1 lawful one.0 one.1
 
--- What a core has seen is legal and lawful, with the fsync's call; what it holds stood for some of that; the nodes that the fsync concerns are nodes of the tree whose values
--- it holds; and the members are some of these, directories but for the fsync's own node.
+-- What a core has seen is legal and lawful, with the fsync's call; what it holds stood for some of that; the nodes that the fsync concerns are nodes of the
+-- tree whose values it holds; and the members are some of these, directories but for the fsync's own node.
 pub record PlannedFacts (s : PlannedFsync) : Type 0 where
   pub legal : IsLegal s.hand.view.first (calls_of (run_planned s))
   pub lawful : IsLawfulLog s.given s.hand.view.first s.hand.view.seen

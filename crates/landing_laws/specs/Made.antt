@@ -51,8 +51,8 @@ pub record PlannedFsync : Type 0 where
 abbrev pub run_planned : PlannedFsync → TableRun
 run_planned s = run_seen s.given s.hand
 
--- What was lent to a plan, over the values of the cells that a core holds of its nodes: what the disk has of them; there are boxes enough for what a commit leaves
--- of them; of each node its last commit was seen; and the plan has these nodes and these members.
+-- What was lent to a plan, over the values of the cells that a core holds of its nodes: what the disk has of them; there are boxes enough for what a commit
+-- leaves of them; of each node its last commit was seen; and the plan has these nodes and these members.
 pub record IsLentPlan (s : PlannedFsync) : Type 0 where
   pub lent : s.drafted.values.items ≡ map lent_value (values_in s.hand.held)
   pub boxes : (after : List OldEntry) (nodes : List NodeId) → boxes_asked after nodes (values_in s.hand.held) ≤ length s.drafted.draft.spares.items
@@ -61,8 +61,8 @@ pub record IsLentPlan (s : PlannedFsync) : Type 0 where
   pub members : s.drafted.draft.plan.members.items ≡ s.caught.concern.members.items
   pub nodes : s.drafted.draft.plan.nodes.items ≡ s.caught.concern.nodes.items
 
--- A file that has an inode was planned by its own value alone: this is all that the core holds, and it stood for all that the core had seen, which has the fsync's
--- call; the fsync concerns the file and no other node; and the plan changes nothing but the file.
+-- A file that has an inode was planned by its own value alone: this is all that the core holds, and it stood for all that the core had seen, which has the
+-- fsync's call; the fsync concerns the file and no other node; and the plan changes nothing but the file.
 pub record IsPlannedAlone (s : PlannedFsync) : Type 0 where
   pub value : Pending
   pub kept : OldKept
@@ -84,8 +84,8 @@ pub data IsPlannedSo (s : PlannedFsync) : Type 0 where
   by_look : IsCaught s.given s.nodes s.fsync s.hand s.caught → IsDraftOf s.fsync s.caught s.file s.hand s.drafted → IsPlannedSo s
   alone : IsPlannedAlone s → IsPlannedSo s
 
--- It was planned on a table with some core whose disk had something of the root, by what was copied of its file; the core holds what was flushed of exactly the nodes
--- that it concerns, which are nodes of the table, and lent what the disk has of them.
+-- It was planned on a table with some core whose disk had something of the root, by what was copied of its file; the core holds what was flushed of exactly
+-- the nodes that it concerns, which are nodes of the table, and lent what the disk has of them.
 pub record IsDraftedFsync (s : PlannedFsync) : Type 0 where
   pub root : is_some (s.given 0) ≡ true
   pub some_core : 0 < length s.hand.view.first.made

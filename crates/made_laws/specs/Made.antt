@@ -178,8 +178,8 @@ abbrev pub OwnsGoOn : Type 0
 OwnsGoOn = (run : TableRun) (more : List (Event Fact)) (own : OwnFileMaking) → IsTableRun (run_on run more) → OwnFileMade run own
     → OwnFileMade (run_on run more) own
 
--- What a core made for the fsync of a file that has an inode, in the words of what it makes for any fsync: this noted no log, concerns the file's node alone, has
--- its entry, and changes nothing but the file.
+-- What a core made for the fsync of a file that has an inode, in the words of what it makes for any fsync: this noted no log, concerns the file's node alone,
+-- has its entry, and changes nothing but the file.
 pub record OwnMade (run : TableRun) (making : CoreMaking) : Type 0 where
   pub own : OwnFileMaking
   pub made : OwnFileMade run own

@@ -47,7 +47,8 @@ use Rattle.tell_laws.specs.Kept.{TellsDisk}
 use Rattle.tell_laws.proofs.Kept.{saws_are_kept}
 use Rattle.tell_laws.proofs.Telling.{same_tree, as_long, copy_there}
 
--- What is known of an own file's fsync at a place, whatever its pair is: what the core made, and the commits that are done there, of which it knew the last one.
+-- What is known of an own file's fsync at a place, whatever its pair is: what the core made, and the commits that are done there, of which it knew the last
+-- one.
 pub record OwnKnown (run : TableRun) (own : OwnFileMaking) (beside : DoneBeside) : Type 0 where
   pub table : IsTableRun run
   pub made : OwnFileMade run own
