@@ -75,6 +75,10 @@ const THREE_FILES: &str = "0 create /a\n1 create /b\n1 create /c\n";
 const MOVED: &str =
     "2 mkdir /p\n2 mkdir /q\n2 mkdir /r\n2 create /p/f\n---\n0 rename /p/f /q/f\n1 create /r/g\n1 stat /\n";
 
+// A file of core 1 that comes to the disk; then a file that core 0 makes, and beside it a further write and fsync of the first one, and a call behind these.
+const FLUSHED_AGAIN: &str =
+    "1 create /b\n1 write /b 0 68\n1 fsync /b\n---\n0 create /a\n1 write /b 0 69\n1 fsync /b\n1 create /c\n";
+
 // Asserts that core 1 comes on while core 0 is held, and that so many calls are made.
 fn assert_met<R: Threads + Wait + Sync + Abort>(
     rt: &R,
@@ -105,4 +109,10 @@ fn a_core_that_has_its_log_keeps_no_other_core_waiting(rt: HostRuntime) {
 fn a_file_that_moves_keeps_no_other_directory_waiting(rt: HostRuntime) {
     let gate = Meeting::new(Place::Held, 3, 3);
     assert_met(&rt, rt.alloc(), &gate, MOVED, 11);
+}
+
+#[test]
+fn a_file_that_the_disk_has_is_flushed_while_another_core_has_its_log(rt: HostRuntime) {
+    let gate = Meeting::new(Place::Part, 1, 10);
+    assert_met(&rt, rt.alloc(), &gate, FLUSHED_AGAIN, 11);
 }
