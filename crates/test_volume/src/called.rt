@@ -2,14 +2,15 @@
 ghost use Rattle.tree_laws.specs.Step.{IsReadable};
 ghost use Rattle.workers.specs.Works.{IsBasisOf, Rests};
 ghost use Rattle.mount.specs.Serving.{ServesAt};
-ghost use Rattle.mount.specs.Workers.{AgreeAt};
+ghost use Rattle.mount.specs.Volume.{IsVolume};
+ghost use Rattle.mount.specs.Workers.{AgreeAt, AreWorkers};
 
 use crate::helpers::{got, holds};
 use crate::runs::image;
 use disk_box::Pen;
 use fmt_super::Layout;
 use fsync_dir::FlushSite;
-use mount::{Mounted, make_call, mount};
+use mount::{Mounted, Volume, make_call, mount};
 use sfs_base::{Chunk, Kind, Name, NoGate, NodeId};
 use sfs_dev::Memory;
 use std::alloc::Global;
@@ -116,6 +117,21 @@ fn assert_errand<R: Wait + Abort>(
     assert_answered(rt, alloc, site, basis, worker, asked, &due);
 }
 
+// Has the first of the two workers of a volume make these calls.
+fn assert_called<R: Wait + Abort>(
+    rt: &R,
+    alloc: Global,
+    volume: &Volume<Memory>,
+    workers: &mut [Worker<Pen<Memory>>],
+)
+    requires volume { IsVolume volume.now }
+    requires workers { AreWorkers volume.now workers.old }
+{
+    holds(rt, workers.len() == 2);
+    let site = volume.site();
+    assert_errand(rt, alloc, &site, volume.basis, &mut workers[0]);
+}
+
 #[test]
 fn a_worker_makes_calls_by_themselves(rt: HostRuntime) {
     let alloc = rt.alloc();
@@ -124,7 +140,5 @@ fn a_worker_makes_calls_by_themselves(rt: HostRuntime) {
         volume,
         mut workers,
     } = got(&rt, mount(alloc, disk, 64));
-    holds(&rt, workers.len() == 2);
-    let site = volume.site();
-    assert_errand(&rt, alloc, &site, volume.basis, &mut workers[0]);
+    assert_called(&rt, alloc, &volume, workers.as_mut_slice());
 }
