@@ -7,7 +7,7 @@ use Rattle.space_map.specs.declared.fault.SpaceFault.TheVariants.{NoSpace}
 use Rattle.space_map.proofs.Free.{length-free_from}
 use Rattle.tree_laws.specs.declared.turns.Turn.{Turn}
 use Rattle.disk_nodes.specs.declared.old.OldEntry.{OldEntry}
-use Rattle.disk_change.specs.Planned.{Planned, enters}
+use Rattle.disk_change.specs.Planned.{Planned, enters, planned as change_by}
 use Rattle.commit_laws.specs.CommitOfPlan.{change_planned}
 use Rattle.cut_laws.specs.Closure.{Flush}
 use Rattle.cut_laws.specs.Rules.{IsOneOf}
@@ -365,7 +365,7 @@ module _ (D : Type 0) (at : MountEnd) (named : Numbered) (ends : MountEnds D at)
     planning_own = planned_own volume done of_own makes_own
 
     change_own : lack.making.plan.change ≡ change_planned planning_own.plan
-    change_own = file.change_is ∙ ap (λ (l : List OldEntry). planned l [] own.files [] []) file.old_is
+    change_own = file.change_is ∙ ap (λ (l : List OldEntry). change_by l [] own.files [] []) file.old_is
 
     lack_own : TellsLack volume short.space turn told
     lack_own = record {
