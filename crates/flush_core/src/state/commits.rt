@@ -132,7 +132,6 @@ impl State {
         Ok(raise)
     }
 
-    // LosesInodeInView a commit in doubt.
     pub(super) fn fail(&mut self, commit: u64) -> Result<(), Refused>
         requires { self.old.crashed ≡ false }
         ensures { Answers self.old (event.Fail commit) result self.new }
