@@ -35,7 +35,7 @@ fn main(rt: HostRuntime) -> io::Result<()> {
             "bench_spool spool WORKERS MESSAGES shared|private FILE: messages a second, in memory and on that file; 1 to 16 workers, 1 to 1900 messages in all"
         );
     };
-    for slots in ["1", "2"] {
+    for slots in [1, 2] {
         println!(rt; "{slots} slots a core")?;
         let Ok(memory) = Memory::new(alloc, IMAGE_BLOCKS) else {
             return println!(rt; "no memory");
@@ -71,7 +71,7 @@ fn measure<R: Threads + Wait + Sync + Clock + Print, D: Disk + Drop + Sync>(
     rt: &R,
     alloc: Global,
     asked: &Asked,
-    slots: &str,
+    slots: u32,
     disk: D,
     name: &str,
 ) -> io::Result<Option<D>> {
@@ -79,24 +79,12 @@ fn measure<R: Threads + Wait + Sync + Clock + Print, D: Disk + Drop + Sync>(
         println!(rt; "  {name}: no memory")?;
         return Ok(None);
     };
-    let start = Instant::now(rt)?;
-    let ran = deliver(rt, alloc, asked, slots, script, disk);
-    let passed = start.elapsed(rt)?.as_micros();
-    let Ok(ran) = ran else {
+    let Some(ran) = deliver(rt, alloc, asked, slots, &script, disk)? else {
         println!(rt; "  {name}: no memory")?;
         return Ok(None);
     };
-    let Ran {
-        mut disk,
-        done,
-        calls,
-    } = ran;
-    println!(rt;
-        "  {name}, all done: {done}: {} messages and {calls} calls in {passed} us, {} messages a second, {} device calls in 100 messages",
-        asked.messages(),
-        a_second(asked.messages(), passed),
-        in_hundred(disk.now(), asked.messages())
-    )?;
+    print_ran(rt, asked, &ran, name)?;
+    let mut disk = ran.disk;
     let start = Instant::now(rt)?;
     let bare = bare_writes(&mut disk);
     let passed = start.elapsed(rt)?.as_micros();
@@ -105,6 +93,20 @@ fn measure<R: Threads + Wait + Sync + Clock + Print, D: Disk + Drop + Sync>(
         a_second(u64::from(bare), passed)
     )?;
     Ok(Some(disk))
+}
+
+// Says what a run took.
+fn print_ran<R: Print, D: Disk>(rt: &R, asked: &Asked, ran: &Ran<D>, name: &str) -> io::Result<()> {
+    println!(rt;
+        "  {name}: {} messages in {} us, {} messages a second; {} calls in all, {} of {} fsyncs acknowledged; {} device calls in 100 messages",
+        asked.messages(),
+        ran.micros,
+        a_second(asked.messages(), ran.micros),
+        ran.calls,
+        ran.acknowledged,
+        ran.fsyncs,
+        in_hundred(ran.disk.now(), asked.messages())
+    )
 }
 
 // Says how many of a disk's calls were writes and syncs, the bare ones and the making of the image among them.

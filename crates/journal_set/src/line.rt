@@ -1,9 +1,10 @@
 // In which order cores take the box.
+use std::hint;
 use std::sync::atomic::{AtomicU64, Ordering};
-use std::thread;
 
-// How often a core looks at most whether those that came before it have had the box.
-const LOOKS: u32 = 100;
+// How often a core looks at most whether those that came before it have had the box: some turns long. It doesn't give its processor away meanwhile:
+// where other programs wait for that too, it would have it back milliseconds later, and all that come behind it would wait as long.
+const LOOKS: u32 = 20_000;
 
 /// How many turns at the box cores came for, and how many they have had: who comes first is served first, as far as so many looks go. The box alone
 /// keeps no order: a core that lets it go would have it again before one that sleeps is awake. No contract speaks of it.
@@ -29,7 +30,7 @@ impl Line {
             if self.had.load(Ordering::SeqCst) >= before {
                 return;
             }
-            thread::yield_now();
+            hint::spin_loop();
         }
     }
 
