@@ -54,24 +54,24 @@ nodes_put own other node bytes later is sorted =
     (entries-insert nat_cmp_total (tree_of own other).nodes node (file_node bytes)
     ∙ ap (put nat_cmp node (file_node bytes)) (entries-from_sorted nat_cmp (nodes_listed own other) tt) ∙ is ∙ sym sorted)
 
-own_step : tree_after_entry FIRST_TREE own_write ≡ MIDDLE_TREE
+pub own_step : tree_after_entry FIRST_TREE own_write ≡ MIDDLE_TREE
 own_step =
     ap (λ (v : Verdict). tree_with FIRST_TREE 0 v.effect v.makes) own_writes
     ∙ ap (λ (o : Option Node). record FIRST_TREE { nodes = with_edit FIRST_TREE.nodes 1 (Puts 0 (65 ∷ [])) o }) (node_get [] [] 1)
     ∙ ap (λ nodes. record FIRST_TREE { nodes = nodes })
     (nodes_put [] [] 1 (65 ∷ []) (nodes_listed (65 ∷ []) []) refl (entries-from_sorted nat_cmp (nodes_listed (65 ∷ []) []) tt))
 
-other_step : tree_after_entry MIDDLE_TREE other_write ≡ LAST_TREE
+pub other_step : tree_after_entry MIDDLE_TREE other_write ≡ LAST_TREE
 other_step =
     ap (λ (v : Verdict). tree_with MIDDLE_TREE 1 v.effect v.makes) other_writes
     ∙ ap (λ (o : Option Node). record MIDDLE_TREE { nodes = with_edit MIDDLE_TREE.nodes 2 (Puts 0 (66 ∷ [])) o }) (node_get (65 ∷ []) [] 2)
     ∙ ap (λ nodes. record MIDDLE_TREE { nodes = nodes })
     (nodes_put (65 ∷ []) [] 2 (66 ∷ []) (nodes_listed (65 ∷ []) (66 ∷ [])) refl (entries-from_sorted nat_cmp (nodes_listed (65 ∷ []) (66 ∷ [])) tt))
 
-own_stays : tree_after_entry LAST_TREE own_fsync ≡ LAST_TREE
+pub own_stays : tree_after_entry LAST_TREE own_fsync ≡ LAST_TREE
 own_stays = ap (λ (v : Verdict). tree_with LAST_TREE 0 v.effect v.makes) own_flushes
 
-other_stays : tree_after_entry LAST_TREE other_fsync ≡ LAST_TREE
+pub other_stays : tree_after_entry LAST_TREE other_fsync ≡ LAST_TREE
 other_stays = ap (λ (v : Verdict). tree_with LAST_TREE 1 v.effect v.makes) other_flushes
 
 pub same_after : tree_after FIRST_TREE WRITES_AND_FSYNCS ≡ LAST_TREE
@@ -171,19 +171,20 @@ no_cut node = ap (λ (o : Option ℕ). unwrap_or o 0) (get-empty nat_cmp node)
 pub first_bytes : (node : ℕ) → bytes_at FIRST_TREE WRITES_AND_FSYNCS node (cut_of empty node) ≡ []
 first_bytes node = ap (bytes_at FIRST_TREE WRITES_AND_FSYNCS node) (no_cut node) ∙ bytes_then node 0
 
+-- and its rows are the first ones
+pub same_rows : rows_at_cut FIRST_TREE WRITES_AND_FSYNCS empty ≡ FIRST_TREE.rows
+same_rows = ap (λ l. fold with_own FIRST_TREE.rows (filter (is_within empty) l)) nothing_changes
+
 -- at the cut 0 the tree is the first one
 pub same_at_cut : tree_at_cut FIRST_TREE WRITES_AND_FSYNCS empty ≡ FIRST_TREE
 same_at_cut = λ i. record {
-  rows = rows i;
+  rows = same_rows i;
   nodes = nodes i;
   first = 3;
   share = 1;
   made = (ap (λ (t : TreeState). t.made) same_after) i;
 }
   where
-    rows : rows_at_cut FIRST_TREE WRITES_AND_FSYNCS empty ≡ FIRST_TREE.rows
-    rows = ap (λ l. fold with_own FIRST_TREE.rows (filter (is_within empty) l)) nothing_changes
-
     entries_then : entries (tree_after FIRST_TREE WRITES_AND_FSYNCS).nodes ≡ nodes_listed (65 ∷ []) (66 ∷ [])
     entries_then = ap (λ (t : TreeState). entries t.nodes) same_after ∙ entries-from_sorted nat_cmp (nodes_listed (65 ∷ []) (66 ∷ [])) tt
 

@@ -1,3 +1,5 @@
 pub mod Calls
 pub mod Image
+pub mod Fsyncs
+pub mod Map
 pub mod Laws

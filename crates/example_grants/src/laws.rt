@@ -1,7 +1,12 @@
 //! What is proved of the example: each function's contract is a law.
-ghost use Rattle.example_grants.specs.Laws.{FilesStand};
+ghost use Rattle.example_grants.specs.Laws.{FilesStand, WritersTell};
 
 /// The volume of two files stands, and a walk may begin with it.
 pub fn files_stand()
     ensures { FilesStand }
+{}
+
+/// Two cores that each flush one byte of their own file tell of their pairs, and their commits write a record and a block each.
+pub fn writers_tell()
+    ensures { WritersTell }
 {}
