@@ -5,3 +5,5 @@ pub mod Standing
 pub mod Plans
 pub mod Mapped
 pub mod Telling
+pub mod Turns
+pub mod Along

@@ -2,4 +2,5 @@ pub mod Calls
 pub mod Image
 pub mod Fsyncs
 pub mod Map
+pub mod Turns
 pub mod Laws

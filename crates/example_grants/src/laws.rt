@@ -1,5 +1,5 @@
 //! What is proved of the example: each function's contract is a law.
-ghost use Rattle.example_grants.specs.Laws.{FilesStand, WritersTell};
+ghost use Rattle.example_grants.specs.Laws.{FilesStand, WritersTell, WritersGoAlong};
 
 /// The volume of two files stands, and a walk may begin with it.
 pub fn files_stand()
@@ -9,4 +9,10 @@ pub fn files_stand()
 /// Two cores that each flush one byte of their own file tell of their pairs, and their commits write a record and a block each.
 pub fn writers_tell()
     ensures { WritersTell }
+{}
+
+/// They do so along a record in which both commits are aloft at a time, with a map of free space that goes along it, so its
+/// turns are recorded.
+pub fn writers_go_along()
+    ensures { WritersGoAlong }
 {}

@@ -1,0 +1,51 @@
+-- The turns of both fsyncs: both commits are aloft at a time, and the second one ends first.
+use Rattle.std.specs.Prelude.{ℕ, ◌∷◌, List, []}
+use Rattle.tree_laws.specs.declared.turns.Turn.{Turn}
+use Rattle.tree_laws.specs.declared.turns.TurnAct.{TurnAct}
+use Rattle.tree_laws.specs.declared.turns.TurnAct.TheVariants as act
+use Rattle.merge_laws.specs.Pens.{FsyncTurns}
+
+-- a turn of each, at a moment
+abbrev pub own_turn : ℕ → TurnAct → Turn
+own_turn now did = record {
+  core = record { 0 = 0 };
+  node = record { 0 = 1 };
+  stamp = record { 0 = 2 };
+  commit = 1;
+  now = now;
+  faults = 0;
+  act = did;
+}
+
+abbrev pub other_turn : ℕ → TurnAct → Turn
+other_turn now did = record {
+  core = record { 0 = 1 };
+  node = record { 0 = 2 };
+  stamp = record { 0 = 3 };
+  commit = 2;
+  now = now;
+  faults = 0;
+  act = did;
+}
+
+abbrev pub FILES_TURNS : List Turn
+FILES_TURNS =
+    own_turn 0 act.Granted
+    ∷ other_turn 0 act.Granted
+    ∷ own_turn 0 act.CutAt
+    ∷ other_turn 0 act.CutAt
+    ∷ other_turn 3 act.Opened
+    ∷ own_turn 4 act.Opened
+    ∷ other_turn 5 act.Durable
+    ∷ own_turn 8 act.Durable
+    ∷ []
+
+-- what each pen has of them
+abbrev pub OWN_TURNS : List Turn
+OWN_TURNS = own_turn 0 act.Granted ∷ own_turn 0 act.CutAt ∷ own_turn 4 act.Opened ∷ own_turn 8 act.Durable ∷ []
+
+abbrev pub OTHER_TURNS : List Turn
+OTHER_TURNS = other_turn 0 act.Granted ∷ other_turn 0 act.CutAt ∷ other_turn 3 act.Opened ∷ other_turn 5 act.Durable ∷ []
+
+abbrev pub FILES_PENS : List (List FsyncTurns)
+FILES_PENS = (record { stamp = 2; turns = OWN_TURNS } ∷ []) ∷ (record { stamp = 3; turns = OTHER_TURNS } ∷ []) ∷ []
