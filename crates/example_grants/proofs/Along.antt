@@ -65,23 +65,23 @@ goes_two = one_turn_made _ (other_turn 0 act.Granted) (map_with Granted Free) (m
 
 goes_three : MapGoes pairs FIRST_MAP (take 3 FILES_TURNS) (map_with Granted Granted)
 goes_three =
-    one_turn_made _ (own_turn 0 act.CutAt) (map_with Granted Granted) (map_with Granted Granted) goes_two (λ none. absurd (some_turns none), refl)
+    one_turn_made _ (other_turn 10 act.CutAt) (map_with Granted Granted) (map_with Granted Granted) goes_two (λ none. absurd (some_turns none), refl)
 
 goes_four : MapGoes pairs FIRST_MAP (take 4 FILES_TURNS) (map_with Granted Granted)
-goes_four =
-    one_turn_made _ (other_turn 0 act.CutAt) (map_with Granted Granted) (map_with Granted Granted) goes_three (λ none. absurd (some_turns none), refl)
+goes_four = one_turn_made _ (other_turn 10 act.Opened) (map_with Granted Granted) (map_with Granted Granted) goes_three refl
 
 goes_five : MapGoes pairs FIRST_MAP (take 5 FILES_TURNS) (map_with Granted Granted)
-goes_five = one_turn_made _ (other_turn 3 act.Opened) (map_with Granted Granted) (map_with Granted Granted) goes_four refl
+goes_five =
+    one_turn_made _ (own_turn 11 act.CutAt) (map_with Granted Granted) (map_with Granted Granted) goes_four (λ none. absurd (some_turns none), refl)
 
 goes_six : MapGoes pairs FIRST_MAP (take 6 FILES_TURNS) (map_with Granted Granted)
-goes_six = one_turn_made _ (own_turn 4 act.Opened) (map_with Granted Granted) (map_with Granted Granted) goes_five refl
+goes_six = one_turn_made _ (own_turn 11 act.Opened) (map_with Granted Granted) (map_with Granted Granted) goes_five refl
 
 goes_seven : MapGoes pairs FIRST_MAP (take 7 FILES_TURNS) (map_with Granted Taken)
-goes_seven = one_turn_made _ (other_turn 5 act.Durable) (map_with Granted Granted) (map_with Granted Taken) goes_six other_ended
+goes_seven = one_turn_made _ (other_turn 12 act.Durable) (map_with Granted Granted) (map_with Granted Taken) goes_six other_ended
 
 goes_eight : MapGoes pairs FIRST_MAP FILES_TURNS (map_with Taken Taken)
-goes_eight = one_turn_made _ (own_turn 8 act.Durable) (map_with Granted Taken) (map_with Taken Taken) goes_seven own_ended
+goes_eight = one_turn_made _ (own_turn 13 act.Durable) (map_with Granted Taken) (map_with Taken Taken) goes_seven own_ended
 
 map_goes : HoldsFrom GoesTo [] FILES_TURNS
 map_goes = (no_turn_made, (goes_one, (goes_two, (goes_three, (goes_four, (goes_five, (goes_six, (goes_seven, tt))))))))
@@ -139,11 +139,11 @@ all_tell = (
   (
     other_tells,
     (
-      begins_tell _ (own_turn 0 act.CutAt) refl refl,
+      begins_tell _ (other_turn 10 act.CutAt) refl refl,
       (
-        begins_tell _ (other_turn 0 act.CutAt) refl refl,
+        λ at volume plays is. tt,
         (
-          λ at volume plays is. tt,
+          begins_tell _ (own_turn 11 act.CutAt) refl refl,
           (λ at volume plays is. tt, (λ at volume plays is. tt, (λ at volume plays is. tt, tt))),
         ),
       ),

@@ -98,7 +98,7 @@ history_legal = (
       core = omega arith;
       due = subst (λ (b : Bool). IsDue b (verdict LAST_TREE 0 own_fsync.call).reply reply.Ok) (sym (own_alive (65 ∷ []) (66 ∷ []))) tt;
       acknowledged =
-          subst (λ (b : Bool). IsSome {T = ℕ} (Some 8) ↔ IsTrue (b && is_ok_reply reply.Ok)) (sym (own_alive (65 ∷ []) (66 ∷ []))) (λ s. refl, λ s. refl);
+          subst (λ (b : Bool). IsSome {T = ℕ} (Some 13) ↔ IsTrue (b && is_ok_reply reply.Ok)) (sym (own_alive (65 ∷ []) (66 ∷ []))) (λ s. refl, λ s. refl);
     }
 
     other_may : MayCome LAST_TREE 3 other_fsync
@@ -107,7 +107,7 @@ history_legal = (
       core = omega arith;
       due = subst (λ (b : Bool). IsDue b (verdict LAST_TREE 1 other_fsync.call).reply reply.Ok) (sym (other_alive (65 ∷ []) (66 ∷ []))) tt;
       acknowledged =
-          subst (λ (b : Bool). IsSome {T = ℕ} (Some 5) ↔ IsTrue (b && is_ok_reply reply.Ok)) (sym (other_alive (65 ∷ []) (66 ∷ []))) (λ s. refl, λ s. refl);
+          subst (λ (b : Bool). IsSome {T = ℕ} (Some 12) ↔ IsTrue (b && is_ok_reply reply.Ok)) (sym (other_alive (65 ∷ []) (66 ∷ []))) (λ s. refl, λ s. refl);
     }
 
 -- What is told entry by entry of a history is what these effects tell.

@@ -26,7 +26,7 @@ use Rattle.commit_laws.proofs.PartsMade.{lengths}
 use Rattle.commit_laws.proofs.GoodParts.{IsGoodPart, all_good}
 use Rattle.cut_laws.proofs.Basics.{below_or}
 use Rattle.flush_laws.specs.Ready.{AreSoundParts}
-use Rattle.example_grants.specs.Image.{ROOT_SLOTS, ROOT_INODE, EMPTY_FILE, FIRST_PARTS, ROOT_BLOCK, FIRST_RECORDS, FIFTEEN_BLOCKS}
+use Rattle.example_grants.specs.Image.{file_inode as a_file, ROOT_SLOTS, ROOT_INODE, EMPTY_FILE, FIRST_PARTS, ROOT_BLOCK, FIRST_RECORDS, FIFTEEN_BLOCKS}
 use Rattle.example_grants.proofs.Tree.{first_three, of_others}
 
 own_is_slot : IsSlot (Some (record { inode = 1; kind = File; name = 97 ∷ [] }))
@@ -63,17 +63,20 @@ root_inode = record {
   free = λ none. absurd (let two : 2 ≡ 0 = none in omega arith);
 }
 
-pub file_inode : IsInode EMPTY_FILE
-file_inode = record {
+pub any_file : (size block : ℕ) → size < 2 ^ 64 → block < 2 ^ 32 → IsInode (a_file size block)
+any_file size block short low = record {
   kind = omega arith;
   links = omega arith;
-  size = omega arith;
+  size = short;
   direct_count = ap suc (length-replicate {A = ℕ} 107 0);
-  direct = one_direct 0 (omega arith);
+  direct = one_direct block low;
   indirect_count = length-replicate {A = ℕ} 16 0;
   indirect = λ k. let e = zeros_read 16 k in omega arith;
   free = λ none. absurd (let one : 1 ≡ 0 = none in omega arith);
 }
+
+file_inode : IsInode EMPTY_FILE
+file_inode = any_file 0 0 (omega arith) (omega arith)
 
 abbrev pub ROOT_PART : Part
 ROOT_PART = FIRST_PARTS 0

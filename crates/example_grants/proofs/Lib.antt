@@ -7,3 +7,4 @@ pub mod Mapped
 pub mod Telling
 pub mod Turns
 pub mod Along
+pub mod Labels

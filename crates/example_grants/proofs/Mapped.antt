@@ -12,7 +12,7 @@ use Rattle.fmt_journal.specs.declared.tx.Tx.{Tx}
 use Rattle.space_map.specs.Space.{Space}
 use Rattle.space_map.specs.declared.status.Status.{Status}
 use Rattle.space_map.specs.declared.status.Status.TheVariants.{Granted, Taken, Free}
-use Rattle.space_map.specs.Pool.{status_of, first_status, Grants, Changes, free_numbers, free_count}
+use Rattle.space_map.specs.Pool.{status_of, first_status, Grants, Changes, Ends, free_numbers, free_count}
 use Rattle.disk_nodes.specs.OldKept.{Kept}
 use Rattle.disk_nodes.specs.declared.old.OldEntry.{OldEntry}
 use Rattle.block_map.specs.Kept.{pointer_kept, tables_kept, kept_of}
@@ -245,7 +245,7 @@ blocks_change change numbers own other own_then other_then first second third fo
     none false = refl
 
 -- a grant of one block
-one_granted : (block : ℕ) (own other own_then other_then : Status) → status_of (map_with own other).blocks block ≡ Some Free
+pub one_granted : (block : ℕ) (own other own_then other_then : Status) → status_of (map_with own other).blocks block ≡ Some Free
     → Changes (λ _. Granted) (block ∷ []) (map_with own other).blocks (map_with own_then other_then).blocks
     → free_count (map_with own_then other_then).blocks + 1 ≡ free_count (map_with own other).blocks
     → (count : ℕ) → count ≡ 1 → Grants (map_with own other).blocks (as_u32 count) (block ∷ []) (map_with own_then other_then).blocks
@@ -269,13 +269,19 @@ least_none : (writing : Writing) (own other : Status) → WritesOne writing (pla
 least_none writing own other writes =
     sym (take_none (free_numbers (map_with own other).inodes) (as_u32 (amount_planned (plan_by writing)).inodes) (ap as_u32 (no_inode writing writes)))
 
--- the first core reserves block 11, and behind it the second one block 13
+-- the first core is granted block 11, and behind it the second one block 13
+pub own_granted : (count : ℕ) → count ≡ 1 → Grants FIRST_MAP.blocks (as_u32 count) (11 ∷ []) (map_with Granted Free).blocks
+own_granted = one_granted 11 Free Free Granted Free refl (blocks_change (λ _. Granted) (11 ∷ []) Free Free Granted Free refl refl refl refl) refl
+
+pub other_granted : (count : ℕ) → count ≡ 1 → Grants (map_with Granted Free).blocks (as_u32 count) (13 ∷ []) (map_with Granted Granted).blocks
+other_granted =
+    one_granted 13 Granted Free Granted Granted refl (blocks_change (λ _. Granted) (13 ∷ []) Granted Free Granted Granted refl refl refl refl) refl
+
 pub own_reserved : WasReserved (plan_by OWN) FIRST_MAP (grant_by OWN) (map_with Granted Free)
 own_reserved = record {
   taken = record {
     inodes = grants_none FIRST_MAP.inodes (amount_planned (plan_by OWN)).inodes (no_inode OWN own_writes);
-    blocks = one_granted 11 Free Free Granted Free refl (blocks_change (λ _. Granted) (11 ∷ []) Free Free Granted Free refl refl refl refl) refl
-        (amount_planned (plan_by OWN)).blocks (one_block OWN own_writes);
+    blocks = own_granted (amount_planned (plan_by OWN)).blocks (one_block OWN own_writes);
   };
   least = least_none OWN Free Free own_writes;
 }
@@ -284,8 +290,7 @@ pub other_reserved : WasReserved (plan_by OTHER) (map_with Granted Free) (grant_
 other_reserved = record {
   taken = record {
     inodes = grants_none FIRST_MAP.inodes (amount_planned (plan_by OTHER)).inodes (no_inode OTHER other_writes);
-    blocks = one_granted 13 Granted Free Granted Granted refl (blocks_change (λ _. Granted) (13 ∷ []) Granted Free Granted Granted refl refl refl refl) refl
-        (amount_planned (plan_by OTHER)).blocks (one_block OTHER other_writes);
+    blocks = other_granted (amount_planned (plan_by OTHER)).blocks (one_block OTHER other_writes);
   };
   least = least_none OTHER Granted Free other_writes;
 }
@@ -342,22 +347,14 @@ pub other_transaction : IsTransactionOf (change_planned (plan_by OTHER)) (grant_
 other_transaction = transaction OTHER other_writes other_gives_none
 
 -- the second core's commit ends, and then the first one's
+pub other_ends : Ends (13 ∷ []) [] (map_with Granted Granted).blocks (map_with Granted Taken).blocks
+other_ends = blocks_change (λ _. Taken) (13 ∷ []) Granted Granted Granted Taken refl refl refl refl
+
+pub own_ends : Ends (11 ∷ []) [] (map_with Granted Taken).blocks (map_with Taken Taken).blocks
+own_ends = blocks_change (λ _. Taken) (11 ∷ []) Granted Taken Taken Taken refl refl refl refl
+
 pub other_ended : EndsBringing (pair_by OTHER).one (map_with Granted Granted) (map_with Granted Taken)
-other_ended = record {
-  tx = tx_by OTHER;
-  used = record {
-    gives_up = other_transaction;
-    inodes = λ number. refl;
-    blocks = blocks_change (λ _. Taken) (13 ∷ []) Granted Granted Granted Taken refl refl refl refl;
-  };
-}
+other_ended = record { tx = tx_by OTHER; used = record { gives_up = other_transaction; inodes = λ number. refl; blocks = other_ends } }
 
 pub own_ended : EndsBringing (pair_by OWN).one (map_with Granted Taken) (map_with Taken Taken)
-own_ended = record {
-  tx = tx_by OWN;
-  used = record {
-    gives_up = own_transaction;
-    inodes = λ number. refl;
-    blocks = blocks_change (λ _. Taken) (11 ∷ []) Granted Taken Taken Taken refl refl refl refl;
-  };
-}
+own_ended = record { tx = tx_by OWN; used = record { gives_up = own_transaction; inodes = λ number. refl; blocks = own_ends } }

@@ -152,40 +152,40 @@ both_wait =
     (record { calm = refl; first = refl; fresh = λ one. one; later_is = refl }))
     (record { calm = refl; first = refl; fresh = apart_from 2 3 own_no_other; later_is = refl })
 
-both_begun : Plays (take 4 FILES_TURNS) (record nothing_played { aloft = flight 2 false ∷ flight 3 false ∷ [] })
-both_begun =
-    one_play (take 3 FILES_TURNS) (other_turn 0 act.CutAt) (record nothing_played { waiting = 3 ∷ []; aloft = flight 2 false ∷ [] }) _
-    (one_play (take 2 FILES_TURNS) (own_turn 0 act.CutAt) (record nothing_played { waiting = 2 ∷ 3 ∷ [] }) _ both_wait
+other_begun : Plays (take 3 FILES_TURNS) (record nothing_played { waiting = 2 ∷ []; aloft = flight 3 false ∷ [] })
+other_begun =
+    one_play (take 2 FILES_TURNS) (other_turn 10 act.CutAt) (record nothing_played { waiting = 2 ∷ 3 ∷ [] }) _ both_wait
     (record {
       calm = refl;
-      left = 3 ∷ [];
-      waited = inl (record { before = []; behind = 3 ∷ []; waits = record { whole = refl; once = apart_from 3 2 other_no_own }; left_is = refl });
+      left = 2 ∷ [];
+      waited = inl (record { before = 2 ∷ []; behind = []; waits = record { whole = refl; once = apart_from 2 3 own_no_other }; left_is = refl });
       fresh = λ other one. absurd one;
       later_is = refl;
-    }))
+    })
+
+other_opened : Plays (take 4 FILES_TURNS) (record nothing_played { waiting = 2 ∷ []; aloft = flight 3 true ∷ [] })
+other_opened =
+    one_play (take 3 FILES_TURNS) (other_turn 10 act.Opened) (record nothing_played { waiting = 2 ∷ []; aloft = flight 3 false ∷ [] }) _ other_begun
+    (record { calm = refl; before = []; behind = []; flies = record { whole = refl; once = λ other one. absurd one }; later_is = refl })
+
+own_begun : Plays (take 5 FILES_TURNS) (record nothing_played { aloft = flight 3 true ∷ flight 2 false ∷ [] })
+own_begun =
+    one_play (take 4 FILES_TURNS) (own_turn 11 act.CutAt) (record nothing_played { waiting = 2 ∷ []; aloft = flight 3 true ∷ [] }) _ other_opened
     (record {
       calm = refl;
       left = [];
       waited = inl (record { before = []; behind = []; waits = record { whole = refl; once = λ one. one }; left_is = refl });
-      fresh = λ other one. flies_apart (flight 2 false) other 3 one own_no_other;
+      fresh = λ other one. flies_apart (flight 3 true) other 2 one other_no_own;
       later_is = refl;
     })
 
-pub both_opened : Plays (take 6 FILES_TURNS) (record nothing_played { aloft = flight 2 true ∷ flight 3 true ∷ [] })
+pub both_opened : Plays (take 6 FILES_TURNS) (record nothing_played { aloft = flight 3 true ∷ flight 2 true ∷ [] })
 both_opened =
-    one_play (take 5 FILES_TURNS) (own_turn 4 act.Opened) (record nothing_played { aloft = flight 2 false ∷ flight 3 true ∷ [] }) _
-    (one_play (take 4 FILES_TURNS) (other_turn 3 act.Opened) (record nothing_played { aloft = flight 2 false ∷ flight 3 false ∷ [] }) _ both_begun
+    one_play (take 5 FILES_TURNS) (own_turn 11 act.Opened) (record nothing_played { aloft = flight 3 true ∷ flight 2 false ∷ [] }) _ own_begun
     (record {
       calm = refl;
-      before = flight 2 false ∷ [];
+      before = flight 3 true ∷ [];
       behind = [];
-      flies = record { whole = refl; once = λ other one. flies_apart (flight 2 false) other 3 one own_no_other };
-      later_is = refl;
-    }))
-    (record {
-      calm = refl;
-      before = [];
-      behind = flight 3 true ∷ [];
       flies = record { whole = refl; once = λ other one. flies_apart (flight 3 true) other 2 one other_no_own };
       later_is = refl;
     })

@@ -36,10 +36,10 @@ other_write = record { stamp = record { 0 = 1 }; core = record { 0 = 1 }; call =
 
 -- The first core flushes its file at stamp 2, and the second one its own at stamp 3, which is answered sooner.
 abbrev pub own_fsync : Entry
-own_fsync = record { stamp = record { 0 = 2 }; core = record { 0 = 0 }; call = call.Fsync (record { 0 = 1 }); reply = reply.Ok; ack = Some 8 }
+own_fsync = record { stamp = record { 0 = 2 }; core = record { 0 = 0 }; call = call.Fsync (record { 0 = 1 }); reply = reply.Ok; ack = Some 13 }
 
 abbrev pub other_fsync : Entry
-other_fsync = record { stamp = record { 0 = 3 }; core = record { 0 = 1 }; call = call.Fsync (record { 0 = 2 }); reply = reply.Ok; ack = Some 5 }
+other_fsync = record { stamp = record { 0 = 3 }; core = record { 0 = 1 }; call = call.Fsync (record { 0 = 2 }); reply = reply.Ok; ack = Some 12 }
 
 abbrev pub WRITES_AND_FSYNCS : List Entry
 WRITES_AND_FSYNCS = own_write ∷ other_write ∷ own_fsync ∷ other_fsync ∷ []

@@ -65,7 +65,7 @@ pub record WritersGoAlong : Type 0 where
   pub goes : MapGoes FILES_KEPT.pairs FIRST_MAP FILES_TURNS (map_behind 8)
   pub reserve : WritersReserve
   pub aloft : Plays (take 6 FILES_TURNS)
-      (record { done = []; waiting = []; aloft = record { stamp = 2; opened = true } ∷ record { stamp = 3; opened = true } ∷ []; failed = None })
+      (record { done = []; waiting = []; aloft = record { stamp = 3; opened = true } ∷ record { stamp = 2; opened = true } ∷ []; failed = None })
   pub fits : FitsRecord FILES_KEPT FILES_TURNS
   pub agrees : AgreesWithBooks FILES_KEPT 0 0 0 FILES_TURNS FILES_PENS
   pub recorded : IsRecorded FIRST_TREE WRITES_AND_FSYNCS (image_held TWO_FILES) 0 0 FILES_TURNS

@@ -4,3 +4,4 @@ pub mod Fsyncs
 pub mod Map
 pub mod Turns
 pub mod Laws
+pub mod Told

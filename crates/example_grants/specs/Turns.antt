@@ -32,20 +32,20 @@ abbrev pub FILES_TURNS : List Turn
 FILES_TURNS =
     own_turn 0 act.Granted
     ∷ other_turn 0 act.Granted
-    ∷ own_turn 0 act.CutAt
-    ∷ other_turn 0 act.CutAt
-    ∷ other_turn 3 act.Opened
-    ∷ own_turn 4 act.Opened
-    ∷ other_turn 5 act.Durable
-    ∷ own_turn 8 act.Durable
+    ∷ other_turn 10 act.CutAt
+    ∷ other_turn 10 act.Opened
+    ∷ own_turn 11 act.CutAt
+    ∷ own_turn 11 act.Opened
+    ∷ other_turn 12 act.Durable
+    ∷ own_turn 13 act.Durable
     ∷ []
 
 -- what each pen has of them
 abbrev pub OWN_TURNS : List Turn
-OWN_TURNS = own_turn 0 act.Granted ∷ own_turn 0 act.CutAt ∷ own_turn 4 act.Opened ∷ own_turn 8 act.Durable ∷ []
+OWN_TURNS = own_turn 0 act.Granted ∷ own_turn 11 act.CutAt ∷ own_turn 11 act.Opened ∷ own_turn 13 act.Durable ∷ []
 
 abbrev pub OTHER_TURNS : List Turn
-OTHER_TURNS = other_turn 0 act.Granted ∷ other_turn 0 act.CutAt ∷ other_turn 3 act.Opened ∷ other_turn 5 act.Durable ∷ []
+OTHER_TURNS = other_turn 0 act.Granted ∷ other_turn 10 act.CutAt ∷ other_turn 10 act.Opened ∷ other_turn 12 act.Durable ∷ []
 
 abbrev pub FILES_PENS : List (List FsyncTurns)
 FILES_PENS = (record { stamp = 2; turns = OWN_TURNS } ∷ []) ∷ (record { stamp = 3; turns = OTHER_TURNS } ∷ []) ∷ []

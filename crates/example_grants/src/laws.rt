@@ -1,5 +1,6 @@
 //! What is proved of the example: each function's contract is a law.
 ghost use Rattle.example_grants.specs.Laws.{FilesStand, WritersTell, WritersGoAlong};
+ghost use Rattle.example_grants.specs.Told.{WritersTellLabels};
 
 /// The volume of two files stands, and a walk may begin with it.
 pub fn files_stand()
@@ -15,4 +16,10 @@ pub fn writers_tell()
 /// turns are recorded.
 pub fn writers_go_along()
     ensures { WritersGoAlong }
+{}
+
+/// They tell labels as each commit writes its record and its block through a journal slot, beside what both bring, and both
+/// pens agree.
+pub fn writers_tell_labels()
+    ensures { WritersTellLabels }
 {}
