@@ -8,3 +8,4 @@ pub mod Telling
 pub mod Turns
 pub mod Along
 pub mod Labels
+pub mod Disk

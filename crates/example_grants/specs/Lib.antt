@@ -5,3 +5,4 @@ pub mod Map
 pub mod Turns
 pub mod Laws
 pub mod Told
+pub mod Disk

@@ -1,4 +1,5 @@
 //! What is proved of the example: each function's contract is a law.
+ghost use Rattle.example_grants.specs.Disk.{WritersClose};
 ghost use Rattle.example_grants.specs.Laws.{FilesStand, WritersTell, WritersGoAlong};
 ghost use Rattle.example_grants.specs.Told.{WritersTellLabels};
 
@@ -22,4 +23,10 @@ pub fn writers_go_along()
 /// pens agree.
 pub fn writers_tell_labels()
     ensures { WritersTellLabels }
+{}
+
+/// On a disk on which both commits are written call by call, they meet all that is asked of the end of a mount, so the mount
+/// closes.
+pub fn writers_close()
+    ensures { WritersClose }
 {}
