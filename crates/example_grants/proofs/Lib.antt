@@ -9,3 +9,4 @@ pub mod Turns
 pub mod Along
 pub mod Labels
 pub mod Disk
+pub mod Bytes

@@ -6,3 +6,4 @@ pub mod Turns
 pub mod Laws
 pub mod Told
 pub mod Disk
+pub mod Bytes

@@ -1,4 +1,5 @@
 //! What is proved of the example: each function's contract is a law.
+ghost use Rattle.example_grants.specs.Bytes.{FilesImageStands};
 ghost use Rattle.example_grants.specs.Disk.{WritersClose};
 ghost use Rattle.example_grants.specs.Laws.{FilesStand, WritersTell, WritersGoAlong};
 ghost use Rattle.example_grants.specs.Told.{WritersTellLabels};
@@ -29,4 +30,9 @@ pub fn writers_tell_labels()
 /// closes.
 pub fn writers_close()
     ensures { WritersClose }
+{}
+
+/// There is an image with which such a disk begins, in bytes.
+pub fn files_image_stands()
+    ensures { FilesImageStands }
 {}
