@@ -11,7 +11,7 @@ use Rattle.turn_laws.specs.Ways.{HasCommit}
 use Rattle.merge_laws.specs.Plays.{PlayState, Plays, nothing_played, no_play, one_play}
 use Rattle.merge_laws.specs.Phases.{phase_of, has_reserved}
 use Rattle.merge_laws.proofs.Worked.{of_each, some_turns}
-use Rattle.book_laws.specs.Imagined.{Imagines, none_brought}
+use Rattle.book_laws.specs.Imagined.{none_brought}
 use Rattle.book_laws.specs.Pairs.{Pair, ArePairsApart, PairReserves, bringing_under}
 use Rattle.book_laws.specs.Walk.{IsVolumeAt}
 use Rattle.book_laws.specs.WalkLaws.{AgreesWithBooks}
@@ -22,11 +22,11 @@ use Rattle.book_laws.proofs.Placed.{places_reserve}
 use Rattle.book_laws.proofs.Walk.{records_are_kept}
 use Rattle.reserve_laws.specs.Fits.{TellsAct, place_of, ReservesTold, CoresTell}
 use Rattle.reserve_laws.proofs.Fits.{records_fit, told_reserve}
-use Rattle.example_grants.specs.Fsyncs.{OWN, OTHER, pair_by, FILES_KEPT}
+use Rattle.example_grants.specs.Fsyncs.{OWN, OTHER, pair_made, FILES_KEPT}
 use Rattle.example_grants.specs.Image.{TWO_FILES}
 use Rattle.example_grants.specs.Laws.{WritersReserve, WritersGoAlong}
 use Rattle.example_grants.specs.Map.{map_with, map_behind, FIRST_MAP, FILES_MAPPED}
-use Rattle.example_grants.specs.Turns.{own_turn, other_turn, FILES_TURNS, FILES_PENS}
+use Rattle.example_grants.specs.Turns.{own_act, other_act, FILES_TURNS, FILES_PENS}
 use Rattle.example_grants.proofs.Mapped.{own_reserved, other_reserved, own_ended, other_ended, map_right, nothing_granted}
 use Rattle.example_grants.proofs.Standing.{volume_stands, walk_begins}
 use Rattle.example_grants.proofs.Telling.{entries_kept, own_is, other_is, own_serves, other_serves, tells}
@@ -36,7 +36,7 @@ abbrev pairs : ℕ → Pair
 pairs = FILES_KEPT.pairs
 
 -- the two pairs share nothing
-pub apart : ArePairsApart (pair_by OTHER) (pair_by OWN)
+pub apart : ArePairsApart (pair_made OTHER) (pair_made OWN)
 apart = record {
   numbers = λ same. omega (arith, same);
   nodes = λ share.
@@ -57,31 +57,31 @@ apart = record {
 abbrev GoesTo : List Turn → Turn → Type 0
 GoesTo front turn = MapGoes pairs FIRST_MAP front (map_behind (length front))
 
-goes_one : MapGoes pairs FIRST_MAP (own_turn 0 act.Granted ∷ []) (map_with Granted Free)
-goes_one = one_turn_made [] (own_turn 0 act.Granted) FIRST_MAP (map_with Granted Free) no_turn_made own_reserved
+goes_one : MapGoes pairs FIRST_MAP (own_act 0 act.Granted ∷ []) (map_with Granted Free)
+goes_one = one_turn_made [] (own_act 0 act.Granted) FIRST_MAP (map_with Granted Free) no_turn_made own_reserved
 
-goes_two : MapGoes pairs FIRST_MAP (own_turn 0 act.Granted ∷ other_turn 0 act.Granted ∷ []) (map_with Granted Granted)
-goes_two = one_turn_made _ (other_turn 0 act.Granted) (map_with Granted Free) (map_with Granted Granted) goes_one other_reserved
+goes_two : MapGoes pairs FIRST_MAP (own_act 0 act.Granted ∷ other_act 0 act.Granted ∷ []) (map_with Granted Granted)
+goes_two = one_turn_made _ (other_act 0 act.Granted) (map_with Granted Free) (map_with Granted Granted) goes_one other_reserved
 
 goes_three : MapGoes pairs FIRST_MAP (take 3 FILES_TURNS) (map_with Granted Granted)
 goes_three =
-    one_turn_made _ (other_turn 10 act.CutAt) (map_with Granted Granted) (map_with Granted Granted) goes_two (λ none. absurd (some_turns none), refl)
+    one_turn_made _ (other_act 10 act.CutAt) (map_with Granted Granted) (map_with Granted Granted) goes_two (λ none. absurd (some_turns none), refl)
 
 goes_four : MapGoes pairs FIRST_MAP (take 4 FILES_TURNS) (map_with Granted Granted)
-goes_four = one_turn_made _ (other_turn 10 act.Opened) (map_with Granted Granted) (map_with Granted Granted) goes_three refl
+goes_four = one_turn_made _ (other_act 10 act.Opened) (map_with Granted Granted) (map_with Granted Granted) goes_three refl
 
 goes_five : MapGoes pairs FIRST_MAP (take 5 FILES_TURNS) (map_with Granted Granted)
 goes_five =
-    one_turn_made _ (own_turn 11 act.CutAt) (map_with Granted Granted) (map_with Granted Granted) goes_four (λ none. absurd (some_turns none), refl)
+    one_turn_made _ (own_act 11 act.CutAt) (map_with Granted Granted) (map_with Granted Granted) goes_four (λ none. absurd (some_turns none), refl)
 
 goes_six : MapGoes pairs FIRST_MAP (take 6 FILES_TURNS) (map_with Granted Granted)
-goes_six = one_turn_made _ (own_turn 11 act.Opened) (map_with Granted Granted) (map_with Granted Granted) goes_five refl
+goes_six = one_turn_made _ (own_act 11 act.Opened) (map_with Granted Granted) (map_with Granted Granted) goes_five refl
 
 goes_seven : MapGoes pairs FIRST_MAP (take 7 FILES_TURNS) (map_with Granted Taken)
-goes_seven = one_turn_made _ (other_turn 12 act.Durable) (map_with Granted Granted) (map_with Granted Taken) goes_six other_ended
+goes_seven = one_turn_made _ (other_act 12 act.Durable) (map_with Granted Granted) (map_with Granted Taken) goes_six other_ended
 
 goes_eight : MapGoes pairs FIRST_MAP FILES_TURNS (map_with Taken Taken)
-goes_eight = one_turn_made _ (own_turn 13 act.Durable) (map_with Granted Taken) (map_with Taken Taken) goes_seven own_ended
+goes_eight = one_turn_made _ (own_act 13 act.Durable) (map_with Granted Taken) (map_with Taken Taken) goes_seven own_ended
 
 map_goes : HoldsFrom GoesTo [] FILES_TURNS
 map_goes = (no_turn_made, (goes_one, (goes_two, (goes_three, (goes_four, (goes_five, (goes_six, (goes_seven, tt))))))))
@@ -97,13 +97,13 @@ ReservesAt stamp front at volume = ReservesTold pairs (place_of (λ front. map_b
 abbrev OWN_WAITS : PlayState
 OWN_WAITS = record nothing_played { waiting = 2 ∷ [] }
 
-other_apart : (other : ℕ) → IsOneOf (2 ∷ []) other → ArePairsApart (pair_by OTHER) (pairs other)
+other_apart : (other : ℕ) → IsOneOf (2 ∷ []) other → ArePairsApart (pair_made OTHER) (pairs other)
 other_apart other one = elim one [
-  | inl same ↦ subst (λ stamp. ArePairsApart (pair_by OTHER) (pairs stamp)) same apart
+  | inl same ↦ subst (λ stamp. ArePairsApart (pair_made OTHER) (pairs stamp)) same apart
   | inr never ↦ absurd never
 ]
 
-own_tells : Tells [] (own_turn 0 act.Granted)
+own_tells : Tells [] (own_act 0 act.Granted)
 own_tells at volume plays is =
     let nothing = nothing_yet [] at plays refl in
     subst (λ (s : PlayState). ReservesAt 2 [] s volume) (sym nothing)
@@ -114,10 +114,10 @@ own_tells at volume plays is =
       reserved = own_reserved;
     }))
 
-other_tells : Tells (own_turn 0 act.Granted ∷ []) (other_turn 0 act.Granted)
+other_tells : Tells (own_act 0 act.Granted ∷ []) (other_act 0 act.Granted)
 other_tells at volume plays is =
-    let front : List Turn = own_turn 0 act.Granted ∷ [] in
-    let last = last_played front at plays [] (own_turn 0 act.Granted) refl in
+    let front : List Turn = own_act 0 act.Granted ∷ [] in
+    let last = last_played front at plays [] (own_act 0 act.Granted) refl in
     let waits : at ≡ OWN_WAITS =
     last.did.later_is ∙ ap (λ (s : PlayState). record s { waiting = s.waiting ++ 2 ∷ [] }) (nothing_yet [] last.at last.plays refl) in
     subst (λ (s : PlayState). ReservesAt 3 front s volume) (sym waits)
@@ -139,11 +139,11 @@ all_tell = (
   (
     other_tells,
     (
-      begins_tell _ (other_turn 10 act.CutAt) refl refl,
+      begins_tell _ (other_act 10 act.CutAt) refl refl,
       (
         λ at volume plays is. tt,
         (
-          begins_tell _ (own_turn 11 act.CutAt) refl refl,
+          begins_tell _ (own_act 11 act.CutAt) refl refl,
           (λ at volume plays is. tt, (λ at volume plays is. tt, (λ at volume plays is. tt, tt))),
         ),
       ),
@@ -176,18 +176,18 @@ own_may_reserve = told_reserve pairs TWO_FILES [] [] 2 (record { tells = tells O
 other_may_reserve : PairReserves pairs TWO_FILES [] (2 ∷ []) 3
 other_may_reserve = told_reserve pairs TWO_FILES [] (2 ∷ []) 3 (record { tells = tells OTHER other_is; serves = other_serves; apart = other_apart })
 
-own_waits : Plays (own_turn 0 act.Granted ∷ []) OWN_WAITS
+own_waits : Plays (own_act 0 act.Granted ∷ []) OWN_WAITS
 own_waits =
-    one_play [] (own_turn 0 act.Granted) nothing_played _ no_play (record { calm = refl; first = refl; fresh = λ one. one; later_is = refl })
+    one_play [] (own_act 0 act.Granted) nothing_played _ no_play (record { calm = refl; first = refl; fresh = λ one. one; later_is = refl })
 
 writers_reserve : WritersReserve
 writers_reserve = record {
-  own = places_reserve FILES_MAPPED (record { front = []; at = nothing_played; volume = TWO_FILES; space = FIRST_MAP }) (own_turn 0 act.Granted)
+  own = places_reserve FILES_MAPPED (record { front = []; at = nothing_played; volume = TWO_FILES; space = FIRST_MAP }) (own_act 0 act.Granted)
       (map_with Granted Free)
       (record { begins = map_begins; plays = no_play; calm = refl; imagines = none_brought; goes = no_turn_made }) own_may_reserve own_reserved;
   own_least = refl;
   other = places_reserve FILES_MAPPED
-      (record { front = own_turn 0 act.Granted ∷ []; at = OWN_WAITS; volume = TWO_FILES; space = map_with Granted Free }) (other_turn 0 act.Granted)
+      (record { front = own_act 0 act.Granted ∷ []; at = OWN_WAITS; volume = TWO_FILES; space = map_with Granted Free }) (other_act 0 act.Granted)
       (map_with Granted Granted)
       (record { begins = map_begins; plays = own_waits; calm = refl; imagines = none_brought; goes = goes_one }) other_may_reserve other_reserved;
   other_least = refl;

@@ -1,6 +1,6 @@
 -- An image in bytes stands for the two files.
 use Rattle.std.proofs.Math.Seq.{drop-append-add, take-append_seam}
-use Rattle.std.proofs.Common.{◌++◌, ◌≡◌, ◌∙◌, ◌∷◌, ◌<◌, ◌+◌, ◌/◌, ◌≢◌, ◌==◌, ℕ, List, [], subst, sym, ap, inl, inr, arith, length, take, take_all, length-append, None}
+use Rattle.std.proofs.Common.{◌++◌, ◌≡◌, ◌∙◌, ◌<◌, ◌+◌, ◌/◌, ◌≢◌, ◌==◌, ℕ, List, subst, sym, ap, inl, inr, arith, length, take, length-append, None}
 use Rattle.std.proofs.lemmas.List.{take-replicate}
 use Rattle.std.proofs.lemmas.Bool.{cases_eq}
 use Rattle.sfs_base.proofs.BasicOptions.{none_some}
@@ -22,8 +22,8 @@ use Rattle.commit_one.specs.Change.{nothing_open}
 use Rattle.slot_image_laws.proofs.Starts.{nothing_given}
 use Rattle.example_grants.specs.Disk.{IsFilesImage}
 use Rattle.example_grants.specs.Bytes.{FILES_IMAGE, FilesImageStands}
-use Rattle.example_grants.specs.Image.{FIFTEEN_BLOCKS, ROOT_INODE, EMPTY_FILE, ROOT_SLOTS, FIRST_PARTS, ROOT_BLOCK, FIRST_RECORDS}
-use Rattle.example_grants.proofs.Labels.{layout_fits}
+use Rattle.example_grants.specs.Image.{FIFTEEN_BLOCKS, ROOT_RECORD, EMPTY_FILE, TWO_ROWS, FIRST_PARTS, ROWS_BLOCK, FIRST_RECORDS}
+use Rattle.example_grants.proofs.Rules.{layout_fits}
 use Rattle.example_grants.proofs.Image.{root_inode, any_file, root_slots, inode_cases, free_record, root_raw, file_raw, file_has_none, free_has, ROOT_PART, root_block, root_others}
 use Rattle.example_grants.proofs.Tree.{first_three}
 
@@ -117,11 +117,11 @@ record HasPieces (image : List ℕ) : Type 0 where
   long : length image ≡ 61440
   super : part 0 4096 image ≡ super_bytes FIFTEEN_BLOCKS
   slots : part 4096 32768 image ≡ zeros 32768
-  root : part 36864 512 image ≡ inode_bytes ROOT_INODE
+  root : part 36864 512 image ≡ inode_bytes ROOT_RECORD
   own : part 37376 512 image ≡ inode_bytes EMPTY_FILE
   other : part 37888 512 image ≡ inode_bytes EMPTY_FILE
   free : part 38400 10752 image ≡ zeros 10752
-  rows : part 49152 4096 image ≡ slots_bytes ROOT_SLOTS
+  rows : part 49152 4096 image ≡ slots_bytes TWO_ROWS
 
 file_long : length (inode_bytes EMPTY_FILE) ≡ 512
 file_long = length-inode_bytes EMPTY_FILE (any_file 0 0 (omega arith) (omega arith))
@@ -130,19 +130,19 @@ FILES_PIECES : Pieces
 FILES_PIECES = record {
   super = super_bytes FIFTEEN_BLOCKS;
   slots = zeros 32768;
-  root = inode_bytes ROOT_INODE;
+  root = inode_bytes ROOT_RECORD;
   own = inode_bytes EMPTY_FILE;
   other = inode_bytes EMPTY_FILE;
   free = zeros 10752;
-  rows = slots_bytes ROOT_SLOTS;
+  rows = slots_bytes TWO_ROWS;
   rest = zeros 8192;
   super_long = length-super_bytes FIFTEEN_BLOCKS;
   slots_long = length-zeros 32768;
-  root_long = length-inode_bytes ROOT_INODE root_inode;
+  root_long = length-inode_bytes ROOT_RECORD root_inode;
   own_long = file_long;
   other_long = file_long;
   free_long = length-zeros 10752;
-  rows_long = length-slots_bytes ROOT_SLOTS root_slots;
+  rows_long = length-slots_bytes TWO_ROWS root_slots;
   rest_long = length-zeros 8192;
 }
 
@@ -195,7 +195,7 @@ module _ (image : List ℕ) (has : HasPieces image) where
     | inr apart ↦
         part_in_zeros 38400 10752 (table_byte FIFTEEN_BLOCKS i) 512 image (let long = has.long in omega (arith, long)) has.free
         (let no_root = apart.0 in let no_one = apart.1 in let no_two = apart.2 in omega (arith, no_root, no_one, no_two)) (omega (arith, low))
-        ∙ sym (raw_of ROOT_BLOCK (FIRST_RECORDS i) ∙ free_record i apart)
+        ∙ sym (raw_of ROWS_BLOCK (FIRST_RECORDS i) ∙ free_record i apart)
   ]
 
   -- the one block that a pointer names is the root's
@@ -220,7 +220,7 @@ module _ (image : List ℕ) (has : HasPieces image) where
 
   gathered : (i : ℕ) → IsGathered (image_block image) (FIRST_PARTS i)
   gathered i =
-      gathered_same ROOT_BLOCK (image_block image) (FIRST_PARTS i) (is_gathered ROOT_BLOCK (FIRST_RECORDS i))
+      gathered_same ROWS_BLOCK (image_block image) (FIRST_PARTS i) (is_gathered ROWS_BLOCK (FIRST_RECORDS i))
       (λ place there. ap (image_block image) (points i place there) ∙ has.rows)
 
   lies : (i : ℕ) → PointsToData FIFTEEN_BLOCKS (FIRST_PARTS i)

@@ -1,8 +1,9 @@
 -- The disk on which both commits are written is in the run that the labels tell, and the mount closes.
 use Rattle.std.specs.Option.{option_map_or}
 use Rattle.std.proofs.Math.Seq.{drop-append-add, take-append_seam}
-use Rattle.std.proofs.Common.{◌∷◌, ◌++◌, ◌≡◌, ◌⊎◌, ◌∙◌, ◌<◌, ◌≤◌, ◌*◌, ◌+◌, ◌^◌, ◌-◌, ℕ, List, [], subst, sym, ap, refl, inl, inr, zero, suc, arith, Some, None, true, false, length, min, Option, take, drop, append-nil, append_assoc, length-append}
+use Rattle.std.proofs.Common.{◌∷◌, ◌++◌, ◌≡◌, ◌∙◌, ◌<◌, ◌≤◌, ◌*◌, ◌+◌, ◌^◌, ◌-◌, ℕ, List, [], subst, sym, ap, refl, zero, suc, arith, Some, None, true, length, min, Option, take, drop, append-nil, append_assoc, length-append}
 use Rattle.std.proofs.lemmas.List.{length-take-le, length-drop}
+use Rattle.sfs_base.specs.declared.numbers.CoreId.{CoreId}
 use Rattle.sfs_base.proofs.BasicOptions.{some_same}
 use Rattle.sfs_base.proofs.BasicTruth.{true_not_false}
 use Rattle.sfs_image.specs.Bytes.{zeros}
@@ -20,7 +21,7 @@ use Rattle.turn_laws.specs.Books.{flush_at}
 use Rattle.merge_laws.proofs.Worked.{of_each}
 use Rattle.book_laws.specs.Pairs.{bringing_under}
 use Rattle.stamp_table.specs.declared.event.Event.{Event}
-use Rattle.stamp_table.specs.declared.event.Event.TheVariants.{Called, Told}
+use Rattle.stamp_table.specs.declared.event.Event.TheVariants.{Told}
 use Rattle.slot_laws.specs.declared.label.Label.{Label}
 use Rattle.slot_laws.specs.Labels.{after_label, past_from, first_past, BoxPast}
 use Rattle.slot_laws.specs.Fits.{PastFits}
@@ -34,19 +35,22 @@ use Rattle.close_laws.specs.Maps.{past_of}
 use Rattle.close_laws.specs.Close.{EndsMount}
 use Rattle.close_laws.specs.Fronts.{AreTurnsOf}
 use Rattle.close_laws.proofs.Mounts.{table_mounts_close}
-use Rattle.example_grants.specs.Disk.{after_call, content_after, FILES_CALLS, files_disk, IsFilesImage, WritersMountEnds, WritersClose}
-use Rattle.example_grants.specs.Fsyncs.{Writing, OWN, OTHER, ENTRIES}
+use Rattle.example_grants.specs.Disk.{content_after, FILES_CALLS, files_disk, IsFilesImage, WritersMountEnds, WritersClose}
+use Rattle.example_grants.specs.Fsyncs.{Writer, OWN, OTHER, ENTRIES}
 use Rattle.example_grants.specs.Image.{FIFTEEN_BLOCKS, FIRST_PARTS, TWO_FILES, file_inode}
-use Rattle.example_grants.specs.Told.{job_by, OWN_JOB, OTHER_JOB, RESERVE, BEGIN, FILL, OPEN, LAND, FILES_NUMBERED, FILES_TOLD}
+use Rattle.example_grants.specs.Told.{OWN_JOB, OTHER_JOB, RESERVE, BEGIN, FILL, OPEN, LAND, FILES_NUMBERED, FILES_TOLD}
 use Rattle.example_grants.specs.Turns.{FILES_TURNS, FILES_PENS}
 use Rattle.example_grants.proofs.Image.{any_file}
-use Rattle.example_grants.proofs.Labels.{layout_fits, reserved_past, begun_past, filled_past, opened_past, may_reserve, may_begin, may_fill, may_open, may_land, labels_stand_told, turns_are, told_pens}
+use Rattle.example_grants.proofs.Labels.{labels_stand_told, turns_are, told_pens}
+use Rattle.example_grants.proofs.Rules.{layout_fits, reserved_past, begun_past, filled_past, opened_past, may_reserve, may_begin, may_fill, may_open, may_land}
 
 -- bytes that are put lie where they are put, and nothing else changes
 put_outside : (at : ℕ) (new was : List ℕ) → at + length new ≤ length was → SameOutside at (length new) was (put at new was)
 put_outside at new was low = record {
-  before = ap (take at) (append_assoc (take at was) new rest) ∙ subst (λ n. take n (take at was ++ (new ++ rest)) ≡ take at was) front (take-append_seam (take at was) (new ++ rest));
-  after = ap (drop (at + length new)) (append_assoc (take at was) new rest) ∙ subst (λ n. drop (n + length new) (take at was ++ (new ++ rest)) ≡ rest) front
+  before = ap (take at) (append_assoc (take at was) new rest)
+      ∙ subst (λ n. take n (take at was ++ (new ++ rest)) ≡ take at was) front (take-append_seam (take at was) (new ++ rest));
+  after = ap (drop (at + length new)) (append_assoc (take at was) new rest)
+      ∙ subst (λ n. drop (n + length new) (take at was ++ (new ++ rest)) ≡ rest) front
       (drop-append-add (take at was) (new ++ rest) (length new)
       ∙ ap (λ n. drop n (new ++ rest)) (let e : length new ≡ length new + 0 = omega arith in e) ∙ drop-append-add new rest 0 ∙ none rest);
   size = ap length (append_assoc (take at was) new rest) ∙ put_long;
@@ -88,10 +92,10 @@ stays_long (Some piece ∷ calls) image (suc n) lie long =
     (let low = lie.0 in (put_outside piece.at piece.bytes image (omega (arith, low, long))).size ∙ long)
 
 -- the pieces of a job lie there
-page_long : (w : Writing) → length (w.byte ∷ zeros 4095) ≡ 4096
+page_long : (w : Writer) → length (w.byte ∷ zeros 4095) ≡ 4096
 page_long w = ap suc (length-zeros 4095)
 
-record_long : (w : Writing) → w.block < 15 → length (inode_bytes (file_inode 1 w.block) ++ []) ≡ 512
+record_long : (w : Writer) → w.block < 15 → length (inode_bytes (file_inode 1 w.block) ++ []) ≡ 512
 record_long w low = ap length (append-nil (inode_bytes (file_inode 1 w.block)))
     ∙ length-inode_bytes (file_inode 1 w.block) (any_file 1 w.block (omega arith) (omega (arith, low)))
 
@@ -144,6 +148,15 @@ turns_of_them turn one did =
 -- the job that a slot has
 job_of : (job : Job) {slot : Option SlotWork} {work : SlotWork} → slot ≡ Some work → option_map_or (λ (w : SlotWork). w.job) slot job ≡ work.job
 job_of job there = ap (λ (o : Option SlotWork). option_map_or (λ (w : SlotWork). w.job) o job) there
+
+-- Labels are told as the calls are made: each of the disk as it is, or of one call more.
+data RunsFrom (image : List ℕ) (to : ℕ) : List (Event Label) → BoxPast → ℕ → Type 0 where
+  none_more : {past : BoxPast} → RunsFrom image to [] past to
+  told_now : {core : CoreId} {fact : Label} {log : List (Event Label)} {past : BoxPast} {n : ℕ} → n ≤ 13 → IsToldOf fact (files_disk image n)
+      → RunsFrom image to log (after_label FIFTEEN_BLOCKS core.0 fact past) n → RunsFrom image to (Told core fact ∷ log) past n
+  done_next : {core : CoreId} {fact : Label} {log : List (Event Label)} {past : BoxPast} {n : ℕ} → n ≤ 13
+      → IsDoneBy fact past.slots (files_disk image n) (files_disk image (suc n))
+      → RunsFrom image to log (after_label FIFTEEN_BLOCKS core.0 fact past) (suc n) → RunsFrom image to (Told core fact ∷ log) past n
 
 module _ (image : List ℕ) (is : IsFilesImage image) where
   abbrev contents : ℕ → List ℕ
@@ -199,42 +212,55 @@ module _ (image : List ℕ) (is : IsFilesImage image) where
   opens job other n same did lies counted =
       subst (λ (j : Job). Writes true (gate_piece j.place 1) (disk n) (disk (suc n))) same (writes (gate_piece job.place 1) n did lies counted)
 
-  -- Labels are told as the calls are made: each of the disk as it is, or of one call more.
-  abbrev RunsFrom : List (Event Label) → BoxPast → ℕ → ℕ → Type 0
-  RunsFrom [] past n to = n ≡ to
-  RunsFrom (Called entry ∷ log) past n to = ⊥
-  RunsFrom (Told core fact ∷ log) past n to =
-      (n ≤ 13)
-      × ((IsToldOf fact (disk n) × RunsFrom log (after_label FIFTEEN_BLOCKS core.0 fact past) n to)
-      ⊎ (IsDoneBy fact past.slots (disk n) (disk (suc n)) × RunsFrom log (after_label FIFTEEN_BLOCKS core.0 fact past) (suc n) to))
+  runs_fit : (to : ℕ) (log : List (Event Label)) (past : BoxPast) (n : ℕ) → PastFits FIFTEEN_BLOCKS 0 past → MayFrom FIFTEEN_BLOCKS 0 log past
+      → RunsFrom image to log past n → RunFits FIFTEEN_BLOCKS 0 past (disk n) → RunFits FIFTEEN_BLOCKS 0 (past_from FIFTEEN_BLOCKS log past) (disk to)
+  runs_fit to _ past _ fits may none_more run = run
+  runs_fit to _ past n fits may (told_now {core} {fact} {log} low told runs) run =
+      runs_fit to log (after_label FIFTEEN_BLOCKS core.0 fact past) n
+      (lawful_fits FIFTEEN_BLOCKS 0 (Told core fact ∷ []) past fits (may.0, tt)) may.1 runs
+      (told_labels_fit (disk n) FIFTEEN_BLOCKS 0 core.0 0 fact past fits may.0.1 told (laws n low) run)
+  runs_fit to _ past n fits may (done_next {core} {fact} {log} low did runs) run =
+      runs_fit to log (after_label FIFTEEN_BLOCKS core.0 fact past) (suc n)
+      (lawful_fits FIFTEEN_BLOCKS 0 (Told core fact ∷ []) past fits (may.0, tt)) may.1 runs
+      (done_labels_fit (disk n) (disk (suc n)) FIFTEEN_BLOCKS 0 core.0 0 fact past may.0.1 did (laws n low) run)
 
-  runs_fit : (log : List (Event Label)) (past : BoxPast) (n to : ℕ) → PastFits FIFTEEN_BLOCKS 0 past → MayFrom FIFTEEN_BLOCKS 0 log past
-      → RunsFrom log past n to → RunFits FIFTEEN_BLOCKS 0 past (disk n) → RunFits FIFTEEN_BLOCKS 0 (past_from FIFTEEN_BLOCKS log past) (disk to)
-  runs_fit [] past n to fits may same run = subst (λ m. RunFits FIFTEEN_BLOCKS 0 past (disk m)) same run
-  runs_fit (Called entry ∷ log) past n to fits may runs run = absurd runs
-  runs_fit (Told core fact ∷ log) past n to fits may (low, inl told) run =
-      runs_fit log (after_label FIFTEEN_BLOCKS core.0 fact past) n to
-      (lawful_fits FIFTEEN_BLOCKS 0 (Told core fact ∷ []) past fits (may.0, tt)) may.1 told.1
-      (told_labels_fit (disk n) FIFTEEN_BLOCKS 0 core.0 0 fact past fits may.0.1 told.0 (laws n low) run)
-  runs_fit (Told core fact ∷ log) past n to fits may (low, inr did) run =
-      runs_fit log (after_label FIFTEEN_BLOCKS core.0 fact past) (suc n) to
-      (lawful_fits FIFTEEN_BLOCKS 0 (Told core fact ∷ []) past fits (may.0, tt)) may.1 did.1
-      (done_labels_fit (disk n) (disk (suc n)) FIFTEEN_BLOCKS 0 core.0 0 fact past may.0.1 did.0 (laws n low) run)
+  runs_reserve : RunsFrom image 0 RESERVE (first_past 0) 0
+  runs_reserve =
+      told_now (omega arith) tt (told_now (omega arith) tt (told_now (omega arith) refl (told_now (omega arith) tt (told_now (omega arith) tt (
+      told_now (omega arith) tt (told_now (omega arith) refl (told_now (omega arith) tt none_more)))))))
 
-  runs_reserve : RunsFrom RESERVE (first_past 0) 0 0
-  runs_reserve = (omega arith, inl ((tt), (omega arith, inl ((tt), (omega arith, inl ((refl), (omega arith, inl ((tt), (omega arith, inl ((tt), (omega arith, inl ((tt), (omega arith, inl ((refl), (omega arith, inl ((tt), refl))))))))))))))))
+  runs_begin : RunsFrom image 0 BEGIN reserved_past 0
+  runs_begin =
+      told_now (omega arith) tt (told_now (omega arith) tt (told_now (omega arith) tt (told_now (omega arith) tt (told_now (omega arith) tt (
+      told_now (omega arith) tt none_more)))))
 
-  runs_begin : RunsFrom BEGIN reserved_past 0 0
-  runs_begin = (omega arith, inl ((tt), (omega arith, inl ((tt), (omega arith, inl ((tt), (omega arith, inl ((tt), (omega arith, inl ((tt), (omega arith, inl ((tt), refl))))))))))))
+  runs_fill : RunsFrom image 9 FILL begun_past 0
+  runs_fill =
+      told_now (omega arith) tt (
+      done_next (omega arith) (λ work there. fills OTHER_JOB work.job 0 0 (job_of OTHER_JOB there) refl other_lies_fresh refl) (
+      done_next (omega arith) (λ work there. fills OTHER_JOB work.job 1 1 (job_of OTHER_JOB there) refl other_lies_numbers refl) (
+      done_next (omega arith) (λ work there. fills OTHER_JOB work.job 2 2 (job_of OTHER_JOB there) refl other_lies_records refl) (
+      done_next (omega arith) (λ work there. fills OTHER_JOB work.job 3 3 (job_of OTHER_JOB there) refl other_lies_head refl) (
+      told_now (omega arith) tt (told_now (omega arith) tt (
+      done_next (omega arith) (λ work there. fills OWN_JOB work.job 0 4 (job_of OWN_JOB there) refl own_lies_fresh refl) (
+      done_next (omega arith) (λ work there. fills OWN_JOB work.job 1 5 (job_of OWN_JOB there) refl own_lies_numbers refl) (
+      done_next (omega arith) (λ work there. fills OWN_JOB work.job 2 6 (job_of OWN_JOB there) refl own_lies_records refl) (
+      done_next (omega arith) (λ work there. fills OWN_JOB work.job 3 7 (job_of OWN_JOB there) refl own_lies_head refl) (
+      done_next (omega arith) (refl, syncs 8 refl refl) (told_now (omega arith) tt none_more))))))))))))
 
-  runs_fill : RunsFrom FILL begun_past 0 9
-  runs_fill = (omega arith, inl ((tt), (omega arith, inr ((λ work there. fills OTHER_JOB work.job 0 0 (job_of OTHER_JOB there) refl other_lies_fresh refl), (omega arith, inr ((λ work there. fills OTHER_JOB work.job 1 1 (job_of OTHER_JOB there) refl other_lies_numbers refl), (omega arith, inr ((λ work there. fills OTHER_JOB work.job 2 2 (job_of OTHER_JOB there) refl other_lies_records refl), (omega arith, inr ((λ work there. fills OTHER_JOB work.job 3 3 (job_of OTHER_JOB there) refl other_lies_head refl), (omega arith, inl ((tt), (omega arith, inl ((tt), (omega arith, inr ((λ work there. fills OWN_JOB work.job 0 4 (job_of OWN_JOB there) refl own_lies_fresh refl), (omega arith, inr ((λ work there. fills OWN_JOB work.job 1 5 (job_of OWN_JOB there) refl own_lies_numbers refl), (omega arith, inr ((λ work there. fills OWN_JOB work.job 2 6 (job_of OWN_JOB there) refl own_lies_records refl), (omega arith, inr ((λ work there. fills OWN_JOB work.job 3 7 (job_of OWN_JOB there) refl own_lies_head refl), (omega arith, inr (((refl, syncs 8 refl refl)), (omega arith, inl ((tt), refl))))))))))))))))))))))))))
+  runs_open : RunsFrom image 11 OPEN filled_past 9
+  runs_open =
+      told_now (omega arith) tt (
+      done_next (omega arith) (refl, λ work there. opens OTHER_JOB work.job 9 (job_of OTHER_JOB there) refl (omega arith) refl) (
+      told_now (omega arith) tt (told_now (omega arith) tt (
+      done_next (omega arith) (refl, λ work there. opens OWN_JOB work.job 10 (job_of OWN_JOB there) refl (omega arith) refl) (
+      told_now (omega arith) tt none_more)))))
 
-  runs_open : RunsFrom OPEN filled_past 9 11
-  runs_open = (omega arith, inl ((tt), (omega arith, inr (((refl, λ work there. opens OTHER_JOB work.job 9 (job_of OTHER_JOB there) refl (omega arith) refl)), (omega arith, inl ((tt), (omega arith, inl ((tt), (omega arith, inr (((refl, λ work there. opens OWN_JOB work.job 10 (job_of OWN_JOB there) refl (omega arith) refl)), (omega arith, inl ((tt), refl))))))))))))
-
-  runs_land : RunsFrom LAND opened_past 11 13
-  runs_land = (omega arith, inl ((tt), (omega arith, inr (((refl, syncs 11 refl refl)), (omega arith, inl ((refl), (omega arith, inl ((tt), (omega arith, inl ((tt), (omega arith, inl ((tt), (omega arith, inr (((refl, syncs 12 refl refl)), (omega arith, inl ((refl), (omega arith, inl ((tt), (omega arith, inl ((tt), refl))))))))))))))))))))
+  runs_land : RunsFrom image 13 LAND opened_past 11
+  runs_land =
+      told_now (omega arith) tt (done_next (omega arith) (refl, syncs 11 refl refl) (told_now (omega arith) refl (told_now (omega arith) tt (
+      told_now (omega arith) tt (told_now (omega arith) tt (done_next (omega arith) (refl, syncs 12 refl refl) (told_now (omega arith) refl (
+      told_now (omega arith) tt (told_now (omega arith) tt none_more)))))))))
 
   fits_reserved : PastFits FIFTEEN_BLOCKS 0 reserved_past
   fits_reserved = lawful_fits FIFTEEN_BLOCKS 0 RESERVE (first_past 0) (first_fits FIFTEEN_BLOCKS 0 0) may_reserve
@@ -250,11 +276,11 @@ module _ (image : List ℕ) (is : IsFilesImage image) where
 
   run : RunFits FIFTEEN_BLOCKS 0 (past_of FILES_TOLD) (disk 13)
   run =
-      runs_fit LAND opened_past 11 13 fits_opened may_land runs_land
-      (runs_fit OPEN filled_past 9 11 fits_filled may_open runs_open
-      (runs_fit FILL begun_past 0 9 fits_begun may_fill runs_fill
-      (runs_fit BEGIN reserved_past 0 0 fits_reserved may_begin runs_begin
-      (runs_fit RESERVE (first_past 0) 0 0 (first_fits FIFTEEN_BLOCKS 0 0) may_reserve runs_reserve
+      runs_fit 13 LAND opened_past 11 fits_opened may_land runs_land
+      (runs_fit 11 OPEN filled_past 9 fits_filled may_open runs_open
+      (runs_fit 9 FILL begun_past 0 fits_begun may_fill runs_fill
+      (runs_fit 0 BEGIN reserved_past 0 fits_reserved may_begin runs_begin
+      (runs_fit 0 RESERVE (first_past 0) 0 (first_fits FIFTEEN_BLOCKS 0 0) may_reserve runs_reserve
       (first_runs_fit (disk 0) FIFTEEN_BLOCKS (omega arith))))))
 
   began : BeganWith FIFTEEN_BLOCKS FIRST_PARTS 0 (disk 13)

@@ -1,25 +1,25 @@
 -- The labels of the two cores are told beside what their commits bring.
-use Rattle.std.proofs.Common.{◌<◌, ◌≤◌, ◌++◌, ◌≡◌, ◌∙◌, ◌∷◌, nat_eq, ne_eqb, is_some, option_map, cond, Some, None, Bool, true, false, ℕ, List, [], subst, sym, ap, refl, inl, inr, zero, suc, arith, map, length, slice_get}
-use Rattle.std.proofs.lemmas.Bool.{cases_eq}
-use Rattle.std.proofs.lemmas.List.Elements.{All-from_recursion}
+use Rattle.std.specs.List.{list_all}
+use Rattle.sfs_base.proofs.BasicTruth.{and_first, and_second}
+use Rattle.std.proofs.Common.{nat_lt}
+use Rattle.std.proofs.lemmas.Bool.Decides.{nat_tests}
+use Rattle.std.proofs.Common.{◌<◌, ◌≤◌, ◌++◌, ◌≡◌, ◌∙◌, ◌∷◌, nat_eq, is_some, option_map, cond, Some, None, Bool, true, false, ℕ, List, [], subst, sym, ap, refl, inl, inr, zero, suc, arith, map, slice_get}
+use Rattle.sfs_base.proofs.BasicNumbers.{turned}
 use Rattle.sfs_base.proofs.BasicOptions.{none_some, some_same}
 use Rattle.sfs_image.specs.Inode.{inode_bytes, inode_of}
-use Rattle.sfs_image.specs.ImageOf.{FreshBlock}
-use Rattle.sfs_image.specs.Journal.{Entry}
 use Rattle.sfs_image.specs.Part.{Part, inode_in}
 use Rattle.sfs_image.specs.Bytes.{zeros}
-use Rattle.sfs_image.specs.Super.{IsLayout}
 use Rattle.sfs_image.proofs.BytesLaws.{zeros-byte, length-zeros}
 use Rattle.sfs_image.proofs.AcceptedLaws.{raw_of}
-use Rattle.sfs_image.proofs.InodeLaws.{inode_bytes-inode_of, length-inode_bytes}
+use Rattle.sfs_image.proofs.InodeLaws.{inode_bytes-inode_of}
 use Rattle.sfs_image.proofs.JustMadeLaws.{zeros_are_sound}
 use Rattle.space_map.specs.Pool.{free_numbers}
 use Rattle.space_map.specs.declared.status.Status.TheVariants.{Granted, Taken, Free}
-use Rattle.journal_one.specs.Job.{IsJob, LiesInData}
 use Rattle.journal_one.specs.Packed.{record_entry, block_of}
 use Rattle.tree_laws.specs.declared.turns.Turn.{Turn}
-use Rattle.tree_laws.specs.declared.turns.TurnAct.TheVariants as act
 use Rattle.cut_laws.specs.Rules.{IsOneOf}
+use Rattle.cut_laws.proofs.Basics.{in_either}
+use Rattle.tree_laws.specs.declared.turns.TurnAct.TheVariants as act
 use Rattle.disk_change.specs.Written.{IsTransactionOf}
 use Rattle.commit_laws.specs.CommitOfPlan.{change_planned}
 use Rattle.flush_laws.specs.Journal.{IsSpelled}
@@ -32,117 +32,107 @@ use Rattle.book_laws.proofs.Imagined.{first_imagined}
 use Rattle.reserve_laws.specs.Fits.{TellsPair}
 use Rattle.stamp_table.specs.declared.event.Event.{Event}
 use Rattle.stamp_table.specs.Events.{event_core}
-use Rattle.slot_laws.specs.Labels.{past_from, nothing_told, first_past, BoxPast}
+use Rattle.slot_laws.specs.Labels.{past_from, nothing_told, first_past, BoxPast, after_event}
 use Rattle.slot_laws.specs.declared.label.Seen.{Seen}
-use Rattle.slot_laws.specs.Nodes.{LastCommit, no_last, last_seen, last_ended}
+use Rattle.slot_laws.specs.Nodes.{LastCommit, last_seen, last_ended}
 use Rattle.slot_laws.specs.declared.label.Label.{Label}
+use Rattle.slot_laws.specs.declared.label.Label.TheVariants as label
 use Rattle.slot_laws.specs.Laws.{IsPenOf}
-use Rattle.slot_laws.specs.Rules.{MayFrom}
 use Rattle.slot_laws.specs.Grants.{SpaceGoes, GoesAlong}
 use Rattle.slot_laws.specs.Lasts.{IsMadeAs}
 use Rattle.slot_laws.specs.Worked.{seen_one}
 use Rattle.slot_laws.proofs.Lawful.{none_by}
-use Rattle.slot_laws.proofs.WorkedBegins.{one_unmoved, four_marked}
+use Rattle.slot_laws.proofs.WorkedBegins.{one_unmoved}
 use Rattle.slot_laws.proofs.GrantsTold.{goes_both, quiet_goes}
-use Rattle.slot_laws.proofs.Comes.{may_both}
-use Rattle.close_laws.specs.Own.{OwnStand, nothing_owed, StandBeside}
+use Rattle.close_laws.specs.Own.{OwnStand, NotesTurn, nothing_owed, StandBeside}
 use Rattle.close_laws.specs.Maps.{IsTold, GrantFits, ReservedAs, BeginsAs, FitBringings, FitsBringing, past_of}
-use Rattle.close_laws.specs.Beside.{IsToldBeside, BeginsLabels}
+use Rattle.close_laws.specs.Beside.{IsToldBeside, BeginsLabels, TellAlong}
 use Rattle.close_laws.specs.Close.{PensAgree}
 use Rattle.example_laws.proofs.Mapped.{grants_none}
 use Rattle.example_laws.proofs.Reserving.{take_none}
 use Rattle.example_grants.specs.Calls.{FIRST_TREE, WRITES_AND_FSYNCS}
-use Rattle.example_grants.specs.Fsyncs.{Writing, OWN, OTHER, ENTRIES, plan_by, grant_by, pair_by}
+use Rattle.example_grants.specs.Fsyncs.{Writer, OWN, OTHER, ENTRIES, plan_by, grant_by, pair_made}
 use Rattle.example_grants.specs.Told.{job_by, OWN_JOB, OTHER_JOB, RESERVE, BEGIN, FILL, OPEN, LAND, FILES_NUMBERED, FILES_TOLD, WritersTellLabels}
-use Rattle.example_grants.specs.Turns.{FILES_TURNS, FILES_PENS}
-use Rattle.example_grants.specs.Image.{FIFTEEN_BLOCKS, TWO_FILES, FIRST_PARTS, ROOT_BLOCK, FIRST_RECORDS, file_inode}
+use Rattle.example_grants.specs.Turns.{own_act, other_act, FILES_TURNS, FILES_PENS}
+use Rattle.example_grants.specs.Image.{FIFTEEN_BLOCKS, TWO_FILES, FIRST_PARTS, ROWS_BLOCK, FIRST_RECORDS}
 use Rattle.example_grants.specs.Laws.{WritesOne}
 use Rattle.example_grants.specs.Map.{FIRST_MAP, map_with}
 use Rattle.example_grants.proofs.Mapped.{tx_by, own_transaction, other_transaction, own_granted, other_granted, own_ends, other_ends, nothing_granted, map_right}
 use Rattle.example_grants.proofs.Telling.{IsWriting, entries_kept, own_is, other_is, tells}
 use Rattle.example_grants.proofs.Plans.{own_writes, other_writes}
-use Rattle.example_grants.proofs.Image.{any_file, inode_cases, root_is, root_raw, file_is, file_raw}
+use Rattle.example_grants.proofs.Image.{inode_cases, root_is, root_raw, file_is, file_raw}
 use Rattle.example_grants.proofs.Standing.{walk_begins}
 use Rattle.example_grants.proofs.Turns.{pens_agree}
-
--- the layout is one of fifteen blocks
-pub layout_fits : IsLayout 15 FIFTEEN_BLOCKS
-layout_fits = record {
-  ranges = record {
-    blocks = omega arith;
-    inodes_low = omega arith;
-    inodes_high = omega arith;
-    cores_low = omega arith;
-    cores_high = omega arith;
-    slots_low = omega arith;
-    slots_high = omega arith;
-  };
-  room = omega arith;
-  within = omega arith;
-}
-
--- both jobs can be written
-a_job : (w : Writing) (slot stamp : ℕ) → slot < 2 → stamp < 4 → w.file < 16 → 11 ≤ w.block → w.block < 15 → IsJob (job_by w slot stamp)
-a_job w slot stamp within few file low high = record {
-  place = record { fits = layout_fits; within = omega (arith, within) };
-  stamp = omega (arith, few);
-  some = omega arith;
-  are = record {
-    ascend = λ k less. absurd (omega (arith, less));
-    below = All-from_recursion (λ (entry : Entry). entry.inode < 16) (job_by w slot stamp).entries (file, tt);
-  };
-  long = All-from_recursion (λ (entry : Entry). length entry.bytes ≡ 512) (job_by w slot stamp).entries
-      (length-inode_bytes (file_inode 1 w.block) (any_file 1 w.block (omega arith) (omega (arith, high))), tt);
-  whole = All-from_recursion (λ (one : FreshBlock). length one.bytes ≡ 4096) (job_by w slot stamp).fresh (ap suc (length-zeros 4095), tt);
-  in_data = All-from_recursion (LiesInData FIFTEEN_BLOCKS) (job_by w slot stamp).fresh (record { low = low; high = high }, tt);
-}
-
-own_job : IsJob OWN_JOB
-own_job = a_job OWN 0 2 (omega arith) (omega arith) (omega arith) (omega arith) (omega arith)
-
-other_job : IsJob OTHER_JOB
-other_job = a_job OTHER 1 1 (omega arith) (omega arith) (omega arith) (omega arith) (omega arith)
-
--- what is told before each part of the history
-abbrev pub reserved_past : BoxPast
-reserved_past = past_from FIFTEEN_BLOCKS RESERVE (first_past 0)
-
-abbrev pub begun_past : BoxPast
-begun_past = past_from FIFTEEN_BLOCKS BEGIN reserved_past
-
-abbrev pub filled_past : BoxPast
-filled_past = past_from FIFTEEN_BLOCKS FILL begun_past
-
-abbrev pub opened_past : BoxPast
-opened_past = past_from FIFTEEN_BLOCKS OPEN filled_past
-
-pub may_reserve : MayFrom FIFTEEN_BLOCKS 0 RESERVE (first_past 0)
-may_reserve = ((refl, tt), ((refl, record { calm = refl; next = refl; none = refl; rests = refl; unmoved = one_unmoved (λ _. no_last) 1 0 refl }), ((refl, record { own = refl; no_open = λ e. cc; no_durable = λ e. cc; looked = refl; now = record { rises = omega arith; counts = refl } }), ((refl, tt), ((refl, tt), ((refl, record { calm = refl; next = refl; none = refl; rests = refl; unmoved = one_unmoved _ 2 0 refl }), ((refl, record { own = refl; no_open = λ e. cc; no_durable = λ e. cc; looked = refl; now = record { rises = omega arith; counts = refl } }), ((refl, tt), tt))))))))
-
-pub may_begin : MayFrom FIFTEEN_BLOCKS 0 BEGIN reserved_past
-may_begin = ((refl, tt), ((refl, record { calm = refl; own = refl; within = omega arith; place = refl; idle = refl; number = refl; stamp = refl; is = other_job }), ((refl, tt), ((refl, tt), ((refl, record { calm = refl; own = refl; within = omega arith; place = refl; idle = refl; number = refl; stamp = refl; is = own_job }), ((refl, tt), tt))))))
-
-pub may_fill : MayFrom FIFTEEN_BLOCKS 0 FILL begun_past
-may_fill = ((refl, tt), ((refl, record { calm = refl; own = refl; has = record { work = _; there = refl; aloft = refl; gate_is = refl }; within = omega arith }), ((refl, record { calm = refl; own = refl; has = record { work = _; there = refl; aloft = refl; gate_is = refl }; within = omega arith }), ((refl, record { calm = refl; own = refl; has = record { work = _; there = refl; aloft = refl; gate_is = refl }; within = omega arith }), ((refl, record { calm = refl; own = refl; has = record { work = _; there = refl; aloft = refl; gate_is = refl }; within = omega arith }), ((refl, tt), ((refl, tt), ((refl, record { calm = refl; own = refl; has = record { work = _; there = refl; aloft = refl; gate_is = refl }; within = omega arith }), ((refl, record { calm = refl; own = refl; has = record { work = _; there = refl; aloft = refl; gate_is = refl }; within = omega arith }), ((refl, record { calm = refl; own = refl; has = record { work = _; there = refl; aloft = refl; gate_is = refl }; within = omega arith }), ((refl, record { calm = refl; own = refl; has = record { work = _; there = refl; aloft = refl; gate_is = refl }; within = omega arith }), ((refl, refl), ((refl, tt), tt)))))))))))))
-
-pub may_open : MayFrom FIFTEEN_BLOCKS 0 OPEN filled_past
-may_open = ((refl, tt), ((refl, record { calm = refl; own = refl; has = record { work = _; there = refl; aloft = refl; gate_is = refl }; filled = λ n low. four_marked n low; cut_is = record { did_is = refl; core_is = refl; commit_is = refl; flush_is = refl }; opened_is = record { did_is = refl; core_is = refl; commit_is = refl; flush_is = refl }; cut_now = record { rises = omega arith; counts = refl }; opened_now = (refl, refl) }), ((refl, tt), ((refl, tt), ((refl, record { calm = refl; own = refl; has = record { work = _; there = refl; aloft = refl; gate_is = refl }; filled = λ n low. four_marked n low; cut_is = record { did_is = refl; core_is = refl; commit_is = refl; flush_is = refl }; opened_is = record { did_is = refl; core_is = refl; commit_is = refl; flush_is = refl }; cut_now = record { rises = omega arith; counts = refl }; opened_now = (refl, refl) }), ((refl, tt), tt))))))
-
-pub may_land : MayFrom FIFTEEN_BLOCKS 0 LAND opened_past
-may_land = ((refl, tt), ((refl, refl), ((refl, record { calm = refl; has = record { work = _; there = refl; aloft = refl; gate_is = refl }; is = record { did_is = refl; core_is = refl; commit_is = refl; flush_is = refl }; moment = refl; now = record { rises = omega arith; counts = refl } }), ((refl, record { own = refl; waits = refl }), ((refl, tt), ((refl, tt), ((refl, refl), ((refl, record { calm = refl; has = record { work = _; there = refl; aloft = refl; gate_is = refl }; is = record { did_is = refl; core_is = refl; commit_is = refl; flush_is = refl }; moment = refl; now = record { rises = omega arith; counts = refl } }), ((refl, record { own = refl; waits = refl }), ((refl, tt), tt))))))))))
-
-labels_may : MayFrom FIFTEEN_BLOCKS 0 FILES_TOLD.log (first_past 0)
-labels_may =
-    may_both FIFTEEN_BLOCKS 0 RESERVE (BEGIN ++ (FILL ++ (OPEN ++ LAND))) (first_past 0) may_reserve
-    (may_both FIFTEEN_BLOCKS 0 BEGIN (FILL ++ (OPEN ++ LAND)) reserved_past may_begin
-    (may_both FIFTEEN_BLOCKS 0 FILL (OPEN ++ LAND) begun_past may_fill (may_both FIFTEEN_BLOCKS 0 OPEN LAND filled_past may_open may_land)))
+use Rattle.example_grants.proofs.Rules.{reserved_past, begun_past, filled_past, opened_past, labels_may}
 
 -- a map goes along: both reserve a block each, and both commits end
 map_reserve : SpaceGoes FIFTEEN_BLOCKS RESERVE (first_past 0) FIRST_MAP (map_with Granted Granted)
-map_reserve = (record { next = FIRST_MAP; does = refl }, (record { next = map_with Granted Free; does = record { inodes = grants_none FIRST_MAP.inodes 0 refl; blocks = own_granted 1 refl; least = sym (take_none (free_numbers (FIRST_MAP).inodes) 0 refl) } }, (record { next = map_with Granted Free; does = refl }, (record { next = map_with Granted Free; does = refl }, (record { next = map_with Granted Free; does = refl }, (record { next = map_with Granted Granted; does = record { inodes = grants_none FIRST_MAP.inodes 0 refl; blocks = other_granted 1 refl; least = sym (take_none (free_numbers (map_with Granted Free).inodes) 0 refl) } }, (record { next = map_with Granted Granted; does = refl }, (record { next = map_with Granted Granted; does = refl }, refl))))))))
+map_reserve = (
+  record { next = FIRST_MAP; does = refl },
+  (
+    record {
+      next = map_with Granted Free;
+      does = record {
+        inodes = grants_none FIRST_MAP.inodes 0 refl;
+        blocks = own_granted 1 refl;
+        least = sym (take_none (free_numbers FIRST_MAP.inodes) 0 refl);
+      };
+    },
+    (
+      record { next = map_with Granted Free; does = refl },
+      (
+        record { next = map_with Granted Free; does = refl },
+        (
+          record { next = map_with Granted Free; does = refl },
+          (
+            record {
+              next = map_with Granted Granted;
+              does = record {
+                inodes = grants_none FIRST_MAP.inodes 0 refl;
+                blocks = other_granted 1 refl;
+                least = sym (take_none (free_numbers FIRST_MAP.inodes) 0 refl);
+              };
+            },
+            (record { next = map_with Granted Granted; does = refl }, (record { next = map_with Granted Granted; does = refl }, refl)),
+          ),
+        ),
+      ),
+    ),
+  ),
+)
 
 map_land : SpaceGoes FIFTEEN_BLOCKS LAND opened_past (map_with Granted Granted) (map_with Taken Taken)
-map_land = (record { next = map_with Granted Granted; does = refl }, (record { next = map_with Granted Granted; does = refl }, (record { next = map_with Granted Taken; does = record { own = record { commit = _; among = inr (inl refl); number_is = refl }; inodes = λ number. refl; blocks = other_ends } }, (record { next = map_with Granted Taken; does = refl }, (record { next = map_with Granted Taken; does = refl }, (record { next = map_with Granted Taken; does = refl }, (record { next = map_with Granted Taken; does = refl }, (record { next = map_with Taken Taken; does = record { own = record { commit = _; among = inl refl; number_is = refl }; inodes = λ number. refl; blocks = own_ends } }, (record { next = map_with Taken Taken; does = refl }, (record { next = map_with Taken Taken; does = refl }, refl))))))))))
+map_land = (
+  record { next = map_with Granted Granted; does = refl },
+  (
+    record { next = map_with Granted Granted; does = refl },
+    (
+      record {
+        next = map_with Granted Taken;
+        does = record { own = record { commit = _; among = inr (inl refl); number_is = refl }; inodes = λ number. refl; blocks = other_ends };
+      },
+      (
+        record { next = map_with Granted Taken; does = refl },
+        (
+          record { next = map_with Granted Taken; does = refl },
+          (
+            record { next = map_with Granted Taken; does = refl },
+            (
+              record { next = map_with Granted Taken; does = refl },
+              (
+                record {
+                  next = map_with Taken Taken;
+                  does = record { own = record { commit = _; among = inl refl; number_is = refl }; inodes = λ number. refl; blocks = own_ends };
+                },
+                (record { next = map_with Taken Taken; does = refl }, (record { next = map_with Taken Taken; does = refl }, refl)),
+              ),
+            ),
+          ),
+        ),
+      ),
+    ),
+  ),
+)
 
 map_goes : SpaceGoes FIFTEEN_BLOCKS FILES_TOLD.log (first_past 0) FIRST_MAP (map_with Taken Taken)
 map_goes =
@@ -159,37 +149,47 @@ labels_go = record { may = labels_may; no_inodes = nothing_granted.inodes; no_bl
 
 -- each label is one of the two cores'
 pub two_cores : (event : Event Label) → IsOneOf FILES_TOLD.log event → event_core event < 2
-two_cores = of_each (λ (event : Event Label). event_core event < 2) FILES_TOLD.log (omega arith, (omega arith, (omega arith, (omega arith, (omega arith, (omega arith, (omega arith, (omega arith, (omega arith, (omega arith, (omega arith, (omega arith, (omega arith, (omega arith, (omega arith, (omega arith, (omega arith, (omega arith, (omega arith, (omega arith, (omega arith, (omega arith, (omega arith, (omega arith, (omega arith, (omega arith, (omega arith, (omega arith, (omega arith, (omega arith, (omega arith, (omega arith, (omega arith, (omega arith, (omega arith, (omega arith, (omega arith, (omega arith, (omega arith, (omega arith, (omega arith, (omega arith, (omega arith, tt)))))))))))))))))))))))))))))))))))))))))))
+two_cores event one = below (event_core event) (passes (λ (e : Event Label). nat_lt (event_core e) 2) FILES_TOLD.log refl event one)
+  where
+    below : (core : ℕ) → nat_lt core 2 ≡ true → core < 2
+    below core test = grind (arith, nat_tests, test)
+
+    passes : {X : Type 0} (test : X → Bool) (xs : List X) → list_all test xs ≡ true → (x : X) → IsOneOf xs x → test x ≡ true
+    passes test [] all x one = absurd one
+    passes test (y ∷ xs) all x (inl same) = subst (λ z. test z ≡ true) same (and_first (test y) (list_all test xs) all)
+    passes test (y ∷ xs) all x (inr one) = passes test xs (and_second (test y) (list_all test xs) all) x one
 
 -- each core's labels stand beside its turns
+own_noted : NotesTurn act.Granted 2 (label.Noted (own_act 0 act.Granted))
+own_noted = record { turn = _; is = refl; did_is = refl; stamp_is = refl }
+
+other_noted : NotesTurn act.Granted 3 (label.Noted (other_act 0 act.Granted))
+other_noted = record { turn = _; is = refl; did_is = refl; stamp_is = refl }
+
 labels_stand : StandBeside FILES_NUMBERED.stamps FILES_TOLD.log
-labels_stand zero = (tt, (tt, (record { turn = _; is = refl; did_is = refl; stamp_is = refl }, (tt, (tt, (refl, (tt, (tt, (tt, (tt, (tt, (tt, (tt, (tt, (tt, (tt, (tt, (tt, (tt, (tt, (tt, (tt, tt))))))))))))))))))))))
-labels_stand (suc zero) = (tt, (tt, (record { turn = _; is = refl; did_is = refl; stamp_is = refl }, (tt, (tt, (refl, (tt, (tt, (tt, (tt, (tt, (tt, (tt, (tt, (tt, (tt, (tt, (tt, (tt, (tt, (tt, tt)))))))))))))))))))))
+labels_stand zero =
+    (tt, (tt, (own_noted, (tt, (tt, (refl, (tt, (tt, (tt, (tt, (tt, (tt, (tt, (tt, (tt, (tt, (tt, (tt, (tt, (tt, (tt, (tt, tt))))))))))))))))))))))
+labels_stand (suc zero) =
+    (tt, (tt, (other_noted, (tt, (tt, (refl, (tt, (tt, (tt, (tt, (tt, (tt, (tt, (tt, (tt, (tt, (tt, (tt, (tt, (tt, (tt, tt)))))))))))))))))))))
 labels_stand (suc (suc core)) =
     subst (OwnStand FILES_NUMBERED.stamps nothing_told nothing_owed) (sym (none_by FILES_TOLD.log 2 (suc (suc core)) two_cores (omega arith))) tt
 
 -- a number is reserved for a commit as its core made it
 holds_own : (file node : ℕ) → nat_eq node file ≡ is_some (last_seen (seen_one file 0).items node)
-holds_own file node = alike node file ∙ by (nat_eq file node)
+holds_own file node = turned node file ∙ by (nat_eq file node)
   where
-    alike : (a b : ℕ) → nat_eq a b ≡ nat_eq b a
-    alike a b = elim (cases_eq a b) [
-      | inl same ↦ subst (λ n. nat_eq a n ≡ nat_eq n a) same refl
-      | inr other ↦ ne_eqb a b other ∙ sym (ne_eqb b a (λ e. other (sym e)))
-    ]
-
     by : (b : Bool) → b ≡ is_some (option_map (λ (one : Seen). one.last) (cond b (Some (record { node = record { 0 = file }; last = 0 })) None))
     by true = refl
     by false = refl
 
-made_as : (w : Writing) → IsMadeAs (pair_by w).commit w.number (seen_one w.file 0).items
+made_as : (w : Writer) → IsMadeAs (pair_made w).commit w.number (seen_one w.file 0).items
 made_as w = record {
   number_is = refl;
   holds = holds_own w.file;
   last = λ node last seen. ap (λ (one : LastCommit). one.number) (one_unmoved (λ _. last_ended 0) w.file 0 refl node last seen);
 }
 
-grant_fits : (w : Writing) → WritesOne w (plan_by w) → GrantFits (pair_by w).one (grant_by w)
+grant_fits : (w : Writer) → WritesOne w (plan_by w) → GrantFits (pair_made w).one (grant_by w)
 grant_fits w writes = record {
   grant_is = refl;
   needed = writes.needs;
@@ -206,8 +206,9 @@ other_reserved_as : ReservedAs FILES_NUMBERED 2 (seen_one 2 0).items (grant_by O
 other_reserved_as = record { made = made_as OTHER; grants = grant_fits OTHER other_writes }
 
 -- a commit begins as what its fsync brings
-begins_as : (w : Writing) (slot stamp : ℕ) → slot < 2 → WritesOne w (plan_by w)
-    → IsTransactionOf (change_planned (plan_by w)) (grant_by w) (tx_by w) → BeginsAs (pair_by w).one (job_by w slot stamp) (record { inodes = []; blocks = [] })
+begins_as : (w : Writer) (slot stamp : ℕ) → slot < 2 → WritesOne w (plan_by w)
+    → IsTransactionOf (change_planned (plan_by w)) (grant_by w) (tx_by w)
+    → BeginsAs (pair_made w).one (job_by w slot stamp) (record { inodes = []; blocks = [] })
 begins_as w slot stamp within writes transaction = record {
   writes = record {
     slot = omega (arith, within);
@@ -217,14 +218,35 @@ begins_as w slot stamp within writes transaction = record {
   frees = record { tx = tx_by w; is = transaction; inodes = refl; blocks = refl };
 }
 
-own_begins_as : BeginsAs (pair_by OWN).one OWN_JOB (record { inodes = []; blocks = [] })
+own_begins_as : BeginsAs (pair_made OWN).one OWN_JOB (record { inodes = []; blocks = [] })
 own_begins_as = begins_as OWN 0 2 (omega arith) own_writes own_transaction
 
-other_begins_as : BeginsAs (pair_by OTHER).one OTHER_JOB (record { inodes = []; blocks = [] })
+other_begins_as : BeginsAs (pair_made OTHER).one OTHER_JOB (record { inodes = []; blocks = [] })
 other_begins_as = begins_as OTHER 1 1 (omega arith) other_writes other_transaction
 
+-- what fits of two histories fits of both, one behind the other
+both_fit : (log more : List (Event Label)) → FitBringings FILES_NUMBERED log → FitBringings FILES_NUMBERED more → FitBringings FILES_NUMBERED (log ++ more)
+both_fit log more fit later event one = elim (in_either log more event one) [ inl first ↦ fit event first | inr second ↦ later event second ]
+
+fit_reserve : FitBringings FILES_NUMBERED RESERVE
+fit_reserve = of_each (FitsBringing FILES_NUMBERED) RESERVE (tt, (own_reserved_as, (tt, (tt, (tt, (other_reserved_as, (tt, (tt, tt))))))))
+
+fit_begin : FitBringings FILES_NUMBERED BEGIN
+fit_begin = of_each (FitsBringing FILES_NUMBERED) BEGIN (tt, (other_begins_as, (tt, (tt, (own_begins_as, (tt, tt))))))
+
+fit_fill : FitBringings FILES_NUMBERED FILL
+fit_fill = of_each (FitsBringing FILES_NUMBERED) FILL (tt, (tt, (tt, (tt, (tt, (tt, (tt, (tt, (tt, (tt, (tt, (tt, (tt, tt)))))))))))))
+
+fit_open : FitBringings FILES_NUMBERED OPEN
+fit_open = of_each (FitsBringing FILES_NUMBERED) OPEN (tt, (tt, (tt, (tt, (tt, (tt, tt))))))
+
+fit_land : FitBringings FILES_NUMBERED LAND
+fit_land = of_each (FitsBringing FILES_NUMBERED) LAND (tt, (tt, (tt, (tt, (tt, (tt, (tt, (tt, (tt, (tt, tt))))))))))
+
 labels_fit : FitBringings FILES_NUMBERED FILES_TOLD.log
-labels_fit = of_each (FitsBringing FILES_NUMBERED) FILES_TOLD.log (tt, (own_reserved_as, (tt, (tt, (tt, (other_reserved_as, (tt, (tt, (tt, (other_begins_as, (tt, (tt, (own_begins_as, (tt, (tt, (tt, (tt, (tt, (tt, (tt, (tt, (tt, (tt, (tt, (tt, (tt, (tt, (tt, (tt, (tt, (tt, (tt, (tt, (tt, (tt, (tt, (tt, (tt, (tt, (tt, (tt, (tt, (tt, tt)))))))))))))))))))))))))))))))))))))))))))
+labels_fit =
+    both_fit RESERVE (BEGIN ++ (FILL ++ (OPEN ++ LAND))) fit_reserve
+    (both_fit BEGIN (FILL ++ (OPEN ++ LAND)) fit_begin (both_fit FILL (OPEN ++ LAND) fit_fill (both_fit OPEN LAND fit_open fit_land)))
 
 labels_are_told : IsTold FILES_NUMBERED FILES_TOLD
 labels_are_told = record { along = labels_go; stand = labels_stand; fit = labels_fit }
@@ -237,7 +259,7 @@ spelled i within = elim (inode_cases i) [
     | inr file ↦ subst (λ (p : Part). inode_bytes (inode_in p) ≡ p.raw) (sym file) (ap inode_bytes file_is ∙ sym file_raw)
   ]
   | inr free ↦
-      let raw : (FIRST_PARTS i).raw ≡ zeros 512 = raw_of ROOT_BLOCK (FIRST_RECORDS i) ∙ free.3 in
+      let raw : (FIRST_PARTS i).raw ≡ zeros 512 = raw_of ROWS_BLOCK (FIRST_RECORDS i) ∙ free.3 in
       subst (λ bytes. inode_bytes (inode_of bytes) ≡ bytes) (sym raw)
       (inode_bytes-inode_of (zeros 512) (length-zeros 512) (λ k. let zero_there = zeros-byte 512 k in omega (arith, zero_there)) zeros_are_sound)
 ]
@@ -246,16 +268,38 @@ begins : BeginsLabels FIFTEEN_BLOCKS TWO_FILES ENTRIES FIRST_MAP
 begins = record { walk = walk_begins; spelled = spelled; layout_is = refl; keeps = entries_kept; right = map_right }
 
 -- with nothing brought the volume is the first one
-tells_first : (w : Writing) → IsWriting w → (volume : Volume) → Imagines TWO_FILES [] volume → TellsPair volume [] (pair_by w)
+tells_first : (w : Writer) → IsWriting w → (volume : Volume) → Imagines TWO_FILES [] volume → TellsPair volume [] (pair_made w)
 tells_first w is volume imagines =
-    subst (λ (v : Volume). TellsPair v [] (pair_by w)) (sym (first_imagined TWO_FILES volume [] imagines refl)) (tells w is)
+    subst (λ (v : Volume). TellsPair v [] (pair_made w)) (sym (first_imagined TWO_FILES volume [] imagines refl)) (tells w is)
+
+-- what is told of pairs along two histories is told along both, one behind the other
+both_tell : (log more : List (Event Label)) (past : BoxPast) → TellAlong FIFTEEN_BLOCKS TWO_FILES FILES_NUMBERED log past
+    → TellAlong FIFTEEN_BLOCKS TWO_FILES FILES_NUMBERED more (past_from FIFTEEN_BLOCKS log past)
+    → TellAlong FIFTEEN_BLOCKS TWO_FILES FILES_NUMBERED (log ++ more) past
+both_tell [] more past tell later = later
+both_tell (event ∷ log) more past tell later = (tell.0, both_tell log more (after_event FIFTEEN_BLOCKS event past) tell.1 later)
+
+tell_reserve : TellAlong FIFTEEN_BLOCKS TWO_FILES FILES_NUMBERED RESERVE (first_past 0)
+tell_reserve = (
+  tt,
+  (
+    λ volume imagines beside. tells_first OWN own_is volume imagines,
+    (tt, (tt, (tt, (λ volume imagines beside. tells_first OTHER other_is volume imagines, (tt, (tt, tt)))))),
+  ),
+)
+
+tell_fill : TellAlong FIFTEEN_BLOCKS TWO_FILES FILES_NUMBERED FILL begun_past
+tell_fill = (tt, (tt, (tt, (tt, (tt, (tt, (tt, (tt, (tt, (tt, (tt, (tt, (tt, tt)))))))))))))
+
+labels_tell : TellAlong FIFTEEN_BLOCKS TWO_FILES FILES_NUMBERED FILES_TOLD.log (first_past 0)
+labels_tell =
+    both_tell RESERVE (BEGIN ++ (FILL ++ (OPEN ++ LAND))) (first_past 0) tell_reserve
+    (both_tell BEGIN (FILL ++ (OPEN ++ LAND)) reserved_past (tt, (tt, (tt, (tt, (tt, (tt, tt))))))
+    (both_tell FILL (OPEN ++ LAND) begun_past tell_fill
+    (both_tell OPEN LAND filled_past (tt, (tt, (tt, (tt, (tt, (tt, tt)))))) (tt, (tt, (tt, (tt, (tt, (tt, (tt, (tt, (tt, (tt, tt)))))))))))))
 
 pub labels_stand_told : IsToldBeside TWO_FILES ENTRIES FILES_NUMBERED FILES_TOLD
-labels_stand_told = record {
-  is = labels_are_told;
-  begins = begins;
-  tell = (tt, ((λ volume imagines beside. tells_first OWN own_is volume imagines), (tt, (tt, (tt, ((λ volume imagines beside. tells_first OTHER other_is volume imagines), (tt, (tt, (tt, (tt, (tt, (tt, (tt, (tt, (tt, (tt, (tt, (tt, (tt, (tt, (tt, (tt, (tt, (tt, (tt, (tt, (tt, (tt, (tt, (tt, (tt, (tt, (tt, (tt, (tt, (tt, (tt, (tt, (tt, (tt, (tt, (tt, (tt, tt)))))))))))))))))))))))))))))))))))))))))));
-}
+labels_stand_told = record { is = labels_are_told; begins = begins; tell = labels_tell }
 
 -- the turns that the labels make are those of the record
 pub turns_are : (past_of FILES_TOLD).turns ≡ FILES_TURNS

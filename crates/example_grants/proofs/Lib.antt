@@ -7,6 +7,7 @@ pub mod Mapped
 pub mod Telling
 pub mod Turns
 pub mod Along
+pub mod Rules
 pub mod Labels
 pub mod Disk
 pub mod Bytes

@@ -9,7 +9,6 @@ use Rattle.sfs_base.proofs.BasicLists.{zeros_read}
 use Rattle.sfs_base.proofs.BasicTruth.{not_both}
 use Rattle.sfs_image.specs.Seen.{FILE_BLOCKS}
 use Rattle.fmt_journal.specs.declared.tx.Tx.{Tx}
-use Rattle.space_map.specs.Space.{Space}
 use Rattle.space_map.specs.declared.status.Status.{Status}
 use Rattle.space_map.specs.declared.status.Status.TheVariants.{Granted, Taken, Free}
 use Rattle.space_map.specs.Pool.{status_of, first_status, Grants, Changes, Ends, free_numbers, free_count}
@@ -38,12 +37,12 @@ use Rattle.book_laws.specs.Along.{EndsBringing}
 use Rattle.example_laws.specs.Fsyncs.{roomless}
 use Rattle.example_laws.proofs.Mapped.{grants_none}
 use Rattle.example_laws.proofs.Reserving.{take_none}
-use Rattle.example_grants.specs.Image.{ROOT_INODE, EMPTY_FILE, FIFTEEN_BLOCKS, FIRST_PARTS, file_inode}
-use Rattle.example_grants.specs.Fsyncs.{Writing, OWN, OTHER, ENTRIES, entry_at, plan_by, grant_by, pair_by}
+use Rattle.example_grants.specs.Image.{ROOT_RECORD, FIFTEEN_BLOCKS, FIRST_PARTS, file_inode}
+use Rattle.example_grants.specs.Fsyncs.{Writer, OWN, OTHER, ENTRIES, entry_kept, plan_by, grant_by, pair_made}
 use Rattle.example_grants.specs.Laws.{WritesOne}
 use Rattle.example_grants.specs.Map.{map_with, FIRST_MAP}
-use Rattle.example_grants.proofs.Image.{ROOT_PART, FILE_PART, root_is, root_blocks, root_slots, later_direct}
-use Rattle.example_grants.proofs.Plans.{KEPT_FILE, kept_file, no_pointer, gives_up_none, plan_kept, planned_by, own_planned, other_planned, own_writes, other_writes}
+use Rattle.example_grants.proofs.Image.{ROOT_PART, FILE_PART, root_is, later_direct}
+use Rattle.example_grants.proofs.Plans.{kept_file, no_pointer, gives_up_none, plan_kept, planned_by, own_planned, other_planned, own_writes, other_writes}
 
 -- A number is that of a data block, or lies outside.
 at_each : (P : ℕ → Type 0) → P 11 → P 12 → P 13 → P 14 → ((n : ℕ) → (n < 11) ⊎ (15 ≤ n) → P n) → (n : ℕ) → P n
@@ -145,19 +144,19 @@ inodes_are (suc (suc (suc k))) =
     ]
 
 -- what memory keeps of the root has one block
-no_root_tables : (blocks : List (List ℕ)) → tables_kept ROOT_INODE blocks ≡ []
+no_root_tables : (blocks : List (List ℕ)) → tables_kept ROOT_RECORD blocks ≡ []
 unfolding tables_kept
 no_root_tables blocks = refl
 
-root_pointer : (place : ℕ) → pointer_kept (kept_of ROOT_PART).inode (kept_of ROOT_PART).tables place ≡ pointer_kept ROOT_INODE [] place
+root_pointer : (place : ℕ) → pointer_kept (kept_of ROOT_PART).inode (kept_of ROOT_PART).tables place ≡ pointer_kept ROOT_RECORD [] place
 root_pointer place =
     ap (λ (inode : Inode). pointer_kept inode (tables_kept inode ROOT_PART.tables) place) root_is
-    ∙ ap (λ (tables : List Table). pointer_kept ROOT_INODE tables place) (no_root_tables ROOT_PART.tables)
+    ∙ ap (λ (tables : List Table). pointer_kept ROOT_RECORD tables place) (no_root_tables ROOT_PART.tables)
 
 file_pointer : (place : ℕ) → pointer_kept (kept_of FILE_PART).inode (kept_of FILE_PART).tables place ≡ 0
 file_pointer place = ap (λ (kept : Kept). pointer_kept kept.inode kept.tables place) kept_file ∙ no_pointer place
 
-pub entry_cases : (entry : OldEntry) → Contains ENTRIES entry → (entry_at 0 ≡ entry) ⊎ ((entry_at 1 ≡ entry) ⊎ (entry_at 2 ≡ entry))
+pub entry_cases : (entry : OldEntry) → Contains ENTRIES entry → (entry_kept 0 ≡ entry) ⊎ ((entry_kept 1 ≡ entry) ⊎ (entry_kept 2 ≡ entry))
 entry_cases entry (zero, low, is) = inl is
 entry_cases entry (suc zero, low, is) = inr (inl is)
 entry_cases entry (suc (suc zero), low, is) = inr (inr is)
@@ -169,7 +168,7 @@ held_is block = (there, back)
   where
     there : Contains (12 ∷ []) block → IsLeftByGone ENTRIES block
     there (zero, low, is) = record {
-      entry = entry_at 0;
+      entry = entry_kept 0;
       one = (0, omega arith, refl);
       held = record {
         some = let e : 12 ≡ block = is in λ none. omega (arith, e, none);
@@ -180,9 +179,9 @@ held_is block = (there, back)
     }
     there (suc k, low, is) = absurd (omega (arith, low))
 
-    root_only : (place : ℕ) → pointer_kept ROOT_INODE [] place ≡ block → block ≢ 0 → Contains (12 ∷ []) block
+    root_only : (place : ℕ) → pointer_kept ROOT_RECORD [] place ≡ block → block ≢ 0 → Contains (12 ∷ []) block
     root_only place stands some = elim (cases_eq place 0) [
-      | inl first ↦ (0, omega arith, ap (pointer_kept ROOT_INODE []) (sym first) ∙ stands)
+      | inl first ↦ (0, omega arith, ap (pointer_kept ROOT_RECORD []) (sym first) ∙ stands)
       | inr other ↦ absurd (some (sym stands ∙ none (nat_lt place FILE_BLOCKS) (nat_lt place 108) other))
     ]
       where
@@ -192,7 +191,7 @@ held_is block = (there, back)
         none true false other = refl
         none false c other = zeros_read 16 (place - FILE_BLOCKS)
 
-    no_file : (node : ℕ) → FIRST_PARTS node ≡ FILE_PART → (entry : OldEntry) → entry_at node ≡ entry
+    no_file : (node : ℕ) → FIRST_PARTS node ≡ FILE_PART → (entry : OldEntry) → entry_kept node ≡ entry
         → IsHeld (pointer_kept entry.old.kept.inode entry.old.kept.tables) block → ⊥
     no_file node file entry same left =
         let held = subst (λ (e : OldEntry). IsHeld (pointer_kept e.old.kept.inode e.old.kept.tables) block) (sym same) left in
@@ -221,61 +220,59 @@ nothing_granted = record {
   blocks = λ number is. none_granted _ _ (sym (blocks_are number) ∙ is);
 }
 
--- Blocks change their statuses so, by four equations.
-pub blocks_change : (change : Status → Status) (numbers : List ℕ) (own other own_then other_then : Status)
-    → status_of (map_with own_then other_then).blocks 11
-    ≡ (if is_listed numbers 11 then option_map change (status_of (map_with own other).blocks 11) else status_of (map_with own other).blocks 11)
-    → status_of (map_with own_then other_then).blocks 12
-    ≡ (if is_listed numbers 12 then option_map change (status_of (map_with own other).blocks 12) else status_of (map_with own other).blocks 12)
-    → status_of (map_with own_then other_then).blocks 13
-    ≡ (if is_listed numbers 13 then option_map change (status_of (map_with own other).blocks 13) else status_of (map_with own other).blocks 13)
-    → status_of (map_with own_then other_then).blocks 14
-    ≡ (if is_listed numbers 14 then option_map change (status_of (map_with own other).blocks 14) else status_of (map_with own other).blocks 14)
-    → Changes change numbers (map_with own other).blocks (map_with own_then other_then).blocks
-blocks_change change numbers own other own_then other_then first second third fourth =
-    at_each (λ n. status_of (map_with own_then other_then).blocks n
-    ≡ (if is_listed numbers n then option_map change (status_of (map_with own other).blocks n) else status_of (map_with own other).blocks n))
-    first second third fourth
-    (λ n apart. none_outside own_then other_then n apart
+-- The statuses of blocks 11 and 13 change from a pair to another one, by four equations.
+abbrev StatusBecomes : (Status → Status) → List ℕ → Status × Status → Status × Status → ℕ → Type 0
+StatusBecomes change numbers old new block =
+    status_of (map_with new.0 new.1).blocks block
+    ≡ (if is_listed numbers block then option_map change (status_of (map_with old.0 old.1).blocks block) else status_of (map_with old.0 old.1).blocks block)
+
+blocks_change : (change : Status → Status) (numbers : List ℕ) (old new : Status × Status) → StatusBecomes change numbers old new 11
+    → StatusBecomes change numbers old new 12 → StatusBecomes change numbers old new 13 → StatusBecomes change numbers old new 14
+    → Changes change numbers (map_with old.0 old.1).blocks (map_with new.0 new.1).blocks
+blocks_change change numbers old new first second third fourth =
+    at_each (StatusBecomes change numbers old new) first second third fourth
+    (λ n apart. none_outside new.0 new.1 n apart
     ∙ sym
-    (ap (λ (o : Option Status). if is_listed numbers n then option_map change o else o) (none_outside own other n apart) ∙ none (is_listed numbers n)))
+    (ap (λ (o : Option Status). if is_listed numbers n then option_map change o else o) (none_outside old.0 old.1 n apart) ∙ none (is_listed numbers n)))
   where
     none : (b : Bool) → (if b then option_map change None else None) ≡ (let o : Option Status = None in o)
     none true = refl
     none false = refl
 
 -- a grant of one block
-pub one_granted : (block : ℕ) (own other own_then other_then : Status) → status_of (map_with own other).blocks block ≡ Some Free
-    → Changes (λ _. Granted) (block ∷ []) (map_with own other).blocks (map_with own_then other_then).blocks
-    → free_count (map_with own_then other_then).blocks + 1 ≡ free_count (map_with own other).blocks
-    → (count : ℕ) → count ≡ 1 → Grants (map_with own other).blocks (as_u32 count) (block ∷ []) (map_with own_then other_then).blocks
-one_granted block own other own_then other_then free changes left count is =
-    subst (λ n. Grants (map_with own other).blocks n (block ∷ []) (map_with own_then other_then).blocks) (sym (ap as_u32 is)) (record {
+one_granted : (block : ℕ) (old new : Status × Status) → status_of (map_with old.0 old.1).blocks block ≡ Some Free
+    → Changes (λ _. Granted) (block ∷ []) (map_with old.0 old.1).blocks (map_with new.0 new.1).blocks
+    → free_count (map_with new.0 new.1).blocks + 1 ≡ free_count (map_with old.0 old.1).blocks
+    → (count : ℕ) → count ≡ 1 → Grants (map_with old.0 old.1).blocks (as_u32 count) (block ∷ []) (map_with new.0 new.1).blocks
+one_granted block old new free changes left count is =
+    subst (λ n. Grants (map_with old.0 old.1).blocks n (block ∷ []) (map_with new.0 new.1).blocks) (sym (ap as_u32 is)) (record {
       counted = refl;
       ascending = λ k less. absurd (omega (arith, less));
-      free = All-from_recursion (λ number. status_of (map_with own other).blocks number ≡ Some Free) (block ∷ []) (free, tt);
+      free = All-from_recursion (λ number. status_of (map_with old.0 old.1).blocks number ≡ Some Free) (block ∷ []) (free, tt);
       granted = changes;
       left = left;
     })
 
-no_inode : (writing : Writing) → WritesOne writing (plan_by writing) → (amount_planned (plan_by writing)).inodes ≡ 0
+no_inode : (writing : Writer) → WritesOne writing (plan_by writing) → (amount_planned (plan_by writing)).inodes ≡ 0
 no_inode writing writes = ap (λ (a : Amount). a.inodes) writes.needs
 
-one_block : (writing : Writing) → WritesOne writing (plan_by writing) → (amount_planned (plan_by writing)).blocks ≡ 1
+one_block : (writing : Writer) → WritesOne writing (plan_by writing) → (amount_planned (plan_by writing)).blocks ≡ 1
 one_block writing writes = ap (λ (a : Amount). a.blocks) writes.needs
 
-least_none : (writing : Writing) (own other : Status) → WritesOne writing (plan_by writing)
+least_none : (writing : Writer) (own other : Status) → WritesOne writing (plan_by writing)
     → [] ≡ take (as_u32 (amount_planned (plan_by writing)).inodes) (free_numbers (map_with own other).inodes)
 least_none writing own other writes =
     sym (take_none (free_numbers (map_with own other).inodes) (as_u32 (amount_planned (plan_by writing)).inodes) (ap as_u32 (no_inode writing writes)))
 
 -- the first core is granted block 11, and behind it the second one block 13
 pub own_granted : (count : ℕ) → count ≡ 1 → Grants FIRST_MAP.blocks (as_u32 count) (11 ∷ []) (map_with Granted Free).blocks
-own_granted = one_granted 11 Free Free Granted Free refl (blocks_change (λ _. Granted) (11 ∷ []) Free Free Granted Free refl refl refl refl) refl
+own_granted =
+    one_granted 11 (Free, Free) (Granted, Free) refl (blocks_change (λ _. Granted) (11 ∷ []) (Free, Free) (Granted, Free) refl refl refl refl) refl
 
 pub other_granted : (count : ℕ) → count ≡ 1 → Grants (map_with Granted Free).blocks (as_u32 count) (13 ∷ []) (map_with Granted Granted).blocks
 other_granted =
-    one_granted 13 Granted Free Granted Granted refl (blocks_change (λ _. Granted) (13 ∷ []) Granted Free Granted Granted refl refl refl refl) refl
+    one_granted 13 (Granted, Free) (Granted, Granted) refl
+    (blocks_change (λ _. Granted) (13 ∷ []) (Granted, Free) (Granted, Granted) refl refl refl refl) refl
 
 pub own_reserved : WasReserved (plan_by OWN) FIRST_MAP (grant_by OWN) (map_with Granted Free)
 own_reserved = record {
@@ -299,7 +296,7 @@ other_reserved = record {
 abbrev GivesNone : Planned → Type 0
 GivesNone change = (seat : Seated) → Contains change.seats seat → (place : ℕ) → gives_up (rewrite_in seat) place ≡ false
 
-planned_gives_none : (writing : Writing) → GivesNone (planned_by writing)
+planned_gives_none : (writing : Writer) → GivesNone (planned_by writing)
 planned_gives_none writing seat (zero, low, is) place = subst (λ (s : Seated). gives_up (rewrite_in s) place ≡ false) is (gives_up_none place)
 planned_gives_none writing seat (suc k, low, is) place = absurd (omega (arith, low))
 
@@ -312,7 +309,7 @@ other_gives_none =
     subst (λ kept. GivesNone (change_planned (plan_kept OTHER kept))) (sym kept_file) (subst GivesNone (sym other_planned) (planned_gives_none OTHER))
 
 -- the transaction of a commit
-abbrev pub tx_by : Writing → Tx
+abbrev pub tx_by : Writer → Tx
 tx_by writing = record {
   records = roomless (record { inode = writing.file; bytes = inode_bytes (file_inode 1 writing.block) } ∷ []);
   fresh = roomless (record { block = writing.block; bytes = writing.byte ∷ zeros 4095 } ∷ []);
@@ -323,7 +320,7 @@ tx_by writing = record {
   inodes_ascend = λ k less. absurd (omega (arith, less));
 }
 
-transaction : (writing : Writing) → WritesOne writing (plan_by writing) → GivesNone (change_planned (plan_by writing))
+transaction : (writing : Writer) → WritesOne writing (plan_by writing) → GivesNone (change_planned (plan_by writing))
     → IsTransactionOf (change_planned (plan_by writing)) (grant_by writing) (tx_by writing)
 transaction writing writes still = record {
   records = sym writes.records;
@@ -348,13 +345,13 @@ other_transaction = transaction OTHER other_writes other_gives_none
 
 -- the second core's commit ends, and then the first one's
 pub other_ends : Ends (13 ∷ []) [] (map_with Granted Granted).blocks (map_with Granted Taken).blocks
-other_ends = blocks_change (λ _. Taken) (13 ∷ []) Granted Granted Granted Taken refl refl refl refl
+other_ends = blocks_change (λ _. Taken) (13 ∷ []) (Granted, Granted) (Granted, Taken) refl refl refl refl
 
 pub own_ends : Ends (11 ∷ []) [] (map_with Granted Taken).blocks (map_with Taken Taken).blocks
-own_ends = blocks_change (λ _. Taken) (11 ∷ []) Granted Taken Taken Taken refl refl refl refl
+own_ends = blocks_change (λ _. Taken) (11 ∷ []) (Granted, Taken) (Taken, Taken) refl refl refl refl
 
-pub other_ended : EndsBringing (pair_by OTHER).one (map_with Granted Granted) (map_with Granted Taken)
+pub other_ended : EndsBringing (pair_made OTHER).one (map_with Granted Granted) (map_with Granted Taken)
 other_ended = record { tx = tx_by OTHER; used = record { gives_up = other_transaction; inodes = λ number. refl; blocks = other_ends } }
 
-pub own_ended : EndsBringing (pair_by OWN).one (map_with Granted Taken) (map_with Taken Taken)
+pub own_ended : EndsBringing (pair_made OWN).one (map_with Granted Taken) (map_with Taken Taken)
 own_ended = record { tx = tx_by OWN; used = record { gives_up = own_transaction; inodes = λ number. refl; blocks = own_ends } }

@@ -1,8 +1,8 @@
 -- A plan of a file that gets its first byte needs one block, and what its commit writes.
 use Rattle.std.specs.List.{range_with_len, cons_option, flat_map}
 use Rattle.std.specs.Option.{unwrap_or}
-use Rattle.std.proofs.Common.{◌<◌, ◌≢◌, ◌++◌, ◌≡◌, ◌∷◌, ◌∙◌, ◌+◌, ◌-◌, ◌==◌, ◌&&◌, ◌||◌, if◌then◌else◌, ◌*◌, take, None, Some, ℕ, Bool, false, zero, refl, suc, cond, ap, arith, List, [], slice_index, nat_lt, le-ltb, not, nat_le, true, nat_eq, ne_eqb, map, Option, sum_by, length, subst, sym, filter_map, replicate, is_some, count_by, get_or}
-use Rattle.std.proofs.lemmas.Bool.{cond-false, and_right, cases_eq}
+use Rattle.std.proofs.Common.{◌<◌, ◌≢◌, ◌++◌, ◌≡◌, ◌∷◌, ◌∙◌, ◌+◌, ◌-◌, ◌==◌, ◌&&◌, ◌||◌, if◌then◌else◌, take, None, Some, ℕ, Bool, false, zero, refl, suc, cond, ap, arith, List, [], slice_index, nat_lt, not, nat_le, true, nat_eq, ne_eqb, map, Option, sum_by, subst, sym, filter_map, replicate, is_some, count_by, get_or}
+use Rattle.std.proofs.lemmas.Bool.{cond-false, and_right}
 use Rattle.std.proofs.lemmas.List.{length-replicate, get_or-replicate}
 use Rattle.sfs_base.proofs.BasicLists.{zeros_read}
 use Rattle.sfs_image.specs.Bytes.{zeros}
@@ -10,7 +10,6 @@ use Rattle.sfs_image.specs.Inode.{Inode}
 use Rattle.sfs_image.specs.Part.{tabulate, directory_blocks}
 use Rattle.sfs_image.specs.Seen.{FILE_BLOCKS, PLACES}
 use Rattle.sfs_image.specs.SlotBlock.{slots_of}
-use Rattle.sfs_image.specs.Slot.{Row}
 use Rattle.image_laws.specs.Need.{table_has_pointer, rank, takes_place, Rewrite, rewrites_table, first_block, changes_pointer, table_blocks, takes_data, takes_table}
 use Rattle.image_laws.proofs.Ranks.{rank_more}
 use Rattle.disk_nodes.specs.OldKept.{Kept}
@@ -20,17 +19,17 @@ use Rattle.block_map.specs.declared.rewrite.TableFate.{TableFate}
 use Rattle.block_map.specs.declared.rewrite.TableFate.TheVariants.{Stays, Goes, IsWritten}
 use Rattle.block_map.specs.Changed.{change_of}
 use Rattle.block_map.specs.Remap.{pointer_remapped, inode_remapped, fresh_for, TABLES, rewrite_of, gives_up, table_fate, table_remapped, tables_remapped, table_by_fate}
-use Rattle.block_map.specs.Kept.{pointer_kept, tables_kept, kept_of, kept_tables, kept_slots}
+use Rattle.block_map.specs.Kept.{tables_kept, kept_of, kept_tables, kept_slots}
 use Rattle.block_map.proofs.Tables.{none_in_range, tabulated}
 use Rattle.disk_change.specs.AllBuilt.{nodes_with_grant, numbers_with, fresh_of_node, entry_after, after_commit, fresh_of_commit}
 use Rattle.disk_change.specs.Built.{Built}
 use Rattle.disk_change.specs.Lists.{ascending_by}
 use Rattle.disk_change.specs.Planned.{Planned, blocks_taken, enters}
-use Rattle.disk_change.specs.Records.{records_written, record_inode, written_of_built, written_of_gone}
+use Rattle.disk_change.specs.Records.{records_written, record_inode, written_of_built}
 use Rattle.disk_change.specs.Seated.{Seated, changes_in}
 use Rattle.commit_laws.specs.CommitOfPlan.{CommitPlan, change_planned}
 use Rattle.example_grants.specs.Image.{EMPTY_FILE, file_inode}
-use Rattle.example_grants.specs.Fsyncs.{Writing, OWN, OTHER, change_by, plan_by, grant_by}
+use Rattle.example_grants.specs.Fsyncs.{Writer, OWN, OTHER, change_by, plan_by, grant_by}
 use Rattle.example_grants.specs.Laws.{WritesOne}
 use Rattle.example_grants.proofs.Image.{FILE_PART, file_is}
 
@@ -165,7 +164,7 @@ fates_then =
     ∙ sym (ap (λ b. if b then (if table_has_pointer FIRST_REWRITE k then IsWritten else Goes) else Stays) (no_table k))))
 
 -- the plan where this is kept of the file, and what it changes
-abbrev pub plan_kept : Writing → Kept → CommitPlan
+abbrev pub plan_kept : Writer → Kept → CommitPlan
 plan_kept writing kept = record {
   old = record { node = record { 0 = writing.file }; old = record { number = writing.file; kept = kept } } ∷ [];
   nets = [];
@@ -174,7 +173,7 @@ plan_kept writing kept = record {
   leave = [];
 }
 
-abbrev pub seat_by : Writing → Seated
+abbrev pub seat_by : Writer → Seated
 seat_by writing = record {
   node = writing.file;
   number = Some writing.file;
@@ -185,7 +184,7 @@ seat_by writing = record {
   changed = FIRST_CHANGED;
 }
 
-abbrev pub planned_by : Writing → Planned
+abbrev pub planned_by : Writer → Planned
 planned_by writing = record {
   old = (plan_kept writing KEPT_FILE).old;
   seats = seat_by writing ∷ [];
@@ -201,11 +200,11 @@ pub other_planned : change_planned (plan_kept OTHER KEPT_FILE) ≡ planned_by OT
 unfolding zeros
 other_planned = refl
 
-pub one_taken : (writing : Writing) → blocks_taken (seat_by writing) ≡ 1
+pub one_taken : (writing : Writer) → blocks_taken (seat_by writing) ≡ 1
 one_taken writing = rank_one (takes_place FIRST_REWRITE) refl takes_no_other PLACES (omega arith)
 
 -- what is built of the file
-abbrev pub built_by : Writing → Built
+abbrev pub built_by : Writer → Built
 built_by writing = record {
   node = writing.file;
   number = writing.file;
@@ -217,7 +216,7 @@ built_by writing = record {
   fates = replicate 16 Stays;
 }
 
-is_built : (writing : Writing) → unwrap_or (numbers_with (planned_by writing) [] writing.file) 0 ≡ writing.file
+is_built : (writing : Writer) → unwrap_or (numbers_with (planned_by writing) [] writing.file) 0 ≡ writing.file
     → nodes_with_grant (planned_by writing) (grant_by writing) ≡ built_by writing ∷ []
 is_built writing number =
     ap (λ fresh. build fresh ∷ []) (ap (λ n. take n (writing.block ∷ [])) (one_taken writing))
@@ -245,7 +244,7 @@ is_built writing number =
     }
 
 -- what its commit writes
-module _ (writing : Writing) (plan : CommitPlan) (is : change_planned plan ≡ planned_by writing)
+module _ (writing : Writer) (plan : CommitPlan) (is : change_planned plan ≡ planned_by writing)
     (number : unwrap_or (numbers_with (planned_by writing) [] writing.file) 0 ≡ writing.file)
     (page : flat_map (fresh_of_node (change_by writing ∷ [])) (built_by writing ∷ [])
     ≡ record { block = writing.block; bytes = writing.byte ∷ zeros 4095 } ∷ []) where

@@ -12,7 +12,7 @@ use Rattle.sfs_image.specs.Inode.{Inode}
 use Rattle.sfs_image.specs.SlotBlock.{slots_of, slots_bytes}
 use Rattle.sfs_image.specs.Slot.{kind_byte, Row}
 use Rattle.sfs_image.proofs.SlotBlockLaws.{slots_of-slots_bytes}
-use Rattle.tree_laws.specs.Order.{key_cmp, Key}
+use Rattle.tree_laws.specs.Order.{key_cmp}
 use Rattle.tree_laws.specs.Tree.{kind_of, links_of, holds_directory, count_of, names_it, Node, row_of, is_directory}
 use Rattle.tree_laws.proofs.RowFacts.{key_cases}
 use Rattle.image_laws.specs.Slots.{looked_up, name_count, BLOCK_SLOTS}
@@ -25,16 +25,16 @@ use Rattle.raise_laws.specs.Next.{IsMountedHistory}
 use Rattle.volume_laws.specs.Volume.{IsVolumeStanding}
 use Rattle.book_laws.specs.Walk.{BeginsWalk}
 use Rattle.example_grants.specs.Calls.{FIRST_TREE, WRITES_AND_FSYNCS}
-use Rattle.example_grants.specs.Image.{ROOT_SLOTS, FIRST_NUMBERS, FIRST_PARTS, FIFTEEN_BLOCKS, TWO_FILES}
+use Rattle.example_grants.specs.Image.{TWO_ROWS, FIRST_NUMBERS, FIRST_PARTS, FIFTEEN_BLOCKS, TWO_FILES}
 use Rattle.example_grants.proofs.Image.{ROOT_PART, root_is, root_blocks, root_slots, FILE_PART, file_is, inode_cases, free_record, root_others, file_has_none, free_has, free_kind, sound_parts}
 use Rattle.example_grants.proofs.Tree.{ROWS, first_three, of_others, root_directory, own_no_directory, other_no_directory, node_get, none_there, rows_are, entries_are, no_bytes, row_child, first_sound, first_limits, all_alive}
 use Rattle.example_grants.proofs.Calls.{history_legal, same_at_cut}
 
 -- what the parts show
-root_shows : shown_slots ROOT_PART ≡ ROOT_SLOTS
+root_shows : shown_slots ROOT_PART ≡ TWO_ROWS
 root_shows =
     ap (λ (inode : Inode). cond (nat_eq inode.kind 2) (flat_map slots_of (directory_blocks ROOT_PART)) []) root_is
-    ∙ ap (flat_map slots_of) root_blocks ∙ append-nil (slots_of (slots_bytes ROOT_SLOTS)) ∙ slots_of-slots_bytes ROOT_SLOTS root_slots
+    ∙ ap (flat_map slots_of) root_blocks ∙ append-nil (slots_of (slots_bytes TWO_ROWS)) ∙ slots_of-slots_bytes TWO_ROWS root_slots
 
 file_shows : shown_slots FILE_PART ≡ []
 file_shows = ap (λ (inode : Inode). cond (nat_eq inode.kind 2) (flat_map slots_of (directory_blocks FILE_PART)) []) file_is
@@ -74,13 +74,13 @@ row_named : List ℕ → ℕ → Row
 row_named name inode = record { inode = inode; kind = File; name = name }
 
 -- the root's slots have its two rows
-root_looked : (name : List ℕ) → looked_up name ROOT_SLOTS ≡ option_map (row_on FIRST_NUMBERS FIRST_TREE name) (row_of FIRST_TREE 0 name)
+root_looked : (name : List ℕ) → looked_up name TWO_ROWS ≡ option_map (row_on FIRST_NUMBERS FIRST_TREE name) (row_of FIRST_TREE 0 name)
 unfolding row_named
 root_looked name = elim (key_cases 0 0 name (97 ∷ [])) [
   | inl same ↦
       let found : row_of FIRST_TREE 0 name ≡ Some 1 =
       rows_are [] [] 0 name ∙ ap (λ b. cond b (Some 1) (list.find key_cmp (0, name) (((0, 98 ∷ []), 2) ∷ []))) same.0 in
-      ap (λ n. looked_up n ROOT_SLOTS) same.2
+      ap (λ n. looked_up n TWO_ROWS) same.2
       ∙ ap (λ kind. Some (record { inode = 1; kind = kind; name = 97 ∷ [] })) (sym own_kind)
       ∙ ap (λ n. Some (row_on FIRST_NUMBERS FIRST_TREE n 1)) (sym same.2)
       ∙ ap (option_map (row_on FIRST_NUMBERS FIRST_TREE name)) (sym found)
@@ -89,7 +89,7 @@ root_looked name = elim (key_cases 0 0 name (97 ∷ [])) [
         let found : row_of FIRST_TREE 0 name ≡ Some 2 =
         rows_are [] [] 0 name ∙ ap (λ b. cond b (Some 1) (list.find key_cmp (0, name) (((0, 98 ∷ []), 2) ∷ []))) first.0
         ∙ ap (λ b. cond b (Some 2) (let o : Option ℕ = None in o)) same.0 in
-        ap (λ n. looked_up n ROOT_SLOTS) same.2
+        ap (λ n. looked_up n TWO_ROWS) same.2
         ∙ ap (λ kind. Some (record { inode = 2; kind = kind; name = 98 ∷ [] })) (sym other_kind)
         ∙ ap (λ n. Some (row_on FIRST_NUMBERS FIRST_TREE n 2)) (sym same.2)
         ∙ ap (option_map (row_on FIRST_NUMBERS FIRST_TREE name)) (sym found)
@@ -104,9 +104,9 @@ root_looked name = elim (key_cases 0 0 name (97 ∷ [])) [
   ]
 ]
 
-root_once : (name : List ℕ) → name_count name ROOT_SLOTS ≤ 1
+root_once : (name : List ℕ) → name_count name TWO_ROWS ≤ 1
 root_once name = elim (key_cases 0 0 name (97 ∷ [])) [
-  | inl same ↦ subst (λ n. name_count n ROOT_SLOTS ≤ 1) (sym same.2) (omega arith)
+  | inl same ↦ subst (λ n. name_count n TWO_ROWS ≤ 1) (sym same.2) (omega arith)
   | inr first ↦
       let count = ap (λ b. cond b 1 0 + cond (bytes_eq name (98 ∷ [])) 1 0) (bytes_apart name (97 ∷ []) (λ same. first.1 refl same)) in
       let le = by (bytes_eq name (98 ∷ [])) in omega (arith, count, le)

@@ -1,7 +1,7 @@
 -- What the core of each of the two fsyncs tells of its pair.
 use Rattle.std.specs.FinMap.{get, empty}
 use Rattle.std.specs.List.{range_with_len}
-use Rattle.std.proofs.Common.{◌∷◌, ◌≡◌, ◌⊎◌, ◌≤◌, ◌<◌, ◌∙◌, ◌↔◌, ◌*◌, ◌+◌, if◌then◌else◌, ◌++◌, [], subst, refl, ap, length, arith, List, Contains, zero, inl, suc, inr, Some, sym, true, is_some, Option, ℕ, false, None, Bool, nat_cmp, nat_le, map, filter, take, drop, replicate}
+use Rattle.std.proofs.Common.{◌∷◌, ◌≡◌, ◌⊎◌, ◌≤◌, ◌<◌, ◌∙◌, ◌↔◌, ◌+◌, if◌then◌else◌, [], subst, refl, ap, length, arith, List, Contains, zero, inl, suc, inr, Some, sym, true, is_some, Option, ℕ, false, Bool, map, filter, take, replicate}
 use Rattle.std.proofs.lemmas.Bool.{le-leb}
 use Rattle.std.proofs.lemmas.Bool.Decides.{nat_tests}
 use Rattle.sfs_image.specs.Bytes.{zeros}
@@ -18,7 +18,7 @@ use Rattle.block_map.specs.Kept.{kept_of}
 use Rattle.cut_laws.specs.Rules.{IsChange, IsOneOf}
 use Rattle.cut_laws.specs.Closure.{none, IsNamedIn}
 use Rattle.cut_laws.specs.Cut.{cut_of}
-use Rattle.beside_laws.specs.Progress.{Progress, Standing, HasLeft}
+use Rattle.beside_laws.specs.Progress.{Standing, HasLeft}
 use Rattle.flush_laws.specs.Ready.{KeepsEntries}
 use Rattle.flush_plan.specs.Touched.{pages_from, page_of, is_marked_from}
 use Rattle.mark_laws.specs.Changed.{HasShortFiles}
@@ -31,14 +31,14 @@ use Rattle.reserve_laws.specs.Fits.{TellsPair, by_own}
 use Rattle.reserve_laws.specs.Looks.{ServesPair}
 use Rattle.reserve_laws.specs.OwnFile.{MakesOwnFile, ChangesOwn, in_time}
 use Rattle.tree_laws.specs.Changes.{RowChange}
-use Rattle.example_grants.specs.Calls.{FIRST_TREE, WRITES_AND_FSYNCS, own_fsync, other_fsync, other_write}
+use Rattle.example_grants.specs.Calls.{FIRST_TREE, WRITES_AND_FSYNCS, own_flush, other_write}
 use Rattle.example_grants.specs.Image.{TWO_FILES, FIRST_NUMBERS, FIRST_PARTS, FIFTEEN_BLOCKS}
-use Rattle.example_grants.specs.Fsyncs.{Writing, OWN, OTHER, ENTRIES, entry_at, file_by, change_by, page_by, making_by, plan_by, grant_by, pair_by}
-use Rattle.example_grants.specs.Laws.{WriterTells, WritersTell}
+use Rattle.example_grants.specs.Fsyncs.{Writer, OWN, OTHER, ENTRIES, entry_kept, file_by, change_by, page_by, making_by, plan_by, grant_by, pair_made}
+use Rattle.example_grants.specs.Laws.{WritersTell}
 use Rattle.example_grants.specs.Map.{map_with, FIRST_MAP}
 use Rattle.example_grants.proofs.Tree.{node_get, no_bytes, own_alive, other_alive, own_no_directory, other_no_directory, rows_are}
 use Rattle.example_grants.proofs.Calls.{LAST_TREE, own_step, other_step, own_stays, same_after, nothing_changes, two_edits, OWN_EDIT, OTHER_EDIT, own_bytes, other_bytes, no_cut, same_rows}
-use Rattle.example_grants.proofs.Standing.{numbered, number_of, volume_stands}
+use Rattle.example_grants.proofs.Standing.{numbered, volume_stands}
 use Rattle.example_grants.proofs.Plans.{own_writes, other_writes}
 use Rattle.example_grants.proofs.Mapped.{entry_cases, map_right, own_reserved, other_reserved}
 use Rattle.space_map.specs.declared.status.Status.TheVariants.{Granted, Free}
@@ -62,8 +62,8 @@ short_files node = let long = ap length (no_bytes node) in omega (arith, long)
 -- what memory keeps
 entry_of : (node : ℕ) → (node ≡ 0) ⊎ ((node ≡ 1) ⊎ (node ≡ 2)) → (entry : OldEntry) × Contains ENTRIES entry × (entry.node.0 ≡ node)
 entry_of node known = elim known [
-  | inl root ↦ (entry_at 0, (0, omega arith, refl), sym root)
-  | inr file ↦ elim file [ inl own ↦ (entry_at 1, (1, omega arith, refl), sym own) | inr other ↦ (entry_at 2, (2, omega arith, refl), sym other) ]
+  | inl root ↦ (entry_kept 0, (0, omega arith, refl), sym root)
+  | inr file ↦ elim file [ inl own ↦ (entry_kept 1, (1, omega arith, refl), sym own) | inr other ↦ (entry_kept 2, (2, omega arith, refl), sym other) ]
 ]
 
 abbrev IsKept : OldEntry → Type 0
@@ -92,11 +92,11 @@ entries_kept = record {
     ascend (suc (suc i)) (suc (suc zero)) d less within = absurd (omega (arith, less))
     ascend (suc (suc i)) (suc (suc (suc j))) d less within = absurd (omega (arith, within))
 
--- What is known of a file to which a core writes one byte and which it flushes: the file is there, in one of the first entries, and is alive as its fsync comes;
--- a row names it; the write is the only change of it; and it has the byte then.
-pub record IsWriting (w : Writing) : Type 0 where
+-- What is known of a file to which a core writes one byte and which it flushes: the file is there, with one of the first entries, and is alive as its
+-- fsync comes; a row names it; the write is the only change of it; and it has the byte then.
+pub record IsWriting (w : Writer) : Type 0 where
   pub there : is_some (get FIRST_TREE.nodes w.file) ≡ true
-  pub entry : Contains ENTRIES (entry_at w.file)
+  pub entry : Contains ENTRIES (entry_kept w.file)
   pub then_is : tree_after FIRST_TREE (take w.flushed WRITES_AND_FSYNCS) ≡ LAST_TREE
   pub alive : is_alive LAST_TREE w.file ≡ true
   pub no_directory : is_directory LAST_TREE w.file ≡ false
@@ -113,7 +113,7 @@ writes_then = ap (λ t. tree_after t (other_write ∷ [])) own_step ∙ other_st
 
 own_flushed_then : tree_after FIRST_TREE (take 3 WRITES_AND_FSYNCS) ≡ LAST_TREE
 own_flushed_then =
-    ap (λ t. tree_after t (other_write ∷ own_fsync ∷ [])) own_step ∙ ap (λ t. tree_after t (own_fsync ∷ [])) other_step ∙ own_stays
+    ap (λ t. tree_after t (other_write ∷ own_flush ∷ [])) own_step ∙ ap (λ t. tree_after t (own_flush ∷ [])) other_step ∙ own_stays
 
 edit_cases : (change : FileChange) → IsOneOf (edits_of FIRST_TREE WRITES_AND_FSYNCS) change → (OWN_EDIT ≡ change) ⊎ (OTHER_EDIT ≡ change)
 edit_cases change one = elim (subst (λ l. IsOneOf l change) two_edits one) [
@@ -174,7 +174,7 @@ one_page byte = λ i. record { block = 0; bytes = byte ∷ take_same 4095 1 i }
 kept_one : (test : ℕ → Bool) → test 0 ≡ true → filter test (range_with_len 0 1) ≡ 0 ∷ []
 kept_one test passes = ap (λ b. if b then 0 ∷ [] else []) passes
 
-module _ (w : Writing) (is : IsWriting w) where
+module _ (w : Writer) (is : IsWriting w) where
   abbrev EDIT : FileChange
   EDIT = record { stamp = w.written; file = w.file; edit = Puts 0 (w.byte ∷ []) }
 
@@ -237,15 +237,15 @@ module _ (w : Writing) (is : IsWriting w) where
     changes = changes;
   }
 
-  pub tells : TellsPair TWO_FILES [] (pair_by w)
+  pub tells : TellsPair TWO_FILES [] (pair_made w)
   tells = by_own (making_by w) makes (record { other_number = λ other one. absurd one; greater = λ other one. absurd one }) refl
 
-pub own_serves : ServesPair TWO_FILES (pair_by OWN)
+pub own_serves : ServesPair TWO_FILES (pair_made OWN)
 own_serves =
     grants_serve TWO_FILES ENTRIES (plan_by OWN) FIRST_MAP (map_with Granted Free) (grant_by OWN) volume_stands.between entries_kept map_right
     own_reserved.taken
 
-pub other_serves : ServesPair TWO_FILES (pair_by OTHER)
+pub other_serves : ServesPair TWO_FILES (pair_made OTHER)
 other_serves =
     grants_serve TWO_FILES ENTRIES (plan_by OTHER) (map_with Granted Free) (map_with Granted Granted) (grant_by OTHER) volume_stands.between entries_kept
     (grants_keep_maps FIFTEEN_BLOCKS ENTRIES (plan_by OWN) FIRST_MAP (map_with Granted Free) (grant_by OWN) map_right own_reserved.taken)

@@ -17,10 +17,10 @@ use Rattle.tree_laws.specs.Sound.{IsWithinLimits}
 use Rattle.tree_laws.proofs.RowFacts.{key_cases}
 use Rattle.tree_laws.proofs.Names.{entries-names_where}
 use Rattle.cut_laws.specs.LawsInodes.{AreAllAlive}
-use Rattle.example_grants.specs.Calls.{tree_of, root_node, file_node, FIRST_TREE}
+use Rattle.example_grants.specs.Calls.{tree_of, root_node, node_with, FIRST_TREE}
 
 abbrev pub nodes_listed : List ℕ → List ℕ → List (ℕ × Node)
-nodes_listed own other = (0, root_node) ∷ (1, file_node own) ∷ (2, file_node other) ∷ []
+nodes_listed own other = (0, root_node) ∷ (1, node_with own) ∷ (2, node_with other) ∷ []
 
 abbrev pub ROWS : List (Key × ℕ)
 ROWS = ((0, 97 ∷ []), 1) ∷ ((0, 98 ∷ []), 2) ∷ []
@@ -48,14 +48,14 @@ pub entries_are : (own other : List ℕ) → entries (tree_of own other).rows �
 entries_are own other = entries-from_sorted key_cmp ROWS tt
 
 pub node_get : (own other : List ℕ) (node : ℕ) → get (tree_of own other).nodes node
-    ≡ cond (nat_eq node 0) (Some root_node) (cond (nat_eq node 1) (Some (file_node own)) (cond (nat_eq node 2) (Some (file_node other)) None))
+    ≡ cond (nat_eq node 0) (Some root_node) (cond (nat_eq node 1) (Some (node_with own)) (cond (nat_eq node 2) (Some (node_with other)) None))
 node_get own other node =
     get-from_sorted nat_cmp (nodes_listed own other) node tt
-    ∙ ap (λ b. cond b (Some root_node) (cond (eq_by_cmp nat_cmp node 1) (Some (file_node own)) (cond (eq_by_cmp nat_cmp node 2) (Some (file_node other)) None)))
+    ∙ ap (λ b. cond b (Some root_node) (cond (eq_by_cmp nat_cmp node 1) (Some (node_with own)) (cond (eq_by_cmp nat_cmp node 2) (Some (node_with other)) None)))
     (sym (unsigned_ties node 0))
-    ∙ ap (λ b. cond (nat_eq node 0) (Some root_node) (cond b (Some (file_node own)) (cond (eq_by_cmp nat_cmp node 2) (Some (file_node other)) None)))
+    ∙ ap (λ b. cond (nat_eq node 0) (Some root_node) (cond b (Some (node_with own)) (cond (eq_by_cmp nat_cmp node 2) (Some (node_with other)) None)))
     (sym (unsigned_ties node 1))
-    ∙ ap (λ b. cond (nat_eq node 0) (Some root_node) (cond (nat_eq node 1) (Some (file_node own)) (cond b (Some (file_node other)) None)))
+    ∙ ap (λ b. cond (nat_eq node 0) (Some root_node) (cond (nat_eq node 1) (Some (node_with own)) (cond b (Some (node_with other)) None)))
     (sym (unsigned_ties node 2))
 
 pub root_directory : (own other : List ℕ) → is_directory (tree_of own other) 0 ≡ true
@@ -76,7 +76,7 @@ other_alive own other = ap (λ (l : List (Key × ℕ)). (2 == 0) || not (count_b
 -- a node that is none of the three is not there
 pub none_there : (own other : List ℕ) (node : ℕ) → (node ≢ 0) × (node ≢ 1) × (node ≢ 2) → get (tree_of own other).nodes node ≡ None
 none_there own other node apart =
-    node_get own other node ∙ of_others node (Some root_node) (Some (file_node own)) (Some (file_node other)) (let o : Option Node = None in o) apart
+    node_get own other node ∙ of_others node (Some root_node) (Some (node_with own)) (Some (node_with other)) (let o : Option Node = None in o) apart
 
 -- a row stands in the root, and names one of the files
 pub row_is : (own other : List ℕ) (directory child : ℕ) (name : List ℕ) → row_of (tree_of own other) directory name ≡ Some child

@@ -1,5 +1,5 @@
 -- A tree of two files, and a history in which each of two cores writes one byte to its own file and flushes it.
-use Rattle.std.specs.Prelude.{ℕ, ◌∷◌, List, [], Option, Some, None}
+use Rattle.std.specs.Prelude.{ℕ, ◌∷◌, List, [], Some, None}
 use Rattle.std.specs.FinMap.{from_sorted}
 use Rattle.sfs_base.specs.declared.numbers.Kind.TheVariants as kind
 use Rattle.tree_laws.specs.Tree.{Node, TreeState}
@@ -11,13 +11,13 @@ use Rattle.tree_laws.specs.declared.reply.Reply.TheVariants as reply
 abbrev pub root_node : Node
 root_node = record { kind = kind.Directory; bytes = [] }
 
-abbrev pub file_node : List ℕ → Node
-file_node bytes = record { kind = kind.File; bytes = bytes }
+abbrev pub node_with : List ℕ → Node
+node_with bytes = record { kind = kind.File; bytes = bytes }
 
 abbrev pub tree_of : List ℕ → List ℕ → TreeState
 tree_of own other = record {
   rows = from_sorted (((0, 97 ∷ []), 1) ∷ ((0, 98 ∷ []), 2) ∷ []);
-  nodes = from_sorted ((0, root_node) ∷ (1, file_node own) ∷ (2, file_node other) ∷ []);
+  nodes = from_sorted ((0, root_node) ∷ (1, node_with own) ∷ (2, node_with other) ∷ []);
   first = 3;
   share = 1;
   made = 0 ∷ 0 ∷ [];
@@ -35,11 +35,11 @@ abbrev pub other_write : Entry
 other_write = record { stamp = record { 0 = 1 }; core = record { 0 = 1 }; call = call.Write (record { 0 = 2 }) 0 (66 ∷ []); reply = reply.Ok; ack = None }
 
 -- The first core flushes its file at stamp 2, and the second one its own at stamp 3, which is answered sooner.
-abbrev pub own_fsync : Entry
-own_fsync = record { stamp = record { 0 = 2 }; core = record { 0 = 0 }; call = call.Fsync (record { 0 = 1 }); reply = reply.Ok; ack = Some 13 }
+abbrev pub own_flush : Entry
+own_flush = record { stamp = record { 0 = 2 }; core = record { 0 = 0 }; call = call.Fsync (record { 0 = 1 }); reply = reply.Ok; ack = Some 13 }
 
-abbrev pub other_fsync : Entry
-other_fsync = record { stamp = record { 0 = 3 }; core = record { 0 = 1 }; call = call.Fsync (record { 0 = 2 }); reply = reply.Ok; ack = Some 12 }
+abbrev pub other_flush : Entry
+other_flush = record { stamp = record { 0 = 3 }; core = record { 0 = 1 }; call = call.Fsync (record { 0 = 2 }); reply = reply.Ok; ack = Some 12 }
 
 abbrev pub WRITES_AND_FSYNCS : List Entry
-WRITES_AND_FSYNCS = own_write ∷ other_write ∷ own_fsync ∷ other_fsync ∷ []
+WRITES_AND_FSYNCS = own_write ∷ other_write ∷ own_flush ∷ other_flush ∷ []

@@ -13,15 +13,15 @@ use Rattle.example_grants.specs.Image.{FIFTEEN_BLOCKS, FIRST_PARTS, TWO_FILES}
 use Rattle.example_grants.specs.Told.{OWN_JOB, OTHER_JOB, FILES_NUMBERED, FILES_TOLD}
 
 -- an image behind a device call: one that writes puts its piece, and one that syncs changes nothing
-abbrev pub after_call : Option Piece → List ℕ → List ℕ
-after_call None image = image
-after_call (Some piece) image = put piece.at piece.bytes image
+abbrev pub call_made : Option Piece → List ℕ → List ℕ
+call_made None image = image
+call_made (Some piece) image = put piece.at piece.bytes image
 
 -- an image behind the first of some calls
 abbrev pub content_after : List (Option Piece) → List ℕ → ℕ → List ℕ
 content_after [] image n = image
 content_after (call ∷ calls) image zero = image
-content_after (call ∷ calls) image (suc n) = content_after calls (after_call call image) n
+content_after (call ∷ calls) image (suc n) = content_after calls (call_made call image) n
 
 -- the thirteen calls: both slots are filled, a sync, both gates are opened, and two syncs
 abbrev pub FILES_CALLS : List (Option Piece)

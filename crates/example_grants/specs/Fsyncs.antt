@@ -15,7 +15,7 @@ use Rattle.example_laws.specs.Fsyncs.{roomless}
 use Rattle.example_grants.specs.Image.{FIRST_PARTS, TWO_FILES}
 
 -- A file to which a core writes one byte, with the stamps of its write and of its fsync, and the number and the one block of its commit.
-pub record Writing : Type 0 where
+pub record Writer : Type 0 where
   pub file : ℕ
   pub written : ℕ
   pub flushed : ℕ
@@ -24,7 +24,7 @@ pub record Writing : Type 0 where
   pub block : ℕ
 
 -- the first core's commit takes block 11, and the second one's block 13, since block 12 is the root's
-abbrev pub OWN : Writing
+abbrev pub OWN : Writer
 OWN = record {
   file = 1;
   written = 0;
@@ -34,7 +34,7 @@ OWN = record {
   block = 11;
 }
 
-abbrev pub OTHER : Writing
+abbrev pub OTHER : Writer
 OTHER = record {
   file = 2;
   written = 1;
@@ -45,49 +45,49 @@ OTHER = record {
 }
 
 -- what memory keeps of a node, whose inode has its number
-abbrev pub entry_at : ℕ → OldEntry
-entry_at node = record { node = record { 0 = node }; old = record { number = node; kept = kept_of (FIRST_PARTS node) } }
+abbrev pub entry_kept : ℕ → OldEntry
+entry_kept node = record { node = record { 0 = node }; old = record { number = node; kept = kept_of (FIRST_PARTS node) } }
 
 -- what memory keeps of all three
 abbrev pub ENTRIES : List OldEntry
-ENTRIES = entry_at 0 ∷ entry_at 1 ∷ entry_at 2 ∷ []
+ENTRIES = entry_kept 0 ∷ entry_kept 1 ∷ entry_kept 2 ∷ []
 
 -- the file in memory: its one byte, and its one block was touched by the write
-abbrev pub file_by : Writing → File
+abbrev pub file_by : Writer → File
 file_by writing = record { bytes = writing.byte ∷ []; marks = Some (record { 0 = writing.written }) ∷ [] }
 
 -- its one page
-abbrev pub page_by : Writing → Page
+abbrev pub page_by : Writer → Page
 page_by writing = record { block = 0; bytes = writing.byte ∷ zeros 4095 }
 
 -- its change: it has one byte then, and its first block is rewritten
-abbrev pub change_by : Writing → FileChange
+abbrev pub change_by : Writer → FileChange
 change_by writing = record { node = record { 0 = writing.file }; size = 1; pages = roomless (page_by writing ∷ []) }
 
 -- what its fsync is made of: no commit has held the file before, and a row names it
-abbrev pub making_by : Writing → OwnMaking
+abbrev pub making_by : Writer → OwnMaking
 making_by writing = record {
   flush = record { node = writing.file; stamp = writing.flushed };
   numbers = record { number = writing.number; last = 0; named = true };
-  entry = entry_at writing.file;
+  entry = entry_kept writing.file;
   files = change_by writing ∷ [];
 }
 
 -- its plan, and a grant of one block
-abbrev pub plan_by : Writing → CommitPlan
-plan_by writing = own_plan (entry_at writing.file) (change_by writing ∷ [])
+abbrev pub plan_by : Writer → CommitPlan
+plan_by writing = own_plan (entry_kept writing.file) (change_by writing ∷ [])
 
-abbrev pub grant_by : Writing → GrantedNumbers
+abbrev pub grant_by : Writer → GrantedNumbers
 grant_by writing = record { inodes = []; blocks = writing.block ∷ [] }
 
 -- its pair
-abbrev pub pair_by : Writing → Pair
-pair_by writing = own_pair TWO_FILES [] (making_by writing) (grant_by writing)
+abbrev pub pair_made : Writer → Pair
+pair_made writing = own_pair TWO_FILES [] (making_by writing) (grant_by writing)
 
 -- what the books of the two are kept from
 abbrev pub FILES_KEPT : Bookkeeping
 FILES_KEPT = record {
   start = TWO_FILES;
-  pairs = λ stamp. pair_by (if stamp == 2 then OWN else OTHER);
+  pairs = λ stamp. pair_made (if stamp == 2 then OWN else OTHER);
   cores = λ stamp. if stamp == 2 then 0 else 1;
 }

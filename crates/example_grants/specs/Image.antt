@@ -17,12 +17,12 @@ abbrev pub FIFTEEN_BLOCKS : Layout
 FIFTEEN_BLOCKS = record { blocks = 15; inodes = 16; cores = 2; slots = 1 }
 
 -- the root's slots: "a" names inode 1 and "b" inode 2
-abbrev pub ROOT_SLOTS : List (Option Row)
-ROOT_SLOTS = Some (record { inode = 1; kind = File; name = 97 ∷ [] }) ∷ Some (record { inode = 2; kind = File; name = 98 ∷ [] }) ∷ replicate 13 None
+abbrev pub TWO_ROWS : List (Option Row)
+TWO_ROWS = Some (record { inode = 1; kind = File; name = 97 ∷ [] }) ∷ Some (record { inode = 2; kind = File; name = 98 ∷ [] }) ∷ replicate 13 None
 
 -- the root's inode, whose one block is block 12
-abbrev pub ROOT_INODE : Inode
-ROOT_INODE = record { kind = 2; links = 2; size = 4096; direct = 12 ∷ replicate 107 0; indirect = replicate 16 0 }
+abbrev pub ROOT_RECORD : Inode
+ROOT_RECORD = record { kind = 2; links = 2; size = 4096; direct = 12 ∷ replicate 107 0; indirect = replicate 16 0 }
 
 -- the inode of a file of so many bytes whose first block is this one
 abbrev pub file_inode : ℕ → ℕ → Inode
@@ -33,16 +33,17 @@ abbrev pub EMPTY_FILE : Inode
 EMPTY_FILE = file_inode 0 0
 
 -- a block of the disk: all that are read are the root's
-abbrev pub ROOT_BLOCK : ℕ → List ℕ
-ROOT_BLOCK block = slots_bytes ROOT_SLOTS
+abbrev pub ROWS_BLOCK : ℕ → List ℕ
+ROWS_BLOCK block = slots_bytes TWO_ROWS
 
 -- the records: the root's, those of the two files, and all others free
 abbrev pub FIRST_RECORDS : ℕ → List ℕ
-FIRST_RECORDS i = if i == 0 then inode_bytes ROOT_INODE else (if i == 1 then inode_bytes EMPTY_FILE else (if i == 2 then inode_bytes EMPTY_FILE else zeros 512))
+FIRST_RECORDS i =
+    if i == 0 then inode_bytes ROOT_RECORD else (if i == 1 then inode_bytes EMPTY_FILE else (if i == 2 then inode_bytes EMPTY_FILE else zeros 512))
 
 -- the parts that they gather
 abbrev pub FIRST_PARTS : ℕ → Part
-FIRST_PARTS i = part_of ROOT_BLOCK (FIRST_RECORDS i)
+FIRST_PARTS i = part_of ROWS_BLOCK (FIRST_RECORDS i)
 
 -- each of the three nodes has its own number as its inode
 abbrev pub FIRST_NUMBERS : Numbering
@@ -58,6 +59,6 @@ TWO_FILES = record {
   inodes = λ node. is_some (get FIRST_TREE.nodes node);
   num = FIRST_NUMBERS;
   layout = FIFTEEN_BLOCKS;
-  store = ROOT_BLOCK;
+  store = ROWS_BLOCK;
   parts = FIRST_PARTS;
 }

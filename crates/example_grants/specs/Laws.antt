@@ -20,9 +20,9 @@ use Rattle.reserve_laws.specs.Looks.{ServesPair}
 use Rattle.reserve_laws.specs.OwnFile.{MakesOwnFile}
 use Rattle.example_grants.specs.Calls.{FIRST_TREE, WRITES_AND_FSYNCS}
 use Rattle.example_grants.specs.Image.{TWO_FILES, file_inode}
-use Rattle.example_grants.specs.Fsyncs.{Writing, OWN, OTHER, making_by, plan_by, grant_by, pair_by, FILES_KEPT}
+use Rattle.example_grants.specs.Fsyncs.{Writer, OWN, OTHER, making_by, plan_by, grant_by, pair_made, FILES_KEPT}
 use Rattle.example_grants.specs.Map.{FIRST_MAP, map_behind, FILES_MAPPED}
-use Rattle.example_grants.specs.Turns.{own_turn, other_turn, FILES_TURNS, FILES_PENS}
+use Rattle.example_grants.specs.Turns.{own_act, other_act, FILES_TURNS, FILES_PENS}
 
 -- The volume of two files stands, and a walk may begin with it.
 abbrev pub FilesStand : Type 0
@@ -30,7 +30,7 @@ FilesStand = BeginsWalk TWO_FILES
 
 -- A plan needs one block, and with its grant its commit writes the file's record, with the size 1 and the block, and the block, with the byte and zeros behind
 -- it; and this is what memory keeps of the file then.
-pub record WritesOne (writing : Writing) (plan : CommitPlan) : Type 0 where
+pub record WritesOne (writing : Writer) (plan : CommitPlan) : Type 0 where
   pub needs : amount_planned plan ≡ record { inodes = 0; blocks = 1 }
   pub records : records_written (change_planned plan) (grant_by writing)
       ≡ record { inode = writing.file; bytes = inode_bytes (file_inode 1 writing.block) } ∷ []
@@ -39,10 +39,10 @@ pub record WritesOne (writing : Writing) (plan : CommitPlan) : Type 0 where
       ≡ old_entry (record { 0 = writing.file }) writing.file (file_inode 1 writing.block) [] [] ∷ []
 
 -- The core of an fsync makes its own file, and so tells of its pair beside the first volume; its grant serves its plan; and its commit writes so.
-pub record WriterTells (writing : Writing) : Type 0 where
+pub record WriterTells (writing : Writer) : Type 0 where
   pub makes : MakesOwnFile TWO_FILES [] (making_by writing)
-  pub tells : TellsPair TWO_FILES [] (pair_by writing)
-  pub serves : ServesPair TWO_FILES (pair_by writing)
+  pub tells : TellsPair TWO_FILES [] (pair_made writing)
+  pub serves : ServesPair TWO_FILES (pair_made writing)
   pub writes : WritesOne writing (plan_by writing)
 
 -- Both cores do.
@@ -52,11 +52,11 @@ pub record WritersTell : Type 0 where
 
 -- Both fsyncs reserve with the first volume, one behind the other: each gets the least block that is free then, and their pairs share nothing.
 pub record WritersReserve : Type 0 where
-  pub own : ReservesThere FILES_KEPT [] nothing_played TWO_FILES (own_turn 0 act.Granted)
+  pub own : ReservesThere FILES_KEPT [] nothing_played TWO_FILES (own_act 0 act.Granted)
   pub own_least : (grant_by OWN).blocks ≡ take 1 (free_numbers (map_behind 0).blocks)
-  pub other : ReservesThere FILES_KEPT (grant_at FILES_KEPT.pairs 2 ∷ []) (record nothing_played { waiting = 2 ∷ [] }) TWO_FILES (other_turn 0 act.Granted)
+  pub other : ReservesThere FILES_KEPT (grant_at FILES_KEPT.pairs 2 ∷ []) (record nothing_played { waiting = 2 ∷ [] }) TWO_FILES (other_act 0 act.Granted)
   pub other_least : (grant_by OTHER).blocks ≡ take 1 (free_numbers (map_behind 1).blocks)
-  pub apart : ArePairsApart (pair_by OTHER) (pair_by OWN)
+  pub apart : ArePairsApart (pair_made OTHER) (pair_made OWN)
 
 -- Both tell what they do along the record in which both commits are aloft at a time, and a map goes along it to its end; so the record fits what its books are
 -- kept from, agrees with the books, and its turns are recorded.

@@ -1,10 +1,9 @@
 -- Two cores tell labels of a disk on which each commit writes a record and a block through its own journal slot.
-use Rattle.std.specs.Prelude.{◌==◌, ◌∷◌, ◌++◌, ◌+◌, if◌then◌else◌, ℕ, List, [], true}
+use Rattle.std.specs.Prelude.{◌==◌, ◌∷◌, ◌++◌, if◌then◌else◌, ℕ, List, [], true}
 use Rattle.sfs_image.specs.Bytes.{zeros}
 use Rattle.sfs_image.specs.Inode.{inode_bytes}
 use Rattle.space_map.specs.declared.status.Status.TheVariants.{Taken}
 use Rattle.journal_one.specs.Job.{Job}
-use Rattle.journal_one.specs.declared.slot.Filling.{Filling}
 use Rattle.tree_laws.specs.declared.turns.TurnAct.TheVariants as act
 use Rattle.stamp_table.specs.declared.event.Event.{Event}
 use Rattle.slot_laws.specs.declared.label.Label.{Label}
@@ -15,12 +14,12 @@ use Rattle.close_laws.specs.Maps.{Numbered, Telling}
 use Rattle.close_laws.specs.Beside.{IsToldBeside}
 use Rattle.close_laws.specs.Close.{PensAgree}
 use Rattle.example_grants.specs.Image.{FIFTEEN_BLOCKS, TWO_FILES, file_inode}
-use Rattle.example_grants.specs.Fsyncs.{Writing, OWN, OTHER, ENTRIES, grant_by, FILES_KEPT}
+use Rattle.example_grants.specs.Fsyncs.{Writer, OWN, OTHER, ENTRIES, grant_by, FILES_KEPT}
 use Rattle.example_grants.specs.Map.{FIRST_MAP, map_with}
-use Rattle.example_grants.specs.Turns.{own_turn, other_turn, FILES_PENS}
+use Rattle.example_grants.specs.Turns.{own_act, other_act, FILES_PENS}
 
 -- the job of a commit through a slot, with a commit stamp: the file's record, and the block
-abbrev pub job_by : Writing → ℕ → ℕ → Job
+abbrev pub job_by : Writer → ℕ → ℕ → Job
 job_by writing slot stamp = record {
   place = place_at FIFTEEN_BLOCKS slot;
   stamp = stamp;
@@ -38,8 +37,8 @@ OTHER_JOB = job_by OTHER 1 1
 -- both reserve
 abbrev pub RESERVE : List (Event Label)
 RESERVE =
-    own_hold (label.Took ∷ label.Reserved 1 (seen_one 1 0) (grant_by OWN) ∷ label.Noted (own_turn 0 act.Granted) ∷ [])
-    ++ other_hold (label.Took ∷ label.Reserved 2 (seen_one 2 0) (grant_by OTHER) ∷ label.Noted (other_turn 0 act.Granted) ∷ [])
+    own_hold (label.Took ∷ label.Reserved 1 (seen_one 1 0) (grant_by OWN) ∷ label.Noted (own_act 0 act.Granted) ∷ [])
+    ++ other_hold (label.Took ∷ label.Reserved 2 (seen_one 2 0) (grant_by OTHER) ∷ label.Noted (other_act 0 act.Granted) ∷ [])
 
 -- both begin
 abbrev pub BEGIN : List (Event Label)
@@ -60,16 +59,16 @@ FILL =
 -- both gates are opened, and so both commits are aloft
 abbrev pub OPEN : List (Event Label)
 OPEN =
-    other_hold (label.Took ∷ label.Opened 1 true (other_turn 10 act.CutAt) (other_turn 10 act.Opened) ∷ [])
-    ++ own_hold (label.Took ∷ label.Opened 0 true (own_turn 11 act.CutAt) (own_turn 11 act.Opened) ∷ [])
+    other_hold (label.Took ∷ label.Opened 1 true (other_act 10 act.CutAt) (other_act 10 act.Opened) ∷ [])
+    ++ own_hold (label.Took ∷ label.Opened 0 true (own_act 11 act.CutAt) (own_act 11 act.Opened) ∷ [])
 
 -- the second core's commit is durable at the twelfth device call, and the first one's at the thirteenth
 abbrev pub LAND : List (Event Label)
 LAND =
     other_hold
-    (label.Took ∷ label.Synced 12 ∷ label.Settled 1 (other_turn 12 act.Durable) ∷ label.Looked (other_turn 12 act.Durable) ∷ [])
+    (label.Took ∷ label.Synced 12 ∷ label.Settled 1 (other_act 12 act.Durable) ∷ label.Looked (other_act 12 act.Durable) ∷ [])
     ++ own_hold
-    (label.Took ∷ label.Synced 13 ∷ label.Settled 0 (own_turn 13 act.Durable) ∷ label.Looked (own_turn 13 act.Durable) ∷ [])
+    (label.Took ∷ label.Synced 13 ∷ label.Settled 0 (own_act 13 act.Durable) ∷ label.Looked (own_act 13 act.Durable) ∷ [])
 
 -- the first core's commit has number 1, and the second one's number 2
 abbrev pub FILES_NUMBERED : Numbered

@@ -6,8 +6,8 @@ use Rattle.tree_laws.specs.declared.turns.TurnAct.TheVariants as act
 use Rattle.merge_laws.specs.Pens.{FsyncTurns}
 
 -- a turn of each, at a moment
-abbrev pub own_turn : ℕ → TurnAct → Turn
-own_turn now did = record {
+abbrev pub own_act : ℕ → TurnAct → Turn
+own_act now did = record {
   core = record { 0 = 0 };
   node = record { 0 = 1 };
   stamp = record { 0 = 2 };
@@ -17,8 +17,8 @@ own_turn now did = record {
   act = did;
 }
 
-abbrev pub other_turn : ℕ → TurnAct → Turn
-other_turn now did = record {
+abbrev pub other_act : ℕ → TurnAct → Turn
+other_act now did = record {
   core = record { 0 = 1 };
   node = record { 0 = 2 };
   stamp = record { 0 = 3 };
@@ -30,22 +30,22 @@ other_turn now did = record {
 
 abbrev pub FILES_TURNS : List Turn
 FILES_TURNS =
-    own_turn 0 act.Granted
-    ∷ other_turn 0 act.Granted
-    ∷ other_turn 10 act.CutAt
-    ∷ other_turn 10 act.Opened
-    ∷ own_turn 11 act.CutAt
-    ∷ own_turn 11 act.Opened
-    ∷ other_turn 12 act.Durable
-    ∷ own_turn 13 act.Durable
+    own_act 0 act.Granted
+    ∷ other_act 0 act.Granted
+    ∷ other_act 10 act.CutAt
+    ∷ other_act 10 act.Opened
+    ∷ own_act 11 act.CutAt
+    ∷ own_act 11 act.Opened
+    ∷ other_act 12 act.Durable
+    ∷ own_act 13 act.Durable
     ∷ []
 
 -- what each pen has of them
 abbrev pub OWN_TURNS : List Turn
-OWN_TURNS = own_turn 0 act.Granted ∷ own_turn 11 act.CutAt ∷ own_turn 11 act.Opened ∷ own_turn 13 act.Durable ∷ []
+OWN_TURNS = own_act 0 act.Granted ∷ own_act 11 act.CutAt ∷ own_act 11 act.Opened ∷ own_act 13 act.Durable ∷ []
 
 abbrev pub OTHER_TURNS : List Turn
-OTHER_TURNS = other_turn 0 act.Granted ∷ other_turn 10 act.CutAt ∷ other_turn 10 act.Opened ∷ other_turn 12 act.Durable ∷ []
+OTHER_TURNS = other_act 0 act.Granted ∷ other_act 10 act.CutAt ∷ other_act 10 act.Opened ∷ other_act 12 act.Durable ∷ []
 
 abbrev pub FILES_PENS : List (List FsyncTurns)
 FILES_PENS = (record { stamp = 2; turns = OWN_TURNS } ∷ []) ∷ (record { stamp = 3; turns = OTHER_TURNS } ∷ []) ∷ []
