@@ -58,7 +58,7 @@ use Rattle.example_grants.specs.Image.{FIFTEEN_BLOCKS, TWO_FILES, FIRST_PARTS, R
 use Rattle.example_grants.specs.Laws.{WritesOne}
 use Rattle.example_grants.specs.Map.{FIRST_MAP, map_with}
 use Rattle.example_grants.proofs.Mapped.{tx_by, own_transaction, other_transaction, own_granted, other_granted, own_ends, other_ends, nothing_granted, map_right}
-use Rattle.example_grants.proofs.Telling.{IsWriting, entries_kept, own_is, other_is, tells}
+use Rattle.example_grants.proofs.Telling.{IsWriter, entries_kept, own_is, other_is, tells}
 use Rattle.example_grants.proofs.Plans.{own_writes, other_writes}
 use Rattle.example_grants.proofs.Image.{inode_cases, root_is, root_raw, file_is, file_raw}
 use Rattle.example_grants.proofs.Standing.{walk_begins}
@@ -268,7 +268,7 @@ begins : BeginsLabels FIFTEEN_BLOCKS TWO_FILES ENTRIES FIRST_MAP
 begins = record { walk = walk_begins; spelled = spelled; layout_is = refl; keeps = entries_kept; right = map_right }
 
 -- with nothing brought the volume is the first one
-tells_first : (w : Writer) → IsWriting w → (volume : Volume) → Imagines TWO_FILES [] volume → TellsPair volume [] (pair_made w)
+tells_first : (w : Writer) → IsWriter w → (volume : Volume) → Imagines TWO_FILES [] volume → TellsPair volume [] (pair_made w)
 tells_first w is volume imagines =
     subst (λ (v : Volume). TellsPair v [] (pair_made w)) (sym (first_imagined TWO_FILES volume [] imagines refl)) (tells w is)
 
@@ -323,4 +323,4 @@ told_pens = record {
     pens (suc (suc core)) fsyncs e = absurd (none_some e)
 
 pub writers_tell_labels : WritersTellLabels
-writers_tell_labels = record { labels = labels_stand_told; pens = told_pens }
+writers_tell_labels = record { labels = labels_stand_told; turns = turns_are; pens = told_pens }

@@ -253,16 +253,16 @@ one_granted block old new free changes left count is =
       left = left;
     })
 
-no_inode : (writing : Writer) → WritesOne writing (plan_by writing) → (amount_planned (plan_by writing)).inodes ≡ 0
-no_inode writing writes = ap (λ (a : Amount). a.inodes) writes.needs
+no_inode : (writer : Writer) → WritesOne writer (plan_by writer) → (amount_planned (plan_by writer)).inodes ≡ 0
+no_inode writer writes = ap (λ (a : Amount). a.inodes) writes.needs
 
-one_block : (writing : Writer) → WritesOne writing (plan_by writing) → (amount_planned (plan_by writing)).blocks ≡ 1
-one_block writing writes = ap (λ (a : Amount). a.blocks) writes.needs
+one_block : (writer : Writer) → WritesOne writer (plan_by writer) → (amount_planned (plan_by writer)).blocks ≡ 1
+one_block writer writes = ap (λ (a : Amount). a.blocks) writes.needs
 
-least_none : (writing : Writer) (own other : Status) → WritesOne writing (plan_by writing)
-    → [] ≡ take (as_u32 (amount_planned (plan_by writing)).inodes) (free_numbers (map_with own other).inodes)
-least_none writing own other writes =
-    sym (take_none (free_numbers (map_with own other).inodes) (as_u32 (amount_planned (plan_by writing)).inodes) (ap as_u32 (no_inode writing writes)))
+least_none : (writer : Writer) (own other : Status) → WritesOne writer (plan_by writer)
+    → [] ≡ take (as_u32 (amount_planned (plan_by writer)).inodes) (free_numbers (map_with own other).inodes)
+least_none writer own other writes =
+    sym (take_none (free_numbers (map_with own other).inodes) (as_u32 (amount_planned (plan_by writer)).inodes) (ap as_u32 (no_inode writer writes)))
 
 -- the first core is granted block 11, and behind it the second one block 13
 pub own_granted : (count : ℕ) → count ≡ 1 → Grants FIRST_MAP.blocks (as_u32 count) (11 ∷ []) (map_with Granted Free).blocks
@@ -296,9 +296,9 @@ other_reserved = record {
 abbrev GivesNone : Planned → Type 0
 GivesNone change = (seat : Seated) → Contains change.seats seat → (place : ℕ) → gives_up (rewrite_in seat) place ≡ false
 
-planned_gives_none : (writing : Writer) → GivesNone (planned_by writing)
-planned_gives_none writing seat (zero, low, is) place = subst (λ (s : Seated). gives_up (rewrite_in s) place ≡ false) is (gives_up_none place)
-planned_gives_none writing seat (suc k, low, is) place = absurd (omega (arith, low))
+planned_gives_none : (writer : Writer) → GivesNone (planned_by writer)
+planned_gives_none writer seat (zero, low, is) place = subst (λ (s : Seated). gives_up (rewrite_in s) place ≡ false) is (gives_up_none place)
+planned_gives_none writer seat (suc k, low, is) place = absurd (omega (arith, low))
 
 own_gives_none : GivesNone (change_planned (plan_by OWN))
 own_gives_none =
@@ -310,9 +310,9 @@ other_gives_none =
 
 -- the transaction of a commit
 abbrev pub tx_by : Writer → Tx
-tx_by writing = record {
-  records = roomless (record { inode = writing.file; bytes = inode_bytes (file_inode 1 writing.block) } ∷ []);
-  fresh = roomless (record { block = writing.block; bytes = writing.byte ∷ zeros 4095 } ∷ []);
+tx_by writer = record {
+  records = roomless (record { inode = writer.file; bytes = inode_bytes (file_inode 1 writer.block) } ∷ []);
+  fresh = roomless (record { block = writer.block; bytes = writer.byte ∷ zeros 4095 } ∷ []);
   freed_blocks = roomless [];
   freed_inodes = roomless [];
   records_ascend = λ k less. absurd (omega (arith, less));
@@ -320,9 +320,9 @@ tx_by writing = record {
   inodes_ascend = λ k less. absurd (omega (arith, less));
 }
 
-transaction : (writing : Writer) → WritesOne writing (plan_by writing) → GivesNone (change_planned (plan_by writing))
-    → IsTransactionOf (change_planned (plan_by writing)) (grant_by writing) (tx_by writing)
-transaction writing writes still = record {
+transaction : (writer : Writer) → WritesOne writer (plan_by writer) → GivesNone (change_planned (plan_by writer))
+    → IsTransactionOf (change_planned (plan_by writer)) (grant_by writer) (tx_by writer)
+transaction writer writes still = record {
   records = sym writes.records;
   fresh = sym writes.fresh;
   freed_blocks = record {
@@ -333,7 +333,7 @@ transaction writing writes still = record {
 }
   where
     none_left : (block : ℕ)
-        → IsLeftBySeat (change_planned (plan_by writing)).seats block ⊎ IsLeftByGone (change_planned (plan_by writing)).gone block → ⊥
+        → IsLeftBySeat (change_planned (plan_by writer)).seats block ⊎ IsLeftByGone (change_planned (plan_by writer)).gone block → ⊥
     none_left block (inl left) = not_both left.left.given_up (still left.seat left.one left.place)
     none_left block (inr left) = let low = left.one.1 in omega (arith, low)
 

@@ -165,18 +165,18 @@ fates_then =
 
 -- the plan where this is kept of the file, and what it changes
 abbrev pub plan_kept : Writer → Kept → CommitPlan
-plan_kept writing kept = record {
-  old = record { node = record { 0 = writing.file }; old = record { number = writing.file; kept = kept } } ∷ [];
+plan_kept writer kept = record {
+  old = record { node = record { 0 = writer.file }; old = record { number = writer.file; kept = kept } } ∷ [];
   nets = [];
-  files = change_by writing ∷ [];
+  files = change_by writer ∷ [];
   enter = [];
   leave = [];
 }
 
 abbrev pub seat_by : Writer → Seated
-seat_by writing = record {
-  node = writing.file;
-  number = Some writing.file;
+seat_by writer = record {
+  node = writer.file;
+  number = Some writer.file;
   before = EMPTY_FILE;
   meta = file_inode 1 0;
   tables = [];
@@ -185,11 +185,11 @@ seat_by writing = record {
 }
 
 abbrev pub planned_by : Writer → Planned
-planned_by writing = record {
-  old = (plan_kept writing KEPT_FILE).old;
-  seats = seat_by writing ∷ [];
+planned_by writer = record {
+  old = (plan_kept writer KEPT_FILE).old;
+  seats = seat_by writer ∷ [];
   gone = [];
-  changes = changes_in [] [] (change_by writing ∷ []);
+  changes = changes_in [] [] (change_by writer ∷ []);
 }
 
 pub own_planned : change_planned (plan_kept OWN KEPT_FILE) ≡ planned_by OWN
@@ -200,32 +200,32 @@ pub other_planned : change_planned (plan_kept OTHER KEPT_FILE) ≡ planned_by OT
 unfolding zeros
 other_planned = refl
 
-pub one_taken : (writing : Writer) → blocks_taken (seat_by writing) ≡ 1
-one_taken writing = rank_one (takes_place FIRST_REWRITE) refl takes_no_other PLACES (omega arith)
+pub one_taken : (writer : Writer) → blocks_taken (seat_by writer) ≡ 1
+one_taken writer = rank_one (takes_place FIRST_REWRITE) refl takes_no_other PLACES (omega arith)
 
 -- what is built of the file
 abbrev pub built_by : Writer → Built
-built_by writing = record {
-  node = writing.file;
-  number = writing.file;
+built_by writer = record {
+  node = writer.file;
+  number = writer.file;
   before = EMPTY_FILE;
-  meta = file_inode 1 writing.block;
+  meta = file_inode 1 writer.block;
   tables = [];
   slots = [];
   changed = FIRST_CHANGED;
   fates = replicate 16 Stays;
 }
 
-is_built : (writing : Writer) → unwrap_or (numbers_with (planned_by writing) [] writing.file) 0 ≡ writing.file
-    → nodes_with_grant (planned_by writing) (grant_by writing) ≡ built_by writing ∷ []
-is_built writing number =
-    ap (λ fresh. build fresh ∷ []) (ap (λ n. take n (writing.block ∷ [])) (one_taken writing))
+is_built : (writer : Writer) → unwrap_or (numbers_with (planned_by writer) [] writer.file) 0 ≡ writer.file
+    → nodes_with_grant (planned_by writer) (grant_by writer) ≡ built_by writer ∷ []
+is_built writer number =
+    ap (λ fresh. build fresh ∷ []) (ap (λ n. take n (writer.block ∷ [])) (one_taken writer))
     ∙ (λ i. record {
-      node = writing.file;
+      node = writer.file;
       number = number i;
       before = EMPTY_FILE;
-      meta = inode_then writing.block i;
-      tables = tables_then writing.block i;
+      meta = inode_then writer.block i;
+      tables = tables_then writer.block i;
       slots = [];
       changed = FIRST_CHANGED;
       fates = fates_then i;
@@ -233,8 +233,8 @@ is_built writing number =
   where
     build : List ℕ → Built
     build fresh = record {
-      node = writing.file;
-      number = unwrap_or (numbers_with (planned_by writing) [] writing.file) 0;
+      node = writer.file;
+      number = unwrap_or (numbers_with (planned_by writer) [] writer.file) 0;
       before = EMPTY_FILE;
       meta = inode_remapped FIRST_REWRITE fresh (file_inode 1 0);
       tables = tables_remapped FIRST_REWRITE fresh [];
@@ -244,22 +244,22 @@ is_built writing number =
     }
 
 -- what its commit writes
-module _ (writing : Writer) (plan : CommitPlan) (is : change_planned plan ≡ planned_by writing)
-    (number : unwrap_or (numbers_with (planned_by writing) [] writing.file) 0 ≡ writing.file)
-    (page : flat_map (fresh_of_node (change_by writing ∷ [])) (built_by writing ∷ [])
-    ≡ record { block = writing.block; bytes = writing.byte ∷ zeros 4095 } ∷ []) where
-  built : nodes_with_grant (planned_by writing) (grant_by writing) ≡ built_by writing ∷ []
-  built = is_built writing number
+module _ (writer : Writer) (plan : CommitPlan) (is : change_planned plan ≡ planned_by writer)
+    (number : unwrap_or (numbers_with (planned_by writer) [] writer.file) 0 ≡ writer.file)
+    (page : flat_map (fresh_of_node (change_by writer ∷ [])) (built_by writer ∷ [])
+    ≡ record { block = writer.block; bytes = writer.byte ∷ zeros 4095 } ∷ []) where
+  built : nodes_with_grant (planned_by writer) (grant_by writer) ≡ built_by writer ∷ []
+  built = is_built writer number
 
-  writes_one : WritesOne writing plan
+  writes_one : WritesOne writer plan
   writes_one = record {
     needs = ap (λ (p : Planned). record { inodes = count_by enters p.seats; blocks = sum_by blocks_taken p.seats }) is
-        ∙ (λ i. record { inodes = 0; blocks = ap (λ n. sum_by (λ (m : ℕ). m) (n ∷ [])) (one_taken writing) i });
-    records = ap (λ (p : Planned). records_written p (grant_by writing)) is
+        ∙ (λ i. record { inodes = 0; blocks = ap (λ n. sum_by (λ (m : ℕ). m) (n ∷ [])) (one_taken writer) i });
+    records = ap (λ (p : Planned). records_written p (grant_by writer)) is
         ∙ ap (λ (l : List Built). ascending_by record_inode (filter_map written_of_built l ++ [])) built;
-    fresh = ap (λ (p : Planned). fresh_of_commit p (grant_by writing)) is
-        ∙ ap (flat_map (fresh_of_node (change_by writing ∷ []))) built ∙ page;
-    leaves = ap (λ (p : Planned). after_commit p (grant_by writing)) is
+    fresh = ap (λ (p : Planned). fresh_of_commit p (grant_by writer)) is
+        ∙ ap (flat_map (fresh_of_node (change_by writer ∷ []))) built ∙ page;
+    leaves = ap (λ (p : Planned). after_commit p (grant_by writer)) is
         ∙ ap (λ (l : List Built). ascending_by entry_node (map entry_after l)) built;
   }
 

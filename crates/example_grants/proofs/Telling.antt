@@ -94,7 +94,7 @@ entries_kept = record {
 
 -- What is known of a file to which a core writes one byte and which it flushes: the file is there, with one of the first entries, and is alive as its
 -- fsync comes; a row names it; the write is the only change of it; and it has the byte then.
-pub record IsWriting (w : Writer) : Type 0 where
+pub record IsWriter (w : Writer) : Type 0 where
   pub there : is_some (get FIRST_TREE.nodes w.file) ≡ true
   pub entry : Contains ENTRIES (entry_kept w.file)
   pub then_is : tree_after FIRST_TREE (take w.flushed WRITES_AND_FSYNCS) ≡ LAST_TREE
@@ -121,7 +121,7 @@ edit_cases change one = elim (subst (λ l. IsOneOf l change) two_edits one) [
   | inr more ↦ elim more [ inl other ↦ inr other | inr never ↦ absurd never ]
 ]
 
-pub own_is : IsWriting OWN
+pub own_is : IsWriter OWN
 own_is = record {
   there = ap (λ (o : Option Node). is_some o) (node_get [] [] 1);
   entry = (1, omega arith, refl);
@@ -139,7 +139,7 @@ own_is = record {
   bytes = own_bytes;
 }
 
-pub other_is : IsWriting OTHER
+pub other_is : IsWriter OTHER
 other_is = record {
   there = ap (λ (o : Option Node). is_some o) (node_get [] [] 2);
   entry = (2, omega arith, refl);
@@ -174,7 +174,7 @@ one_page byte = λ i. record { block = 0; bytes = byte ∷ take_same 4095 1 i }
 kept_one : (test : ℕ → Bool) → test 0 ≡ true → filter test (range_with_len 0 1) ≡ 0 ∷ []
 kept_one test passes = ap (λ b. if b then 0 ∷ [] else []) passes
 
-module _ (w : Writer) (is : IsWriting w) where
+module _ (w : Writer) (is : IsWriter w) where
   abbrev EDIT : FileChange
   EDIT = record { stamp = w.written; file = w.file; edit = Puts 0 (w.byte ∷ []) }
 

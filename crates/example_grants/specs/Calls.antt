@@ -7,13 +7,14 @@ use Rattle.tree_laws.specs.declared.call.Call.TheVariants as call
 use Rattle.tree_laws.specs.declared.history.Entry.{Entry}
 use Rattle.tree_laws.specs.declared.reply.Reply.TheVariants as reply
 
--- a root in which "a" names node 1 and "b" node 2, two files with these bytes
+-- a directory, and a file with these bytes
 abbrev pub root_node : Node
 root_node = record { kind = kind.Directory; bytes = [] }
 
 abbrev pub node_with : List ℕ → Node
 node_with bytes = record { kind = kind.File; bytes = bytes }
 
+-- a root in which "a" names node 1 and "b" node 2, two files with these bytes
 abbrev pub tree_of : List ℕ → List ℕ → TreeState
 tree_of own other = record {
   rows = from_sorted (((0, 97 ∷ []), 1) ∷ ((0, 98 ∷ []), 2) ∷ []);
@@ -41,5 +42,6 @@ own_flush = record { stamp = record { 0 = 2 }; core = record { 0 = 0 }; call = c
 abbrev pub other_flush : Entry
 other_flush = record { stamp = record { 0 = 3 }; core = record { 0 = 1 }; call = call.Fsync (record { 0 = 2 }); reply = reply.Ok; ack = Some 12 }
 
+-- in this order
 abbrev pub WRITES_AND_FSYNCS : List Entry
 WRITES_AND_FSYNCS = own_write ∷ other_write ∷ own_flush ∷ other_flush ∷ []

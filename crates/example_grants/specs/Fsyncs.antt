@@ -54,35 +54,35 @@ ENTRIES = entry_kept 0 ∷ entry_kept 1 ∷ entry_kept 2 ∷ []
 
 -- the file in memory: its one byte, and its one block was touched by the write
 abbrev pub file_by : Writer → File
-file_by writing = record { bytes = writing.byte ∷ []; marks = Some (record { 0 = writing.written }) ∷ [] }
+file_by writer = record { bytes = writer.byte ∷ []; marks = Some (record { 0 = writer.written }) ∷ [] }
 
 -- its one page
 abbrev pub page_by : Writer → Page
-page_by writing = record { block = 0; bytes = writing.byte ∷ zeros 4095 }
+page_by writer = record { block = 0; bytes = writer.byte ∷ zeros 4095 }
 
 -- its change: it has one byte then, and its first block is rewritten
 abbrev pub change_by : Writer → FileChange
-change_by writing = record { node = record { 0 = writing.file }; size = 1; pages = roomless (page_by writing ∷ []) }
+change_by writer = record { node = record { 0 = writer.file }; size = 1; pages = roomless (page_by writer ∷ []) }
 
 -- what its fsync is made of: no commit has held the file before, and a row names it
 abbrev pub making_by : Writer → OwnMaking
-making_by writing = record {
-  flush = record { node = writing.file; stamp = writing.flushed };
-  numbers = record { number = writing.number; last = 0; named = true };
-  entry = entry_kept writing.file;
-  files = change_by writing ∷ [];
+making_by writer = record {
+  flush = record { node = writer.file; stamp = writer.flushed };
+  numbers = record { number = writer.number; last = 0; named = true };
+  entry = entry_kept writer.file;
+  files = change_by writer ∷ [];
 }
 
 -- its plan, and a grant of one block
 abbrev pub plan_by : Writer → CommitPlan
-plan_by writing = own_plan (entry_kept writing.file) (change_by writing ∷ [])
+plan_by writer = own_plan (entry_kept writer.file) (change_by writer ∷ [])
 
 abbrev pub grant_by : Writer → GrantedNumbers
-grant_by writing = record { inodes = []; blocks = writing.block ∷ [] }
+grant_by writer = record { inodes = []; blocks = writer.block ∷ [] }
 
 -- its pair
 abbrev pub pair_made : Writer → Pair
-pair_made writing = own_pair TWO_FILES [] (making_by writing) (grant_by writing)
+pair_made writer = own_pair TWO_FILES [] (making_by writer) (grant_by writer)
 
 -- what the books of the two are kept from
 abbrev pub FILES_KEPT : Bookkeeping

@@ -30,20 +30,20 @@ FilesStand = BeginsWalk TWO_FILES
 
 -- A plan needs one block, and with its grant its commit writes the file's record, with the size 1 and the block, and the block, with the byte and zeros behind
 -- it; and this is what memory keeps of the file then.
-pub record WritesOne (writing : Writer) (plan : CommitPlan) : Type 0 where
+pub record WritesOne (writer : Writer) (plan : CommitPlan) : Type 0 where
   pub needs : amount_planned plan ≡ record { inodes = 0; blocks = 1 }
-  pub records : records_written (change_planned plan) (grant_by writing)
-      ≡ record { inode = writing.file; bytes = inode_bytes (file_inode 1 writing.block) } ∷ []
-  pub fresh : fresh_of_commit (change_planned plan) (grant_by writing) ≡ record { block = writing.block; bytes = writing.byte ∷ zeros 4095 } ∷ []
-  pub leaves : after_commit (change_planned plan) (grant_by writing)
-      ≡ old_entry (record { 0 = writing.file }) writing.file (file_inode 1 writing.block) [] [] ∷ []
+  pub records : records_written (change_planned plan) (grant_by writer)
+      ≡ record { inode = writer.file; bytes = inode_bytes (file_inode 1 writer.block) } ∷ []
+  pub fresh : fresh_of_commit (change_planned plan) (grant_by writer) ≡ record { block = writer.block; bytes = writer.byte ∷ zeros 4095 } ∷ []
+  pub leaves : after_commit (change_planned plan) (grant_by writer)
+      ≡ old_entry (record { 0 = writer.file }) writer.file (file_inode 1 writer.block) [] [] ∷ []
 
 -- The core of an fsync makes its own file, and so tells of its pair beside the first volume; its grant serves its plan; and its commit writes so.
-pub record WriterTells (writing : Writer) : Type 0 where
-  pub makes : MakesOwnFile TWO_FILES [] (making_by writing)
-  pub tells : TellsPair TWO_FILES [] (pair_made writing)
-  pub serves : ServesPair TWO_FILES (pair_made writing)
-  pub writes : WritesOne writing (plan_by writing)
+pub record WriterTells (writer : Writer) : Type 0 where
+  pub makes : MakesOwnFile TWO_FILES [] (making_by writer)
+  pub tells : TellsPair TWO_FILES [] (pair_made writer)
+  pub serves : ServesPair TWO_FILES (pair_made writer)
+  pub writes : WritesOne writer (plan_by writer)
 
 -- Both cores do.
 pub record WritersTell : Type 0 where

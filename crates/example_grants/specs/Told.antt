@@ -1,5 +1,5 @@
 -- Two cores tell labels of a disk on which each commit writes a record and a block through its own journal slot.
-use Rattle.std.specs.Prelude.{◌==◌, ◌∷◌, ◌++◌, if◌then◌else◌, ℕ, List, [], true}
+use Rattle.std.specs.Prelude.{◌≡◌, ◌==◌, ◌∷◌, ◌++◌, if◌then◌else◌, ℕ, List, [], true}
 use Rattle.sfs_image.specs.Bytes.{zeros}
 use Rattle.sfs_image.specs.Inode.{inode_bytes}
 use Rattle.space_map.specs.declared.status.Status.TheVariants.{Taken}
@@ -10,21 +10,21 @@ use Rattle.slot_laws.specs.declared.label.Label.{Label}
 use Rattle.slot_laws.specs.declared.label.Label.TheVariants as label
 use Rattle.slot_laws.specs.Slots.{place_at}
 use Rattle.slot_laws.specs.Worked.{own_hold, other_hold, seen_one, list_of_none}
-use Rattle.close_laws.specs.Maps.{Numbered, Telling}
+use Rattle.close_laws.specs.Maps.{Numbered, Telling, past_of}
 use Rattle.close_laws.specs.Beside.{IsToldBeside}
 use Rattle.close_laws.specs.Close.{PensAgree}
 use Rattle.example_grants.specs.Image.{FIFTEEN_BLOCKS, TWO_FILES, file_inode}
 use Rattle.example_grants.specs.Fsyncs.{Writer, OWN, OTHER, ENTRIES, grant_by, FILES_KEPT}
 use Rattle.example_grants.specs.Map.{FIRST_MAP, map_with}
-use Rattle.example_grants.specs.Turns.{own_act, other_act, FILES_PENS}
+use Rattle.example_grants.specs.Turns.{own_act, other_act, FILES_TURNS, FILES_PENS}
 
 -- the job of a commit through a slot, with a commit stamp: the file's record, and the block
 abbrev pub job_by : Writer → ℕ → ℕ → Job
-job_by writing slot stamp = record {
+job_by writer slot stamp = record {
   place = place_at FIFTEEN_BLOCKS slot;
   stamp = stamp;
-  entries = record { inode = writing.file; bytes = inode_bytes (file_inode 1 writing.block) } ∷ [];
-  fresh = record { block = writing.block; bytes = writing.byte ∷ zeros 4095 } ∷ [];
+  entries = record { inode = writer.file; bytes = inode_bytes (file_inode 1 writer.block) } ∷ [];
+  fresh = record { block = writer.block; bytes = writer.byte ∷ zeros 4095 } ∷ [];
 }
 
 -- each core has one slot, and the second core's commit begins first
@@ -85,7 +85,8 @@ FILES_TOLD = record {
   now = map_with Taken Taken;
 }
 
--- The labels are told beside what the two commits bring, and both pens agree.
+-- The labels are told beside what the two commits bring, their turns are those of the record, and both pens agree.
 pub record WritersTellLabels : Type 0 where
   pub labels : IsToldBeside TWO_FILES ENTRIES FILES_NUMBERED FILES_TOLD
+  pub turns : (past_of FILES_TOLD).turns ≡ FILES_TURNS
   pub pens : PensAgree TWO_FILES FILES_TOLD FILES_PENS

@@ -28,6 +28,7 @@ other_act now did = record {
   act = did;
 }
 
+-- both reserve; both commits are opened; and the second one is durable before the first one
 abbrev pub FILES_TURNS : List Turn
 FILES_TURNS =
     own_act 0 act.Granted
