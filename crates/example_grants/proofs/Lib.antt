@@ -1,0 +1,13 @@
+pub mod Tree
+pub mod Calls
+pub mod Image
+pub mod Standing
+pub mod Plans
+pub mod Mapped
+pub mod Telling
+pub mod Turns
+pub mod Along
+pub mod Rules
+pub mod Labels
+pub mod Disk
+pub mod Bytes
