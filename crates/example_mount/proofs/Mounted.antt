@@ -128,7 +128,8 @@ module _ (D : Type 0) (alloc : Global) where
   own_frees = mades_free_nothing (two_run alloc) (made_of 0 OWN_FLUSH) (made_by_notes alloc 0 OWN_FLUSH own_way) (well 1 KEPT_ONE kept_one (λ e. cc) refl)
 
   other_frees : FreesNothing (made_of 1 OTHER_FLUSH)
-  other_frees = mades_free_nothing (two_run alloc) (made_of 1 OTHER_FLUSH) (made_by_notes alloc 1 OTHER_FLUSH other_way) (well 0 KEPT_ROOT kept_root (λ e. cc) refl)
+  other_frees = mades_free_nothing (two_run alloc) (made_of 1 OTHER_FLUSH) (made_by_notes alloc 1 OTHER_FLUSH other_way)
+      (well 0 KEPT_ROOT kept_root (λ e. cc) refl)
 
   frees : (one : FlushTold) (made : FlushMade) → IsFsyncAt (two_mount alloc) one → one.made ≡ Some made → FreesNothing made
   frees one made at is = in_list at.core at.fsyncs at.there at.among

@@ -89,12 +89,14 @@ module _ {D : Type 0} (asked : CommitRequest) (before after : PenHand D) (refusa
       let it = subst (λ (w : CommitFault). Reserves request before after (Err w)) same is in
       record { front = it.front; seen = it.seen; failed = it.failed }
 
-  finds_empty : (why : CommitFault) → why ≡ fault.Stopped faults → (request : ReserveRequest) → Empties request before after (Err why) → SeesFailure after faults
+  finds_empty : (why : CommitFault) → why ≡ fault.Stopped faults → (request : ReserveRequest) → Empties request before after (Err why)
+      → SeesFailure after faults
   finds_empty why same request is =
       let it = subst (λ (w : CommitFault). Empties request before after (Err w)) same is in
       record { front = it.front; seen = it.seen; failed = it.failed }
 
-  granted_stops : (middle : PenHand D) (grant : GrantedNumbers) → GrantComes asked.flush middle after asked.change grant (Err refusal) → SeesFailure after faults
+  granted_stops : (middle : PenHand D) (grant : GrantedNumbers) → GrantComes asked.flush middle after asked.change grant (Err refusal)
+      → SeesFailure after faults
   granted_stops middle grant (gave_back back out) = absurd (cc (sym stops ∙ out.fault_is))
   granted_stops middle grant (committed (Ok ack) commits out) = absurd out
   granted_stops middle grant (committed (Err why) commits out) =
@@ -126,7 +128,8 @@ module _ {D : Type 0} (at : FlushAt D) (cores : ℕ) (site : IsSite at.t at.node
   abbrev Served : Type 0
   Served = ServedBehind at.t at.fsync at.hand after at.pen done given
 
-  served_wanting : TellsNoTurn at.pen done → given ≡ reply.NoMemory → EndsUntold at.t at.fsync given at.hand after → TellsCall (AreTurns TellsNothing) at.pen done
+  served_wanting : TellsNoTurn at.pen done → given ≡ reply.NoMemory → EndsUntold at.t at.fsync given at.hand after
+      → TellsCall (AreTurns TellsNothing) at.pen done
       → Served
   served_wanting none is ends idle = record {
     turns = idle.turns;
@@ -151,7 +154,8 @@ module _ {D : Type 0} (at : FlushAt D) (cores : ℕ) (site : IsSite at.t at.node
 
   -- What was planned, and what came of it.
   module _ (planned : PlannedFsync) (from : PenHand D) (tried : IsTried at planned) (none : TellsNoTurn at.pen from)
-      (idle : TellsCall (AreTurns TellsNothing) at.pen from) (result : Result Landed CommitRefusal) (comes : PlanComesTo (asked_by planned) from done result) where
+      (idle : TellsCall (AreTurns TellsNothing) at.pen from) (result : Result Landed CommitRefusal)
+      (comes : PlanComesTo (asked_by planned) from done result) where
     abbrev seen : MadeSeen planned
     seen = made_seen planned tried.is
 
@@ -220,7 +224,8 @@ module _ {D : Type 0} (at : FlushAt D) (cores : ℕ) (site : IsSite at.t at.node
             log = planned.hand.view.seen;
             since = since;
             made = subst (λ (z : TableRun × CoreMaking). MadeIn z.0 z.1)
-                (λ i. (record { given = tried.given_is i; first = tried.work.first i; log = planned.hand.view.seen }, sym numbered.making_is i)) seen.makes.made;
+                (λ i. (record { given = tried.given_is i; first = tried.work.first i; log = planned.hand.view.seen }, sym numbered.making_is i))
+                seen.makes.made;
             core_is = ap (λ (c : CoreMaking). c.noted.core) numbered.making_is
                 ∙ (seen.makes.core_is ∙ (ap (λ (v : View TreeState (Event Fact)). v.core) tried.since.view ∙ sym core_is));
             flush_is = ap making_flush numbered.making_is

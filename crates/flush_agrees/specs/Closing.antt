@@ -47,8 +47,8 @@ pub record MountLogs : Type 0 where
   pub log : List (Event Fact)
   pub labels : List (Event Label)
 
--- A core and its pen have come to that end. The table's events are a run of it, which goes on from what the core has seen, and the core's entries are its part of
--- a legal history. The labels are lawful, they go on from what the pen has seen, and what the pen told is its part of them.
+-- A core and its pen have come to that end. The table's events are a run of it, which goes on from what the core has seen, and the core's entries are its part
+-- of a legal history. The labels are lawful, they go on from what the pen has seen, and what the pen told is its part of them.
 pub record ReachesEnd {D : Type 0} (t : FileState) (hand : FileHand) (pen : PenHand D) (logs : MountLogs) : Type 0 where
   pub table : IsTableRun (run_to t logs.log)
   pub seen : IsPrefix hand.view.seen logs.log
@@ -100,8 +100,8 @@ pub record LandedAtEnd (run : TableRun) (one : FlushTold) : Type 0 where
   pub told : Commitment
   pub tells : ToldAtEnd run made told
 
--- What a core made for an fsync that was refused for want of space it made in the whole run; and where its turn was noted none of the nodes that it concerns had
--- moved, and a map that had gone along all labels up to there has too little of this kind for what the plan needs.
+-- What a core made for an fsync that was refused for want of space it made in the whole run; and where its turn was noted none of the nodes that it concerns
+-- had moved, and a map that had gone along all labels up to there has too little of this kind for what the plan needs.
 pub record LacksAtEnd {D : Type 0} (run : TableRun) (key : BoxKey D) (labels : List (Event Label)) (flush : Flush) (turn : Turn) (kind : SpaceKind)
     (need free : ℕ) : Type 0 where
   pub making : CoreMaking
@@ -119,8 +119,8 @@ pub record LacksAtEnd {D : Type 0} (run : TableRun) (key : BoxKey D) (labels : L
   pub goes : SpaceGoes key.layout front (first_past key.start) key.space space
   pub short : shortage space (need_planned making.plan.change) ≡ Some (NoSpace kind need free)
 
--- They agree on the whole of it: what the core told at the box are its fsyncs' turns there, each of one of its commits; what it made of each it made in the whole
--- run, and it told exactly the durable ones; and with the turns of the record the core and its pen agree on the fsyncs that have some.
+-- They agree on the whole of it: what the core told at the box are its fsyncs' turns there, each of one of its commits; what it made of each it made in the
+-- whole run, and it told exactly the durable ones; and with the turns of the record the core and its pen agree on the fsyncs that have some.
 pub record AgreeAtEnd {D : Type 0} (t : FileState) (hand : FileHand) (pen : PenHand D) (fsyncs : List FlushTold) (logs : MountLogs) : Type 0 where
   pub mine : entries_by event_core hand.view.core logs.labels ≡ events_in hand.view.core (turns_of fsyncs)
   pub tells : (stamps : ℕ → ℕ) → NumbersHave stamps fsyncs → TellTurns stamps hand.view.core nothing_told (turns_of fsyncs)

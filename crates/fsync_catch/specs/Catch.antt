@@ -48,9 +48,9 @@ saw_of nodes list hand node = if is_listed (map node_number list) node then pend
 abbrev pub run_seen : (ℕ → Option OldKept) → FileHand → TableRun
 run_seen given hand = record { given = given; first = hand.view.first; log = hand.view.seen }
 
--- What a core looked at for its fsync while it held what was flushed of some nodes: it noted each core's log at a moment up to now at which all that it
--- holds stood; what it gathered is merged of copies of these which keep what a look at its nodes asks for, and has of its nodes what it holds; and what the fsync concerns by that are nodes of the table. What it
--- has seen is legal and lawful.
+-- What a core looked at for its fsync while it held what was flushed of some nodes: it noted each core's log at a moment up to now at which all that it holds
+-- stood; what it gathered is merged of copies of these which keep what a look at its nodes asks for, and has of its nodes what it holds; and what the fsync
+-- concerns by that are nodes of the table. What it has seen is legal and lawful.
 pub record IsLook (given : ℕ → Option OldKept) (nodes : ℕ) (fsync : WaitingFsync) (list : List NodeId) (hand : FileHand) (caught : Caught) : Type 0 where
   pub noted : CoreNotes
   pub core_is : noted.core ≡ hand.view.core

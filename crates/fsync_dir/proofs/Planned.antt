@@ -66,7 +66,8 @@ module _ (s : PlannedFsync) (is : IsDraftedFsync s) (below : (of : ℕ) → IsBe
 
     old_low : (entry : OldEntry) → Contains (entries_of s.caught.concern.nodes.items (values_in s.hand.held)) entry
         → entry.old.number < s.hand.view.first.first
-    old_low entry has = let held = old_held entry has in seen_low entry.node.0 entry.old held.0 (pending_held s.nodes s.hand.held (record { 0 = entry.node.0 })) refl held.1
+    old_low entry has = let held = old_held entry has in
+        seen_low entry.node.0 entry.old held.0 (pending_held s.nodes s.hand.held (record { 0 = entry.node.0 })) refl held.1
 
     abbrev enter : List Enter
     enter = drafted.planned.enter

@@ -158,7 +158,8 @@ alone_caught node = record {
 }
 
 -- An fsync of a file whose own value alone is held.
-module _ (t : FileState) (nodes : ℕ) (own : OwnFsync) (cut : Stamp) (hand : FileHand) (has : HasHeldAlone t nodes own cut hand) (table : IsFileTable t nodes) where
+module _ (t : FileState) (nodes : ℕ) (own : OwnFsync) (cut : Stamp) (hand : FileHand) (has : HasHeldAlone t nodes own cut hand)
+    (table : IsFileTable t nodes) where
   -- one cell is held
   pub one_held : length hand.held ≡ 1
   one_held =

@@ -91,9 +91,11 @@ module _ (s : PlannedFsync) (is : IsDraftedFsync s) (caught : IsCaught s.given s
         is = subst (λ n. IsFileChange (record { 0 = n }) (cut_gathered making n) copy.value.file own.0) (sym g.node_is) own.1;
       })
 
-  plans : IsPlanOf (record { 0 = g.noted.node }) (record { 0 = g.noted.stamp }) s.caught.gathered s.caught.concern further.old further.is_file further.change further.plan
+  plans : IsPlanOf (record { 0 = g.noted.node }) (record { 0 = g.noted.stamp })
+      s.caught.gathered s.caught.concern further.old further.is_file further.change further.plan
   plans =
-      subst (λ n. IsPlanOf (record { 0 = n }) (record { 0 = g.noted.stamp }) s.caught.gathered s.caught.concern further.old further.is_file further.change further.plan)
+      subst (λ n. IsPlanOf (record { 0 = n }) (record { 0 = g.noted.stamp })
+      s.caught.gathered s.caught.concern further.old further.is_file further.change further.plan)
       (sym g.node_is)
       (subst (λ n. IsPlanOf s.fsync.node (record { 0 = n }) s.caught.gathered s.caught.concern further.old further.is_file further.change further.plan)
       (sym g.stamp_is) drafted.planned)

@@ -48,7 +48,8 @@ cut_within : (given : ℕ → Option OldKept) (first : TreeState) (log : List (E
     → (flushed_in given (account_of log) node).cut ≤ length (calls_in log)
 cut_within given first log node lawful = by (last_writer node (account_of log).commits) refl
   where
-    by : (writer : Option (Commitment × HeldNode)) → last_writer node (account_of log).commits ≡ writer → (flushed_by given node writer).cut ≤ length (calls_in log)
+    by : (writer : Option (Commitment × HeldNode)) → last_writer node (account_of log).commits ≡ writer
+        → (flushed_by given node writer).cut ≤ length (calls_in log)
     by None is = omega arith
     by (Some writer) is =
         let one = last_is_one node (account_of log).commits writer is in cuts_within given first log writer.0 node writer.1 lawful one.0 one.1
@@ -138,7 +139,8 @@ module _ (s : PlannedFsync) (is : IsDraftedFsync s) (sound : IsSoundTree s.hand.
         → (node ≡ s.fsync.node.0) ⊎ (is_directory (tree_seen hand) node ≡ true)
     kinds_look node listed =
         let gathers = (made_look.concern_is.members.each node).0 listed in
-        elim (gathered_directory run table_run (commit_made run of_look made_look.plans 0) (mades_are_known run of_look 0 table_run made_look).notes node gathers) [
+        elim (gathered_directory run table_run (commit_made run of_look made_look.plans 0)
+        (mades_are_known run of_look 0 table_run made_look).notes node gathers) [
           | inl itself ↦ inl (itself ∙ (g s is caught drafted).node_is)
           | inr kind ↦ inr kind
         ]

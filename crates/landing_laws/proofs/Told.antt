@@ -254,7 +254,8 @@ module _ (t : FileState) (s : LandedFsync) (m : MakesPlanned s.planned) (run : T
         inode_own =
             ap (λ (h : HeldNode). is_some h.new) found.is ∙ ap (λ after. is_some (kept_of_node after node)) is.after_is
             ∙ ap (λ (plan : FsyncPlan). is_some (kept_of_node (after_commit plan.change s.grant) node)) (sym m.plan_is)
-            ∙ ap (λ (change : Planned). is_some (kept_of_node (after_commit change s.grant) node)) (one.change_is ∙ ap (λ old. planned old [] own.files [] []) one.old_is)
+            ∙ ap (λ (change : Planned). is_some (kept_of_node (after_commit change s.grant) node))
+            (one.change_is ∙ ap (λ old. planned old [] own.files [] []) one.old_is)
             ∙ left_listed (entry_keyed (own.node, own.kept) ∷ []) [] own.files [] [] s.grant node
             ∙ ap (λ n. (is_listed (own.node ∷ []) n && not (is_listed [] n)) || is_listed [] n) same
             ∙ ap (λ b. (b && true) || false) ((listed_one (own.node ∷ []) own.node).1 (inl refl))

@@ -72,7 +72,8 @@ module _ (nodes : ℕ) (done : CommitDone) where
       }
 
   -- each that was written
-  wrote_of : (list : List NodeId) (cells : List (HeldCell Cell)) → places_of cells ≡ map (flushed_place nodes) list → IsStrictlyIncreasing (map node_number list)
+  wrote_of : (list : List NodeId) (cells : List (HeldCell Cell)) → places_of cells ≡ map (flushed_place nodes) list
+      → IsStrictlyIncreasing (map node_number list)
       → (held : HeldNode) → IsOneOf (nodes_wrote done list (values_in cells)) held → IsWroteOf nodes list cells done held
   wrote_of [] cells places up held one = absurd one
   wrote_of (n ∷ list) [] places up held one = absurd one
@@ -93,7 +94,8 @@ module _ (nodes : ℕ) (done : CommitDone) where
       ]
 
   -- and what is found of a node that is listed
-  found_wrote : (list : List NodeId) (cells : List (HeldCell Cell)) → places_of cells ≡ map (flushed_place nodes) list → IsStrictlyIncreasing (map node_number list)
+  found_wrote : (list : List NodeId) (cells : List (HeldCell Cell)) → places_of cells ≡ map (flushed_place nodes) list
+      → IsStrictlyIncreasing (map node_number list)
       → (node : ℕ) → is_listed (map node_number list) node ≡ true
       → (held : HeldNode) × (find (is_held_of node) (nodes_wrote done list (values_in cells)) ≡ Some held) × (held.node.0 ≡ node)
       × IsOneOf (nodes_wrote done list (values_in cells)) held
@@ -115,7 +117,8 @@ module _ (nodes : ℕ) (done : CommitDone) where
       ]
 
 -- a cell among those that a core knows
-knows_one : (given : ℕ → Option OldKept) (hand : FileHand) (cells : List (HeldCell Cell)) (c : HeldCell Cell) → KnowsCells given hand.view cells → IsOneOf cells c
+knows_one : (given : ℕ → Option OldKept) (hand : FileHand) (cells : List (HeldCell Cell)) (c : HeldCell Cell) → KnowsCells given hand.view cells
+    → IsOneOf cells c
     → KnowsCell given hand.view c
 knows_one given hand [] c knows one = absurd one
 knows_one given hand (x ∷ cells) c knows one = elim one [

@@ -89,7 +89,8 @@ module _ (run : TableRun) (more : List (Event Fact)) (making : CoreMaking) (is :
   file_later : HasMadeFile run making → HasMadeFile then making
   file_later (HasMadeFile.directory kind is_file none) = HasMadeFile.directory (kind_later ∙ kind) is_file none
   file_later (too_late kind is_file none late) = too_late (kind_later ∙ kind) is_file none late
-  file_later (in_copy change kind is_file some copy) = in_copy change (kind_later ∙ kind) is_file some (copy_later run more is (making_flush making) (cut_gathered making making.noted.node) change copy)
+  file_later (in_copy change kind is_file some copy) =
+      in_copy change (kind_later ∙ kind) is_file some (copy_later run more is (making_flush making) (cut_gathered making making.noted.node) change copy)
 
   pub goes_on : CoreMade then making
   goes_on = record {

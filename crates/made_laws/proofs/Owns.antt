@@ -27,7 +27,8 @@ use Rattle.made_laws.proofs.Told.{told_mades_go_on}
 use Rattle.sfs_base.proofs.BasicNumbers.{same_number, not_same}
 use Rattle.look_laws.specs.Look.{ancestor, birth_place, named, itself, other_side, ended}
 
-module _ (first : TreeState) (history : List Entry) (cuts : ℕ → ℕ) (own : OwnFileMaking) (number : ℕ) (sound : IsSoundTree first) (legal : IsLegal first history)
+module _ (first : TreeState) (history : List Entry) (cuts : ℕ → ℕ) (own : OwnFileMaking) (number : ℕ) (sound : IsSoundTree first)
+    (legal : IsLegal first history)
     (file : is_directory (tree_after first history) own.node ≡ false) where
   abbrev look : Look
   look = look_of_own first history cuts own

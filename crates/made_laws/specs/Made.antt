@@ -81,8 +81,8 @@ pub record GathersSeen (making : CoreMaking) (node : ℕ) (value : Pending) : Ty
   pub born : (directory : ℕ) → IsOneOf (map born_as making.gathered.births.items) (record { node = node; directory = directory })
       ↔ (number_of value.made_in ≡ Some directory)
 
--- What was gathered: lists in order, the changes of directories that are merged of copies of all parts, and of each node that the fsync concerns what the core saw,
--- of any other no cut. The root has an inode.
+-- What was gathered: lists in order, the changes of directories that are merged of copies of all parts, and of each node that the fsync concerns what the core
+-- saw, of any other no cut. The root has an inode.
 pub record HasGathered (making : CoreMaking) : Type 0 where
   pub orderly : IsOrderly making.gathered
   pub merged : AreMergedFor making.noted making.gathered.logs.items

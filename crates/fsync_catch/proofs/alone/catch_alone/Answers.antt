@@ -17,7 +17,8 @@ cut_with_inode-requires g c =
     (omega (arith, cells)) in
     let waits = waits_on before mid c.args.fsync
     (goes_again before roomy mid (roomier_goes before roomy same) (works_goes roomy mid on)) c.requires.waits in
-    held_then (given_by c.args.shared.now) c.args.shared.now c.args.nodes c.args.fsync mid c.look.result hand c.requires.table c.hold_nodes.ensures.work c.hold_nodes.ensures.holds
+    held_then (given_by c.args.shared.now)
+    c.args.shared.now c.args.nodes c.args.fsync mid c.look.result hand c.requires.table c.hold_nodes.ensures.work c.hold_nodes.ensures.holds
     c.requires.within c.look.ensures waits room
 
 pub let_all_go-requires : goal.let_all_go-requires
@@ -33,7 +34,8 @@ let_all_go-requires g c =
     (omega (arith, cells)) in
     let waits = waits_on before mid c.args.fsync
     (goes_again before roomy mid (roomier_goes before roomy same) (works_goes roomy mid on)) c.requires.waits in
-    works_then (given_by c.args.shared.now) c.args.shared.now c.args.nodes c.args.fsync mid c.look.result hand c.requires.table c.hold_nodes.ensures.work c.hold_nodes.ensures.holds
+    works_then (given_by c.args.shared.now)
+    c.args.shared.now c.args.nodes c.args.fsync mid c.look.result hand c.requires.table c.hold_nodes.ensures.work c.hold_nodes.ensures.holds
     c.requires.within c.look.ensures waits room
 
 pub returns-in-Some-clause-work : goal.returns-in-Some-clause-work
@@ -49,7 +51,8 @@ returns-in-Some-clause-work g c =
     (omega (arith, cells)) in
     let waits = waits_on before mid c.args.fsync
     (goes_again before roomy mid (roomier_goes before roomy same) (works_goes roomy mid on)) c.requires.waits in
-    works_then (given_by c.args.shared.now) c.args.shared.now c.args.nodes c.args.fsync mid c.look.result hand c.requires.table c.hold_nodes.ensures.work c.hold_nodes.ensures.holds
+    works_then (given_by c.args.shared.now)
+    c.args.shared.now c.args.nodes c.args.fsync mid c.look.result hand c.requires.table c.hold_nodes.ensures.work c.hold_nodes.ensures.holds
     c.requires.within c.look.ensures waits room
 
 pub returns-in-Some-clause-caught : goal.returns-in-Some-clause-caught
@@ -65,5 +68,6 @@ returns-in-Some-clause-caught g c =
     (omega (arith, cells)) in
     let waits = waits_on before mid c.args.fsync
     (goes_again before roomy mid (roomier_goes before roomy same) (works_goes roomy mid on)) c.requires.waits in
-    caught_alone (given_by c.args.shared.now) c.args.shared.now c.args.nodes c.args.fsync mid c.look.result hand c.requires.table c.hold_nodes.ensures.work c.hold_nodes.ensures.holds
+    caught_alone (given_by c.args.shared.now)
+    c.args.shared.now c.args.nodes c.args.fsync mid c.look.result hand c.requires.table c.hold_nodes.ensures.work c.hold_nodes.ensures.holds
     c.requires.within c.look.ensures waits room c.in-Some.cut (sym c.in-Some.ensures)

@@ -56,18 +56,21 @@ answer_wanting-requires-clause-waits g c = waiting_on c.args.core.now c.hold_fil
 
 pub returns-in-Ok-Some-clause-comes : goal.returns-in-Ok-Some-clause-comes
 returns-in-Ok-Some-clause-comes g c =
-    attempt_since (attempt_at c.args.site.now.shared.now c.args.site.now.nodes c.args.own.now c.args.core.now c.args.pen.now) c.hold_file.new.core c.args.pen.now
+    attempt_since (attempt_at c.args.site.now.shared.now c.args.site.now.nodes c.args.own.now c.args.core.now c.args.pen.now)
+    c.hold_file.new.core c.args.pen.now
     c.hold_file.ensures.on (no_turn_yet c.args.pen.now) c.commit_alone.new.core c.commit_alone.new.pen c.commit_alone.result c.commit_alone.ensures.comes
 
 pub returns-in-Ok-None-clause-comes : goal.returns-in-Ok-None-clause-comes
 returns-in-Ok-None-clause-comes g c =
-    attempt_since (attempt_at c.args.site.now.shared.now c.args.site.now.nodes c.args.own.now c.args.core.now c.args.pen.now) c.hold_file.new.core c.args.pen.now
+    attempt_since (attempt_at c.args.site.now.shared.now c.args.site.now.nodes c.args.own.now c.args.core.now c.args.pen.now)
+    c.hold_file.new.core c.args.pen.now
     c.hold_file.ensures.on (no_turn_yet c.args.pen.now) c.attempt_by_look.new.core c.attempt_by_look.new.pen c.attempt_by_look.result
     c.attempt_by_look.ensures.comes
 
 pub returns-in-Err-clause-comes : goal.returns-in-Err-clause-comes
 returns-in-Err-clause-comes g c =
-    untold_serves (attempt_at c.args.site.now.shared.now c.args.site.now.nodes c.args.own.now c.args.core.now c.args.pen.now) c.answer_wanting.new.core c.answer_wanting.result
+    untold_serves (attempt_at c.args.site.now.shared.now c.args.site.now.nodes c.args.own.now c.args.core.now c.args.pen.now)
+    c.answer_wanting.new.core c.answer_wanting.result
     c.answer_wanting.ensures.reply
     (ends_since c.args.site.now.shared.now c.args.own.now.fsync _ c.args.core.now c.hold_file.new.core c.answer_wanting.new.core c.hold_file.ensures.on
     c.answer_wanting.ensures.ends)
