@@ -36,7 +36,7 @@ use Rattle.flush_agrees.specs.Made.{FlushMade}
 use Rattle.end_laws.specs.Mount.{MountEnd, MountEnds, IsFsyncAt, ReservedAt, run_at, IsPairOf, AreNamedAlong}
 use Rattle.end_laws.specs.Laws.{MountsAreNamed}
 use Rattle.end_laws.specs.Cuts.{Lift, lift_of, cuts_left}
-use Rattle.end_laws.specs.Pairs.{IsCommitOf, IsPairThere, of_look, BringsMade, of_own}
+use Rattle.end_laws.specs.Pairs.{CommitsMade, IsPairThere, of_look, BringsMade, of_own}
 use Rattle.end_laws.proofs.Fronts.{before_number, place_is_first}
 use Rattle.end_laws.proofs.Plain.{with_parts, plain_pair, plain_is, IsPlainBy, plain_same_one, plain_same_lift, without_parts, plain_own}
 use Rattle.end_laws.proofs.Plans.{same_commit_made}
@@ -189,8 +189,8 @@ module _ (D : Type 0) (at : MountEnd) (ends : MountEnds D at) where
       brings_look disk same =
           (λ i. with_parts (parts_there at stamps plain number (one_is cuts i)) (one_is cuts i)) ∙ ap (λ d. brought_to (volume_on at.start d)) same
 
-      of_commit : IsCommitOf made pair.commit
-      of_commit = subst (IsCommitOf made) (sym (commit_is cuts)) (record {
+      of_commit : CommitsMade made pair.commit
+      of_commit = subst (CommitsMade made) (sym (commit_is cuts)) (record {
         number_is = refl;
         holds = λ node. refl;
         last = λ node concerned. refl;
@@ -223,7 +223,7 @@ module _ (D : Type 0) (at : MountEnd) (ends : MountEnds D at) where
         there = there_look;
         is = record {
           made_in = of_notes core;
-          commit = subst (λ s. IsCommitOf made (commit_under named.pairs s)) (sym stamp_is) of_commit;
+          commit = subst (λ s. CommitsMade made (commit_under named.pairs s)) (sym stamp_is) of_commit;
           volume = volume_on at.start (disk_before at stamps plain number);
           brings = subst (λ s. BringsMade made (volume_on at.start (disk_before at stamps plain number)) (bringing_under named.pairs s)) (sym stamp_is)
               brings_made_look;
@@ -250,8 +250,8 @@ module _ (D : Type 0) (at : MountEnd) (ends : MountEnds D at) where
       brings_file disk same =
           (λ i. with_parts (parts_there at stamps plain number (one_is cuts i)) (one_is cuts i)) ∙ ap (λ d. brought_own (volume_on at.start d)) same
 
-      of_commit_own : IsCommitOf made pair.commit
-      of_commit_own = subst (IsCommitOf made) (sym (commit_is cuts)) (record {
+      of_commit_own : CommitsMade made pair.commit
+      of_commit_own = subst (CommitsMade made) (sym (commit_is cuts)) (record {
         number_is = refl;
         holds = λ node. sym (concerns_own run made.making own node);
         last = λ node concerned.
@@ -304,7 +304,7 @@ module _ (D : Type 0) (at : MountEnd) (ends : MountEnds D at) where
         there = there_own;
         is = record {
           made_in = of_file own;
-          commit = subst (λ s. IsCommitOf made (commit_under named.pairs s)) (sym stamp_is) of_commit_own;
+          commit = subst (λ s. CommitsMade made (commit_under named.pairs s)) (sym stamp_is) of_commit_own;
           volume = volume_on at.start (disk_before at stamps plain number);
           brings = subst (λ s. BringsMade made (volume_on at.start (disk_before at stamps plain number)) (bringing_under named.pairs s)) (sym stamp_is)
               brings_made_own;

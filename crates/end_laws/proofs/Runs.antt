@@ -16,7 +16,7 @@ use Rattle.mem_values.specs.declared.fact.Fact.{Fact}
 use Rattle.mem_values.specs.declared.fact.HeldNode.{HeldNode}
 use Rattle.note_laws.specs.Run.{TableRun}
 use Rattle.note_laws.proofs.Saws.{last_is_one}
-use Rattle.made_laws.specs.Made.{CoreMaking, is_concerned, old_of, MadeIn}
+use Rattle.made_laws.specs.Made.{CoreMaking, is_concerned, old_of, MadeEitherWay}
 use Rattle.made_laws.specs.Tells.{last_of_seen}
 use Rattle.end_laws.specs.Kept.{AreWellKept, IsWellKept}
 use Rattle.end_laws.specs.Runs.{AreToldWell, IsGivenWell, RunsFreeNothing, RunsKeepWell}
@@ -57,7 +57,7 @@ module _ (run : TableRun) (layout : Layout) (given : IsGivenWell run) (all : Are
           (sym (ap (λ (f : Flushed). f.old) same) ∙ is)
 
   -- so what a core made something of is well kept, where it knew of commits below a bound
-  made_well : (bound : ℕ) → AreWellBelow bound → (making : CoreMaking) → MadeIn run making
+  made_well : (bound : ℕ) → AreWellBelow bound → (making : CoreMaking) → MadeEitherWay run making
       → (entry : OldEntry) → Contains making.old entry → last_of_seen (making.noted.pending entry.node.0) < bound → IsWellKept entry.old.kept
   made_well bound below making made entry there few = by (making.noted.pending entry.node.0) refl
     where
@@ -84,7 +84,7 @@ module _ (run : TableRun) (layout : Layout) (given : IsGivenWell run) (all : Are
       made_well bound (all_below bound) made.making core entry kept (omega (arith, less, number, low)) in
       commits_leave_well run layout made core well one.granted (entry_keyed (node, old)) ((one.tells.wrote node held holds old).0 is)
 
-  pub run_well : (making : CoreMaking) → MadeIn run making → AreWellKept making.old
+  pub run_well : (making : CoreMaking) → MadeEitherWay run making → AreWellKept making.old
   run_well making made entry there =
       let bound = suc (last_of_seen (making.noted.pending entry.node.0)) in
       made_well bound (all_below bound) making made entry there (omega arith)

@@ -26,7 +26,7 @@ use Rattle.mem_values.specs.Start.{FileState, FileHand, given_by}
 use Rattle.mem_values.specs.declared.fact.Fact.{Fact}
 use Rattle.mem_values.specs.Account.{Commitment}
 use Rattle.note_laws.specs.Run.{TableRun, IsTableRun}
-use Rattle.made_laws.specs.Made.{run_on, CoreMaking, MadeIn}
+use Rattle.made_laws.specs.Made.{run_on, CoreMaking, MadeEitherWay}
 use Rattle.made_laws.specs.Own.{TellsMaking}
 use Rattle.made_laws.proofs.Later.{makings_go_on}
 use Rattle.made_laws.proofs.Owns.{tellings_go_on}
@@ -198,9 +198,9 @@ module _ {D : Type 0} (t : FileState) (hand : FileHand) (pen : PenHand D) (fsync
   run_is : (log : List (Event Fact)) (on : IsPrefix log logs.log) → run_on (run_to t log) on.0 ≡ run
   run_is log on = λ i. record { given = given_by t; first = t.first; log = on.1 i }
 
-  made_then : (log : List (Event Fact)) (making : CoreMaking) → IsPrefix log logs.log → MadeIn (run_to t log) making → MadeIn run making
+  made_then : (log : List (Event Fact)) (making : CoreMaking) → IsPrefix log logs.log → MadeEitherWay (run_to t log) making → MadeEitherWay run making
   made_then log making on made =
-      subst (λ r. MadeIn r making) (run_is log on)
+      subst (λ r. MadeEitherWay r making) (run_is log on)
       (makings_go_on (run_to t log) on.0 making (subst IsTableRun (sym (run_is log on)) ends.table) made)
 
   told_then : (one : FlushMade) (told : Commitment) → ToldInSight t hand one told → ToldAtEnd run one told

@@ -27,7 +27,7 @@ use Rattle.mem_values.specs.Account.{commit_told}
 use Rattle.mem_values.specs.Facts.{IsBelowInodes}
 use Rattle.mem_values.specs.declared.fact.Fact.{Fact}
 use Rattle.note_laws.specs.Run.{TableRun}
-use Rattle.made_laws.specs.Made.{CoreMaking, making_flush, MadeIn}
+use Rattle.made_laws.specs.Made.{CoreMaking, making_flush, MadeEitherWay}
 use Rattle.slot_laws.specs.Telling.{turns_in, BoxTurn, TellTurns, at_box, labels_in, events_in}
 use Rattle.slot_laws.specs.Labels.{OwnTold, own_from}
 use Rattle.slot_laws.proofs.Telling.{events_both, tell_both}
@@ -223,7 +223,7 @@ module _ {D : Type 0} (at : FlushAt D) (cores : ℕ) (site : IsSite at.t at.node
           sight = record {
             log = planned.hand.view.seen;
             since = since;
-            made = subst (λ (z : TableRun × CoreMaking). MadeIn z.0 z.1)
+            made = subst (λ (z : TableRun × CoreMaking). MadeEitherWay z.0 z.1)
                 (λ i. (record { given = tried.given_is i; first = tried.work.first i; log = planned.hand.view.seen }, sym numbered.making_is i))
                 seen.makes.made;
             core_is = ap (λ (c : CoreMaking). c.noted.core) numbered.making_is
@@ -244,7 +244,7 @@ module _ {D : Type 0} (at : FlushAt D) (cores : ℕ) (site : IsSite at.t at.node
     in_sight since core_is = record {
       log = planned.hand.view.seen;
       since = since;
-      made = subst (λ (r : TableRun). MadeIn r making)
+      made = subst (λ (r : TableRun). MadeEitherWay r making)
           (λ i. record { given = tried.given_is i; first = tried.work.first i; log = planned.hand.view.seen }) seen.makes.made;
       core_is = seen.makes.core_is ∙ (ap (λ (v : View TreeState (Event Fact)). v.core) tried.since.view ∙ sym core_is);
       flush_is = λ i. record {

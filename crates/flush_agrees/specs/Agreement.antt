@@ -22,7 +22,7 @@ use Rattle.mem_values.specs.declared.fact.Fact.{Fact}
 use Rattle.mem_values.specs.Account.{Commitment, commit_told, held_by}
 use Rattle.mem_values.specs.declared.fact.HeldNode.{HeldNode}
 use Rattle.note_laws.specs.Run.{TableRun}
-use Rattle.made_laws.specs.Made.{CoreMaking, making_flush, MadeIn}
+use Rattle.made_laws.specs.Made.{CoreMaking, making_flush, MadeEitherWay}
 use Rattle.made_laws.specs.Own.{TellsMaking}
 use Rattle.slot_laws.specs.declared.label.Label.{Label}
 use Rattle.slot_laws.specs.declared.label.Label.TheVariants as label
@@ -62,7 +62,7 @@ run_to t log = record { given = given_by t; first = t.first; log = log }
 pub record MadeInSight (t : FileState) (hand : FileHand) (flush : Flush) (making : CoreMaking) : Type 0 where
   pub log : List (Event Fact)
   pub since : IsPrefix log hand.view.seen
-  pub made : MadeIn (run_to t log) making
+  pub made : MadeEitherWay (run_to t log) making
   pub core_is : making.noted.core ≡ hand.view.core
   pub flush_is : making_flush making ≡ flush
 

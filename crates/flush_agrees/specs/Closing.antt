@@ -25,7 +25,7 @@ use Rattle.mem_values.specs.Start.{FileState, FileHand}
 use Rattle.mem_values.specs.Account.{Commitment, held_by, commit_told}
 use Rattle.mem_values.specs.declared.fact.HeldNode.{HeldNode}
 use Rattle.note_laws.specs.Run.{IsTableRun, TableRun}
-use Rattle.made_laws.specs.Made.{CoreMaking, making_flush, MadeIn}
+use Rattle.made_laws.specs.Made.{CoreMaking, making_flush, MadeEitherWay}
 use Rattle.made_laws.specs.Own.{TellsMaking}
 use Rattle.slot_laws.specs.declared.label.Label.TheVariants as label
 use Rattle.slot_laws.specs.declared.label.Seen.{Seen}
@@ -72,7 +72,7 @@ pen_fsyncs fsyncs = filter has_turns (map fsync_turns fsyncs)
 
 -- What a core made for an fsync it made in the whole run; its turns at the box are of that, and the grant is of what it needs.
 pub record MadeAtEnd (run : TableRun) (core : ℕ) (layout : Layout) (one : FlushTold) (made : FlushMade) : Type 0 where
-  pub made_in : MadeIn run made.making
+  pub made_in : MadeEitherWay run made.making
   pub core_is : made.making.noted.core ≡ core
   pub flush_is : making_flush made.making ≡ one.flush
   pub grants : GrantsNeed layout made
@@ -105,7 +105,7 @@ pub record LandedAtEnd (run : TableRun) (one : FlushTold) : Type 0 where
 pub record LacksAtEnd {D : Type 0} (run : TableRun) (key : BoxKey D) (labels : List (Event Label)) (flush : Flush) (turn : Turn) (kind : SpaceKind)
     (need free : ℕ) : Type 0 where
   pub making : CoreMaking
-  pub made_in : MadeIn run making
+  pub made_in : MadeEitherWay run making
   pub flush_is : making_flush making ≡ flush
   pub seen : List Seen
   pub sees : SeesConcerned making seen

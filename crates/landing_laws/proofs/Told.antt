@@ -33,7 +33,7 @@ use Rattle.mem_values.proofs.Telling.{later_node}
 use Rattle.mem_values.proofs.Basics.{is_value}
 use Rattle.home_laws.specs.Laws.{IsNodeOf}
 use Rattle.note_laws.specs.Run.{TableRun, IsTableRun, calls_of, WroteNode, TellsCommit}
-use Rattle.made_laws.specs.Made.{CoreMaking, run_on, CoreMade, is_concerned, OwnMade, MadeIn, OwnFileMaking, OwnFileMade}
+use Rattle.made_laws.specs.Made.{CoreMaking, run_on, CoreMade, is_concerned, OwnMade, MadeEitherWay, OwnFileMaking, OwnFileMade}
 use Rattle.made_laws.specs.Tells.{commit_made, ToldMade}
 use Rattle.made_laws.specs.Own.{commit_of_own, ToldOwn, TellsMaking, told_notes, told_file}
 use Rattle.made_laws.proofs.Later.{mades_go_on, makings_go_on, owns_go_on}
@@ -181,10 +181,10 @@ module _ (t : FileState) (s : LandedFsync) (m : MakesPlanned s.planned) (run : T
 
   -- The commit of a file that was planned alone.
   module _ (one : OwnMade (run_planned s.planned) making) where
-    of_file_there : MadeIn run making
+    of_file_there : MadeEitherWay run making
     of_file_there =
-        subst (λ r. MadeIn r making) run_is
-        (makings_go_on (run_planned s.planned) goes_on.0 making (subst IsTableRun (sym run_is) told.table) (MadeIn.of_file one))
+        subst (λ r. MadeEitherWay r making) run_is
+        (makings_go_on (run_planned s.planned) goes_on.0 making (subst IsTableRun (sym run_is) told.table) (MadeEitherWay.of_file one))
 
     abbrev own : OwnFileMaking
     own = one.own
@@ -297,9 +297,9 @@ module _ (t : FileState) (s : LandedFsync) (m : MakesPlanned s.planned) (run : T
       tells = own_told;
     }
 
-  pub told_so : MadeIn (run_planned s.planned) making → TellsMaking run making (commitment_of s)
-  told_so (MadeIn.of_notes core) = told_notes (told_made core)
-  told_so (MadeIn.of_file one) = told_file (told_own one)
+  pub told_so : MadeEitherWay (run_planned s.planned) making → TellsMaking run making (commitment_of s)
+  told_so (MadeEitherWay.of_notes core) = told_notes (told_made core)
+  told_so (MadeEitherWay.of_file one) = told_file (told_own one)
 
 pub landed_are_told : LandedAreTold
 landed_are_told t s made run is told = told_so t s made run is told made.made
