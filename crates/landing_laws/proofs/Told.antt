@@ -4,7 +4,6 @@ use Rattle.std.proofs.Common.{◌≡◌, ◌∙◌, if◌then◌else◌, ◌++�
 use Rattle.sfs_base.specs.declared.numbers.Stamp.{Stamp}
 use Rattle.sfs_base.specs.declared.numbers.NodeId.{NodeId}
 use Rattle.sfs_base.specs.Listed.{is_listed}
-use Rattle.sfs_base.proofs.BasicOptions.{some_same, none_some}
 use Rattle.sfs_base.proofs.BasicTruth.{not_both}
 use Rattle.sfs_base.proofs.BasicNumbers.{same_number}
 use Rattle.tree_laws.specs.NameRow.{node_number}
@@ -22,13 +21,11 @@ use Rattle.dep_closure.specs.Gathered.{cut_in, lifted_cut}
 use Rattle.flush_plan.specs.declared.concern.Concern.{Concern}
 use Rattle.flush_plan.specs.declared.plans.FsyncPlan.{FsyncPlan}
 use Rattle.stamp_table.specs.Events.{calls_in}
-use Rattle.mem_values.specs.declared.cell.Cell.{Cell}
 use Rattle.mem_values.specs.declared.cell.Pending.{Pending}
 use Rattle.mem_values.specs.Start.{FileState, FileHand}
 use Rattle.mem_values.specs.Account.{held_by, account_of}
 use Rattle.mem_values.specs.declared.fact.HeldNode.{HeldNode}
 use Rattle.mem_values.specs.Stands.{flushed_in, Flushed}
-use Rattle.mem_values.specs.declared.cell.Cell.TheVariants as cell
 use Rattle.mem_values.proofs.Telling.{later_node}
 use Rattle.mem_values.proofs.Basics.{is_value}
 use Rattle.home_laws.specs.Laws.{IsNodeOf}
@@ -37,13 +34,14 @@ use Rattle.made_laws.specs.Made.{CoreMaking, run_on, CoreMade, is_concerned, Own
 use Rattle.made_laws.specs.Tells.{commit_made, ToldMade}
 use Rattle.made_laws.specs.Own.{commit_of_own, ToldOwn, TellsMaking, told_notes, told_file}
 use Rattle.made_laws.proofs.Later.{mades_go_on, makings_go_on, owns_go_on}
-use Rattle.mem_calls.specs.Held.{as_pending, pending_held}
+use Rattle.mem_calls.specs.Held.{pending_held}
 use Rattle.fsync_values.specs.Renewing.{cut_then, kept_of_node}
 use Rattle.landing_laws.specs.Written.{cut_of_value}
 use Rattle.landing_laws.specs.Made.{MakesPlanned, run_planned, PlannedFsync, of_file}
 use Rattle.landing_laws.specs.Landed.{LandedFsync, HasBecomeDurable, nodes_landed, commitment_of, done_of}
 use Rattle.landing_laws.specs.Told.{TellsLanded, LandedAreTold}
 use Rattle.landing_laws.proofs.Landed.{node_there, member_held, landed}
+use Rattle.landing_laws.proofs.ToldDrafts.{cut_is}
 use Rattle.landing_laws.proofs.Seen.{listed_wrote, found_wrote, FoundWrote}
 use Rattle.landing_laws.proofs.Kept.{left_made}
 use Rattle.landing_laws.proofs.Left.{left_listed}
@@ -52,13 +50,6 @@ use Rattle.landing_laws.proofs.Left.{left_listed}
 then_is : (stamp : Stamp) (member : Bool) (cut : Stamp) → (cut_then stamp member cut).0 ≡ (if member then max cut.0 stamp.0 else cut.0)
 then_is stamp true cut = refl
 then_is stamp false cut = refl
-
-cut_is : (value : Cell) (p : Pending) → as_pending value ≡ Some p → cut_of_value value ≡ p.cut
-cut_is (cell.Pending pending) p same = ap (λ (q : Pending). q.cut) (some_same same)
-cut_is (cell.Lock lock) p same = absurd (none_some same)
-cut_is (cell.Bucket bucket) p same = absurd (none_some same)
-cut_is (cell.File file) p same = absurd (none_some same)
-cut_is (cell.Part part) p same = absurd (none_some same)
 
 -- What a core held of a node is what it saw and gathered of it.
 record SeenHeld (s : PlannedFsync) (node : ℕ) : Type 0 where

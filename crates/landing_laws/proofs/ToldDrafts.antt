@@ -143,6 +143,14 @@ same_then : (stamp : Stamp) (member : Bool) (cut : Stamp) → member ≡ false �
 same_then stamp true cut is = absurd (true_not_false is)
 same_then stamp false cut is = refl
 
+-- the cut of a value is that which was flushed
+pub cut_is : (value : Cell) (p : Pending) → as_pending value ≡ Some p → cut_of_value value ≡ p.cut
+cut_is (cell.Pending pending) p same = ap (λ (q : Pending). q.cut) (some_same same)
+cut_is (cell.Lock lock) p same = absurd (none_some same)
+cut_is (cell.Bucket bucket) p same = absurd (none_some same)
+cut_is (cell.File file) p same = absurd (none_some same)
+cut_is (cell.Part part) p same = absurd (none_some same)
+
 module _ (given : ℕ → Option OldKept) (nodes : ℕ) (list : List NodeId) (hand : FileHand) (done : CommitDone) (commit : Commitment)
     (is : HasLanded given nodes list hand done commit) where
   of_held : (held : HeldNode) → IsOneOf commit.held held → IsWroteOf nodes list hand.held done held
@@ -155,13 +163,6 @@ module _ (given : ℕ → Option OldKept) (nodes : ℕ) (list : List NodeId) (ha
       by : (o : Option Pending) → as_pending of.cell.value ≡ o → IsSome o → (p : Pending) × (as_pending of.cell.value ≡ Some p)
       by None same some = absurd (true_not_false (sym some))
       by (Some p) same some = (p, same)
-
-  cut_is : (value : Cell) (p : Pending) → as_pending value ≡ Some p → cut_of_value value ≡ p.cut
-  cut_is (cell.Pending pending) p same = ap (λ (q : Pending). q.cut) (some_same same)
-  cut_is (cell.Lock lock) p same = absurd (none_some same)
-  cut_is (cell.Bucket bucket) p same = absurd (none_some same)
-  cut_is (cell.File file) p same = absurd (none_some same)
-  cut_is (cell.Part part) p same = absurd (none_some same)
 
   value_follows : (held : HeldNode) (value : Cell) (p : Pending) → as_pending value ≡ Some p
       → FollowsFlushed hand.view.first (calls_in hand.view.seen) commit held p → FollowsValue hand.view.first (calls_in hand.view.seen) commit held value
