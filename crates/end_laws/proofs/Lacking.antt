@@ -44,7 +44,7 @@ use Rattle.stamp_table.specs.declared.event.Event.{Event}
 use Rattle.stamp_table.specs.declared.event.Event.TheVariants.{Told}
 use Rattle.note_laws.specs.Joined.{BoxKnows}
 use Rattle.made_laws.specs.Tells.{commit_made, last_of_seen}
-use Rattle.made_laws.specs.Made.{sources_of, CoreMade, OwnMade, OwnFileMaking, own_flush, of_notes, of_file, MadeIn}
+use Rattle.made_laws.specs.Made.{sources_of, CoreMade, OwnMade, OwnFileMaking, own_flush, of_notes, of_file, MadeEitherWay}
 use Rattle.tell_laws.specs.Tells.{MadePlace, MadeThere, entries_at, IsVolumeThere, making_own}
 use Rattle.tell_laws.proofs.Telling.{mades_tell}
 use Rattle.tell_laws.proofs.Own.{OwnKnown, makes}
@@ -384,7 +384,7 @@ module _ (D : Type 0) (at : MountEnd) (named : Numbered) (ends : MountEnds D at)
       };
     }
 
-  lack_so : MadeIn (run_at at) lack.making → TellsLack volume short.space turn told
+  lack_so : MadeEitherWay (run_at at) lack.making → TellsLack volume short.space turn told
   lack_so (of_notes core) = lack_look core
   lack_so (of_file file) = lack_own file
 

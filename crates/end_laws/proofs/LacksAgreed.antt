@@ -25,8 +25,8 @@ module _ (D : Type 0) (at : MountEnd) (ends : MountEnds D at) (one : FlushTold) 
   core = ends.each there.core there.fsyncs there.there
 
   -- what the core and its pen agree on of the turn
-  abbrev lack : LacksAtEnd (run_at at) core.pen.table.given at.logs.labels one.flush turn told.kind told.asked told.have
-  lack = core.agree.lacked one turn told.kind told.asked told.have there.among among did
+  abbrev lack : LacksAtEnd (run_at at) core.pen.table.given at.logs.labels one.flush turn told
+  lack = core.agree.lacked one turn told there.among among did
 
   -- the labels up to the turn come to the same for the pen's box and for the mount
   abbrev lasts : Layout → ℕ → ℕ → LastCommit

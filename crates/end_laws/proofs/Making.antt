@@ -18,7 +18,7 @@ use Rattle.mem_values.specs.declared.cell.Pending.{Pending}
 use Rattle.mem_values.specs.declared.fact.Fact.{Fact}
 use Rattle.mem_values.specs.Stands.{Flushed, flushed_in}
 use Rattle.note_laws.specs.Run.{TableRun}
-use Rattle.made_laws.specs.Made.{CoreMaking, CoreMade, OwnMade, of_notes, of_file, own_flush, is_concerned, old_of, MadeIn}
+use Rattle.made_laws.specs.Made.{CoreMaking, CoreMade, OwnMade, of_notes, of_file, own_flush, is_concerned, old_of, MadeEitherWay}
 use Rattle.made_laws.specs.Own.{TellsMaking, told_notes, told_file, commit_of_own}
 
 -- it made it in one way
@@ -27,7 +27,7 @@ not_both_ways run making core own =
     absurd (let some = core.some_core in let many = core.notes.as_many in let none = ap length own.no_parts in omega (arith, some, many, none))
 
 -- what a telling is of
-pub making_told : (run : TableRun) (making : CoreMaking) (told : Commitment) → TellsMaking run making told → MadeIn run making
+pub making_told : (run : TableRun) (making : CoreMaking) (told : Commitment) → TellsMaking run making told → MadeEitherWay run making
 making_told run making told (told_notes was) = of_notes was.made
 making_told run making told (told_file was) = of_file was.one
 
@@ -79,7 +79,7 @@ module _ (run : TableRun) (making : CoreMaking) (own : OwnMade run making) where
       only entry (suc k, within, same) = absurd (omega (arith, within))
 
 -- What a core made is of what the disk has of nodes that it concerns, by what it saw of these.
-pub saw_old : (run : TableRun) (making : CoreMaking) → MadeIn run making → (entry : OldEntry) → Contains making.old entry
+pub saw_old : (run : TableRun) (making : CoreMaking) → MadeEitherWay run making → (entry : OldEntry) → Contains making.old entry
     → (is_concerned making entry.node.0 ≡ true) × (old_of (making.noted.pending entry.node.0) ≡ Some entry.old)
 saw_old run making (of_notes core) entry there = (core.old_is.each entry.node.0 entry.old).0 there
 saw_old run making (of_file own) entry there =
@@ -96,7 +96,7 @@ pub record SeesFlushed (run : TableRun) (node : ℕ) (value : Pending) : Type 0 
   pub whole : at ++ rest ≡ run.log
   pub flushed : ◌≡◌ {A = Flushed} (record { cut = value.cut.0; last = value.last; old = value.old }) (flushed_in run.given (account_of at) node)
 
-pub sees_flushed : (run : TableRun) (making : CoreMaking) → MadeIn run making → (node : ℕ) (value : Pending) → is_concerned making node ≡ true
+pub sees_flushed : (run : TableRun) (making : CoreMaking) → MadeEitherWay run making → (node : ℕ) (value : Pending) → is_concerned making node ≡ true
     → making.noted.pending node ≡ Some value → SeesFlushed run node value
 sees_flushed run making (of_notes core) node value concerned saw =
     let note = core.notes.each 0 core.some_core in

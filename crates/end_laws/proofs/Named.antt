@@ -22,7 +22,7 @@ use Rattle.reserve_laws.specs.OwnFile.{bringing_own}
 use Rattle.stamp_table.specs.declared.event.Event.{Event}
 use Rattle.mem_values.specs.Account.{Commitment}
 use Rattle.note_laws.specs.Run.{TableRun, calls_of, TellsCommit}
-use Rattle.made_laws.specs.Made.{sources_of, CoreMade, of_notes, OwnMade, own_flush, of_file}
+use Rattle.made_laws.specs.Made.{sources_of, CoreMade, MadeEitherWay, of_notes, OwnMade, own_flush, of_file}
 use Rattle.made_laws.specs.Tells.{commit_made, by_notes, last_of_seen, IsMadeCommit, by_file}
 use Rattle.made_laws.specs.Own.{TellsMaking, told_notes, told_file, commit_of_own}
 use Rattle.made_laws.proofs.Owns.{owns_follow_looks}
@@ -32,11 +32,12 @@ use Rattle.slot_laws.specs.Rules.{MayFrom}
 use Rattle.close_laws.specs.Maps.{Numbered}
 use Rattle.close_laws.specs.Beside.{brought_at, stamps_under}
 use Rattle.flush_agrees.specs.Agreement.{FlushTold}
+use Rattle.flush_agrees.specs.Closing.{ToldAtEnd}
 use Rattle.flush_agrees.specs.Made.{FlushMade}
 use Rattle.end_laws.specs.Mount.{MountEnd, MountEnds, IsFsyncAt, ReservedAt, run_at, IsPairOf, AreNamedAlong}
 use Rattle.end_laws.specs.Laws.{MountsAreNamed}
 use Rattle.end_laws.specs.Cuts.{Lift, lift_of, cuts_left}
-use Rattle.end_laws.specs.Pairs.{IsCommitOf, IsPairThere, of_look, BringsMade, of_own}
+use Rattle.end_laws.specs.Pairs.{CommitsMade, IsPairThere, of_look, BringsMade, of_own}
 use Rattle.end_laws.proofs.Fronts.{before_number, place_is_first}
 use Rattle.end_laws.proofs.Plain.{with_parts, plain_pair, plain_is, IsPlainBy, plain_same_one, plain_same_lift, without_parts, plain_own}
 use Rattle.end_laws.proofs.Plans.{same_commit_made}
@@ -147,6 +148,31 @@ module _ (D : Type 0) (at : MountEnd) (ends : MountEnds D at) where
         (answers_tell_nothing run.first (calls_of run) at.logs.history ends.asks).whole
         ∙ (λ i. tree_after (sym ends.begins.first i) (sym ends.begins.history i))
 
+    -- What stands under its stamp is of what its core made, where its commit and what it brings are.
+    pair_so : MadeEitherWay run made.making → CommitsMade made pair.commit → IsMadeCommit run pair.commit
+        → ((told : Commitment) → ToldAtEnd run made told → TellsCommit run pair.commit told)
+        → BringsMade made (volume_on at.start (disk_before at stamps plain number)) pair.one
+        → ((front : List (Event Label)) (volume : Volume) → ReservedAt at.told made.number front
+        → Imagines at.start (brought_at named (past_from at.told.layout front (first_past at.told.moment))) volume
+        → IsPairThere run made volume
+        (map (commit_under named.pairs) (stamps_under named (past_from at.told.layout front (first_past at.told.moment)).done)) pair)
+        → IsPairOf at named one made
+    pair_so making commit made_so tells brings beside = record {
+      made_in = making;
+      commit = commit;
+      made_so = made_so;
+      tells = tells;
+      volume = volume_on at.start (disk_before at stamps plain number);
+      brings = brings;
+      there = beside;
+      is = record {
+        made_in = making;
+        commit = subst (λ s. CommitsMade made (commit_under named.pairs s)) (sym stamp_is) commit;
+        volume = volume_on at.start (disk_before at stamps plain number);
+        brings = subst (λ s. BringsMade made (volume_on at.start (disk_before at stamps plain number)) (bringing_under named.pairs s)) (sym stamp_is) brings;
+      };
+    }
+
     module _ (number_is : number ≡ made.number) where
       -- the place of the number, beside a volume that is imagined there
       module _ (front : List (Event Label)) (volume : Volume) (reserved : ReservedAt at.told made.number front)
@@ -189,19 +215,12 @@ module _ (D : Type 0) (at : MountEnd) (ends : MountEnds D at) where
       brings_look disk same =
           (λ i. with_parts (parts_there at stamps plain number (one_is cuts i)) (one_is cuts i)) ∙ ap (λ d. brought_to (volume_on at.start d)) same
 
-      of_commit : IsCommitOf made pair.commit
-      of_commit = subst (IsCommitOf made) (sym (commit_is cuts)) (record {
+      of_commit : CommitsMade made pair.commit
+      of_commit = subst (CommitsMade made) (sym (commit_is cuts)) (record {
         number_is = refl;
         holds = λ node. refl;
         last = λ node concerned. refl;
       })
-
-      there_look : (front : List (Event Label)) (volume : Volume) → ReservedAt at.told made.number front
-          → Imagines at.start (brought_at named (past_from at.told.layout front (first_past at.told.moment))) volume
-          → IsPairThere run made volume
-          (map (commit_under named.pairs) (stamps_under named (past_from at.told.layout front (first_past at.told.moment)).done)) pair
-      there_look front volume reserved imagines =
-          of_look core (commit_is cuts) (brings_look (on_disk volume) (disk_is look_number front volume reserved imagines))
 
       brings_made_look : BringsMade made (volume_on at.start (disk_before at stamps plain number)) pair.one
       brings_made_look = subst (BringsMade made (volume_on at.start (disk_before at stamps plain number)))
@@ -213,22 +232,12 @@ module _ (D : Type 0) (at : MountEnd) (ends : MountEnds D at) where
           })
 
       look_pair_is : IsPairOf at named one made
-      look_pair_is = record {
-        made_in = of_notes core;
-        commit = of_commit;
-        made_so = by_notes made.making core (commit_is cuts ∙ ap (commit_made run made.making core.plans) (sym of_commit.number_is));
-        tells = λ told tells. subst (λ c. TellsCommit run c told) (sym (commit_is cuts)) (told_look told tells.number_is tells.tells);
-        volume = volume_on at.start (disk_before at stamps plain number);
-        brings = brings_made_look;
-        there = there_look;
-        is = record {
-          made_in = of_notes core;
-          commit = subst (λ s. IsCommitOf made (commit_under named.pairs s)) (sym stamp_is) of_commit;
-          volume = volume_on at.start (disk_before at stamps plain number);
-          brings = subst (λ s. BringsMade made (volume_on at.start (disk_before at stamps plain number)) (bringing_under named.pairs s)) (sym stamp_is)
-              brings_made_look;
-        };
-      }
+      look_pair_is =
+          pair_so (of_notes core) of_commit
+          (by_notes made.making core (commit_is cuts ∙ ap (commit_made run made.making core.plans) (sym of_commit.number_is)))
+          (λ told tells. subst (λ c. TellsCommit run c told) (sym (commit_is cuts)) (told_look told tells.number_is tells.tells)) brings_made_look
+          (λ front volume reserved imagines.
+          of_look core (commit_is cuts) (brings_look (on_disk volume) (disk_is look_number front volume reserved imagines)))
         where
           told_look : (told : Commitment) → told.number ≡ made.number → TellsMaking run made.making told
               → TellsCommit run (commit_made run made.making core.plans made.number) told
@@ -250,26 +259,14 @@ module _ (D : Type 0) (at : MountEnd) (ends : MountEnds D at) where
       brings_file disk same =
           (λ i. with_parts (parts_there at stamps plain number (one_is cuts i)) (one_is cuts i)) ∙ ap (λ d. brought_own (volume_on at.start d)) same
 
-      of_commit_own : IsCommitOf made pair.commit
-      of_commit_own = subst (IsCommitOf made) (sym (commit_is cuts)) (record {
+      of_commit_own : CommitsMade made pair.commit
+      of_commit_own = subst (CommitsMade made) (sym (commit_is cuts)) (record {
         number_is = refl;
         holds = λ node. sym (concerns_own run made.making own node);
         last = λ node concerned.
             let number : node ≡ own.own.node = eqb-true node own.own.node (sym (concerns_own run made.making own node) ∙ concerned) in
             sym (ap last_of_seen (ap made.making.noted.pending number ∙ own.saw));
       })
-
-      there_own : (front : List (Event Label)) (volume : Volume) → ReservedAt at.told made.number front
-          → Imagines at.start (brought_at named (past_from at.told.layout front (first_past at.told.moment))) volume
-          → IsPairThere run made volume
-          (map (commit_under named.pairs) (stamps_under named (past_from at.told.layout front (first_past at.told.moment)).done)) pair
-      there_own front volume reserved imagines =
-          let imagined : IsImagined at.start (brought_at named (past_from at.told.layout front (first_past at.told.moment))) volume =
-          imagined own_number front volume reserved imagines in
-          of_own own
-          (commit_is cuts
-          ∙ (λ i. commit_of_own (sym imagined.first i) (sym imagined.history i) (cuts_are own_number front volume reserved imagines i) own.own made.number))
-          (brings_file (on_disk volume) (disk_is own_number front volume reserved imagines))
 
       file_there : is_directory (tree_after at.start.first at.start.history) own.own.node ≡ false
       file_there = subst (λ (tree : TreeState). is_directory tree own.own.node ≡ false) same_trees own.made.is_file
@@ -294,22 +291,16 @@ module _ (D : Type 0) (at : MountEnd) (ends : MountEnds D at) where
           })
 
       own_pair_is : IsPairOf at named one made
-      own_pair_is = record {
-        made_in = of_file own;
-        commit = of_commit_own;
-        made_so = made_so_own;
-        tells = λ told tells. subst (λ c. TellsCommit run c told) (sym (commit_is cuts)) (told_own told tells.number_is tells.tells);
-        volume = volume_on at.start (disk_before at stamps plain number);
-        brings = brings_made_own;
-        there = there_own;
-        is = record {
-          made_in = of_file own;
-          commit = subst (λ s. IsCommitOf made (commit_under named.pairs s)) (sym stamp_is) of_commit_own;
-          volume = volume_on at.start (disk_before at stamps plain number);
-          brings = subst (λ s. BringsMade made (volume_on at.start (disk_before at stamps plain number)) (bringing_under named.pairs s)) (sym stamp_is)
-              brings_made_own;
-        };
-      }
+      own_pair_is =
+          pair_so (of_file own) of_commit_own made_so_own
+          (λ told tells. subst (λ c. TellsCommit run c told) (sym (commit_is cuts)) (told_own told tells.number_is tells.tells)) brings_made_own
+          (λ front volume reserved imagines.
+          let there : IsImagined at.start (brought_at named (past_from at.told.layout front (first_past at.told.moment))) volume =
+          imagined own_number front volume reserved imagines in
+          of_own own
+          (commit_is cuts
+          ∙ (λ i. commit_of_own (sym there.first i) (sym there.history i) (cuts_are own_number front volume reserved imagines i) own.own made.number))
+          (brings_file (on_disk volume) (disk_is own_number front volume reserved imagines)))
         where
           told_own : (told : Commitment) → told.number ≡ made.number → TellsMaking run made.making told
               → TellsCommit run (commit_of_own at.start.first at.start.history cuts own.own made.number) told

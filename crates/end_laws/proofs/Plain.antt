@@ -12,7 +12,7 @@ use Rattle.book_laws.specs.Pairs.{Pair}
 use Rattle.reserve_laws.specs.Plans.{bringing_made}
 use Rattle.reserve_laws.specs.OwnFile.{bringing_own}
 use Rattle.note_laws.specs.Run.{TableRun}
-use Rattle.made_laws.specs.Made.{CoreMade, sources_of, CoreMaking, OwnMade, own_flush, making_flush, of_notes, of_file, MadeIn}
+use Rattle.made_laws.specs.Made.{CoreMade, sources_of, CoreMaking, OwnMade, own_flush, making_flush, of_notes, of_file, MadeEitherWay}
 use Rattle.made_laws.specs.Tells.{commit_made}
 use Rattle.made_laws.specs.Own.{commit_of_own}
 use Rattle.slot_laws.specs.Nodes.{no_numbers}
@@ -88,7 +88,7 @@ module _ (D : Type 0) (at : MountEnd) (ends : MountEnds D at) where
     one = plain_own at.start own made.grant;
   }
 
-  made_pair : (one : FlushTold) (made : FlushMade) → one.made ≡ Some made → making_flush made.making ≡ one.flush → MadeIn (run_at at) made.making
+  made_pair : (one : FlushTold) (made : FlushMade) → one.made ≡ Some made → making_flush made.making ≡ one.flush → MadeEitherWay (run_at at) made.making
       → (pair : (ℕ → ℕ) → Pair) × IsPlainFor at one pair
   made_pair one made is flush (of_notes core) = (
     look_pair made core,

@@ -16,13 +16,13 @@ use Rattle.mem_values.specs.declared.fact.Fact.{Fact}
 use Rattle.mem_values.specs.declared.fact.HeldNode.{HeldNode}
 use Rattle.note_laws.specs.Run.{TableRun}
 use Rattle.note_laws.proofs.Saws.{last_is_one}
-use Rattle.made_laws.specs.Made.{CoreMaking, is_concerned, old_of, MadeIn}
+use Rattle.made_laws.specs.Made.{CoreMaking, is_concerned, old_of, MadeEitherWay}
 use Rattle.made_laws.specs.Tells.{last_of_seen}
 use Rattle.end_laws.specs.Kept.{AreWellKept, IsWellKept}
 use Rattle.end_laws.specs.Runs.{AreToldWell, IsGivenWell, RunsFreeNothing, RunsKeepWell}
 use Rattle.end_laws.proofs.Frees.{mades_free_nothing}
 use Rattle.end_laws.proofs.Left.{commits_leave_well}
-use Rattle.end_laws.proofs.Making.{saw_old, sees_flushed, making_told}
+use Rattle.end_laws.proofs.Making.{saw_old, SeesFlushed, sees_flushed, making_told}
 
 -- what is told in the first part of a log is told in all of it
 in_whole : (at rest log : List (Event Fact)) → at ++ rest ≡ log → (told : Commitment) → IsOneOf (account_of at).commits told
@@ -39,25 +39,23 @@ module _ (run : TableRun) (layout : Layout) (given : IsGivenWell run) (all : Are
       → held_by told node ≡ Some held → (old : OldKept) → held.new ≡ Some old → IsWellKept old.kept
 
   -- What a core saw of a node: what was given, or what a commit wrote whose number it knew.
-  seen_well : (bound : ℕ) → AreWellBelow bound → (at rest : List (Event Fact)) → at ++ rest ≡ run.log → (node : ℕ) (value : Pending)
-      → ◌≡◌ {A = Flushed} (record { cut = value.cut.0; last = value.last; old = value.old })
-      (flushed_by run.given node (last_writer node (account_of at).commits))
-      → value.last < bound → (old : OldKept) → value.old ≡ Some old → IsWellKept old.kept
-  seen_well bound below at rest whole node value flushed few old is = by (last_writer node (account_of at).commits) refl
+  seen_well : (bound : ℕ) → AreWellBelow bound → (node : ℕ) (value : Pending) → SeesFlushed run node value → value.last < bound → (old : OldKept)
+      → value.old ≡ Some old → IsWellKept old.kept
+  seen_well bound below node value sees few old is = by (last_writer node (account_of sees.at).commits) refl
     where
-      by : (o : Option (Commitment × HeldNode)) → last_writer node (account_of at).commits ≡ o → IsWellKept old.kept
+      by : (o : Option (Commitment × HeldNode)) → last_writer node (account_of sees.at).commits ≡ o → IsWellKept old.kept
       by None none =
-          let same = flushed ∙ ap (flushed_by run.given node) none in
+          let same = sees.flushed ∙ ap (flushed_by run.given node) none in
           given node old (sym (ap (λ (f : Flushed). f.old) same) ∙ is)
       by (Some writer) one =
-          let same = flushed ∙ ap (flushed_by run.given node) one in
-          let there = last_is_one node (account_of at).commits writer one in
+          let same = sees.flushed ∙ ap (flushed_by run.given node) one in
+          let there = last_is_one node (account_of sees.at).commits writer one in
           let number : value.last ≡ writer.0.number = ap (λ (f : Flushed). f.last) same in
-          below writer.0 (in_whole at rest run.log whole writer.0 there.0) (omega (arith, number, few)) node writer.1 there.1 old
+          below writer.0 (in_whole sees.at sees.rest run.log sees.whole writer.0 there.0) (omega (arith, number, few)) node writer.1 there.1 old
           (sym (ap (λ (f : Flushed). f.old) same) ∙ is)
 
   -- so what a core made something of is well kept, where it knew of commits below a bound
-  made_well : (bound : ℕ) → AreWellBelow bound → (making : CoreMaking) → MadeIn run making
+  made_well : (bound : ℕ) → AreWellBelow bound → (making : CoreMaking) → MadeEitherWay run making
       → (entry : OldEntry) → Contains making.old entry → last_of_seen (making.noted.pending entry.node.0) < bound → IsWellKept entry.old.kept
   made_well bound below making made entry there few = by (making.noted.pending entry.node.0) refl
     where
@@ -68,7 +66,7 @@ module _ (run : TableRun) (layout : Layout) (given : IsGivenWell run) (all : Are
       by None none = absurd (none_some (sym (ap old_of none) ∙ one.1))
       by (Some value) saw =
           let sees = sees_flushed run making made entry.node.0 value one.0 saw in
-          seen_well bound below sees.at sees.rest sees.whole entry.node.0 value sees.flushed
+          seen_well bound below entry.node.0 value sees
           (subst (λ (o : Option Pending). last_of_seen o < bound) saw few) entry.old (sym (ap old_of saw) ∙ one.1)
 
   all_below : (bound : ℕ) → AreWellBelow bound
@@ -84,7 +82,7 @@ module _ (run : TableRun) (layout : Layout) (given : IsGivenWell run) (all : Are
       made_well bound (all_below bound) made.making core entry kept (omega (arith, less, number, low)) in
       commits_leave_well run layout made core well one.granted (entry_keyed (node, old)) ((one.tells.wrote node held holds old).0 is)
 
-  pub run_well : (making : CoreMaking) → MadeIn run making → AreWellKept making.old
+  pub run_well : (making : CoreMaking) → MadeEitherWay run making → AreWellKept making.old
   run_well making made entry there =
       let bound = suc (last_of_seen (making.noted.pending entry.node.0)) in
       made_well bound (all_below bound) making made entry there (omega arith)

@@ -224,7 +224,8 @@ module _ (D : Type 0) (at : MountEnd) (named : Numbered) (ends : MountEnds D at)
             cuts_are_left commits_done node (is_some (get volume.first.nodes node)) (record { stamp = cut_of volume.cut node; inode = volume.inodes node })
             volume_is.standing.numbered (volume_is.standing.left node) i
 
-        commit_is : commit_under named.pairs own_stamp ≡ own_commit (run_with volume commits_done) (own_flush own) (making_own volume own of_one.made.number).numbers
+        commit_is : commit_under named.pairs own_stamp
+            ≡ own_commit (run_with volume commits_done) (own_flush own) (making_own volume own of_one.made.number).numbers
         commit_is =
             commits
             ∙ (ap (λ cuts. commit_of_own volume.first volume.history cuts own of_one.made.number) cuts_same

@@ -10,13 +10,13 @@ use Rattle.slot_laws.specs.Nodes.{no_numbers}
 use Rattle.close_laws.specs.Maps.{Numbered, commit_numbered, bringing_of}
 use Rattle.close_laws.specs.PenLabels.{TurnFits}
 use Rattle.flush_agrees.specs.Made.{FlushMade, GrantsNeed, TurnMade, change_of}
-use Rattle.end_laws.specs.Pairs.{IsCommitOf, BringsMade}
-use Rattle.made_laws.specs.Made.{MadeIn}
+use Rattle.end_laws.specs.Pairs.{CommitsMade, BringsMade}
+use Rattle.made_laws.specs.Made.{MadeEitherWay}
 
 -- What was made for a number is what commits bring under its stamp: the commit as its core made it, and the plan with its grant, in some volume.
 pub record IsBroughtAs (run : TableRun) (named : Numbered) (made : FlushMade) : Type 0 where
-  pub made_in : MadeIn run made.making
-  pub commit : IsCommitOf made (commit_numbered named made.number)
+  pub made_in : MadeEitherWay run made.making
+  pub commit : CommitsMade made (commit_numbered named made.number)
   pub volume : Volume
   pub brings : BringsMade made volume (bringing_of named made.number)
 

@@ -8,11 +8,11 @@ use Rattle.note_laws.specs.Run.{TableRun}
 use Rattle.flush_agrees.specs.Made.{FlushMade, GrantsNeed, change_of}
 use Rattle.end_laws.specs.Fitting.{FreesNothing}
 use Rattle.end_laws.specs.Kept.{AreWellKept}
-use Rattle.made_laws.specs.Made.{MadeIn}
+use Rattle.made_laws.specs.Made.{MadeEitherWay}
 
 -- What a core made of nodes that are well kept gives nothing up, where it has no record to write.
 abbrev pub MadesFreeNothing : Type 0
-MadesFreeNothing = (run : TableRun) (made : FlushMade) → MadeIn run made.making → AreWellKept made.making.old → FreesNothing made
+MadesFreeNothing = (run : TableRun) (made : FlushMade) → MadeEitherWay run made.making → AreWellKept made.making.old → FreesNothing made
 
 -- Each mount keeps its nodes well.
 abbrev pub MountsKeepWell : Type 0
@@ -26,5 +26,5 @@ pub record WasGranted (layout : Layout) (made : FlushMade) : Type 0 where
 
 -- Then it leaves its nodes well kept, where they were.
 abbrev pub CommitsLeaveWell : Type 0
-CommitsLeaveWell = (run : TableRun) (layout : Layout) (made : FlushMade) → MadeIn run made.making → AreWellKept made.making.old → WasGranted layout made
+CommitsLeaveWell = (run : TableRun) (layout : Layout) (made : FlushMade) → MadeEitherWay run made.making → AreWellKept made.making.old → WasGranted layout made
     → AreWellKept (after_commit (change_of made) made.grant)

@@ -13,7 +13,7 @@ use Rattle.turn_ties.specs.Plans.{image_held}
 use Rattle.book_laws.specs.Along.{LackTold}
 use Rattle.stamp_table.specs.declared.event.Event.{Event}
 use Rattle.stamp_table.specs.declared.event.Event.TheVariants.{Told}
-use Rattle.made_laws.specs.Made.{CoreMaking, making_flush, MadeIn}
+use Rattle.made_laws.specs.Made.{CoreMaking, making_flush, MadeEitherWay}
 use Rattle.slot_laws.specs.declared.label.Seen.{Seen}
 use Rattle.slot_laws.specs.declared.label.Label.{Label}
 use Rattle.slot_laws.specs.declared.label.Label.TheVariants as label
@@ -31,7 +31,7 @@ use Rattle.end_laws.specs.Recorded.{LacksAreTold}
 -- the plan needs.
 pub record LackMade (at : MountEnd) (turn : Turn) (told : LackTold) : Type 0 where
   pub making : CoreMaking
-  pub made_in : MadeIn (run_at at) making
+  pub made_in : MadeEitherWay (run_at at) making
   pub flush_is : making_flush making ≡ flush_at turn
   pub seen : List Seen
   pub sees : SeesConcerned making seen

@@ -34,8 +34,8 @@ use Rattle.flush_agrees.specs.Agreement.{CoresAgree, FlushTold, run_to}
 use Rattle.flush_agrees.specs.Closing.{AgreeAtEnd, HasStamps, MountLogs, ReachesEnd, ToldAtEnd}
 use Rattle.flush_agrees.specs.Made.{FlushMade}
 use Rattle.end_laws.specs.Fitting.{FreesNothing, IsBroughtAs}
-use Rattle.end_laws.specs.Pairs.{IsCommitOf, BringsMade, IsPairThere}
-use Rattle.made_laws.specs.Made.{MadeIn}
+use Rattle.end_laws.specs.Pairs.{CommitsMade, BringsMade, IsPairThere}
+use Rattle.made_laws.specs.Made.{MadeEitherWay}
 
 -- A mount as it ends: its table with the logs that it leaves, the volume that it began with and what memory kept of that, what was told at its box, and the
 -- fsyncs of each core.
@@ -110,8 +110,8 @@ pub record ReservedAt (told : Telling) (number : ℕ) (front : List (Event Label
 -- The pair under an fsync's stamp is of what its core made: so are its commit, which is told wherever that is told, and what it brings; and beside each
 -- volume that is imagined where its number was reserved it is the pair of that there.
 pub record IsPairOf (at : MountEnd) (named : Numbered) (one : FlushTold) (made : FlushMade) : Type 0 where
-  pub made_in : MadeIn (run_at at) made.making
-  pub commit : IsCommitOf made (commit_under named.pairs one.flush.stamp)
+  pub made_in : MadeEitherWay (run_at at) made.making
+  pub commit : CommitsMade made (commit_under named.pairs one.flush.stamp)
   pub made_so : IsMadeCommit (run_at at) (commit_under named.pairs one.flush.stamp)
   pub tells : (told : Commitment) → ToldAtEnd (run_at at) made told → TellsCommit (run_at at) (commit_under named.pairs one.flush.stamp) told
   pub volume : Volume

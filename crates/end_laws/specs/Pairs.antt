@@ -17,7 +17,7 @@ use Rattle.flush_agrees.specs.Made.{FlushMade, change_of}
 use Rattle.end_laws.specs.Cuts.{cuts_left, lift_of}
 
 -- A commit is of what a core made, under its number: it holds exactly the nodes that the fsync concerns, each with the last commit that the core knew of.
-pub record IsCommitOf (made : FlushMade) (commit : CoreCommit) : Type 0 where
+pub record CommitsMade (made : FlushMade) (commit : CoreCommit) : Type 0 where
   pub number_is : commit.number ≡ made.number
   pub holds : (node : ℕ) → commit.holds node ≡ is_concerned made.making node
   pub last : (node : ℕ) → is_concerned made.making node ≡ true → commit.last node ≡ last_of_seen (made.making.noted.pending node)

@@ -6,7 +6,7 @@ use Rattle.cut_laws.specs.Rules.{IsOneOf}
 use Rattle.stamp_table.specs.declared.event.Event.{Event}
 use Rattle.mem_values.specs.Account.{Commitment, account_of}
 use Rattle.note_laws.specs.Run.{TableRun}
-use Rattle.made_laws.specs.Made.{CoreMaking, is_concerned, MadeIn}
+use Rattle.made_laws.specs.Made.{CoreMaking, is_concerned, MadeEitherWay}
 use Rattle.made_laws.specs.Tells.{last_of_seen}
 use Rattle.slot_laws.specs.declared.label.Label.{Label}
 use Rattle.slot_laws.specs.Labels.{first_past}
@@ -39,12 +39,12 @@ AreToldWell run layout = (told : Commitment) → IsOneOf (account_of run.log).co
 
 -- Then all that a core made something of is well kept.
 abbrev pub RunsKeepWell : Type 0
-RunsKeepWell = (run : TableRun) (layout : Layout) (making : CoreMaking) → IsGivenWell run → AreToldWell run layout → MadeIn run making
+RunsKeepWell = (run : TableRun) (layout : Layout) (making : CoreMaking) → IsGivenWell run → AreToldWell run layout → MadeEitherWay run making
     → AreWellKept making.old
 
 -- So what was made gives nothing up, where it has no record to write.
 abbrev pub RunsFreeNothing : Type 0
-RunsFreeNothing = (run : TableRun) (layout : Layout) (made : FlushMade) → IsGivenWell run → AreToldWell run layout → MadeIn run made.making
+RunsFreeNothing = (run : TableRun) (layout : Layout) (made : FlushMade) → IsGivenWell run → AreToldWell run layout → MadeEitherWay run made.making
     → FreesNothing made
 
 -- Where a number was reserved for what was made, by the rules of labels, it is above those that its core knew of.

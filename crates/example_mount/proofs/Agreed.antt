@@ -51,8 +51,8 @@ use Rattle.flush_agrees.specs.Closing.{ReachesEnd}
 use Rattle.flush_agrees.specs.Made.{FlushMade, GrantsNeed, SeesConcerned, TurnMade, LeavesOfNode}
 use Rattle.end_laws.specs.Reaches.{CoreReaches}
 use Rattle.example_mount.specs.Box.{TURN_BY_TURN, ends_at, flush_turn, pen_at_end}
-use Rattle.example_mount.specs.Mount.{flush_told, made_of, two_mount}
-use Rattle.example_mount.specs.Making.{making_of, notes_of, pending_seen}
+use Rattle.example_mount.specs.Mount.{flush_told, flush_made, two_mount}
+use Rattle.example_mount.specs.Making.{core_making, notes_of, pending_seen}
 use Rattle.example_mount.specs.Table.{TWO_TABLE, hand_at_end, table_log, held_by_flush}
 use Rattle.example_mount.proofs.Made.{made_by_notes, told_by_notes}
 use Rattle.example_mount.proofs.Labels.{labels_may}
@@ -61,11 +61,11 @@ use Rattle.example_mount.proofs.Run.{CALLS, IsUnderWay, commitment_of, table_run
 -- what a core told of its commit it wrote of its node as the plan leaves it
 module _ (core : ℕ) (f : Flushing) where
   leaves : after_commit (change_planned (commit_plan f)) NO_GRANT ≡ entry_at f.node ∷ [] → (node : ℕ) (held : HeldNode)
-      → held_by (commitment_of core f) node ≡ Some held → LeavesOfNode (made_of core f) node held.new
+      → held_by (commitment_of core f) node ≡ Some held → LeavesOfNode (flush_made core f) node held.new
   leaves left node held is = elim (cases_eq f.node node) [
     | inl same ↦
         let own : held_by_flush f ≡ held = some_same (sym (holds_own core f) ∙ ap (held_by (commitment_of core f)) same ∙ is) in
-        subst (λ n. LeavesOfNode (made_of core f) n held.new) same (subst (λ (h : HeldNode). LeavesOfNode (made_of core f) f.node h.new) own own_leaves)
+        subst (λ n. LeavesOfNode (flush_made core f) n held.new) same (subst (λ (h : HeldNode). LeavesOfNode (flush_made core f) f.node h.new) own own_leaves)
     | inr other ↦
         absurd (none_some (sym (ap (λ b. cond b (Some (held_by_flush f)) (let o : Option HeldNode = None in o)) (ne_eqb f.node node other)) ∙ is))
   ]
@@ -74,7 +74,7 @@ module _ (core : ℕ) (f : Flushing) where
       in_one old (zero, low, is) = ap (λ (e : OldEntry). Some e.old) is
       in_one old (suc k, low, is) = absurd (omega (arith, low))
 
-      own_leaves : LeavesOfNode (made_of core f) f.node (Some (entry_at f.node).old)
+      own_leaves : LeavesOfNode (flush_made core f) f.node (Some (entry_at f.node).old)
       own_leaves old = (
         λ is. subst (λ (l : List OldEntry). Contains l (entry_keyed (f.node, old))) (sym left)
             (0, omega arith, λ i. record { node = record { 0 = f.node }; old = some_same is i }),
@@ -111,7 +111,7 @@ module _ (D : Type 0) (alloc : Global) (core : ℕ) (f : Flushing) (now : ℕ) (
   one = flush_told core f now
 
   abbrev made : FlushMade
-  made = made_of core f
+  made = flush_made core f
 
   turn_is : (did : TurnAct) → IsTurnOf (answered_entry core f now) (record { 0 = f.node }) (flush_turn core f now did)
   turn_is did = record { core_is = refl; node_is = refl; stamp_is = refl }
@@ -133,14 +133,14 @@ module _ (D : Type 0) (alloc : Global) (core : ℕ) (f : Flushing) (now : ℕ) (
       wrong faults e = cc
 
   -- it asked for its one node, of which no commit was known
-  sees : SeesConcerned (making_of core f) (seen_one f.node 0).items
+  sees : SeesConcerned (core_making core f) (seen_one f.node 0).items
   sees = record { holds = holds; last = known }
     where
       by : (b : Bool) → b ≡ is_some (option_map (λ (one : Seen). one.last) (cond b (Some (record { node = record { 0 = f.node }; last = 0 })) None))
       by true = refl
       by false = refl
 
-      holds : (node : ℕ) → is_concerned (making_of core f) node ≡ is_some (last_seen (seen_one f.node 0).items node)
+      holds : (node : ℕ) → is_concerned (core_making core f) node ≡ is_some (last_seen (seen_one f.node 0).items node)
       holds node = or_false (nat_eq f.node node) ∙ by (nat_eq f.node node)
 
       none_last : (b : Bool) → last_of_seen (cond b (Some (pending_seen f)) None) ≡ 0

@@ -30,7 +30,7 @@ use Rattle.mem_values.specs.declared.fact.HeldNode.{HeldNode}
 use Rattle.note_laws.specs.Merged.{AreMergedFor}
 use Rattle.note_laws.specs.Notes.{HasNotedAll, IsNotedPart}
 use Rattle.note_laws.specs.Run.{IsToldIn, TellsCommit, WroteNode}
-use Rattle.made_laws.specs.Made.{CoreMade, HasGathered, HasSeenOld, HasMadeFile, MadeIn, of_notes, is_concerned, old_of}
+use Rattle.made_laws.specs.Made.{CoreMade, HasGathered, HasSeenOld, HasMadeFile, MadeEitherWay, of_notes, is_concerned, old_of}
 use Rattle.made_laws.specs.Own.{TellsMaking, told_notes}
 use Rattle.made_laws.specs.Tells.{ToldMade, commit_made}
 use Rattle.example_laws.specs.Fsyncs.{Flushing, entry_at}
@@ -38,7 +38,7 @@ use Rattle.disk_change.specs.Nodes.{enter_node}
 use Rattle.disk_change.specs.declared.enter.Enter.{Enter}
 use Rattle.example_laws.proofs.Telling.{core_tells, enters_none}
 use Rattle.example_laws.proofs.Tree.{alive_there}
-use Rattle.example_mount.specs.Making.{QUIET_LOG, making_of, notes_of, pending_seen}
+use Rattle.example_mount.specs.Making.{QUIET_LOG, core_making, notes_of, pending_seen}
 use Rattle.example_mount.specs.Table.{BOTH_CALLED, OTHER_FLUSH, OWN_FLUSH, TWO_TABLE, held_by_flush, table_log, told_of_flush, two_run}
 use Rattle.example_mount.proofs.Run.{CALLS, IsUnderWay, commitment_of, holds_own, none_born, same_tree}
 
@@ -74,7 +74,7 @@ module _ (alloc : Global) (core : ℕ) (f : Flushing) (way : IsUnderWay core f) 
   listed : (node : ℕ) → node ≡ f.node → is_listed (f.node ∷ []) node ≡ true
   listed node same = ap (λ b. b || false) (eq-eqb f.node node (sym same))
 
-  pub own_node : (node : ℕ) → is_concerned (making_of core f) node ≡ true → node ≡ f.node
+  pub own_node : (node : ℕ) → is_concerned (core_making core f) node ≡ true → node ≡ f.node
   own_node node is = sym (eqb-true f.node node (sym (or_false (nat_eq f.node node)) ∙ is))
 
   saw_own : (node : ℕ) → node ≡ f.node → (notes_of core f).pending node ≡ Some (pending_seen f)
@@ -128,7 +128,7 @@ module _ (alloc : Global) (core : ℕ) (f : Flushing) (way : IsUnderWay core f) 
     };
   }
 
-  gathers : HasGathered (making_of core f)
+  gathers : HasGathered (core_making core f)
   gathers = record {
     orderly = (core_tells f way.told).gathered.orderly;
     merged = merged;
@@ -146,20 +146,20 @@ module _ (alloc : Global) (core : ℕ) (f : Flushing) (way : IsUnderWay core f) 
     root = λ concerned. concerned;
   }
 
-  old_seen : HasSeenOld (making_of core f)
+  old_seen : HasSeenOld (core_making core f)
   old_seen = record {
     ascend = λ i j d less within. absurd (omega (arith, less, within));
     each = λ node kept. (there node kept, back node kept);
   }
     where
       there : (node : ℕ) (kept : OldKept) → Contains (entry_at f.node ∷ []) (entry_keyed (node, kept))
-          → (is_concerned (making_of core f) node ≡ true) × (old_of ((notes_of core f).pending node) ≡ Some kept)
+          → (is_concerned (core_making core f) node ≡ true) × (old_of ((notes_of core f).pending node) ≡ Some kept)
       there node kept (zero, low, is) =
-          subst (λ (e : OldEntry). (is_concerned (making_of core f) e.node.0 ≡ true) × (old_of ((notes_of core f).pending e.node.0) ≡ Some e.old)) is
+          subst (λ (e : OldEntry). (is_concerned (core_making core f) e.node.0 ≡ true) × (old_of ((notes_of core f).pending e.node.0) ≡ Some e.old)) is
           (listed f.node refl, ap old_of (saw_own f.node refl))
       there node kept (suc k, low, is) = absurd (omega (arith, low))
 
-      back : (node : ℕ) (kept : OldKept) → (is_concerned (making_of core f) node ≡ true) × (old_of ((notes_of core f).pending node) ≡ Some kept)
+      back : (node : ℕ) (kept : OldKept) → (is_concerned (core_making core f) node ≡ true) × (old_of ((notes_of core f).pending node) ≡ Some kept)
           → Contains (entry_at f.node ∷ []) (entry_keyed (node, kept))
       back node kept seen =
           let same = own_node node seen.0 in
@@ -169,7 +169,7 @@ module _ (alloc : Global) (core : ℕ) (f : Flushing) (way : IsUnderWay core f) 
   directory_after : is_directory (tree_after TWO_CORES CALLS) f.node ≡ true
   directory_after = subst (λ (tree : TreeState). is_directory tree f.node ≡ true) (sym same_tree) way.told.directory
 
-  pub made_in : CoreMade (two_run alloc) (making_of core f)
+  pub made_in : CoreMade (two_run alloc) (core_making core f)
   made_in = record {
     some_core = omega arith;
     notes = notes;
@@ -181,7 +181,7 @@ module _ (alloc : Global) (core : ℕ) (f : Flushing) (way : IsUnderWay core f) 
   }
 
   -- so it made it by its notes
-  pub made_by_notes : MadeIn (two_run alloc) (making_of core f)
+  pub made_by_notes : MadeEitherWay (two_run alloc) (core_making core f)
   made_by_notes = of_notes made_in
 
   no_enter : made_in.plans.enter ≡ []
@@ -198,7 +198,7 @@ module _ (alloc : Global) (core : ℕ) (f : Flushing) (way : IsUnderWay core f) 
           absurd (none_some (sym (ap (λ b. cond b (Some (held_by_flush f)) (let o : Option HeldNode = None in o)) (ne_eqb f.node node other)) ∙ is))
     ]
 
-    wrote_own : WroteNode (given_by TWO_TABLE) (account_of there.before) (commit_made (two_run alloc) (making_of core f) made_in.plans f.number) f.node
+    wrote_own : WroteNode (given_by TWO_TABLE) (account_of there.before) (commit_made (two_run alloc) (core_making core f) made_in.plans f.number) f.node
         (held_by_flush f)
     wrote_own = record {
       saw = ap (λ o. (flushed_by (given_by TWO_TABLE) f.node o).cut) none;
@@ -207,7 +207,7 @@ module _ (alloc : Global) (core : ℕ) (f : Flushing) (way : IsUnderWay core f) 
       inode = sym (ap (λ (l : List Enter). if is_listed (map enter_node l) f.node then true else is_listed (f.node ∷ []) f.node) no_enter ∙ listed f.node refl);
     }
 
-    tells : TellsCommit (two_run alloc) (commit_made (two_run alloc) (making_of core f) made_in.plans f.number) (commitment_of core f)
+    tells : TellsCommit (two_run alloc) (commit_made (two_run alloc) (core_making core f) made_in.plans f.number) (commitment_of core f)
     tells = record {
       there = there;
       number = refl;
@@ -219,13 +219,14 @@ module _ (alloc : Global) (core : ℕ) (f : Flushing) (way : IsUnderWay core f) 
       );
       wrote = λ node held is.
           let own = held_own node held is in
-          subst (λ n. WroteNode (given_by TWO_TABLE) (account_of there.before) (commit_made (two_run alloc) (making_of core f) made_in.plans f.number) n held)
+          subst (λ n. WroteNode (given_by TWO_TABLE) (account_of there.before) (commit_made (two_run alloc) (core_making core f) made_in.plans f.number) n held)
           (sym own.0)
-          (subst (WroteNode (given_by TWO_TABLE) (account_of there.before) (commit_made (two_run alloc) (making_of core f) made_in.plans f.number) f.node) own.1
+          (subst (WroteNode (given_by TWO_TABLE) (account_of there.before) (commit_made (two_run alloc) (core_making core f) made_in.plans f.number)
+          f.node) own.1
           wrote_own);
     }
       where
-        by_cases : (node : ℕ) → IsSome (held_by (commitment_of core f) node) → is_concerned (making_of core f) node ≡ true
+        by_cases : (node : ℕ) → IsSome (held_by (commitment_of core f) node) → is_concerned (core_making core f) node ≡ true
         by_cases node held = elim (cases_eq f.node node) [
           | inl same ↦ listed node (sym same)
           | inr other ↦
@@ -233,8 +234,8 @@ module _ (alloc : Global) (core : ℕ) (f : Flushing) (way : IsUnderWay core f) 
               (sym (ap (λ b. is_some (cond b (Some (held_by_flush f)) (let o : Option HeldNode = None in o))) (ne_eqb f.node node other)) ∙ held))
         ]
 
-    pub told_made : ToldMade (two_run alloc) (making_of core f) (commitment_of core f)
+    pub told_made : ToldMade (two_run alloc) (core_making core f) (commitment_of core f)
     told_made = record { made = made_in; tells = tells }
 
-    pub told_by_notes : TellsMaking (two_run alloc) (making_of core f) (commitment_of core f)
+    pub told_by_notes : TellsMaking (two_run alloc) (core_making core f) (commitment_of core f)
     told_by_notes = told_notes told_made

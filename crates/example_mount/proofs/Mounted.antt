@@ -44,7 +44,7 @@ use Rattle.end_laws.proofs.Unwritten.{nothing_in}
 use Rattle.example_mount.specs.Box.{OTHER_ENDS, OWN_ENDS, TURN_BY_TURN}
 use Rattle.example_mount.specs.Laws.{IsTwoMount, SurvivesAtRest, TwoCoresMount}
 use Rattle.example_mount.specs.Table.{BOTH_CALLED, OTHER_FLUSH, OWN_FLUSH, TWO_TABLE, table_log, told_of_flush, two_run}
-use Rattle.example_mount.specs.Mount.{flush_told, made_of, two_mount}
+use Rattle.example_mount.specs.Mount.{flush_told, flush_made, two_mount}
 use Rattle.example_mount.proofs.Agreed.{IsInMount, core_reaches}
 use Rattle.example_mount.proofs.Labels.{cores_rest, labels_go, labels_own, may_other, may_own}
 use Rattle.example_mount.proofs.Made.{made_by_notes}
@@ -124,11 +124,12 @@ module _ (D : Type 0) (alloc : Global) where
   each (suc (suc core)) fsyncs is = absurd (none_some is)
 
   -- what was made gives nothing up
-  own_frees : FreesNothing (made_of 0 OWN_FLUSH)
-  own_frees = mades_free_nothing (two_run alloc) (made_of 0 OWN_FLUSH) (made_by_notes alloc 0 OWN_FLUSH own_way) (well 1 KEPT_ONE kept_one (λ e. cc) refl)
+  own_frees : FreesNothing (flush_made 0 OWN_FLUSH)
+  own_frees = mades_free_nothing (two_run alloc) (flush_made 0 OWN_FLUSH) (made_by_notes alloc 0 OWN_FLUSH own_way) (well 1 KEPT_ONE kept_one (λ e. cc) refl)
 
-  other_frees : FreesNothing (made_of 1 OTHER_FLUSH)
-  other_frees = mades_free_nothing (two_run alloc) (made_of 1 OTHER_FLUSH) (made_by_notes alloc 1 OTHER_FLUSH other_way) (well 0 KEPT_ROOT kept_root (λ e. cc) refl)
+  other_frees : FreesNothing (flush_made 1 OTHER_FLUSH)
+  other_frees = mades_free_nothing (two_run alloc) (flush_made 1 OTHER_FLUSH) (made_by_notes alloc 1 OTHER_FLUSH other_way)
+      (well 0 KEPT_ROOT kept_root (λ e. cc) refl)
 
   frees : (one : FlushTold) (made : FlushMade) → IsFsyncAt (two_mount alloc) one → one.made ≡ Some made → FreesNothing made
   frees one made at is = in_list at.core at.fsyncs at.there at.among
@@ -141,9 +142,10 @@ module _ (D : Type 0) (alloc : Global) where
 
       in_list : (core : ℕ) (fsyncs : List FlushTold) → slice_get (two_mount alloc).fsyncs core ≡ Some fsyncs → IsOneOf fsyncs one → FreesNothing made
       in_list zero fsyncs there among =
-          of_one (flush_told 0 OWN_FLUSH 8) (made_of 0 OWN_FLUSH) refl own_frees (subst (λ (l : List FlushTold). IsOneOf l one) (sym (some_same there)) among)
+          of_one (flush_told 0 OWN_FLUSH 8) (flush_made 0 OWN_FLUSH) refl own_frees
+          (subst (λ (l : List FlushTold). IsOneOf l one) (sym (some_same there)) among)
       in_list (suc zero) fsyncs there among =
-          of_one (flush_told 1 OTHER_FLUSH 5) (made_of 1 OTHER_FLUSH) refl other_frees
+          of_one (flush_told 1 OTHER_FLUSH 5) (flush_made 1 OTHER_FLUSH) refl other_frees
           (subst (λ (l : List FlushTold). IsOneOf l one) (sym (some_same there)) among)
       in_list (suc (suc core)) fsyncs there among = absurd (none_some there)
 

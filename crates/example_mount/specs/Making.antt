@@ -27,8 +27,8 @@ notes_of core flushing = record {
 }
 
 -- so it gathers no change, and its plan changes nothing
-abbrev pub making_of : ℕ → Flushing → CoreMaking
-making_of core flushing = record {
+abbrev pub core_making : ℕ → Flushing → CoreMaking
+core_making core flushing = record {
   noted = notes_of core flushing;
   gathered = gathered_by flushing;
   concern = concern_by flushing;

@@ -7,20 +7,20 @@ use Rattle.example_laws.specs.Image.{TWO_DIRECTORIES}
 use Rattle.flush_agrees.specs.Made.{FlushMade}
 use Rattle.flush_agrees.specs.Agreement.{FlushTold}
 use Rattle.end_laws.specs.Mount.{MountEnd}
-use Rattle.example_mount.specs.Making.{making_of}
+use Rattle.example_mount.specs.Making.{core_making}
 use Rattle.example_mount.specs.Box.{ends_at, TURN_BY_TURN}
 use Rattle.example_mount.specs.Table.{TWO_TABLE, table_log, OWN_FLUSH, OTHER_FLUSH}
 
 -- with the number of its commit, and nothing granted
-abbrev pub made_of : ℕ → Flushing → FlushMade
-made_of core flushing = record { making = making_of core flushing; number = flushing.number; grant = NO_GRANT }
+abbrev pub flush_made : ℕ → Flushing → FlushMade
+flush_made core flushing = record { making = core_making core flushing; number = flushing.number; grant = NO_GRANT }
 
 -- an fsync as core and pen agree on it
 abbrev pub flush_told : ℕ → Flushing → ℕ → FlushTold
 flush_told core flushing now = record {
   flush = record { node = flushing.node; stamp = flushing.stamp };
   turns = ends_at core flushing now ∷ [];
-  made = Some (made_of core flushing);
+  made = Some (flush_made core flushing);
 }
 
 -- the mount as it ends

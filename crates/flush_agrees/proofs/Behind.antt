@@ -135,7 +135,8 @@ differ_more (first ∷ fsyncs) one once apart = (
   differ_more fsyncs one once.1 (λ other among. apart other (inr among)),
 )
 
-module _ {D : Type 0} (at : FlushPlace D) (given : Reply) (fsyncs : List FlushTold) (goes : PenGoes at.pen at.done) (stamped : StampedFsync) (waiting : FileHand)
+module _ {D : Type 0} (at : FlushPlace D) (given : Reply) (fsyncs : List FlushTold) (goes : PenGoes at.pen at.done) (stamped : StampedFsync)
+    (waiting : FileHand)
     (stamps : StampsFsync at.t at.node stamped.stamp.0 at.before waiting)
     (is : ServedBehind at.t (record { node = at.node; stamp = stamped.stamp }) waiting at.after at.pen at.done given)
     (agree : CoresAgree at.t at.before at.pen fsyncs) where

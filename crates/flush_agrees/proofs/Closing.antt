@@ -2,7 +2,6 @@
 use mathlib.Core.List.{IsPrefix}
 use Rattle.std.proofs.Common.{◌∷◌, ◌||◌, ◌≡◌, ◌∙◌, ◌++◌, ◌≢◌, ◌⊎◌, Bool, true, false, List, [], map, inl, ap, inr, refl, sym, flat_map, filter, cond, subst, Some, ℕ, append_assoc}
 use Rattle.std.proofs.lemmas.Grind.{flat_map-append}
-use Rattle.sfs_base.specs.declared.numbers.SpaceKind.{SpaceKind}
 use Rattle.sfs_base.specs.declared.numbers.NodeId.{NodeId}
 use Rattle.sfs_base.specs.declared.numbers.Stamp.{Stamp}
 use Rattle.sfs_base.proofs.BasicTruth.{true_not_false}
@@ -19,6 +18,7 @@ use Rattle.cut_laws.proofs.Listed.{from_map, to_filter, to_map}
 use Rattle.turn_laws.specs.Ways.{no_turn, lacked, returned, committed, at_once, doubted, opened_doubted, halted, granted_halted, begun_halted, opened_halted, Way, acts_of_way, answer_of, GoesWay}
 use Rattle.turn_laws.specs.Books.{flush_at}
 use Rattle.merge_laws.specs.Pens.{FsyncTurns, FsyncsDiffer, HasTurnsFor, PenAgrees}
+use Rattle.book_laws.specs.Along.{LackTold}
 use Rattle.stamp_table.specs.declared.event.Event.TheVariants.{Told}
 use Rattle.stamp_table.specs.declared.event.Event.{Event}
 use Rattle.stamp_table.proofs.Keeps.{begins_on, begins_itself}
@@ -26,7 +26,7 @@ use Rattle.mem_values.specs.Start.{FileState, FileHand, given_by}
 use Rattle.mem_values.specs.declared.fact.Fact.{Fact}
 use Rattle.mem_values.specs.Account.{Commitment}
 use Rattle.note_laws.specs.Run.{TableRun, IsTableRun}
-use Rattle.made_laws.specs.Made.{run_on, CoreMaking, MadeIn}
+use Rattle.made_laws.specs.Made.{run_on, CoreMaking, MadeEitherWay}
 use Rattle.made_laws.specs.Own.{TellsMaking}
 use Rattle.made_laws.proofs.Later.{makings_go_on}
 use Rattle.made_laws.proofs.Owns.{tellings_go_on}
@@ -104,14 +104,12 @@ short_among (one ∷ turns) turn (inr among) is = either (tells_short one.act) (
 
 -- A way that tells a shortage tells nothing else, and is answered so.
 record TellsOneShort (way : Way) : Type 0 where
-  kind : SpaceKind
-  need : ℕ
-  free : ℕ
-  acts : acts_of_way way ≡ act.Short kind need free ∷ []
-  answered : answer_of way ≡ reply.NoSpace kind need free
+  lack : LackTold
+  acts : acts_of_way way ≡ act.Short lack.kind lack.asked lack.have ∷ []
+  answered : answer_of way ≡ reply.NoSpace lack.kind lack.asked lack.have
 
 way_short : (way : Way) → any_short (acts_of_way way) ≡ true → TellsOneShort way
-way_short (lacked kind need free) is = record { kind = kind; need = need; free = free; acts = refl; answered = refl }
+way_short (lacked kind need free) is = record { lack = record { kind = kind; asked = need; have = free }; acts = refl; answered = refl }
 way_short no_turn is = absurd (true_not_false (sym is))
 way_short returned is = absurd (true_not_false (sym is))
 way_short committed is = absurd (true_not_false (sym is))
@@ -130,16 +128,18 @@ only_act (own ∷ []) did e turn (inr never) = absurd never
 only_act (own ∷ other ∷ others) did e turn among = absurd (cc e)
 
 -- an fsync with a turn that tells a shortage is answered so
-short_answered : (turns : List Turn) (given : Reply) (turn : Turn) (kind : SpaceKind) (need free : ℕ) → GoesWay turns given → IsOneOf turns turn
-    → turn.act ≡ act.Short kind need free → given ≡ reply.NoSpace kind need free
-short_answered turns given turn kind need free way among is =
+short_answered : (turns : List Turn) (given : Reply) (turn : Turn) (lack : LackTold) → GoesWay turns given → IsOneOf turns turn
+    → turn.act ≡ act.Short lack.kind lack.asked lack.have → given ≡ reply.NoSpace lack.kind lack.asked lack.have
+short_answered turns given turn lack way among is =
     let one = way_short way.way (sym (ap any_short way.acts) ∙ short_among turns turn among (ap tells_short is)) in
-    let same : act.Short kind need free ≡ act.Short one.kind one.need one.free = sym is ∙ only_act turns (act.Short one.kind one.need one.free)
-    (way.acts ∙ one.acts) turn among in
-    way.answered ∙ (one.answered ∙ sym (again kind one.kind need one.need free one.free same))
+    let same : act.Short lack.kind lack.asked lack.have ≡ act.Short one.lack.kind one.lack.asked one.lack.have =
+    sym is ∙ only_act turns (act.Short one.lack.kind one.lack.asked one.lack.have) (way.acts ∙ one.acts) turn among
+    in
+    way.answered ∙ (one.answered ∙ sym (again lack one.lack same))
   where
-    again : (a b : SpaceKind) (c d e f : ℕ) → act.Short a c e ≡ act.Short b d f → reply.NoSpace a c e ≡ reply.NoSpace b d f
-    again a b c d e f same = cc same
+    again : (a b : LackTold) → act.Short a.kind a.asked a.have ≡ act.Short b.kind b.asked b.have
+        → reply.NoSpace a.kind a.asked a.have ≡ reply.NoSpace b.kind b.asked b.have
+    again a b same = cc same
 
 -- and one without turns NoMemory
 way_none : (way : Way) → acts_of_way way ≡ [] → answer_of way ≡ reply.NoMemory
@@ -198,9 +198,9 @@ module _ {D : Type 0} (t : FileState) (hand : FileHand) (pen : PenHand D) (fsync
   run_is : (log : List (Event Fact)) (on : IsPrefix log logs.log) → run_on (run_to t log) on.0 ≡ run
   run_is log on = λ i. record { given = given_by t; first = t.first; log = on.1 i }
 
-  made_then : (log : List (Event Fact)) (making : CoreMaking) → IsPrefix log logs.log → MadeIn (run_to t log) making → MadeIn run making
+  made_then : (log : List (Event Fact)) (making : CoreMaking) → IsPrefix log logs.log → MadeEitherWay (run_to t log) making → MadeEitherWay run making
   made_then log making on made =
-      subst (λ r. MadeIn r making) (run_is log on)
+      subst (λ r. MadeEitherWay r making) (run_is log on)
       (makings_go_on (run_to t log) on.0 making (subst IsTableRun (sym (run_is log on)) ends.table) made)
 
   told_then : (one : FlushMade) (told : Commitment) → ToldInSight t hand one told → ToldAtEnd run one told
@@ -286,11 +286,12 @@ module _ {D : Type 0} (t : FileState) (hand : FileHand) (pen : PenHand D) (fsync
         turns = λ turn there. subst (λ o. TurnIsOf o turn) is (was.turns turn there);
       }
 
-  lacked_end : (one : FlushTold) (turn : Turn) (kind : SpaceKind) (need free : ℕ) → IsOneOf fsyncs one → IsOneOf (turns_in one.turns) turn
-      → turn.act ≡ act.Short kind need free → LacksAtEnd run pen.table.given logs.labels one.flush turn kind need free
-  lacked_end one turn kind need free among there did =
+  lacked_end : (one : FlushTold) (turn : Turn) (lack : LackTold) → IsOneOf fsyncs one → IsOneOf (turns_in one.turns) turn
+      → turn.act ≡ act.Short lack.kind lack.asked lack.have → LacksAtEnd run pen.table.given logs.labels one.flush turn lack
+  lacked_end one turn lack among there did =
       let was = agree.each one among in
-      let has = was.lacked kind need free (short_answered (turns_in one.turns) was.entry.reply turn kind need free was.entered.way there did) in
+      let has = was.lacked lack.kind lack.asked lack.have
+      (short_answered (turns_in one.turns) was.entry.reply turn lack was.entered.way there did) in
       let same : has.turn ≡ turn = only_there has.turn (subst (λ l. IsOneOf l turn) has.only there) in
       record {
         making = has.making;

@@ -27,7 +27,7 @@ use Rattle.mem_values.specs.Account.{commit_told}
 use Rattle.mem_values.specs.Facts.{IsBelowInodes}
 use Rattle.mem_values.specs.declared.fact.Fact.{Fact}
 use Rattle.note_laws.specs.Run.{TableRun}
-use Rattle.made_laws.specs.Made.{CoreMaking, making_flush, MadeIn}
+use Rattle.made_laws.specs.Made.{CoreMaking, making_flush, MadeEitherWay}
 use Rattle.slot_laws.specs.Telling.{turns_in, BoxTurn, TellTurns, at_box, labels_in, events_in}
 use Rattle.slot_laws.specs.Labels.{OwnTold, own_from}
 use Rattle.slot_laws.proofs.Telling.{events_both, tell_both}
@@ -89,12 +89,14 @@ module _ {D : Type 0} (asked : CommitRequest) (before after : PenHand D) (refusa
       let it = subst (λ (w : CommitFault). Reserves request before after (Err w)) same is in
       record { front = it.front; seen = it.seen; failed = it.failed }
 
-  finds_empty : (why : CommitFault) → why ≡ fault.Stopped faults → (request : ReserveRequest) → Empties request before after (Err why) → SeesFailure after faults
+  finds_empty : (why : CommitFault) → why ≡ fault.Stopped faults → (request : ReserveRequest) → Empties request before after (Err why)
+      → SeesFailure after faults
   finds_empty why same request is =
       let it = subst (λ (w : CommitFault). Empties request before after (Err w)) same is in
       record { front = it.front; seen = it.seen; failed = it.failed }
 
-  granted_stops : (middle : PenHand D) (grant : GrantedNumbers) → GrantComes asked.flush middle after asked.change grant (Err refusal) → SeesFailure after faults
+  granted_stops : (middle : PenHand D) (grant : GrantedNumbers) → GrantComes asked.flush middle after asked.change grant (Err refusal)
+      → SeesFailure after faults
   granted_stops middle grant (gave_back back out) = absurd (cc (sym stops ∙ out.fault_is))
   granted_stops middle grant (committed (Ok ack) commits out) = absurd out
   granted_stops middle grant (committed (Err why) commits out) =
@@ -120,13 +122,21 @@ agreed_each : {D : Type 0} (t : FileState) (hand : FileHand) (pen : PenHand D) (
 agreed_each t hand pen flush None each = tt
 agreed_each t hand pen flush (Some one) each = each one refl
 
+-- What was planned was asked of the journals, by a pen that had told nothing but that it had the box; and what came of it.
+record IsAsked {D : Type 0} (at : FlushAt D) (done : PenHand D) (planned : PlannedFsync) (result : Result Landed CommitRefusal) : Type 0 where
+  from : PenHand D
+  tried : IsTried at planned
+  none : TellsNoTurn at.pen from
+  comes : PlanComesTo (asked_by planned) from done result
+
 -- The situation: an fsync that waits, where fsyncs are served.
 module _ {D : Type 0} (at : FlushAt D) (cores : ℕ) (site : IsSite at.t at.nodes cores at.pen.table.given) (few : at.nodes ≤ 2 ^ 32 - 1) (after : FileHand)
     (done : PenHand D) (given : Reply) (goes : PenGoes at.pen done) (way : TakesWay given (own_at at.pen) (own_at done)) where
   abbrev Served : Type 0
   Served = ServedBehind at.t at.fsync at.hand after at.pen done given
 
-  served_wanting : TellsNoTurn at.pen done → given ≡ reply.NoMemory → EndsUntold at.t at.fsync given at.hand after → TellsCall (AreTurns TellsNothing) at.pen done
+  served_wanting : TellsNoTurn at.pen done → given ≡ reply.NoMemory → EndsUntold at.t at.fsync given at.hand after
+      → TellsCall (AreTurns TellsNothing) at.pen done
       → Served
   served_wanting none is ends idle = record {
     turns = idle.turns;
@@ -150,8 +160,22 @@ module _ {D : Type 0} (at : FlushAt D) (cores : ℕ) (site : IsSite at.t at.node
   }
 
   -- What was planned, and what came of it.
-  module _ (planned : PlannedFsync) (from : PenHand D) (tried : IsTried at planned) (none : TellsNoTurn at.pen from)
-      (idle : TellsCall (AreTurns TellsNothing) at.pen from) (result : Result Landed CommitRefusal) (comes : PlanComesTo (asked_by planned) from done result) where
+  module _ (planned : PlannedFsync) (result : Result Landed CommitRefusal) (asked : IsAsked at done planned result) where
+    abbrev from : PenHand D
+    from = asked.from
+
+    abbrev tried : IsTried at planned
+    tried = asked.tried
+
+    abbrev none : TellsNoTurn at.pen from
+    none = asked.none
+
+    abbrev idle : TellsCall (AreTurns TellsNothing) at.pen from
+    idle = none.tells
+
+    abbrev comes : PlanComesTo (asked_by planned) from done result
+    comes = asked.comes
+
     abbrev seen : MadeSeen planned
     seen = made_seen planned tried.is
 
@@ -219,8 +243,9 @@ module _ {D : Type 0} (at : FlushAt D) (cores : ℕ) (site : IsSite at.t at.node
           sight = record {
             log = planned.hand.view.seen;
             since = since;
-            made = subst (λ (z : TableRun × CoreMaking). MadeIn z.0 z.1)
-                (λ i. (record { given = tried.given_is i; first = tried.work.first i; log = planned.hand.view.seen }, sym numbered.making_is i)) seen.makes.made;
+            made = subst (λ (z : TableRun × CoreMaking). MadeEitherWay z.0 z.1)
+                (λ i. (record { given = tried.given_is i; first = tried.work.first i; log = planned.hand.view.seen }, sym numbered.making_is i))
+                seen.makes.made;
             core_is = ap (λ (c : CoreMaking). c.noted.core) numbered.making_is
                 ∙ (seen.makes.core_is ∙ (ap (λ (v : View TreeState (Event Fact)). v.core) tried.since.view ∙ sym core_is));
             flush_is = ap making_flush numbered.making_is
@@ -239,7 +264,7 @@ module _ {D : Type 0} (at : FlushAt D) (cores : ℕ) (site : IsSite at.t at.node
     in_sight since core_is = record {
       log = planned.hand.view.seen;
       since = since;
-      made = subst (λ (r : TableRun). MadeIn r making)
+      made = subst (λ (r : TableRun). MadeEitherWay r making)
           (λ i. record { given = tried.given_is i; first = tried.work.first i; log = planned.hand.view.seen }) seen.makes.made;
       core_is = seen.makes.core_is ∙ (ap (λ (v : View TreeState (Event Fact)). v.core) tried.since.view ∙ sym core_is);
       flush_is = λ i. record {
@@ -276,70 +301,68 @@ module _ {D : Type 0} (at : FlushAt D) (cores : ℕ) (site : IsSite at.t at.node
       short = ap (λ (c : Planned). shortage finds.space (need_planned c)) change_asked ∙ finds.short;
     }
 
-  served_refused : (planned : PlannedFsync) (from : PenHand D) (refusal : CommitRefusal) → IsTried at planned → TellsNoTurn at.pen from
-      → PlanComesTo (asked_by planned) from done (Err refusal) → reply_to refusal.fault ≡ Some given → EndsUntold at.t at.fsync given at.hand after
-      → TellsCall (AreTurns TellsNothing) at.pen from → IsPrefix planned.hand.view.seen after.view.seen → Served
-  served_refused planned from refusal tried none comes is ends idle since = record {
-    turns = turns planned from tried none idle (Err refusal) comes;
-    made = (plan planned from tried none idle (Err refusal) comes).made;
-    mine_is = mine_is planned from tried none idle (Err refusal) comes;
-    tells = tells planned from tried none idle (Err refusal) comes;
-    are = are planned from tried none idle (Err refusal) comes;
+  served_refused : (planned : PlannedFsync) (refusal : CommitRefusal) → IsAsked at done planned (Err refusal) → reply_to refusal.fault ≡ Some given
+      → EndsUntold at.t at.fsync given at.hand after → IsPrefix planned.hand.view.seen after.view.seen → Served
+  served_refused planned refusal asked is ends since = record {
+    turns = turns planned (Err refusal) asked;
+    made = (plan planned (Err refusal) asked).made;
+    mine_is = mine_is planned (Err refusal) asked;
+    tells = tells planned (Err refusal) asked;
+    are = are planned (Err refusal) asked;
     ack = None;
     ends = ends.ends;
-    own = own planned from tried none idle (Err refusal) comes;
+    own = own planned (Err refusal) asked;
     way = way;
-    stopped = λ faults stops. plan_stops (asked_by planned) from done refusal faults (stopped_by refusal.fault given faults is stops) comes;
+    stopped = λ faults stops. plan_stops (asked_by planned) asked.from done refusal faults (stopped_by refusal.fault given faults is stops) asked.comes;
     told = [];
     commits = ap (filter_map commit_told) ends.mine ∙ sym (append-nil (filter_map commit_told at.hand.view.mine));
     told_ok = λ one among. absurd among;
     told_of = λ one among. absurd among;
-    agreed = agreed planned from tried none idle (Err refusal) comes since ends.ends.same.number;
-    newer = newer planned from tried none idle (Err refusal) comes;
+    agreed = agreed planned (Err refusal) asked since ends.ends.same.number;
+    newer = newer planned (Err refusal) asked;
     landed = λ ok. absurd (never_ok refusal.fault given is ok);
     lacked = λ kind need free short.
-        lacks_there planned from tried none idle (Err refusal) comes kind need free
-        (plan_lacks (asked_by planned) from done refusal kind need free (lacked_by refusal.fault given kind need free is short) comes) since
+        lacks_there planned (Err refusal) asked kind need free
+        (plan_lacks (asked_by planned) asked.from done refusal kind need free (lacked_by refusal.fault given kind need free is short) asked.comes) since
         ends.ends.same.number;
   }
 
-  served_flushed : (s : LandedFsync) (from : PenHand D) (landed : Landed) → IsTried at s.planned → TellsNoTurn at.pen from
-      → PlanComesTo (asked_by s.planned) from done (Ok landed) → EndsLanded at s landed.ack after → given ≡ reply.Ok
-      → TellsCall (AreTurns TellsNothing) at.pen from → landed.nodes.after ≡ s.after → Served
-  served_flushed s from landed tried none comes lands is idle after_is = record {
-    turns = turns s.planned from tried none idle (Ok landed) comes;
-    made = (plan s.planned from tried none idle (Ok landed) comes).made;
-    mine_is = mine_is s.planned from tried none idle (Ok landed) comes;
-    tells = tells s.planned from tried none idle (Ok landed) comes;
-    are = are s.planned from tried none idle (Ok landed) comes;
+  served_flushed : (s : LandedFsync) (landed : Landed) → IsAsked at done s.planned (Ok landed) → EndsLanded at s landed.ack after → given ≡ reply.Ok
+      → landed.nodes.after ≡ s.after → Served
+  served_flushed s landed asked lands is after_is = record {
+    turns = turns s.planned (Ok landed) asked;
+    made = (plan s.planned (Ok landed) asked).made;
+    mine_is = mine_is s.planned (Ok landed) asked;
+    tells = tells s.planned (Ok landed) asked;
+    are = are s.planned (Ok landed) asked;
     ack = Some landed.ack.moment;
     ends = subst (λ g. EndsWaiting at.t at.fsync g (Some landed.ack.moment) at.hand after) (sym is) lands.ends;
-    own = own s.planned from tried none idle (Ok landed) comes;
+    own = own s.planned (Ok landed) asked;
     way = way;
     stopped = λ faults stops. absurd (cc (sym is ∙ stops));
     told = commitment_of s ∷ [];
-    commits = commits_landed at s landed.ack after tried lands makes;
+    commits = commits_landed at s landed.ack after asked.tried lands makes;
     told_ok = λ one among. is;
     told_of = λ one among. elim among [
       | inl same ↦ (lands_made.one, lands_made.is, subst (ToldInSight at.t after lands_made.one) same sight)
       | inr past ↦ absurd past
     ];
-    agreed = agreed s.planned from tried none idle (Ok landed) comes since lands.ends.same.number;
-    newer = newer s.planned from tried none idle (Ok landed) comes;
+    agreed = agreed s.planned (Ok landed) asked since lands.ends.same.number;
+    newer = newer s.planned (Ok landed) asked;
     landed = λ ok. (lands_made.one, lands_made.is, commitment_of s, sight);
     lacked = λ kind need free short. absurd (cc (sym is ∙ short));
   }
     where
       makes : MakesPlanned s.planned
-      makes = (seen s.planned from tried none idle (Ok landed) comes).makes
+      makes = (seen s.planned (Ok landed) asked).makes
 
-      it : PlanAgrees (asked_by s.planned) makes.making from done (Ok landed)
-      it = plan s.planned from tried none idle (Ok landed) comes
+      it : PlanAgrees (asked_by s.planned) makes.making asked.from done (Ok landed)
+      it = plan s.planned (Ok landed) asked
 
       lands_made : LandsMade (asked_by s.planned) it.made landed
       lands_made = it.landed landed refl
 
-      numbered : IsNumberedPlan makes.making from done lands_made.one
+      numbered : IsNumberedPlan makes.making asked.from done lands_made.one
       numbered = it.numbered lands_made.one lands_made.is
 
       since : IsPrefix s.planned.hand.view.seen after.view.seen
@@ -351,15 +374,16 @@ module _ {D : Type 0} (at : FlushAt D) (cores : ℕ) (site : IsSite at.t at.node
       change_same = ap (λ (p : FsyncPlan). p.change) (sym makes.plan_is) ∙ ap (λ (c : CoreMaking). c.plan.change) (sym numbered.making_is)
 
       sight : ToldInSight at.t after lands_made.one (commitment_of s)
-      sight = told_in_sight at s landed.ack after tried lands makes lands_made.one numbered.making_is (lands_made.number_is ∙ sym lands.number_is)
+      sight = told_in_sight at s landed.ack after asked.tried lands makes lands_made.one numbered.making_is (lands_made.number_is ∙ sym lands.number_is)
           (sym after_is ∙ (lands_made.hands.after_is ∙ ap (λ (c : Planned). after_commit c lands_made.one.grant) change_same))
           (subst (AscendBy entry_node) after_is lands_made.hands.ascends)
 
   served : FsyncComes at after done given → Served
   served (wanting none is ends) = served_wanting none is ends none.tells
   served (refused planned from refusal tried none comes is ends since) =
-      served_refused planned from refusal tried none comes is ends none.tells since
-  served (flushed s from landed tried none comes lands is same) = served_flushed s from landed tried none comes lands is none.tells same
+      served_refused planned refusal (record { from = from; tried = tried; none = none; comes = comes }) is ends since
+  served (flushed s from landed tried none comes lands is same) =
+      served_flushed s landed (record { from = from; tried = tried; none = none; comes = comes }) lands is same
 
 pub flushes_agree : (D : Type 0) → FlushesAgree D
 flushes_agree D at given fsyncs makes agree = by makes.comes

@@ -172,7 +172,8 @@ module _ {D : Type 0} (at : FlushAt D) (s : LandedFsync) (ack : Ack) (after : Fi
   }
 
   -- so it is told of what was made, with what the plan leaves with this grant
-  pub told_in_sight : (m : FlushMade) → m.making ≡ makes.making → m.number ≡ s.number → s.after ≡ after_commit (change_of m) m.grant → AscendBy entry_node s.after
+  pub told_in_sight : (m : FlushMade) → m.making ≡ makes.making → m.number ≡ s.number → s.after ≡ after_commit (change_of m) m.grant
+      → AscendBy entry_node s.after
       → ToldInSight at.t after m (commitment_of s)
   told_in_sight m making number after_is up = record {
     log = after.view.seen;

@@ -46,7 +46,8 @@ pub record LandsMade (asked : CommitRequest) (made : Option FlushMade) (landed :
   pub hands : HandsLanded asked.change one.grant landed.ack landed
 
 -- What came of a plan that a core made, by its turns at the box.
-pub record PlanAgrees {D : Type 0} (asked : CommitRequest) (making : CoreMaking) (before after : PenHand D) (result : Result Landed CommitRefusal) : Type 0 where
+pub record PlanAgrees {D : Type 0} (asked : CommitRequest) (making : CoreMaking) (before after : PenHand D) (result : Result Landed CommitRefusal)
+    : Type 0 where
   pub made : Option FlushMade
   pub turns : List BoxTurn
   pub mine_is : after.view.mine ≡ before.view.mine ++ events_in before.view.core turns
@@ -132,8 +133,11 @@ module _ {D : Type 0} (asked : CommitRequest) (making : CoreMaking) (before afte
         let same : number ≡ reserves.comes.number =
         some_same (sym (ap (λ (o : OwnTold). o.reserved) own) ∙ ap (λ (o : OwnTold). o.reserved) reserves.comes.own) in (
           ((same, is.0, subst (SeesConcerned making) (sym is.1) sees), tt),
-          λ stamps named.
-              (reservings_tell stamps core (own_at before) (reserving_of asked) (Ok grant) (turn_reserves number seen given turn) (ap stamps same ∙ named) is, tt),
+          λ stamps named. (
+            reservings_tell stamps core (own_at before) (reserving_of asked) (Ok grant) (turn_reserves number seen given turn)
+                (ap stamps same ∙ named) is,
+            tt,
+          ),
         )
     granted_turns (turn_works facts ∷ []) is own = absurd is
     granted_turns (_ ∷ []) is own = absurd is

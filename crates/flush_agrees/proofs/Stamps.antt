@@ -189,7 +189,8 @@ module _ {D : Type 0} (t : FileState) (key : BoxKey D) (labels : List (Event Lab
       let there : slice_get fsyncs core ≡ Some other.1 = subst (λ c. slice_get fsyncs c ≡ Some other.1) core_same other.2 in
       let told_same : other.1 ≡ told = some_same (sym there ∙ is) in
       found.stamp_is
-      ∙ (agree core told is).agree.numbers found.one one found.made made (subst (λ l. IsOneOf l found.one) told_same other.3) among found.is same found.number_is
+      ∙ (agree core told is).agree.numbers found.one one found.made made (subst (λ l. IsOneOf l found.one) told_same other.3)
+      among found.is same found.number_is
 
 pub stamps_are_given : (D : Type 0) → StampsAreGiven D
 stamps_are_given D t key labels fsyncs lawful agree =

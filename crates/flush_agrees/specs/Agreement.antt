@@ -22,7 +22,7 @@ use Rattle.mem_values.specs.declared.fact.Fact.{Fact}
 use Rattle.mem_values.specs.Account.{Commitment, commit_told, held_by}
 use Rattle.mem_values.specs.declared.fact.HeldNode.{HeldNode}
 use Rattle.note_laws.specs.Run.{TableRun}
-use Rattle.made_laws.specs.Made.{CoreMaking, making_flush, MadeIn}
+use Rattle.made_laws.specs.Made.{CoreMaking, making_flush, MadeEitherWay}
 use Rattle.made_laws.specs.Own.{TellsMaking}
 use Rattle.slot_laws.specs.declared.label.Label.{Label}
 use Rattle.slot_laws.specs.declared.label.Label.TheVariants as label
@@ -62,7 +62,7 @@ run_to t log = record { given = given_by t; first = t.first; log = log }
 pub record MadeInSight (t : FileState) (hand : FileHand) (flush : Flush) (making : CoreMaking) : Type 0 where
   pub log : List (Event Fact)
   pub since : IsPrefix log hand.view.seen
-  pub made : MadeIn (run_to t log) making
+  pub made : MadeEitherWay (run_to t log) making
   pub core_is : making.noted.core ≡ hand.view.core
   pub flush_is : making_flush making ≡ flush
 
@@ -126,8 +126,8 @@ pub record LacksInSight {D : Type 0} (t : FileState) (hand : FileHand) (pen : Pe
   pub goes : SpaceGoes pen.table.given.layout front (first_past pen.table.given.start) pen.table.given.space space
   pub short : shortage space (need_planned making.plan.change) ≡ Some (NoSpace kind need free)
 
--- A core and its pen agree on an fsync: by its entry, by what was made of it, of which its turns at the box are, by what was told of it once it was durable, and
--- by what was made of it where it was refused for want of space.
+-- A core and its pen agree on an fsync: by its entry, by what was made of it, of which its turns at the box are, by what was told of it once it was durable,
+-- and by what was made of it where it was refused for want of space.
 pub record FlushAgrees {D : Type 0} (t : FileState) (hand : FileHand) (pen : PenHand D) (one : FlushTold) : Type 0 where
   pub entry : Entry
   pub node : NodeId
@@ -168,9 +168,9 @@ pub record IsToldOfOne (t : FileState) (hand : FileHand) (fsyncs : List FlushTol
   pub is : one.made ≡ Some made
   pub tells : ToldInSight t hand made told
 
--- A core of a table and its pen agree on these fsyncs, which are all of the core's that were served. What the pen told are their turns at the box, in order, each
--- of a commit of the core's where numbers have the stamps of the fsyncs. They agree on each; no two have one stamp, or one number; and each commit that the core
--- told is of one of them that has become durable.
+-- A core of a table and its pen agree on these fsyncs, which are all of the core's that were served. What the pen told are their turns at the box, in order,
+-- each of a commit of the core's where numbers have the stamps of the fsyncs. They agree on each; no two have one stamp, or one number; and each commit that
+-- the core told is of one of them that has become durable.
 pub record CoresAgree {D : Type 0} (t : FileState) (hand : FileHand) (pen : PenHand D) (fsyncs : List FlushTold) : Type 0 where
   pub one : pen.view.core ≡ hand.view.core
   pub told : pen.view.mine ≡ events_in pen.view.core (turns_of fsyncs)

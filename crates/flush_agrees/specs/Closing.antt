@@ -2,7 +2,6 @@
 use Rattle.std.specs.Prelude.{◌++◌, ◌≤◌, ◌^◌, ◌-◌, ◌≡◌, ◌∷◌, count_by, List, filter, Bool, [], false, true, map, ℕ, Some, None, filter_map, flat_map, slice_get}
 use mathlib.Core.List.{IsPrefix}
 use Rattle.sfs_base.specs.declared.numbers.CoreId.{CoreId}
-use Rattle.sfs_base.specs.declared.numbers.SpaceKind.{SpaceKind}
 use Rattle.sfs_image.specs.Super.{Layout}
 use Rattle.space_map.specs.Space.{Space, shortage}
 use Rattle.space_map.specs.declared.fault.SpaceFault.TheVariants.{NoSpace}
@@ -16,6 +15,7 @@ use Rattle.cut_laws.specs.Closure.{Flush}
 use Rattle.cut_laws.specs.Rules.{IsOneOf}
 use Rattle.turn_laws.specs.Books.{flush_at}
 use Rattle.merge_laws.specs.Pens.{FsyncTurns, PenAgrees}
+use Rattle.book_laws.specs.Along.{LackTold}
 use Rattle.stamp_table.specs.declared.event.Event.TheVariants.{Told}
 use Rattle.stamp_table.specs.Rule.{entries_by}
 use Rattle.stamp_table.specs.declared.event.Event.{Event}
@@ -25,7 +25,7 @@ use Rattle.mem_values.specs.Start.{FileState, FileHand}
 use Rattle.mem_values.specs.Account.{Commitment, held_by, commit_told}
 use Rattle.mem_values.specs.declared.fact.HeldNode.{HeldNode}
 use Rattle.note_laws.specs.Run.{IsTableRun, TableRun}
-use Rattle.made_laws.specs.Made.{CoreMaking, making_flush, MadeIn}
+use Rattle.made_laws.specs.Made.{CoreMaking, making_flush, MadeEitherWay}
 use Rattle.made_laws.specs.Own.{TellsMaking}
 use Rattle.slot_laws.specs.declared.label.Label.TheVariants as label
 use Rattle.slot_laws.specs.declared.label.Seen.{Seen}
@@ -47,8 +47,8 @@ pub record MountLogs : Type 0 where
   pub log : List (Event Fact)
   pub labels : List (Event Label)
 
--- A core and its pen have come to that end. The table's events are a run of it, which goes on from what the core has seen, and the core's entries are its part of
--- a legal history. The labels are lawful, they go on from what the pen has seen, and what the pen told is its part of them.
+-- A core and its pen have come to that end. The table's events are a run of it, which goes on from what the core has seen, and the core's entries are its part
+-- of a legal history. The labels are lawful, they go on from what the pen has seen, and what the pen told is its part of them.
 pub record ReachesEnd {D : Type 0} (t : FileState) (hand : FileHand) (pen : PenHand D) (logs : MountLogs) : Type 0 where
   pub table : IsTableRun (run_to t logs.log)
   pub seen : IsPrefix hand.view.seen logs.log
@@ -72,7 +72,7 @@ pen_fsyncs fsyncs = filter has_turns (map fsync_turns fsyncs)
 
 -- What a core made for an fsync it made in the whole run; its turns at the box are of that, and the grant is of what it needs.
 pub record MadeAtEnd (run : TableRun) (core : ℕ) (layout : Layout) (one : FlushTold) (made : FlushMade) : Type 0 where
-  pub made_in : MadeIn run made.making
+  pub made_in : MadeEitherWay run made.making
   pub core_is : made.making.noted.core ≡ core
   pub flush_is : making_flush made.making ≡ one.flush
   pub grants : GrantsNeed layout made
@@ -100,12 +100,12 @@ pub record LandedAtEnd (run : TableRun) (one : FlushTold) : Type 0 where
   pub told : Commitment
   pub tells : ToldAtEnd run made told
 
--- What a core made for an fsync that was refused for want of space it made in the whole run; and where its turn was noted none of the nodes that it concerns had
--- moved, and a map that had gone along all labels up to there has too little of this kind for what the plan needs.
-pub record LacksAtEnd {D : Type 0} (run : TableRun) (key : BoxKey D) (labels : List (Event Label)) (flush : Flush) (turn : Turn) (kind : SpaceKind)
-    (need free : ℕ) : Type 0 where
+-- What a core made for an fsync that was refused for want of space it made in the whole run; and where its turn was noted none of the nodes that it concerns
+-- had moved, and a map that had gone along all labels up to there has too little of this kind for what the plan needs.
+pub record LacksAtEnd {D : Type 0} (run : TableRun) (key : BoxKey D) (labels : List (Event Label)) (flush : Flush) (turn : Turn)
+    (lack : LackTold) : Type 0 where
   pub making : CoreMaking
-  pub made_in : MadeIn run making
+  pub made_in : MadeEitherWay run making
   pub flush_is : making_flush making ≡ flush
   pub seen : List Seen
   pub sees : SeesConcerned making seen
@@ -117,10 +117,10 @@ pub record LacksAtEnd {D : Type 0} (run : TableRun) (key : BoxKey D) (labels : L
   pub unmoved : (node last : ℕ) → last_seen seen node ≡ Some last → (past_of key front).lasts node ≡ last_ended last
   pub space : Space
   pub goes : SpaceGoes key.layout front (first_past key.start) key.space space
-  pub short : shortage space (need_planned making.plan.change) ≡ Some (NoSpace kind need free)
+  pub short : shortage space (need_planned making.plan.change) ≡ Some (NoSpace lack.kind lack.asked lack.have)
 
--- They agree on the whole of it: what the core told at the box are its fsyncs' turns there, each of one of its commits; what it made of each it made in the whole
--- run, and it told exactly the durable ones; and with the turns of the record the core and its pen agree on the fsyncs that have some.
+-- They agree on the whole of it: what the core told at the box are its fsyncs' turns there, each of one of its commits; what it made of each it made in the
+-- whole run, and it told exactly the durable ones; and with the turns of the record the core and its pen agree on the fsyncs that have some.
 pub record AgreeAtEnd {D : Type 0} (t : FileState) (hand : FileHand) (pen : PenHand D) (fsyncs : List FlushTold) (logs : MountLogs) : Type 0 where
   pub mine : entries_by event_core hand.view.core logs.labels ≡ events_in hand.view.core (turns_of fsyncs)
   pub tells : (stamps : ℕ → ℕ) → NumbersHave stamps fsyncs → TellTurns stamps hand.view.core nothing_told (turns_of fsyncs)
@@ -130,8 +130,8 @@ pub record AgreeAtEnd {D : Type 0} (t : FileState) (hand : FileHand) (pen : PenH
   pub told : (told : Commitment) → IsOneOf (filter_map commit_told hand.view.mine) told → IsToldAtEnd (run_to t logs.log) fsyncs told
   pub landed : (one : FlushTold) (turn : Turn) → IsOneOf fsyncs one → IsOneOf (turns_in one.turns) turn → turn.act ≡ act.Durable
       → LandedAtEnd (run_to t logs.log) one
-  pub lacked : (one : FlushTold) (turn : Turn) (kind : SpaceKind) (need free : ℕ) → IsOneOf fsyncs one → IsOneOf (turns_in one.turns) turn
-      → turn.act ≡ act.Short kind need free → LacksAtEnd (run_to t logs.log) pen.table.given logs.labels one.flush turn kind need free
+  pub lacked : (one : FlushTold) (turn : Turn) (lack : LackTold) → IsOneOf fsyncs one → IsOneOf (turns_in one.turns) turn
+      → turn.act ≡ act.Short lack.kind lack.asked lack.have → LacksAtEnd (run_to t logs.log) pen.table.given logs.labels one.flush turn lack
   pub of_flush : (one : FlushTold) (turn : Turn) → IsOneOf fsyncs one → IsOneOf (turns_in one.turns) turn → flush_at turn ≡ one.flush
   pub turns : turns_in (turns_of fsyncs) ≡ flat_map (λ (one : FsyncTurns). one.turns) (pen_fsyncs fsyncs)
   pub agrees : PenAgrees t.first logs.history (past_of pen.table.given logs.labels).turns hand.view.core (pen_fsyncs fsyncs)

@@ -74,8 +74,8 @@ abbrev pub TurnIsOf : Option FlushMade → BoxTurn → Type 0
 TurnIsOf None = TellsNoNumber
 TurnIsOf (Some one) = TurnMade one
 
--- A grant is as much as was planned needs, as far as words have room for it; no more nodes enter than a word counts, and no more blocks were granted than a disk
--- of this layout has.
+-- A grant is as much as was planned needs, as far as words have room for it; no more nodes enter than a word counts, and no more blocks were granted than a
+-- disk of this layout has.
 pub record GrantsNeed (layout : Layout) (one : FlushMade) : Type 0 where
   pub need : need_planned (change_of one) ≡ record { inodes = length one.grant.inodes; blocks = length one.grant.blocks }
   pub few : count_by enters (change_of one).seats ≤ 2 ^ 32 - 1

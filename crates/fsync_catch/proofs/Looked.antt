@@ -94,7 +94,8 @@ module _ (s : Copying) (is : IsCopying s) (sound : IsSoundTree s.before.view.fir
     core_is = sym (ap (λ (v : View TreeState (Event Fact)). v.core) is.saw.view);
     node_is = refl;
     stamp_is = refl;
-    saw = ap (λ cells. λ (node : ℕ). if is_listed (map node_number s.list) node then pending_held s.nodes cells (record { 0 = node }) else None) (sym held_same);
+    saw = ap (λ cells. λ (node : ℕ). if is_listed (map node_number s.list) node then pending_held s.nodes cells (record { 0 = node }) else None)
+        (sym held_same);
     notes = subst (λ f. HasNotedAll (record { given = s.given; first = f; log = s.after.view.seen }) (noted s is)) (sym first_same) (has_noted s is);
     orderly = by_copies.orderly;
     merged = merged_for s is caught.gathered.logs.items by_copies.merged;

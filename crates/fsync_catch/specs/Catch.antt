@@ -11,8 +11,10 @@ use Rattle.dep_closure.specs.Gathered.{IsOrderly}
 use Rattle.flush_plan.specs.Concerned.{IsConcernOf}
 use Rattle.stamp_table.specs.Events.{calls_in}
 use Rattle.stamp_table.specs.Ascending.{LiesAbove}
+use Rattle.stamp_table.specs.declared.event.Event.{Event}
 use Rattle.mem_values.specs.Start.{FileHand}
 use Rattle.mem_values.specs.declared.cell.Pending.{Pending}
+use Rattle.mem_values.specs.declared.fact.Fact.{Fact}
 use Rattle.mem_values.specs.Facts.{HasFsync, IsLawfulLog}
 use Rattle.mem_values.specs.Stands.{StandsPending}
 use Rattle.mem_values.specs.Account.{account_of}
@@ -48,9 +50,9 @@ saw_of nodes list hand node = if is_listed (map node_number list) node then pend
 abbrev pub run_seen : (ℕ → Option OldKept) → FileHand → TableRun
 run_seen given hand = record { given = given; first = hand.view.first; log = hand.view.seen }
 
--- What a core looked at for its fsync while it held what was flushed of some nodes: it noted each core's log at a moment up to now at which all that it
--- holds stood; what it gathered is merged of copies of these which keep what a look at its nodes asks for, and has of its nodes what it holds; and what the fsync concerns by that are nodes of the table. What it
--- has seen is legal and lawful.
+-- What a core looked at for its fsync while it held what was flushed of some nodes: it noted each core's log at a moment up to now at which all that it holds
+-- stood; what it gathered is merged of copies of these which keep what a look at its nodes asks for, and has of its nodes what it holds; and what the fsync
+-- concerns by that are nodes of the table. What it has seen is legal and lawful.
 pub record IsLook (given : ℕ → Option OldKept) (nodes : ℕ) (fsync : WaitingFsync) (list : List NodeId) (hand : FileHand) (caught : Caught) : Type 0 where
   pub noted : CoreNotes
   pub core_is : noted.core ≡ hand.view.core
@@ -91,3 +93,13 @@ pub record IsCaughtAlone (given : ℕ → Option OldKept) (nodes : ℕ) (fsync :
   pub lawful : IsLawfulLog given hand.view.first hand.view.seen
   pub room : 0 < hand.room
   pub below : LiesAbove (32 + 10 * nodes) hand.view.held
+
+-- A core holds nothing: since it began it held what was flushed of its fsync's node, and that has no inode. It stood for all that the core had seen then.
+pub record LacksAlone (given : ℕ → Option OldKept) (fsync : WaitingFsync) (before after : FileHand) : Type 0 where
+  pub lets : LetsAllGo after
+  pub at : List (Event Fact)
+  pub begun : IsPrefix before.view.seen at
+  pub since : IsPrefix at after.view.seen
+  pub value : Pending
+  pub stands : StandsPending given after.view.first (account_of at) fsync.node.0 value
+  pub lacks : value.old ≡ None

@@ -4,7 +4,7 @@ ghost use Rattle.mem_values.specs.Start.{given_by};
 ghost use Rattle.mem_calls.specs.Held.{pending_held};
 ghost use Rattle.mem_calls.specs.Table.{IsFileTable};
 ghost use Rattle.mem_calls.specs.Working.{IsWorking};
-ghost use Rattle.fsync_catch.specs.Catch.{GoesOn, HasItsFsync, IsCaughtAlone, LetsAllGo, cut_if_inode};
+ghost use Rattle.fsync_catch.specs.Catch.{GoesOn, HasItsFsync, IsCaughtAlone, LacksAlone, LetsAllGo, cut_if_inode};
 
 use crate::looking::WaitingFsync;
 use fsync_gather::flushed_value;
@@ -43,7 +43,8 @@ pub fn catch_alone<R: Wait>(
     requires waits { HasItsFsync core.old fsync }
     ensures work { IsWorking (given_by shared.now) shared.now core.new }
     ensures on { GoesOn core.old core.new }
-    ensures caught { IfOk result (λ cut. MatchOption cut (LetsAllGo core.new) (IsCaughtAlone (given_by shared.now) nodes fsync core.new)) }
+    ensures caught { IfOk result (λ cut. MatchOption cut (LacksAlone (given_by shared.now) fsync core.old core.new)
+        (IsCaughtAlone (given_by shared.now) nodes fsync core.new)) }
     ensures none { OnErr result (LetsAllGo core.new) }
 {
     core.reserve(0, 2)?;

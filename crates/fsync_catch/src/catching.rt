@@ -18,8 +18,8 @@ use std::sync::Wait;
 /// is seldom more than two or three; an fsync that still concerns others than it held then copies whole logs, and learns all at once.
 const SMALL_LOOKS: u32 = 8;
 
-// A list of one node.
-fn one_node(alloc: Global, node: NodeId) -> Result<NodeList, NoMemory>
+/// A list of one node.
+pub fn one_node(alloc: Global, node: NodeId) -> Result<NodeList, NoMemory>
     ensures { IfOk result (λ nodes. nodes.items ≡ node ∷ []) }
 {
     let mut nodes = NodeList::new(alloc);

@@ -6,5 +6,5 @@ mod catching;
 mod looking;
 
 pub use alone::catch_alone;
-pub use catching::catch_nodes;
+pub use catching::{catch_nodes, one_node};
 pub use looking::{Caught, WaitingFsync};

@@ -178,7 +178,8 @@ module _ {D : Type 0} (at : FlushAt D) (s : PlannedFsync) (todo : PlannedCommit)
       ∙ (has.holds.waiting ∙ ap (λ (f : WaitingFsync). Some f.stamp.0) (sym has.tried.fsync_is))
 
   -- it has landed
-  pub landed_here : (done : PenHand D) (landed : Landed) (comes : PlanComesTo (asked_by s) at.pen done (Ok landed)) → AreLow at.pen.table.given.layout (Ok landed)
+  pub landed_here : (done : PenHand D) (landed : Landed) (comes : PlanComesTo (asked_by s) at.pen done (Ok landed))
+      → AreLow at.pen.table.given.layout (Ok landed)
       → HasLandedHere at.t at.fsync (left_of todo) landed (landed_of s (got_number at s todo hand cores has site done landed comes).0 landed) hand
   landed_here done landed comes low =
       let got = got_number at s todo hand cores has site done landed comes in
@@ -254,14 +255,16 @@ module _ {D : Type 0} (at : FlushAt D) (s : PlannedFsync) (todo : PlannedCommit)
     tried_here = has.tried
 
     -- the plan has landed and the fsync has ended
-    pub serves_ok : (landed : Landed) (comes : PlanComesTo (asked_by s) at.pen done (Ok landed)) → AreLow at.pen.table.given.layout (Ok landed) → (after : FileHand)
+    pub serves_ok : (landed : Landed) (comes : PlanComesTo (asked_by s) at.pen done (Ok landed)) → AreLow at.pen.table.given.layout (Ok landed)
+        → (after : FileHand)
         → LandsSo at.t at.fsync (landed_of s (got_number at s todo hand cores has site done landed comes).0 landed) landed.ack hand after
         → TakesWay reply.Ok (own_at at.pen) (own_at done) → IsServed at after done reply.Ok
     serves_ok landed comes low after lands way =
         let got = got_number at s todo hand cores has site done landed comes in
         record {
           comes = flushed (landed_of s got.0 landed) at.pen landed has.tried (no_turn_yet at.pen) comes
-              (ends_landed (landed_of s got.0 landed) refl landed.ack after (durable at s todo hand cores has site agree got.0 landed got.1 low) refl lands) refl refl;
+              (ends_landed (landed_of s got.0 landed) refl landed.ack after (durable at s todo hand cores has site agree got.0 landed got.1 low)
+              refl lands) refl refl;
           way = way;
         }
 

@@ -99,7 +99,8 @@ module _ (e : EndPlace) (there : LandsThere e) where
       e.left.values.items
       ≡ values_renewed (done_of s).renewal (done_of s).members (done_of s).after list (values_in held)
   renewed_same =
-      (λ i. values_renewed (record { number = sym is.number_is i; stamp = ap (λ (f : WaitingFsync). f.stamp) (sym is.fsync_is) i }) (is.members_are i) (is.after_is i)
+      (λ i. values_renewed (record { number = sym is.number_is i; stamp = ap (λ (f : WaitingFsync). f.stamp) (sym is.fsync_is) i }) (is.members_are i)
+      (is.after_is i)
       (is.nodes_are i) (is.lent i))
       ∙ lents_renewed (done_of s).renewal (done_of s).members (done_of s).after list (values_in held)
 
@@ -147,7 +148,8 @@ module _ (e : EndPlace) (there : LandsThere e) where
     tree_same : tree_seen s.planned.hand ≡ tree_after e.t.first (calls_in e.hand.view.seen)
     tree_same = λ i. tree_after (is.durable.work.first i) (calls_in (sym view_same i).seen)
 
-    written : AreWritten (tree_after e.t.first (calls_in e.hand.view.seen)) e.nodes (commitment_of s) (with_values (values_in held) e.hand.held) ending.values.items
+    written : AreWritten (tree_after e.t.first (calls_in e.hand.view.seen)) e.nodes (commitment_of s) (with_values (values_in held) e.hand.held)
+        ending.values.items
     written =
         subst (λ (z : TreeState × ℕ × List (HeldCell Cell) × List Cell). AreWritten z.0 z.1 (commitment_of s) z.2 z.3)
         (λ i. (tree_same i, nodes_same i, sym held_back i, sym (values_are ∙ renewed_same) i))
@@ -171,7 +173,8 @@ module _ (e : EndPlace) (there : LandsThere e) where
     }
 
     -- and has ended so
-    pub lands_so : (after : FileHand) → ending.ack ≡ e.landed.ack.moment → IsBetweenCalls e.t after → Finishes (given_by e.t) (length e.t.first.made) (fact_of ending) ending e.hand after
+    pub lands_so : (after : FileHand) → ending.ack ≡ e.landed.ack.moment → IsBetweenCalls e.t after
+        → Finishes (given_by e.t) (length e.t.first.made) (fact_of ending) ending e.hand after
         → LandsSo e.t e.fsync s e.landed.ack e.hand after
     lands_so after ack_is between finishes = record {
       told = fact_of ending;

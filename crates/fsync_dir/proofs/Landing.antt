@@ -68,7 +68,8 @@ module _ {D : Type 0} (at : FlushAt D) (s : PlannedFsync) (todo : PlannedCommit)
           (sym has.tried.fsync_is) has.holds.mine;
       fresh = λ other told same.
           let lower = got.newer other.number (agree.reserved other
-          (subst (λ l. IsOneOf (filter_map commit_told l) other) (sym (ap (λ (v : Rattle.stamp_table.specs.declared.view.View.View _ _). v.mine) view_same)) told))
+          (subst (λ l. IsOneOf (filter_map commit_told l) other)
+          (sym (ap (λ (v : Rattle.stamp_table.specs.declared.view.View.View _ _). v.mine) view_same)) told))
           in
           omega (arith, lower, same);
       above = subst (λ (l : List Seen). (node last : ℕ) → last_seen l node ≡ Some last → last < landed.ack.commit) has.tried.is.lent.seen got.above;

@@ -1,5 +1,5 @@
 -- What an fsync planned lies on the disk of its table.
-use Rattle.std.proofs.Common.{◌≡◌, ◌<◌, ◌≤◌, ◌-◌, ◌^◌, ◌∙◌, if◌then◌else◌, ℕ, zero, suc, true, List, map, length, get_or, Option, Some, None, refl, sym, ap, subst, arith, Contains, []}
+use Rattle.std.proofs.Common.{◌≡◌, ◌<◌, ◌≤◌, ◌-◌, ◌^◌, ◌∙◌, ℕ, zero, suc, true, List, map, length, get_or, Option, Some, None, refl, sym, ap, subst, arith, Contains, []}
 use Rattle.sfs_base.specs.declared.numbers.Kind.TheVariants as kind
 use Rattle.sfs_base.specs.Listed.{is_listed}
 use Rattle.sfs_base.proofs.BasicOptions.{none_some}
@@ -7,7 +7,6 @@ use Rattle.sfs_image.specs.Super.{Layout}
 use Rattle.sfs_image.proofs.EntriesLaws.{few_below}
 use Rattle.keyed_list.specs.Ascending.{AscendBy}
 use Rattle.tree_laws.specs.NameRow.{node_number}
-use Rattle.disk_nodes.specs.OldKept.{OldKept}
 use Rattle.disk_nodes.specs.declared.old.OldEntry.{OldEntry}
 use Rattle.disk_change.specs.Nodes.{enter_node}
 use Rattle.disk_change.specs.declared.enter.Enter.{Enter}
@@ -19,7 +18,6 @@ use Rattle.mem_values.specs.Facts.{IsBelowInodes}
 use Rattle.mem_values.specs.Stands.{Flushed}
 use Rattle.mem_values.specs.declared.cell.Pending.{Pending}
 use Rattle.mem_values.proofs.Writers.{inodes_stay_below}
-use Rattle.note_laws.proofs.Along.{lawful_begin}
 use Rattle.made_laws.specs.Made.{old_of}
 use Rattle.fsync_commit.specs.Asked.{IsChangeOn}
 use Rattle.fsync_commit.proofs.OnPlans.{plans_lie_on_disks}
@@ -28,9 +26,9 @@ use Rattle.fsync_values.specs.Lending.{entries_of}
 use Rattle.fsync_look.specs.Look.{IsBelow}
 use Rattle.fsync_catch.specs.Catch.{IsCaught}
 use Rattle.fsync_draft.specs.Drafting.{IsDraftOf}
-use Rattle.landing_laws.specs.Made.{IsDraftedFsync, PlannedFsync, IsPlannedAlone, IsPlannedSo, by_look, alone}
+use Rattle.landing_laws.specs.Made.{IsDraftedFsync, PlannedFsync, IsPlannedSo, by_look, alone}
 use Rattle.landing_laws.proofs.Entries.{taken_is_seen}
-use Rattle.landing_laws.proofs.Drafted.{listed_alone}
+use Rattle.landing_laws.proofs.Planned.{held_stood}
 
 -- of items that ascend each has at least the number of its place
 place_low : {X : Type 0} (key : X → ℕ) (xs : List X) (d : X) → AscendBy key xs → (k : ℕ) → k < length xs → k ≤ key (get_or xs k d)
@@ -40,34 +38,23 @@ place_low key xs d ascend (suc k) within =
     let next = ascend k (suc k) d (omega arith) within in omega (arith, before, next)
 
 module _ (s : PlannedFsync) (is : IsDraftedFsync s) (below : (of : ℕ) → IsBelowInodes s.hand.view.first.first (s.given of)) where
-  -- what the disk has of a node that is held is what its value says
-  old_held : (entry : OldEntry) → Contains (entries_of s.caught.concern.nodes.items (values_in s.hand.held)) entry
-      → (is_listed (map node_number s.caught.concern.nodes.items) entry.node.0 ≡ true)
-      × (old_of (pending_held s.nodes s.hand.held (record { 0 = entry.node.0 })) ≡ Some entry.old)
-  old_held entry has = taken_is_seen s.nodes s.caught.concern.nodes.items s.hand.held is.holds is.ascend entry.node.0 entry.old has
+  -- what the disk has of a node that is held has an inode of the table
+  old_low : IsPlannedSo s → (entry : OldEntry) → Contains (entries_of s.caught.concern.nodes.items (values_in s.hand.held)) entry
+      → entry.old.number < s.hand.view.first.first
+  old_low how entry has =
+      by (pending_held s.nodes s.hand.held (record { 0 = entry.node.0 })) refl
+      (taken_is_seen s.nodes s.caught.concern.nodes.items s.hand.held is.holds is.ascend entry.node.0 entry.old has).1
+    where
+      by : (seen : Option Pending) → pending_held s.nodes s.hand.held (record { 0 = entry.node.0 }) ≡ seen → old_of seen ≡ Some entry.old
+          → entry.old.number < s.hand.view.first.first
+      by None saw is_old = absurd (none_some is_old)
+      by (Some value) saw is_old =
+          let stood = held_stood s is how (record { 0 = entry.node.0 }) value saw in
+          inodes_stay_below s.given s.hand.view.first stood.at entry.node.0 below stood.lawful entry.old
+          (sym (ap (λ (f : Flushed). f.old) stood.stands.flushed) ∙ is_old)
 
   -- It was planned by a look.
   module _ (caught : IsCaught s.given s.nodes s.fsync s.hand s.caught) (drafted : IsDraftOf s.fsync s.caught s.file s.hand s.drafted) where
-    -- what was flushed of a node that is held has an inode of the table
-    seen_low : (node : ℕ) (kept : OldKept) → is_listed (map node_number s.caught.concern.nodes.items) node ≡ true → (seen : Option Pending)
-        → pending_held s.nodes s.hand.held (record { 0 = node }) ≡ seen → old_of seen ≡ Some kept → kept.number < s.hand.view.first.first
-    seen_low node kept listed None saw is_old = absurd (none_some is_old)
-    seen_low node kept listed (Some value) saw is_old =
-        let look = caught.look in
-        let part = look.notes.each 0 is.some_core in
-        let noted : look.noted.pending node ≡ Some value =
-        ap (λ (f : ℕ → Option Pending). f node) look.saw
-        ∙ (ap (λ b. if b then pending_held s.nodes s.hand.held (record { 0 = node }) else None) listed ∙ saw)
-        in
-        let stands = part.stands node value noted in
-        let lawful = lawful_begin s.given s.hand.view.first (look.noted.notes 0).at part.rest s.hand.view.seen part.whole look.lawful in
-        inodes_stay_below s.given s.hand.view.first (look.noted.notes 0).at node below lawful kept
-        (sym (ap (λ (f : Flushed). f.old) stands.flushed) ∙ is_old)
-
-    old_low : (entry : OldEntry) → Contains (entries_of s.caught.concern.nodes.items (values_in s.hand.held)) entry
-        → entry.old.number < s.hand.view.first.first
-    old_low entry has = let held = old_held entry has in seen_low entry.node.0 entry.old held.0 (pending_held s.nodes s.hand.held (record { 0 = entry.node.0 })) refl held.1
-
     abbrev enter : List Enter
     enter = drafted.planned.enter
 
@@ -91,34 +78,16 @@ module _ (s : PlannedFsync) (is : IsDraftedFsync s) (below : (of : ℕ) → IsBe
     few = few_below (length enter) s.nodes (λ k. enter_node (get_or enter k (record { node = record { 0 = 0 }; kind = kind.File })))
         (place_low enter_node enter (record { node = record { 0 = 0 }; kind = kind.File }) drafted.planned.moves.enter_ascends) enter_below
 
-    look_on : (layout : Layout) → layout.inodes ≡ s.hand.view.first.first → s.nodes ≤ 2 ^ 32 - 1 → IsChangeOn layout s.drafted.draft.plan.change
-    look_on layout inodes word = subst (IsChangeOn layout) (sym drafted.planned.made)
-        (plans_lie_on_disks layout (entries_of s.caught.concern.nodes.items (values_in s.hand.held)) s.caught.concern.nets.items
-        (files_written (is_written s.caught.gathered enter s.fsync.node.0 s.fsync.stamp.0) drafted.change) enter s.drafted.draft.plan.leave.items
-        (λ entry has. let low = old_low entry has in omega (arith, low, inodes))
-        (let one = few in omega (arith, one, word)))
-
-  -- It was planned by its own file alone.
-  module _ (a : IsPlannedAlone s) where
-    alone_low : (entry : OldEntry) → Contains (entries_of s.caught.concern.nodes.items (values_in s.hand.held)) entry
-        → entry.old.number < s.hand.view.first.first
-    alone_low entry has =
-        let held = old_held entry has in
-        let number = listed_alone s is a entry.node.0 held.0 in
-        let node_is : s.fsync.node ≡ record { 0 = entry.node.0 } = λ i. record { 0 = sym number i } in
-        let kept : a.value.old ≡ Some entry.old = ap old_of (sym (ap (pending_held s.nodes s.hand.held) (sym node_is) ∙ a.held)) ∙ held.1 in
-        inodes_stay_below s.given s.hand.view.first s.hand.view.seen s.fsync.node.0 below a.table.1 entry.old
-        (sym (ap (λ (f : Flushed). f.old) a.stands.flushed) ∙ kept)
-
-    alone_on : (layout : Layout) → layout.inodes ≡ s.hand.view.first.first → IsChangeOn layout s.drafted.draft.plan.change
-    alone_on layout inodes = subst (IsChangeOn layout) (sym a.change_is)
-        (plans_lie_on_disks layout (entries_of s.caught.concern.nodes.items (values_in s.hand.held)) [] a.files [] []
-        (λ entry has. let low = alone_low entry has in omega (arith, low, inodes)) (omega arith))
-
   on_so : IsPlannedSo s → (layout : Layout) → layout.inodes ≡ s.hand.view.first.first → s.nodes ≤ 2 ^ 32 - 1
       → IsChangeOn layout s.drafted.draft.plan.change
-  on_so (by_look caught drafted) layout inodes word = look_on caught drafted layout inodes word
-  on_so (alone a) layout inodes word = alone_on a layout inodes
+  on_so (by_look caught drafted) layout inodes word = subst (IsChangeOn layout) (sym drafted.planned.made)
+      (plans_lie_on_disks layout (entries_of s.caught.concern.nodes.items (values_in s.hand.held)) s.caught.concern.nets.items
+      (files_written (is_written s.caught.gathered drafted.planned.enter s.fsync.node.0 s.fsync.stamp.0) drafted.change) drafted.planned.enter
+      s.drafted.draft.plan.leave.items (λ entry has. let low = old_low (by_look caught drafted) entry has in omega (arith, low, inodes))
+      (let one = few caught drafted in omega (arith, one, word)))
+  on_so (alone a) layout inodes word = subst (IsChangeOn layout) (sym a.change_is)
+      (plans_lie_on_disks layout (entries_of s.caught.concern.nodes.items (values_in s.hand.held)) [] a.files [] []
+      (λ entry has. let low = old_low (alone a) entry has in omega (arith, low, inodes)) (omega arith))
 
   -- so its change is of the disk
   pub change_on : (layout : Layout) → layout.inodes ≡ s.hand.view.first.first → s.nodes ≤ 2 ^ 32 - 1 → IsChangeOn layout s.drafted.draft.plan.change

@@ -218,7 +218,8 @@ module _ {D : Type 0} (at : FlushAt D) (after : FileHand) (done : PenHand D) (go
       agrees_landed s from tried.since (agree_with from none) (plan_more (asked_by s.planned) from done (Ok landed) comes)
       (subst (IsOneOf (numbers_reserved done.view.mine)) (sym lands.number_is) (number_reserved (asked_by s.planned) from done landed comes))
       lands.ends.same.number (number_from from none) (landed_told s lands.told
-      (logs_trimmed (directories_of s.planned.file s.planned.fsync.node s.planned.caught.concern.members.items) (length at.t.first.made)) lands.tells lands.mine)
+      (logs_trimmed (directories_of s.planned.file s.planned.fsync.node s.planned.caught.concern.members.items) (length at.t.first.made))
+      lands.tells lands.mine)
 
 -- A stamped fsync has its answer.
 pub answers_stamped : (t : FileState) (node : NodeId) (stamped : StampedFsync) (fsync : WaitingFsync) (given : Reply) (ack : Option ℕ)

@@ -70,7 +70,8 @@ lent_some (cell.File file) = refl
 lent_some (cell.Part part) = refl
 
 -- so it asks for as many boxes
-pub lents_ask : (after : List OldEntry) (nodes : List NodeId) (values : List Cell) → boxes_asked after nodes (map lent_value values) ≡ boxes_asked after nodes values
+pub lents_ask : (after : List OldEntry) (nodes : List NodeId) (values : List Cell)
+    → boxes_asked after nodes (map lent_value values) ≡ boxes_asked after nodes values
 lents_ask after [] values = refl
 lents_ask after (node ∷ nodes) [] = refl
 lents_ask after (node ∷ nodes) (value ∷ values) = λ i.
@@ -79,7 +80,8 @@ lents_ask after (node ∷ nodes) (value ∷ values) = λ i.
 module _ (nodes : ℕ) (done : CommitDone) where
   -- what is told of a node by the renewed value is what the commit wrote of it
   one_told : (node : NodeId) (value : Cell) → IsSome (as_pending value)
-      → node_told node (renewed_by done.renewal.stamp (is_listed (map node_number done.members) node.0) done.renewal.number (kept_of_node done.after node.0) value)
+      → node_told node (renewed_by done.renewal.stamp (is_listed (map node_number done.members) node.0) done.renewal.number
+      (kept_of_node done.after node.0) value)
       ≡ node_wrote done node value
   one_told node (cell.Pending pending) some = refl
   one_told node (cell.Lock lock) some = absurd (true_not_false (sym some))

@@ -1,15 +1,15 @@
 -- An fsync that was caught and planned.
 use Rattle.std.specs.FinMap.{get}
-use Rattle.std.specs.List.Sorted.{IsStrictlyIncreasing}
-use Rattle.std.proofs.Common.{◌≡◌, ◌<◌, ◌∙◌, ◌∷◌, if◌then◌else◌, ℕ, true, length, Option, Some, None, IsSome, is_some, inl, inr, refl, sym, ap, subst, arith, map, [], not}
+use Rattle.std.specs.Prelude.{IfOk, MatchOption}
+use Rattle.std.proofs.Common.{◌≡◌, ◌<◌, ◌≤◌, ◌-◌, ◌^◌, ◌∙◌, ◌∷◌, if◌then◌else◌, ℕ, true, length, Option, Some, None, Result, Ok, Err, IsSome, is_some, inl, inr, refl, sym, ap, subst, arith, [], not}
 use Rattle.std.proofs.lemmas.List.{length-map}
+use Rattle.sfs_base.specs.declared.fault.NoMemory.{NoMemory}
 use Rattle.sfs_base.specs.declared.numbers.NodeId.{NodeId}
 use Rattle.sfs_base.specs.declared.numbers.Stamp.{Stamp}
 use Rattle.mem_files.specs.File.{File}
 use Rattle.tree_laws.specs.Laws.{IsSoundTree}
 use Rattle.tree_laws.specs.Tree.{TreeState, is_alive, is_directory}
 use Rattle.tree_laws.specs.History.{tree_after, IsLegal}
-use Rattle.tree_laws.specs.NameRow.{node_number}
 use Rattle.tree_laws.proofs.KeepsNodes.{directory_node}
 use Rattle.tree_laws.proofs.RowFacts.{alive_named}
 use Rattle.disk_change.specs.Planned.{Planned}
@@ -24,14 +24,13 @@ use Rattle.mem_calls.specs.Table.{IsFileTable}
 use Rattle.mem_calls.specs.Working.{IsWorking}
 use Rattle.fsync_stamp.specs.Copying.{IsCopied}
 use Rattle.fsync_look.specs.Look.{flushed_place}
-use Rattle.fsync_catch.specs.Catch.{run_seen}
+use Rattle.fsync_catch.specs.Catch.{IsCaughtAlone, LacksAlone, LetsAllGo, run_seen}
 use Rattle.fsync_catch.specs.declared.looking.Caught.{Caught}
-use Rattle.fsync_catch.proofs.Going.{goes_none}
-use Rattle.fsync_catch.proofs.HeldAlone.{one_within}
+use Rattle.fsync_catch.proofs.Going.{goes_none, one_below, one_rises}
 use Rattle.fsync_draft.specs.Drafting.{IsDraftOf, IsHollow, IsOwnDraftOf, IsDraftedAlone}
 use Rattle.landing_laws.specs.Made.{IsOwnCopy, IsDraftedFsync, PlannedFsync, of_directory, of_file, IsLentPlan, by_look, IsPlannedAlone, alone}
 use Rattle.landing_laws.specs.Landed.{directories_of}
-use Rattle.fsync_dir.specs.Attempt.{HasCaught, HasDrafted, attempt_at, HoldsWaiting, HasHeldAlone}
+use Rattle.fsync_dir.specs.Attempt.{HasCaught, HasDrafted, attempt_at, HoldsFileAlone, HoldsWaiting, HasHeldAlone}
 use Rattle.fsync_dir.specs.Flush.{WasCopied, copy_of}
 use Rattle.fsync_dir.specs.declared.attempt.OwnFsync.{OwnFsync}
 use Rattle.fsync_dir.specs.declared.attempt.PlannedCommit.{PlannedCommit}
@@ -137,10 +136,6 @@ module _ (t : FileState) (nodes : ℕ) (own : OwnFsync) (caught : Caught) (hand 
       hollow = is_hollow;
     }
 
--- one node ascends
-one_ascends : (node : NodeId) → IsStrictlyIncreasing (map node_number (node ∷ []))
-one_ascends node i within = absurd (omega (arith, within))
-
 -- what an fsync of a file that has an inode concerns, which looked at no log
 abbrev alone_caught : NodeId → Caught
 alone_caught node = record {
@@ -157,8 +152,18 @@ alone_caught node = record {
   };
 }
 
+-- Where a file's own value was caught, or it has no inode, it is held so, or all is let go.
+module _ (t : FileState) (nodes : ℕ) (own : OwnFsync) (before hand : FileHand) where
+  pub held_file : (caught : Result (Option Stamp) NoMemory) → IsSome own.file → nodes ≤ 2 ^ 32 - 1
+      → IfOk caught (λ cut. MatchOption cut (LacksAlone (given_by t) own.fsync before hand) (IsCaughtAlone (given_by t) nodes own.fsync hand))
+      → IfOk caught (λ cut. MatchOption cut (LetsAllGo hand) (HoldsFileAlone t nodes own hand))
+  held_file (Ok None) file few lacks = lacks.lets
+  held_file (Ok (Some cut)) file few held = record { alone = held; file = file; few = few }
+  held_file (Err fault) file few none = tt
+
 -- An fsync of a file whose own value alone is held.
-module _ (t : FileState) (nodes : ℕ) (own : OwnFsync) (cut : Stamp) (hand : FileHand) (has : HasHeldAlone t nodes own cut hand) (table : IsFileTable t nodes) where
+module _ (t : FileState) (nodes : ℕ) (own : OwnFsync) (cut : Stamp) (hand : FileHand) (has : HasHeldAlone t nodes own cut hand)
+    (table : IsFileTable t nodes) where
   -- one cell is held
   pub one_held : length hand.held ≡ 1
   one_held =
@@ -207,9 +212,9 @@ module _ (t : FileState) (nodes : ℕ) (own : OwnFsync) (cut : Stamp) (hand : Fi
       root = disk 0 ∙ directory_node t.first 0 table.sound.sound.root;
       some_core = some_core t nodes own hand has.holds has.work table has.alone.legal;
       holds = has.alone.holds;
-      ascend = one_ascends own.fsync.node;
-      members_ascend = one_ascends own.fsync.node;
-      within = one_within nodes own.fsync.node has.within;
+      ascend = one_rises own.fsync.node;
+      members_ascend = one_rises own.fsync.node;
+      within = one_below nodes own.fsync.node has.within;
       copied = own_copy t nodes own hand has.holds has.work table has.alone.legal;
       lent = record {
         lent = draft.lent;

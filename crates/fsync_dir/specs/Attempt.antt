@@ -38,7 +38,7 @@ pub record HasCaught (t : FileState) (nodes : ℕ) (own : OwnFsync) (caught : Ca
 
 -- It holds the value of the fsync's own node alone, which is a file and has an inode: up to this stamp something was flushed of it. The nodes are as many as
 -- a word counts at most.
-pub record HoldsFile (t : FileState) (nodes : ℕ) (own : OwnFsync) (hand : FileHand) (cut : Stamp) : Type 0 where
+pub record HoldsFileAlone (t : FileState) (nodes : ℕ) (own : OwnFsync) (hand : FileHand) (cut : Stamp) : Type 0 where
   pub alone : IsCaughtAlone (given_by t) nodes own.fsync hand cut
   pub file : IsSome own.file
   pub few : nodes ≤ 2 ^ 32 - 1

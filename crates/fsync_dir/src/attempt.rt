@@ -12,7 +12,7 @@ ghost use Rattle.mem_values.specs.Start.{given_by};
 ghost use Rattle.mem_calls.specs.Table.{IsFileTable};
 ghost use Rattle.mem_calls.specs.Working.{IsWorking};
 ghost use Rattle.fsync_catch.specs.Catch.{GoesOn, LetsAllGo};
-ghost use Rattle.fsync_dir.specs.Attempt.{HasCaught, HasDrafted, HasHeldAlone, HoldsFile, attempt_at};
+ghost use Rattle.fsync_dir.specs.Attempt.{HasCaught, HasDrafted, HasHeldAlone, HoldsFileAlone, attempt_at};
 ghost use Rattle.fsync_dir.specs.Flush.{AttemptComes, WaitsToFlush};
 ghost use Rattle.fsync_dir.specs.Site.{IsSite, ToldAsReserved};
 
@@ -254,7 +254,7 @@ fn hold_file<R: Wait, D: Disk + Drop>(
     requires waits { WaitsToFlush site.now.shared.now site.now.nodes own.now.fsync own.now.file core.old }
     ensures work { IsWorking (given_by site.now.shared.now) site.now.shared.now core.new }
     ensures on { GoesOn core.old core.new }
-    ensures alone { IfOk result (λ cut. MatchOption cut (LetsAllGo core.new) (HoldsFile site.now.shared.now site.now.nodes own.now core.new)) }
+    ensures alone { IfOk result (λ cut. MatchOption cut (LetsAllGo core.new) (HoldsFileAlone site.now.shared.now site.now.nodes own.now core.new)) }
     ensures none { OnErr result (LetsAllGo core.new) }
 {
     match own.file.as_ref() {

@@ -42,7 +42,8 @@ pub(crate) fn end_landed<R: Wait, D: Disk>(
     requires below { LiesAbove (32 + 10 * site.now.nodes) core.old.view.held }
     requires room { 0 < core.old.room }
     requires landed { (s : LandedFsync) × HasLandedHere site.now.shared.now fsync left landed s core.old }
-    ensures lands { (s : LandedFsync) → HasLandedHere site.now.shared.now fsync left landed s core.old → LandsSo site.now.shared.now fsync s landed.ack core.old core.new }
+    ensures lands { (s : LandedFsync) → HasLandedHere site.now.shared.now fsync left landed s core.old
+        → LandsSo site.now.shared.now fsync s landed.ack core.old core.new }
 {
     let Landed {
         ack,

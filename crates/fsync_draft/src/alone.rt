@@ -1,5 +1,5 @@
 // What an fsync plans of a file that has an inode, by its own value alone.
-ghost use Rattle.std.specs.Prelude.{◌≡◌, ◌∷◌, [], IfOk, OnErr, length};
+ghost use Rattle.std.specs.Prelude.{◌≡◌, IfOk, OnErr, length};
 ghost use Rattle.fsync_draft.specs.Drafting.{IsDraftedAlone, IsHollow, IsOwnDraft, IsOwnDraftOf};
 
 use crate::drafting::Draft;
@@ -7,22 +7,12 @@ use crate::lending::DraftedFsync;
 use crate::seeing::seen_of;
 use disk_change::{DiskChange, EnterList, FileChangeList, NetList};
 use flush_plan::{FsyncPlan, file_change};
-use fsync_catch::WaitingFsync;
+use fsync_catch::{WaitingFsync, one_node};
 use fsync_values::{hollow_values, lend, restore, spare_boxes};
 use mem_files::FileBytes;
 use mem_values::{Cell, FileCore};
-use sfs_base::{NoMemory, NodeId, NodeList, Stamp};
+use sfs_base::{NoMemory, NodeList, Stamp};
 use std::alloc::Global;
-
-// A list of one node.
-fn one_node(alloc: Global, node: NodeId) -> Result<NodeList, NoMemory>
-    ensures { IfOk result (λ nodes. nodes.items ≡ node ∷ []) }
-{
-    let mut nodes = NodeList::new(alloc);
-    nodes.reserve(1)?;
-    nodes.push(node);
-    Ok(nodes)
-}
 
 // The changes of the file from its cut on; there are none where something later than the fsync was flushed.
 fn own_files(

@@ -97,7 +97,8 @@ pub record Finishes (given : ℕ → Option OldKept) (cores : ℕ) (told : Fact)
   pub seen : IsPrefix before.view.seen after.view.seen
   pub lawful : IsLawful (IsLawfulLog given) after.view.first after.view.seen
   pub own : after.view.mine ≡ entries_by event_core after.view.core after.view.seen
-  pub mine : after.view.mine ≡ (before.view.mine ++ told_by before.view.core told 0 ∷ []) ++ trim_events before.view.core ending.number (logs_trimmed ending.members.items cores)
+  pub mine : after.view.mine ≡ (before.view.mine ++ told_by before.view.core told 0 ∷ [])
+      ++ trim_events before.view.core ending.number (logs_trimmed ending.members.items cores)
   pub told_behind : IsToldBehind given told before after
   pub answered : (front : List Entry) × (last : Entry) × (last.stamp.0 ≡ ending.stamp.0) × (before.entries ≡ front ++ last ∷ [])
       × (after.entries ≡ front ++ with_answer last reply.Ok (Some ending.ack) ∷ [])

@@ -61,7 +61,8 @@ pub record LooksAtLog (s : LogLook) : Type 0 where
   pub gains : Gains s.nodes (id.Part s.number) s.before s.holding
 
 -- what stands for the cell of what was flushed of a node, by the value that it is
-pub pending_of : (given : ℕ → Option OldKept) (first : TreeState) (log : List (Event Fact)) (node : NodeId) (value : Cell) (p : Pending) → as_pending value ≡ Some p
+pub pending_of : (given : ℕ → Option OldKept) (first : TreeState) (log : List (Event Fact)) (node : NodeId) (value : Cell) (p : Pending)
+    → as_pending value ≡ Some p
     → StandsForCell given first (account_of log) (id.Pending node) value → StandsPending given first (account_of log) node.0 p
 pending_of given first log node (cell.Pending pending) p is stood = subst (StandsPending given first (account_of log) node.0) (some_same is) stood
 pending_of given first log node (cell.Bucket bucket) p is stood = absurd stood
@@ -117,7 +118,8 @@ module _ (s : LogLook) (may : LooksAtLog s) where
 
   -- what is known of what was held before, once only that is held
   knows_left : (view : View TreeState (Event Fact)) → record view { held = s.holding.view.held } ≡ s.holding.view → (cells : List (HeldCell Cell))
-      → ((other : ℕ) → Has (places_of cells) other → Has view.held other) → KnowsCells s.given s.holding.view (cells ++ last ∷ []) → KnowsCells s.given view cells
+      → ((other : ℕ) → Has (places_of cells) other → Has view.held other) → KnowsCells s.given s.holding.view (cells ++ last ∷ [])
+      → KnowsCells s.given view cells
   knows_left view same [] there knows = tt
   knows_left view same (c ∷ cells) there knows = (
     record {

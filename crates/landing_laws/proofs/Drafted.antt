@@ -24,7 +24,7 @@ use Rattle.mem_values.specs.declared.cell.Pending.{Pending}
 use Rattle.mem_values.specs.declared.cell.Cell.{Cell}
 use Rattle.note_laws.specs.Joined.{CopiedFile}
 use Rattle.note_laws.specs.Run.{calls_of}
-use Rattle.made_laws.specs.Made.{CoreMade, CoreMaking, HasMadeFile, HasSeenOld, cut_gathered, directory, in_copy, is_concerned, old_of, OwnFileMaking, OwnFileChanges, OwnFileMade, OwnMade, MadeIn}
+use Rattle.made_laws.specs.Made.{CoreMade, CoreMaking, HasMadeFile, HasSeenOld, cut_gathered, directory, in_copy, is_concerned, old_of, OwnFileMaking, OwnFileChanges, OwnFileMade, OwnMade, MadeEitherWay}
 use Rattle.mem_calls.specs.Held.{pending_held}
 use Rattle.fsync_values.specs.Lending.{entries_of}
 use Rattle.fsync_values.proofs.Renewed.{entries_ascend}
@@ -91,9 +91,11 @@ module _ (s : PlannedFsync) (is : IsDraftedFsync s) (caught : IsCaught s.given s
         is = subst (λ n. IsFileChange (record { 0 = n }) (cut_gathered making n) copy.value.file own.0) (sym g.node_is) own.1;
       })
 
-  plans : IsPlanOf (record { 0 = g.noted.node }) (record { 0 = g.noted.stamp }) s.caught.gathered s.caught.concern further.old further.is_file further.change further.plan
+  plans : IsPlanOf (record { 0 = g.noted.node }) (record { 0 = g.noted.stamp })
+      s.caught.gathered s.caught.concern further.old further.is_file further.change further.plan
   plans =
-      subst (λ n. IsPlanOf (record { 0 = n }) (record { 0 = g.noted.stamp }) s.caught.gathered s.caught.concern further.old further.is_file further.change further.plan)
+      subst (λ n. IsPlanOf (record { 0 = n }) (record { 0 = g.noted.stamp })
+      s.caught.gathered s.caught.concern further.old further.is_file further.change further.plan)
       (sym g.node_is)
       (subst (λ n. IsPlanOf s.fsync.node (record { 0 = n }) s.caught.gathered s.caught.concern further.old further.is_file further.change further.plan)
       (sym g.stamp_is) drafted.planned)
@@ -112,7 +114,7 @@ module _ (s : PlannedFsync) (is : IsDraftedFsync s) (caught : IsCaught s.given s
   pub look_makes : MakesPlanned s
   look_makes = record {
     making = making;
-    made = MadeIn.of_notes made;
+    made = MadeEitherWay.of_notes made;
     core_is = g.core_is;
     node_is = g.node_is;
     stamp_is = g.stamp_is;
@@ -234,7 +236,7 @@ module _ (s : PlannedFsync) (is : IsDraftedFsync s) (a : IsPlannedAlone s) where
   pub alone_makes : MakesPlanned s
   alone_makes = record {
     making = making_alone;
-    made = MadeIn.of_file made_alone;
+    made = MadeEitherWay.of_file made_alone;
     core_is = refl;
     node_is = refl;
     stamp_is = refl;

@@ -38,7 +38,8 @@ old_same (cell.File file) = refl
 old_same (cell.Part part) = refl
 
 -- an entry of the first node, or of another one
-cons_cases : (o : Option OldEntry) (entries : List OldEntry) (entry : OldEntry) → Contains (cons_option o entries) entry → (o ≡ Some entry) ⊎ Contains entries entry
+cons_cases : (o : Option OldEntry) (entries : List OldEntry) (entry : OldEntry) → Contains (cons_option o entries) entry
+    → (o ≡ Some entry) ⊎ Contains entries entry
 cons_cases None entries entry has = inr has
 cons_cases (Some one) entries entry (zero, within, is) = inl (ap Some is)
 cons_cases (Some one) entries entry (suc k, within, is) = inr (k, omega (arith, within), is)

@@ -26,14 +26,16 @@ pub other_held : (nodes : ℕ) (c : HeldCell Cell) (cells : List (HeldCell Cell)
     → (node.0 ≡ other.0 → ⊥) → pending_held nodes (c ∷ cells) other ≡ pending_held nodes cells other
 other_held nodes c cells node other is apart = elim (eqb_tells c.place (flushed_place nodes other)) [
   | inl same ↦ let place = same.1 in absurd (apart (omega (arith, is, place)))
-  | inr away ↦ ap (λ b. option_and_then as_pending (option_map (λ (h : HeldCell Cell). h.value) (if b then Some c else cell_at (flushed_place nodes other) cells))) away.0
+  | inr away ↦ ap (λ b. option_and_then as_pending
+      (option_map (λ (h : HeldCell Cell). h.value) (if b then Some c else cell_at (flushed_place nodes other) cells))) away.0
 ]
 
 -- nodes that ascend
 pub first_listed : (n : NodeId) (list : List NodeId) → is_listed (map node_number (n ∷ list)) n.0 ≡ true
 first_listed n list = (listed_one (map node_number (n ∷ list)) n.0).1 (inl refl)
 
-pub later_listed : (n : NodeId) (list : List NodeId) (node : ℕ) → is_listed (map node_number list) node ≡ true → is_listed (map node_number (n ∷ list)) node ≡ true
+pub later_listed : (n : NodeId) (list : List NodeId) (node : ℕ) → is_listed (map node_number list) node ≡ true
+    → is_listed (map node_number (n ∷ list)) node ≡ true
 later_listed n list node is = (listed_one (map node_number (n ∷ list)) node).1 (inr ((listed_one (map node_number list) node).0 is))
 
 pub apart : (n : NodeId) (list : List NodeId) (node : ℕ) → IsStrictlyIncreasing (map node_number (n ∷ list)) → is_listed (map node_number list) node ≡ true
@@ -45,5 +47,6 @@ apart n list node up listed same =
 pub later_held : (nodes : ℕ) (n : NodeId) (list : List NodeId) (c : HeldCell Cell) (cells : List (HeldCell Cell)) → c.place ≡ flushed_place nodes n
     → IsStrictlyIncreasing (map node_number (n ∷ list)) → All (IsHeldOf nodes (c ∷ cells)) (n ∷ list) → All (IsHeldOf nodes cells) list
 later_held nodes n list c cells place up held k d within =
-    let listed = (listed_one (map node_number list) (get_or list k d).0).1 (to_map node_number list (get_or list k d) (one_at list k d (get_or list k d) within refl)) in
+    let listed = (listed_one (map node_number list) (get_or list k d).0).1
+    (to_map node_number list (get_or list k d) (one_at list k d (get_or list k d) within refl)) in
     subst IsSome (other_held nodes c cells n (get_or list k d) place (apart n list (get_or list k d).0 up listed)) (held (suc k) d (omega (arith, within)))

@@ -91,7 +91,8 @@ module _ (nodes : ℕ) (done : CommitDone) where
               listed = (listed_one (map node_number (n ∷ list)) node).1 (inl same.1);
             }
         | inr away ↦
-            let later = found_wrote list cells rest node held (sym (find_other (node_wrote done n c.value) (nodes_wrote done list (values_in cells)) node away.1) ∙ is) in
+            let later = found_wrote list cells rest node held
+            (sym (find_other (node_wrote done n c.value) (nodes_wrote done list (values_in cells)) node away.1) ∙ is) in
             record {
               value = later.value;
               pending = other_held nodes c cells n (record { 0 = node }) place away.1 ∙ later.pending;

@@ -4,7 +4,6 @@ use Rattle.std.proofs.Common.{◌≡◌, ◌∙◌, if◌then◌else◌, ◌++�
 use Rattle.sfs_base.specs.declared.numbers.Stamp.{Stamp}
 use Rattle.sfs_base.specs.declared.numbers.NodeId.{NodeId}
 use Rattle.sfs_base.specs.Listed.{is_listed}
-use Rattle.sfs_base.proofs.BasicOptions.{some_same, none_some}
 use Rattle.sfs_base.proofs.BasicTruth.{not_both}
 use Rattle.sfs_base.proofs.BasicNumbers.{same_number}
 use Rattle.tree_laws.specs.NameRow.{node_number}
@@ -22,28 +21,27 @@ use Rattle.dep_closure.specs.Gathered.{cut_in, lifted_cut}
 use Rattle.flush_plan.specs.declared.concern.Concern.{Concern}
 use Rattle.flush_plan.specs.declared.plans.FsyncPlan.{FsyncPlan}
 use Rattle.stamp_table.specs.Events.{calls_in}
-use Rattle.mem_values.specs.declared.cell.Cell.{Cell}
 use Rattle.mem_values.specs.declared.cell.Pending.{Pending}
 use Rattle.mem_values.specs.Start.{FileState, FileHand}
 use Rattle.mem_values.specs.Account.{held_by, account_of}
 use Rattle.mem_values.specs.declared.fact.HeldNode.{HeldNode}
 use Rattle.mem_values.specs.Stands.{flushed_in, Flushed}
-use Rattle.mem_values.specs.declared.cell.Cell.TheVariants as cell
 use Rattle.mem_values.proofs.Telling.{later_node}
 use Rattle.mem_values.proofs.Basics.{is_value}
 use Rattle.home_laws.specs.Laws.{IsNodeOf}
 use Rattle.note_laws.specs.Run.{TableRun, IsTableRun, calls_of, WroteNode, TellsCommit}
-use Rattle.made_laws.specs.Made.{CoreMaking, run_on, CoreMade, is_concerned, OwnMade, MadeIn, OwnFileMaking, OwnFileMade}
+use Rattle.made_laws.specs.Made.{CoreMaking, run_on, CoreMade, is_concerned, OwnMade, MadeEitherWay, OwnFileMaking, OwnFileMade}
 use Rattle.made_laws.specs.Tells.{commit_made, ToldMade}
 use Rattle.made_laws.specs.Own.{commit_of_own, ToldOwn, TellsMaking, told_notes, told_file}
 use Rattle.made_laws.proofs.Later.{mades_go_on, makings_go_on, owns_go_on}
-use Rattle.mem_calls.specs.Held.{as_pending, pending_held}
+use Rattle.mem_calls.specs.Held.{pending_held}
 use Rattle.fsync_values.specs.Renewing.{cut_then, kept_of_node}
 use Rattle.landing_laws.specs.Written.{cut_of_value}
 use Rattle.landing_laws.specs.Made.{MakesPlanned, run_planned, PlannedFsync, of_file}
 use Rattle.landing_laws.specs.Landed.{LandedFsync, HasBecomeDurable, nodes_landed, commitment_of, done_of}
 use Rattle.landing_laws.specs.Told.{TellsLanded, LandedAreTold}
 use Rattle.landing_laws.proofs.Landed.{node_there, member_held, landed}
+use Rattle.landing_laws.proofs.ToldDrafts.{cut_is}
 use Rattle.landing_laws.proofs.Seen.{listed_wrote, found_wrote, FoundWrote}
 use Rattle.landing_laws.proofs.Kept.{left_made}
 use Rattle.landing_laws.proofs.Left.{left_listed}
@@ -52,13 +50,6 @@ use Rattle.landing_laws.proofs.Left.{left_listed}
 then_is : (stamp : Stamp) (member : Bool) (cut : Stamp) → (cut_then stamp member cut).0 ≡ (if member then max cut.0 stamp.0 else cut.0)
 then_is stamp true cut = refl
 then_is stamp false cut = refl
-
-cut_is : (value : Cell) (p : Pending) → as_pending value ≡ Some p → cut_of_value value ≡ p.cut
-cut_is (cell.Pending pending) p same = ap (λ (q : Pending). q.cut) (some_same same)
-cut_is (cell.Lock lock) p same = absurd (none_some same)
-cut_is (cell.Bucket bucket) p same = absurd (none_some same)
-cut_is (cell.File file) p same = absurd (none_some same)
-cut_is (cell.Part part) p same = absurd (none_some same)
 
 -- What a core held of a node is what it saw and gathered of it.
 record SeenHeld (s : PlannedFsync) (node : ℕ) : Type 0 where
@@ -181,10 +172,10 @@ module _ (t : FileState) (s : LandedFsync) (m : MakesPlanned s.planned) (run : T
 
   -- The commit of a file that was planned alone.
   module _ (one : OwnMade (run_planned s.planned) making) where
-    of_file_there : MadeIn run making
+    of_file_there : MadeEitherWay run making
     of_file_there =
-        subst (λ r. MadeIn r making) run_is
-        (makings_go_on (run_planned s.planned) goes_on.0 making (subst IsTableRun (sym run_is) told.table) (MadeIn.of_file one))
+        subst (λ r. MadeEitherWay r making) run_is
+        (makings_go_on (run_planned s.planned) goes_on.0 making (subst IsTableRun (sym run_is) told.table) (MadeEitherWay.of_file one))
 
     abbrev own : OwnFileMaking
     own = one.own
@@ -254,7 +245,8 @@ module _ (t : FileState) (s : LandedFsync) (m : MakesPlanned s.planned) (run : T
         inode_own =
             ap (λ (h : HeldNode). is_some h.new) found.is ∙ ap (λ after. is_some (kept_of_node after node)) is.after_is
             ∙ ap (λ (plan : FsyncPlan). is_some (kept_of_node (after_commit plan.change s.grant) node)) (sym m.plan_is)
-            ∙ ap (λ (change : Planned). is_some (kept_of_node (after_commit change s.grant) node)) (one.change_is ∙ ap (λ old. planned old [] own.files [] []) one.old_is)
+            ∙ ap (λ (change : Planned). is_some (kept_of_node (after_commit change s.grant) node))
+            (one.change_is ∙ ap (λ old. planned old [] own.files [] []) one.old_is)
             ∙ left_listed (entry_keyed (own.node, own.kept) ∷ []) [] own.files [] [] s.grant node
             ∙ ap (λ n. (is_listed (own.node ∷ []) n && not (is_listed [] n)) || is_listed [] n) same
             ∙ ap (λ b. (b && true) || false) ((listed_one (own.node ∷ []) own.node).1 (inl refl))
@@ -296,9 +288,9 @@ module _ (t : FileState) (s : LandedFsync) (m : MakesPlanned s.planned) (run : T
       tells = own_told;
     }
 
-  pub told_so : MadeIn (run_planned s.planned) making → TellsMaking run making (commitment_of s)
-  told_so (MadeIn.of_notes core) = told_notes (told_made core)
-  told_so (MadeIn.of_file one) = told_file (told_own one)
+  pub told_so : MadeEitherWay (run_planned s.planned) making → TellsMaking run making (commitment_of s)
+  told_so (MadeEitherWay.of_notes core) = told_notes (told_made core)
+  told_so (MadeEitherWay.of_file one) = told_file (told_own one)
 
 pub landed_are_told : LandedAreTold
 landed_are_told t s made run is told = told_so t s made run is told made.made

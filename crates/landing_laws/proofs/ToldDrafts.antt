@@ -72,7 +72,8 @@ module _ (nodes : ℕ) (done : CommitDone) where
       }
 
   -- each that was written
-  wrote_of : (list : List NodeId) (cells : List (HeldCell Cell)) → places_of cells ≡ map (flushed_place nodes) list → IsStrictlyIncreasing (map node_number list)
+  wrote_of : (list : List NodeId) (cells : List (HeldCell Cell)) → places_of cells ≡ map (flushed_place nodes) list
+      → IsStrictlyIncreasing (map node_number list)
       → (held : HeldNode) → IsOneOf (nodes_wrote done list (values_in cells)) held → IsWroteOf nodes list cells done held
   wrote_of [] cells places up held one = absurd one
   wrote_of (n ∷ list) [] places up held one = absurd one
@@ -93,7 +94,8 @@ module _ (nodes : ℕ) (done : CommitDone) where
       ]
 
   -- and what is found of a node that is listed
-  found_wrote : (list : List NodeId) (cells : List (HeldCell Cell)) → places_of cells ≡ map (flushed_place nodes) list → IsStrictlyIncreasing (map node_number list)
+  found_wrote : (list : List NodeId) (cells : List (HeldCell Cell)) → places_of cells ≡ map (flushed_place nodes) list
+      → IsStrictlyIncreasing (map node_number list)
       → (node : ℕ) → is_listed (map node_number list) node ≡ true
       → (held : HeldNode) × (find (is_held_of node) (nodes_wrote done list (values_in cells)) ≡ Some held) × (held.node.0 ≡ node)
       × IsOneOf (nodes_wrote done list (values_in cells)) held
@@ -115,7 +117,8 @@ module _ (nodes : ℕ) (done : CommitDone) where
       ]
 
 -- a cell among those that a core knows
-knows_one : (given : ℕ → Option OldKept) (hand : FileHand) (cells : List (HeldCell Cell)) (c : HeldCell Cell) → KnowsCells given hand.view cells → IsOneOf cells c
+knows_one : (given : ℕ → Option OldKept) (hand : FileHand) (cells : List (HeldCell Cell)) (c : HeldCell Cell) → KnowsCells given hand.view cells
+    → IsOneOf cells c
     → KnowsCell given hand.view c
 knows_one given hand [] c knows one = absurd one
 knows_one given hand (x ∷ cells) c knows one = elim one [
@@ -140,6 +143,14 @@ same_then : (stamp : Stamp) (member : Bool) (cut : Stamp) → member ≡ false �
 same_then stamp true cut is = absurd (true_not_false is)
 same_then stamp false cut is = refl
 
+-- the cut of a value is that which was flushed
+pub cut_is : (value : Cell) (p : Pending) → as_pending value ≡ Some p → cut_of_value value ≡ p.cut
+cut_is (cell.Pending pending) p same = ap (λ (q : Pending). q.cut) (some_same same)
+cut_is (cell.Lock lock) p same = absurd (none_some same)
+cut_is (cell.Bucket bucket) p same = absurd (none_some same)
+cut_is (cell.File file) p same = absurd (none_some same)
+cut_is (cell.Part part) p same = absurd (none_some same)
+
 module _ (given : ℕ → Option OldKept) (nodes : ℕ) (list : List NodeId) (hand : FileHand) (done : CommitDone) (commit : Commitment)
     (is : HasLanded given nodes list hand done commit) where
   of_held : (held : HeldNode) → IsOneOf commit.held held → IsWroteOf nodes list hand.held done held
@@ -152,13 +163,6 @@ module _ (given : ℕ → Option OldKept) (nodes : ℕ) (list : List NodeId) (ha
       by : (o : Option Pending) → as_pending of.cell.value ≡ o → IsSome o → (p : Pending) × (as_pending of.cell.value ≡ Some p)
       by None same some = absurd (true_not_false (sym some))
       by (Some p) same some = (p, same)
-
-  cut_is : (value : Cell) (p : Pending) → as_pending value ≡ Some p → cut_of_value value ≡ p.cut
-  cut_is (cell.Pending pending) p same = ap (λ (q : Pending). q.cut) (some_same same)
-  cut_is (cell.Lock lock) p same = absurd (none_some same)
-  cut_is (cell.Bucket bucket) p same = absurd (none_some same)
-  cut_is (cell.File file) p same = absurd (none_some same)
-  cut_is (cell.Part part) p same = absurd (none_some same)
 
   value_follows : (held : HeldNode) (value : Cell) (p : Pending) → as_pending value ≡ Some p
       → FollowsFlushed hand.view.first (calls_in hand.view.seen) commit held p → FollowsValue hand.view.first (calls_in hand.view.seen) commit held value

@@ -35,7 +35,8 @@ use Rattle.landing_laws.specs.Written.{CommitDone, HoldsWhatItWrote, RenewedAreW
 pub find_first : (held : HeldNode) (others : List HeldNode) (node : ℕ) → held.node.0 ≡ node → find (is_held_of node) (held ∷ others) ≡ Some held
 find_first held others node is = ap (λ b. if b then Some held else find (is_held_of node) others) (eq-eqb held.node.0 node is)
 
-pub find_other : (held : HeldNode) (others : List HeldNode) (node : ℕ) → (held.node.0 ≡ node → ⊥) → find (is_held_of node) (held ∷ others) ≡ find (is_held_of node) others
+pub find_other : (held : HeldNode) (others : List HeldNode) (node : ℕ) → (held.node.0 ≡ node → ⊥)
+    → find (is_held_of node) (held ∷ others) ≡ find (is_held_of node) others
 find_other held others node apart = elim (eqb_tells held.node.0 node) [
   | inl same ↦ absurd (apart same.1)
   | inr away ↦ ap (λ b. if b then Some held else find (is_held_of node) others) away.0
@@ -74,7 +75,8 @@ module _ (tree : TreeState) (nodes : ℕ) (done : CommitDone) (commit : Commitme
   one_written node c within is_node place holds (cell.Part part) same some = absurd (true_not_false (sym some))
 
   -- all of them
-  all_written : (list : List NodeId) (cells : List (HeldCell Cell)) → places_of cells ≡ map (flushed_place nodes) list → IsStrictlyIncreasing (map node_number list)
+  all_written : (list : List NodeId) (cells : List (HeldCell Cell)) → places_of cells ≡ map (flushed_place nodes) list
+      → IsStrictlyIncreasing (map node_number list)
       → All (IsHeldOf nodes cells) list → All (IsBelow nodes) list → All (λ (node : NodeId). IsNodeOf tree node.0) list
       → ((node : ℕ) → is_listed (map node_number list) node ≡ true → held_by commit node ≡ find (is_held_of node) (nodes_wrote done list (values_in cells)))
       → AreWritten tree nodes commit cells (values_renewed done.renewal done.members done.after list (values_in cells))

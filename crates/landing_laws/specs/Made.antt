@@ -19,7 +19,7 @@ use Rattle.mem_values.specs.Account.{account_of}
 use Rattle.mem_values.specs.Facts.{IsLawfulLog}
 use Rattle.note_laws.specs.Joined.{CopiedFile}
 use Rattle.note_laws.specs.Run.{TableRun, calls_of}
-use Rattle.made_laws.specs.Made.{CoreMaking, MadeIn}
+use Rattle.made_laws.specs.Made.{CoreMaking, MadeEitherWay}
 use Rattle.mem_calls.specs.Held.{pending_held}
 use Rattle.fsync_values.specs.Lending.{entries_of, lent_value}
 use Rattle.fsync_values.specs.Renewing.{boxes_asked}
@@ -100,7 +100,7 @@ pub record IsDraftedFsync (s : PlannedFsync) : Type 0 where
 -- A core made this for its fsync: the plan, over what the disk has of the nodes by the values that it held.
 pub record MakesPlanned (s : PlannedFsync) : Type 0 where
   pub making : CoreMaking
-  pub made : MadeIn (run_planned s) making
+  pub made : MadeEitherWay (run_planned s) making
   pub core_is : making.noted.core ≡ s.hand.view.core
   pub node_is : making.noted.node ≡ s.fsync.node.0
   pub stamp_is : making.noted.stamp ≡ s.fsync.stamp.0

@@ -122,7 +122,10 @@ module _ (run : TableRun) (making : CoreMaking) (number : ℕ) (is : IsTableRun 
   }
 
   pub is_known : IsKnownMade run making commit
-  is_known = record { from = from_notes; notes = made_have_notes run (record { noted = making.noted; gathered = making.gathered; commit = commit }) is from_notes }
+  is_known = record {
+    from = from_notes;
+    notes = made_have_notes run (record { noted = making.noted; gathered = making.gathered; commit = commit }) is from_notes;
+  }
 
 pub mades_are_known : MadesAreKnown
 mades_are_known run making number is made = is_known run making number is made

@@ -17,7 +17,7 @@ use Rattle.note_laws.specs.Run.{TableRun, IsTableRun, calls_of}
 use Rattle.note_laws.specs.Notes.{IsNotedPart}
 use Rattle.note_laws.proofs.Along.{legal_begin, calls_begin}
 use Rattle.note_laws.proofs.There.{live_there}
-use Rattle.made_laws.specs.Made.{HasMadeFile, too_late, in_copy, CoreMaking, run_on, CoreMade, IsMadeOfCopy, MadesGoOn, making_flush, cut_gathered, OwnFileMaking, OwnFileMade, OwnFileChanges, own_flush, OwnsGoOn, MakingsGoOn, of_notes, of_file}
+use Rattle.made_laws.specs.Made.{HasMadeFile, too_late, in_copy, CoreMaking, run_on, CoreMade, IsMadeOfCopy, MadesGoOn, making_flush, cut_gathered, OwnFileMaking, OwnFileMade, OwnFileChanges, own_flush, OwnsGoOn, OwnMade, MakingsGoOn, of_notes, of_file}
 
 module _ (run : TableRun) (more : List (Event Fact)) (is : IsTableRun (run_on run more)) where
   abbrev after : TableRun
@@ -89,7 +89,8 @@ module _ (run : TableRun) (more : List (Event Fact)) (making : CoreMaking) (is :
   file_later : HasMadeFile run making → HasMadeFile then making
   file_later (HasMadeFile.directory kind is_file none) = HasMadeFile.directory (kind_later ∙ kind) is_file none
   file_later (too_late kind is_file none late) = too_late (kind_later ∙ kind) is_file none late
-  file_later (in_copy change kind is_file some copy) = in_copy change (kind_later ∙ kind) is_file some (copy_later run more is (making_flush making) (cut_gathered making making.noted.node) change copy)
+  file_later (in_copy change kind is_file some copy) =
+      in_copy change (kind_later ∙ kind) is_file some (copy_later run more is (making_flush making) (cut_gathered making making.noted.node) change copy)
 
   pub goes_on : CoreMade then making
   goes_on = record {
@@ -126,9 +127,10 @@ mades_go_on run more making is made = goes_on run more making is made
 pub owns_go_on : OwnsGoOn
 owns_go_on run more own is made = own_goes_on run more own is made
 
-pub makings_go_on : MakingsGoOn
-makings_go_on run more making is (of_notes made) = of_notes (mades_go_on run more making is made)
-makings_go_on run more making is (of_file one) = of_file (record {
+-- And so it is in the words of what it makes for any fsync.
+abbrev pub alone_goes_on : (run : TableRun) (more : List (Event Fact)) (making : CoreMaking) → IsTableRun (run_on run more) → OwnMade run making
+    → OwnMade (run_on run more) making
+alone_goes_on run more making is one = record {
   own = one.own;
   made = owns_go_on run more one.own is one.made;
   core_is = one.core_is;
@@ -139,4 +141,8 @@ makings_go_on run more making is (of_file one) = of_file (record {
   saw = one.saw;
   old_is = one.old_is;
   change_is = one.change_is;
-})
+}
+
+pub makings_go_on : MakingsGoOn
+makings_go_on run more making is (of_notes made) = of_notes (mades_go_on run more making is made)
+makings_go_on run more making is (of_file one) = of_file (alone_goes_on run more making is one)

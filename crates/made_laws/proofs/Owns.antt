@@ -22,25 +22,19 @@ use Rattle.note_laws.specs.Run.{TableRun, IsTableRun, calls_of}
 use Rattle.note_laws.proofs.Along.{tells_on}
 use Rattle.made_laws.specs.Made.{OwnFileMaking, CoreMaking, run_on, OwnMade}
 use Rattle.made_laws.specs.Own.{look_of_own, commit_of_own, namings_past, names_past, are_none, is_named_below, OwnsFollowLooks, ToldOwn, TellingsGoOn, told_notes, told_file}
-use Rattle.made_laws.proofs.Later.{owns_go_on}
+use Rattle.made_laws.proofs.Later.{alone_goes_on}
 use Rattle.made_laws.proofs.Told.{told_mades_go_on}
 use Rattle.sfs_base.proofs.BasicNumbers.{same_number, not_same}
 use Rattle.look_laws.specs.Look.{ancestor, birth_place, named, itself, other_side, ended}
 
-module _ (first : TreeState) (history : List Entry) (cuts : ℕ → ℕ) (own : OwnFileMaking) (number : ℕ) (sound : IsSoundTree first) (legal : IsLegal first history)
+module _ (first : TreeState) (history : List Entry) (cuts : ℕ → ℕ) (own : OwnFileMaking) (number : ℕ) (sound : IsSoundTree first)
+    (legal : IsLegal first history)
     (file : is_directory (tree_after first history) own.node ≡ false) where
   abbrev look : Look
   look = look_of_own first history cuts own
 
   abbrev commit : CoreCommit
   commit = commit_of_own first history cuts own number
-
-  -- the directory of a change is another node than the file
-  directory_of : (change : RowChange) → IsChange first history change → is_directory (tree_after first history) change.directory ≡ true
-  directory_of change one = own_directory first history sound legal change.stamp change (made_at first history sound legal change one)
-
-  no_directory : (node : ℕ) → is_directory (tree_after first history) node ≡ true → node ≡ own.node → ⊥
-  no_directory node kind same = not_both (subst (λ n. is_directory (tree_after first history) n ≡ true) same kind) file
 
   -- what is noted is a change of the history that names the file
   noted_is : (noted : Noted) → IsOneOf look.noted noted → IsChange first history noted.change × (noted.change.child ≡ own.node)
@@ -52,22 +46,25 @@ module _ (first : TreeState) (history : List Entry) (cuts : ℕ → ℕ) (own : 
         ap (λ (c : RowChange). c.child) (sym same) ∙ eqb-true _ _ (and_first (nat_eq from.0.child own.node) _ passes.1),
       )
 
+  -- whose directory is another node
+  not_own : (noted : Noted) → IsOneOf look.noted noted → noted.change.directory ≡ own.node → ⊥
+  not_own noted one same =
+      let change = noted.change in
+      let kind = own_directory first history sound legal change.stamp change (made_at first history sound legal change (noted_is noted one).0) in
+      not_both (subst (λ n. is_directory (tree_after first history) n ≡ true) same kind) file
+
   -- so it gathers the file alone, and touches no other node
   gathers_own : {node : ℕ} → Gathers look node → node ≡ own.node
   gathers_own itself = refl
-  gathers_own (other_side noted other from sight two) =
-      absurd (no_directory noted.change.directory (directory_of noted.change (noted_is noted sight.is_noted).0) (gathers_own from))
-  gathers_own (ended noted from sight ends) =
-      absurd (no_directory noted.change.directory (directory_of noted.change (noted_is noted sight.is_noted).0) (gathers_own from))
-  gathers_own (ancestor noted node from sight among) =
-      absurd (no_directory noted.change.directory (directory_of noted.change (noted_is noted sight.is_noted).0) (gathers_own from))
+  gathers_own (other_side noted other from sight two) = absurd (not_own noted sight.is_noted (gathers_own from))
+  gathers_own (ended noted from sight ends) = absurd (not_own noted sight.is_noted (gathers_own from))
+  gathers_own (ancestor noted node from sight among) = absurd (not_own noted sight.is_noted (gathers_own from))
   gathers_own (birth_place born from one lacks sees) =
       absurd (not_both (ap (λ n. nat_eq n own.node) (gathers_own from) ∙ same_number own.node) lacks)
 
   touches_own : (node : ℕ) → Touches look node → node ≡ own.node
   touches_own node (member _ gathered) = gathers_own gathered
-  touches_own _ (named noted from sight) =
-      absurd (no_directory noted.change.directory (directory_of noted.change (noted_is noted sight.is_noted).0) (gathers_own from))
+  touches_own _ (named noted from sight) = absurd (not_own noted sight.is_noted (gathers_own from))
 
   own_gathered : (node : ℕ) → node ≡ own.node → Gathers look node
   own_gathered node same = subst (Gathers look) (sym same) itself
@@ -93,8 +90,7 @@ module _ (first : TreeState) (history : List Entry) (cuts : ℕ → ℕ) (own : 
         is_noted = among;
         child = is.1;
         unflushed = subst (λ n. n ≤ noted.change.stamp)
-            (sym (ap (λ b. cond b (max own.value.cut.0 own.stamp) 0)
-            (not_same noted.change.directory own.node (no_directory noted.change.directory (directory_of noted.change is.0)))))
+            (sym (ap (λ b. cond b (max own.value.cut.0 own.stamp) 0) (not_same noted.change.directory own.node (not_own noted among))))
             (omega arith);
       })
 
@@ -143,18 +139,7 @@ module _ (run : TableRun) (more : List (Event Fact)) (making : CoreMaking) (told
   longer = run_on run more
 
   abbrev stays : OwnMade longer making
-  stays = record {
-    own = was.one.own;
-    made = owns_go_on run more was.one.own is was.one.made;
-    core_is = was.one.core_is;
-    flush_is = was.one.flush_is;
-    no_parts = was.one.no_parts;
-    concerns = was.one.concerns;
-    members_are = was.one.members_are;
-    saw = was.one.saw;
-    old_is = was.one.old_is;
-    change_is = was.one.change_is;
-  }
+  stays = alone_goes_on run more making is was.one
 
   file_told : ToldOwn longer making told
   file_told = record {

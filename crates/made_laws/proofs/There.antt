@@ -1,5 +1,5 @@
 -- The nodes that an fsync touches were there as one of the parts was noted.
-use Rattle.std.proofs.Common.{◌≡◌, ℕ}
+use Rattle.std.proofs.Common.{ℕ}
 use Rattle.cut_laws.specs.Rules.{IsOneOf}
 use Rattle.look_laws.specs.Look.{Born, Gathers, Touches, member}
 use Rattle.note_laws.specs.Run.{TableRun, IsTableRun}

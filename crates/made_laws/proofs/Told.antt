@@ -1,8 +1,8 @@
 -- What a core told of what it made stays told of it.
-use Rattle.std.proofs.Common.{◌≡◌, ◌++◌, ◌∙◌, ℕ, true, List, map, refl, sym}
+use Rattle.std.proofs.Common.{◌≡◌, ◌++◌, ◌∙◌, ℕ, List, map, refl, sym}
 use Rattle.cut_laws.specs.Rules.{IsOneOf}
 use Rattle.cut_laws.proofs.Listed.{listed_one}
-use Rattle.look_laws.specs.Look.{member, Touches}
+use Rattle.look_laws.specs.Look.{member}
 use Rattle.tree_laws.specs.NameRow.{node_number}
 use Rattle.tree_laws.specs.Tree.{is_directory}
 use Rattle.tree_laws.specs.History.{tree_after}
@@ -12,8 +12,7 @@ use Rattle.mem_values.specs.declared.fact.Fact.{Fact}
 use Rattle.mem_values.specs.Account.{Commitment}
 use Rattle.note_laws.specs.Run.{TableRun, IsTableRun, calls_of}
 use Rattle.note_laws.specs.Notes.{calls_noted}
-use Rattle.note_laws.specs.There.{look_noted}
-use Rattle.note_laws.proofs.Along.{tells_on, legal_begin, calls_begin}
+use Rattle.note_laws.proofs.Along.{tells_on, calls_begin}
 use Rattle.made_laws.specs.Made.{CoreMaking, run_on}
 use Rattle.made_laws.specs.Tells.{ToldMade, ToldMadesGoOn}
 use Rattle.made_laws.proofs.There.{touched_there}

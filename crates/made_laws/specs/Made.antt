@@ -81,8 +81,8 @@ pub record GathersSeen (making : CoreMaking) (node : ℕ) (value : Pending) : Ty
   pub born : (directory : ℕ) → IsOneOf (map born_as making.gathered.births.items) (record { node = node; directory = directory })
       ↔ (number_of value.made_in ≡ Some directory)
 
--- What was gathered: lists in order, the changes of directories that are merged of copies of all parts, and of each node that the fsync concerns what the core saw,
--- of any other no cut. The root has an inode.
+-- What was gathered: lists in order, the changes of directories that are merged of copies of all parts, and of each node that the fsync concerns what the core
+-- saw, of any other no cut. The root has an inode.
 pub record HasGathered (making : CoreMaking) : Type 0 where
   pub orderly : IsOrderly making.gathered
   pub merged : AreMergedFor making.noted making.gathered.logs.items
@@ -193,11 +193,11 @@ pub record OwnMade (run : TableRun) (making : CoreMaking) : Type 0 where
   pub change_is : making.plan.change ≡ planned making.old [] own.files [] []
 
 -- What a core made for an fsync it made in a run: by its notes of all logs, or by its own file alone.
-pub data MadeIn (run : TableRun) (making : CoreMaking) : Type 0 where
-  of_notes : CoreMade run making → MadeIn run making
-  of_file : OwnMade run making → MadeIn run making
+pub data MadeEitherWay (run : TableRun) (making : CoreMaking) : Type 0 where
+  of_notes : CoreMade run making → MadeEitherWay run making
+  of_file : OwnMade run making → MadeEitherWay run making
 
 -- So it did in each run that goes on from there.
 abbrev pub MakingsGoOn : Type 0
-MakingsGoOn = (run : TableRun) (more : List (Event Fact)) (making : CoreMaking) → IsTableRun (run_on run more) → MadeIn run making
-    → MadeIn (run_on run more) making
+MakingsGoOn = (run : TableRun) (more : List (Event Fact)) (making : CoreMaking) → IsTableRun (run_on run more) → MadeEitherWay run making
+    → MadeEitherWay (run_on run more) making

@@ -113,7 +113,8 @@ module _ (run : TableRun) (own : OwnFileMaking) (beside : DoneBeside) (is : OwnK
       let before = live_there run.first is.made.at own.core own.node own.stamp legal_at is.made.stamped in
       let whole = calls_begin is.made.at is.made.rest run.log is.made.whole in
       let front : take own.stamp (calls_of run) ≡ take own.stamp (calls_in is.made.at) =
-      ap (take own.stamp) (sym whole) ∙ take-append-le own.stamp (calls_in is.made.at) (calls_in is.made.rest) (let less = stamped_low in omega (arith, less)) in
+      ap (take own.stamp) (sym whole)
+      ∙ take-append-le own.stamp (calls_in is.made.at) (calls_in is.made.rest) (let less = stamped_low in omega (arith, less)) in
       subst (λ (first : TreeState). is_alive (tree_after first (take own.stamp volume.history)) own.node ≡ true) (sym is.volume.first)
       (subst (λ tree. is_alive tree own.node ≡ true)
       ((answers_tell_nothing run.first (calls_of run) volume.history is.volume.asks).trees own.stamp)

@@ -14,7 +14,8 @@ use Rattle.fsync_catch.proofs.looking.look_once.Goals as goal
 
 pub copy_logs-requires-clause-below : goal.copy_logs-requires-clause-below
 copy_logs-requires-clause-below g c =
-    logs_above (given_by c.args.shared.now) c.args.shared.now c.args.nodes c.args.held.nodes.now c.args.core.now c.requires.table c.requires.work c.requires.holds
+    logs_above (given_by c.args.shared.now)
+    c.args.shared.now c.args.nodes c.args.held.nodes.now c.args.core.now c.requires.table c.requires.work c.requires.holds
     c.requires.within
 
 pub copy_logs-requires-clause-few : goal.copy_logs-requires-clause-few
@@ -39,9 +40,11 @@ gather-requires-clause-holds g c =
     let is : LooksAfterCopies s t c.copy_logs.new.core c.look.result = record {
       work = c.requires.work;
       still = c.in_ok-parts.ensures.work;
-      copies = subst (λ (l : List CoreLog). AreCopies (given_by t) c.args.nodes (length t.first.made) c.args.held.nodes.now c.args.core.now c.copy_logs.new.core l)
+      copies = subst (λ (l : List CoreLog). AreCopies (given_by t) c.args.nodes (length t.first.made)
+          c.args.held.nodes.now c.args.core.now c.copy_logs.new.core l)
           (sym c.deref.ensures.value)
-          (subst (λ (n : ℕ). AreCopies (given_by t) c.args.nodes n c.args.held.nodes.now c.args.core.now c.copy_logs.new.core c.in_ok-parts.parts.items) c.requires.cores
+          (subst (λ (n : ℕ). AreCopies (given_by t) c.args.nodes n c.args.held.nodes.now c.args.core.now c.copy_logs.new.core c.in_ok-parts.parts.items)
+          c.requires.cores
           c.in_ok-parts.ensures.copies);
       saw = c.in_ok-parts.ensures.saw;
       looked = c.look.ensures;
@@ -67,9 +70,11 @@ gather-requires-clause-ends g c =
     let is : LooksAfterCopies s t c.copy_logs.new.core c.look.result = record {
       work = c.requires.work;
       still = c.in_ok-parts.ensures.work;
-      copies = subst (λ (l : List CoreLog). AreCopies (given_by t) c.args.nodes (length t.first.made) c.args.held.nodes.now c.args.core.now c.copy_logs.new.core l)
+      copies = subst (λ (l : List CoreLog). AreCopies (given_by t) c.args.nodes (length t.first.made)
+          c.args.held.nodes.now c.args.core.now c.copy_logs.new.core l)
           (sym c.deref.ensures.value)
-          (subst (λ (n : ℕ). AreCopies (given_by t) c.args.nodes n c.args.held.nodes.now c.args.core.now c.copy_logs.new.core c.in_ok-parts.parts.items) c.requires.cores
+          (subst (λ (n : ℕ). AreCopies (given_by t) c.args.nodes n c.args.held.nodes.now c.args.core.now c.copy_logs.new.core c.in_ok-parts.parts.items)
+          c.requires.cores
           c.in_ok-parts.ensures.copies);
       saw = c.in_ok-parts.ensures.saw;
       looked = c.look.ensures;
@@ -95,9 +100,11 @@ gather-requires-clause-own g c =
     let is : LooksAfterCopies s t c.copy_logs.new.core c.look.result = record {
       work = c.requires.work;
       still = c.in_ok-parts.ensures.work;
-      copies = subst (λ (l : List CoreLog). AreCopies (given_by t) c.args.nodes (length t.first.made) c.args.held.nodes.now c.args.core.now c.copy_logs.new.core l)
+      copies = subst (λ (l : List CoreLog). AreCopies (given_by t) c.args.nodes (length t.first.made)
+          c.args.held.nodes.now c.args.core.now c.copy_logs.new.core l)
           (sym c.deref.ensures.value)
-          (subst (λ (n : ℕ). AreCopies (given_by t) c.args.nodes n c.args.held.nodes.now c.args.core.now c.copy_logs.new.core c.in_ok-parts.parts.items) c.requires.cores
+          (subst (λ (n : ℕ). AreCopies (given_by t) c.args.nodes n c.args.held.nodes.now c.args.core.now c.copy_logs.new.core c.in_ok-parts.parts.items)
+          c.requires.cores
           c.in_ok-parts.ensures.copies);
       saw = c.in_ok-parts.ensures.saw;
       looked = c.look.ensures;
@@ -135,9 +142,11 @@ returns-clause-look g c =
     let is : LooksAfterCopies s t c.copy_logs.new.core c.look.result = record {
       work = c.requires.work;
       still = c.in_ok-parts.ensures.work;
-      copies = subst (λ (l : List CoreLog). AreCopies (given_by t) c.args.nodes (length t.first.made) c.args.held.nodes.now c.args.core.now c.copy_logs.new.core l)
+      copies = subst (λ (l : List CoreLog). AreCopies (given_by t) c.args.nodes (length t.first.made)
+          c.args.held.nodes.now c.args.core.now c.copy_logs.new.core l)
           (sym c.deref.ensures.value)
-          (subst (λ (n : ℕ). AreCopies (given_by t) c.args.nodes n c.args.held.nodes.now c.args.core.now c.copy_logs.new.core c.in_ok-parts.parts.items) c.requires.cores
+          (subst (λ (n : ℕ). AreCopies (given_by t) c.args.nodes n c.args.held.nodes.now c.args.core.now c.copy_logs.new.core c.in_ok-parts.parts.items)
+          c.requires.cores
           c.in_ok-parts.ensures.copies);
       saw = c.in_ok-parts.ensures.saw;
       looked = c.look.ensures;

@@ -33,7 +33,8 @@ commit_caught-requires-clause-caught g c κs within = record {
     few = c.node_count.ensures.few;
   };
   work = c.in-Ok.ensures.work;
-  has = subst (λ (nodes : ℕ). IsCaught (given_by c.args.site.now.shared.now) nodes c.args.own.now.fsync c.catch_nodes.new.core c.in-Ok.caught) c.node_count.ensures.same
+  has = subst (λ (nodes : ℕ). IsCaught (given_by c.args.site.now.shared.now) nodes c.args.own.now.fsync c.catch_nodes.new.core c.in-Ok.caught)
+      c.node_count.ensures.same
       c.in-Ok.ensures.caught;
 }
 
@@ -42,12 +43,14 @@ answer_wanting-requires-clause-waits g c = waiting_on c.args.core.now c.catch_no
 
 pub returns-in-Ok-clause-comes : goal.returns-in-Ok-clause-comes
 returns-in-Ok-clause-comes g c =
-    attempt_since (attempt_at c.args.site.now.shared.now c.args.site.now.nodes c.args.own.now c.args.core.now c.args.pen.now) c.catch_nodes.new.core c.args.pen.now
+    attempt_since (attempt_at c.args.site.now.shared.now c.args.site.now.nodes c.args.own.now c.args.core.now c.args.pen.now)
+    c.catch_nodes.new.core c.args.pen.now
     c.in-Ok.ensures.on (no_turn_yet c.args.pen.now) c.commit_caught.new.core c.commit_caught.new.pen c.commit_caught.result c.commit_caught.ensures.comes
 
 pub returns-in-Err-clause-comes : goal.returns-in-Err-clause-comes
 returns-in-Err-clause-comes g c =
-    untold_serves (attempt_at c.args.site.now.shared.now c.args.site.now.nodes c.args.own.now c.args.core.now c.args.pen.now) c.answer_wanting.new.core c.answer_wanting.result
+    untold_serves (attempt_at c.args.site.now.shared.now c.args.site.now.nodes c.args.own.now c.args.core.now c.args.pen.now)
+    c.answer_wanting.new.core c.answer_wanting.result
     c.answer_wanting.ensures.reply
     (ends_since c.args.site.now.shared.now c.args.own.now.fsync _ c.args.core.now c.catch_nodes.new.core c.answer_wanting.new.core c.in-Err.ensures.on
     c.answer_wanting.ensures.ends)

@@ -9,7 +9,8 @@ use Rattle.fsync_dir.specs.Attempt.{attempt_at}
 use Rattle.fsync_dir.proofs.attempt.commit_alone.Goals as goal
 
 pub planned_alone-requires-clause-holds : goal.planned_alone-requires-clause-holds
-planned_alone-requires-clause-holds g c = one_held c.args.site.now.shared.now c.args.site.now.nodes c.args.own.now c.args.cut c.args.core.now c.requires.alone c.requires.site.table
+planned_alone-requires-clause-holds g c =
+    one_held c.args.site.now.shared.now c.args.site.now.nodes c.args.own.now c.args.cut c.args.core.now c.requires.alone c.requires.site.table
 
 pub commit_planned-requires-clause-agree : goal.commit_planned-requires-clause-agree
 commit_planned-requires-clause-agree g c κs within =
@@ -19,14 +20,19 @@ commit_planned-requires-clause-agree g c κs within =
 
 pub commit_planned-requires-clause-drafted : goal.commit_planned-requires-clause-drafted
 commit_planned-requires-clause-drafted g c κs within = (
-  planned_alone c.args.site.now.shared.now c.args.site.now.nodes c.args.own.now c.args.cut c.args.core.now c.requires.alone c.requires.site.table c.requires.site.disk c.in-Ok.todo c.planned_alone.new.core c.in-Ok.ensures.drafted c.in-Ok.ensures.directories c.in-Ok.ensures.hollow,
-  has_drafted_alone c.args.site.now.shared.now c.args.site.now.nodes c.args.own.now c.args.cut c.args.core.now c.requires.alone c.requires.site.table c.requires.site.disk c.in-Ok.todo c.planned_alone.new.core c.in-Ok.ensures.drafted c.in-Ok.ensures.directories c.in-Ok.ensures.hollow c.args.pen.now,
+  planned_alone c.args.site.now.shared.now c.args.site.now.nodes c.args.own.now c.args.cut c.args.core.now c.requires.alone c.requires.site.table
+      c.requires.site.disk c.in-Ok.todo c.planned_alone.new.core c.in-Ok.ensures.drafted c.in-Ok.ensures.directories c.in-Ok.ensures.hollow,
+  has_drafted_alone c.args.site.now.shared.now c.args.site.now.nodes c.args.own.now c.args.cut c.args.core.now c.requires.alone c.requires.site.table
+      c.requires.site.disk c.in-Ok.todo c.planned_alone.new.core c.in-Ok.ensures.drafted c.in-Ok.ensures.directories c.in-Ok.ensures.hollow c.args.pen.now,
 )
 
 pub returns-in-Ok-clause-comes : goal.returns-in-Ok-clause-comes
 returns-in-Ok-clause-comes g c =
-    c.commit_planned.ensures.comes (planned_alone c.args.site.now.shared.now c.args.site.now.nodes c.args.own.now c.args.cut c.args.core.now c.requires.alone c.requires.site.table c.requires.site.disk c.in-Ok.todo c.planned_alone.new.core c.in-Ok.ensures.drafted c.in-Ok.ensures.directories c.in-Ok.ensures.hollow)
-    (has_drafted_alone c.args.site.now.shared.now c.args.site.now.nodes c.args.own.now c.args.cut c.args.core.now c.requires.alone c.requires.site.table c.requires.site.disk c.in-Ok.todo c.planned_alone.new.core c.in-Ok.ensures.drafted c.in-Ok.ensures.directories c.in-Ok.ensures.hollow c.args.pen.now)
+    c.commit_planned.ensures.comes
+    (planned_alone c.args.site.now.shared.now c.args.site.now.nodes c.args.own.now c.args.cut c.args.core.now c.requires.alone c.requires.site.table
+    c.requires.site.disk c.in-Ok.todo c.planned_alone.new.core c.in-Ok.ensures.drafted c.in-Ok.ensures.directories c.in-Ok.ensures.hollow)
+    (has_drafted_alone c.args.site.now.shared.now c.args.site.now.nodes c.args.own.now c.args.cut c.args.core.now c.requires.alone c.requires.site.table
+    c.requires.site.disk c.in-Ok.todo c.planned_alone.new.core c.in-Ok.ensures.drafted c.in-Ok.ensures.directories c.in-Ok.ensures.hollow c.args.pen.now)
 
 pub answer_wanting-requires-clause-work : goal.answer_wanting-requires-clause-work
 answer_wanting-requires-clause-work g c =
@@ -37,6 +43,8 @@ answer_wanting-requires-clause-waits g c = ap (λ (h : FileHand). h.waiting) c.i
 
 pub returns-in-Err-clause-comes : goal.returns-in-Err-clause-comes
 returns-in-Err-clause-comes g c =
-    untold_serves (attempt_at c.args.site.now.shared.now c.args.site.now.nodes c.args.own.now c.args.core.now c.args.pen.now) c.answer_wanting.new.core c.answer_wanting.result
+    untold_serves (attempt_at c.args.site.now.shared.now c.args.site.now.nodes c.args.own.now c.args.core.now c.args.pen.now)
+    c.answer_wanting.new.core c.answer_wanting.result
     c.answer_wanting.ensures.reply
-    (subst (λ (h : FileHand). EndsUntold c.args.site.now.shared.now c.args.own.now.fsync _ h c.answer_wanting.new.core) c.in-Err.ensures.back c.answer_wanting.ensures.ends)
+    (subst (λ (h : FileHand). EndsUntold c.args.site.now.shared.now c.args.own.now.fsync _ h c.answer_wanting.new.core)
+    c.in-Err.ensures.back c.answer_wanting.ensures.ends)

@@ -23,7 +23,8 @@ returns-in-Ok-clause-drafted c =
       change = change;
       change_is = c.in_ok-change.ensures;
       planned =
-          subst (λ (b : Bool). IsPlanOf c.args.fsync.node c.args.fsync.stamp gathered concern (entries_of concern.nodes.items was) b change c.in-Ok.plan) is_file
+          subst (λ (b : Bool). IsPlanOf c.args.fsync.node c.args.fsync.stamp gathered concern (entries_of concern.nodes.items was)
+          b change c.in-Ok.plan) is_file
           (subst (λ (l : List OldEntry). IsPlanOf c.args.fsync.node c.args.fsync.stamp gathered concern l c.is_some.result change c.in-Ok.plan) entries
           c.in-Ok.ensures.ok);
       lent = c.lend-old.ensures.values;

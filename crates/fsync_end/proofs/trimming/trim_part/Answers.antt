@@ -112,7 +112,8 @@ let_go-requires-clause-home g c =
     let made : c.trimmed-log.result.value.made ≡ (log_there s may).0.made = c.trimmed-log.ensures.made ∙ ap (λ (p : PartCell). p.made) same in
     let put_is = put_twice s may c.take_log.ensures.held.0 (cell.Part c.trimmed-log.result) c.take_log.new.core c.put.new.core c.take_log.ensures.held.1
     c.put.ensures in
-    subst (λ p. EachFrom p (Stands (IsLawfulLog (given_by c.args.shared.now)) (StandsAt (given_by c.args.shared.now)) c.tell.new.self.view) c.tell.new.self.held)
+    subst (λ p. EachFrom p (Stands (IsLawfulLog (given_by c.args.shared.now)) (StandsAt (given_by c.args.shared.now)) c.tell.new.self.view)
+    c.tell.new.self.held)
     (sym c.place-2.ensures)
     (goes_home s may (cell.Part c.trimmed-log.result) c.trimmed-log.result.value c.put.new.core c.tell.new.self refl trims made put_is c.tell.ensures)
 

@@ -20,7 +20,8 @@ loop-number-preserved g c =
       work = c.in_ok-copy_log.ensures.work;
       saw = saw_again c.args.core.now c.loop-number.core c.copy_log.new.core inv.saw c.in_ok-copy_log.ensures.saw;
       copies = subst
-          (λ (l : List CoreLog). AreCopies (given_by c.args.shared.now) c.args.nodes (c.loop-number.number + 1) c.args.held.now c.args.core.now c.copy_log.new.core l)
+          (λ (l : List CoreLog). AreCopies (given_by c.args.shared.now) c.args.nodes (c.loop-number.number + 1)
+          c.args.held.now c.args.core.now c.copy_log.new.core l)
           (sym c.push_reserved.ensures.items)
           (copies_more (given_by c.args.shared.now) c.args.nodes c.loop-number.number c.args.core.now c.loop-number.core c.copy_log.new.core
           c.args.held.now c.loop-number.logs.items inv.copies inv.saw c.in_ok-copy_log.ensures.saw c.in_ok-copy_log.field-0 c.in_ok-copy_log.ensures.copy);
