@@ -15,15 +15,15 @@ use Rattle.tree_laws.specs.Verdict.{Verdict, verdict, or_else, answered, done, w
 use Rattle.tree_laws.specs.Effect.{tree_with, edited, Edits, Puts, with_edit}
 use Rattle.cut_laws.specs.Rules.{births_of, births_by}
 use Rattle.cut_laws.specs.Cut.{tree_at_cut, rows_at_cut, with_own, is_within, nodes_at_cut, node_at_cut, cut_of}
-use Rattle.example_grants.specs.Calls.{tree_of, root_node, node_with, FIRST_TREE, own_write, other_write, own_flush, other_flush, WRITES_AND_FSYNCS}
+use Rattle.example_grants.specs.Calls.{tree_holding, root_node, node_with, FIRST_TREE, own_write, other_write, own_file_flush, other_file_flush, WRITES_AND_FSYNCS}
 use Rattle.example_grants.proofs.Tree.{nodes_listed, own_alive, other_alive, own_no_directory, other_no_directory, node_get, no_bytes}
 
 -- the tree between the two writes, and behind them
 abbrev pub MIDDLE_TREE : TreeState
-MIDDLE_TREE = tree_of (65 ∷ []) []
+MIDDLE_TREE = tree_holding (65 ∷ []) []
 
 abbrev pub LAST_TREE : TreeState
-LAST_TREE = tree_of (65 ∷ []) (66 ∷ [])
+LAST_TREE = tree_holding (65 ∷ []) (66 ∷ [])
 
 -- what each call does
 no_fault : (tree : TreeState) (file : ℕ) → is_alive tree file ≡ true → is_directory tree file ≡ false → file_fault tree file ≡ None
@@ -39,18 +39,18 @@ other_writes =
     ap (λ (o : Option Code). or_else o (write_bytes 2 0 (66 ∷ [])))
     (no_fault MIDDLE_TREE 2 (other_alive (65 ∷ []) []) (other_no_directory (65 ∷ []) []))
 
-own_flushes : verdict LAST_TREE 0 own_flush.call ≡ answered reply.Ok
+own_flushes : verdict LAST_TREE 0 own_file_flush.call ≡ answered reply.Ok
 own_flushes = ap (λ b. or_else (if not b then Some NoEntry else None) (answered reply.Ok)) (own_alive (65 ∷ []) (66 ∷ []))
 
-other_flushes : verdict LAST_TREE 1 other_flush.call ≡ answered reply.Ok
+other_flushes : verdict LAST_TREE 1 other_file_flush.call ≡ answered reply.Ok
 other_flushes = ap (λ b. or_else (if not b then Some NoEntry else None) (answered reply.Ok)) (other_alive (65 ∷ []) (66 ∷ []))
 
 -- the trees behind them
 nodes_put : (own other : List ℕ) (node : ℕ) (bytes : List ℕ) (later : List (ℕ × Node)) → put nat_cmp node (node_with bytes) (nodes_listed own other) ≡ later
-    → entries (from_sorted {R = nat_cmp} later) ≡ later → insert (tree_of own other).nodes node (node_with bytes) ≡ from_sorted later
+    → entries (from_sorted {R = nat_cmp} later) ≡ later → insert (tree_holding own other).nodes node (node_with bytes) ≡ from_sorted later
 nodes_put own other node bytes later is sorted =
     same_entries_map _ _
-    (entries-insert nat_cmp_total (tree_of own other).nodes node (node_with bytes)
+    (entries-insert nat_cmp_total (tree_holding own other).nodes node (node_with bytes)
     ∙ ap (put nat_cmp node (node_with bytes)) (entries-from_sorted nat_cmp (nodes_listed own other) tt) ∙ is ∙ sym sorted)
 
 pub own_step : tree_after_entry FIRST_TREE own_write ≡ MIDDLE_TREE
@@ -67,44 +67,45 @@ other_step =
     ∙ ap (λ nodes. record MIDDLE_TREE { nodes = nodes })
     (nodes_put (65 ∷ []) [] 2 (66 ∷ []) (nodes_listed (65 ∷ []) (66 ∷ [])) refl (entries-from_sorted nat_cmp (nodes_listed (65 ∷ []) (66 ∷ [])) tt))
 
-pub own_stays : tree_after_entry LAST_TREE own_flush ≡ LAST_TREE
+pub own_stays : tree_after_entry LAST_TREE own_file_flush ≡ LAST_TREE
 own_stays = ap (λ (v : Verdict). tree_with LAST_TREE 0 v.effect v.makes) own_flushes
 
-pub other_stays : tree_after_entry LAST_TREE other_flush ≡ LAST_TREE
+pub other_stays : tree_after_entry LAST_TREE other_file_flush ≡ LAST_TREE
 other_stays = ap (λ (v : Verdict). tree_with LAST_TREE 1 v.effect v.makes) other_flushes
 
 pub same_after : tree_after FIRST_TREE WRITES_AND_FSYNCS ≡ LAST_TREE
 same_after =
-    ap (λ t. tree_after t (other_write ∷ own_flush ∷ other_flush ∷ [])) own_step ∙ ap (λ t. tree_after t (own_flush ∷ other_flush ∷ [])) other_step
-    ∙ ap (λ t. tree_after t (other_flush ∷ [])) own_stays ∙ other_stays
+    ap (λ t. tree_after t (other_write ∷ own_file_flush ∷ other_file_flush ∷ [])) own_step
+    ∙ ap (λ t. tree_after t (own_file_flush ∷ other_file_flush ∷ [])) other_step
+    ∙ ap (λ t. tree_after t (other_file_flush ∷ [])) own_stays ∙ other_stays
 
 -- the history is legal
 pub history_legal : IsLegal FIRST_TREE WRITES_AND_FSYNCS
 history_legal = (
   record { stamped = refl; core = omega arith; due = sym (ap (λ (v : Verdict). v.reply) own_writes); acknowledged = (λ s. s, λ s. s) },
-  subst (λ t. IsLegalFrom t 1 (other_write ∷ own_flush ∷ other_flush ∷ [])) (sym own_step) (
+  subst (λ t. IsLegalFrom t 1 (other_write ∷ own_file_flush ∷ other_file_flush ∷ [])) (sym own_step) (
     record { stamped = refl; core = omega arith; due = sym (ap (λ (v : Verdict). v.reply) other_writes); acknowledged = (λ s. s, λ s. s) },
-    subst (λ t. IsLegalFrom t 2 (own_flush ∷ other_flush ∷ [])) (sym other_step) (
+    subst (λ t. IsLegalFrom t 2 (own_file_flush ∷ other_file_flush ∷ [])) (sym other_step) (
       own_may,
-      subst (λ t. IsLegalFrom t 3 (other_flush ∷ [])) (sym own_stays) (other_may, tt),
+      subst (λ t. IsLegalFrom t 3 (other_file_flush ∷ [])) (sym own_stays) (other_may, tt),
     ),
   ),
 )
   where
-    own_may : MayCome LAST_TREE 2 own_flush
+    own_may : MayCome LAST_TREE 2 own_file_flush
     own_may = record {
       stamped = refl;
       core = omega arith;
-      due = subst (λ (b : Bool). IsDue b (verdict LAST_TREE 0 own_flush.call).reply reply.Ok) (sym (own_alive (65 ∷ []) (66 ∷ []))) tt;
+      due = subst (λ (b : Bool). IsDue b (verdict LAST_TREE 0 own_file_flush.call).reply reply.Ok) (sym (own_alive (65 ∷ []) (66 ∷ []))) tt;
       acknowledged =
           subst (λ (b : Bool). IsSome {T = ℕ} (Some 13) ↔ IsTrue (b && is_ok_reply reply.Ok)) (sym (own_alive (65 ∷ []) (66 ∷ []))) (λ s. refl, λ s. refl);
     }
 
-    other_may : MayCome LAST_TREE 3 other_flush
+    other_may : MayCome LAST_TREE 3 other_file_flush
     other_may = record {
       stamped = refl;
       core = omega arith;
-      due = subst (λ (b : Bool). IsDue b (verdict LAST_TREE 1 other_flush.call).reply reply.Ok) (sym (other_alive (65 ∷ []) (66 ∷ []))) tt;
+      due = subst (λ (b : Bool). IsDue b (verdict LAST_TREE 1 other_file_flush.call).reply reply.Ok) (sym (other_alive (65 ∷ []) (66 ∷ []))) tt;
       acknowledged =
           subst (λ (b : Bool). IsSome {T = ℕ} (Some 12) ↔ IsTrue (b && is_ok_reply reply.Ok)) (sym (other_alive (65 ∷ []) (66 ∷ []))) (λ s. refl, λ s. refl);
     }
@@ -123,13 +124,13 @@ module _ {X : Type 0} (tell : TreeState → ℕ → Verdict → List X) (all : T
       ≡ tell FIRST_TREE 0 (done (Edits 1 (Puts 0 (65 ∷ [])))) ++ (tell MIDDLE_TREE 1 (done (Edits 2 (Puts 0 (66 ∷ []))))
       ++ (tell LAST_TREE 2 (answered reply.Ok) ++ (tell LAST_TREE 3 (answered reply.Ok) ++ [])))
   told_by =
-      next FIRST_TREE MIDDLE_TREE own_write _ (other_write ∷ own_flush ∷ other_flush ∷ []) own_writes own_step
+      next FIRST_TREE MIDDLE_TREE own_write _ (other_write ∷ own_file_flush ∷ other_file_flush ∷ []) own_writes own_step
       ∙ ap (λ l. tell FIRST_TREE 0 (done (Edits 1 (Puts 0 (65 ∷ [])))) ++ l)
-      (next MIDDLE_TREE LAST_TREE other_write _ (own_flush ∷ other_flush ∷ []) other_writes other_step
+      (next MIDDLE_TREE LAST_TREE other_write _ (own_file_flush ∷ other_file_flush ∷ []) other_writes other_step
       ∙ ap (λ l. tell MIDDLE_TREE 1 (done (Edits 2 (Puts 0 (66 ∷ [])))) ++ l)
-      (next LAST_TREE LAST_TREE own_flush _ (other_flush ∷ []) own_flushes own_stays
+      (next LAST_TREE LAST_TREE own_file_flush _ (other_file_flush ∷ []) own_flushes own_stays
       ∙ ap (λ l. tell LAST_TREE 2 (answered reply.Ok) ++ l)
-      (next LAST_TREE LAST_TREE other_flush _ [] other_flushes other_stays ∙ ap (λ l. tell LAST_TREE 3 (answered reply.Ok) ++ l) (none LAST_TREE))))
+      (next LAST_TREE LAST_TREE other_file_flush _ [] other_flushes other_stays ∙ ap (λ l. tell LAST_TREE 3 (answered reply.Ok) ++ l) (none LAST_TREE))))
 
 -- no row comes or goes, and no node is made
 pub nothing_changes : changes_of FIRST_TREE WRITES_AND_FSYNCS ≡ []

@@ -51,7 +51,7 @@ use Rattle.close_laws.specs.Close.{PensAgree}
 use Rattle.example_laws.proofs.Mapped.{grants_none}
 use Rattle.example_laws.proofs.Reserving.{take_none}
 use Rattle.example_grants.specs.Calls.{FIRST_TREE, WRITES_AND_FSYNCS}
-use Rattle.example_grants.specs.Fsyncs.{Writer, OWN, OTHER, ENTRIES, plan_by, grant_by, pair_made}
+use Rattle.example_grants.specs.Fsyncs.{Writer, OWN, OTHER, ENTRIES, plan_of_writer, grant_by, pair_made}
 use Rattle.example_grants.specs.Told.{job_by, OWN_JOB, OTHER_JOB, RESERVE, BEGIN, FILL, OPEN, LAND, FILES_NUMBERED, FILES_TOLD, WritersTellLabels}
 use Rattle.example_grants.specs.Turns.{own_act, other_act, FILES_TURNS, FILES_PENS}
 use Rattle.example_grants.specs.Image.{FIFTEEN_BLOCKS, TWO_FILES, FIRST_PARTS, ROWS_BLOCK, FIRST_RECORDS}
@@ -189,7 +189,7 @@ made_as w = record {
   last = λ node last seen. ap (λ (one : LastCommit). one.number) (one_unmoved (λ _. last_ended 0) w.file 0 refl node last seen);
 }
 
-grant_fits : (w : Writer) → WritesOne w (plan_by w) → GrantFits (pair_made w).one (grant_by w)
+grant_fits : (w : Writer) → WritesOne w (plan_of_writer w) → GrantFits (pair_made w).one (grant_by w)
 grant_fits w writes = record {
   grant_is = refl;
   needed = writes.needs;
@@ -206,8 +206,8 @@ other_reserved_as : ReservedAs FILES_NUMBERED 2 (seen_one 2 0).items (grant_by O
 other_reserved_as = record { made = made_as OTHER; grants = grant_fits OTHER other_writes }
 
 -- a commit begins as what its fsync brings
-begins_as : (w : Writer) (slot stamp : ℕ) → slot < 2 → WritesOne w (plan_by w)
-    → IsTransactionOf (change_planned (plan_by w)) (grant_by w) (tx_by w)
+begins_as : (w : Writer) (slot stamp : ℕ) → slot < 2 → WritesOne w (plan_of_writer w)
+    → IsTransactionOf (change_planned (plan_of_writer w)) (grant_by w) (tx_by w)
     → BeginsAs (pair_made w).one (job_by w slot stamp) (record { inodes = []; blocks = [] })
 begins_as w slot stamp within writes transaction = record {
   writes = record {

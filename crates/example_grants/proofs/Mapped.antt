@@ -38,7 +38,7 @@ use Rattle.example_laws.specs.Fsyncs.{roomless}
 use Rattle.example_laws.proofs.Mapped.{grants_none}
 use Rattle.example_laws.proofs.Reserving.{take_none}
 use Rattle.example_grants.specs.Image.{ROOT_RECORD, FIFTEEN_BLOCKS, FIRST_PARTS, file_inode}
-use Rattle.example_grants.specs.Fsyncs.{Writer, OWN, OTHER, ENTRIES, entry_kept, plan_by, grant_by, pair_made}
+use Rattle.example_grants.specs.Fsyncs.{Writer, OWN, OTHER, ENTRIES, entry_for_node, plan_of_writer, grant_by, pair_made}
 use Rattle.example_grants.specs.Laws.{WritesOne}
 use Rattle.example_grants.specs.Map.{map_with, FIRST_MAP}
 use Rattle.example_grants.proofs.Image.{ROOT_PART, FILE_PART, root_is, later_direct}
@@ -156,7 +156,7 @@ root_pointer place =
 file_pointer : (place : ℕ) → pointer_kept (kept_of FILE_PART).inode (kept_of FILE_PART).tables place ≡ 0
 file_pointer place = ap (λ (kept : Kept). pointer_kept kept.inode kept.tables place) kept_file ∙ no_pointer place
 
-pub entry_cases : (entry : OldEntry) → Contains ENTRIES entry → (entry_kept 0 ≡ entry) ⊎ ((entry_kept 1 ≡ entry) ⊎ (entry_kept 2 ≡ entry))
+pub entry_cases : (entry : OldEntry) → Contains ENTRIES entry → (entry_for_node 0 ≡ entry) ⊎ ((entry_for_node 1 ≡ entry) ⊎ (entry_for_node 2 ≡ entry))
 entry_cases entry (zero, low, is) = inl is
 entry_cases entry (suc zero, low, is) = inr (inl is)
 entry_cases entry (suc (suc zero), low, is) = inr (inr is)
@@ -168,7 +168,7 @@ held_is block = (there, back)
   where
     there : Contains (12 ∷ []) block → IsLeftByGone ENTRIES block
     there (zero, low, is) = record {
-      entry = entry_kept 0;
+      entry = entry_for_node 0;
       one = (0, omega arith, refl);
       held = record {
         some = let e : 12 ≡ block = is in λ none. omega (arith, e, none);
@@ -191,7 +191,7 @@ held_is block = (there, back)
         none true false other = refl
         none false c other = zeros_read 16 (place - FILE_BLOCKS)
 
-    no_file : (node : ℕ) → FIRST_PARTS node ≡ FILE_PART → (entry : OldEntry) → entry_kept node ≡ entry
+    no_file : (node : ℕ) → FIRST_PARTS node ≡ FILE_PART → (entry : OldEntry) → entry_for_node node ≡ entry
         → IsHeld (pointer_kept entry.old.kept.inode entry.old.kept.tables) block → ⊥
     no_file node file entry same left =
         let held = subst (λ (e : OldEntry). IsHeld (pointer_kept e.old.kept.inode e.old.kept.tables) block) (sym same) left in
@@ -253,16 +253,16 @@ one_granted block old new free changes left count is =
       left = left;
     })
 
-no_inode : (writer : Writer) → WritesOne writer (plan_by writer) → (amount_planned (plan_by writer)).inodes ≡ 0
+no_inode : (writer : Writer) → WritesOne writer (plan_of_writer writer) → (amount_planned (plan_of_writer writer)).inodes ≡ 0
 no_inode writer writes = ap (λ (a : Amount). a.inodes) writes.needs
 
-one_block : (writer : Writer) → WritesOne writer (plan_by writer) → (amount_planned (plan_by writer)).blocks ≡ 1
+one_block : (writer : Writer) → WritesOne writer (plan_of_writer writer) → (amount_planned (plan_of_writer writer)).blocks ≡ 1
 one_block writer writes = ap (λ (a : Amount). a.blocks) writes.needs
 
-least_none : (writer : Writer) (own other : Status) → WritesOne writer (plan_by writer)
-    → [] ≡ take (as_u32 (amount_planned (plan_by writer)).inodes) (free_numbers (map_with own other).inodes)
+least_none : (writer : Writer) (own other : Status) → WritesOne writer (plan_of_writer writer)
+    → [] ≡ take (as_u32 (amount_planned (plan_of_writer writer)).inodes) (free_numbers (map_with own other).inodes)
 least_none writer own other writes =
-    sym (take_none (free_numbers (map_with own other).inodes) (as_u32 (amount_planned (plan_by writer)).inodes) (ap as_u32 (no_inode writer writes)))
+    sym (take_none (free_numbers (map_with own other).inodes) (as_u32 (amount_planned (plan_of_writer writer)).inodes) (ap as_u32 (no_inode writer writes)))
 
 -- the first core is granted block 11, and behind it the second one block 13
 pub own_granted : (count : ℕ) → count ≡ 1 → Grants FIRST_MAP.blocks (as_u32 count) (11 ∷ []) (map_with Granted Free).blocks
@@ -274,20 +274,20 @@ other_granted =
     one_granted 13 (Granted, Free) (Granted, Granted) refl
     (blocks_change (λ _. Granted) (13 ∷ []) (Granted, Free) (Granted, Granted) refl refl refl refl) refl
 
-pub own_reserved : WasReserved (plan_by OWN) FIRST_MAP (grant_by OWN) (map_with Granted Free)
+pub own_reserved : WasReserved (plan_of_writer OWN) FIRST_MAP (grant_by OWN) (map_with Granted Free)
 own_reserved = record {
   taken = record {
-    inodes = grants_none FIRST_MAP.inodes (amount_planned (plan_by OWN)).inodes (no_inode OWN own_writes);
-    blocks = own_granted (amount_planned (plan_by OWN)).blocks (one_block OWN own_writes);
+    inodes = grants_none FIRST_MAP.inodes (amount_planned (plan_of_writer OWN)).inodes (no_inode OWN own_writes);
+    blocks = own_granted (amount_planned (plan_of_writer OWN)).blocks (one_block OWN own_writes);
   };
   least = least_none OWN Free Free own_writes;
 }
 
-pub other_reserved : WasReserved (plan_by OTHER) (map_with Granted Free) (grant_by OTHER) (map_with Granted Granted)
+pub other_reserved : WasReserved (plan_of_writer OTHER) (map_with Granted Free) (grant_by OTHER) (map_with Granted Granted)
 other_reserved = record {
   taken = record {
-    inodes = grants_none FIRST_MAP.inodes (amount_planned (plan_by OTHER)).inodes (no_inode OTHER other_writes);
-    blocks = other_granted (amount_planned (plan_by OTHER)).blocks (one_block OTHER other_writes);
+    inodes = grants_none FIRST_MAP.inodes (amount_planned (plan_of_writer OTHER)).inodes (no_inode OTHER other_writes);
+    blocks = other_granted (amount_planned (plan_of_writer OTHER)).blocks (one_block OTHER other_writes);
   };
   least = least_none OTHER Granted Free other_writes;
 }
@@ -300,11 +300,11 @@ planned_gives_none : (writer : Writer) → GivesNone (planned_by writer)
 planned_gives_none writer seat (zero, low, is) place = subst (λ (s : Seated). gives_up (rewrite_in s) place ≡ false) is (gives_up_none place)
 planned_gives_none writer seat (suc k, low, is) place = absurd (omega (arith, low))
 
-own_gives_none : GivesNone (change_planned (plan_by OWN))
+own_gives_none : GivesNone (change_planned (plan_of_writer OWN))
 own_gives_none =
     subst (λ kept. GivesNone (change_planned (plan_kept OWN kept))) (sym kept_file) (subst GivesNone (sym own_planned) (planned_gives_none OWN))
 
-other_gives_none : GivesNone (change_planned (plan_by OTHER))
+other_gives_none : GivesNone (change_planned (plan_of_writer OTHER))
 other_gives_none =
     subst (λ kept. GivesNone (change_planned (plan_kept OTHER kept))) (sym kept_file) (subst GivesNone (sym other_planned) (planned_gives_none OTHER))
 
@@ -320,8 +320,8 @@ tx_by writer = record {
   inodes_ascend = λ k less. absurd (omega (arith, less));
 }
 
-transaction : (writer : Writer) → WritesOne writer (plan_by writer) → GivesNone (change_planned (plan_by writer))
-    → IsTransactionOf (change_planned (plan_by writer)) (grant_by writer) (tx_by writer)
+transaction : (writer : Writer) → WritesOne writer (plan_of_writer writer) → GivesNone (change_planned (plan_of_writer writer))
+    → IsTransactionOf (change_planned (plan_of_writer writer)) (grant_by writer) (tx_by writer)
 transaction writer writes still = record {
   records = sym writes.records;
   fresh = sym writes.fresh;
@@ -333,14 +333,14 @@ transaction writer writes still = record {
 }
   where
     none_left : (block : ℕ)
-        → IsLeftBySeat (change_planned (plan_by writer)).seats block ⊎ IsLeftByGone (change_planned (plan_by writer)).gone block → ⊥
+        → IsLeftBySeat (change_planned (plan_of_writer writer)).seats block ⊎ IsLeftByGone (change_planned (plan_of_writer writer)).gone block → ⊥
     none_left block (inl left) = not_both left.left.given_up (still left.seat left.one left.place)
     none_left block (inr left) = let low = left.one.1 in omega (arith, low)
 
-pub own_transaction : IsTransactionOf (change_planned (plan_by OWN)) (grant_by OWN) (tx_by OWN)
+pub own_transaction : IsTransactionOf (change_planned (plan_of_writer OWN)) (grant_by OWN) (tx_by OWN)
 own_transaction = transaction OWN own_writes own_gives_none
 
-pub other_transaction : IsTransactionOf (change_planned (plan_by OTHER)) (grant_by OTHER) (tx_by OTHER)
+pub other_transaction : IsTransactionOf (change_planned (plan_of_writer OTHER)) (grant_by OTHER) (tx_by OTHER)
 other_transaction = transaction OTHER other_writes other_gives_none
 
 -- the second core's commit ends, and then the first one's

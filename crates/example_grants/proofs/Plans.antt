@@ -29,7 +29,7 @@ use Rattle.disk_change.specs.Records.{records_written, record_inode, written_of_
 use Rattle.disk_change.specs.Seated.{Seated, changes_in}
 use Rattle.commit_laws.specs.CommitOfPlan.{CommitPlan, change_planned}
 use Rattle.example_grants.specs.Image.{EMPTY_FILE, file_inode}
-use Rattle.example_grants.specs.Fsyncs.{Writer, OWN, OTHER, change_by, plan_by, grant_by}
+use Rattle.example_grants.specs.Fsyncs.{Writer, OWN, OTHER, change_by, plan_of_writer, grant_by}
 use Rattle.example_grants.specs.Laws.{WritesOne}
 use Rattle.example_grants.proofs.Image.{FILE_PART, file_is}
 
@@ -263,9 +263,9 @@ module _ (writer : Writer) (plan : CommitPlan) (is : change_planned plan ≡ pla
         ∙ ap (λ (l : List Built). ascending_by entry_node (map entry_after l)) built;
   }
 
-pub own_writes : WritesOne OWN (plan_by OWN)
+pub own_writes : WritesOne OWN (plan_of_writer OWN)
 own_writes = subst (λ kept. WritesOne OWN (plan_kept OWN kept)) (sym kept_file) (writes_one OWN (plan_kept OWN KEPT_FILE) own_planned refl refl)
 
-pub other_writes : WritesOne OTHER (plan_by OTHER)
+pub other_writes : WritesOne OTHER (plan_of_writer OTHER)
 other_writes =
     subst (λ kept. WritesOne OTHER (plan_kept OTHER kept)) (sym kept_file) (writes_one OTHER (plan_kept OTHER KEPT_FILE) other_planned refl refl)

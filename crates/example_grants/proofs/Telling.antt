@@ -31,9 +31,9 @@ use Rattle.reserve_laws.specs.Fits.{TellsPair, by_own}
 use Rattle.reserve_laws.specs.Looks.{ServesPair}
 use Rattle.reserve_laws.specs.OwnFile.{MakesOwnFile, ChangesOwn, in_time}
 use Rattle.tree_laws.specs.Changes.{RowChange}
-use Rattle.example_grants.specs.Calls.{FIRST_TREE, WRITES_AND_FSYNCS, own_flush, other_write}
+use Rattle.example_grants.specs.Calls.{FIRST_TREE, WRITES_AND_FSYNCS, own_file_flush, other_write}
 use Rattle.example_grants.specs.Image.{TWO_FILES, FIRST_NUMBERS, FIRST_PARTS, FIFTEEN_BLOCKS}
-use Rattle.example_grants.specs.Fsyncs.{Writer, OWN, OTHER, ENTRIES, entry_kept, file_by, change_by, page_by, making_by, plan_by, grant_by, pair_made}
+use Rattle.example_grants.specs.Fsyncs.{Writer, OWN, OTHER, ENTRIES, entry_for_node, file_by, change_by, page_by, making_by, plan_of_writer, grant_by, pair_made}
 use Rattle.example_grants.specs.Laws.{WritersTell}
 use Rattle.example_grants.specs.Map.{map_with, FIRST_MAP}
 use Rattle.example_grants.proofs.Tree.{node_get, no_bytes, own_alive, other_alive, own_no_directory, other_no_directory, rows_are}
@@ -62,8 +62,8 @@ short_files node = let long = ap length (no_bytes node) in omega (arith, long)
 -- what memory keeps
 entry_of : (node : ℕ) → (node ≡ 0) ⊎ ((node ≡ 1) ⊎ (node ≡ 2)) → (entry : OldEntry) × Contains ENTRIES entry × (entry.node.0 ≡ node)
 entry_of node known = elim known [
-  | inl root ↦ (entry_kept 0, (0, omega arith, refl), sym root)
-  | inr file ↦ elim file [ inl own ↦ (entry_kept 1, (1, omega arith, refl), sym own) | inr other ↦ (entry_kept 2, (2, omega arith, refl), sym other) ]
+  | inl root ↦ (entry_for_node 0, (0, omega arith, refl), sym root)
+  | inr file ↦ elim file [ inl own ↦ (entry_for_node 1, (1, omega arith, refl), sym own) | inr other ↦ (entry_for_node 2, (2, omega arith, refl), sym other) ]
 ]
 
 abbrev IsKept : OldEntry → Type 0
@@ -96,7 +96,7 @@ entries_kept = record {
 -- fsync comes; a row names it; the write is the only change of it; and it has the byte then.
 pub record IsWriter (w : Writer) : Type 0 where
   pub there : is_some (get FIRST_TREE.nodes w.file) ≡ true
-  pub entry : Contains ENTRIES (entry_kept w.file)
+  pub entry : Contains ENTRIES (entry_for_node w.file)
   pub then_is : tree_after FIRST_TREE (take w.flushed WRITES_AND_FSYNCS) ≡ LAST_TREE
   pub alive : is_alive LAST_TREE w.file ≡ true
   pub no_directory : is_directory LAST_TREE w.file ≡ false
@@ -113,7 +113,7 @@ writes_then = ap (λ t. tree_after t (other_write ∷ [])) own_step ∙ other_st
 
 own_flushed_then : tree_after FIRST_TREE (take 3 WRITES_AND_FSYNCS) ≡ LAST_TREE
 own_flushed_then =
-    ap (λ t. tree_after t (other_write ∷ own_flush ∷ [])) own_step ∙ ap (λ t. tree_after t (own_flush ∷ [])) other_step ∙ own_stays
+    ap (λ t. tree_after t (other_write ∷ own_file_flush ∷ [])) own_step ∙ ap (λ t. tree_after t (own_file_flush ∷ [])) other_step ∙ own_stays
 
 edit_cases : (change : FileChange) → IsOneOf (edits_of FIRST_TREE WRITES_AND_FSYNCS) change → (OWN_EDIT ≡ change) ⊎ (OTHER_EDIT ≡ change)
 edit_cases change one = elim (subst (λ l. IsOneOf l change) two_edits one) [
@@ -242,13 +242,13 @@ module _ (w : Writer) (is : IsWriter w) where
 
 pub own_serves : ServesPair TWO_FILES (pair_made OWN)
 own_serves =
-    grants_serve TWO_FILES ENTRIES (plan_by OWN) FIRST_MAP (map_with Granted Free) (grant_by OWN) volume_stands.between entries_kept map_right
+    grants_serve TWO_FILES ENTRIES (plan_of_writer OWN) FIRST_MAP (map_with Granted Free) (grant_by OWN) volume_stands.between entries_kept map_right
     own_reserved.taken
 
 pub other_serves : ServesPair TWO_FILES (pair_made OTHER)
 other_serves =
-    grants_serve TWO_FILES ENTRIES (plan_by OTHER) (map_with Granted Free) (map_with Granted Granted) (grant_by OTHER) volume_stands.between entries_kept
-    (grants_keep_maps FIFTEEN_BLOCKS ENTRIES (plan_by OWN) FIRST_MAP (map_with Granted Free) (grant_by OWN) map_right own_reserved.taken)
+    grants_serve TWO_FILES ENTRIES (plan_of_writer OTHER) (map_with Granted Free) (map_with Granted Granted) (grant_by OTHER) volume_stands.between entries_kept
+    (grants_keep_maps FIFTEEN_BLOCKS ENTRIES (plan_of_writer OWN) FIRST_MAP (map_with Granted Free) (grant_by OWN) map_right own_reserved.taken)
     other_reserved.taken
 
 pub writers_tell : WritersTell

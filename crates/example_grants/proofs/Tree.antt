@@ -17,7 +17,7 @@ use Rattle.tree_laws.specs.Sound.{IsWithinLimits}
 use Rattle.tree_laws.proofs.RowFacts.{key_cases}
 use Rattle.tree_laws.proofs.Names.{entries-names_where}
 use Rattle.cut_laws.specs.LawsInodes.{AreAllAlive}
-use Rattle.example_grants.specs.Calls.{tree_of, root_node, node_with, FIRST_TREE}
+use Rattle.example_grants.specs.Calls.{tree_holding, root_node, node_with, FIRST_TREE}
 
 abbrev pub nodes_listed : List ℕ → List ℕ → List (ℕ × Node)
 nodes_listed own other = (0, root_node) ∷ (1, node_with own) ∷ (2, node_with other) ∷ []
@@ -41,13 +41,13 @@ of_others n a b c d other =
     ap (λ t. cond t a (cond (nat_eq n 1) b (cond (nat_eq n 2) c d))) (ne_eqb n 0 other.0) ∙ ap (λ t. cond t b (cond (nat_eq n 2) c d)) (ne_eqb n 1 other.1)
     ∙ ap (λ t. cond t c d) (ne_eqb n 2 other.2)
 
-pub rows_are : (own other : List ℕ) (directory : ℕ) (name : List ℕ) → row_of (tree_of own other) directory name ≡ list.find key_cmp (directory, name) ROWS
+pub rows_are : (own other : List ℕ) (directory : ℕ) (name : List ℕ) → row_of (tree_holding own other) directory name ≡ list.find key_cmp (directory, name) ROWS
 rows_are own other directory name = get-from_sorted key_cmp ROWS (directory, name) tt
 
-pub entries_are : (own other : List ℕ) → entries (tree_of own other).rows ≡ ROWS
+pub entries_are : (own other : List ℕ) → entries (tree_holding own other).rows ≡ ROWS
 entries_are own other = entries-from_sorted key_cmp ROWS tt
 
-pub node_get : (own other : List ℕ) (node : ℕ) → get (tree_of own other).nodes node
+pub node_get : (own other : List ℕ) (node : ℕ) → get (tree_holding own other).nodes node
     ≡ cond (nat_eq node 0) (Some root_node) (cond (nat_eq node 1) (Some (node_with own)) (cond (nat_eq node 2) (Some (node_with other)) None))
 node_get own other node =
     get-from_sorted nat_cmp (nodes_listed own other) node tt
@@ -58,28 +58,28 @@ node_get own other node =
     ∙ ap (λ b. cond (nat_eq node 0) (Some root_node) (cond (nat_eq node 1) (Some (node_with own)) (cond b (Some (node_with other)) None)))
     (sym (unsigned_ties node 2))
 
-pub root_directory : (own other : List ℕ) → is_directory (tree_of own other) 0 ≡ true
+pub root_directory : (own other : List ℕ) → is_directory (tree_holding own other) 0 ≡ true
 root_directory own other = ap (λ (o : Option Node). option_map_or (λ n. is_directory_kind n.kind) o false) (node_get own other 0)
 
-pub own_no_directory : (own other : List ℕ) → is_directory (tree_of own other) 1 ≡ false
+pub own_no_directory : (own other : List ℕ) → is_directory (tree_holding own other) 1 ≡ false
 own_no_directory own other = ap (λ (o : Option Node). option_map_or (λ n. is_directory_kind n.kind) o false) (node_get own other 1)
 
-pub other_no_directory : (own other : List ℕ) → is_directory (tree_of own other) 2 ≡ false
+pub other_no_directory : (own other : List ℕ) → is_directory (tree_holding own other) 2 ≡ false
 other_no_directory own other = ap (λ (o : Option Node). option_map_or (λ n. is_directory_kind n.kind) o false) (node_get own other 2)
 
-pub own_alive : (own other : List ℕ) → is_alive (tree_of own other) 1 ≡ true
+pub own_alive : (own other : List ℕ) → is_alive (tree_holding own other) 1 ≡ true
 own_alive own other = ap (λ (l : List (Key × ℕ)). (1 == 0) || not (count_by (names_it 1) l == 0)) (entries_are own other)
 
-pub other_alive : (own other : List ℕ) → is_alive (tree_of own other) 2 ≡ true
+pub other_alive : (own other : List ℕ) → is_alive (tree_holding own other) 2 ≡ true
 other_alive own other = ap (λ (l : List (Key × ℕ)). (2 == 0) || not (count_by (names_it 2) l == 0)) (entries_are own other)
 
 -- a node that is none of the three is not there
-pub none_there : (own other : List ℕ) (node : ℕ) → (node ≢ 0) × (node ≢ 1) × (node ≢ 2) → get (tree_of own other).nodes node ≡ None
+pub none_there : (own other : List ℕ) (node : ℕ) → (node ≢ 0) × (node ≢ 1) × (node ≢ 2) → get (tree_holding own other).nodes node ≡ None
 none_there own other node apart =
     node_get own other node ∙ of_others node (Some root_node) (Some (node_with own)) (Some (node_with other)) (let o : Option Node = None in o) apart
 
 -- a row stands in the root, and names one of the files
-pub row_is : (own other : List ℕ) (directory child : ℕ) (name : List ℕ) → row_of (tree_of own other) directory name ≡ Some child
+pub row_is : (own other : List ℕ) (directory child : ℕ) (name : List ℕ) → row_of (tree_holding own other) directory name ≡ Some child
     → (directory ≡ 0) × (((name ≡ 97 ∷ []) × (child ≡ 1)) ⊎ ((name ≡ 98 ∷ []) × (child ≡ 2)))
 row_is own other directory child name is = elim (key_cases directory 0 name (97 ∷ [])) [
   | inl same ↦ (
@@ -100,14 +100,14 @@ row_is own other directory child name is = elim (key_cases directory 0 name (97 
     ]
 
 -- so no row names a directory or the root
-pub row_child : (own other : List ℕ) (directory child : ℕ) (name : List ℕ) → row_of (tree_of own other) directory name ≡ Some child
+pub row_child : (own other : List ℕ) (directory child : ℕ) (name : List ℕ) → row_of (tree_holding own other) directory name ≡ Some child
     → (child ≡ 1) ⊎ (child ≡ 2)
 row_child own other directory child name is = elim (row_is own other directory child name is).1 [ inl first ↦ inl first.1 | inr second ↦ inr second.1 ]
 
-pub child_file : (own other : List ℕ) (child : ℕ) → (child ≡ 1) ⊎ (child ≡ 2) → is_directory (tree_of own other) child ≡ false
+pub child_file : (own other : List ℕ) (child : ℕ) → (child ≡ 1) ⊎ (child ≡ 2) → is_directory (tree_holding own other) child ≡ false
 child_file own other child which = elim which [
-  | inl first ↦ ap (is_directory (tree_of own other)) first ∙ own_no_directory own other
-  | inr second ↦ ap (is_directory (tree_of own other)) second ∙ other_no_directory own other
+  | inl first ↦ ap (is_directory (tree_holding own other)) first ∙ own_no_directory own other
+  | inr second ↦ ap (is_directory (tree_holding own other)) second ∙ other_no_directory own other
 ]
 
 some_of : {X : Type 0} {o : Option X} {x : X} → o ≡ Some x → IsSome o

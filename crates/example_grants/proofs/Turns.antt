@@ -18,7 +18,7 @@ use Rattle.merge_laws.specs.Plays.{Aloft, Plays, nothing_played, one_play, no_pl
 use Rattle.merge_laws.proofs.Lists.{nothing_there, heads_are}
 use Rattle.merge_laws.proofs.Blocks.{pen_turns}
 use Rattle.merge_laws.proofs.Worked.{of_each, pen_one, some_turns, goes_with, never_durable, never_stopped}
-use Rattle.example_grants.specs.Calls.{FIRST_TREE, WRITES_AND_FSYNCS, own_flush, other_flush}
+use Rattle.example_grants.specs.Calls.{FIRST_TREE, WRITES_AND_FSYNCS, own_file_flush, other_file_flush}
 use Rattle.example_grants.specs.Turns.{own_act, other_act, FILES_TURNS, OWN_TURNS, OTHER_TURNS, FILES_PENS}
 use Rattle.example_grants.proofs.Telling.{own_is, other_is}
 
@@ -39,14 +39,14 @@ module _ (P : List Turn → Turn → Type 0) where
       (holds_each turns (front ++ first ∷ []) holds.1 more back turn same.1)
 
 -- both are fsyncs of live files
-own_live : IsLiveFsync FIRST_TREE WRITES_AND_FSYNCS own_flush (record { 0 = 1 })
+own_live : IsLiveFsync FIRST_TREE WRITES_AND_FSYNCS own_file_flush (record { 0 = 1 })
 own_live = record {
   among = inr (inr (inl refl));
   asked = refl;
   alive = subst (λ (t : TreeState). is_alive t 1 ≡ true) (sym own_is.then_is) own_is.alive;
 }
 
-other_live : IsLiveFsync FIRST_TREE WRITES_AND_FSYNCS other_flush (record { 0 = 2 })
+other_live : IsLiveFsync FIRST_TREE WRITES_AND_FSYNCS other_file_flush (record { 0 = 2 })
 other_live = record {
   among = inr (inr (inr (inl refl)));
   asked = refl;
@@ -57,13 +57,13 @@ other_live = record {
 no_fsync : (file node : NodeId) (at : ℕ) (bytes : List ℕ) → call.Write file at bytes ≡ call.Fsync node → ⊥
 no_fsync file node at bytes e = cc
 
-fsync_cases : (other : Entry) (node : NodeId) → IsLiveFsync FIRST_TREE WRITES_AND_FSYNCS other node → IsOneOf (own_flush ∷ other_flush ∷ []) other
+fsync_cases : (other : Entry) (node : NodeId) → IsLiveFsync FIRST_TREE WRITES_AND_FSYNCS other node → IsOneOf (own_file_flush ∷ other_file_flush ∷ []) other
 fsync_cases other node is = elim is.among [
   | inl e ↦ absurd (no_fsync _ node _ _ (ap (λ (x : Entry). x.call) e ∙ is.asked))
   | inr rest ↦ elim rest [ inl e ↦ absurd (no_fsync _ node _ _ (ap (λ (x : Entry). x.call) e ∙ is.asked)) | inr more ↦ more ]
 ]
 
-own_only : (other : Entry) (node : NodeId) → IsLiveFsync FIRST_TREE WRITES_AND_FSYNCS other node → other.core.0 ≡ 0 → own_flush ≡ other
+own_only : (other : Entry) (node : NodeId) → IsLiveFsync FIRST_TREE WRITES_AND_FSYNCS other node → other.core.0 ≡ 0 → own_file_flush ≡ other
 own_only other node is same = elim (fsync_cases other node is) [
   | inl e ↦ e
   | inr more ↦ elim more [
@@ -72,21 +72,21 @@ own_only other node is same = elim (fsync_cases other node is) [
   ]
 ]
 
-other_only : (other : Entry) (node : NodeId) → IsLiveFsync FIRST_TREE WRITES_AND_FSYNCS other node → other.core.0 ≡ 1 → other_flush ≡ other
+other_only : (other : Entry) (node : NodeId) → IsLiveFsync FIRST_TREE WRITES_AND_FSYNCS other node → other.core.0 ≡ 1 → other_file_flush ≡ other
 other_only other node is same = elim (fsync_cases other node is) [
   | inl e ↦ absurd (let wrong : 0 ≡ 1 = ap (λ (x : Entry). x.core.0) e ∙ same in omega (arith, wrong))
   | inr more ↦ elim more [ inl e ↦ e | inr nothing ↦ absurd nothing ]
 ]
 
-own_of : (now : ℕ) (did : TurnAct) → IsTurnOf own_flush (record { 0 = 1 }) (own_act now did)
+own_of : (now : ℕ) (did : TurnAct) → IsTurnOf own_file_flush (record { 0 = 1 }) (own_act now did)
 own_of now did = record { core_is = refl; node_is = refl; stamp_is = refl }
 
-other_of : (now : ℕ) (did : TurnAct) → IsTurnOf other_flush (record { 0 = 2 }) (other_act now did)
+other_of : (now : ℕ) (did : TurnAct) → IsTurnOf other_file_flush (record { 0 = 2 }) (other_act now did)
 other_of now did = record { core_is = refl; node_is = refl; stamp_is = refl }
 
 own_pen : PenAgrees FIRST_TREE WRITES_AND_FSYNCS FILES_TURNS 0 (record { stamp = 2; turns = OWN_TURNS } ∷ [])
 own_pen =
-    pen_one FIRST_TREE WRITES_AND_FSYNCS FILES_TURNS 0 own_flush (record { 0 = 1 }) own_live refl own_only OWN_TURNS some_turns
+    pen_one FIRST_TREE WRITES_AND_FSYNCS FILES_TURNS 0 own_file_flush (record { 0 = 1 }) own_live refl own_only OWN_TURNS some_turns
     (own_of _ _, (own_of _ _, (own_of _ _, (own_of _ _, tt))))
     (goes_with 1 (omega arith) committed OWN_TURNS refl (inl refl, (refl, (refl, (refl, tt)))))
     (never_durable (λ e. cc), (never_durable (λ e. cc), (never_durable (λ e. cc), (λ e. refl, tt))))
@@ -94,7 +94,7 @@ own_pen =
 
 other_pen : PenAgrees FIRST_TREE WRITES_AND_FSYNCS FILES_TURNS 1 (record { stamp = 3; turns = OTHER_TURNS } ∷ [])
 other_pen =
-    pen_one FIRST_TREE WRITES_AND_FSYNCS FILES_TURNS 1 other_flush (record { 0 = 2 }) other_live refl other_only OTHER_TURNS some_turns
+    pen_one FIRST_TREE WRITES_AND_FSYNCS FILES_TURNS 1 other_file_flush (record { 0 = 2 }) other_live refl other_only OTHER_TURNS some_turns
     (other_of _ _, (other_of _ _, (other_of _ _, (other_of _ _, tt))))
     (goes_with 2 (omega arith) committed OTHER_TURNS refl (inl refl, (refl, (refl, (refl, tt)))))
     (never_durable (λ e. cc), (never_durable (λ e. cc), (never_durable (λ e. cc), (λ e. refl, tt))))

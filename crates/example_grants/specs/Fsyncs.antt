@@ -45,12 +45,12 @@ OTHER = record {
 }
 
 -- what memory keeps of a node, whose inode has its number
-abbrev pub entry_kept : ℕ → OldEntry
-entry_kept node = record { node = record { 0 = node }; old = record { number = node; kept = kept_of (FIRST_PARTS node) } }
+abbrev pub entry_for_node : ℕ → OldEntry
+entry_for_node node = record { node = record { 0 = node }; old = record { number = node; kept = kept_of (FIRST_PARTS node) } }
 
 -- what memory keeps of all three
 abbrev pub ENTRIES : List OldEntry
-ENTRIES = entry_kept 0 ∷ entry_kept 1 ∷ entry_kept 2 ∷ []
+ENTRIES = entry_for_node 0 ∷ entry_for_node 1 ∷ entry_for_node 2 ∷ []
 
 -- the file in memory: its one byte, and its one block was touched by the write
 abbrev pub file_by : Writer → File
@@ -69,13 +69,13 @@ abbrev pub making_by : Writer → OwnMaking
 making_by writer = record {
   flush = record { node = writer.file; stamp = writer.flushed };
   numbers = record { number = writer.number; last = 0; named = true };
-  entry = entry_kept writer.file;
+  entry = entry_for_node writer.file;
   files = change_by writer ∷ [];
 }
 
 -- its plan, and a grant of one block
-abbrev pub plan_by : Writer → CommitPlan
-plan_by writer = own_plan (entry_kept writer.file) (change_by writer ∷ [])
+abbrev pub plan_of_writer : Writer → CommitPlan
+plan_of_writer writer = own_plan (entry_for_node writer.file) (change_by writer ∷ [])
 
 abbrev pub grant_by : Writer → GrantedNumbers
 grant_by writer = record { inodes = []; blocks = writer.block ∷ [] }

@@ -20,7 +20,7 @@ use Rattle.reserve_laws.specs.Looks.{ServesPair}
 use Rattle.reserve_laws.specs.OwnFile.{MakesOwnFile}
 use Rattle.example_grants.specs.Calls.{FIRST_TREE, WRITES_AND_FSYNCS}
 use Rattle.example_grants.specs.Image.{TWO_FILES, file_inode}
-use Rattle.example_grants.specs.Fsyncs.{Writer, OWN, OTHER, making_by, plan_by, grant_by, pair_made, FILES_KEPT}
+use Rattle.example_grants.specs.Fsyncs.{Writer, OWN, OTHER, making_by, plan_of_writer, grant_by, pair_made, FILES_KEPT}
 use Rattle.example_grants.specs.Map.{FIRST_MAP, map_behind, FILES_MAPPED}
 use Rattle.example_grants.specs.Turns.{own_act, other_act, FILES_TURNS, FILES_PENS}
 
@@ -43,7 +43,7 @@ pub record WriterTells (writer : Writer) : Type 0 where
   pub makes : MakesOwnFile TWO_FILES [] (making_by writer)
   pub tells : TellsPair TWO_FILES [] (pair_made writer)
   pub serves : ServesPair TWO_FILES (pair_made writer)
-  pub writes : WritesOne writer (plan_by writer)
+  pub writes : WritesOne writer (plan_of_writer writer)
 
 -- Both cores do.
 pub record WritersTell : Type 0 where
