@@ -1,0 +1,2 @@
+pub mod Saw
+pub mod Laws
