@@ -19,7 +19,7 @@ use std::sync::Wait;
 use tree_laws::{Call, Reply};
 use workers::{Basis, Worker};
 
-const LAYOUT: Layout = Layout {
+pub(crate) const LAYOUT: Layout = Layout {
     blocks: 128,
     inodes: 64,
     cores: 2,
@@ -27,7 +27,7 @@ const LAYOUT: Layout = Layout {
 };
 
 // Makes a call, and asserts its answer.
-fn assert_answered<R: Wait + Abort>(
+pub(crate) fn assert_answered<R: Wait + Abort>(
     rt: &R,
     alloc: Global,
     site: &FlushSite<Memory>,
@@ -50,12 +50,12 @@ fn assert_answered<R: Wait + Abort>(
 }
 
 // A name.
-fn name(rt: &impl Abort, alloc: Global, text: &str) -> Name {
+pub(crate) fn name(rt: &impl Abort, alloc: Global, text: &str) -> Name {
     got(rt, Name::new(alloc, text.as_bytes()))
 }
 
 // Some bytes.
-fn chunk(rt: &impl Abort, alloc: Global) -> Chunk {
+pub(crate) fn chunk(rt: &impl Abort, alloc: Global) -> Chunk {
     got(
         rt,
         Chunk::new(got(rt, Vec::from_slice(alloc, b"hi".as_slice()))),

@@ -4,6 +4,8 @@
 #[cfg(test)]
 mod again;
 #[cfg(test)]
+mod alone;
+#[cfg(test)]
 mod beside;
 #[cfg(test)]
 mod called;
