@@ -1,5 +1,4 @@
 -- An image in bytes stands for the two files.
-use Rattle.std.proofs.Math.Seq.{drop-append-add, take-append_seam}
 use Rattle.std.proofs.Common.{◌++◌, ◌≡◌, ◌∙◌, ◌<◌, ◌+◌, ◌/◌, ◌≢◌, ◌==◌, ℕ, List, subst, sym, ap, inl, inr, arith, length, take, length-append, None}
 use Rattle.std.proofs.lemmas.List.{take-replicate}
 use Rattle.std.proofs.lemmas.Bool.{cases_eq}
@@ -26,13 +25,7 @@ use Rattle.example_grants.specs.Image.{FIFTEEN_BLOCKS, ROOT_RECORD, EMPTY_FILE, 
 use Rattle.example_grants.proofs.Rules.{layout_fits}
 use Rattle.example_grants.proofs.Image.{root_inode, any_file, root_slots, inode_cases, free_record, root_raw, file_raw, file_has_none, free_has, ROOT_PART, root_block, root_others}
 use Rattle.example_grants.proofs.Tree.{first_three}
-
--- bytes behind others, and those that come first
-behind : (front rest : List ℕ) (k at n : ℕ) → length front ≡ k → part (k + at) n (front ++ rest) ≡ part at n rest
-behind front rest k at n long = subst (λ m. part (m + at) n (front ++ rest) ≡ part at n rest) long (ap (take n) (drop-append-add front rest at))
-
-first : (front rest : List ℕ) (n : ℕ) → length front ≡ n → part 0 n (front ++ rest) ≡ front
-first front rest n long = subst (λ m. take m (front ++ rest) ≡ front) long (take-append_seam front rest)
+use Rattle.example_laws.proofs.Bytes.{skip as behind, here as first}
 
 -- The pieces of an image, each as long as it is.
 record Pieces : Type 0 where

@@ -1,5 +1,5 @@
 -- The parts of the disk of fifteen blocks, and what they show.
-use Rattle.std.proofs.Common.{◌∷◌, ◌<◌, ◌^◌, ◌≡◌, ◌∙◌, ◌⊎◌, ◌≢◌, ◌-◌, ◌/◌, ◌%◌, ◌+◌, ◌*◌, ◌&&◌, Some, [], arith, refl, ℕ, slice_index, replicate, zero, suc, ap, inl, inr, nat_eq, length, List, take, slice_index_or, false, is_some, subst, All, None, sym}
+use Rattle.std.proofs.Common.{◌∷◌, ◌<◌, ◌^◌, ◌≡◌, ◌∙◌, ◌⊎◌, ◌≢◌, ◌-◌, ◌/◌, ◌%◌, ◌+◌, ◌*◌, ◌&&◌, Some, [], arith, refl, ℕ, slice_index, replicate, zero, suc, ap, inl, inr, nat_eq, length, List, take, false, is_some, subst, All, None, sym}
 use Rattle.std.proofs.lemmas.List.Elements.{All-from_recursion}
 use Rattle.std.proofs.lemmas.List.{length-replicate}
 use Rattle.std.proofs.lemmas.Bool.{cases_eq, and_left}
@@ -28,6 +28,7 @@ use Rattle.cut_laws.proofs.Basics.{below_or}
 use Rattle.flush_laws.specs.Ready.{AreSoundParts}
 use Rattle.example_grants.specs.Image.{file_inode as a_file, TWO_ROWS, ROOT_RECORD, EMPTY_FILE, FIRST_PARTS, ROWS_BLOCK, FIRST_RECORDS, FIFTEEN_BLOCKS}
 use Rattle.example_grants.proofs.Tree.{first_three, of_others}
+use Rattle.example_laws.proofs.Image.{take_one}
 
 own_is_slot : IsSlot (Some (record { inode = 1; kind = File; name = 97 ∷ [] }))
 own_is_slot = (omega arith, refl)
@@ -156,10 +157,6 @@ root_others place other = elim (below_or place 108) [
   where
     places : HavePlaces ROWS_BLOCK (inode_bytes ROOT_RECORD)
     places = have_places ROWS_BLOCK (inode_bytes ROOT_RECORD)
-
-take_one : {X : Type 0} (xs : List X) (d : X) → 0 < length xs → take 1 xs ≡ slice_index_or xs 0 d ∷ []
-take_one [] d some = absurd (omega (arith, some))
-take_one (x ∷ xs) d some = refl
 
 pub root_blocks : directory_blocks ROOT_PART ≡ slots_bytes TWO_ROWS ∷ []
 root_blocks =

@@ -43,6 +43,7 @@ use Rattle.example_grants.specs.Laws.{WritesOne}
 use Rattle.example_grants.specs.Map.{map_with, FIRST_MAP}
 use Rattle.example_grants.proofs.Image.{ROOT_PART, FILE_PART, root_is, later_direct}
 use Rattle.example_grants.proofs.Plans.{kept_file, no_pointer, gives_up_none, plan_kept, planned_by, own_planned, other_planned, own_writes, other_writes}
+use Rattle.example_laws.proofs.Mapped.{none_granted, free_there}
 
 -- A number is that of a data block, or lies outside.
 at_each : (P : ℕ → Type 0) → P 11 → P 12 → P 13 → P 14 → ((n : ℕ) → (n < 11) ⊎ (15 ≤ n) → P n) → (n : ℕ) → P n
@@ -92,24 +93,6 @@ blocks_are : (block : ℕ) → status_of FIRST_MAP.blocks block ≡ first_status
 blocks_are =
     at_each (λ n. status_of FIRST_MAP.blocks n ≡ first_status 11 15 (12 ∷ []) n) refl refl refl refl
     (λ n apart. none_outside Free Free n apart ∙ sym (first_outside n apart))
-
-free_there : (n k : ℕ) → slice_get (replicate n Free) k ≡ (if nat_lt k n then Some Free else None)
-free_there zero k = sym (ap (λ b. if b then Some Free else None) (not_under 0 k (omega arith)))
-free_there (suc n) zero = sym (ap (λ b. if b then Some Free else None) (some n))
-  where
-    some : (n : ℕ) → nat_lt 0 (suc n) ≡ true
-    some n = grind (arith, nat_tests)
-free_there (suc n) (suc k) = free_there n k ∙ ap (λ b. if b then Some Free else None) (one_more n k)
-  where
-    one_more : (n k : ℕ) → nat_lt k n ≡ nat_lt (suc k) (suc n)
-    one_more n k = elim (below_or k n) [
-      | inl low ↦
-          (let a : nat_lt k n ≡ true = grind (arith, nat_tests, low) in
-          let b : nat_lt (suc k) (suc n) ≡ true = grind (arith, nat_tests, low) in a ∙ sym b)
-      | inr high ↦
-          (let a : nat_lt k n ≡ false = grind (arith, nat_tests, high) in
-          let b : nat_lt (suc k) (suc n) ≡ false = grind (arith, nat_tests, high) in a ∙ sym b)
-    ]
 
 inodes_are : (inode : ℕ) → status_of FIRST_MAP.inodes inode ≡ first_status 0 16 (0 ∷ 1 ∷ 2 ∷ []) inode
 inodes_are zero = refl
@@ -208,11 +191,6 @@ held_is block = (there, back)
 
 pub map_right : IsMapOf FIFTEEN_BLOCKS ENTRIES FIRST_MAP
 map_right = first_maps_are_right FIFTEEN_BLOCKS ENTRIES (12 ∷ []) FIRST_MAP held_is blocks_are inodes_are
-
-none_granted : (low taken : Bool) → (if low then Some (if taken then Taken else Free) else None) ≡ Some Granted → ⊥
-none_granted true true is = cc is
-none_granted true false is = cc is
-none_granted false taken is = cc is
 
 pub nothing_granted : HasNoneGranted FIRST_MAP
 nothing_granted = record {

@@ -18,6 +18,7 @@ use Rattle.tree_laws.proofs.RowFacts.{key_cases}
 use Rattle.tree_laws.proofs.Names.{entries-names_where}
 use Rattle.cut_laws.specs.LawsInodes.{AreAllAlive}
 use Rattle.example_grants.specs.Calls.{tree_holding, root_node, node_with, FIRST_TREE}
+use Rattle.example_laws.proofs.Tree.{some_of, not_there}
 
 abbrev pub nodes_listed : List ℕ → List ℕ → List (ℕ × Node)
 nodes_listed own other = (0, root_node) ∷ (1, node_with own) ∷ (2, node_with other) ∷ []
@@ -109,12 +110,6 @@ child_file own other child which = elim which [
   | inl first ↦ ap (is_directory (tree_holding own other)) first ∙ own_no_directory own other
   | inr second ↦ ap (is_directory (tree_holding own other)) second ∙ other_no_directory own other
 ]
-
-some_of : {X : Type 0} {o : Option X} {x : X} → o ≡ Some x → IsSome o
-some_of is = subst IsSome (sym is) refl
-
-not_there : {X : Type 0} {o : Option X} → o ≡ None → IsSome o → ⊥
-not_there {X} none some = cc (subst (λ (o : Option X). IsSome o) none some)
 
 child_there : (child : ℕ) → (child ≡ 1) ⊎ (child ≡ 2) → IsSome (get FIRST_TREE.nodes child)
 child_there child which = elim which [

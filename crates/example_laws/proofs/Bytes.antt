@@ -26,10 +26,10 @@ use Rattle.example_laws.proofs.Resting.{layout_fits}
 use Rattle.example_laws.proofs.Image.{root_inode, one_inode, root_slots, inode_cases, root_raw, one_raw, one_has_none, free_has, ROOT_PART, root_block, root_others}
 
 -- bytes behind others, and those that come first
-skip : (front rest : List ℕ) (k at n : ℕ) → length front ≡ k → part (k + at) n (front ++ rest) ≡ part at n rest
+pub skip : (front rest : List ℕ) (k at n : ℕ) → length front ≡ k → part (k + at) n (front ++ rest) ≡ part at n rest
 skip front rest k at n long = subst (λ m. part (m + at) n (front ++ rest) ≡ part at n rest) long (ap (take n) (drop-append-add front rest at))
 
-here : (front rest : List ℕ) (n : ℕ) → length front ≡ n → part 0 n (front ++ rest) ≡ front
+pub here : (front rest : List ℕ) (n : ℕ) → length front ≡ n → part 0 n (front ++ rest) ≡ front
 here front rest n long = subst (λ m. take m (front ++ rest) ≡ front) long (take-append_seam front rest)
 
 -- where the pieces of an image stand

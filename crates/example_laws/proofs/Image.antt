@@ -147,7 +147,7 @@ root_others place other = elim (below_or place 108) [
     places : HavePlaces ROOT_BLOCK (inode_bytes ROOT_INODE)
     places = have_places ROOT_BLOCK (inode_bytes ROOT_INODE)
 
-take_one : {X : Type 0} (xs : List X) (d : X) → 0 < length xs → take 1 xs ≡ slice_index_or xs 0 d ∷ []
+pub take_one : {X : Type 0} (xs : List X) (d : X) → 0 < length xs → take 1 xs ≡ slice_index_or xs 0 d ∷ []
 take_one [] d some = absurd (omega (arith, some))
 take_one (x ∷ xs) d some = refl
 

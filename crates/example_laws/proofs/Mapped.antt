@@ -67,7 +67,7 @@ blocks_are block = elim (cases_eq block 11) [
     not_under : (m n : ℕ) → m ≤ n → nat_lt n m ≡ false
     not_under m n le = grind (arith, nat_tests, le)
 
-free_there : (n k : ℕ) → slice_get (replicate n Free) k ≡ (if nat_lt k n then Some Free else None)
+pub free_there : (n k : ℕ) → slice_get (replicate n Free) k ≡ (if nat_lt k n then Some Free else None)
 free_there zero k = sym (ap (λ b. if b then Some Free else None) (none k))
   where
     none : (k : ℕ) → nat_lt k 0 ≡ false
@@ -167,7 +167,7 @@ held_is block = (there, back)
 pub map_right : IsMapOf TWELVE_BLOCKS ENTRIES TWO_TAKEN
 map_right = first_maps_are_right TWELVE_BLOCKS ENTRIES (11 ∷ []) TWO_TAKEN held_is blocks_are inodes_are
 
-none_granted : (low taken : Bool) → (if low then Some (if taken then Taken else Free) else None) ≡ Some Granted → ⊥
+pub none_granted : (low taken : Bool) → (if low then Some (if taken then Taken else Free) else None) ≡ Some Granted → ⊥
 none_granted true true is = cc is
 none_granted true false is = cc is
 none_granted false taken is = cc is

@@ -150,10 +150,10 @@ same_at_cut = λ i. record {
         with_edits : List FileChange → List (ℕ × Node)
         with_edits l = (0, record NODE { bytes = with_edit l 0 }) ∷ (1, record NODE { bytes = with_edit l 1 }) ∷ []
 
-some_of : {X : Type 0} {o : Option X} {x : X} → o ≡ Some x → IsSome o
+pub some_of : {X : Type 0} {o : Option X} {x : X} → o ≡ Some x → IsSome o
 some_of is = subst IsSome (sym is) refl
 
-not_there : {X : Type 0} {o : Option X} → o ≡ None → IsSome o → ⊥
+pub not_there : {X : Type 0} {o : Option X} → o ≡ None → IsSome o → ⊥
 not_there {X} none some = cc (subst (λ (o : Option X). IsSome o) none some)
 
 pub two_sound : IsSoundTree TWO_CORES
