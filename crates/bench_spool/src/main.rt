@@ -80,7 +80,7 @@ fn measure<R: Threads + Wait + Sync + Clock + Print, D: Disk + Drop + Sync>(
         return Ok(None);
     };
     let Some(ran) = deliver(rt, alloc, asked, slots, &script, disk)? else {
-        println!(rt; "  {name}: no memory")?;
+        println!(rt; "  {name}: no memory, or no image")?;
         return Ok(None);
     };
     print_ran(rt, asked, &ran, name)?;

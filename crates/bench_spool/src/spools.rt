@@ -42,7 +42,7 @@ pub struct Ran<D> {
     pub micros: u128,
 }
 
-// Makes an image with a core for each worker and so many journal slots a core, and mounts it.
+// Makes an image with a core for each worker and so many journal slots a core, and mounts it. None, where either is refused.
 fn mounted_on<D: Disk + Drop>(
     alloc: Global,
     asked: &Asked,
@@ -102,7 +102,7 @@ fn timed<R: Threads + Wait + Sync + Clock, D: Disk + Drop + Sync>(
 }
 
 /// Makes an image with a core for each worker and so many journal slots a core on a disk, mounts it, runs the script on it and unmounts it. None, where
-/// memory was refused.
+/// memory was refused, or no image could be made and mounted.
 pub fn deliver<R: Threads + Wait + Sync + Clock, D: Disk + Drop + Sync>(
     rt: &R,
     alloc: Global,

@@ -20,8 +20,7 @@ use std::sync::Wait;
 use tree_laws::Reply;
 
 /// Stamps the fsync of a file of which its core has seen that it had an inode, flushes the file and answers the fsync, with the answers of
-/// `fsync_dir::flush`. While the file has its inode this takes no log and waits for none; where it has lost it meanwhile the fsync goes on as that
-/// of any node does. It waits for cells of the table that other cores have, and for the box with the disk.
+/// `fsync_dir::flush`. It waits for cells of the table that other cores have, and for the box with the disk.
 pub fn flush<R: Wait, D: Disk + Drop, G: Gate>(
     rt: &R,
     alloc: Global,
